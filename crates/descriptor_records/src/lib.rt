@@ -1,0 +1,23 @@
+//! The records that describe protobuf files, as plain data: a clone has the content of its source.
+//!
+//! The records and their fields are those of protobuf's own `descriptor.proto`, under the names that `prost-types` gives them.
+#![tactic(auto)]
+
+mod enums;
+mod field;
+mod file;
+mod message;
+mod options;
+mod path;
+mod service;
+mod source_info;
+pub mod tag;
+
+pub use enums::{EnumDescriptorProto, EnumReservedRange, EnumValueDescriptorProto};
+pub use field::{FieldDescriptorProto, FieldType, Label, OneofDescriptorProto};
+pub use file::{FileDescriptorProto, FileDescriptorSet};
+pub use message::{DescriptorProto, ExtensionRange, ReservedRange};
+pub use options::{DoubleValue, NamePart, Options, UninterpretedOption};
+pub use path::join_path;
+pub use service::{MethodDescriptorProto, ServiceDescriptorProto};
+pub use source_info::{Location, SourceCodeInfo};

@@ -1,0 +1,77 @@
+use std::alloc::Global;
+/// The options of one declaration, of whatever kind it is.
+///
+/// A declaration's options are a message of a type that `descriptor.proto` defines and that anyone may extend. So they are
+/// kept as that message's wire bytes; beside these stand the few that linking needs, and the options that a source wrote
+/// and that no type has read yet.
+#[derive(PartialEq, Debug, Drop)]
+pub struct Options {
+    /// The wire bytes of the settled options.
+    pub encoded: Vec<u8>,
+    /// Of a field: a list of numbers is written as one record.
+    pub packed: Option<bool>,
+    /// Of an enum: several names may have one number.
+    pub allow_alias: Option<bool>,
+    /// Of a message: it is the type of a map's entries.
+    pub map_entry: Option<bool>,
+    /// Options as they were written, which no type has read yet.
+    pub uninterpreted_option: Vec<UninterpretedOption>,
+}
+
+impl Options {
+    /// No options. Takes no memory.
+    pub fn new(alloc: Global) -> Options {
+        Options {
+            encoded: Vec::new(alloc),
+            packed: None,
+            allow_alias: None,
+            map_entry: None,
+            uninterpreted_option: Vec::new(alloc),
+        }
+    }
+}
+
+/// An option as it was written.
+#[derive(PartialEq, Debug, Drop)]
+pub struct UninterpretedOption {
+    pub name: Vec<NamePart>,
+    pub identifier_value: Option<String>,
+    pub positive_int_value: Option<u64>,
+    pub negative_int_value: Option<i64>,
+    pub double_value: Option<DoubleValue>,
+    pub string_value: Option<Vec<u8>>,
+    /// The tokens between the braces of `{ .. }`, with one space between each two.
+    pub aggregate_value: Option<String>,
+}
+
+impl UninterpretedOption {
+    /// An option without a name and without a value. Takes no memory.
+    pub fn new(alloc: Global) -> UninterpretedOption {
+        UninterpretedOption {
+            name: Vec::new(alloc),
+            identifier_value: None,
+            positive_int_value: None,
+            negative_int_value: None,
+            double_value: None,
+            string_value: None,
+            aggregate_value: None,
+        }
+    }
+}
+
+/// A part of an option's name.
+#[derive(PartialEq, Debug, Drop)]
+pub struct NamePart {
+    pub name_part: String,
+    /// The part stood in parentheses, and names an extension.
+    pub is_extension: bool,
+}
+
+/// A floating-point number that nothing has read.
+#[derive(PartialEq, Debug, Drop)]
+pub enum DoubleValue {
+    /// A literal of a source, with its sign.
+    Text(String),
+    /// The 64 bits of a descriptor set.
+    Bits(u64),
+}

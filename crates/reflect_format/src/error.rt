@@ -1,0 +1,280 @@
+use crate::token::Span;
+use std::alloc::{AllocError, AllocFailed};
+use std::error::Error;
+use std::fmt;
+use std::ops::Range;
+
+/// What is wrong with a text.
+#[derive(PartialEq, Debug, Drop)]
+pub enum ParseErrorKind {
+    /// No token begins here.
+    InvalidToken {
+        span: Span,
+    },
+    /// A string literal has a NUL or a line end.
+    InvalidStringCharacters {
+        span: Span,
+    },
+    /// A string literal has a backslash that begins no escape, or one that stands for no byte and no character.
+    InvalidStringEscape {
+        span: Span,
+    },
+    /// The literals of a string field are no UTF-8.
+    InvalidUtf8String {
+        span: Span,
+    },
+    /// A letter directly behind an integer.
+    NoSpaceBetweenIntAndIdent {
+        span: Span,
+    },
+    /// Another token than the grammar takes here.
+    UnexpectedToken {
+        expected: &'static str,
+        found: String,
+        span: Span,
+    },
+    /// The text ends where the grammar takes more.
+    UnexpectedEof {
+        expected: &'static str,
+    },
+    /// An integer that its field's kind does not hold.
+    IntegerValueOutOfRange {
+        expected: &'static str,
+        actual: String,
+        min: &'static str,
+        max: &'static str,
+        span: Span,
+    },
+    /// The message's type has no such field.
+    FieldNotFound {
+        field_name: String,
+        message_name: String,
+        span: Span,
+    },
+    /// A field that holds one value is set a second time.
+    FieldAlreadySet {
+        field_name: String,
+        span: Span,
+    },
+    /// Another field of the oneof is set.
+    OneofAlreadySet {
+        oneof_name: String,
+        span: Span,
+    },
+    /// The message's type has no such extension.
+    ExtensionNotFound {
+        extension_name: String,
+        message_name: String,
+        span: Span,
+    },
+    /// No message type has this name.
+    MessageNotFound {
+        message_name: String,
+        span: Span,
+    },
+    /// The enum has no value of this name.
+    EnumValueNotFound {
+        value_name: String,
+        enum_name: String,
+        span: Span,
+    },
+    /// The message that an `Any` is expanded in is none.
+    InvalidTypeForAny {
+        span: Span,
+    },
+    /// A value that is no key of a map.
+    InvalidMapKey,
+    /// The field holds a floating-point number.
+    FloatField {
+        field_name: String,
+        message_name: String,
+        span: Span,
+    },
+    /// The 101st brace that is open at once.
+    NestingTooDeep {
+        span: Span,
+    },
+    /// A message that is too long to be encoded.
+    TooLong,
+    /// Want of memory.
+    Memory,
+}
+
+impl ParseErrorKind {
+    /// Where the fault is, unless it is at the end of the text or nowhere in it.
+    fn place(&self) -> Option<Span> {
+        match self {
+            ParseErrorKind::InvalidToken { span }
+            | ParseErrorKind::InvalidStringCharacters { span }
+            | ParseErrorKind::InvalidStringEscape { span }
+            | ParseErrorKind::InvalidUtf8String { span }
+            | ParseErrorKind::NoSpaceBetweenIntAndIdent { span }
+            | ParseErrorKind::UnexpectedToken { span, .. }
+            | ParseErrorKind::IntegerValueOutOfRange { span, .. }
+            | ParseErrorKind::FieldNotFound { span, .. }
+            | ParseErrorKind::FieldAlreadySet { span, .. }
+            | ParseErrorKind::OneofAlreadySet { span, .. }
+            | ParseErrorKind::ExtensionNotFound { span, .. }
+            | ParseErrorKind::MessageNotFound { span, .. }
+            | ParseErrorKind::EnumValueNotFound { span, .. }
+            | ParseErrorKind::InvalidTypeForAny { span }
+            | ParseErrorKind::FloatField { span, .. }
+            | ParseErrorKind::NestingTooDeep { span } => Some(*span),
+            ParseErrorKind::UnexpectedEof { .. }
+            | ParseErrorKind::InvalidMapKey
+            | ParseErrorKind::TooLong
+            | ParseErrorKind::Memory => None,
+        }
+    }
+}
+
+impl fmt::Display for ParseErrorKind {
+    fn fmt<W: fmt::Write>(&self, f: &mut fmt::Formatter<W>) -> fmt::Result {
+        match self {
+            ParseErrorKind::InvalidToken { .. } => f.write_str("invalid token"),
+            ParseErrorKind::InvalidStringCharacters { .. } => {
+                f.write_str("invalid string character")
+            }
+            ParseErrorKind::InvalidStringEscape { .. } => f.write_str("invalid string escape"),
+            ParseErrorKind::InvalidUtf8String { .. } => f.write_str("string is not valid utf-8"),
+            ParseErrorKind::NoSpaceBetweenIntAndIdent { .. } => f.write_str(
+                "whitespace is required between an integer literal and an identifier",
+            ),
+            ParseErrorKind::UnexpectedToken {
+                expected,
+                found,
+                ..
+            } => write!(f, "expected {expected}, but found '{found}'"),
+            ParseErrorKind::UnexpectedEof { expected } => {
+                write!(f, "expected {expected}, but reached end of input")
+            }
+            ParseErrorKind::IntegerValueOutOfRange {
+                expected,
+                actual,
+                ..
+            } => write!(
+                f,
+                "expected value to be {expected}, but the value {actual} is out of range"
+            ),
+            ParseErrorKind::FieldNotFound {
+                field_name,
+                message_name,
+                ..
+            } => write!(
+                f,
+                "field '{field_name}' not found for message '{message_name}'"
+            ),
+            ParseErrorKind::FieldAlreadySet { field_name, .. } => {
+                write!(f, "'{field_name}' is already set")
+            }
+            ParseErrorKind::OneofAlreadySet { oneof_name, .. } => {
+                write!(f, "a value is already set for oneof '{oneof_name}'")
+            }
+            ParseErrorKind::ExtensionNotFound {
+                extension_name,
+                message_name,
+                ..
+            } => write!(
+                f,
+                "extension '{extension_name}' not found for message '{message_name}'"
+            ),
+            ParseErrorKind::MessageNotFound { message_name, .. } => {
+                write!(f, "message type '{message_name}' not found")
+            }
+            ParseErrorKind::EnumValueNotFound {
+                value_name,
+                enum_name,
+                ..
+            } => write!(
+                f,
+                "value '{value_name}' was not found for enum '{enum_name}'"
+            ),
+            ParseErrorKind::InvalidTypeForAny { .. } => f.write_str(
+                "the field type must be 'google.protobuf.Any' to use Any expansion syntax",
+            ),
+            ParseErrorKind::InvalidMapKey => f.write_str("invalid value type for map key"),
+            ParseErrorKind::FloatField {
+                field_name,
+                message_name,
+                ..
+            } => write!(
+                f,
+                "field '{field_name}' of message '{message_name}' has a floating-point type"
+            ),
+            ParseErrorKind::NestingTooDeep { .. } => f.write_str("more than 100 open braces"),
+            ParseErrorKind::TooLong => f.write_str("encoded length too large"),
+            ParseErrorKind::Memory => f.write_str("out of memory"),
+        }
+    }
+}
+
+impl From<AllocError> for ParseErrorKind {
+    fn from(_error: AllocError) -> ParseErrorKind {
+        ParseErrorKind::Memory
+    }
+}
+
+impl<T: Drop> From<AllocFailed<T>> for ParseErrorKind {
+    fn from(_error: AllocFailed<T>) -> ParseErrorKind {
+        ParseErrorKind::Memory
+    }
+}
+
+/// The first fault of a text.
+#[derive(PartialEq, Debug, Drop)]
+pub struct ParseError {
+    kind: ParseErrorKind,
+}
+
+impl ParseError {
+    /// The error of a fault.
+    pub fn new(kind: ParseErrorKind) -> ParseError {
+        ParseError { kind }
+    }
+
+    /// What is wrong.
+    pub fn kind(&self) -> &ParseErrorKind {
+        &self.kind
+    }
+
+    /// Where it is, in bytes from the start of the text; nothing where the text ended too early, and for what is nowhere in it.
+    pub fn span(&self) -> Option<Range<usize>> {
+        let span = self.kind.place()?;
+        Some(span.start..span.end)
+    }
+}
+
+impl fmt::Display for ParseError {
+    fn fmt<W: fmt::Write>(&self, f: &mut fmt::Formatter<W>) -> fmt::Result {
+        let kind = &self.kind;
+        write!(f, "{kind}")
+    }
+}
+
+impl Error for ParseError {}
+
+/// Why a text was not written.
+#[derive(Clone, Copy, PartialEq, Eq, Debug)]
+pub enum WriteError {
+    /// The writer refused.
+    Format,
+    /// Want of memory.
+    Memory,
+}
+
+impl fmt::Display for WriteError {
+    fn fmt<W: fmt::Write>(&self, f: &mut fmt::Formatter<W>) -> fmt::Result {
+        match self {
+            WriteError::Format => f.write_str("the writer refused the text"),
+            WriteError::Memory => f.write_str("out of memory"),
+        }
+    }
+}
+
+impl Error for WriteError {}
+
+impl From<fmt::Error> for WriteError {
+    fn from(_error: fmt::Error) -> WriteError {
+        WriteError::Format
+    }
+}

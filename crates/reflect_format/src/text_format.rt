@@ -1,0 +1,45 @@
+use crate::error::{ParseError, WriteError};
+use crate::parser::Parser;
+use crate::writer::Writer;
+use reflect_dynamic::DynamicMessage;
+use reflect_link::MessageDescriptor;
+use std::alloc::Global;
+
+/// Messages as text, in protobuf's text format (protobuf.dev, "Text Format Language Specification").
+pub trait TextFormat<'p>: Sized {
+    /// The message of a type that a text spells.
+    fn parse_text_format(
+        alloc: Global,
+        descriptor: MessageDescriptor<'p>,
+        text: &str,
+    ) -> Result<Self, ParseError>;
+
+    /// Reads a text into the message. The first fault ends it; the message then has the fields at the top that were read
+    /// before the fault.
+    fn merge_text_format(&mut self, alloc: Global, text: &str) -> Result<(), ParseError>;
+
+    /// The message's compact text.
+    fn to_text_format(&self, alloc: Global) -> Result<String, WriteError>;
+}
+
+impl<'p> TextFormat<'p> for DynamicMessage<'p> {
+    fn parse_text_format(
+        alloc: Global,
+        descriptor: MessageDescriptor<'p>,
+        text: &str,
+    ) -> Result<DynamicMessage<'p>, ParseError> {
+        let mut message = DynamicMessage::new(alloc, descriptor);
+        Parser::new(alloc, text).parse_message(&mut message)?;
+        Ok(message)
+    }
+
+    fn merge_text_format(&mut self, alloc: Global, text: &str) -> Result<(), ParseError> {
+        Parser::new(alloc, text).parse_message(self)
+    }
+
+    fn to_text_format(&self, alloc: Global) -> Result<String, WriteError> {
+        let mut text = String::new(alloc);
+        Writer::new(&mut text).fmt_message(self)?;
+        Ok(text)
+    }
+}

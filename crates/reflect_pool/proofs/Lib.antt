@@ -1,0 +1,4 @@
+pub mod Grown
+pub mod KindPlaces
+pub mod Places
+pub mod Pooled

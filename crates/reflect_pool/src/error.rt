@@ -1,0 +1,90 @@
+use reflect_names::{DescriptorErrorKind, Label, VisitError};
+use std::alloc::{AllocError, Global};
+use std::error::Error;
+use std::fmt;
+use std::iter::{Chain, Once, once};
+use std::slice;
+
+/// Why files were not linked: all faults of the first faulty pass, or want of memory or of numbers alone.
+#[derive(PartialEq, Drop)]
+pub struct DescriptorError {
+    first: DescriptorErrorKind,
+    others: Vec<DescriptorErrorKind>,
+}
+
+impl DescriptorError {
+    /// The error of one fault. Takes no memory.
+    pub fn new(alloc: Global, first: DescriptorErrorKind) -> DescriptorError {
+        DescriptorError {
+            first,
+            others: Vec::new(alloc),
+        }
+    }
+
+    /// The error of a list of faults, if there is one. Takes no memory.
+    pub fn from_list(mut faults: Vec<DescriptorErrorKind>) -> Option<DescriptorError> {
+        if faults.is_empty() {
+            return None;
+        }
+        let first = faults.remove(0);
+        Some(DescriptorError {
+            first,
+            others: faults,
+        })
+    }
+
+    /// The faults, the first of them first.
+    pub fn errors(&self) -> Chain<Once<&DescriptorErrorKind>, slice::Iter<'_, DescriptorErrorKind>> {
+        once(&self.first).chain(self.others.iter())
+    }
+
+    /// Memory ran out.
+    pub fn is_memory(&self) -> bool {
+        matches!(self.first, DescriptorErrorKind::Memory)
+    }
+
+    /// The name of the file that the first fault is in.
+    pub fn file(&self) -> Option<&str> {
+        Some(self.first.label()?.file())
+    }
+
+    /// The line of the first fault, counted from 0, where the file's record says where things stand.
+    pub fn line(&self) -> Option<usize> {
+        self.first.label()?.line()
+    }
+
+    /// The column of the first fault, counted from 0 in bytes, where the file's record says where things stand.
+    pub fn column(&self) -> Option<usize> {
+        self.first.label()?.column()
+    }
+
+    /// Which part of the file's record the first fault is at, as in a record's locations.
+    pub fn path(&self) -> Option<&[i32]> {
+        Some(self.first.label()?.path())
+    }
+}
+
+impl fmt::Display for DescriptorError {
+    fn fmt<W: fmt::Write>(&self, f: &mut fmt::Formatter<W>) -> fmt::Result {
+        let first = &self.first;
+        write!(f, "{first}")
+    }
+}
+
+impl fmt::Debug for DescriptorError {
+    fn fmt<W: fmt::Write>(&self, f: &mut fmt::Formatter<W>) -> fmt::Result {
+        if let Some(file) = self.file() {
+            write!(f, "{file}:")?;
+            if let (Some(line), Some(column)) = (self.line(), self.column()) {
+                let line = line.saturating_add(1);
+                let column = column.saturating_add(1);
+                write!(f, "{line}:{column}:")?;
+            }
+            f.write_str(" ")?;
+        }
+        let first = &self.first;
+        write!(f, "{first}")
+    }
+}
+
+impl Error for DescriptorError {}
