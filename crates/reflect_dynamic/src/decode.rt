@@ -1,6 +1,6 @@
 //! From wire bytes to a message, record by record.
 
-ghost use Rattle.std.specs.Prelude.{◌<◌, ◌≤◌, length, IfOk};
+ghost use Rattle.std.specs.Prelude.{◌≡◌, ◌<◌, ◌≤◌, length, IfOk};
 
 use crate::fields;
 use crate::message::DynamicMessage;
@@ -83,6 +83,7 @@ fn field_merged<'p, 'b>(
     levels: u32,
 ) -> Result<(DynamicMessage<'p>, &'b [u8]), WireError>
     ensures shorter { IfOk result (λ found. length found.1.now ≤ length bytes.now) }
+    ensures same_type { IfOk result (λ found. found.0.descriptor ≡ message.entry.descriptor) }
 {
     let number = field.number();
     let kind = field.kind();
@@ -124,6 +125,7 @@ fn record_merged<'p, 'b>(
     requires positive { 0 < key.number }
     requires small { key.number ≤ 536870911 }
     ensures shorter { IfOk result (λ found. length found.1.now ≤ length bytes.now) }
+    ensures same_type { IfOk result (λ found. found.0.descriptor ≡ message.entry.descriptor) }
 {
     match declared_field(message.descriptor, key.number) {
         Some(field) => field_merged(alloc, message, field, key.wire, bytes, levels),
@@ -144,7 +146,9 @@ pub fn merged<'p>(
     message: DynamicMessage<'p>,
     bytes: &[u8],
     levels: u32,
-) -> Result<DynamicMessage<'p>, WireError> {
+) -> Result<DynamicMessage<'p>, WireError>
+    ensures { IfOk result (λ m. m.descriptor ≡ message.entry.descriptor) }
+{
     let mut message = message;
     let mut rest = bytes;
     'records: while !rest.is_empty() {

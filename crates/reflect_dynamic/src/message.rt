@@ -1,4 +1,5 @@
-ghost use Rattle.std.specs.Prelude.{◌≡◌, OnErr};
+ghost use Rattle.std.specs.Prelude.{◌≡◌, IfOk, OnErr};
+ghost use Rattle.reflect_dynamic.specs.Declares.{Declares};
 
 use crate::decode::{MAX_LEVELS, merged};
 use crate::encode::{message_len, push_message};
@@ -48,7 +49,9 @@ impl<'p> DynamicMessage<'p> {
         alloc: Global,
         descriptor: MessageDescriptor<'p>,
         bytes: &[u8],
-    ) -> Result<DynamicMessage<'p>, WireError> {
+    ) -> Result<DynamicMessage<'p>, WireError>
+        ensures { IfOk result (λ m. m.descriptor ≡ descriptor.entry) }
+    {
         merged(
             alloc,
             DynamicMessage::new(alloc, descriptor),
@@ -88,17 +91,21 @@ impl<'p> DynamicMessage<'p> {
         Ok(out)
     }
 
-    /// The field is set.
-    pub fn has_field(&self, field: &FieldDescriptor<'p>) -> bool {
+    /// The field, one of the message's type, is set.
+    pub fn has_field(&self, field: &FieldDescriptor<'p>) -> bool
+        requires { Declares self.now.descriptor field.now }
+    {
         self.get_field(field).is_some()
     }
 
-    /// What the field was set to, if it is set.
-    pub fn get_field(&self, field: &FieldDescriptor<'p>) -> Option<&Value<'p>> {
+    /// What the field, one of the message's type, was set to, if it is set.
+    pub fn get_field(&self, field: &FieldDescriptor<'p>) -> Option<&Value<'p>>
+        requires { Declares self.now.descriptor field.now }
+    {
         fields::get(self.fields.as_slice(), field.number())
     }
 
-    /// Sets the field, over what it held.
+    /// Sets the field, one of the message's type, over what it held.
     ///
     /// `InvalidType` hands field and value back where the field does not take the value; then, and for want of memory,
     /// the message is unchanged.
@@ -107,7 +114,9 @@ impl<'p> DynamicMessage<'p> {
         field: FieldDescriptor<'p>,
         value: Value<'p>,
     ) -> Result<(), SetFieldError<'p>>
-        ensures { OnErr result (self.new.fields.items ≡ self.old.fields.items) }
+        requires { Declares self.old.descriptor field }
+        ensures type_stays { self.new.descriptor ≡ self.old.descriptor }
+        ensures err { OnErr result (self.new.fields.items ≡ self.old.fields.items) }
     {
         if !value.is_valid_for_field(&field) {
             return Err(SetFieldError::InvalidType { field, value });

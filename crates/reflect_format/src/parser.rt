@@ -1,5 +1,6 @@
 //! From text to a message.
 
+ghost use Rattle.reflect_dynamic.specs.Declares.{Declares};
 ghost use Rattle.std.specs.Prelude.{◌≡◌, ◌<◌, ◌≤◌, ◌-◌, IfOk, IfSome, OnOk, Some, Ok};
 
 use crate::error::{ParseError, ParseErrorKind};
@@ -282,7 +283,9 @@ fn set<'p>(
     message: &mut DynamicMessage<'p>,
     field: FieldDescriptor<'p>,
     value: Value<'p>,
-) -> Result<(), ParseErrorKind> {
+) -> Result<(), ParseErrorKind>
+    requires { Declares message.old.descriptor field }
+{
     match message.try_set_field(field, value) {
         Ok(()) => Ok(()),
         Err(_) => Err(ParseErrorKind::Memory),

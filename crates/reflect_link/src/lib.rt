@@ -2,6 +2,6 @@
 #![tactic(auto)]
 
 pub use reflect_pool::{
-    Cardinality, DescriptorError, DescriptorPool, EnumDescriptor, FieldDescriptor, Fields, Kind, MessageDescriptor,
-    Syntax,
+    Cardinality, DescriptorError, DescriptorPool, EnumDescriptor, FieldDescriptor, Fields, Kind,
+    MessageDescriptor, Syntax,
 };

@@ -31,17 +31,17 @@ pooled_more olds mores news es total enums e h is small same within few =
     let long : length (map message_of news) ≡ total = length-map news message_of ∙ ap length e ∙ length-append olds mores ∙ sym is in
     let fits : length (map message_of olds) ≤ total = omega (arith, old_len, is) in
     let old_within : AllByRecursion (FieldsWithin total (length es)) (map message_of olds) =
-        all_through (FieldsWithin (length (map message_of olds)) (length es)) (FieldsWithin total (length es)) (map message_of olds)
-        (λ m k. fields_more (length (map message_of olds)) total (length es) fits m k) h.closed in
+    all_through (FieldsWithin (length (map message_of olds)) (length es)) (FieldsWithin total (length es)) (map message_of olds)
+    (λ m k. fields_more (length (map message_of olds)) total (length es) fits m k) h.closed in
     let new_within : AllByRecursion (FieldsWithin total (length es)) (map message_of mores) =
-        subst (λ n. AllByRecursion (FieldsWithin total n) (map message_of mores)) same within in
+    subst (λ n. AllByRecursion (FieldsWithin total n) (map message_of mores)) same within in
     let all_within : AllByRecursion (FieldsWithin total (length es)) (map message_of news) =
-        subst (λ ms. AllByRecursion (FieldsWithin total (length es)) ms) (sym joined) (all_behind _ (map message_of olds) (map message_of mores) old_within new_within) in
+    subst (λ ms. AllByRecursion (FieldsWithin total (length es)) ms) (sym joined) (all_behind _ (map message_of olds) (map message_of mores) old_within new_within) in
     let all_small : AllByRecursion (λ (m : MessageType). length m.fields < 2 ^ 31) (map message_of news) =
-        subst (λ ms. AllByRecursion (λ (m : MessageType). length m.fields < 2 ^ 31) ms) (sym joined) (all_behind _ (map message_of olds) (map message_of mores) h.small few) in
+    subst (λ ms. AllByRecursion (λ (m : MessageType). length m.fields < 2 ^ 31) ms) (sym joined) (all_behind _ (map message_of olds) (map message_of mores) h.small few) in
     record {
       closed = subst (λ n. AllByRecursion (FieldsWithin n (length es)) (map message_of news)) (sym long) all_within;
       small = all_small;
       few = omega (arith, long, small);
-      few_enums = h.few_enums
+      few_enums = h.few_enums;
     }

@@ -84,7 +84,8 @@ impl DescriptorPool {
         ensures { self.new ≡ self.old }
     {
         let count = self.files.len();
-        self.names.retain(|_, definition| (definition.file as usize) < count);
+        self.names
+            .retain(|_, definition| (definition.file as usize) < count);
         self.file_names.retain(|_, file| (*file as usize) < count);
         self.links.truncate(count);
     }
@@ -103,8 +104,7 @@ impl DescriptorPool {
             None => true,
         });
         let before = self.offsets().map_err(|error| walk_error(alloc, error))?;
-        let first =
-            next_place(self.files.len()).map_err(|error| walk_error(alloc, error))?;
+        let first = next_place(self.files.len()).map_err(|error| walk_error(alloc, error))?;
         declare_names(
             alloc,
             before,
@@ -113,8 +113,9 @@ impl DescriptorPool {
             &mut self.file_names,
             &mut self.names,
         )?;
-        add_links(alloc, &self.file_names, &mut self.links, files.as_slice())
-            .map_err(|error| walk_error(alloc, error))?;
+        add_links(alloc, &self.file_names, &mut self.links, files.as_slice()).map_err(
+            |error| walk_error(alloc, error),
+        )?;
         let references = resolve_references(
             alloc,
             before,
@@ -124,8 +125,9 @@ impl DescriptorPool {
             self.links.as_slice(),
         )?;
         let mut visitor = IndexVisitor::new(alloc, references.as_slice());
-        visit_all(alloc, before, first, files.as_slice(), &mut visitor)
-            .map_err(|error| walk_error(alloc, error))?;
+        visit_all(alloc, before, first, files.as_slice(), &mut visitor).map_err(|error| walk_error(
+            alloc, error,
+        ))?;
         let messages = visitor.into_messages();
         self.add(alloc, files, messages)
             .map_err(|error| walk_error(alloc, error))

@@ -1,9 +1,8 @@
 use reflect_names::{DescriptorErrorKind, Label, VisitError};
 use std::alloc::{AllocError, Global};
 use std::error::Error;
-use std::fmt;
 use std::iter::{Chain, Once, once};
-use std::slice;
+use std::{fmt, slice};
 
 /// Why files were not linked: all faults of the first faulty pass, or want of memory or of numbers alone.
 #[derive(PartialEq, Drop)]
@@ -34,7 +33,9 @@ impl DescriptorError {
     }
 
     /// The faults, the first of them first.
-    pub fn errors(&self) -> Chain<Once<&DescriptorErrorKind>, slice::Iter<'_, DescriptorErrorKind>> {
+    pub fn errors(
+        &self,
+    ) -> Chain<Once<&DescriptorErrorKind>, slice::Iter<'_, DescriptorErrorKind>> {
         once(&self.first).chain(self.others.iter())
     }
 

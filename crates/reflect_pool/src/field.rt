@@ -62,8 +62,7 @@ impl<'p> FieldDescriptor<'p> {
     /// The field holds any number of values, and is no map.
     pub fn is_list(&self) -> bool {
         let pool = self.message.pool;
-        let field =
-            &pool.messages[self.message.index as usize].fields[self.index as usize];
+        let field = &pool.messages[self.message.index as usize].fields[self.index as usize];
         field.cardinality == Cardinality::Repeated
     }
 
@@ -76,8 +75,7 @@ impl<'p> FieldDescriptor<'p> {
     /// A field that is not set differs from one that holds the default.
     pub fn supports_presence(&self) -> bool {
         let pool = self.message.pool;
-        pool.messages[self.message.index as usize].fields[self.index as usize]
-            .supports_presence
+        pool.messages[self.message.index as usize].fields[self.index as usize].supports_presence
     }
 
     pub fn kind(&self) -> Kind<'p>

@@ -83,11 +83,7 @@ impl<'p> MessageDescriptor<'p> {
     }
 
     /// The field that an index has at the place where a search ended.
-    fn field_at(
-        &self,
-        index: &[u32],
-        found: Result<usize, usize>,
-    ) -> Option<FieldDescriptor<'p>>
+    fn field_at(&self, index: &[u32], found: Result<usize, usize>) -> Option<FieldDescriptor<'p>>
         ensures message { IfSome result (λ f. f.message ≡ self.now) }
     {
         let place = *index.get(found.ok()?)?;

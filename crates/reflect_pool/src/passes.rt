@@ -50,8 +50,9 @@ pub fn declare_names(
     names: &mut BTreeMap<String, Definition>,
 ) -> Result<(), DescriptorError> {
     let mut faults = Faults::new(alloc, files, first);
-    name_files(alloc, file_names, first, files, &mut faults)
-        .map_err(|error| walk_error(alloc, error))?;
+    name_files(alloc, file_names, first, files, &mut faults).map_err(|error| walk_error(
+        alloc, error,
+    ))?;
     let known = mem::replace(names, BTreeMap::new(alloc));
     let mut visitor = NameVisitor::new(known, faults, &*file_names);
     let visited = visit_all(alloc, before, first, files, &mut visitor);
@@ -71,10 +72,8 @@ pub fn resolve_references(
     links: &[Links],
 ) -> Result<Vec<Reference>, DescriptorError> {
     let faults = Faults::new(alloc, files, first);
-    let mut visitor = ResolveVisitor::new(alloc, faults, names, links)
-        .map_err(|error| walk_error(alloc, VisitError::from(error)))?;
-    visit_all(alloc, before, first, files, &mut visitor)
-        .map_err(|error| walk_error(alloc, error))?;
+    let mut visitor = ResolveVisitor::new(alloc, faults, names, links);
+    visit_all(alloc, before, first, files, &mut visitor).map_err(|error| walk_error(alloc, error))?;
     let (references, faults) = visitor.into_parts();
     without_faults(faults)?;
     Ok(references)

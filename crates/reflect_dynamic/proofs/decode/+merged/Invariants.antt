@@ -1,4 +1,4 @@
-use Rattle.std.proofs.Common.{◌+◌, ◌*◌, length}
+use Rattle.std.proofs.Common.{◌≡◌, ◌+◌, ◌*◌, length}
 use Rattle.reflect_dynamic.proofs.decode.+merged.Given as goal
 
 abbrev pub decreases-merged : goal.decreases-merged
@@ -15,3 +15,6 @@ decreases-message_at l = 4 * l.levels
 
 abbrev pub decreases-merged-records : goal.decreases-merged-records
 decreases-merged-records l = length l.rest
+
+abbrev pub invariant-merged-records : goal.invariant-merged-records
+invariant-merged-records l = l.message.descriptor ≡ l.initial.message.descriptor

@@ -9,7 +9,7 @@ invariant_of-result c =
     let self = c.args.self.now in
     let pool = self.message.pool.now in
     let child = kind_within c.pool.inside pool self.message.index self.index c.index.result.now c.index-2.result.now
-        c.pool.view_is c.pool.invariant self.message.in_range c.index.ensures self.in_range c.index-2.ensures in
+    c.pool.view_is c.pool.invariant self.message.in_range c.index.ensures self.in_range c.index-2.ensures in
     record { in_range = subst (λ s. IsWithin (length pool.messages) (length pool.enums) (kind_of s)) c.in-Message.is child }
 
 pub invariant_of-result-in-Enum : goal.invariant_of-result-in-Enum
@@ -17,5 +17,5 @@ invariant_of-result-in-Enum c =
     let self = c.args.self.now in
     let pool = self.message.pool.now in
     let child = kind_within c.pool.inside pool self.message.index self.index c.index.result.now c.index-2.result.now
-        c.pool.view_is c.pool.invariant self.message.in_range c.index.ensures self.in_range c.index-2.ensures in
+    c.pool.view_is c.pool.invariant self.message.in_range c.index.ensures self.in_range c.index-2.ensures in
     record { in_range = subst (λ s. IsWithin (length pool.messages) (length pool.enums) (kind_of s)) c.in-Enum.is child }

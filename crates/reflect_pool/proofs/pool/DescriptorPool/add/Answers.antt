@@ -20,7 +20,7 @@ invariant_of-self-2 c =
     let same : enums ≡ length (map enum_of inside.enums.items) = grind (arith, common_steps, c.in_ok-enums.ensures, c.len-3.ensures, length-map) in
     let news : c.append_both.new.messages.items ≡ olds ++ mores = c.in_ok-append_both.ensures.messages in
     let within : AllByRecursion (FieldsWithin total enums) (map message_of mores) =
-        subst (λ (ms : List StoredMessage). AllByRecursion (FieldsWithin total enums) (map message_of ms)) c.as_slice.ensures.value (c.if-not-are_within.ensures.within (search rules)) in
+    subst (λ (ms : List StoredMessage). AllByRecursion (FieldsWithin total enums) (map message_of ms)) c.as_slice.ensures.value (c.if-not-are_within.ensures.within (search rules)) in
     let few : AllByRecursion (λ (m : MessageType). length m.fields < 2 ^ 31) (map message_of mores) =
-        subst (λ (ms : List StoredMessage). AllByRecursion (λ (m : MessageType). length m.fields < 2 ^ 31) (map message_of ms)) c.as_slice.ensures.value (c.if-not-are_within.ensures.few (search rules)) in
+    subst (λ (ms : List StoredMessage). AllByRecursion (λ (m : MessageType). length m.fields < 2 ^ 31) (map message_of ms)) c.as_slice.ensures.value (c.if-not-are_within.ensures.few (search rules)) in
     pooled_more olds mores c.append_both.new.messages.items (map enum_of inside.enums.items) total enums news c.self.invariant is small same within few

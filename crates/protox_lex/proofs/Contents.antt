@@ -1,0 +1,36 @@
+-- The turns of the loops in strings and comments.
+use Rattle.std.proofs.Common.{◌≡◌, ℕ, zero, suc, ◌+◌, ◌≤◌, ◌<◌, true, false, [], ◌∷◌, drop, length, ap, ◌∙◌, arith, refl}
+use Rattle.std.specs.Prelude.{slice_index}
+use Rattle.protox_lex.specs.Class.{Text}
+use Rattle.protox_lex.specs.Lex.{unit_len, after_unit, contents_from, contents_len, is_comment_mark, comment_len}
+
+-- what is left of an escape is passed over
+pub contents_pass : (q left : ℕ) (y : Text) → left ≤ length y → contents_from q left y ≡ left + contents_len q (drop left y)
+unfolding contents_from
+contents_pass q zero y le = omega arith
+contents_pass q (suc left) [] le = absurd (omega arith)
+contents_pass q (suc left) (b ∷ y) le = omega (arith, contents_pass q left y (omega arith))
+
+pub contents_step : (q : ℕ) (y : Text) → 0 < unit_len q y → unit_len q y ≤ length y → contents_len q y ≡ unit_len q y + contents_len q (drop (unit_len q y) y)
+unfolding contents_from
+contents_step q [] some le = absurd (omega arith)
+contents_step q (b ∷ y) some le = by (unit_len q (b ∷ y)) refl some le where
+  by : (n : ℕ) → unit_len q (b ∷ y) ≡ n → 0 < n → n ≤ length (b ∷ y) → contents_len q (b ∷ y) ≡ n + contents_len q (drop n (b ∷ y))
+  by zero e some le = absurd (omega arith)
+  by (suc n) e some le = ap (λ k. after_unit k (λ m. contents_from q m y)) e ∙ omega (arith, contents_pass q n y (omega arith))
+
+pub contents_end : (q : ℕ) (y : Text) → unit_len q y ≡ 0 → contents_len q y ≡ 0
+unfolding contents_from
+contents_end q [] e = refl
+contents_end q (b ∷ y) e = ap (λ k. after_unit k (λ m. contents_from q m y)) e
+
+pub comment_step : (b : ℕ) (z : Text) → is_comment_mark b (slice_index z 0) ≡ false → comment_len (b ∷ z) ≡ suc (comment_len z)
+comment_step b z e = rw e refl
+
+pub comment_end : (b : ℕ) (z : Text) → is_comment_mark b (slice_index z 0) ≡ true → comment_len (b ∷ z) ≡ 0
+comment_end b z e = rw e refl
+
+pub contents_none : (q : ℕ) (y : Text) → length y ≡ 0 → contents_len q y ≡ 0
+unfolding contents_from
+contents_none q [] e = refl
+contents_none q (b ∷ y) e = absurd (omega arith)

@@ -1,0 +1,10 @@
+pub mod Class
+pub mod Ascii
+pub mod Token
+pub mod Lex
+pub mod Shown
+pub mod Unread
+pub mod Lines
+pub mod Resolver
+pub mod Signed
+pub mod Blocks

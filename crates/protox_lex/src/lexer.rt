@@ -1,0 +1,98 @@
+//! The tokens of a source, one after the other.
+
+ghost use Rattle.std.specs.Prelude.{◌≡◌, ◌≤◌, ◌<◌, length, [], ◌∷◌, IfOk, IfErr, OnErr, MatchOption};
+ghost use Rattle.protox_lex.specs.Token.{token_at, fault_at};
+
+use crate::error::{LexError, LexErrorKind};
+use crate::front::{Piece, front};
+use crate::span::Span;
+use crate::token::Token;
+
+/// A token, and where it stands.
+#[derive(Clone, Copy, PartialEq, Debug)]
+pub struct Lexeme<'a> {
+    pub span: Span,
+    pub token: Token<'a>,
+}
+
+impl Lexeme<'_> {
+    /// The fault of a token that only text format has: a comment that begins with `#`, or a number that ends with `f`.
+    pub fn text_format_fault(&self) -> Option<LexError> {
+        let kind = match self.token {
+            Token::HashComment => LexErrorKind::HashCommentOutsideTextFormat,
+            Token::Float(text) if ends_with_suffix(text.as_bytes()) => {
+                LexErrorKind::FloatSuffixOutsideTextFormat
+            }
+            _ => return None,
+        };
+        Some(LexError {
+            kind,
+            span: self.span,
+        })
+    }
+}
+
+fn ends_with_suffix(text: &[u8]) -> bool {
+    matches!(text, [.., b'f' | b'F'])
+}
+
+/// A source, and how far it is read.
+///
+/// Gaps, that is, white space and the comments `//` and `/*`, stand between the tokens and are passed over. A comment that
+/// begins with `#` is a token, since only who knows that text format stands there may pass over it.
+#[derive(Clone, Copy, Debug)]
+pub struct Lexer<'a> {
+    source: &'a [u8],
+    at: usize,
+    ghost within: { at ≤ length source.now },
+}
+
+impl<'a> Lexer<'a> {
+    ghost use Rattle.protox_lex.specs.Lex.{lexemes};
+    ghost use Rattle.protox_lex.specs.Shown.{stream, token_of};
+    ghost use Rattle.protox_lex.specs.Unread.{unread};
+
+    pub fn new(source: &'a str) -> Lexer<'a>
+        ensures { stream result ≡ lexemes source.now }
+    {
+        Lexer {
+            source: source.as_bytes(),
+            at: 0,
+        }
+    }
+
+    /// The next token, or `None` at the end. After an `Err` each call gives it again.
+    pub fn next(&mut self) -> Result<Option<Lexeme<'a>>, LexError>
+        ensures ok { IfOk result (λ o. MatchOption o ((stream self.old ≡ []) × (stream self.new ≡ []))
+            (λ t. stream self.old ≡ token_at t.span.start t.span.end (token_of t.token) ∷ stream self.new)) }
+        ensures err { IfErr result (λ e. (stream self.old ≡ fault_at e.kind e.span.start e.span.end ∷ []) × (stream self.new ≡ stream self.old)) }
+        ensures moves { IfOk result (λ o. MatchOption o (unread self.new ≤ unread self.old) (λ _. unread self.new < unread self.old)) }
+        ensures stays { OnErr result (unread self.new ≤ unread self.old) }
+    {
+        let source = self.source;
+        while self.at < source.len() {
+            let start = self.at;
+            match front(&source[start..]) {
+                Err(flaw) => {
+                    return Err(LexError {
+                        kind: flaw.kind,
+                        span: Span {
+                            start: start + flaw.start,
+                            end: start + flaw.end,
+                        },
+                    });
+                }
+                Ok((Piece::Gap, len)) => self.at += len,
+                Ok((Piece::Token(token), len)) => {
+                    self.at += len;
+                    let span = Span {
+                        start,
+                        end: self.at,
+                    };
+                    return Ok(Some(Lexeme { span, token }));
+                }
+            }
+        }
+        Ok(None)
+    }
+}

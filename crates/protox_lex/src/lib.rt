@@ -1,0 +1,26 @@
+//! Cuts a protobuf source into its tokens, each the longest that stands at its place, and says where they and the comments stand.
+#![tactic(auto)]
+
+mod class;
+mod comments;
+mod error;
+mod escape;
+mod front;
+mod lexer;
+mod lines;
+mod literal;
+mod number;
+mod quoted;
+mod span;
+#[cfg(test)]
+mod tests;
+pub mod token;
+
+pub use comments::Comments;
+pub use error::{LexError, LexErrorKind};
+pub use escape::{Escaped, unescape};
+pub use lexer::{Lexeme, Lexer};
+pub use lines::LineResolver;
+pub use literal::{Float, Int, String};
+pub use span::Span;
+pub use token::{Sign, Token};

@@ -1,0 +1,128 @@
+//! Why a source is refused.
+
+ghost use Rattle.std.specs.Prelude.{◌<◌, vec_len};
+
+use protox_lex::{LineResolver, Span};
+use protox_tree::ParseErrorKind;
+use std::alloc::{AllocError, AllocFailed, Global};
+use std::error::Error;
+use std::fmt;
+
+/// Why a source has no record.
+#[derive(Drop)]
+pub enum ParseError {
+    /// Memory ran out.
+    Memory,
+    /// The source is at fault.
+    Refused(Refusal),
+}
+
+/// The faults of a source, at least one, in the order in which they stand in it.
+#[derive(Drop)]
+pub struct Refusal {
+    file: String,
+    faults: Vec<ParseErrorKind>,
+    /// Line and column of the first fault, where it has a place.
+    position: Option<(i32, i32)>,
+    ghost some: { 0 < vec_len faults },
+}
+
+impl Refusal {
+    /// The refusal of a file of this name, whose lines are these. Refused only for want of memory.
+    pub(crate) fn new(
+        alloc: Global,
+        name: &str,
+        lines: Option<&LineResolver>,
+        faults: Vec<ParseErrorKind>,
+    ) -> Result<Refusal, AllocError>
+        requires { 0 < vec_len faults }
+    {
+        let file = String::from_str(alloc, name)?;
+        let position = position(lines, faults[0].span());
+        Ok(Refusal {
+            file,
+            faults,
+            position,
+        })
+    }
+}
+
+fn position(lines: Option<&LineResolver>, span: Option<Span>) -> Option<(i32, i32)> {
+    let start = span?.start;
+    if start <= i32::MAX as usize {
+        Some(lines?.resolve(start))
+    } else {
+        None
+    }
+}
+
+impl ParseError {
+    /// The name of the file; empty where memory ran out.
+    pub fn file(&self) -> &str {
+        match self {
+            ParseError::Memory => "",
+            ParseError::Refused(refusal) => refusal.file.as_str(),
+        }
+    }
+
+    /// The first fault, where the source is at fault.
+    pub fn kind(&self) -> Option<&ParseErrorKind> {
+        match self {
+            ParseError::Memory => None,
+            ParseError::Refused(refusal) => Some(&refusal.faults[0]),
+        }
+    }
+
+    /// The bytes of the first fault. A source that is too large or ends too early has none.
+    pub fn span(&self) -> Option<Span> {
+        self.kind()?.span()
+    }
+
+    /// All faults, in the order in which they stand in the source; none where memory ran out.
+    ///
+    /// A source that cannot be read as a tree has one fault, the first. Of a tree all faults are listed.
+    pub fn faults(&self) -> &[ParseErrorKind] {
+        match self {
+            ParseError::Memory => &[],
+            ParseError::Refused(refusal) => refusal.faults.as_slice(),
+        }
+    }
+}
+
+/// The text of the first fault.
+impl fmt::Display for ParseError {
+    fn fmt<W: fmt::Write>(&self, f: &mut fmt::Formatter<W>) -> fmt::Result {
+        match self {
+            ParseError::Memory => f.write_str("out of memory"),
+            ParseError::Refused(refusal) => write!(f, "{}", refusal.faults[0]),
+        }
+    }
+}
+
+/// The file, the line and column from 1 where the first fault has a place, and its text.
+impl fmt::Debug for ParseError {
+    fn fmt<W: fmt::Write>(&self, f: &mut fmt::Formatter<W>) -> fmt::Result {
+        if let ParseError::Refused(refusal) = self {
+            write!(f, "{}:", refusal.file)?;
+            if let Some((line, column)) = refusal.position {
+                write!(f, "{}:{}:", i64::from(line) + 1, i64::from(column) + 1)?;
+            }
+            f.write_str(" ")?;
+        }
+        write!(f, "{self}")
+    }
+}
+
+impl Error for ParseError {}
+
+impl From<AllocError> for ParseError {
+    fn from(_e: AllocError) -> ParseError {
+        ParseError::Memory
+    }
+}
+
+impl<T: Drop> From<AllocFailed<T>> for ParseError {
+    fn from(_e: AllocFailed<T>) -> ParseError {
+        ParseError::Memory
+    }
+}

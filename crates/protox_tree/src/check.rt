@@ -1,0 +1,73 @@
+//! The checks of a whole tree.
+
+mod declaration;
+mod default;
+mod field;
+mod range;
+
+use crate::check::declaration::{check_extend, check_message};
+use crate::check::range::check_enum;
+use crate::error::ParseErrorKind;
+use crate::file::{File, FileItem};
+use crate::text::Strings;
+use crate::types::Syntax;
+use protox_lex::Span;
+use std::alloc::{AllocError, Global};
+
+/// The faults of a tree, in the order in which they stand in the source. Refused only for want of memory.
+///
+/// The rules are those of the "Language Specification" of the two syntaxes and of the "Language Guide". What needs other
+/// files, as whether a type exists, is not checked here.
+pub fn check_file(alloc: Global, file: &File) -> Result<Vec<ParseErrorKind>, AllocError> {
+    let mut faults = Vec::new(alloc);
+    let mut package = None;
+    for item in &file.items {
+        if let FileItem::Package(statement) = item {
+            check_package(package, statement.span, &mut faults)?;
+            package = package.or(Some(statement.span));
+        }
+        check_item(alloc, file.syntax(), item, &mut faults)?;
+    }
+    Ok(faults)
+}
+
+fn check_package(
+    first: Option<Span>,
+    second: Span,
+    faults: &mut Vec<ParseErrorKind>,
+) -> Result<(), AllocError> {
+    if let Some(first) = first {
+        faults.push(ParseErrorKind::DuplicatePackage { first, second })?;
+    }
+    Ok(())
+}
+
+fn check_item(
+    alloc: Global,
+    syntax: Syntax,
+    item: &FileItem,
+    faults: &mut Vec<ParseErrorKind>,
+) -> Result<(), AllocError> {
+    match item {
+        FileItem::Import(import) => check_text(alloc, &import.value, faults),
+        FileItem::Message(message) => check_message(alloc, syntax, message, faults),
+        FileItem::Enum(enumeration) => check_enum(alloc, enumeration, faults),
+        FileItem::Extend(extend) => check_extend(alloc, syntax, extend, faults),
+        FileItem::Package(_) | FileItem::Option(_) | FileItem::Service(_) | FileItem::Empty => {
+            Ok(())
+        }
+    }
+}
+
+/// A string that has to be text.
+fn check_text(
+    alloc: Global,
+    strings: &Strings,
+    faults: &mut Vec<ParseErrorKind>,
+) -> Result<(), AllocError> {
+    if strings.joined(alloc)?.into_utf8().is_err() {
+        let span = strings.span();
+        faults.push(ParseErrorKind::InvalidUtf8String { span })?;
+    }
+    Ok(())
+}

@@ -1,0 +1,139 @@
+//! The checks of ranges, and of enums.
+
+use crate::check::check_text;
+use crate::enumeration::{Enum, EnumItem};
+use crate::error::ParseErrorKind;
+use crate::range::{Extensions, RangeEnd, Reserved, ReservedItems, ReservedRange};
+use crate::types::Syntax;
+use protox_lex::Int;
+use std::alloc::{AllocError, Global};
+
+/// The numbers that a bound may be.
+#[derive(Clone, Copy, PartialEq, Eq, Debug)]
+enum Numbers {
+    Fields,
+    EnumValues,
+}
+
+/// A bound, if it is one of the numbers.
+fn bound(numbers: Numbers, int: Int) -> Option<i32> {
+    let bound = int.as_i32()?;
+    match numbers {
+        Numbers::Fields if bound < 1 || bound > 536870911 => None,
+        _ => Some(bound),
+    }
+}
+
+fn check_bound(
+    numbers: Numbers,
+    int: Int,
+    faults: &mut Vec<ParseErrorKind>,
+) -> Result<(), AllocError> {
+    if bound(numbers, int).is_none() {
+        faults.push(ParseErrorKind::InvalidRange { span: int.span })?;
+    }
+    Ok(())
+}
+
+fn check_range(
+    numbers: Numbers,
+    range: ReservedRange,
+    faults: &mut Vec<ParseErrorKind>,
+) -> Result<(), AllocError> {
+    let RangeEnd::Int(end) = range.end else {
+        return check_bound(numbers, range.start, faults);
+    };
+    match (bound(numbers, range.start), bound(numbers, end)) {
+        (Some(first), Some(last)) => {
+            if first > last {
+                let span = range.span();
+                faults.push(ParseErrorKind::InvalidRange { span })?;
+            }
+        }
+        _ => {
+            check_bound(numbers, range.start, faults)?;
+            check_bound(numbers, end, faults)?;
+        }
+    }
+    Ok(())
+}
+
+fn check_ranges(
+    numbers: Numbers,
+    ranges: &Vec<ReservedRange>,
+    faults: &mut Vec<ParseErrorKind>,
+) -> Result<(), AllocError> {
+    for range in ranges {
+        check_range(numbers, *range, faults)?;
+    }
+    Ok(())
+}
+
+pub fn check_extensions(
+    syntax: Syntax,
+    extensions: &Extensions,
+    faults: &mut Vec<ParseErrorKind>,
+) -> Result<(), AllocError> {
+    if syntax == Syntax::Proto3 {
+        let span = extensions.span;
+        faults.push(ParseErrorKind::ExtensionRangeInProto3 { span })?;
+    }
+    check_ranges(Numbers::Fields, &extensions.ranges, faults)
+}
+
+fn check_items(
+    alloc: Global,
+    numbers: Numbers,
+    items: &ReservedItems,
+    faults: &mut Vec<ParseErrorKind>,
+) -> Result<(), AllocError> {
+    match items {
+        ReservedItems::Ranges(ranges) => check_ranges(numbers, ranges, faults),
+        ReservedItems::Names(names) => {
+            for name in names {
+                check_text(alloc, name, faults)?;
+            }
+            Ok(())
+        }
+    }
+}
+
+/// The `reserved` statement of a message.
+pub fn check_reserved(
+    alloc: Global,
+    reserved: &Reserved,
+    faults: &mut Vec<ParseErrorKind>,
+) -> Result<(), AllocError> {
+    check_items(alloc, Numbers::Fields, &reserved.items, faults)
+}
+
+pub fn check_enum(
+    alloc: Global,
+    enumeration: &Enum,
+    faults: &mut Vec<ParseErrorKind>,
+) -> Result<(), AllocError> {
+    for item in &enumeration.items {
+        check_enum_item(alloc, item, faults)?;
+    }
+    Ok(())
+}
+
+fn check_enum_item(
+    alloc: Global,
+    item: &EnumItem,
+    faults: &mut Vec<ParseErrorKind>,
+) -> Result<(), AllocError> {
+    match item {
+        EnumItem::Value(value) => {
+            let span = value.number.span;
+            if value.number.as_i32().is_none() {
+                faults.push(ParseErrorKind::InvalidEnumNumber { span })?;
+            }
+            Ok(())
+        }
+        EnumItem::Reserved(reserved) => {
+            check_items(alloc, Numbers::EnumValues, &reserved.items, faults)
+        }
+        EnumItem::Option(_) | EnumItem::Empty => Ok(()),
+    }
+}

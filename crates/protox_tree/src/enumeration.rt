@@ -1,0 +1,29 @@
+//! Enums.
+
+use crate::ident::Ident;
+use crate::option::{OptionList, OptionStatement};
+use crate::range::Reserved;
+use protox_lex::{Int, Span};
+
+#[derive(Debug, Drop)]
+pub struct Enum {
+    pub name: Ident,
+    pub items: Vec<EnumItem>,
+    pub span: Span,
+}
+
+#[derive(Debug, Drop)]
+pub enum EnumItem {
+    Value(EnumValue),
+    Option(OptionStatement),
+    Reserved(Reserved),
+    Empty,
+}
+
+#[derive(Debug, Drop)]
+pub struct EnumValue {
+    pub name: Ident,
+    pub number: Int,
+    pub options: Option<OptionList>,
+    pub span: Span,
+}

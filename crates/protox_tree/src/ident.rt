@@ -1,0 +1,121 @@
+//! Names.
+
+ghost use Rattle.std.specs.Prelude.{◌<◌, vec_len};
+
+use protox_lex::Span;
+use std::alloc::{AllocError, Global};
+use std::fmt;
+
+/// A name without dots.
+#[derive(Debug, Drop)]
+pub struct Ident {
+    pub value: String,
+    pub span: Span,
+}
+
+impl Ident {
+    pub fn new(value: String, span: Span) -> Ident {
+        Ident { value, span }
+    }
+}
+
+impl fmt::Display for Ident {
+    fn fmt<W: fmt::Write>(&self, f: &mut fmt::Formatter<W>) -> fmt::Result {
+        f.write_str(self.value.as_str())
+    }
+}
+
+/// Names with dots between them, at least one.
+#[derive(Debug, Drop)]
+pub struct FullIdent {
+    parts: Vec<Ident>,
+    ghost some: { 0 < vec_len parts },
+}
+
+impl FullIdent {
+    /// Of one part. Refused only for want of memory.
+    pub fn from_ident(alloc: Global, ident: Ident) -> Result<FullIdent, AllocError> {
+        let mut parts = Vec::with_capacity(alloc, 1)?;
+        parts.push(ident)?;
+        Ok(FullIdent { parts })
+    }
+
+    pub fn from_idents(parts: Vec<Ident>) -> FullIdent
+        requires { 0 < vec_len parts }
+    {
+        FullIdent { parts }
+    }
+
+    pub fn parts(&self) -> &[Ident] {
+        self.parts.as_slice()
+    }
+
+    /// From the first part to the last.
+    pub fn span(&self) -> Span {
+        let first = self.parts[0].span;
+        let last = self.parts[self.parts.len() - 1].span;
+        Span {
+            start: first.start,
+            end: last.end,
+        }
+    }
+
+    /// The parts with dots between them. Refused only for want of memory.
+    pub fn to_text(&self, alloc: Global) -> Result<String, AllocError> {
+        let mut text = String::new(alloc);
+        for (i, part) in self.parts.iter().enumerate() {
+            if i > 0 {
+                text.push_str(".")?;
+            }
+            text.push_str(part.value.as_str())?;
+        }
+        Ok(text)
+    }
+}
+
+impl fmt::Display for FullIdent {
+    fn fmt<W: fmt::Write>(&self, f: &mut fmt::Formatter<W>) -> fmt::Result {
+        for (i, part) in self.parts.iter().enumerate() {
+            if i > 0 {
+                f.write_str(".")?;
+            }
+            f.write_str(part.value.as_str())?;
+        }
+        Ok(())
+    }
+}
+
+/// The name of a type, which may begin with a dot.
+#[derive(Debug, Drop)]
+pub struct TypeName {
+    pub leading_dot: Option<Span>,
+    pub name: FullIdent,
+}
+
+impl TypeName {
+    /// From the leading dot, if there is one, to the last part.
+    pub fn span(&self) -> Span {
+        let name = self.name.span();
+        match self.leading_dot {
+            Some(dot) => Span {
+                start: dot.start,
+                end: name.end,
+            },
+            None => name,
+        }
+    }
+
+    /// The name as it is written, without gaps. Refused only for want of memory.
+    pub fn to_text(&self, alloc: Global) -> Result<String, AllocError> {
+        format!(in alloc; "{self}")
+    }
+}
+
+impl fmt::Display for TypeName {
+    fn fmt<W: fmt::Write>(&self, f: &mut fmt::Formatter<W>) -> fmt::Result {
+        if self.leading_dot.is_some() {
+            f.write_str(".")?;
+        }
+        write!(f, "{}", self.name)
+    }
+}

@@ -1,0 +1,94 @@
+//! Messages.
+
+use crate::enumeration::Enum;
+use crate::ident::{Ident, TypeName};
+use crate::option::{OptionList, OptionStatement};
+use crate::range::{Extensions, Reserved};
+use crate::types::Ty;
+use descriptor_records::Label;
+use protox_lex::{Int, Span};
+
+#[derive(Debug, Drop)]
+#[cycle(message)]
+pub struct Message {
+    pub name: Ident,
+    pub items: Vec<MessageItem>,
+    pub span: Span,
+}
+
+#[derive(Debug, Drop)]
+#[cycle(message)]
+pub enum MessageItem {
+    Field(Field),
+    Oneof(Oneof),
+    Message(Message),
+    Enum(Enum),
+    Extend(Extend),
+    Extensions(Extensions),
+    Reserved(Reserved),
+    Option(OptionStatement),
+    Empty,
+}
+
+/// A field, a group or a map.
+#[derive(Debug, Drop)]
+#[cycle(message)]
+pub struct Field {
+    pub label: Option<(Label, Span)>,
+    pub kind: FieldKind,
+    pub name: Ident,
+    pub number: Int,
+    pub options: Option<OptionList>,
+    pub span: Span,
+}
+
+#[derive(Debug, Drop)]
+#[cycle(message)]
+pub enum FieldKind {
+    Normal(Ty),
+    Group(Group),
+    Map(Map),
+}
+
+/// What makes a field a group: its word and its body.
+#[derive(Debug, Drop)]
+#[cycle(message)]
+pub struct Group {
+    pub word: Span,
+    pub items: Vec<MessageItem>,
+}
+
+/// The type of a map.
+#[derive(Debug, Drop)]
+pub struct Map {
+    pub key: Ty,
+    pub value: Ty,
+    /// From the word `map` to the closing bracket.
+    pub span: Span,
+}
+
+#[derive(Debug, Drop)]
+#[cycle(message)]
+pub struct Oneof {
+    pub name: Ident,
+    pub items: Vec<OneofItem>,
+    pub span: Span,
+}
+
+#[derive(Debug, Drop)]
+#[cycle(message)]
+pub enum OneofItem {
+    Field(Field),
+    Option(OptionStatement),
+    Empty,
+}
+
+/// Fields that another type is extended by.
+#[derive(Debug, Drop)]
+#[cycle(message)]
+pub struct Extend {
+    pub extendee: TypeName,
+    /// `None` is an empty statement.
+    pub items: Vec<Option<Field>>,
+    pub span: Span,
+}

@@ -1,0 +1,164 @@
+//! Options.
+
+ghost use Rattle.std.specs.Prelude.{◌<◌, vec_len};
+
+use crate::ident::{Ident, TypeName};
+use crate::text::Strings;
+use protox_lex::{Escaped, Float, Int, Span};
+use std::alloc::{AllocError, Global};
+use std::fmt;
+
+/// A part of an option's name.
+#[derive(Debug, Drop)]
+pub enum OptionNamePart {
+    Ident(Ident),
+    /// The name of an extension, in parentheses, and the span with these.
+    Extension(TypeName, Span),
+}
+
+impl OptionNamePart {
+    /// With the parentheses, if there are any.
+    pub fn span(&self) -> Span {
+        match self {
+            OptionNamePart::Ident(ident) => ident.span,
+            OptionNamePart::Extension(_, span) => *span,
+        }
+    }
+}
+
+/// The text between the outer braces of a value: its tokens, with one space between each two.
+#[derive(Debug, Drop)]
+pub struct Aggregate {
+    pub text: String,
+    /// With the outer braces.
+    pub span: Span,
+}
+
+/// The value of an option.
+#[derive(Debug, Drop)]
+pub enum OptionValue {
+    Ident(Ident),
+    Int(Int),
+    Float(Float),
+    String(Strings),
+    Aggregate(Aggregate),
+}
+
+impl OptionValue {
+    pub fn span(&self) -> Span {
+        match self {
+            OptionValue::Ident(ident) => ident.span,
+            OptionValue::Int(int) => int.span,
+            OptionValue::Float(float) => float.span,
+            OptionValue::String(strings) => strings.span(),
+            OptionValue::Aggregate(aggregate) => aggregate.span,
+        }
+    }
+
+    /// The value's tokens, with one space between each two. Refused only for want of memory.
+    pub fn to_token_string(&self, alloc: Global) -> Result<String, AllocError> {
+        format!(in alloc; "{self}")
+    }
+
+    /// What the identifiers `true` and `false` say.
+    pub fn as_bool(&self) -> Option<bool> {
+        match self {
+            OptionValue::Ident(ident) => match ident.value.as_str() {
+                "true" => Some(true),
+                "false" => Some(false),
+                _ => None,
+            },
+            _ => None,
+        }
+    }
+}
+
+/// The value's tokens, with one space between each two.
+impl fmt::Display for OptionValue {
+    fn fmt<W: fmt::Write>(&self, f: &mut fmt::Formatter<W>) -> fmt::Result {
+        match self {
+            OptionValue::Ident(ident) => write!(f, "{ident}"),
+            OptionValue::Int(int) => {
+                if int.negative {
+                    f.write_str("- ")?;
+                }
+                write!(f, "{}", int.value)
+            }
+            OptionValue::Float(float) => write_float(f, float.text.as_str()),
+            OptionValue::String(strings) => write_strings(f, strings),
+            OptionValue::Aggregate(aggregate) if aggregate.text.as_str().is_empty() => {
+                f.write_str("{ }")
+            }
+            OptionValue::Aggregate(aggregate) => write!(f, "{{ {} }}", aggregate.text),
+        }
+    }
+}
+
+fn write_float<W: fmt::Write>(f: &mut fmt::Formatter<W>, text: &str) -> fmt::Result {
+    match text.strip_prefix("-") {
+        Some(text) => write!(f, "- {text}"),
+        None => f.write_str(text),
+    }
+}
+
+fn write_strings<W: fmt::Write>(f: &mut fmt::Formatter<W>, strings: &Strings) -> fmt::Result {
+    for (i, literal) in strings.literals().iter().enumerate() {
+        if i > 0 {
+            f.write_str(" ")?;
+        }
+        write!(f, "\"{}\"", Escaped(literal.value.as_slice()))?;
+    }
+    Ok(())
+}
+
+/// An option's name and value.
+#[derive(Debug, Drop)]
+pub struct OptionBody {
+    /// At least one part.
+    pub name: Vec<OptionNamePart>,
+    pub value: OptionValue,
+    ghost named: { 0 < vec_len name },
+}
+
+impl OptionBody {
+    /// The name is this one plain part.
+    pub fn has_name(&self, name: &str) -> bool {
+        match self.name.as_slice() {
+            [OptionNamePart::Ident(ident)] => ident.value.as_str() == name,
+            _ => false,
+        }
+    }
+
+    /// From the first part of the name to the last.
+    pub fn name_span(&self) -> Span {
+        let first = self.name[0].span();
+        let last = self.name[self.name.len() - 1].span();
+        Span {
+            start: first.start,
+            end: last.end,
+        }
+    }
+
+    /// From the name to the value.
+    pub fn span(&self) -> Span {
+        Span {
+            start: self.name_span().start,
+            end: self.value.span().end,
+        }
+    }
+}
+
+/// The statement `option .. ;`.
+#[derive(Debug, Drop)]
+pub struct OptionStatement {
+    pub body: OptionBody,
+    pub span: Span,
+}
+
+/// Options in brackets.
+#[derive(Debug, Drop)]
+pub struct OptionList {
+    pub options: Vec<OptionBody>,
+    /// With the brackets.
+    pub span: Span,
+}

@@ -1,0 +1,66 @@
+//! Ranges of numbers.
+
+use crate::option::OptionList;
+use crate::text::Strings;
+use protox_lex::{Int, Span};
+
+/// The second bound of a range.
+#[derive(Clone, Copy, PartialEq, Eq, Debug)]
+pub enum RangeEnd {
+    /// The range is one number.
+    None,
+    Int(Int),
+    /// The word `max`.
+    Max(Span),
+}
+
+/// Numbers from one bound to another, both included.
+#[derive(Clone, Copy, PartialEq, Eq, Debug)]
+pub struct ReservedRange {
+    pub start: Int,
+    pub end: RangeEnd,
+}
+
+impl ReservedRange {
+    pub fn start_span(&self) -> Span {
+        self.start.span
+    }
+
+    /// That of the start, where no other bound is written.
+    pub fn end_span(&self) -> Span {
+        match self.end {
+            RangeEnd::None => self.start.span,
+            RangeEnd::Int(int) => int.span,
+            RangeEnd::Max(span) => span,
+        }
+    }
+
+    pub fn span(&self) -> Span {
+        Span {
+            start: self.start.span.start,
+            end: self.end_span().end,
+        }
+    }
+}
+
+/// The statement `extensions .. ;`.
+#[derive(Debug, Drop)]
+pub struct Extensions {
+    pub ranges: Vec<ReservedRange>,
+    pub options: Option<OptionList>,
+    pub span: Span,
+}
+
+/// What a `reserved` statement lists.
+#[derive(Debug, Drop)]
+pub enum ReservedItems {
+    Ranges(Vec<ReservedRange>),
+    Names(Vec<Strings>),
+}
+
+/// The statement `reserved .. ;`.
+#[derive(Debug, Drop)]
+pub struct Reserved {
+    pub items: ReservedItems,
+    pub span: Span,
+}

@@ -1,0 +1,43 @@
+//! Services.
+
+use crate::ident::{Ident, TypeName};
+use crate::option::OptionStatement;
+use protox_lex::Span;
+
+#[derive(Debug, Drop)]
+pub struct Service {
+    pub name: Ident,
+    pub items: Vec<ServiceItem>,
+    pub span: Span,
+}
+
+#[derive(Debug, Drop)]
+pub enum ServiceItem {
+    Method(Method),
+    Option(OptionStatement),
+    Empty,
+}
+
+#[derive(Debug, Drop)]
+pub struct Method {
+    pub name: Ident,
+    pub input: MethodType,
+    pub output: MethodType,
+    /// What stands in braces, if there are any.
+    pub items: Option<Vec<MethodItem>>,
+    pub span: Span,
+}
+
+/// What a method takes or gives.
+#[derive(Debug, Drop)]
+pub struct MethodType {
+    /// The word `stream`.
+    pub stream: Option<Span>,
+    pub name: TypeName,
+}
+
+#[derive(Debug, Drop)]
+pub enum MethodItem {
+    Option(OptionStatement),
+    Empty,
+}

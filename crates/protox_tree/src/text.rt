@@ -1,0 +1,47 @@
+//! Strings that are written as several literals.
+
+ghost use Rattle.std.specs.Prelude.{◌<◌, vec_len};
+
+use protox_lex::{Span, String as Literal};
+use std::alloc::{AllocError, Global};
+
+/// String literals that stand one after the other and mean one string, at least one.
+#[derive(Debug, Drop)]
+pub struct Strings {
+    literals: Vec<Literal>,
+    ghost some: { 0 < vec_len literals },
+}
+
+impl Strings {
+    pub fn from_literals(literals: Vec<Literal>) -> Strings
+        requires { 0 < vec_len literals }
+    {
+        Strings { literals }
+    }
+
+    pub fn literals(&self) -> &[Literal] {
+        self.literals.as_slice()
+    }
+
+    /// From the first literal to the last.
+    pub fn span(&self) -> Span {
+        let first = self.literals[0].span;
+        let last = self.literals[self.literals.len() - 1].span;
+        Span {
+            start: first.start,
+            end: last.end,
+        }
+    }
+
+    /// The bytes of all literals. Refused only for want of memory.
+    pub fn joined(&self, alloc: Global) -> Result<Literal, AllocError> {
+        let mut value = Vec::new(alloc);
+        for literal in self.literals.as_slice() {
+            value.extend_from_slice(literal.value.as_slice())?;
+        }
+        Ok(Literal {
+            value,
+            span: self.span(),
+        })
+    }
+}

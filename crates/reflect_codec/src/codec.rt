@@ -1,0 +1,55 @@
+//! Files and sets, and their bytes.
+ghost use Rattle.std.specs.Prelude.{◌≡◌, ◌++◌, IfErr, OnErr, OnOk};
+ghost use Rattle.reflect_wire.specs.declared.wire_error.WireError.TheVariants.{Memory};
+ghost use Rattle.reflect_codec.specs.Written.{file_bytes, set_bytes};
+
+use crate::backward::{Backward, WriteRecord};
+use crate::record::{ReadRecord, merge_fields};
+use descriptor_records::{FileDescriptorProto, FileDescriptorSet};
+use reflect_wire::WireError;
+use std::alloc::Global;
+
+/// How many levels of records may lie below the top.
+pub const MAX_LEVELS: u32 = 100;
+
+/// The file that the bytes spell.
+///
+/// Lists of numbers are read packed and unpacked, unknown fields outside options are dropped, and the bytes of options
+/// are kept as they came. Refused where the bytes are no records of at most 100 levels (those in an options record
+/// counted by themselves), where a known field has another wire type (`BadWireType`), and where a text is not UTF-8.
+pub fn decode_file(alloc: Global, bytes: &[u8]) -> Result<FileDescriptorProto, WireError> {
+    let mut file = FileDescriptorProto::new(alloc);
+    merge_fields(&mut file, alloc, bytes, MAX_LEVELS)?;
+    Ok(file)
+}
+
+/// The descriptor set that the bytes spell, read and refused as `decode_file` says.
+pub fn decode_set(alloc: Global, bytes: &[u8]) -> Result<FileDescriptorSet, WireError> {
+    let mut set = FileDescriptorSet::empty(alloc);
+    merge_fields(&mut set, alloc, bytes, MAX_LEVELS)?;
+    Ok(set)
+}
+
+/// Appends the file's bytes: present fields by ascending number, options as the bytes that they hold.
+///
+/// A refusal leaves the vector.
+pub fn encode_file(file: &FileDescriptorProto, out: &mut Vec<u8>) -> Result<(), WireError>
+    ensures ok { OnOk result (out.new.items ≡ out.old.items ++ file_bytes file.now) }
+    ensures err { IfErr result (λ e. e ≡ Memory) }
+    ensures left { OnErr result (out.new.items ≡ out.old.items) }
+{
+    let mut written = Backward::new(*out.allocator());
+    file.put(&mut written)?;
+    written.append_to(out)
+}
+
+/// Appends the set's bytes, each file written as `encode_file` does. A refusal leaves the vector.
+pub fn encode_set(set: &FileDescriptorSet, out: &mut Vec<u8>) -> Result<(), WireError>
+    ensures ok { OnOk result (out.new.items ≡ out.old.items ++ set_bytes set.now) }
+    ensures err { IfErr result (λ e. e ≡ Memory) }
+    ensures left { OnErr result (out.new.items ≡ out.old.items) }
+{
+    let mut written = Backward::new(*out.allocator());
+    set.put(&mut written)?;
+    written.append_to(out)
+}

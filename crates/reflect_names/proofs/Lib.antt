@@ -1,0 +1,6 @@
+pub mod Added
+pub mod Entries
+pub mod Packages
+pub mod Found
+pub mod NameRuns
+pub mod ReferenceRuns

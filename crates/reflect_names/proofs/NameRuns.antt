@@ -1,0 +1,33 @@
+-- What a walk of the visitor of names leaves.
+use Rattle.std.proofs.Common.{◌≡◌, ℕ, List, [], ◌∷◌, ◌++◌, ap, sym, ◌∙◌, subst, refl}
+use Rattle.std.proofs.Math.Path.{fun_ext}
+use Rattle.std.specs.BTreeMap.{get_by_text}
+use Rattle.reflect_walk.specs.Declarations.{Declaration, Runs}
+use Rattle.reflect_names.specs.Known.{known_of}
+use Rattle.reflect_names.specs.Faults.{Adds, place_at}
+use Rattle.reflect_names.specs.Names.{Places, known_after, faults_at}
+use Rattle.reflect_names.specs.NamePass.{known_behind, faults_along}
+use Rattle.reflect_names.specs.NameSteps.{Declares}
+use Rattle.reflect_names.specs.declared.name_visitor.NameVisitor.{NameVisitor}
+use Rattle.reflect_names.proofs.Added.{adds_on, adds_none, same_places}
+
+pub record Ran (s : NameVisitor) (ds : List Declaration) (t : NameVisitor) : Type 0 where
+  pub known : known_of t.names ≡ known_behind (known_of s.names) ds
+  pub faults : Adds s.faults t.faults (faults_along (place_at s.faults) (λ n. get_by_text s.file_names.now n) (known_of s.names) ds)
+
+pub ran : (s : NameVisitor) (ds : List Declaration) (t : NameVisitor) → Runs Declares s ds t → Ran s ds t
+ran s [] t e = record {
+  known = ap (λ x. known_of x.names) e;
+  faults = subst (λ x. Adds s.faults x []) (ap (λ x. x.faults) (sym e)) (adds_none s.faults);
+}
+ran s (d ∷ ds) t (m, (step, rest)) =
+    let r = ran m ds t rest in
+    let places : place_at m.faults ≡ place_at s.faults = fun_ext (same_places s.faults m.faults _ step.faults) in
+    let names : (λ n. get_by_text m.file_names.now n) ≡ (λ n. get_by_text s.file_names.now n) = ap (λ f. λ n. get_by_text f n) step.file_names in
+    let later = subst (λ k. Adds m.faults t.faults (faults_along (place_at s.faults) (λ n. get_by_text s.file_names.now n) k ds)) step.known
+    (subst (λ f. Adds m.faults t.faults (faults_along (place_at s.faults) f (known_of m.names) ds)) names
+    (subst (λ p. Adds m.faults t.faults (faults_along p (λ n. get_by_text m.file_names.now n) (known_of m.names) ds)) places r.faults)) in
+    record {
+      known = r.known ∙ ap (λ k. known_behind k ds) step.known;
+      faults = adds_on s.faults m.faults t.faults _ _ step.faults later;
+    }

@@ -1,0 +1,59 @@
+-- Faults by their data and their places.
+use Rattle.std.specs.Prelude.{◌≡◌, ℕ, ℤ, ◌-◌, List, [], ◌∷◌, ◌++◌, map, Bool, true, false, cond, nat_le, Option, Some, None, slice_get, string_bytes, Result, Ok, Err}
+use Rattle.descriptor_records.specs.declared.file.FileDescriptorProto.{FileDescriptorProto}
+use Rattle.reflect_walk.specs.Tree.{text_of}
+use Rattle.reflect_names.specs.declared.label.Label.{Label}
+use Rattle.reflect_names.specs.declared.error.DescriptorErrorKind.{DescriptorErrorKind}
+use Rattle.reflect_names.specs.declared.error.DescriptorErrorKind.TheVariants as kind
+use Rattle.reflect_names.specs.declared.faults.Faults.{Faults}
+
+-- a path in the file of a name
+pub record Place : Type 0 where
+  pub file : List ℕ
+  pub path : List ℤ
+
+pub data Fault : Type 0 where
+  duplicate_file : List ℕ → Place → Fault
+  file_not_found : List ℕ → Place → Fault
+  duplicate_name : List ℕ → Place → Fault
+  name_not_found : List ℕ → Place → Fault
+  name_shadowed : List ℕ → List ℕ → Place → Fault
+  invalid_type : Place → Fault
+  unknown_syntax : List ℕ → Place → Fault
+  missing : Place → Fault
+  bad_import_index : ℤ → Place → Fault
+  another : Fault
+
+abbrev pub place_of : Label → Place
+place_of l = record { file = string_bytes l.file; path = l.path.items }
+
+abbrev pub fault_view : DescriptorErrorKind → Fault
+fault_view (kind.DuplicateFileName name found) = duplicate_file (string_bytes name) (place_of found)
+fault_view (kind.FileNotFound name found) = file_not_found (string_bytes name) (place_of found)
+fault_view (kind.DuplicateName name found) = duplicate_name (string_bytes name) (place_of found)
+fault_view (kind.NameNotFound name found) = name_not_found (string_bytes name) (place_of found)
+fault_view (kind.NameShadowed name full found) = name_shadowed (string_bytes name) (string_bytes full) (place_of found)
+fault_view (kind.InvalidType name expected found) = invalid_type (place_of found)
+fault_view (kind.UnknownSyntax syntax found) = unknown_syntax (string_bytes syntax) (place_of found)
+fault_view (kind.MissingRequiredField field found) = missing (place_of found)
+fault_view (kind.InvalidImportIndex index found) = bad_import_index index (place_of found)
+fault_view _ = another
+
+abbrev pub list_of : Faults → List Fault
+list_of f = map fault_view f.found.items
+
+-- the name of the file of an index, among files the first of which has the index `first`
+abbrev pub name_at : List FileDescriptorProto → ℕ → ℕ → List ℕ
+name_at files first i = cond (nat_le first i) (elim (slice_get files (i - first)) [ None ↦ [] | Some f ↦ text_of f.name ]) []
+
+abbrev pub file_name : Faults → ℕ → List ℕ
+file_name f i = name_at f.files.now f.first i
+
+abbrev pub place_at : Faults → ℕ → List ℤ → Place
+place_at f i path = record { file = file_name f i; path = path }
+
+-- the faults are those of the same files as before, with more behind
+pub record Adds (s t : Faults) (more : List Fault) : Type 0 where
+  pub files : t.files.now ≡ s.files.now
+  pub first : t.first ≡ s.first
+  pub added : list_of t ≡ list_of s ++ more

@@ -1,0 +1,8 @@
+pub mod Known
+pub mod Faults
+pub mod Names
+pub mod NameSteps
+pub mod References
+pub mod ReferenceSteps
+pub mod NamePass
+pub mod ReferencePass

@@ -1,0 +1,51 @@
+-- What the visitor of references does at a declaration.
+use Rattle.std.specs.Prelude.{◌≡◌, ◌<◌, ◌↔◌, ℕ, ℤ, List, ◌++◌, map, length, IsTrue, refl, string_bytes}
+use Rattle.std.proofs.Common.{◌∙◌}
+use Rattle.std.specs.BTreeMap.{get_by_text}
+use Rattle.reflect_scope.specs.Seen.{tells}
+use Rattle.reflect_scope.specs.Sees.{Sees}
+use Rattle.reflect_walk.specs.Declarations.{Declaration, Body, of_file, of_message, of_field, of_oneof, of_enum, of_enum_value, of_service, of_method, of_extension}
+use Rattle.reflect_names.specs.Faults.{Fault, Adds, place_at}
+use Rattle.reflect_names.specs.References.{View, Target, targets_of, reference_faults_at}
+use Rattle.reflect_names.specs.declared.resolve_visitor.Reference.{Reference}
+use Rattle.reflect_names.specs.declared.resolve_visitor.ResolveVisitor.{ResolveVisitor}
+
+abbrev pub target_of : Reference → Target
+target_of r = (string_bytes r.name, r.definition)
+
+abbrev pub view_of : ResolveVisitor → View
+view_of s = record { known = λ n. get_by_text s.names.now n; sees = tells s.seen }
+
+-- at a file: what it sees is seen from then on; elsewhere that stays
+abbrev pub Looks : ResolveVisitor → Declaration → ResolveVisitor → Type 0
+Looks s d t = elim d.body [
+  | of_file f ↦ ((g : ℕ) → g < length s.links.now → (IsTrue (tells t.seen g) ↔ Sees s.links.now d.file g))
+  | _ ↦ tells t.seen ≡ tells s.seen
+]
+
+pub record Refers (s : ResolveVisitor) (d : Declaration) (t : ResolveVisitor) : Type 0 where
+  pub references : map target_of t.references.items ≡ map target_of s.references.items ++ targets_of (view_of s) d
+  pub faults : Adds s.faults t.faults (reference_faults_at (place_at s.faults d.file) (view_of s) d)
+  pub looks : Looks s d t
+  pub names : t.names.now ≡ s.names.now
+
+-- references and faults are added, as given
+pub record Finds (s t : ResolveVisitor) (more : List Target) (wrong : List Fault) : Type 0 where
+  pub references : map target_of t.references.items ≡ map target_of s.references.items ++ more
+  pub faults : Adds s.faults t.faults wrong
+
+-- names, links and what is seen are as they were
+pub record IsSame (s t : ResolveVisitor) : Type 0 where
+  pub names : t.names.now ≡ s.names.now
+  pub links : t.links.now ≡ s.links.now
+  pub seen : t.seen ≡ s.seen
+
+pub record Stays (file : ℕ) (s t : ResolveVisitor) : Type 0 where
+  pub names : t.names.now ≡ s.names.now
+  pub links : t.links.now ≡ s.links.now
+
+pub Stays-same : (file : ℕ) (s : ResolveVisitor) → Stays file s s
+Stays-same file s = record { names = refl; links = refl }
+
+pub Stays-on : (file : ℕ) (s t u : ResolveVisitor) → Stays file s t → Stays file t u → Stays file s u
+Stays-on file s t u k l = record { names = l.names ∙ k.names; links = l.links ∙ k.links }

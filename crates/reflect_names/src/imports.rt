@@ -1,0 +1,193 @@
+ghost use Rattle.std.specs.Prelude.{◌≡◌, OnOk, IfOk, pos, [], ◌++◌};
+ghost use Rattle.std.specs.BTreeMap.{get_by_text};
+ghost use Rattle.reflect_walk.specs.Declarations.{each, entry};
+ghost use Rattle.reflect_names.specs.Faults.{Adds, place_at};
+ghost use Rattle.reflect_names.specs.Names.{import_fault, public_fault, import_faults, is_index as is_index_of};
+
+use crate::error::DescriptorErrorKind;
+use crate::faults::Faults;
+use descriptor_records::{FileDescriptorProto, join_path, tag};
+use reflect_scope::Links;
+use reflect_walk::VisitError;
+use std::alloc::{AllocError, Global};
+use std::collections::BTreeMap;
+
+fn name_file(
+    alloc: Global,
+    file_names: &mut BTreeMap<String, u32>,
+    index: u32,
+    file: &FileDescriptorProto,
+    faults: &mut Faults<'_>,
+) -> Result<(), AllocError> {
+    let Some(name) = &file.name else {
+        let found = faults.label_at(alloc, index, &[], tag::file::NAME)?;
+        return faults.push(DescriptorErrorKind::MissingRequiredField {
+            field: "name",
+            found,
+        });
+    };
+    let name = String::from_str(alloc, name.as_str())?;
+    if file_names.contains_key(name.as_str()) {
+        let found = faults.label_at(alloc, index, &[], tag::file::NAME)?;
+        return faults.push(DescriptorErrorKind::DuplicateFileName { name, found });
+    }
+    file_names.insert(name, index)?;
+    Ok(())
+}
+
+/// Puts the names of new files, the first of which has the index `first`, into the map from names of files to their indexes.
+///
+/// A file without a name is a fault (MissingRequiredField), and so is one whose name the map has (DuplicateFileName); the map
+/// keeps the earlier file. `TooMany` is a file's index past `i32::MAX`. After an `Err` the map may have some of the names.
+pub fn name_files(
+    alloc: Global,
+    file_names: &mut BTreeMap<String, u32>,
+    first: u32,
+    files: &[FileDescriptorProto],
+    faults: &mut Faults<'_>,
+) -> Result<(), VisitError> {
+    let mut index = first;
+    'turns: for file in files {
+        if index > 0x7fff_ffff {
+            return Err(VisitError::TooMany);
+        }
+        name_file(alloc, file_names, index, file, faults)?;
+        index += 1;
+    }
+    Ok(())
+}
+
+/// The path of a list's entry.
+pub fn entry_path(alloc: Global, path: &[i32], tag: i32, at: usize) -> Result<Vec<i32>, VisitError>
+    ensures { IfOk result (λ place. place.items ≡ entry path.now tag at) }
+{
+    if at > 0x7fff_ffff {
+        return Err(VisitError::TooMany);
+    }
+    Ok(join_path(alloc, path, &[tag, at as i32])?)
+}
+
+fn require_import(
+    alloc: Global,
+    file_names: &BTreeMap<String, u32>,
+    index: u32,
+    at: usize,
+    name: &String,
+    faults: &mut Faults<'_>,
+) -> Result<(), VisitError>
+    ensures { OnOk result (Adds faults.old faults.new (import_fault (place_at faults.old index) (λ n. get_by_text file_names.now n) at name.now)) }
+{
+    if file_names.contains_key(name.as_str()) {
+        return Ok(());
+    }
+    let path = entry_path(alloc, &[], tag::file::DEPENDENCY, at)?;
+    let found = faults.label(alloc, index, path.as_slice())?;
+    let name = String::from_str(alloc, name.as_str())?;
+    faults.push(DescriptorErrorKind::FileNotFound { name, found })?;
+    Ok(())
+}
+
+fn is_index(import: i32, count: usize) -> bool
+    ensures { result ≡ is_index_of import count }
+{
+    match usize::try_from(import) {
+        Ok(import) => import < count,
+        Err(_) => false,
+    }
+}
+
+fn require_index(
+    alloc: Global,
+    count: usize,
+    index: u32,
+    at: usize,
+    import: i32,
+    faults: &mut Faults<'_>,
+) -> Result<(), VisitError>
+    ensures { OnOk result (Adds faults.old faults.new (public_fault (place_at faults.old index) count at import)) }
+{
+    if is_index(import, count) {
+        return Ok(());
+    }
+    let path = entry_path(alloc, &[], tag::file::PUBLIC_DEPENDENCY, at)?;
+    let found = faults.label(alloc, index, path.as_slice())?;
+    faults.push(DescriptorErrorKind::InvalidImportIndex {
+        index: import,
+        found,
+    })?;
+    Ok(())
+}
+
+fn require_imports(
+    alloc: Global,
+    file_names: &BTreeMap<String, u32>,
+    index: u32,
+    names: &Vec<String>,
+    faults: &mut Faults<'_>,
+) -> Result<(), VisitError>
+    ensures { OnOk result (Adds faults.old faults.new (each (import_fault (place_at faults.old index) (λ n. get_by_text file_names.now n)) 0 names.now.items)) }
+{
+    'turns: for (at, name) in names.iter().enumerate() {
+        require_import(alloc, file_names, index, at, name, faults)?;
+    }
+    Ok(())
+}
+
+fn require_indexes(
+    alloc: Global,
+    count: usize,
+    index: u32,
+    imports: &Vec<i32>,
+    faults: &mut Faults<'_>,
+) -> Result<(), VisitError>
+    ensures { OnOk result (Adds faults.old faults.new (each (public_fault (place_at faults.old index) count) 0 imports.now.items)) }
+{
+    'turns: for (at, import) in imports.iter().enumerate() {
+        require_index(alloc, count, index, at, *import, faults)?;
+    }
+    Ok(())
+}
+
+/// Lists each import that no file has the name of (FileNotFound), and each public import's index that is out of range
+/// (InvalidImportIndex).
+pub fn check_imports(
+    alloc: Global,
+    file_names: &BTreeMap<String, u32>,
+    index: u32,
+    file: &FileDescriptorProto,
+    faults: &mut Faults<'_>,
+) -> Result<(), VisitError>
+    ensures { OnOk result (Adds faults.old faults.new (import_faults (place_at faults.old index) (λ n. get_by_text file_names.now n) file.now)) }
+{
+    require_imports(alloc, file_names, index, &file.dependency, faults)?;
+    let count = file.dependency.len();
+    require_indexes(alloc, count, index, &file.public_dependency, faults)?;
+    Ok(())
+}
+
+fn import_at(file: &FileDescriptorProto, import: i32) -> Option<&String> {
+    file.dependency.get(usize::try_from(import).ok()?)
+}
+
+/// What a file imports, by the indexes that the map has for the names; imports that it does not have are left out.
+pub fn links_of(
+    alloc: Global,
+    file_names: &BTreeMap<String, u32>,
+    file: &FileDescriptorProto,
+) -> Result<Links, AllocError> {
+    let mut imports = Vec::new(alloc);
+    'imports: for name in &file.dependency {
+        if let Some(index) = file_names.get(name.as_str()).copied() {
+            imports.push(index)?;
+        }
+    }
+    let mut public = Vec::new(alloc);
+    'public: for import in &file.public_dependency {
+        if let Some(name) = import_at(file, *import) {
+            if let Some(index) = file_names.get(name.as_str()).copied() {
+                public.push(index)?;
+            }
+        }
+    }
+    Ok(Links { imports, public })
+}

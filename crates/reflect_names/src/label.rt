@@ -1,0 +1,142 @@
+ghost use Rattle.std.specs.Prelude.{◌≡◌, IfOk};
+
+use std::alloc::{AllocError, Global};
+use std::ops::Range;
+
+/// Where something stands in a source: lines and columns count from 0, columns in bytes.
+#[derive(Clone, Copy, PartialEq, Eq, Debug)]
+pub struct SourceSpan {
+    pub start_line: usize,
+    pub start_column: usize,
+    pub end_line: usize,
+    pub end_column: usize,
+}
+
+impl SourceSpan {
+    /// Reads the `span` of a location: line, column, end column; or line, column, end line, end column. None where it is
+    /// neither, or has a negative number.
+    pub fn from_location(span: &[i32]) -> Option<SourceSpan> {
+        match span {
+            [line, column, end_column] => SourceSpan::from_numbers(
+                *line,
+                *column,
+                *line,
+                *end_column,
+            ),
+            [line, column, end_line, end_column] => {
+                SourceSpan::from_numbers(*line, *column, *end_line, *end_column)
+            }
+            _ => None,
+        }
+    }
+
+    fn from_numbers(line: i32, column: i32, end_line: i32, end_column: i32) -> Option<SourceSpan> {
+        Some(SourceSpan {
+            start_line: usize::try_from(line).ok()?,
+            start_column: usize::try_from(column).ok()?,
+            end_line: usize::try_from(end_line).ok()?,
+            end_column: usize::try_from(end_column).ok()?,
+        })
+    }
+}
+
+/// A place in a file: the path of a record, or of a field in it.
+#[derive(PartialEq, Debug, Drop)]
+pub struct Label {
+    file: String,
+    path: Vec<i32>,
+    span: Option<SourceSpan>,
+    bytes: Option<Range<usize>>,
+}
+
+impl Label {
+    ghost use Rattle.reflect_names.specs.Faults.{place_of};
+
+    /// The place at `path` in the file named `file`, which stands at `span` of its source, where that is known.
+    pub fn new(
+        alloc: Global,
+        file: &str,
+        path: Vec<i32>,
+        span: Option<SourceSpan>,
+    ) -> Result<Label, AllocError>
+        ensures { IfOk result (λ l. place_of l ≡ record { file = file.now; path = path.items }) }
+    {
+        Ok(Label {
+            file: String::from_str(alloc, file)?,
+            path,
+            span,
+            bytes: None,
+        })
+    }
+
+    /// The name of the file.
+    pub fn file(&self) -> &str {
+        self.file.as_str()
+    }
+
+    /// The path, by the field numbers of `descriptor.proto`.
+    pub fn path(&self) -> &[i32] {
+        self.path.as_slice()
+    }
+
+    /// The line, from 0, where the place is known.
+    pub fn line(&self) -> Option<usize> {
+        Some(self.span?.start_line)
+    }
+
+    /// The column in bytes, from 0, where the place is known.
+    pub fn column(&self) -> Option<usize> {
+        Some(self.span?.start_column)
+    }
+
+    /// The bytes of the source at which the place was found by the last call of `resolve_span` for its file.
+    pub fn span(&self) -> Option<Range<usize>> {
+        match &self.bytes {
+            Some(bytes) => Some(bytes.start..bytes.end),
+            None => None,
+        }
+    }
+
+    /// Finds the place's bytes in `source`, if `file` is its file; else it stays as it is. They are None afterwards where the
+    /// place is not known, or the source has no such line or column.
+    pub fn resolve_span(&mut self, file: &str, source: &str) {
+        if self.file.as_str() == file {
+            self.bytes = match self.span {
+                Some(span) => bytes_of(span, source),
+                None => None,
+            };
+        }
+    }
+}
+
+fn bytes_of(span: SourceSpan, source: &str) -> Option<Range<usize>> {
+    let start = offset_of(source, span.start_line, span.start_column)?;
+    let end = offset_of(source, span.end_line, span.end_column)?;
+    if start <= end { Some(start..end) } else { None }
+}
+
+/// The offset of a line's column in a source.
+fn offset_of(source: &str, line: usize, column: usize) -> Option<usize> {
+    let offset = line_start(source, line)?.checked_add(column)?;
+    if offset <= source.len() {
+        Some(offset)
+    } else {
+        None
+    }
+}
+
+fn line_start(source: &str, line: usize) -> Option<usize> {
+    if line == 0 {
+        return Some(0);
+    }
+    let mut left = line;
+    'bytes: for (index, byte) in source.as_bytes().iter().enumerate() {
+        if *byte == b'\n' {
+            if left <= 1 {
+                return Some(index + 1);
+            }
+            left -= 1;
+        }
+    }
+    None
+}

@@ -1,0 +1,27 @@
+//! The declarations of protobuf files, their names and what they refer to: a visitor is called at each declaration in order,
+//! and each refusal lists every fault that is true.
+#![tactic(auto)]
+
+mod error;
+mod faults;
+mod imports;
+mod label;
+mod name_visitor;
+mod names;
+mod required;
+mod resolve_visitor;
+
+pub use error::DescriptorErrorKind;
+pub use faults::Faults;
+pub use imports::{links_of, name_files};
+pub use label::{Label, SourceSpan};
+pub use name_visitor::NameVisitor;
+pub use reflect_scope::{
+    Definition, DefinitionKind, Links, ResolveNameError, ResolveNameFilter, Resolved, SeenFiles,
+    resolve_name,
+};
+pub use reflect_walk::{Offsets, VisitError, Visitor, visit};
+pub use resolve_visitor::{Reference, ResolveVisitor};
+
+#[cfg(test)]
+mod tests;

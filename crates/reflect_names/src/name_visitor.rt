@@ -1,0 +1,334 @@
+ghost use Rattle.std.specs.Prelude.{◌≡◌, OnOk, IfOk};
+ghost use Rattle.std.specs.BTreeMap.{get_by_text};
+
+use crate::faults::{Faults, text_of};
+use crate::imports::check_imports;
+use crate::names::{check_syntax, declare_named, declare_package};
+use crate::required::{
+    require, require_of_enum, require_of_field, require_of_message, require_of_method,
+};
+use descriptor_records::{
+    DescriptorProto, EnumDescriptorProto, EnumValueDescriptorProto, FieldDescriptorProto,
+    FileDescriptorProto, MethodDescriptorProto, OneofDescriptorProto, ServiceDescriptorProto, tag,
+};
+use reflect_scope::{Definition, DefinitionKind};
+use reflect_walk::{Offsets, VisitError, Visitor, visit};
+use std::alloc::Global;
+use std::collections::BTreeMap;
+
+/// Declares the full names of the files that it visits, and lists what is wrong with them or lacking.
+///
+/// Its faults are DuplicateName (a package name may repeat as a package), MissingRequiredField, UnknownSyntax, and those of
+/// imports: FileNotFound and InvalidImportIndex. The first declaration of a name stays. A file's package declares each part of
+/// its name up to a dot too.
+#[derive(Drop)]
+pub struct NameVisitor<'a> {
+    names: BTreeMap<String, Definition>,
+    faults: Faults<'a>,
+    file_names: &'a BTreeMap<String, u32>,
+}
+
+impl<'a> NameVisitor<'a> {
+    ghost use Rattle.reflect_walk.specs.Declarations.{file_declarations, past_file};
+    ghost use Rattle.reflect_names.specs.Known.{known_of};
+    ghost use Rattle.reflect_names.specs.Faults.{Adds, place_at};
+    ghost use Rattle.reflect_names.specs.NamePass.{known_behind, faults_along};
+    ghost use Rattle.reflect_names.specs.NameSteps.{Keeps};
+
+    /// Adds to `names` and `faults`. `file_names` has the indexes of all files, old and new, by their names.
+    pub fn new(
+        names: BTreeMap<String, Definition>,
+        faults: Faults<'a>,
+        file_names: &'a BTreeMap<String, u32>,
+    ) -> NameVisitor<'a>
+        ensures names { result.names.entries ≡ names.entries }
+        ensures faults { result.faults ≡ faults.entry }
+        ensures file_names { result.file_names.now ≡ file_names.now }
+    {
+        NameVisitor {
+            names,
+            faults,
+            file_names,
+        }
+    }
+
+    /// Declares what the file at index `index` declares; `offsets` are the counts before it, and the answer those behind it.
+    pub fn declare_file(
+        &mut self,
+        alloc: Global,
+        offsets: Offsets,
+        index: u32,
+        file: &FileDescriptorProto,
+    ) -> Result<Offsets, VisitError>
+        ensures known { OnOk result (known_of self.new.names ≡ known_behind (known_of self.old.names) (file_declarations offsets index file.now)) }
+        ensures faults { OnOk result (Adds self.old.faults self.new.faults (faults_along (place_at self.old.faults) (λ n. get_by_text self.old.file_names.now n) (known_of self.old.names) (file_declarations offsets index file.now))) }
+        ensures keeps { Keeps index self.old self.new }
+        ensures counts { IfOk result (λ o. o ≡ past_file offsets file.now) }
+    {
+        let behind = visit(alloc, offsets, index, file, self)?;
+        Ok(behind)
+    }
+
+    /// The names, with those that were declared since, and the faults.
+    pub fn into_parts(self) -> (BTreeMap<String, Definition>, Faults<'a>)
+        ensures names { result.0.entries ≡ self.entry.names.entries }
+        ensures faults { result.1 ≡ self.entry.faults }
+    {
+        let NameVisitor {
+            names,
+            faults,
+            file_names: _,
+        } = self;
+        (names, faults)
+    }
+}
+
+impl<'a> Visitor for NameVisitor<'a> {
+    ghost use Rattle.reflect_names.specs.NameSteps.{Declares, Keeps, Keeps-same, Keeps-on};
+
+    ghost steps = { Declares };
+
+    ghost kept = { Keeps };
+
+    ghost kept_same = { Keeps-same };
+
+    ghost kept_on = { Keeps-on };
+
+    fn visit_file(
+        &mut self,
+        alloc: Global,
+        _path: &[i32],
+        file: u32,
+        descriptor: &FileDescriptorProto,
+    ) -> Result<(), VisitError> {
+        check_imports(alloc, self.file_names, file, descriptor, &mut self.faults)?;
+        check_syntax(alloc, &mut self.faults, file, &descriptor.syntax)?;
+        let package = text_of(&descriptor.package);
+        declare_package(alloc, &mut self.names, &mut self.faults, file, package)?;
+        Ok(())
+    }
+
+    fn visit_message(
+        &mut self,
+        alloc: Global,
+        path: &[i32],
+        full_name: &str,
+        file: u32,
+        _parent: Option<u32>,
+        index: u32,
+        message: &DescriptorProto,
+    ) -> Result<(), VisitError> {
+        let kind = DefinitionKind::Message(index);
+        let definition = Definition { file, kind };
+        declare_named(
+            alloc,
+            &mut self.names,
+            &mut self.faults,
+            path,
+            full_name,
+            &message.name,
+            definition,
+        )?;
+        require_of_message(alloc, &mut self.faults, file, path, message)?;
+        Ok(())
+    }
+
+    fn visit_field(
+        &mut self,
+        alloc: Global,
+        path: &[i32],
+        full_name: &str,
+        file: u32,
+        _message: u32,
+        _index: u32,
+        field: &FieldDescriptorProto,
+    ) -> Result<(), VisitError> {
+        let kind = DefinitionKind::Field;
+        let definition = Definition { file, kind };
+        declare_named(
+            alloc,
+            &mut self.names,
+            &mut self.faults,
+            path,
+            full_name,
+            &field.name,
+            definition,
+        )?;
+        require_of_field(alloc, &mut self.faults, file, path, field)?;
+        Ok(())
+    }
+
+    fn visit_oneof(
+        &mut self,
+        alloc: Global,
+        path: &[i32],
+        full_name: &str,
+        file: u32,
+        _message: u32,
+        _index: u32,
+        oneof: &OneofDescriptorProto,
+    ) -> Result<(), VisitError> {
+        let kind = DefinitionKind::Oneof;
+        let definition = Definition { file, kind };
+        declare_named(
+            alloc,
+            &mut self.names,
+            &mut self.faults,
+            path,
+            full_name,
+            &oneof.name,
+            definition,
+        )?;
+        Ok(())
+    }
+
+    fn visit_enum(
+        &mut self,
+        alloc: Global,
+        path: &[i32],
+        full_name: &str,
+        file: u32,
+        _parent: Option<u32>,
+        index: u32,
+        enumeration: &EnumDescriptorProto,
+    ) -> Result<(), VisitError> {
+        let kind = DefinitionKind::Enum(index);
+        let definition = Definition { file, kind };
+        declare_named(
+            alloc,
+            &mut self.names,
+            &mut self.faults,
+            path,
+            full_name,
+            &enumeration.name,
+            definition,
+        )?;
+        require_of_enum(
+            alloc,
+            &mut self.faults,
+            file,
+            path,
+            &enumeration.reserved_range,
+        )?;
+        Ok(())
+    }
+
+    fn visit_enum_value(
+        &mut self,
+        alloc: Global,
+        path: &[i32],
+        full_name: &str,
+        file: u32,
+        _enumeration: u32,
+        _index: u32,
+        value: &EnumValueDescriptorProto,
+    ) -> Result<(), VisitError> {
+        let kind = DefinitionKind::EnumValue;
+        let definition = Definition { file, kind };
+        declare_named(
+            alloc,
+            &mut self.names,
+            &mut self.faults,
+            path,
+            full_name,
+            &value.name,
+            definition,
+        )?;
+        let number = value.number.is_some();
+        let faults = &mut self.faults;
+        require(
+            alloc,
+            faults,
+            file,
+            path,
+            tag::enum_value::NUMBER,
+            "number",
+            number,
+        )?;
+        Ok(())
+    }
+
+    fn visit_service(
+        &mut self,
+        alloc: Global,
+        path: &[i32],
+        full_name: &str,
+        file: u32,
+        index: u32,
+        service: &ServiceDescriptorProto,
+    ) -> Result<(), VisitError> {
+        let kind = DefinitionKind::Service(index);
+        let definition = Definition { file, kind };
+        declare_named(
+            alloc,
+            &mut self.names,
+            &mut self.faults,
+            path,
+            full_name,
+            &service.name,
+            definition,
+        )?;
+        Ok(())
+    }
+
+    fn visit_method(
+        &mut self,
+        alloc: Global,
+        path: &[i32],
+        full_name: &str,
+        file: u32,
+        _service: u32,
+        _index: u32,
+        method: &MethodDescriptorProto,
+    ) -> Result<(), VisitError> {
+        let kind = DefinitionKind::Method;
+        let definition = Definition { file, kind };
+        declare_named(
+            alloc,
+            &mut self.names,
+            &mut self.faults,
+            path,
+            full_name,
+            &method.name,
+            definition,
+        )?;
+        require_of_method(alloc, &mut self.faults, file, path, method)?;
+        Ok(())
+    }
+
+    fn visit_extension(
+        &mut self,
+        alloc: Global,
+        path: &[i32],
+        full_name: &str,
+        file: u32,
+        _parent: Option<u32>,
+        index: u32,
+        extension: &FieldDescriptorProto,
+    ) -> Result<(), VisitError> {
+        let kind = DefinitionKind::Extension(index);
+        let definition = Definition { file, kind };
+        declare_named(
+            alloc,
+            &mut self.names,
+            &mut self.faults,
+            path,
+            full_name,
+            &extension.name,
+            definition,
+        )?;
+        require_of_field(alloc, &mut self.faults, file, path, extension)?;
+        let extendee = extension.extendee.is_some();
+        let faults = &mut self.faults;
+        require(
+            alloc,
+            faults,
+            file,
+            path,
+            tag::field::EXTENDEE,
+            "extendee",
+            extendee,
+        )?;
+        Ok(())
+    }
+}

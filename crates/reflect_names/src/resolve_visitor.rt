@@ -1,0 +1,516 @@
+ghost use Rattle.std.specs.Prelude.{◌≡◌, ◌∷◌, ◌++◌, [], IfOk, OnOk, Err, None, string_bytes};
+ghost use Rattle.reflect_names.specs.References.{is_in as is_number_in, is_type_of as is_type_number_of, suits as is_suited};
+
+use crate::error::DescriptorErrorKind;
+use crate::faults::Faults;
+use descriptor_records::{
+    DescriptorProto, EnumDescriptorProto, EnumValueDescriptorProto, FieldDescriptorProto,
+    FileDescriptorProto, MethodDescriptorProto, OneofDescriptorProto, ServiceDescriptorProto, tag,
+};
+use reflect_scope::{
+    Definition, DefinitionKind, Links, ResolveNameError, ResolveNameFilter, SeenFiles, resolve_name,
+};
+use reflect_walk::{Offsets, VisitError, Visitor, visit};
+use std::alloc::{AllocError, Global};
+use std::collections::BTreeMap;
+
+/// What a reference means.
+#[derive(Debug, Drop)]
+pub struct Reference {
+    /// The full name behind a leading dot, as linked records write it.
+    pub name: String,
+    pub definition: Definition,
+}
+
+/// Finds what the references of the files that it visits mean, and lists those that mean nothing.
+///
+/// References are those of fields (the type), extensions (the extended message, then the type) and methods (input, then
+/// output). Its faults are NameNotFound, NameShadowed and InvalidType; the last also where a label or a type has no such
+/// number, and where a type name means a kind that does not suit the type.
+#[derive(Drop)]
+pub struct ResolveVisitor<'a> {
+    references: Vec<Reference>,
+    faults: Faults<'a>,
+    names: &'a BTreeMap<String, Definition>,
+    links: &'a [Links],
+    seen: SeenFiles,
+}
+
+const GROUP: i32 = 10;
+
+const MESSAGE: i32 = 11;
+
+const ENUM: i32 = 14;
+
+const LAST_TYPE: u32 = 18;
+
+const LAST_LABEL: u32 = 3;
+
+fn is_in(number: i32, last: u32) -> bool
+    ensures { result ≡ is_number_in number last }
+{
+    match u32::try_from(number) {
+        Ok(number) => 1 <= number && number <= last,
+        Err(_) => false,
+    }
+}
+
+/// Whether a type of this number may have a name that means this kind.
+fn is_type_of(field_type: i32, kind: DefinitionKind) -> bool
+    ensures { result ≡ is_type_number_of field_type kind }
+{
+    match kind {
+        DefinitionKind::Message(_) => field_type == GROUP || field_type == MESSAGE,
+        DefinitionKind::Enum(_) => field_type == ENUM,
+        _ => false,
+    }
+}
+
+/// Whether a type, if there is one, may have a name that means this kind. A number of no type is a fault of its own.
+fn suits(field_type: Option<i32>, kind: DefinitionKind) -> bool
+    ensures { result ≡ is_suited field_type kind }
+{
+    match field_type {
+        Some(field_type) => !is_in(field_type, LAST_TYPE) || is_type_of(field_type, kind),
+        None => true,
+    }
+}
+
+fn expected(filter: ResolveNameFilter) -> &'static str {
+    match filter {
+        ResolveNameFilter::Message => "a message type",
+        ResolveNameFilter::FieldType => "a message or enum type",
+        ResolveNameFilter::Extension => "an extension",
+    }
+}
+
+fn dotted(alloc: Global, full_name: &str) -> Result<String, AllocError>
+    ensures { IfOk result (λ name. string_bytes name ≡ 46 ∷ full_name.now) }
+{
+    let mut name = String::from_str(alloc, ".")?;
+    name.push_str(full_name)?;
+    Ok(name)
+}
+
+impl<'a> ResolveVisitor<'a> {
+    ghost use Rattle.reflect_scope.specs.Means.{Meaning, Answers};
+    ghost use Rattle.reflect_names.specs.Faults.{place_at, invalid_type};
+    ghost use Rattle.reflect_names.specs.References.{meaning_of, targets, unmet, kind_meant, name_targets, reference_faults, mismatch, label_faults, type_faults, type_name_faults, field_reference_faults};
+    ghost use Rattle.reflect_names.specs.ReferenceSteps.{Finds, IsSame, Stays, view_of, target_of};
+    ghost use Rattle.reflect_names.specs.ReferencePass.{ResolvesFile};
+    ghost use Rattle.reflect_walk.specs.Declarations.{file_declarations, past_file};
+
+    /// Adds to `faults`. `names` has what all full names stand for, and `links` what all files import, by their indexes.
+    pub fn new(
+        alloc: Global,
+        faults: Faults<'a>,
+        names: &'a BTreeMap<String, Definition>,
+        links: &'a [Links],
+    ) -> ResolveVisitor<'a> {
+        ResolveVisitor {
+            references: Vec::new(alloc),
+            faults,
+            names,
+            links,
+            seen: SeenFiles::new(alloc),
+        }
+    }
+
+    /// Resolves the references of the file at index `index`; `offsets` are the counts before it, and the answer those behind it.
+    pub fn resolve_file(
+        &mut self,
+        alloc: Global,
+        offsets: Offsets,
+        index: u32,
+        file: &FileDescriptorProto,
+    ) -> Result<Offsets, VisitError>
+        ensures resolves { OnOk result (ResolvesFile self.old self.new index (file_declarations offsets index file.now)) }
+        ensures keeps { Stays index self.old self.new }
+        ensures counts { IfOk result (λ o. o ≡ past_file offsets file.now) }
+    {
+        let behind = visit(alloc, offsets, index, file, self)?;
+        Ok(behind)
+    }
+
+    /// What the references mean that were met, in the order of the visits, but for those that are faults; and the faults.
+    pub fn into_parts(self) -> (Vec<Reference>, Faults<'a>) {
+        let ResolveVisitor {
+            references,
+            faults,
+            names: _,
+            links: _,
+            seen: _,
+        } = self;
+        (references, faults)
+    }
+
+    fn invalid_type(
+        &mut self,
+        alloc: Global,
+        file: u32,
+        path: &[i32],
+        tag: i32,
+        name: &str,
+        expected: &'static str,
+    ) -> Result<(), AllocError>
+        ensures finds { OnOk result (Finds self.old self.new [] (invalid_type (place_at self.old.faults file (path.now ++ (tag ∷ []))) ∷ [])) }
+        ensures same { IsSame self.old self.new }
+    {
+        let found = self.faults.label_at(alloc, file, path, tag)?;
+        let name = String::from_str(alloc, name)?;
+        self.faults.push(DescriptorErrorKind::InvalidType {
+            name,
+            expected,
+            found,
+        })?;
+        Ok(())
+    }
+
+    /// Lists a name that means nothing; want of memory is passed on.
+    fn unresolved(
+        &mut self,
+        alloc: Global,
+        file: u32,
+        path: &[i32],
+        tag: i32,
+        name: &str,
+        filter: ResolveNameFilter,
+        error: ResolveNameError,
+    ) -> Result<(), AllocError>
+        ensures finds { OnOk result ((m : Meaning) → Answers (Err error) m → Finds self.old self.new (targets m) (unmet m name.now (place_at self.old.faults file (path.now ++ (tag ∷ []))))) }
+        ensures none { OnOk result ((m : Meaning) → Answers (Err error) m → kind_meant m ≡ None) }
+        ensures same { IsSame self.old self.new }
+    {
+        if let ResolveNameError::InvalidType = error {
+            return self.invalid_type(alloc, file, path, tag, name, expected(filter));
+        }
+        let found = self.faults.label_at(alloc, file, path, tag)?;
+        let name = String::from_str(alloc, name)?;
+        match error {
+            ResolveNameError::NotFound => {
+                self.faults
+                    .push(DescriptorErrorKind::NameNotFound { name, found })?;
+                Ok(())
+            }
+            ResolveNameError::Shadowed { shadowed_name } => {
+                self.faults.push(DescriptorErrorKind::NameShadowed {
+                    name,
+                    shadowed_name,
+                    found,
+                })?;
+                Ok(())
+            }
+            ResolveNameError::InvalidType | ResolveNameError::Memory => Err(AllocError),
+        }
+    }
+
+    /// Resolves the name that stands at `path`'s field of the number `tag`, in the declaration of the full name `scope`. The
+    /// answer is the kind of what it means, if anything.
+    fn resolve(
+        &mut self,
+        alloc: Global,
+        file: u32,
+        path: &[i32],
+        tag: i32,
+        scope: &str,
+        name: &str,
+        filter: ResolveNameFilter,
+    ) -> Result<Option<DefinitionKind>, AllocError>
+        ensures finds { OnOk result (let m = meaning_of (view_of self.old) filter scope.now name.now in Finds self.old self.new (targets m) (unmet m name.now (place_at self.old.faults file (path.now ++ (tag ∷ []))))) }
+        ensures kind { IfOk result (λ k. k ≡ kind_meant (meaning_of (view_of self.old) filter scope.now name.now)) }
+        ensures same { IsSame self.old self.new }
+    {
+        match resolve_name(alloc, &self.seen, self.names, scope, name, filter) {
+            Ok(resolved) => {
+                let definition = resolved.definition;
+                let name = dotted(alloc, resolved.full_name.as_str())?;
+                self.references.push(Reference { name, definition })?;
+                Ok(Some(definition.kind))
+            }
+            Err(error) => {
+                self.unresolved(alloc, file, path, tag, name, filter, error)?;
+                Ok(None)
+            }
+        }
+    }
+
+    fn check_label(
+        &mut self,
+        alloc: Global,
+        file: u32,
+        path: &[i32],
+        label: Option<i32>,
+    ) -> Result<(), AllocError>
+        ensures finds { OnOk result (Finds self.old self.new [] (label_faults (place_at self.old.faults file) path.now label)) }
+        ensures same { IsSame self.old self.new }
+    {
+        let Some(label) = label else {
+            return Ok(());
+        };
+        if is_in(label, LAST_LABEL) {
+            return Ok(());
+        }
+        let name = format!(in alloc; "{label}")?;
+        self.invalid_type(
+            alloc,
+            file,
+            path,
+            tag::field::LABEL,
+            name.as_str(),
+            "a field label",
+        )?;
+        Ok(())
+    }
+
+    fn check_type(
+        &mut self,
+        alloc: Global,
+        file: u32,
+        path: &[i32],
+        field_type: Option<i32>,
+    ) -> Result<(), AllocError>
+        ensures finds { OnOk result (Finds self.old self.new [] (type_faults (place_at self.old.faults file) path.now field_type)) }
+        ensures same { IsSame self.old self.new }
+    {
+        let Some(field_type) = field_type else {
+            return Ok(());
+        };
+        if is_in(field_type, LAST_TYPE) {
+            return Ok(());
+        }
+        let name = format!(in alloc; "{field_type}")?;
+        self.invalid_type(
+            alloc,
+            file,
+            path,
+            tag::field::TYPE,
+            name.as_str(),
+            "a field type",
+        )?;
+        Ok(())
+    }
+
+    /// The kind that a type's name means has to suit its type.
+    fn check_kind(
+        &mut self,
+        alloc: Global,
+        file: u32,
+        path: &[i32],
+        name: &str,
+        field_type: Option<i32>,
+        kind: Option<DefinitionKind>,
+    ) -> Result<(), AllocError>
+        ensures finds { OnOk result (Finds self.old self.new [] (mismatch (place_at self.old.faults file) path.now field_type kind)) }
+        ensures same { IsSame self.old self.new }
+    {
+        let Some(kind) = kind else {
+            return Ok(());
+        };
+        if suits(field_type, kind) {
+            return Ok(());
+        }
+        self.invalid_type(
+            alloc,
+            file,
+            path,
+            tag::field::TYPE_NAME,
+            name,
+            "of the field's type",
+        )?;
+        Ok(())
+    }
+
+    fn resolve_type_name(
+        &mut self,
+        alloc: Global,
+        file: u32,
+        path: &[i32],
+        full_name: &str,
+        field: &FieldDescriptorProto,
+    ) -> Result<(), AllocError>
+        ensures finds { OnOk result (Finds self.old self.new (name_targets (view_of self.old) ResolveNameFilter.FieldType full_name.now field.now.type_name) (type_name_faults (place_at self.old.faults file) (view_of self.old) path.now full_name.now field.now)) }
+        ensures same { IsSame self.old self.new }
+    {
+        let Some(name) = &field.type_name else {
+            return Ok(());
+        };
+        let name = name.as_str();
+        let tag = tag::field::TYPE_NAME;
+        let filter = ResolveNameFilter::FieldType;
+        let kind = self.resolve(alloc, file, path, tag, full_name, name, filter)?;
+        self.check_kind(alloc, file, path, name, field.field_type, kind)?;
+        Ok(())
+    }
+
+    fn resolve_field(
+        &mut self,
+        alloc: Global,
+        file: u32,
+        path: &[i32],
+        full_name: &str,
+        field: &FieldDescriptorProto,
+    ) -> Result<(), AllocError>
+        ensures finds { OnOk result (Finds self.old self.new (name_targets (view_of self.old) ResolveNameFilter.FieldType full_name.now field.now.type_name) (field_reference_faults (place_at self.old.faults file) (view_of self.old) path.now full_name.now field.now)) }
+        ensures same { IsSame self.old self.new }
+    {
+        self.check_label(alloc, file, path, field.label)?;
+        self.check_type(alloc, file, path, field.field_type)?;
+        self.resolve_type_name(alloc, file, path, full_name, field)?;
+        Ok(())
+    }
+
+    /// Resolves the name of a message, if there is one.
+    fn resolve_message(
+        &mut self,
+        alloc: Global,
+        file: u32,
+        path: &[i32],
+        tag: i32,
+        full_name: &str,
+        name: &Option<String>,
+    ) -> Result<(), AllocError>
+        ensures finds { OnOk result (Finds self.old self.new (name_targets (view_of self.old) ResolveNameFilter.Message full_name.now name.now) (reference_faults (place_at self.old.faults file) (view_of self.old) ResolveNameFilter.Message path.now full_name.now tag name.now)) }
+        ensures same { IsSame self.old self.new }
+    {
+        let Some(name) = name else {
+            return Ok(());
+        };
+        let filter = ResolveNameFilter::Message;
+        self.resolve(alloc, file, path, tag, full_name, name.as_str(), filter)?;
+        Ok(())
+    }
+}
+
+impl<'a> Visitor for ResolveVisitor<'a> {
+    ghost use Rattle.reflect_names.specs.ReferenceSteps.{Refers, Stays, Stays-same, Stays-on};
+
+    ghost steps = { Refers };
+
+    ghost kept = { Stays };
+
+    ghost kept_same = { Stays-same };
+
+    ghost kept_on = { Stays-on };
+
+    fn visit_file(
+        &mut self,
+        _alloc: Global,
+        _path: &[i32],
+        file: u32,
+        _descriptor: &FileDescriptorProto,
+    ) -> Result<(), VisitError> {
+        self.seen.look_from(self.links, file)?;
+        Ok(())
+    }
+
+    fn visit_message(
+        &mut self,
+        _alloc: Global,
+        _path: &[i32],
+        _full_name: &str,
+        _file: u32,
+        _parent: Option<u32>,
+        _index: u32,
+        _message: &DescriptorProto,
+    ) -> Result<(), VisitError> {
+        Ok(())
+    }
+
+    fn visit_field(
+        &mut self,
+        alloc: Global,
+        path: &[i32],
+        full_name: &str,
+        file: u32,
+        _message: u32,
+        _index: u32,
+        field: &FieldDescriptorProto,
+    ) -> Result<(), VisitError> {
+        self.resolve_field(alloc, file, path, full_name, field)?;
+        Ok(())
+    }
+
+    fn visit_oneof(
+        &mut self,
+        _alloc: Global,
+        _path: &[i32],
+        _full_name: &str,
+        _file: u32,
+        _message: u32,
+        _index: u32,
+        _oneof: &OneofDescriptorProto,
+    ) -> Result<(), VisitError> {
+        Ok(())
+    }
+
+    fn visit_enum(
+        &mut self,
+        _alloc: Global,
+        _path: &[i32],
+        _full_name: &str,
+        _file: u32,
+        _parent: Option<u32>,
+        _index: u32,
+        _enumeration: &EnumDescriptorProto,
+    ) -> Result<(), VisitError> {
+        Ok(())
+    }
+
+    fn visit_enum_value(
+        &mut self,
+        _alloc: Global,
+        _path: &[i32],
+        _full_name: &str,
+        _file: u32,
+        _enumeration: u32,
+        _index: u32,
+        _value: &EnumValueDescriptorProto,
+    ) -> Result<(), VisitError> {
+        Ok(())
+    }
+
+    fn visit_service(
+        &mut self,
+        _alloc: Global,
+        _path: &[i32],
+        _full_name: &str,
+        _file: u32,
+        _index: u32,
+        _service: &ServiceDescriptorProto,
+    ) -> Result<(), VisitError> {
+        Ok(())
+    }
+
+    fn visit_method(
+        &mut self,
+        alloc: Global,
+        path: &[i32],
+        full_name: &str,
+        file: u32,
+        _service: u32,
+        _index: u32,
+        method: &MethodDescriptorProto,
+    ) -> Result<(), VisitError> {
+        let input = tag::method::INPUT_TYPE;
+        self.resolve_message(alloc, file, path, input, full_name, &method.input_type)?;
+        let output = tag::method::OUTPUT_TYPE;
+        self.resolve_message(alloc, file, path, output, full_name, &method.output_type)?;
+        Ok(())
+    }
+
+    fn visit_extension(
+        &mut self,
+        alloc: Global,
+        path: &[i32],
+        full_name: &str,
+        file: u32,
+        _parent: Option<u32>,
+        _index: u32,
+        extension: &FieldDescriptorProto,
+    ) -> Result<(), VisitError> {
+        let extendee = tag::field::EXTENDEE;
+        self.resolve_message(alloc, file, path, extendee, full_name, &extension.extendee)?;
+        self.resolve_field(alloc, file, path, full_name, extension)?;
+        Ok(())
+    }
+}

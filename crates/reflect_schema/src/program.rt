@@ -1,0 +1,168 @@
+//! The program `schema`, over any files and any streams.
+
+use crate::command_line::{Request, parse, requested};
+use crate::error::SchemaError;
+use crate::payload::{Fault, serve};
+use crate::schema::Schema;
+use std::alloc::{AllocError, AllocFailed, Global};
+use std::fmt::Display;
+use std::io::{Read, Write};
+use thiserror::Error;
+
+/// Why a file was not read.
+#[derive(Clone, Copy, PartialEq, Eq, Debug)]
+pub enum ReadFault {
+    Read,
+    Memory,
+}
+
+/// The files that a run may read.
+pub trait SourceFiles {
+    /// The bytes of the file at a path.
+    fn read(&mut self, alloc: Global, path: &str) -> Result<Vec<u8>, ReadFault>;
+}
+
+/// Why a run ended without an answer.
+#[derive(Debug, Drop, Error)]
+enum RunFault {
+    #[error("{0}")]
+    Schema(SchemaError),
+    #[error("'{0}' cannot be read")]
+    File(String),
+    #[error("'{0}' is not UTF-8")]
+    SourceNotUtf8(String),
+    #[error("{0}")]
+    Payload(Fault),
+    #[error("out of memory")]
+    Memory,
+}
+
+impl RunFault {
+    /// The status that the program ends with.
+    fn status(&self) -> u8 {
+        match self {
+            RunFault::Schema(SchemaError::Memory) => 5,
+            RunFault::Schema(_) | RunFault::SourceNotUtf8(_) => 1,
+            RunFault::File(_) => 4,
+            RunFault::Payload(Fault::Schema(_) | Fault::NotHex | Fault::NotUtf8) => 3,
+            RunFault::Payload(Fault::Read | Fault::Write) => 4,
+            RunFault::Payload(Fault::Memory) | RunFault::Memory => 5,
+        }
+    }
+}
+
+impl From<AllocError> for RunFault {
+    fn from(_error: AllocError) -> RunFault {
+        RunFault::Memory
+    }
+}
+
+impl<T: Drop> From<AllocFailed<T>> for RunFault {
+    fn from(_error: AllocFailed<T>) -> RunFault {
+        RunFault::Memory
+    }
+}
+
+/// The bytes of the named files under the root, in order.
+fn read_files<F: SourceFiles>(
+    alloc: Global,
+    files: &mut F,
+    wanted: Request<'_>,
+) -> Result<Vec<Vec<u8>>, RunFault> {
+    let mut contents = Vec::new(alloc);
+    for name in wanted.names {
+        let root = wanted.root;
+        let path = format!(in alloc; "{root}/{name}")?;
+        match files.read(alloc, path.as_str()) {
+            Ok(bytes) => contents.push(bytes)?,
+            Err(ReadFault::Read) => return Err(RunFault::File(path)),
+            Err(ReadFault::Memory) => return Err(RunFault::Memory),
+        }
+    }
+    Ok(contents)
+}
+
+/// The named sources with their texts.
+fn sources<'a>(
+    alloc: Global,
+    names: &'a [&'a str],
+    contents: &'a [Vec<u8>],
+) -> Result<Vec<(&'a str, &'a str)>, RunFault> {
+    let mut sources = Vec::new(alloc);
+    for (name, bytes) in names.iter().zip(contents) {
+        match str::from_utf8(bytes.as_slice()) {
+            Ok(text) => sources.push((*name, text))?,
+            Err(_) => return Err(RunFault::SourceNotUtf8(String::from_str(alloc, name)?)),
+        }
+    }
+    Ok(sources)
+}
+
+/// Reads the sources and answers the payload.
+fn answer<F: SourceFiles, R: Read, W: Write>(
+    alloc: Global,
+    wanted: Request<'_>,
+    files: &mut F,
+    input: &mut R,
+    output: &mut W,
+) -> Result<(), RunFault> {
+    let contents = read_files(alloc, files, wanted)?;
+    let sources = sources(alloc, wanted.names, contents.as_slice())?;
+    let mut schema = Schema::bare(alloc);
+    schema
+        .add_sources(sources.as_slice())
+        .map_err(RunFault::Schema)?;
+    serve(
+        alloc,
+        &schema,
+        wanted.action,
+        wanted.type_name,
+        wanted.is_hex,
+        input,
+        output,
+    )
+    .map_err(RunFault::Payload)
+}
+
+/// Writes a text to a stream, with a line end; a stream that refuses it gets no more.
+fn write_line<W: Write>(alloc: Global, stream: &mut W, text: impl Display + Drop) {
+    if let Ok(line) = format!(in alloc; "{text}\n") {
+        let _ = stream.write_all(line.as_str().as_bytes());
+    }
+}
+
+/// Runs the program `schema` on its words, without its own name, and gives the status that it ends with.
+///
+/// 0: answered, or help was asked for. 1: the schema is refused, or a source is not UTF-8. 2: the command line is refused.
+/// 3: the payload is refused. 4: a file, the input or the output cannot be read or written. 5: memory ran out.
+pub fn run<F: SourceFiles, R: Read, W: Write, E: Write>(
+    alloc: Global,
+    words: &[&str],
+    files: &mut F,
+    input: &mut R,
+    output: &mut W,
+    errors: &mut E,
+) -> u8 {
+    let matches = match parse(alloc, words) {
+        Ok(matches) => matches,
+        Err(error) => {
+            if error.use_stderr() {
+                write_line(alloc, errors, error);
+                return 2;
+            }
+            write_line(alloc, output, error);
+            return 0;
+        }
+    };
+    let Some(wanted) = requested(&matches) else {
+        return 2;
+    };
+    match answer(alloc, wanted, files, input, output) {
+        Ok(()) => 0,
+        Err(fault) => {
+            let status = fault.status();
+            write_line(alloc, errors, fault);
+            status
+        }
+    }
+}

@@ -1,0 +1,5 @@
+pub mod Sees
+pub mod Marks
+pub mod Means
+pub mod Says
+pub mod Seen

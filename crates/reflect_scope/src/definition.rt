@@ -1,0 +1,43 @@
+use std::fmt;
+
+/// What kind of thing a full name stands for. The numbers are indexes among all messages, enums, extensions or services.
+#[derive(Clone, Copy, PartialEq, Eq, Debug)]
+pub enum DefinitionKind {
+    Package,
+    Message(u32),
+    Field,
+    Oneof,
+    Enum(u32),
+    EnumValue,
+    Extension(u32),
+    Service(u32),
+    Method,
+}
+
+/// What a full name stands for, and the index of the file that defines it. A package's file is the first that bears it.
+#[derive(Clone, Copy, PartialEq, Eq, Debug)]
+pub struct Definition {
+    pub file: u32,
+    pub kind: DefinitionKind,
+}
+
+/// Which kinds a reference may mean.
+#[derive(Clone, Copy, PartialEq, Eq, Debug)]
+pub enum ResolveNameFilter {
+    /// A message.
+    Message,
+    /// The type of a field: a message or an enum.
+    FieldType,
+    /// An extension.
+    Extension,
+}
+
+impl fmt::Display for ResolveNameFilter {
+    fn fmt<W: fmt::Write>(&self, f: &mut fmt::Formatter<W>) -> fmt::Result {
+        match self {
+            ResolveNameFilter::Message => f.write_str("a message type"),
+            ResolveNameFilter::FieldType => f.write_str("a message or enum type"),
+            ResolveNameFilter::Extension => f.write_str("an extension"),
+        }
+    }
+}

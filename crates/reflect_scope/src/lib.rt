@@ -1,0 +1,10 @@
+//! What a name in a scope means, and which files a file sees: each answer is what the public scoping rules of protobuf say.
+#![tactic(auto)]
+
+mod definition;
+mod resolve;
+mod seen;
+
+pub use definition::{Definition, DefinitionKind, ResolveNameFilter};
+pub use resolve::{ResolveNameError, Resolved, joined, outer_of, resolve_name};
+pub use seen::{Links, SeenFiles};

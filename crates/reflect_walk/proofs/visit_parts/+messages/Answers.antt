@@ -1,0 +1,76 @@
+use Rattle.std.proofs.Common.{◌≡◌, ℕ, ℤ, pos, ◌+◌, List, [], ◌∷◌, ◌++◌, ap, map, take, length, arith, subst, sym, ◌∙◌, to_z, of_z, w32, Some}
+use Rattle.reflect_scope.specs.Means.{join}
+use Rattle.descriptor_records.specs.declared.message.DescriptorProto.TheViews.{out-DescriptorProto}
+use Rattle.reflect_walk.specs.declared.visit_parts.Offsets.{Offsets}
+use Rattle.reflect_walk.specs.Tree.{text_of, message, parts_of, messages_of, tree_of}
+use Rattle.reflect_walk.specs.Declarations.{Runs, each, entry, one_field, one_enum, one_extension, one_oneof, message_declaration, tree_declarations, trees_declarations, past_tree, past_trees, past_message, past_enums, past_extensions}
+use Rattle.reflect_walk.proofs.Walks.{run_tree, past_more, runs_append, tree_of-out}
+use Rattle.reflect_walk.proofs.visit_parts.+messages.Goals as goal
+
+pub visit_messages-turns-preserved : goal.visit_messages-turns-preserved
+visit_messages-turns-preserved g t c =
+    let R = g.V.Visitor.steps in
+    let ms = c.deref-message-items.result.now in
+    let k = c.turns.at in
+    let m = c.message-item.result in
+    let path = c.args.path.now in
+    let tag : ℤ = to_z w32 (of_z w32 c.args.tag) in
+    let scope = c.args.scope.now in
+    let file = c.args.file in
+    let parent = c.args.parent in
+    let o = c.args.offsets.now in
+    let place : c.as_slice.result.now ≡ entry path tag k = c.as_slice.ensures.value ∙ c.in_ok-place.ensures ∙ ap (entry path tag) c.in_ok-list_index.ensures.same in
+    let now = subst (λ p. Runs R c.turns.visitor (tree_declarations p scope file parent (past_trees o (messages_of (map tree_of (take k ms)))) (tree_of m)) c.visit_message.new.visitor) place
+    (subst (λ o. Runs R c.turns.visitor (tree_declarations c.as_slice.result.now scope file parent o (tree_of m)) c.visit_message.new.visitor) c.turns.invariant.counts c.in_ok-visit_message.ensures.runs) in
+    record {
+      runs = run_tree R path tag scope file parent o ms k m _ _ _ (omega arith) c.message-item.is c.turns.invariant.runs now;
+      counts = c.in_ok-visit_message.ensures.counts ∙ ap (λ o. past_tree o (tree_of m)) c.turns.invariant.counts
+          ∙ ap (λ x. past_tree (past_trees o (messages_of (map tree_of (take k ms)))) (tree_of x)) c.message-item.is ∙ sym (past_more o ms k m (omega arith));
+      keeps = g.met.V.Visitor.kept_on c.args.file _ _ _ c.turns.invariant.keeps c.visit_message.ensures.keeps;
+    }
+
+pub visit_message-returns-clause-runs : goal.visit_message-returns-clause-runs
+visit_message-returns-clause-runs g t c =
+    let R = g.V.Visitor.steps in
+    let m = c.args.message.now in
+    let own = parts_of m in
+    let nested = messages_of (map tree_of (out-DescriptorProto m).nested_type.items) in
+    let path = c.args.path.now in
+    let scope = c.args.scope.now in
+    let file = c.args.file in
+    let parent = c.args.parent in
+    let o = c.args.offsets.now in
+    let given = c.as_str-inner.result.now in
+    let full = join scope (text_of own.name) in
+    let name : given ≡ full = c.as_str-inner.ensures.value ∙ c.in_ok-full_name.ensures ∙ ap (join scope) c.text_of.ensures in
+    let number : c.in_ok-number.number ≡ o.messages = c.in_ok-number.ensures.index in
+    let i = c.in_ok-number.number in
+    let counted : Offsets = record o { messages = c.next_index.new.count } in
+    let past : counted ≡ past_message o = ap (λ n. record o { messages = n }) c.in_ok-number.ensures.more in
+    let behind : c.visit_messages.new.offsets ≡ past_trees (past_message o) nested = c.in_ok-visit_messages.ensures.counts ∙ ap (λ x. past_trees x nested) past in
+    let behind_enums = ap (λ x. x.extensions) (c.in_ok-visit_enums.ensures.counts ∙ ap (λ x. past_enums x (length own.enum_type)) behind) in
+    let v0 = c.args.visitor.now in
+    let v1 = c.visit_message.new.self in
+    let v2 = c.visit_fields.new.visitor in
+    let v3 = c.visit_messages.new.visitor in
+    let v4 = c.visit_enums.new.visitor in
+    let v5 = c.visit_extensions.new.visitor in
+    let v6 = c.visit_oneofs.new.visitor in
+    let first = subst (λ n. R v0 (message_declaration path n file parent o.messages own) v1) name
+    (subst (λ n. R v0 (message_declaration path given file parent n own) v1) number c.in_ok-visit_message.ensures.step) in
+    let fields = subst (λ n. Runs R v1 (each (one_field path n file o.messages) 0 own.field) v2) name
+    (subst (λ n. Runs R v1 (each (one_field path given file n) 0 own.field) v2) number c.in_ok-visit_fields.ensures.runs) in
+    let inner = subst (λ n. Runs R v2 (trees_declarations path (pos 3) n file (Some o.messages) 0 (past_message o) nested) v3) name
+    (subst (λ n. Runs R v2 (trees_declarations path (pos 3) given file (Some n) 0 (past_message o) nested) v3) number
+    (subst (λ x. Runs R v2 (trees_declarations path (pos 3) given file (Some i) 0 x nested) v3) past c.in_ok-visit_messages.ensures.runs)) in
+    let enums = subst (λ n. Runs R v3 (each (one_enum path (pos 4) n file (Some o.messages) (past_trees (past_message o) nested).enums) 0 own.enum_type) v4) name
+    (subst (λ n. Runs R v3 (each (one_enum path (pos 4) given file (Some n) (past_trees (past_message o) nested).enums) 0 own.enum_type) v4) number
+    (subst (λ x. Runs R v3 (each (one_enum path (pos 4) given file (Some i) x) 0 own.enum_type) v4) (ap (λ x. x.enums) behind) c.in_ok-visit_enums.ensures.runs)) in
+    let extensions = subst (λ n. Runs R v4 (each (one_extension path (pos 6) n file (Some o.messages) (past_trees (past_message o) nested).extensions) 0 own.extension) v5) name
+    (subst (λ n. Runs R v4 (each (one_extension path (pos 6) given file (Some n) (past_trees (past_message o) nested).extensions) 0 own.extension) v5) number
+    (subst (λ x. Runs R v4 (each (one_extension path (pos 6) given file (Some i) x) 0 own.extension) v5) behind_enums c.in_ok-visit_extensions.ensures.runs)) in
+    let oneofs = subst (λ n. Runs R v5 (each (one_oneof path n file o.messages) 0 own.oneof_decl) v6) name
+    (subst (λ n. Runs R v5 (each (one_oneof path given file n) 0 own.oneof_decl) v6) number c.in_ok-visit_oneofs.ensures.runs) in
+    let all : Runs R v0 (tree_declarations path scope file parent o (message own nested)) v6 =
+    (v1, (first, runs_append R _ _ v1 v2 v6 fields (runs_append R _ _ v2 v3 v6 inner (runs_append R _ _ v3 v4 v6 enums (runs_append R _ _ v4 v5 v6 extensions oneofs))))) in
+    subst (λ x. Runs R v0 (tree_declarations path scope file parent o x) v6) (sym (tree_of-out m)) all

@@ -1,0 +1,32 @@
+use Rattle.std.proofs.Common.{◌≡◌, ℕ, ℤ, pos, ◌+◌, List, [], ◌∷◌, ap, arith, subst, ◌∙◌, to_z, of_z, w32}
+use Rattle.reflect_scope.specs.Means.{join}
+use Rattle.reflect_walk.specs.Tree.{text_of}
+use Rattle.reflect_walk.specs.Declarations.{Declaration, Runs, each, entry, one_enum, enum_declaration, one_value}
+use Rattle.reflect_walk.specs.declared.visit_parts.Offsets.{Offsets}
+use Rattle.reflect_walk.proofs.Walks.{run_more}
+use Rattle.reflect_walk.proofs.visit_parts.visit_enums.Goals as goal
+
+pub turns-preserved : goal.turns-preserved
+turns-preserved g c =
+    let R = g.V.Visitor.steps in
+    let xs = c.deref-enumeration-items.result.now in
+    let k = c.turns.at in
+    let x = c.enumeration-item.result in
+    let path : List ℤ = c.args.path.now in
+    let tag : ℤ = to_z w32 (of_z w32 c.args.tag) in
+    let scope = c.args.scope.now in
+    let file = c.args.file in
+    let parent = c.args.parent in
+    let o = c.args.offsets.now in
+    let place : c.as_slice.result.now ≡ entry path tag k = c.as_slice.ensures.value ∙ c.in_ok-place.ensures ∙ ap (entry path tag) c.in_ok-list_index.ensures.same in
+    let was : c.turns.offsets.enums ≡ o.enums + k = ap (λ o. o.enums) c.turns.invariant.counts in
+    let number = c.in_ok-number.ensures.index ∙ was in
+    let item : List ℤ → ℕ → List Declaration = λ p n. enum_declaration p (join scope (text_of x.name)) file parent n x ∷ each (one_value p scope file n) 0 x.value.items in
+    let now = subst (λ p. Runs R c.turns.visitor (item p (o.enums + k)) c.visit_enum.new.visitor) place
+    (subst (λ n. Runs R c.turns.visitor (item c.as_slice.result.now n) c.visit_enum.new.visitor) number c.in_ok-visit_enum.ensures.runs) in
+    let count : c.next_index.new.count ≡ o.enums + (k + 1) = let more = c.in_ok-number.ensures.more in omega (arith, more, was) in
+    record {
+      runs = run_more R (one_enum path tag scope file parent o.enums) xs k x _ _ _ (omega arith) c.enumeration-item.is c.turns.invariant.runs now;
+      counts = ap {A = Offsets} (λ o. record o { enums = c.next_index.new.count }) c.turns.invariant.counts ∙ ap {A = ℕ} (λ n. record o { enums = n }) count;
+      keeps = g.met.V.Visitor.kept_on c.args.file _ _ _ c.turns.invariant.keeps c.visit_enum.ensures.keeps;
+    }

@@ -1,0 +1,17 @@
+use Rattle.std.proofs.Common.{arith, subst}
+use Rattle.reflect_walk.specs.Declarations.{Runs, one_field}
+use Rattle.reflect_walk.proofs.Walks.{run_more}
+use Rattle.reflect_walk.proofs.visit_parts.visit_fields.Goals as goal
+
+pub turns-preserved : goal.turns-preserved
+turns-preserved g c =
+    let R = g.V.Visitor.steps in
+    let xs = c.deref-field-items.result.now in
+    let k = c.turns.at in
+    let x = c.field-item.result in
+    let one = one_field c.args.path.now c.args.scope.now c.args.file c.args.message in
+    let now = subst (λ i. Runs R c.turns.visitor (one i x) c.visit_field.new.visitor) c.in_ok-index.ensures.same c.in_ok-visit_field.ensures.runs in
+    record {
+      runs = run_more R one xs k x _ _ _ (omega arith) c.field-item.is c.turns.invariant.runs now;
+      keeps = g.met.V.Visitor.kept_on c.args.file _ _ _ c.turns.invariant.keeps c.visit_field.ensures.keeps;
+    }

@@ -1,0 +1,10 @@
+//! The declarations of a protobuf file as one list: a visitor is called at each of them, in the order of that list.
+#![tactic(auto)]
+
+mod visit_error;
+mod visit_parts;
+mod visitor;
+
+pub use visit_error::VisitError;
+pub use visit_parts::{Offsets, visit};
+pub use visitor::Visitor;

@@ -1,0 +1,11 @@
+pub mod Encodings
+pub mod Faulty
+pub mod Groups
+pub mod Keys
+pub mod Lengths
+pub mod Reading
+pub mod Unique
+pub mod Spelling
+pub mod Varints
+pub mod Views
+pub mod Whole

@@ -1,0 +1,134 @@
+//! Readers: each takes bytes and gives the value at their front and the bytes behind it.
+ghost use Rattle.std.specs.Prelude.{◌≡◌, ◌<◌, ◌≤◌, ◌+◌, IfErr, IfSome};
+ghost use Rattle.reflect_wire.specs.Faults.{VarintFault, KeyFault, DelimitedFault, FixedFault};
+ghost use Rattle.reflect_wire.specs.Reads.{Fronts, Reads, ReadsBy};
+ghost use Rattle.reflect_wire.specs.Varint.{IsVarintWithin, IsVarint};
+ghost use Rattle.reflect_wire.specs.Key.{IsKey, IsDelimited, IsFixed32, IsFixed64};
+
+use crate::wire_error::WireError;
+use crate::wire_key::{WireKey, WireType};
+
+/// The number at the front, in at most `left` and one more bytes.
+fn varint_within(bytes: &[u8], left: u32) -> Result<(u64, &[u8]), WireError>
+    ensures read { Reads (IsVarintWithin (left + 1)) bytes.now result }
+    ensures fault { IfErr result (VarintFault (left + 1) bytes.now) }
+{
+    let Some((first, rest)) = bytes.split_first() else {
+        return Err(WireError::Truncated);
+    };
+    let low = *first;
+    if low < 128 {
+        return Ok((u64::from(low), rest));
+    }
+    if left == 0 {
+        return Err(WireError::BadVarint);
+    }
+    let (high, rest) = varint_within(rest, left - 1)?;
+    if high >= 1 << 57 {
+        return Err(WireError::BadVarint);
+    }
+    Ok((high * 128 + u64::from(low - 128), rest))
+}
+
+/// The number at the front, where it is spelled in one or two bytes. Most are, and this reads them fast.
+#[inline]
+fn short_varint_at(bytes: &[u8]) -> Option<(u64, &[u8])>
+    ensures { IfSome result (λ x. Fronts IsVarint bytes.now x.0 x.1.now) }
+{
+    let (first, rest) = bytes.split_first()?;
+    let low = *first;
+    if low < 128 {
+        return Some((u64::from(low), rest));
+    }
+    let (second, behind) = rest.split_first()?;
+    let high = *second;
+    if high >= 128 {
+        return None;
+    }
+    Some((u64::from(high) * 128 + u64::from(low - 128), behind))
+}
+
+/// The base-128 varint at the front, in at most ten bytes ("Encoding", Base 128 Varints).
+///
+/// A spelling that is longer than it needs to be is accepted. `Truncated` where the bytes end inside the number,
+/// `BadVarint` where it has more than ten bytes or does not fit 64 bits.
+#[inline]
+pub fn varint_at(bytes: &[u8]) -> Result<(u64, &[u8]), WireError>
+    ensures read { Reads IsVarint bytes.now result }
+    ensures fault { IfErr result (VarintFault 10 bytes.now) }
+{
+    match short_varint_at(bytes) {
+        Some(found) => Ok(found),
+        None => varint_within(bytes, 9),
+    }
+}
+
+/// The key at the front: a field number of 1 to 536870911 and a wire type ("Encoding", Message Structure).
+///
+/// Refused as `varint_at` is, and with `BadKey` where the number or the wire type is none.
+#[inline]
+pub fn key_at(bytes: &[u8]) -> Result<(WireKey, &[u8]), WireError>
+    ensures read { Reads IsKey bytes.now result }
+    ensures fault { IfErr result (KeyFault bytes.now) }
+{
+    let (n, rest) = varint_at(bytes)?;
+    let wire = match n % 8 {
+        0 => WireType::Varint,
+        1 => WireType::SixtyFourBit,
+        2 => WireType::LengthDelimited,
+        3 => WireType::StartGroup,
+        4 => WireType::EndGroup,
+        5 => WireType::ThirtyTwoBit,
+        _ => return Err(WireError::BadKey),
+    };
+    let number = n / 8;
+    if number == 0 || number > 536870911 {
+        return Err(WireError::BadKey);
+    }
+    Ok((
+        WireKey {
+            number: number as u32,
+            wire,
+        },
+        rest,
+    ))
+}
+
+/// A length and so many bytes ("Encoding", Length-Delimited Records). The payload is lent, not copied.
+///
+/// Refused as `varint_at` is, and with `Truncated` where fewer bytes follow than the length says.
+#[inline]
+pub fn delimited_at(bytes: &[u8]) -> Result<(&[u8], &[u8]), WireError>
+    ensures read { ReadsBy (λ x. x.now) IsDelimited bytes.now result }
+    ensures fault { IfErr result (DelimitedFault bytes.now) }
+{
+    let (len, rest) = varint_at(bytes)?;
+    if len > rest.len() as u64 {
+        return Err(WireError::Truncated);
+    }
+    Ok(rest.split_at(len as usize))
+}
+
+/// Four bytes, the lowest first. `Truncated` where there are fewer.
+#[inline]
+pub fn fixed32_at(bytes: &[u8]) -> Result<(u32, &[u8]), WireError>
+    ensures read { Reads IsFixed32 bytes.now result }
+    ensures fault { IfErr result (FixedFault 4 bytes.now) }
+{
+    match bytes.split_first_chunk::<4>() {
+        Some((front, rest)) => Ok((u32::from_le_bytes(*front), rest)),
+        None => Err(WireError::Truncated),
+    }
+}
+
+/// Eight bytes, the lowest first. `Truncated` where there are fewer.
+#[inline]
+pub fn fixed64_at(bytes: &[u8]) -> Result<(u64, &[u8]), WireError>
+    ensures read { Reads IsFixed64 bytes.now result }
+    ensures fault { IfErr result (FixedFault 8 bytes.now) }
+{
+    match bytes.split_first_chunk::<8>() {
+        Some((front, rest)) => Ok((u64::from_le_bytes(*front), rest)),
+        None => Err(WireError::Truncated),
+    }
+}

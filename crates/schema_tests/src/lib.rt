@@ -1,0 +1,11 @@
+//! Tests that cross crates. Their answers are worked by hand from the published encoding, or come from `protoc`.
+#![tactic(auto)]
+
+#[cfg(test)]
+mod calls;
+#[cfg(test)]
+mod memory_files;
+#[cfg(test)]
+mod programs;
+#[cfg(test)]
+mod schemas;
