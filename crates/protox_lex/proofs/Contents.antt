@@ -1,8 +1,8 @@
 -- The turns of the loops in strings and comments.
-use Rattle.std.proofs.Common.{◌≡◌, ℕ, zero, suc, ◌+◌, ◌≤◌, ◌<◌, true, false, [], ◌∷◌, drop, length, ap, ◌∙◌, arith, refl}
+use Rattle.std.proofs.Common.{◌≡◌, ℕ, zero, suc, ◌+◌, ◌-◌, ◌≤◌, ◌<◌, true, false, [], ◌∷◌, ◌++◌, drop, length, ap, ◌∙◌, arith, refl}
 use Rattle.std.specs.Prelude.{slice_index}
 use Rattle.protox_lex.specs.Class.{Text}
-use Rattle.protox_lex.specs.Lex.{unit_len, after_unit, contents_from, contents_len, is_comment_mark, comment_len}
+use Rattle.protox_lex.specs.Lex.{unit_len, after_unit, contents_from, contents_len, unit_of, bytes_of, unescaped_from, unescaped, is_comment_mark, comment_len}
 
 -- what is left of an escape is passed over
 pub contents_pass : (q left : ℕ) (y : Text) → left ≤ length y → contents_from q left y ≡ left + contents_len q (drop left y)
@@ -34,3 +34,23 @@ pub contents_none : (q : ℕ) (y : Text) → length y ≡ 0 → contents_len q y
 unfolding contents_from
 contents_none q [] e = refl
 contents_none q (b ∷ y) e = absurd (omega arith)
+
+unescaped_pass : (left : ℕ) (y : Text) → left ≤ length y → unescaped_from left y ≡ unescaped (drop left y)
+unfolding unescaped_from
+unescaped_pass zero y le = refl
+unescaped_pass (suc left) [] le = absurd (omega arith)
+unescaped_pass (suc left) (b ∷ y) le = unescaped_pass left y (omega arith)
+
+-- one unit is read, and then the rest
+pub unescaped_step : (y : Text) (n : ℕ) → (unit_of y).1 ≡ n → 1 ≤ n → n ≤ length y → unescaped y ≡ bytes_of (unit_of y).0 ++ unescaped (drop n y)
+unfolding unescaped_from
+unescaped_step [] n e some le = absurd (omega arith)
+unescaped_step (b ∷ y) zero e some le = absurd (omega arith)
+unescaped_step (b ∷ y) (suc n) e some le =
+    let one : (unit_of (b ∷ y)).1 - 1 ≡ n = omega (arith, e) in
+    ap (λ k. bytes_of (unit_of (b ∷ y)).0 ++ unescaped_from k y) one ∙ ap (λ t. bytes_of (unit_of (b ∷ y)).0 ++ t) (unescaped_pass n y (omega arith))
+
+pub unescaped_none : (y : Text) → length y ≡ 0 → unescaped y ≡ []
+unfolding unescaped_from
+unescaped_none [] e = refl
+unescaped_none (b ∷ y) e = absurd (omega arith)

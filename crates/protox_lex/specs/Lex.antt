@@ -1,5 +1,6 @@
 -- The piece at the front of a text, as it is cut.
-use Rattle.std.specs.Prelude.{ℕ, zero, suc, ◌+◌, ◌-◌, ◌*◌, ◌^◌, Bool, not, ◌&&◌, ◌||◌, if◌then◌else◌, ◌==◌, nat_le, nat_lt, List, [], ◌∷◌, length, take, drop, fold, slice_index, min, Option, Some, None, Result, Ok, Err}
+use Rattle.std.specs.Prelude.{ℕ, zero, suc, ◌+◌, ◌-◌, ◌*◌, ◌^◌, Bool, not, ◌&&◌, ◌||◌, if◌then◌else◌, ◌==◌, nat_le, nat_lt, List, [], ◌∷◌, ◌++◌, length, take, drop, fold, slice_index, min, Option, Some, None, Result, Ok, Err}
+use Rattle.std.specs.Char.{encode_utf8}
 use Rattle.protox_lex.specs.declared.class.Class.TheVariants as class
 use Rattle.protox_lex.specs.declared.error.LexErrorKind.{LexErrorKind}
 use Rattle.protox_lex.specs.declared.error.LexErrorKind.TheVariants as kinds
@@ -135,6 +136,27 @@ escape y =
     else if b == 85 then unicode y 8
     else if is_in class.Octal b then octal_escape y
     else simple_of (simple b)
+
+-- The first byte of a string's contents, or the escape that begins there, with its length. A backslash that begins no escape stands for itself.
+abbrev pub or_slash : Escaped → Meaning × ℕ
+or_slash (Ok e) = (e.0, e.1 + 1)
+or_slash (Err n) = (meaning.Byte 92, 1)
+
+abbrev pub unit_of : Text → Meaning × ℕ
+unit_of y = if slice_index y 0 == 92 then or_slash (escape (drop 1 y)) else (meaning.Byte (slice_index y 0), 1)
+
+abbrev pub bytes_of : Meaning → Text
+bytes_of (meaning.Byte b) = b ∷ []
+bytes_of (meaning.Char c) = encode_utf8 c
+
+-- The bytes that the contents of a string mean, where so many bytes are left of an escape.
+unfoldable pub unescaped_from : ℕ → Text → Text
+unescaped_from left [] = []
+unescaped_from (suc left) (b ∷ y) = unescaped_from left y
+unescaped_from zero (b ∷ y) = bytes_of (unit_of (b ∷ y)).0 ++ unescaped_from ((unit_of (b ∷ y)).1 - 1) y
+
+abbrev pub unescaped : Text → Text
+unescaped y = unescaped_from 0 y
 
 abbrev pub is_plain : ℕ → ℕ → Bool
 is_plain quote b = not (b == quote || (b == 92 || (b == 10 || b == 0)))

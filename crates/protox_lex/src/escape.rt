@@ -1,6 +1,6 @@
 //! The escapes of a string.
 
-ghost use Rattle.std.specs.Prelude.{◌≡◌, ◌≢◌, ◌<◌, ◌≤◌, ◌+◌, length, slice_index, IfOk, IfErr, IsSome, true};
+ghost use Rattle.std.specs.Prelude.{◌≡◌, ◌≢◌, ◌<◌, ◌≤◌, ◌+◌, ◌++◌, length, slice_index, OnOk, IfOk, IfErr, IsSome, true};
 ghost use Rattle.protox_lex.specs.Class.{is_in};
 ghost use Rattle.protox_lex.specs.Lex as spec;
 ghost use Rattle.protox_lex.specs.declared.class.Class.TheVariants as class;
@@ -140,7 +140,8 @@ pub fn escape(y: &[u8]) -> Result<(Meaning, usize), usize>
 /// A backslash that begins no escape stands for itself.
 fn unit(raw: &[u8]) -> (Meaning, usize)
     requires { 0 < length raw.now }
-    ensures { (1 ≤ result.1) × (result.1 ≤ length raw.now) }
+    ensures value { result ≡ spec.unit_of raw.now }
+    ensures within { (1 ≤ result.1) × (result.1 ≤ length raw.now) }
 {
     if raw[0] == b'\\' {
         if let Ok((meaning, len)) = escape(&raw[1..]) {
@@ -150,7 +151,9 @@ fn unit(raw: &[u8]) -> (Meaning, usize)
     (Meaning::Byte(raw[0]), 1)
 }
 
-fn push(bytes: &mut Vec<u8>, meaning: Meaning) -> Result<(), AllocError> {
+fn push(bytes: &mut Vec<u8>, meaning: Meaning) -> Result<(), AllocError>
+    ensures { OnOk result (bytes.new.items ≡ bytes.old.items ++ spec.bytes_of meaning) }
+{
     match meaning {
         Meaning::Byte(b) => bytes.push(b)?,
         Meaning::Char(c) => bytes.extend_from_slice(c.encode_utf8(&mut [0; 4]).as_bytes())?,
@@ -162,7 +165,9 @@ fn push(bytes: &mut Vec<u8>, meaning: Meaning) -> Result<(), AllocError> {
 ///
 /// Escapes are those of the "String literals" of the protobuf language specification. A backslash that begins none
 /// of them stands for itself; no token has one.
-pub fn unescape(alloc: Global, raw: &[u8]) -> Result<Vec<u8>, AllocError> {
+pub fn unescape(alloc: Global, raw: &[u8]) -> Result<Vec<u8>, AllocError>
+    ensures { IfOk result (λ bytes. bytes.items ≡ spec.unescaped raw.now) }
+{
     let mut bytes = Vec::new(alloc);
     let mut at = 0;
     while at < raw.len() {

@@ -206,11 +206,11 @@ impl Backward {
         Ok(())
     }
 
-    pub fn put_record<R: WriteRecord>(&mut self, number: i32, record: &R) -> Result<(), AllocError>
-        ensures { OnOk result (held self.new ≡ payload_field (unsigned_abs number) (R.bytes record.now) ++ held self.old) }
+    pub fn put_record<R: WriteRecord>(&mut self, number: i32, inner: &R) -> Result<(), AllocError>
+        ensures { OnOk result (held self.new ≡ payload_field (unsigned_abs number) (R.bytes inner.now) ++ held self.old) }
     {
         let end = self.len();
-        record.put(self)?;
+        inner.put(self)?;
         self.put_length(number, end)?;
         Ok(())
     }
@@ -218,12 +218,12 @@ impl Backward {
     pub fn put_optional<R: WriteRecord>(
         &mut self,
         number: i32,
-        record: &Option<R>,
+        inner: &Option<R>,
     ) -> Result<(), AllocError>
-        ensures { OnOk result (held self.new ≡ record_field R.bytes (unsigned_abs number) record.now ++ held self.old) }
+        ensures { OnOk result (held self.new ≡ record_field R.bytes (unsigned_abs number) inner.now ++ held self.old) }
     {
-        if let Some(record) = record {
-            self.put_record(number, record)?;
+        if let Some(inner) = inner {
+            self.put_record(number, inner)?;
         }
         Ok(())
     }
