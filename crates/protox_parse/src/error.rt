@@ -78,6 +78,14 @@ impl ParseError {
         self.kind()?.span()
     }
 
+    /// The line and column of the first fault, both from 0 and the column in bytes, where it has a place.
+    pub fn position(&self) -> Option<(i32, i32)> {
+        match self {
+            ParseError::Memory => None,
+            ParseError::Refused(refusal) => refusal.position,
+        }
+    }
+
     /// All faults, in the order in which they stand in the source; none where memory ran out.
     ///
     /// A source that cannot be read as a tree has one fault, the first. Of a tree all faults are listed.
