@@ -85,16 +85,13 @@ fn field_merged<'p, 'b>(
     ensures shorter { IfOk result (λ found. length found.1.now ≤ length bytes.now) }
     ensures same_type { IfOk result (λ found. found.0.descriptor ≡ message.entry.descriptor) }
 {
-    let number = field.number();
     let kind = field.kind();
-    let held = fields::take(&mut message.fields, number);
+    let held = fields::take(&mut message.fields, field.number());
     let (value, rest) = match kind {
         Kind::Message(inner) => message_at(alloc, inner, held, wire, bytes, levels)?,
         _ => scalar_at(alloc, &kind, wire, bytes)?,
     };
-    if field.supports_presence() || !value.is_zero() {
-        fields::set(&mut message.fields, number, value)?;
-    }
+    fields::put(&mut message.fields, field, value)?;
     Ok((message, rest))
 }
 

@@ -3,6 +3,8 @@
 ghost use Rattle.std.specs.Prelude.{◌≡◌, length, OnErr};
 ghost use Rattle.std.specs.List.Sorted.{IsSearchInRange};
 
+use crate::value::Value;
+use reflect_link::FieldDescriptor;
 use std::alloc::AllocError;
 
 /// The place of a number, or where it would stand. The end is tried first, since the records of a message mostly ascend.
@@ -42,6 +44,24 @@ pub fn set<V: Drop>(entries: &mut Vec<(u32, V)>, number: u32, value: V) -> Resul
         Err(at) => {
             entries.insert(at, (number, value))?;
         }
+    }
+    Ok(())
+}
+
+/// Puts a field's value in its place, over what stood there. A default in a field without presence is nothing that is set.
+/// A refusal leaves the entries.
+pub fn put<'p>(
+    entries: &mut Vec<(u32, Value<'p>)>,
+    field: FieldDescriptor<'p>,
+    value: Value<'p>,
+) -> Result<(), AllocError>
+    ensures { OnErr result (entries.new.items ≡ entries.old.items) }
+{
+    let number = field.number();
+    if field.supports_presence() || !value.is_zero() {
+        set(entries, number, value)?;
+    } else {
+        take(entries, number);
     }
     Ok(())
 }

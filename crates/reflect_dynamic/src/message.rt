@@ -105,7 +105,7 @@ impl<'p> DynamicMessage<'p> {
         fields::get(self.fields.as_slice(), field.number())
     }
 
-    /// Sets the field, one of the message's type, over what it held.
+    /// Sets the field, one of the message's type, over what it held. A default in a field without presence unsets it.
     ///
     /// `InvalidType` hands field and value back where the field does not take the value; then, and for want of memory,
     /// the message is unchanged.
@@ -121,7 +121,7 @@ impl<'p> DynamicMessage<'p> {
         if !value.is_valid_for_field(&field) {
             return Err(SetFieldError::InvalidType { field, value });
         }
-        fields::set(&mut self.fields, field.number(), value)?;
+        fields::put(&mut self.fields, field, value)?;
         Ok(())
     }
 

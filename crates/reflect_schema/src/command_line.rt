@@ -21,7 +21,9 @@ fn command<'a>(alloc: Global) -> Result<Command<'a>, AllocError> {
         .value_name("ACTION")
         .required(true)
         .value_parser(["encode", "decode", "recode"].as_slice())
-        .help("encode: text to wire bytes; decode: wire bytes to text; recode: wire bytes to their one written form");
+        .help(
+            "encode: text to wire bytes; decode: wire bytes to text; recode: wire bytes to their one written form",
+        );
     let type_name = Arg::new(alloc, "type")
         .long("type")
         .value_name("NAME")

@@ -6,6 +6,7 @@ use std::io;
 use std::io::{Read, Write};
 
 /// Files by their paths.
+#[derive(Drop)]
 pub struct MemoryFiles<'a> {
     pub files: &'a [(&'a str, &'a [u8])],
 }
@@ -22,6 +23,7 @@ impl<'a> SourceFiles for MemoryFiles<'a> {
 }
 
 /// A reader that fails at once.
+#[derive(Drop)]
 pub struct BrokenReader;
 
 impl Read for BrokenReader {
@@ -31,6 +33,7 @@ impl Read for BrokenReader {
 }
 
 /// A writer that fails at once.
+#[derive(Drop)]
 pub struct BrokenWriter;
 
 impl Write for BrokenWriter {

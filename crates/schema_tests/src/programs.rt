@@ -15,13 +15,14 @@ const FILES: [(&str, &[u8]); 4] = [
     ("./latin.proto", b"// \xe9\n"),
 ];
 
-struct Ran {
+#[derive(Drop)]
+struct Outcome {
     status: u8,
     output: Vec<u8>,
     errors: Vec<u8>,
 }
 
-fn ran(alloc: Global, words: &[&str], input: &[u8]) -> Ran {
+fn ran(alloc: Global, words: &[&str], input: &[u8]) -> Outcome {
     let mut files = MemoryFiles { files: &FILES };
     let mut input = input;
     let mut output = Vec::new(alloc);
@@ -34,7 +35,7 @@ fn ran(alloc: Global, words: &[&str], input: &[u8]) -> Ran {
         &mut output,
         &mut errors,
     );
-    Ran {
+    Outcome {
         status,
         output,
         errors,

@@ -222,7 +222,10 @@ fn an_older_schema_keeps_what_it_does_not_know(rt: HostRuntime) -> Result<(), Fa
     let newer = schema_of(alloc, &[NESTED])?;
     let older = schema_of(
         alloc,
-        &[("a.proto", "syntax = \"proto3\"; package p; message M { int32 foo = 1; }")],
+        &[(
+            "a.proto",
+            "syntax = \"proto3\"; package p; message M { int32 foo = 1; }",
+        )],
     )?;
     let input = [0x1a, 0x02, 0x10, 0x42, 0x08, 0x96, 0x01];
     let passed = older.recode("p.M", &input)?;
@@ -231,9 +234,13 @@ fn an_older_schema_keeps_what_it_does_not_know(rt: HostRuntime) -> Result<(), Fa
     let printed = newer.decode("p.M", passed.as_slice())?;
     assert_eq!(rt; printed.as_str(), "foo:150,nested{bar:66}");
     // Unknown records keep their order within a number, groups among them.
-    let input = [0x22, 0x01, 0x41, 0x1b, 0x10, 0x01, 0x08, 0x02, 0x1c, 0x22, 0x00];
+    let input = [
+        0x22, 0x01, 0x41, 0x1b, 0x10, 0x01, 0x08, 0x02, 0x1c, 0x22, 0x00,
+    ];
     let passed = older.recode("p.M", &input)?;
-    let wanted = [0x1b, 0x10, 0x01, 0x08, 0x02, 0x1c, 0x22, 0x01, 0x41, 0x22, 0x00];
+    let wanted = [
+        0x1b, 0x10, 0x01, 0x08, 0x02, 0x1c, 0x22, 0x01, 0x41, 0x22, 0x00,
+    ];
     assert_eq!(rt; passed.as_slice(), wanted.as_slice());
     // A longer spelling and a default without presence have a shorter form.
     let passed = newer.recode("p.M", &[0x08, 0x96, 0x81, 0x00])?;
