@@ -99,6 +99,9 @@ impl<'a> IndexVisitor<'a> {
 
     /// What a field holds, by the definition that its type name means or else by its type.
     fn kind_of(&mut self, field: &FieldDescriptorProto) -> Option<StoredKind> {
+        if field.field_type == Some(FieldType::Group.number()) {
+            return None;
+        }
         if field.type_name.is_some() {
             return match self.next_reference()? {
                 DefinitionKind::Message(index) => Some(StoredKind::Message(index)),
