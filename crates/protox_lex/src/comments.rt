@@ -1,6 +1,6 @@
 //! The comments of a gap.
 
-ghost use Rattle.std.specs.Prelude.{◌≡◌, [], ◌∷◌, ◌++◌, None, false, true, OnOk, OnErr, MatchOption, option_map, option_to_list, map};
+ghost use Rattle.std.specs.Prelude.{◌≡◌, [], ◌∷◌, ◌++◌, None, false, true, OnOk, OnErr, MatchOption, option_map, option_to_list, map, length};
 ghost use Rattle.std.specs.String.{string_bytes};
 
 use std::alloc::{AllocError, Global};
@@ -118,6 +118,13 @@ impl Comments {
         };
         self.reset();
         (detached, leading)
+    }
+
+    /// How many blocks there are.
+    pub fn count(&self) -> usize
+        ensures { result ≡ length (blocks self.now).texts }
+    {
+        self.blocks.len()
     }
 
     /// Takes the first block.

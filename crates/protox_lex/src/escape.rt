@@ -220,3 +220,18 @@ pub(crate) fn write_contents<W: fmt::Write>(f: &mut fmt::Formatter<W>, raw: &[u8
     }
     Ok(())
 }
+
+/// Each backslash among the bytes begins an escape, as [`unescape`] reads them.
+pub fn is_escaped(raw: &[u8]) -> bool {
+    let mut at = 0;
+    while at < raw.len() {
+        if raw[at] != b'\\' {
+            at += 1;
+        } else if let Ok((_, len)) = escape(&raw[at + 1..]) {
+            at += len + 1;
+        } else {
+            return false;
+        }
+    }
+    true
+}

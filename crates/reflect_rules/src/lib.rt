@@ -1,0 +1,19 @@
+//! The rules that hold of numbers: those of fields and extensions, of enums, of defaults, of oneofs and of map entries, in
+//! files whose references are resolved.
+#![tactic(auto)]
+
+mod check;
+mod default;
+mod enums;
+mod map_entry;
+mod numbers;
+mod ranges;
+mod references;
+mod rule_visitor;
+mod types;
+mod uses;
+
+pub use check::check_rules;
+pub use default::{DefaultText, read_default};
+pub use ranges::NumberRanges;
+pub use types::Types;

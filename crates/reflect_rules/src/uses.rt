@@ -1,0 +1,204 @@
+//! Which fields have the entry of a map as their type.
+
+use crate::references::References;
+use crate::types::Types;
+use descriptor_records::{
+    DescriptorProto, EnumDescriptorProto, EnumValueDescriptorProto, FieldDescriptorProto,
+    FieldType, FileDescriptorProto, Label, MethodDescriptorProto, OneofDescriptorProto,
+    ServiceDescriptorProto,
+};
+use reflect_names::{DefinitionKind, VisitError, Visitor};
+use std::alloc::{AllocError, Global};
+use std::collections::BTreeMap;
+
+/// How the type of a map's entries is used.
+#[derive(Clone, Copy, PartialEq, Debug)]
+pub enum EntryUse {
+    /// It is the type of one repeated field of message type.
+    OneMap,
+    /// It is the type of other fields, or of several.
+    Other,
+}
+
+/// Finds how the types of maps' entries are used by the fields and extensions that it visits.
+#[derive(Drop)]
+pub struct UseVisitor<'a, T: Types> {
+    uses: BTreeMap<u32, EntryUse>,
+    references: References<'a>,
+    types: &'a T,
+}
+
+/// The use of an entry's type that a field makes alone.
+fn use_of(field: &FieldDescriptorProto) -> EntryUse {
+    let is_group = field.field_type == Some(FieldType::Group.number());
+    if field.label == Some(Label::Repeated.number()) && !is_group {
+        EntryUse::OneMap
+    } else {
+        EntryUse::Other
+    }
+}
+
+impl<'a, T: Types> UseVisitor<'a, T> {
+    /// No field was visited yet. Takes no memory.
+    pub fn new(alloc: Global, references: References<'a>, types: &'a T) -> UseVisitor<'a, T> {
+        UseVisitor {
+            uses: BTreeMap::new(alloc),
+            references,
+            types,
+        }
+    }
+
+    /// The uses, by the index of the entry's type.
+    pub fn into_uses(self) -> BTreeMap<u32, EntryUse> {
+        let UseVisitor {
+            uses,
+            references: _,
+            types: _,
+        } = self;
+        uses
+    }
+
+    fn note(&mut self, field: &FieldDescriptorProto) -> Result<(), AllocError> {
+        let Some(DefinitionKind::Message(index)) = self.references.meaning_of(&field.type_name)
+        else {
+            return Ok(());
+        };
+        if self.types.is_map_entry(index) {
+            let used = if self.uses.contains_key(&index) {
+                EntryUse::Other
+            } else {
+                use_of(field)
+            };
+            self.uses.insert(index, used)?;
+        }
+        Ok(())
+    }
+}
+
+impl<'a, T: Types> Visitor for UseVisitor<'a, T> {
+    ghost steps = { λ _ _ _. Unit {0} };
+
+    ghost kept = { λ _ _ _. Unit {0} };
+
+    ghost kept_same = { λ _ _. tt };
+
+    ghost kept_on = { λ _ _ _ _ _ _. tt };
+
+    fn visit_file(
+        &mut self,
+        _alloc: Global,
+        _path: &[i32],
+        _file: u32,
+        _descriptor: &FileDescriptorProto,
+    ) -> Result<(), VisitError> {
+        Ok(())
+    }
+
+    fn visit_message(
+        &mut self,
+        _alloc: Global,
+        _path: &[i32],
+        _full_name: &str,
+        _file: u32,
+        _parent: Option<u32>,
+        _index: u32,
+        _message: &DescriptorProto,
+    ) -> Result<(), VisitError> {
+        Ok(())
+    }
+
+    fn visit_field(
+        &mut self,
+        _alloc: Global,
+        _path: &[i32],
+        _full_name: &str,
+        _file: u32,
+        _message: u32,
+        _index: u32,
+        field: &FieldDescriptorProto,
+    ) -> Result<(), VisitError> {
+        self.note(field)?;
+        Ok(())
+    }
+
+    fn visit_oneof(
+        &mut self,
+        _alloc: Global,
+        _path: &[i32],
+        _full_name: &str,
+        _file: u32,
+        _message: u32,
+        _index: u32,
+        _oneof: &OneofDescriptorProto,
+    ) -> Result<(), VisitError> {
+        Ok(())
+    }
+
+    fn visit_enum(
+        &mut self,
+        _alloc: Global,
+        _path: &[i32],
+        _full_name: &str,
+        _file: u32,
+        _parent: Option<u32>,
+        _index: u32,
+        _enumeration: &EnumDescriptorProto,
+    ) -> Result<(), VisitError> {
+        Ok(())
+    }
+
+    fn visit_enum_value(
+        &mut self,
+        _alloc: Global,
+        _path: &[i32],
+        _full_name: &str,
+        _file: u32,
+        _enumeration: u32,
+        _index: u32,
+        _value: &EnumValueDescriptorProto,
+    ) -> Result<(), VisitError> {
+        Ok(())
+    }
+
+    fn visit_service(
+        &mut self,
+        _alloc: Global,
+        _path: &[i32],
+        _full_name: &str,
+        _file: u32,
+        _index: u32,
+        _service: &ServiceDescriptorProto,
+    ) -> Result<(), VisitError> {
+        Ok(())
+    }
+
+    fn visit_method(
+        &mut self,
+        _alloc: Global,
+        _path: &[i32],
+        _full_name: &str,
+        _file: u32,
+        _service: u32,
+        _index: u32,
+        method: &MethodDescriptorProto,
+    ) -> Result<(), VisitError> {
+        self.references.meaning_of(&method.input_type);
+        self.references.meaning_of(&method.output_type);
+        Ok(())
+    }
+
+    fn visit_extension(
+        &mut self,
+        _alloc: Global,
+        _path: &[i32],
+        _full_name: &str,
+        _file: u32,
+        _parent: Option<u32>,
+        _index: u32,
+        extension: &FieldDescriptorProto,
+    ) -> Result<(), VisitError> {
+        self.references.meaning_of(&extension.extendee);
+        self.note(extension)?;
+        Ok(())
+    }
+}
