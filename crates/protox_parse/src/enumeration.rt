@@ -32,8 +32,8 @@ fn value<'a>(alloc: Global, tokens: &mut Tokens<'a>) -> Result<EnumValue, Stop<'
 fn item<'a>(alloc: Global, tokens: &mut Tokens<'a>) -> Result<EnumItem, Stop<'a>>
     ensures { OnOk result (left tokens.new < left tokens.old) }
 {
-    if tokens.eat_sign(Sign::Semicolon).is_some() {
-        Ok(EnumItem::Empty)
+    if let Some(span) = tokens.eat_sign(Sign::Semicolon) {
+        Ok(EnumItem::Empty(span))
     } else if tokens.sees(token::OPTION) {
         Ok(EnumItem::Option(option(alloc, tokens)?))
     } else if tokens.sees(token::RESERVED) {
@@ -61,10 +61,11 @@ pub fn enumeration<'a>(alloc: Global, tokens: &mut Tokens<'a>) -> Result<Enum, S
     let start = tokens.start();
     tokens.expect(token::ENUM)?;
     let name = tokens.ident(alloc)?;
-    tokens.expect_sign(Sign::LeftBrace)?;
+    let open = tokens.expect_sign(Sign::LeftBrace)?;
     let items = items(alloc, tokens)?;
     Ok(Enum {
         name,
+        braces: tokens.span_from(open.start),
         items,
         span: tokens.span_from(start),
     })

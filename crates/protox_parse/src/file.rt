@@ -98,8 +98,8 @@ fn package<'a>(alloc: Global, tokens: &mut Tokens<'a>) -> Result<Package, Stop<'
 fn item<'a>(alloc: Global, tokens: &mut Tokens<'a>) -> Result<FileItem, Stop<'a>>
     ensures { OnOk result (left tokens.new < left tokens.old) }
 {
-    if tokens.eat_sign(Sign::Semicolon).is_some() {
-        Ok(FileItem::Empty)
+    if let Some(span) = tokens.eat_sign(Sign::Semicolon) {
+        Ok(FileItem::Empty(span))
     } else if tokens.sees(token::IMPORT) {
         Ok(FileItem::Import(import(alloc, tokens)?))
     } else if tokens.sees(token::PACKAGE) {

@@ -10,6 +10,8 @@ mod file;
 mod message;
 mod names;
 mod option;
+#[cfg(test)]
+mod place_tests;
 mod range;
 mod service;
 mod source;

@@ -12,18 +12,20 @@ use crate::range::{extensions, reserved};
 use crate::tokens::Tokens;
 use descriptor_records::Label;
 use protox_lex::{Sign, Span, token};
-use protox_tree::{Extend, Field, FieldKind, Group, Message, MessageItem, Oneof, OneofItem};
+use protox_tree::{
+    Extend, ExtendItem, Field, FieldKind, Group, Message, MessageItem, Oneof, OneofItem,
+};
 use std::alloc::Global;
 
 /// The brace that opens a level of messages and groups.
-fn open_level<'a>(tokens: &mut Tokens<'a>, levels: u8) -> Result<(), Stop<'a>>
+fn open_level<'a>(tokens: &mut Tokens<'a>, levels: u8) -> Result<Span, Stop<'a>>
     ensures { OnOk result ((0 < levels) × (left tokens.new < left tokens.old)) }
 {
     let span = tokens.expect_sign(Sign::LeftBrace)?;
     if levels == 0 {
         return Err(Stop::Refused(Fault::TooDeep { span }));
     }
-    Ok(())
+    Ok(span)
 }
 
 /// A message from its keyword on, with so many levels of messages and groups at most.
@@ -34,10 +36,11 @@ pub fn message<'a>(alloc: Global, tokens: &mut Tokens<'a>, levels: u8) -> Result
     let start = tokens.start();
     tokens.expect(token::MESSAGE)?;
     let name = tokens.ident(alloc)?;
-    open_level(tokens, levels)?;
+    let open = open_level(tokens, levels)?;
     let items = items(alloc, tokens, levels - 1)?;
     Ok(Message {
         name,
+        braces: tokens.span_from(open.start),
         items,
         span: tokens.span_from(start),
     })
@@ -65,8 +68,8 @@ fn items<'a>(
 fn item<'a>(alloc: Global, tokens: &mut Tokens<'a>, levels: u8) -> Result<MessageItem, Stop<'a>>
     ensures { OnOk result (left tokens.new < left tokens.old) }
 {
-    if tokens.eat_sign(Sign::Semicolon).is_some() {
-        Ok(MessageItem::Empty)
+    if let Some(span) = tokens.eat_sign(Sign::Semicolon) {
+        Ok(MessageItem::Empty(span))
     } else if tokens.sees(token::MESSAGE) {
         Ok(MessageItem::Message(message(alloc, tokens, levels)?))
     } else if tokens.sees(token::ENUM) {
@@ -131,11 +134,16 @@ fn group<'a>(
     tokens.expect_sign(Sign::Equals)?;
     let number = int(tokens)?;
     let options = options(alloc, tokens)?;
-    open_level(tokens, levels)?;
+    let open = open_level(tokens, levels)?;
     let items = items(alloc, tokens, levels - 1)?;
+    let braces = tokens.span_from(open.start);
     Ok(Field {
         label,
-        kind: FieldKind::Group(Group { word, items }),
+        kind: FieldKind::Group(Group {
+            word,
+            braces,
+            items,
+        }),
         name,
         number,
         options,
@@ -147,8 +155,8 @@ fn group<'a>(
 fn oneof_item<'a>(alloc: Global, tokens: &mut Tokens<'a>, levels: u8) -> Result<OneofItem, Stop<'a>>
     ensures { OnOk result (left tokens.new < left tokens.old) }
 {
-    if tokens.eat_sign(Sign::Semicolon).is_some() {
-        Ok(OneofItem::Empty)
+    if let Some(span) = tokens.eat_sign(Sign::Semicolon) {
+        Ok(OneofItem::Empty(span))
     } else if tokens.sees(token::OPTION) {
         Ok(OneofItem::Option(option(alloc, tokens)?))
     } else {
@@ -164,7 +172,7 @@ fn oneof<'a>(alloc: Global, tokens: &mut Tokens<'a>, levels: u8) -> Result<Oneof
     let start = tokens.start();
     tokens.expect(token::ONEOF)?;
     let name = tokens.ident(alloc)?;
-    tokens.expect_sign(Sign::LeftBrace)?;
+    let open = tokens.expect_sign(Sign::LeftBrace)?;
     let mut items = Vec::new(alloc);
     'members: while tokens.eat_sign(Sign::RightBrace).is_none() {
         let item = oneof_item(alloc, tokens, levels)?;
@@ -172,6 +180,7 @@ fn oneof<'a>(alloc: Global, tokens: &mut Tokens<'a>, levels: u8) -> Result<Oneof
     }
     Ok(Oneof {
         name,
+        braces: tokens.span_from(open.start),
         items,
         span: tokens.span_from(start),
     })
@@ -182,13 +191,13 @@ fn extend_item<'a>(
     alloc: Global,
     tokens: &mut Tokens<'a>,
     levels: u8,
-) -> Result<Option<Field>, Stop<'a>>
+) -> Result<ExtendItem, Stop<'a>>
     ensures { OnOk result (left tokens.new < left tokens.old) }
 {
-    if tokens.eat_sign(Sign::Semicolon).is_some() {
-        Ok(None)
+    if let Some(span) = tokens.eat_sign(Sign::Semicolon) {
+        Ok(ExtendItem::Empty(span))
     } else {
-        Ok(Some(field(alloc, tokens, levels)?))
+        Ok(ExtendItem::Field(field(alloc, tokens, levels)?))
     }
 }
 
@@ -200,7 +209,7 @@ pub fn extend<'a>(alloc: Global, tokens: &mut Tokens<'a>, levels: u8) -> Result<
     let start = tokens.start();
     tokens.expect(token::EXTEND)?;
     let extendee = type_name(alloc, tokens)?;
-    tokens.expect_sign(Sign::LeftBrace)?;
+    let open = tokens.expect_sign(Sign::LeftBrace)?;
     let mut items = Vec::new(alloc);
     'extensions: while tokens.eat_sign(Sign::RightBrace).is_none() {
         let item = extend_item(alloc, tokens, levels)?;
@@ -208,6 +217,7 @@ pub fn extend<'a>(alloc: Global, tokens: &mut Tokens<'a>, levels: u8) -> Result<
     }
     Ok(Extend {
         extendee,
+        braces: tokens.span_from(open.start),
         items,
         span: tokens.span_from(start),
     })

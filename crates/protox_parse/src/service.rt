@@ -8,7 +8,9 @@ use crate::names::type_name;
 use crate::option::option;
 use crate::tokens::Tokens;
 use protox_lex::{Sign, token};
-use protox_tree::{ExpectedToken, Method, MethodItem, MethodType, Service, ServiceItem};
+use protox_tree::{
+    ExpectedToken, Method, MethodBody, MethodItem, MethodType, Service, ServiceItem,
+};
 use std::alloc::Global;
 
 /// A type in parentheses. The word `stream` that comes first in them is always the keyword.
@@ -25,30 +27,28 @@ fn method_type<'a>(alloc: Global, tokens: &mut Tokens<'a>) -> Result<MethodType,
 fn method_item<'a>(alloc: Global, tokens: &mut Tokens<'a>) -> Result<MethodItem, Stop<'a>>
     ensures { OnOk result (left tokens.new < left tokens.old) }
 {
-    if tokens.eat_sign(Sign::Semicolon).is_some() {
-        Ok(MethodItem::Empty)
+    if let Some(span) = tokens.eat_sign(Sign::Semicolon) {
+        Ok(MethodItem::Empty(span))
     } else {
         Ok(MethodItem::Option(option(alloc, tokens)?))
     }
 }
 
 /// What stands in the braces of a method, or the semicolon in their place.
-fn method_items<'a>(
-    alloc: Global,
-    tokens: &mut Tokens<'a>,
-) -> Result<Option<Vec<MethodItem>>, Stop<'a>>
+fn method_body<'a>(alloc: Global, tokens: &mut Tokens<'a>) -> Result<Option<MethodBody>, Stop<'a>>
     ensures { OnOk result (left tokens.new < left tokens.old) }
 {
-    if tokens.eat_sign(Sign::LeftBrace).is_none() {
+    let Some(open) = tokens.eat_sign(Sign::LeftBrace) else {
         tokens.expect_sign(Sign::Semicolon)?;
         return Ok(None);
-    }
+    };
     let mut items = Vec::new(alloc);
     'items: while tokens.eat_sign(Sign::RightBrace).is_none() {
         let item = method_item(alloc, tokens)?;
         items.push(item)?;
     }
-    Ok(Some(items))
+    let braces = tokens.span_from(open.start);
+    Ok(Some(MethodBody { braces, items }))
 }
 
 fn method<'a>(alloc: Global, tokens: &mut Tokens<'a>) -> Result<Method, Stop<'a>>
@@ -60,12 +60,12 @@ fn method<'a>(alloc: Global, tokens: &mut Tokens<'a>) -> Result<Method, Stop<'a>
     let input = method_type(alloc, tokens)?;
     tokens.expect(token::RETURNS)?;
     let output = method_type(alloc, tokens)?;
-    let items = method_items(alloc, tokens)?;
+    let body = method_body(alloc, tokens)?;
     Ok(Method {
         name,
         input,
         output,
-        items,
+        body,
         span: tokens.span_from(start),
     })
 }
@@ -73,8 +73,8 @@ fn method<'a>(alloc: Global, tokens: &mut Tokens<'a>) -> Result<Method, Stop<'a>
 fn item<'a>(alloc: Global, tokens: &mut Tokens<'a>) -> Result<ServiceItem, Stop<'a>>
     ensures { OnOk result (left tokens.new < left tokens.old) }
 {
-    if tokens.eat_sign(Sign::Semicolon).is_some() {
-        Ok(ServiceItem::Empty)
+    if let Some(span) = tokens.eat_sign(Sign::Semicolon) {
+        Ok(ServiceItem::Empty(span))
     } else if tokens.sees(token::OPTION) {
         Ok(ServiceItem::Option(option(alloc, tokens)?))
     } else if tokens.sees(token::RPC) {
@@ -102,10 +102,11 @@ pub fn service<'a>(alloc: Global, tokens: &mut Tokens<'a>) -> Result<Service, St
     let start = tokens.start();
     tokens.expect(token::SERVICE)?;
     let name = tokens.ident(alloc)?;
-    tokens.expect_sign(Sign::LeftBrace)?;
+    let open = tokens.expect_sign(Sign::LeftBrace)?;
     let items = items(alloc, tokens)?;
     Ok(Service {
         name,
+        braces: tokens.span_from(open.start),
         items,
         span: tokens.span_from(start),
     })

@@ -8,6 +8,8 @@ use protox_lex::{Int, Span};
 #[derive(Debug, Drop)]
 pub struct Enum {
     pub name: Ident,
+    /// From the opening brace to the closing one.
+    pub braces: Span,
     pub items: Vec<EnumItem>,
     pub span: Span,
 }
@@ -17,7 +19,8 @@ pub enum EnumItem {
     Value(EnumValue),
     Option(OptionStatement),
     Reserved(Reserved),
-    Empty,
+    /// A semicolon alone.
+    Empty(Span),
 }
 
 #[derive(Debug, Drop)]

@@ -45,7 +45,8 @@ pub enum FileItem {
     Enum(Enum),
     Service(Service),
     Extend(Extend),
-    Empty,
+    /// A semicolon alone.
+    Empty(Span),
 }
 
 #[derive(Debug, Drop)]

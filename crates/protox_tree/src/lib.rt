@@ -1,8 +1,6 @@
-//! The syntax tree of a protobuf source, the checks of a whole tree, and the record that a tree describes.
+//! The syntax tree of a protobuf source, and what can be wrong with one.
 #![tactic(auto)]
 
-mod build;
-mod check;
 mod enumeration;
 mod error;
 mod error_text;
@@ -15,15 +13,15 @@ mod service;
 mod text;
 mod types;
 
-pub use build::file_record;
-pub use check::check_file;
 pub use enumeration::{Enum, EnumItem, EnumValue};
 pub use error::{ExpectedToken, ParseErrorKind};
 pub use file::{File, FileItem, Import, ImportKind, Package, SyntaxStatement};
 pub use ident::{FullIdent, Ident, TypeName};
-pub use message::{Extend, Field, FieldKind, Group, Map, Message, MessageItem, Oneof, OneofItem};
+pub use message::{
+    Extend, ExtendItem, Field, FieldKind, Group, Map, Message, MessageItem, Oneof, OneofItem,
+};
 pub use option::{Aggregate, OptionBody, OptionList, OptionNamePart, OptionStatement, OptionValue};
 pub use range::{Extensions, RangeEnd, Reserved, ReservedItems, ReservedRange};
-pub use service::{Method, MethodItem, MethodType, Service, ServiceItem};
+pub use service::{Method, MethodBody, MethodItem, MethodType, Service, ServiceItem};
 pub use text::Strings;
 pub use types::{Syntax, Ty};

@@ -12,6 +12,8 @@ use protox_lex::{Int, Span};
 #[cycle(message)]
 pub struct Message {
     pub name: Ident,
+    /// From the opening brace to the closing one.
+    pub braces: Span,
     pub items: Vec<MessageItem>,
     pub span: Span,
 }
@@ -27,7 +29,8 @@ pub enum MessageItem {
     Extensions(Extensions),
     Reserved(Reserved),
     Option(OptionStatement),
-    Empty,
+    /// A semicolon alone.
+    Empty(Span),
 }
 
 /// A field, a group or a map.
@@ -55,6 +58,8 @@ pub enum FieldKind {
 #[cycle(message)]
 pub struct Group {
     pub word: Span,
+    /// From the opening brace to the closing one.
+    pub braces: Span,
     pub items: Vec<MessageItem>,
 }
 
@@ -71,6 +76,8 @@ pub struct Map {
 #[cycle(message)]
 pub struct Oneof {
     pub name: Ident,
+    /// From the opening brace to the closing one.
+    pub braces: Span,
     pub items: Vec<OneofItem>,
     pub span: Span,
 }
@@ -80,7 +87,8 @@ pub struct Oneof {
 pub enum OneofItem {
     Field(Field),
     Option(OptionStatement),
-    Empty,
+    /// A semicolon alone.
+    Empty(Span),
 }
 
 /// Fields that another type is extended by.
@@ -88,7 +96,16 @@ pub enum OneofItem {
 #[cycle(message)]
 pub struct Extend {
     pub extendee: TypeName,
-    /// `None` is an empty statement.
-    pub items: Vec<Option<Field>>,
+    /// From the opening brace to the closing one.
+    pub braces: Span,
+    pub items: Vec<ExtendItem>,
     pub span: Span,
+}
+
+#[derive(Debug, Drop)]
+#[cycle(message)]
+pub enum ExtendItem {
+    Field(Field),
+    /// A semicolon alone.
+    Empty(Span),
 }

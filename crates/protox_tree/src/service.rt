@@ -7,6 +7,8 @@ use protox_lex::Span;
 #[derive(Debug, Drop)]
 pub struct Service {
     pub name: Ident,
+    /// From the opening brace to the closing one.
+    pub braces: Span,
     pub items: Vec<ServiceItem>,
     pub span: Span,
 }
@@ -15,7 +17,8 @@ pub struct Service {
 pub enum ServiceItem {
     Method(Method),
     Option(OptionStatement),
-    Empty,
+    /// A semicolon alone.
+    Empty(Span),
 }
 
 #[derive(Debug, Drop)]
@@ -24,8 +27,16 @@ pub struct Method {
     pub input: MethodType,
     pub output: MethodType,
     /// What stands in braces, if there are any.
-    pub items: Option<Vec<MethodItem>>,
+    pub body: Option<MethodBody>,
     pub span: Span,
+}
+
+/// What stands in the braces of a method.
+#[derive(Debug, Drop)]
+pub struct MethodBody {
+    /// From the opening brace to the closing one.
+    pub braces: Span,
+    pub items: Vec<MethodItem>,
 }
 
 /// What a method takes or gives.
@@ -39,5 +50,6 @@ pub struct MethodType {
 #[derive(Debug, Drop)]
 pub enum MethodItem {
     Option(OptionStatement),
-    Empty,
+    /// A semicolon alone.
+    Empty(Span),
 }

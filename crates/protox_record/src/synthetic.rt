@@ -1,6 +1,6 @@
 //! The oneofs of proto3 fields that are declared `optional`.
 
-use crate::build::index;
+use crate::index;
 use descriptor_records::{DescriptorProto, FieldDescriptorProto, OneofDescriptorProto};
 use std::alloc::{AllocError, Global};
 use std::collections::BTreeSet;

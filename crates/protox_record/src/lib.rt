@@ -1,4 +1,5 @@
-//! The record that a tree describes.
+//! The record that a syntax tree describes.
+#![tactic(auto)]
 
 mod declaration;
 mod field;
@@ -6,13 +7,11 @@ mod message;
 mod option;
 mod synthetic;
 
-use crate::build::declaration::{enum_record, service_record};
-use crate::build::message::{extensions, message_record};
-use crate::build::option::add_option;
-use crate::file::{File, FileItem, Import, ImportKind};
-use crate::text::Strings;
-use crate::types::Syntax;
+use crate::declaration::{enum_record, service_record};
+use crate::message::{extensions, message_record};
+use crate::option::add_option;
 use descriptor_records::FileDescriptorProto;
+use protox_tree::{File, FileItem, Import, ImportKind, Strings, Syntax};
 use std::alloc::{AllocError, Global};
 
 /// The record of a file of this name, without locations. Refused only for want of memory.
@@ -57,7 +56,7 @@ fn add_item(
             &mut record.extension,
             &mut record.message_type,
         )?,
-        FileItem::Empty => {}
+        FileItem::Empty(_) => {}
     }
     Ok(())
 }

@@ -1,12 +1,10 @@
 //! The records of fields, and of the types of map entries.
 
-use crate::build::option::add_option;
-use crate::build::text;
-use crate::message::{Field, FieldKind, Map};
-use crate::option::{OptionBody, OptionValue};
-use crate::types::Ty;
+use crate::option::add_option;
+use crate::text;
 use descriptor_records::{DescriptorProto, FieldDescriptorProto, FieldType, Label, Options};
 use protox_lex::Escaped;
+use protox_tree::{Field, FieldKind, Map, OptionBody, OptionValue, Ty};
 use std::alloc::{AllocError, Global};
 
 /// The record of a field, without its oneof.

@@ -1,7 +1,7 @@
 //! The records of options.
 
-use crate::option::{OptionBody, OptionNamePart, OptionValue};
 use descriptor_records::{DoubleValue, NamePart, Options, UninterpretedOption};
+use protox_tree::{OptionBody, OptionNamePart, OptionValue};
 use std::alloc::{AllocError, Global};
 
 /// Adds an option to those of a declaration, which begin with the first one.

@@ -1,13 +1,14 @@
 //! The records of enums and services, and of ranges.
 
-use crate::build::option::add_option;
-use crate::build::text;
-use crate::enumeration::{Enum, EnumItem, EnumValue};
-use crate::range::{RangeEnd, Reserved, ReservedItems, ReservedRange};
-use crate::service::{Method, MethodItem, Service, ServiceItem};
+use crate::option::add_option;
+use crate::text;
 use descriptor_records::{
     EnumDescriptorProto, EnumReservedRange, EnumValueDescriptorProto, MethodDescriptorProto,
     ServiceDescriptorProto,
+};
+use protox_tree::{
+    Enum, EnumItem, EnumValue, Method, MethodItem, RangeEnd, Reserved, ReservedItems,
+    ReservedRange, Service, ServiceItem,
 };
 use std::alloc::{AllocError, Global};
 
@@ -38,7 +39,7 @@ fn add_enum_item(
         EnumItem::Value(value) => record.value.push(value_record(alloc, value)?)?,
         EnumItem::Option(option) => add_option(alloc, &option.body, &mut record.options)?,
         EnumItem::Reserved(reserved) => add_reserved(alloc, reserved, record)?,
-        EnumItem::Empty => {}
+        EnumItem::Empty(_) => {}
     }
     Ok(())
 }
@@ -94,7 +95,7 @@ pub fn service_record(
         match item {
             ServiceItem::Method(method) => record.method.push(method_record(alloc, method)?)?,
             ServiceItem::Option(option) => add_option(alloc, &option.body, &mut record.options)?,
-            ServiceItem::Empty => {}
+            ServiceItem::Empty(_) => {}
         }
     }
     Ok(record)
@@ -102,8 +103,8 @@ pub fn service_record(
 
 fn method_record(alloc: Global, method: &Method) -> Result<MethodDescriptorProto, AllocError> {
     let mut options = None;
-    if let Some(items) = &method.items {
-        for item in items {
+    if let Some(body) = &method.body {
+        for item in &body.items {
             if let MethodItem::Option(option) = item {
                 add_option(alloc, &option.body, &mut options)?;
             }

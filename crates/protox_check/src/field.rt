@@ -1,13 +1,10 @@
 //! The checks of one field.
 
-use crate::check::check_text;
-use crate::check::default::suits;
-use crate::error::ParseErrorKind;
-use crate::message::{Field, FieldKind};
-use crate::option::{OptionBody, OptionValue};
-use crate::types::{Syntax, Ty};
+use crate::check_text;
+use crate::default::suits;
 use descriptor_records::{FieldType, Label};
 use protox_lex::{Int, Span};
+use protox_tree::{Field, FieldKind, OptionBody, OptionValue, ParseErrorKind, Syntax, Ty};
 use std::alloc::{AllocError, Global};
 
 const MAX_FIELD_NUMBER: i32 = 536870911;

@@ -1,6 +1,6 @@
 use Rattle.std.proofs.Common.{◌≤◌}
 use Rattle.protox_parse.specs.Left.{left}
-use Rattle.protox_parse.proofs.service.method_items.Given as goal
+use Rattle.protox_parse.proofs.service.method_body.Given as goal
 
 abbrev pub invariant-items : goal.invariant-items
 invariant-items l = left l.tokens ≤ left l.initial.tokens

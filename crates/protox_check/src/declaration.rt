@@ -1,10 +1,11 @@
 //! The checks of messages and of what stands in them.
 
-use crate::check::field::{Holder, check_field_head, check_field_options};
-use crate::check::range::{check_enum, check_extensions, check_reserved};
-use crate::error::ParseErrorKind;
-use crate::message::{Extend, Field, FieldKind, Message, MessageItem, Oneof, OneofItem};
-use crate::types::Syntax;
+use crate::field::{Holder, check_field_head, check_field_options};
+use crate::range::{check_enum, check_extensions, check_reserved};
+use protox_tree::{
+    Extend, ExtendItem, Field, FieldKind, Message, MessageItem, Oneof, OneofItem, ParseErrorKind,
+    Syntax,
+};
 use std::alloc::{AllocError, Global};
 
 pub fn check_message(
@@ -44,7 +45,7 @@ fn check_message_item(
         MessageItem::Extend(extend) => check_extend(alloc, syntax, extend, faults),
         MessageItem::Extensions(extensions) => check_extensions(syntax, extensions, faults),
         MessageItem::Reserved(reserved) => check_reserved(alloc, reserved, faults),
-        MessageItem::Option(_) | MessageItem::Empty => Ok(()),
+        MessageItem::Option(_) | MessageItem::Empty(_) => Ok(()),
     }
 }
 
@@ -99,7 +100,7 @@ pub fn check_extend(
     faults: &mut Vec<ParseErrorKind>,
 ) -> Result<(), AllocError> {
     for item in &extend.items {
-        if let Some(field) = item {
+        if let ExtendItem::Field(field) = item {
             check_field(alloc, syntax, Holder::Extend, field, faults)?;
         }
     }

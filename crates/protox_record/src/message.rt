@@ -1,17 +1,17 @@
 //! The records of messages.
 
-use crate::build::declaration::{enum_record, last};
-use crate::build::field::{entry_record, field_record};
-use crate::build::option::add_option;
-use crate::build::synthetic::add_synthetic_oneofs;
-use crate::build::{index, text};
-use crate::message::{Extend, Field, FieldKind, Message, MessageItem, Oneof, OneofItem};
-use crate::option::OptionList;
-use crate::range::{Extensions, Reserved, ReservedItems, ReservedRange};
-use crate::types::Syntax;
+use crate::declaration::{enum_record, last};
+use crate::field::{entry_record, field_record};
+use crate::option::add_option;
+use crate::synthetic::add_synthetic_oneofs;
+use crate::{index, text};
 use descriptor_records::{
     DescriptorProto, ExtensionRange, FieldDescriptorProto, Label, OneofDescriptorProto, Options,
     ReservedRange as ReservedRangeRecord,
+};
+use protox_tree::{
+    Extend, ExtendItem, Extensions, Field, FieldKind, Message, MessageItem, Oneof, OneofItem,
+    OptionList, Reserved, ReservedItems, ReservedRange, Syntax,
 };
 use std::alloc::{AllocError, Global};
 
@@ -72,7 +72,7 @@ fn add_item(
         MessageItem::Extensions(extensions) => add_ranges(alloc, extensions, record),
         MessageItem::Reserved(reserved) => add_reserved(alloc, reserved, record),
         MessageItem::Option(option) => add_option(alloc, &option.body, &mut record.options),
-        MessageItem::Empty => Ok(()),
+        MessageItem::Empty(_) => Ok(()),
     }
 }
 
@@ -155,7 +155,7 @@ pub fn extensions(
     types: &mut Vec<DescriptorProto>,
 ) -> Result<(), AllocError> {
     for item in &extend.items {
-        if let Some(field) = item {
+        if let ExtendItem::Field(field) = item {
             let mut record = field_record(alloc, field)?;
             record.extendee = Some(extend.extendee.to_text(alloc)?);
             records.push(record)?;

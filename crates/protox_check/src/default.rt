@@ -1,9 +1,7 @@
 //! Which defaults a field may have.
 
-use crate::message::{Field, FieldKind};
-use crate::option::OptionValue;
-use crate::types::Ty;
 use descriptor_records::{FieldType, Label};
+use protox_tree::{Field, FieldKind, OptionValue, Ty};
 
 /// The form of a default suits the field.
 pub fn suits(field: &Field, value: &OptionValue) -> bool {

@@ -1,11 +1,11 @@
 //! The checks of ranges, and of enums.
 
-use crate::check::check_text;
-use crate::enumeration::{Enum, EnumItem};
-use crate::error::ParseErrorKind;
-use crate::range::{Extensions, RangeEnd, Reserved, ReservedItems, ReservedRange};
-use crate::types::Syntax;
+use crate::check_text;
 use protox_lex::Int;
+use protox_tree::{
+    Enum, EnumItem, Extensions, ParseErrorKind, RangeEnd, Reserved, ReservedItems, ReservedRange,
+    Syntax,
+};
 use std::alloc::{AllocError, Global};
 
 /// The numbers that a bound may be.
@@ -134,6 +134,6 @@ fn check_enum_item(
         EnumItem::Reserved(reserved) => {
             check_items(alloc, Numbers::EnumValues, &reserved.items, faults)
         }
-        EnumItem::Option(_) | EnumItem::Empty => Ok(()),
+        EnumItem::Option(_) | EnumItem::Empty(_) => Ok(()),
     }
 }

@@ -1,17 +1,15 @@
-//! The checks of a whole tree.
+//! What is wrong with a syntax tree as a whole.
+#![tactic(auto)]
 
 mod declaration;
 mod default;
 mod field;
 mod range;
 
-use crate::check::declaration::{check_extend, check_message};
-use crate::check::range::check_enum;
-use crate::error::ParseErrorKind;
-use crate::file::{File, FileItem};
-use crate::text::Strings;
-use crate::types::Syntax;
+use crate::declaration::{check_extend, check_message};
+use crate::range::check_enum;
 use protox_lex::Span;
+use protox_tree::{File, FileItem, ParseErrorKind, Strings, Syntax};
 use std::alloc::{AllocError, Global};
 
 /// The faults of a tree, in the order in which they stand in the source. Refused only for want of memory.
@@ -53,7 +51,7 @@ fn check_item(
         FileItem::Message(message) => check_message(alloc, syntax, message, faults),
         FileItem::Enum(enumeration) => check_enum(alloc, enumeration, faults),
         FileItem::Extend(extend) => check_extend(alloc, syntax, extend, faults),
-        FileItem::Package(_) | FileItem::Option(_) | FileItem::Service(_) | FileItem::Empty => {
+        FileItem::Package(_) | FileItem::Option(_) | FileItem::Service(_) | FileItem::Empty(_) => {
             Ok(())
         }
     }
