@@ -1,4 +1,5 @@
+pub mod Back
 pub mod Grown
-pub mod KindPlaces
 pub mod Places
 pub mod Pooled
+pub mod Within

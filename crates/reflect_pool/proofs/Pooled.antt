@@ -1,47 +1,106 @@
--- A pool stays one as message types are put behind the others.
+-- A pool stays one as entries are put behind the others.
 use Rattle.std.proofs.Common.{◌≡◌, ℕ, ◌<◌, ◌≤◌, ◌+◌, ◌^◌, List, [], ◌∷◌, ◌++◌, map, length, arith, sym, ap, ◌∙◌, subst}
 use Rattle.std.proofs.Math.ListN.{length-map}
 use Rattle.std.proofs.lemmas.List.{length-append}
 use Rattle.std.specs.List.{AllByRecursion}
-use Rattle.reflect_pool.specs.Types.{MessageType, FieldType, EnumType, KindType, message, enumeration, ArePooled, IsWithin, FieldsWithin}
-use Rattle.reflect_pool.specs.Views.{message_of}
-use Rattle.reflect_pool.specs.declared.stored.StoredMessage.{StoredMessage}
+use Rattle.reflect_index.specs.Types.{KindType, MessageType, FieldType, EnumType, ExtensionType, MethodType, ServiceType, PoolType, message, enumeration, ArePooled, IsWithin, MessageWithin, EnumWithin, ExtensionWithin, MethodWithin, ServiceWithin, counts_of}
+use Rattle.reflect_index.specs.Views.{file_of, message_of, enum_of, extension_of, service_of, pool_of}
+use Rattle.reflect_index.specs.Growth.{Appended, Together}
+use Rattle.reflect_index.specs.declared.tables.Counts.{Counts}
+use Rattle.reflect_index.specs.declared.tables.Tables.{Tables}
 use Rattle.reflect_pool.proofs.Grown.{all_behind, all_through}
 
-within_more : (a b e : ℕ) → a ≤ b → (k : KindType) → IsWithin a e k → IsWithin b e k
-within_more a b e le (message i) h = omega (arith, h)
-within_more a b e le (enumeration i) h = h
-within_more a b e le _ h = tt
+-- there is at least as much of what entries name
+pub record IsMore (a b : Counts) : Type 0 where
+  pub files : a.files ≤ b.files
+  pub messages : a.messages ≤ b.messages
+  pub enums : a.enums ≤ b.enums
 
-fields_more : (a b e : ℕ) → a ≤ b → (m : MessageType) → FieldsWithin a e m → FieldsWithin b e m
-fields_more a b e le m h = all_through (λ (f : FieldType). IsWithin a e f.kind) (λ (f : FieldType). IsWithin b e f.kind) m.fields (λ f k. within_more a b e le f.kind k) h
+within_more : (a b : Counts) → IsMore a b → (k : KindType) → IsWithin a k → IsWithin b k
+within_more a b le (message i) h = let more = le.messages in omega (arith, h, more)
+within_more a b le (enumeration i) h = let more = le.enums in omega (arith, h, more)
+within_more a b le _ h = tt
 
-map-append : {X Y : Type 0} (f : X → Y) (xs ys : List X) → map f (xs ++ ys) ≡ map f xs ++ map f ys
+message_more : (a b : Counts) → IsMore a b → (m : MessageType) → MessageWithin a m → MessageWithin b m
+message_more a b le m h = record {
+  file = let was = h.file in let more = le.files in omega (arith, was, more);
+  fields = all_through (λ (f : FieldType). IsWithin a f.kind) (λ (f : FieldType). IsWithin b f.kind) m.fields (λ f k. within_more a b le f.kind k) h.fields;
+  parts = h.parts;
+  few = h.few;
+}
+
+enum_more : (a b : Counts) → IsMore a b → (e : EnumType) → EnumWithin a e → EnumWithin b e
+enum_more a b le e h = record {
+  file = let was = h.file in let more = le.files in omega (arith, was, more);
+  some = h.some;
+}
+
+extension_more : (a b : Counts) → IsMore a b → (x : ExtensionType) → ExtensionWithin a x → ExtensionWithin b x
+extension_more a b le x h = record {
+  file = let was = h.file in let more = le.files in omega (arith, was, more);
+  extendee = let was = h.extendee in let more = le.messages in omega (arith, was, more);
+  kind = within_more a b le x.field.kind h.kind;
+}
+
+method_more : (a b : Counts) → IsMore a b → (m : MethodType) → MethodWithin a m → MethodWithin b m
+method_more a b le m h = let input = h.0 in let output = h.1 in let more = le.messages in (omega (arith, input, more), omega (arith, output, more))
+
+service_more : (a b : Counts) → IsMore a b → (s : ServiceType) → ServiceWithin a s → ServiceWithin b s
+service_more a b le s h = record {
+  file = let was = h.file in let more = le.files in omega (arith, was, more);
+  methods = all_through (MethodWithin a) (MethodWithin b) s.methods (method_more a b le) h.methods;
+}
+
+pub map-append : {X Y : Type 0} (f : X → Y) (xs ys : List X) → map f (xs ++ ys) ≡ map f xs ++ map f ys
 map-append f [] ys = λ _. map f ys
 map-append f (x ∷ xs) ys = ap (λ zs. f x ∷ zs) (map-append f xs ys)
 
-pub pooled_more : (olds mores news : List StoredMessage) (es : List EnumType) (total enums : ℕ) → news ≡ olds ++ mores
-    → ArePooled (map message_of olds) es → total ≡ length olds + length mores → total < 2 ^ 31 → enums ≡ length es
-    → AllByRecursion (FieldsWithin total enums) (map message_of mores)
-    → AllByRecursion (λ m. length m.fields < 2 ^ 31) (map message_of mores)
-    → ArePooled (map message_of news) es
-pooled_more olds mores news es total enums e h is small same within few =
-    let joined : map message_of news ≡ map message_of olds ++ map message_of mores = ap (map message_of) e ∙ map-append message_of olds mores in
-    let old_len : length (map message_of olds) ≡ length olds = length-map olds message_of in
-    let long : length (map message_of news) ≡ total = length-map news message_of ∙ ap length e ∙ length-append olds mores ∙ sym is in
-    let fits : length (map message_of olds) ≤ total = omega (arith, old_len, is) in
-    let old_within : AllByRecursion (FieldsWithin total (length es)) (map message_of olds) =
-    all_through (FieldsWithin (length (map message_of olds)) (length es)) (FieldsWithin total (length es)) (map message_of olds)
-    (λ m k. fields_more (length (map message_of olds)) total (length es) fits m k) h.closed in
-    let new_within : AllByRecursion (FieldsWithin total (length es)) (map message_of mores) =
-    subst (λ n. AllByRecursion (FieldsWithin total n) (map message_of mores)) same within in
-    let all_within : AllByRecursion (FieldsWithin total (length es)) (map message_of news) =
-    subst (λ ms. AllByRecursion (FieldsWithin total (length es)) ms) (sym joined) (all_behind _ (map message_of olds) (map message_of mores) old_within new_within) in
-    let all_small : AllByRecursion (λ (m : MessageType). length m.fields < 2 ^ 31) (map message_of news) =
-    subst (λ ms. AllByRecursion (λ (m : MessageType). length m.fields < 2 ^ 31) ms) (sym joined) (all_behind _ (map message_of olds) (map message_of mores) h.small few) in
+-- how many views there are of a list and another behind
+long : {X Y : Type 0} (f : X → Y) (olds mores news : List X) (total : ℕ) → news ≡ olds ++ mores → total ≡ length olds + length mores → length (map f news) ≡ total
+long f olds mores news total e is = length-map news f ∙ ap length e ∙ length-append olds mores ∙ sym is
+
+fits : {X Y : Type 0} (f : X → Y) (olds mores : List X) (total : ℕ) → total ≡ length olds + length mores → length (map f olds) ≤ total
+fits f olds mores total is = let same : length (map f olds) ≡ length olds = length-map olds f in omega (arith, same, is)
+
+-- a fact of the old entries and of the further ones holds of all
+joined : {X Y : Type 0} (f : X → Y) (P Q : Y → Type 0) (olds mores news : List X) → news ≡ olds ++ mores → ((y : Y) → P y → Q y)
+    → AllByRecursion P (map f olds) → AllByRecursion Q (map f mores) → AllByRecursion Q (map f news)
+joined f P Q olds mores news e step old more =
+    let split : map f news ≡ map f olds ++ map f mores = ap (map f) e ∙ map-append f olds mores in
+    subst (λ ys. AllByRecursion Q ys) (sym split) (all_behind Q (map f olds) (map f mores) (all_through P Q (map f olds) step old) more)
+
+pub record AreWithin (c : Counts) (t : Tables) : Type 0 where
+  pub messages : AllByRecursion (MessageWithin c) (map message_of t.messages.items)
+  pub enums : AllByRecursion (EnumWithin c) (map enum_of t.enums.items)
+  pub extensions : AllByRecursion (ExtensionWithin c) (map extension_of t.extensions.items)
+  pub services : AllByRecursion (ServiceWithin c) (map service_of t.services.items)
+
+pub counted : (old more new : Tables) (c : Counts) → Appended old more new → Together old more c → counts_of (pool_of new) ≡ c
+counted old more new c e t =
+    let files : length (map file_of new.files.items) ≡ c.files = long file_of old.files.items more.files.items new.files.items c.files e.files t.files in
+    let messages : length (map message_of new.messages.items) ≡ c.messages = long message_of old.messages.items more.messages.items new.messages.items c.messages e.messages t.messages in
+    let enums : length (map enum_of new.enums.items) ≡ c.enums = long enum_of old.enums.items more.enums.items new.enums.items c.enums e.enums t.enums in
+    let extensions : length (map extension_of new.extensions.items) ≡ c.extensions = long extension_of old.extensions.items more.extensions.items new.extensions.items c.extensions e.extensions t.extensions in
+    let services : length (map service_of new.services.items) ≡ c.services = long service_of old.services.items more.services.items new.services.items c.services e.services t.services in
+    λ i. record { files = files i; messages = messages i; enums = enums i; extensions = extensions i; services = services i }
+
+pub pooled_more : (old more new : Tables) (c : Counts) → Appended old more new → Together old more c → c.files < 2 ^ 31 → ArePooled (pool_of old) → AreWithin c more → ArePooled (pool_of new)
+pooled_more old more new c e t small h w =
+    let a = counts_of (pool_of old) in
+    let le : IsMore a c = record {
+      files = fits file_of old.files.items more.files.items c.files t.files;
+      messages = fits message_of old.messages.items more.messages.items c.messages t.messages;
+      enums = fits enum_of old.enums.items more.enums.items c.enums t.enums;
+    } in
+    let same : c ≡ counts_of (pool_of new) = sym (counted old more new c e t) in
     record {
-      closed = subst (λ n. AllByRecursion (FieldsWithin n (length es)) (map message_of news)) (sym long) all_within;
-      small = all_small;
-      few = omega (arith, long, small);
-      few_enums = h.few_enums;
+      messages = subst (λ d. AllByRecursion (MessageWithin d) (map message_of new.messages.items)) same
+      (joined message_of (MessageWithin a) (MessageWithin c) old.messages.items more.messages.items new.messages.items e.messages (message_more a c le) h.messages w.messages);
+      enums = subst (λ d. AllByRecursion (EnumWithin d) (map enum_of new.enums.items)) same
+      (joined enum_of (EnumWithin a) (EnumWithin c) old.enums.items more.enums.items new.enums.items e.enums (enum_more a c le) h.enums w.enums);
+      extensions = subst (λ d. AllByRecursion (ExtensionWithin d) (map extension_of new.extensions.items)) same
+      (joined extension_of (ExtensionWithin a) (ExtensionWithin c) old.extensions.items more.extensions.items new.extensions.items e.extensions (extension_more a c le) h.extensions w.extensions);
+      services = subst (λ d. AllByRecursion (ServiceWithin d) (map service_of new.services.items)) same
+      (joined service_of (ServiceWithin a) (ServiceWithin c) old.services.items more.services.items new.services.items e.services (service_more a c le) h.services w.services);
+      few = subst (λ d. d.files < 2 ^ 31) same small;
     }

@@ -1,17 +1,21 @@
 //! Adds a batch of files to a pool, or refuses it and leaves the pool as it was.
 
-ghost use Rattle.std.specs.Prelude.{◌≡◌, ◌<◌, ◌^◌, IfOk, OnErr};
+ghost use Rattle.std.specs.Prelude.{◌≡◌, ◌+◌, ◌<◌, ◌^◌, IfOk, OnOk, OnErr, length};
+ghost use Rattle.reflect_index.specs.Cut.{cut_to};
+ghost use Rattle.reflect_index.specs.Growth.{Together};
+ghost use Rattle.reflect_index.specs.Types.{ArePooled};
 
-use crate::append::{append_both, are_within};
-use crate::error::DescriptorError;
-use crate::index::{IndexVisitor, sort_all, syntax_of};
-use crate::passes::{declare_names, resolve_references, visit_all, walk_error};
 use crate::pool::DescriptorPool;
-use crate::stored::{StoredFile, StoredMessage};
 use descriptor_records::FileDescriptorProto;
-use reflect_names::{Links, Offsets, VisitError, links_of};
+use reflect_index::{
+    Counts, Edit, Tables, append, are_from, are_within, cut, rewritten, settle_all,
+};
+use reflect_names::{Faults, Offsets, VisitError};
+use reflect_passes::{
+    DescriptorError, add_links, declare_names, index_files, list_extensions, resolve_references,
+    walk_error,
+};
 use std::alloc::Global;
-use std::collections::BTreeMap;
 
 /// A count as the number of the next place.
 fn next_place(count: usize) -> Result<u32, VisitError>
@@ -23,31 +27,29 @@ fn next_place(count: usize) -> Result<u32, VisitError>
     }
 }
 
-/// The entries of a batch's files.
-fn stored_files(
-    alloc: Global,
-    files: Vec<FileDescriptorProto>,
-) -> Result<Vec<StoredFile>, VisitError> {
-    let mut stored = Vec::with_capacity(alloc, files.len())?;
-    for record in files {
-        let syntax = syntax_of(&record);
-        stored.push(StoredFile { record, syntax })?;
+/// Two counts together.
+fn total(count: usize, more: usize) -> Result<u32, VisitError>
+    ensures sum { IfOk result (λ place. place ≡ count + more) }
+    ensures few { IfOk result (λ place. place < 2 ^ 31) }
+{
+    match count.checked_add(more) {
+        Some(sum) => next_place(sum),
+        None => Err(VisitError::TooMany),
     }
-    Ok(stored)
 }
 
-/// Adds what the new files import.
-fn add_links(
-    alloc: Global,
-    file_names: &BTreeMap<String, u32>,
-    links: &mut Vec<Links>,
-    files: &[FileDescriptorProto],
-) -> Result<(), VisitError> {
-    for file in files {
-        let link = links_of(alloc, file_names, file)?;
-        links.push(link)?;
-    }
-    Ok(())
+/// How many entries there are with further ones.
+fn counts_with(tables: &Tables, more: &Tables) -> Result<Counts, VisitError>
+    ensures together { IfOk result (Together tables.now more.now) }
+    ensures few { IfOk result (λ counts. counts.files < 2 ^ 31) }
+{
+    Ok(Counts {
+        files: total(tables.files.len(), more.files.len())?,
+        messages: total(tables.messages.len(), more.messages.len())?,
+        enums: total(tables.enums.len(), more.enums.len())?,
+        extensions: total(tables.extensions.len(), more.extensions.len())?,
+        services: total(tables.services.len(), more.services.len())?,
+    })
 }
 
 impl DescriptorPool {
@@ -60,7 +62,9 @@ impl DescriptorPool {
         alloc: Global,
         files: Vec<FileDescriptorProto>,
     ) -> Result<(), DescriptorError>
-        ensures { OnErr result (self.new ≡ self.old) }
+        ensures unchanged { OnErr result (self.new ≡ self.old) }
+        ensures grown { OnOk result (cut_to self.new (length self.old.files) ≡ self.old) }
+        ensures can_cut { OnOk result (ArePooled (cut_to self.new (length self.old.files))) }
     {
         let outcome = self.link(alloc, files);
         if outcome.is_err() {
@@ -69,25 +73,55 @@ impl DescriptorPool {
         outcome
     }
 
+    /// How many files there are, which `cut` goes back to.
+    pub fn mark(&self) -> u32
+        ensures { result ≡ length self.now.files }
+    {
+        self.tables.files.len() as u32
+    }
+
+    /// Leaves the first so many files as they stand, and their names. Takes no memory.
+    ///
+    /// None of them may name a type of a file behind them, as is so of the files that were there before a call of
+    /// `build_files`.
+    pub fn cut(&mut self, mark: u32)
+        requires { ArePooled (cut_to self.old mark) }
+        ensures { self.new ≡ cut_to self.old mark }
+    {
+        cut(&mut self.tables, mark);
+        self.forget_names();
+    }
+
+    /// Moves settled options, and the paths of locations that speak of them, into the files' records. One that names no
+    /// place of the pool is passed over. Takes no memory; the types stay as they are.
+    pub fn settle(&mut self, edits: Vec<Edit>)
+        ensures { self.new ≡ self.old }
+    {
+        settle_all(&mut self.tables, edits);
+    }
+
     /// How many messages, enums, extensions and services there are.
     fn offsets(&self) -> Result<Offsets, VisitError> {
         Ok(Offsets {
-            messages: next_place(self.messages.len())?,
-            enums: next_place(self.enums.len())?,
-            extensions: 0,
-            services: 0,
+            messages: next_place(self.tables.messages.len())?,
+            enums: next_place(self.tables.enums.len())?,
+            extensions: next_place(self.tables.extensions.len())?,
+            services: next_place(self.tables.services.len())?,
         })
     }
 
-    /// Leaves only the names and the links of the files that are there.
+    /// Leaves only the names, the links and the extensions' numbers of the files that are there.
     fn forget_names(&mut self)
         ensures { self.new ≡ self.old }
     {
-        let count = self.files.len();
+        let count = self.tables.files.len();
+        let extensions = self.tables.extensions.len();
         self.names
             .retain(|_, definition| (definition.file as usize) < count);
         self.file_names.retain(|_, file| (*file as usize) < count);
         self.links.truncate(count);
+        self.extension_numbers
+            .retain(|_, place| (*place as usize) < extensions);
     }
 
     /// The passes over the files of new names, and at last the files themselves.
@@ -96,7 +130,9 @@ impl DescriptorPool {
         alloc: Global,
         mut files: Vec<FileDescriptorProto>,
     ) -> Result<(), DescriptorError>
-        ensures { OnErr result (self.new ≡ self.old) }
+        ensures unchanged { OnErr result (self.new ≡ self.old) }
+        ensures grown { OnOk result (cut_to self.new (length self.old.files) ≡ self.old) }
+        ensures can_cut { OnOk result (ArePooled (cut_to self.new (length self.old.files))) }
     {
         let known = &self.file_names;
         files.retain(|file| match &file.name {
@@ -104,7 +140,9 @@ impl DescriptorPool {
             None => true,
         });
         let before = self.offsets().map_err(|error| walk_error(alloc, error))?;
-        let first = next_place(self.files.len()).map_err(|error| walk_error(alloc, error))?;
+        let first = next_place(self.tables.files.len()).map_err(|error| walk_error(
+            alloc, error,
+        ))?;
         declare_names(
             alloc,
             before,
@@ -124,32 +162,36 @@ impl DescriptorPool {
             &self.names,
             self.links.as_slice(),
         )?;
-        let mut visitor = IndexVisitor::new(alloc, references.as_slice());
-        visit_all(alloc, before, first, files.as_slice(), &mut visitor).map_err(|error| walk_error(
-            alloc, error,
-        ))?;
-        let messages = visitor.into_messages();
-        self.add(alloc, files, messages)
-            .map_err(|error| walk_error(alloc, error))
+        let batch = index_files(alloc, before, first, files.as_slice(), references.as_slice())
+            .map_err(|error| walk_error(alloc, error))?;
+        list_extensions(
+            alloc,
+            &self.tables,
+            &batch,
+            Faults::new(alloc, files.as_slice(), first),
+            &mut self.extension_numbers,
+        )?;
+        let more = batch
+            .with_records(alloc, rewritten(files, references))
+            .map_err(|error| walk_error(alloc, error))?;
+        self.add(more).map_err(|error| walk_error(alloc, error))
     }
 
-    /// Adds the files with their messages.
-    fn add(
-        &mut self,
-        alloc: Global,
-        files: Vec<FileDescriptorProto>,
-        messages: Vec<StoredMessage>,
-    ) -> Result<(), VisitError>
-        ensures { OnErr result (self.new ≡ self.old) }
+    /// Adds the entries.
+    fn add(&mut self, more: Tables) -> Result<(), VisitError>
+        ensures unchanged { OnErr result (self.new ≡ self.old) }
+        ensures grown { OnOk result (cut_to self.new (length self.old.files) ≡ self.old) }
+        ensures can_cut { OnOk result (ArePooled (cut_to self.new (length self.old.files))) }
     {
-        let messages = sort_all(alloc, messages)?;
-        let files = stored_files(alloc, files)?;
-        let total = next_place(self.messages.len().saturating_add(messages.len()))?;
-        let enums = next_place(self.enums.len())?;
-        if !are_within(messages.as_slice(), total, enums) {
+        let first = next_place(self.tables.files.len())?;
+        let counts = counts_with(&self.tables, &more)?;
+        if !are_within(&more, counts) {
             return Err(VisitError::TooMany);
         }
-        append_both(&mut self.files, &mut self.messages, files, messages)?;
+        if !are_from(&more, first) {
+            return Err(VisitError::TooMany);
+        }
+        append(&mut self.tables, more)?;
         Ok(())
     }
 }

@@ -1,6 +1,10 @@
-ghost use Rattle.std.specs.Prelude.{◌≡◌, ◌<◌, length};
+ghost use Rattle.std.specs.Prelude.{◌≡◌, ◌<◌, length, IfSome};
+ghost use Rattle.reflect_index.specs.Types.{enum_at};
 
+use crate::message::MessageDescriptor;
+use crate::counting::end_of;
 use crate::pool::DescriptorPool;
+use std::cmp::Ordering;
 
 /// An enum type of a pool.
 #[derive(Clone, Copy)]
@@ -12,19 +16,187 @@ pub struct EnumDescriptor<'p> {
 
 impl<'p> EnumDescriptor<'p> {
     /// The pool that the type stands in.
-    pub fn parent_pool(&self) -> &'p DescriptorPool {
+    pub fn parent_pool(&self) -> &'p DescriptorPool
+        ensures { result.now ≡ self.now.pool.now }
+    {
         self.pool
     }
 
-    /// The name in the declaration that holds the type.
-    pub fn name(&self) -> &'p str {
+    /// The message that the type is declared in, if it is one.
+    pub fn parent_message(&self) -> Option<MessageDescriptor<'p>>
+        ensures { IfSome result (λ d. d.pool.now ≡ self.now.pool.now) }
+    {
         let pool = self.pool;
-        pool.enums[self.index as usize].name.as_str()
+        pool.message_at(pool.tables.enums[self.index as usize].parent?)
+    }
+
+    /// The name in the declaration that holds the type.
+    pub fn name(&self) -> &'p str
+        ensures { result.now ≡ (enum_at self.now.pool.now self.now.index).name }
+    {
+        let pool = self.pool;
+        pool.tables.enums[self.index as usize].name.as_str()
     }
 
     /// The name with those of all that holds the type before it, joined by dots, without a leading dot.
-    pub fn full_name(&self) -> &'p str {
+    pub fn full_name(&self) -> &'p str
+        ensures { result.now ≡ (enum_at self.now.pool.now self.now.index).full_name }
+    {
         let pool = self.pool;
-        pool.enums[self.index as usize].full_name.as_str()
+        pool.tables.enums[self.index as usize].full_name.as_str()
+    }
+
+    /// Where the declaration stands in its file's record.
+    pub fn path(&self) -> &'p [i32] {
+        let pool = self.pool;
+        pool.tables.enums[self.index as usize].path.as_slice()
+    }
+
+    /// The value that a field of the type has where none is set: the first that was declared.
+    pub fn default_value(&self) -> EnumValueDescriptor<'p>
+        ensures enumeration { result.enumeration ≡ self.now }
+        ensures first { result.index ≡ 0 }
+    {
+        let pool = self.pool;
+        let _ = &pool.tables.enums[self.index as usize];
+        EnumValueDescriptor {
+            enumeration: *self,
+            index: 0,
+        }
+    }
+
+    /// The values, as they were declared.
+    pub fn values(&self) -> EnumValues<'p> {
+        let pool = self.pool;
+        EnumValues {
+            enumeration: *self,
+            next: 0,
+            end: end_of(pool.tables.enums[self.index as usize].values.len()),
+        }
+    }
+
+    /// The value of a number, of several the first that was declared. Takes no memory, and a number of steps that grows with
+    /// the logarithm of the values' count.
+    pub fn get_value(&self, number: i32) -> Option<EnumValueDescriptor<'p>>
+        ensures { IfSome result (λ v. v.enumeration ≡ self.now) }
+    {
+        let pool = self.pool;
+        let stored = &pool.tables.enums[self.index as usize];
+        let found = stored.by_number.as_slice().binary_search_by(|place| {
+            match stored.values.get(*place as usize) {
+                Some(value) => value.number.cmp(&number),
+                None => Ordering::Less,
+            }
+        });
+        self.value_at(*stored.by_number.get(found.ok()?)?)
+    }
+
+    /// The value of a name. Takes no memory, and a number of steps that grows with the logarithm of the values' count.
+    pub fn get_value_by_name(&self, name: &str) -> Option<EnumValueDescriptor<'p>>
+        ensures { IfSome result (λ v. v.enumeration ≡ self.now) }
+    {
+        let pool = self.pool;
+        let stored = &pool.tables.enums[self.index as usize];
+        let found = stored.by_name.as_slice().binary_search_by(|place| {
+            match stored.values.get(*place as usize) {
+                Some(value) => value.name.as_str().cmp(&name),
+                None => Ordering::Less,
+            }
+        });
+        self.value_at(*stored.by_name.get(found.ok()?)?)
+    }
+
+    /// The value at a place.
+    fn value_at(&self, place: u32) -> Option<EnumValueDescriptor<'p>>
+        ensures { IfSome result (λ v. v.enumeration ≡ self.now) }
+    {
+        let pool = self.pool;
+        if (place as usize) < pool.tables.enums[self.index as usize].values.len() {
+            Some(EnumValueDescriptor {
+                enumeration: *self,
+                index: place,
+            })
+        } else {
+            None
+        }
+    }
+}
+
+/// The values of an enum type, as they were declared.
+#[derive(Drop)]
+pub struct EnumValues<'p> {
+    enumeration: EnumDescriptor<'p>,
+    next: u32,
+    end: u32,
+}
+
+impl<'p> Iterator for EnumValues<'p> {
+    ghost use Rattle.std.specs.Prelude.{◌-◌};
+    ghost use Rattle.std.specs.Iterator.{at_most};
+
+    type Item = EnumValueDescriptor<'p>;
+
+    ghost remaining = { λ s. at_most (s.end - s.next) };
+
+    fn next(&mut self) -> Option<EnumValueDescriptor<'p>> {
+        if self.next < self.end {
+            let place = self.next;
+            self.next += 1;
+            self.enumeration.value_at(place)
+        } else {
+            None
+        }
+    }
+}
+
+/// A value of an enum type.
+#[derive(Clone, Copy)]
+pub struct EnumValueDescriptor<'p> {
+    pub(crate) enumeration: EnumDescriptor<'p>,
+    pub(crate) index: u32,
+    ghost in_range: { index < length (enum_at enumeration.pool.now enumeration.index).values },
+}
+
+impl<'p> EnumValueDescriptor<'p> {
+    /// The pool that the value's type stands in.
+    pub fn parent_pool(&self) -> &'p DescriptorPool
+        ensures { result.now ≡ self.now.enumeration.pool.now }
+    {
+        self.enumeration.pool
+    }
+
+    /// The enum type that the value belongs to.
+    pub fn parent_enum(&self) -> EnumDescriptor<'p>
+        ensures { result ≡ self.now.enumeration }
+    {
+        self.enumeration
+    }
+
+    pub fn name(&self) -> &'p str {
+        let pool = self.enumeration.pool;
+        pool.tables.enums[self.enumeration.index as usize].values[self.index as usize]
+            .name
+            .as_str()
+    }
+
+    /// The value's name behind that of what the enum is declared in.
+    pub fn full_name(&self) -> &'p str {
+        let pool = self.enumeration.pool;
+        pool.tables.enums[self.enumeration.index as usize].values[self.index as usize]
+            .full_name
+            .as_str()
+    }
+
+    /// Where the declaration stands in its file's record.
+    pub fn path(&self) -> &'p [i32] {
+        let pool = self.enumeration.pool;
+        pool.tables.enums[self.enumeration.index as usize].values[self.index as usize]
+            .path
+            .as_slice()
+    }
+
+    pub fn number(&self) -> i32 {
+        let pool = self.enumeration.pool;
+        pool.tables.enums[self.enumeration.index as usize].values[self.index as usize].number
     }
 }

@@ -1,11 +1,12 @@
-ghost use Rattle.std.specs.Prelude.{◌≡◌, ◌<◌, length};
-ghost use Rattle.reflect_pool.specs.Types.{type_at, type_of_field};
+ghost use Rattle.std.specs.Prelude.{◌≡◌, ◌<◌, length, IfSome};
+ghost use Rattle.reflect_index.specs.Types.{type_at, type_of_field};
 
-use crate::enums::EnumDescriptor;
-use crate::kind::{Cardinality, Kind};
+use crate::kind::{DefaultValue, Kind};
 use crate::message::MessageDescriptor;
+use crate::oneof::OneofDescriptor;
 use crate::pool::DescriptorPool;
-use crate::stored::{StoredField, StoredKind};
+use crate::reading::{default_value, is_map, kind_in};
+use reflect_index::Cardinality;
 
 /// A field of a message type.
 #[derive(Clone, Copy)]
@@ -19,7 +20,9 @@ impl<'p> FieldDescriptor<'p> {
     ghost use Rattle.reflect_pool.specs.Kinds.{IsKind};
 
     /// The pool that the field's type stands in.
-    pub fn parent_pool(&self) -> &'p DescriptorPool {
+    pub fn parent_pool(&self) -> &'p DescriptorPool
+        ensures { result.now ≡ self.now.message.pool.now }
+    {
         self.message.pool
     }
 
@@ -34,72 +37,121 @@ impl<'p> FieldDescriptor<'p> {
         ensures { result.now ≡ (type_of_field self.now.message.pool.now self.now.message.index self.now.index).name }
     {
         let pool = self.message.pool;
-        pool.messages[self.message.index as usize].fields[self.index as usize]
+        pool.tables.messages[self.message.index as usize].fields[self.index as usize]
             .name
             .as_str()
     }
 
     /// The type's full name, a dot and the field's name.
-    pub fn full_name(&self) -> &'p str {
+    pub fn full_name(&self) -> &'p str
+        ensures { result.now ≡ (type_of_field self.now.message.pool.now self.now.message.index self.now.index).full_name }
+    {
         let pool = self.message.pool;
-        pool.messages[self.message.index as usize].fields[self.index as usize]
+        pool.tables.messages[self.message.index as usize].fields[self.index as usize]
             .full_name
             .as_str()
+    }
+
+    /// The JSON name that was written, if one was.
+    pub fn json_name(&self) -> Option<&'p str> {
+        let pool = self.message.pool;
+        match &pool.tables.messages[self.message.index as usize].fields[self.index as usize].json_name
+        {
+            Some(name) => Some(name.as_str()),
+            None => None,
+        }
+    }
+
+    /// Where the declaration stands in its file's record.
+    pub fn path(&self) -> &'p [i32] {
+        let pool = self.message.pool;
+        pool.tables.messages[self.message.index as usize].fields[self.index as usize]
+            .path
+            .as_slice()
     }
 
     pub fn number(&self) -> u32
         ensures { result ≡ (type_of_field self.now.message.pool.now self.now.message.index self.now.index).number }
     {
         let pool = self.message.pool;
-        pool.messages[self.message.index as usize].fields[self.index as usize].number
+        pool.tables.messages[self.message.index as usize].fields[self.index as usize].number
     }
 
-    pub fn cardinality(&self) -> Cardinality {
+    pub fn cardinality(&self) -> Cardinality
+        ensures { result ≡ (type_of_field self.now.message.pool.now self.now.message.index self.now.index).cardinality }
+    {
         let pool = self.message.pool;
-        pool.messages[self.message.index as usize].fields[self.index as usize].cardinality
+        pool.tables.messages[self.message.index as usize].fields[self.index as usize].cardinality
+    }
+
+    /// The field has to be set (proto2).
+    pub fn is_required(&self) -> bool {
+        self.cardinality() == Cardinality::Required
+    }
+
+    /// The value is written between two tags, and its type is declared with the field.
+    pub fn is_group(&self) -> bool
+        ensures { result ≡ (type_of_field self.now.message.pool.now self.now.message.index self.now.index).group }
+    {
+        let pool = self.message.pool;
+        pool.tables.messages[self.message.index as usize].fields[self.index as usize].is_group
     }
 
     /// The field holds any number of values, and is no map.
     pub fn is_list(&self) -> bool {
+        self.cardinality() == Cardinality::Repeated && !self.is_map()
+    }
+
+    /// The field's values are the entries of a map.
+    pub fn is_map(&self) -> bool {
         let pool = self.message.pool;
-        let field = &pool.messages[self.message.index as usize].fields[self.index as usize];
-        field.cardinality == Cardinality::Repeated
+        is_map(
+            pool,
+            &pool.tables.messages[self.message.index as usize].fields[self.index as usize],
+        )
     }
 
     /// A list of numbers is written as one record.
-    pub fn is_packed(&self) -> bool {
+    pub fn is_packed(&self) -> bool
+        ensures { result ≡ (type_of_field self.now.message.pool.now self.now.message.index self.now.index).packed }
+    {
         let pool = self.message.pool;
-        pool.messages[self.message.index as usize].fields[self.index as usize].is_packed
+        pool.tables.messages[self.message.index as usize].fields[self.index as usize].is_packed
     }
 
     /// A field that is not set differs from one that holds the default.
-    pub fn supports_presence(&self) -> bool {
+    pub fn supports_presence(&self) -> bool
+        ensures { result ≡ (type_of_field self.now.message.pool.now self.now.message.index self.now.index).presence }
+    {
         let pool = self.message.pool;
-        pool.messages[self.message.index as usize].fields[self.index as usize].supports_presence
+        pool.tables.messages[self.message.index as usize].fields[self.index as usize].supports_presence
+    }
+
+    /// The oneof that the field is a member of, a synthetic one too.
+    pub fn containing_oneof(&self) -> Option<OneofDescriptor<'p>>
+        ensures { IfSome result (λ o. o.message ≡ self.now.message) }
+    {
+        let pool = self.message.pool;
+        let field = &pool.tables.messages[self.message.index as usize].fields[self.index as usize];
+        self.message.oneof_at(field.oneof?)
     }
 
     pub fn kind(&self) -> Kind<'p>
         ensures { IsKind self.now.message.pool.now result (type_of_field self.now.message.pool.now self.now.message.index self.now.index).kind }
     {
         let pool = self.message.pool;
-        match pool.messages[self.message.index as usize].fields[self.index as usize].kind {
-            StoredKind::Double => Kind::Double,
-            StoredKind::Float => Kind::Float,
-            StoredKind::Int32 => Kind::Int32,
-            StoredKind::Int64 => Kind::Int64,
-            StoredKind::Uint32 => Kind::Uint32,
-            StoredKind::Uint64 => Kind::Uint64,
-            StoredKind::Sint32 => Kind::Sint32,
-            StoredKind::Sint64 => Kind::Sint64,
-            StoredKind::Fixed32 => Kind::Fixed32,
-            StoredKind::Fixed64 => Kind::Fixed64,
-            StoredKind::Sfixed32 => Kind::Sfixed32,
-            StoredKind::Sfixed64 => Kind::Sfixed64,
-            StoredKind::Bool => Kind::Bool,
-            StoredKind::String => Kind::String,
-            StoredKind::Bytes => Kind::Bytes,
-            StoredKind::Message(index) => Kind::Message(MessageDescriptor { pool, index }),
-            StoredKind::Enum(index) => Kind::Enum(EnumDescriptor { pool, index }),
-        }
+        kind_in(
+            pool,
+            pool.tables.messages[self.message.index as usize].fields[self.index as usize].kind,
+        )
+    }
+
+    /// The default that the declaration gives, if it gives one.
+    pub fn default(&self) -> Option<DefaultValue<'p>> {
+        let pool = self.message.pool;
+        default_value(
+            pool,
+            &pool.tables.messages[self.message.index as usize].fields[self.index as usize],
+        )
     }
 }

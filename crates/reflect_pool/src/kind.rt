@@ -1,21 +1,6 @@
 use crate::enums::EnumDescriptor;
 use crate::message::MessageDescriptor;
 
-/// The syntax that a file is written in.
-#[derive(Clone, Copy, PartialEq, Eq, PartialOrd, Ord, Debug)]
-pub enum Syntax {
-    Proto2,
-    Proto3,
-}
-
-/// How often a field may stand.
-#[derive(Clone, Copy, PartialEq, Eq, PartialOrd, Ord, Debug)]
-pub enum Cardinality {
-    Optional,
-    Required,
-    Repeated,
-}
-
 /// What a field holds.
 #[derive(Clone, Copy)]
 pub enum Kind<'p> {
@@ -54,4 +39,20 @@ impl<'p> Kind<'p> {
             _ => None,
         }
     }
+}
+
+/// The default that a field's declaration gives.
+#[derive(Clone, Copy, PartialEq, Debug)]
+pub enum DefaultValue<'p> {
+    /// Of a signed integer kind.
+    I64(i64),
+    /// Of an unsigned integer kind.
+    U64(u64),
+    Bool(bool),
+    Text(&'p str),
+    Bytes(&'p [u8]),
+    /// The number of an enum's value.
+    Enum(i32),
+    /// The text of a floating-point number, which nothing has read.
+    Float(&'p str),
 }

@@ -1,21 +1,27 @@
 //! Linked files in one pool, and descriptors that borrow it: what was linked stays as it is when more is added or refused.
 #![tactic(auto)]
 
-mod append;
+mod access;
+mod blank;
 mod build;
+mod counting;
 mod enums;
-mod error;
+mod extension;
 mod field;
-mod index;
 mod kind;
 mod message;
-mod passes;
-mod pool;
-mod stored;
+mod oneof;
 
-pub use enums::EnumDescriptor;
-pub use error::DescriptorError;
+mod pool;
+mod reading;
+
+pub use blank::Blanks;
+pub use enums::{EnumDescriptor, EnumValueDescriptor, EnumValues};
+pub use extension::{ExtensionDescriptor, MessageExtensions};
 pub use field::FieldDescriptor;
-pub use kind::{Cardinality, Kind, Syntax};
+pub use kind::{DefaultValue, Kind};
 pub use message::{Fields, MessageDescriptor};
+pub use oneof::{OneofDescriptor, OneofFields, Oneofs};
 pub use pool::DescriptorPool;
+pub use reflect_index::{Cardinality, Edit, Syntax};
+pub use reflect_passes::DescriptorError;

@@ -1,8 +1,12 @@
-ghost use Rattle.std.specs.Prelude.{◌≡◌, ◌<◌, length, IfSome};
-ghost use Rattle.reflect_pool.specs.Types.{type_at};
+ghost use Rattle.std.specs.Prelude.{◌≡◌, ◌<◌, ◌↔◌, length, IfSome, IsSome, IsTrue};
+ghost use Rattle.reflect_index.specs.Types.{type_at, extension_at};
 
+use crate::extension::{ExtensionDescriptor, MessageExtensions};
 use crate::field::FieldDescriptor;
+use crate::oneof::{OneofDescriptor, Oneofs};
+use crate::counting::end_of;
 use crate::pool::DescriptorPool;
+use reflect_names::DefinitionKind;
 use std::cmp::Ordering;
 
 /// A message type of a pool.
@@ -21,12 +25,20 @@ impl<'p> MessageDescriptor<'p> {
         self.pool
     }
 
+    /// The message that the type is declared in, if it is one.
+    pub fn parent_message(&self) -> Option<MessageDescriptor<'p>>
+        ensures { IfSome result (λ d. d.pool.now ≡ self.now.pool.now) }
+    {
+        let pool = self.pool;
+        pool.message_at(pool.tables.messages[self.index as usize].parent?)
+    }
+
     /// The name in the declaration that holds the type.
     pub fn name(&self) -> &'p str
         ensures { result.now ≡ (type_at self.now.pool.now self.now.index).name }
     {
         let pool = self.pool;
-        pool.messages[self.index as usize].name.as_str()
+        pool.tables.messages[self.index as usize].name.as_str()
     }
 
     /// The name with those of all that holds the type before it, joined by dots, without a leading dot.
@@ -34,7 +46,13 @@ impl<'p> MessageDescriptor<'p> {
         ensures { result.now ≡ (type_at self.now.pool.now self.now.index).full_name }
     {
         let pool = self.pool;
-        pool.messages[self.index as usize].full_name.as_str()
+        pool.tables.messages[self.index as usize].full_name.as_str()
+    }
+
+    /// Where the declaration stands in its file's record.
+    pub fn path(&self) -> &'p [i32] {
+        let pool = self.pool;
+        pool.tables.messages[self.index as usize].path.as_slice()
     }
 
     /// Both have one place and one full name in their pools.
@@ -52,19 +70,29 @@ impl<'p> MessageDescriptor<'p> {
         }
     }
 
+    /// The oneofs, as they were declared.
+    pub fn oneofs(&self) -> Oneofs<'p> {
+        let pool = self.pool;
+        Oneofs {
+            message: *self,
+            next: 0,
+            end: end_of(pool.tables.messages[self.index as usize].oneofs.len()),
+        }
+    }
+
     /// The field of a number. Takes no memory, and a number of steps that grows with the logarithm of the fields' count.
     pub fn get_field(&self, number: u32) -> Option<FieldDescriptor<'p>>
         ensures message { IfSome result (λ f. f.message ≡ self.now) }
     {
         let pool = self.pool;
-        let message = &pool.messages[self.index as usize];
+        let message = &pool.tables.messages[self.index as usize];
         let found = message.by_number.as_slice().binary_search_by(|place| {
             match message.fields.get(*place as usize) {
                 Some(field) => field.number.cmp(&number),
                 None => Ordering::Less,
             }
         });
-        self.field_at(&message.by_number, found)
+        self.field_at(*message.by_number.get(found.ok()?)?)
     }
 
     /// The field of a name. Takes no memory, and a number of steps that grows with the logarithm of the fields' count.
@@ -72,27 +100,144 @@ impl<'p> MessageDescriptor<'p> {
         ensures message { IfSome result (λ f. f.message ≡ self.now) }
     {
         let pool = self.pool;
-        let message = &pool.messages[self.index as usize];
+        let message = &pool.tables.messages[self.index as usize];
         let found = message.by_name.as_slice().binary_search_by(|place| {
             match message.fields.get(*place as usize) {
                 Some(field) => field.name.as_str().cmp(&name),
                 None => Ordering::Less,
             }
         });
-        self.field_at(&message.by_name, found)
+        self.field_at(*message.by_name.get(found.ok()?)?)
     }
 
-    /// The field that an index has at the place where a search ended.
-    fn field_at(&self, index: &[u32], found: Result<usize, usize>) -> Option<FieldDescriptor<'p>>
+    /// The field of a written JSON name, of several the first that was declared. Takes no memory, and a number of steps that
+    /// grows with the logarithm of the fields' count.
+    pub fn get_field_by_json_name(&self, name: &str) -> Option<FieldDescriptor<'p>>
         ensures message { IfSome result (λ f. f.message ≡ self.now) }
     {
-        let place = *index.get(found.ok()?)?;
         let pool = self.pool;
-        if (place as usize) < pool.messages[self.index as usize].fields.len() {
+        let message = &pool.tables.messages[self.index as usize];
+        let found = message.by_json_name.as_slice().binary_search_by(|place| {
+            match message.fields.get(*place as usize) {
+                Some(field) => match &field.json_name {
+                    Some(json_name) => json_name.as_str().cmp(&name),
+                    None => Ordering::Less,
+                },
+                None => Ordering::Less,
+            }
+        });
+        self.field_at(*message.by_json_name.get(found.ok()?)?)
+    }
+
+    /// The field at a place.
+    pub(crate) fn field_at(&self, place: u32) -> Option<FieldDescriptor<'p>>
+        ensures message { IfSome result (λ f. f.message ≡ self.now) }
+    {
+        let pool = self.pool;
+        if (place as usize) < pool.tables.messages[self.index as usize].fields.len() {
             Some(FieldDescriptor {
                 message: *self,
                 index: place,
             })
+        } else {
+            None
+        }
+    }
+
+    /// The oneof at a place.
+    pub(crate) fn oneof_at(&self, place: u32) -> Option<OneofDescriptor<'p>>
+        ensures message { IfSome result (λ o. o.message ≡ self.now) }
+    {
+        let pool = self.pool;
+        if (place as usize) < pool.tables.messages[self.index as usize].oneofs.len() {
+            Some(OneofDescriptor {
+                message: *self,
+                index: place,
+            })
+        } else {
+            None
+        }
+    }
+
+    /// The type is one of a map's entries.
+    pub fn is_map_entry(&self) -> bool
+        ensures { IsTrue result ↔ IsSome (type_at self.now.pool.now self.now.index).entry }
+    {
+        let pool = self.pool;
+        pool.tables.messages[self.index as usize].entry.is_some()
+    }
+
+    /// The key of a map's entry.
+    pub fn map_entry_key_field(&self) -> FieldDescriptor<'p>
+        requires { IsSome (type_at self.now.pool.now self.now.index).entry }
+        ensures { result.message ≡ self.now }
+    {
+        let pool = self.pool;
+        FieldDescriptor {
+            message: *self,
+            index: pool.tables.messages[self.index as usize].entry.unwrap().key,
+        }
+    }
+
+    /// The value of a map's entry.
+    pub fn map_entry_value_field(&self) -> FieldDescriptor<'p>
+        requires { IsSome (type_at self.now.pool.now self.now.index).entry }
+        ensures { result.message ≡ self.now }
+    {
+        let pool = self.pool;
+        FieldDescriptor {
+            message: *self,
+            index: pool.tables.messages[self.index as usize].entry.unwrap().value,
+        }
+    }
+
+    /// The extensions of the type, by ascending number.
+    pub fn extensions(&self) -> MessageExtensions<'p> {
+        let pool = self.pool;
+        MessageExtensions {
+            pool,
+            found: pool
+                .extension_numbers
+                .range((self.index, 0)..=(self.index, u32::MAX)),
+        }
+    }
+
+    /// The extension of the type with a number. Takes no memory.
+    pub fn get_extension(&self, number: u32) -> Option<ExtensionDescriptor<'p>>
+        ensures { IfSome result (λ x. (x.pool.now ≡ self.now.pool.now) × ((extension_at self.now.pool.now x.index).extendee ≡ self.now.index)) }
+    {
+        let pool = self.pool;
+        let place = *pool.extension_numbers.get(&(self.index, number))?;
+        self.extension_of(place)
+    }
+
+    /// The extension of the type with a full name. Takes no memory.
+    pub fn get_extension_by_full_name(&self, name: &str) -> Option<ExtensionDescriptor<'p>>
+        ensures { IfSome result (λ x. (x.pool.now ≡ self.now.pool.now) × ((extension_at self.now.pool.now x.index).extendee ≡ self.now.index)) }
+    {
+        let pool = self.pool;
+        let definition = pool.names.get(name)?;
+        match definition.kind {
+            DefinitionKind::Extension(place) => self.extension_of(place),
+            _ => None,
+        }
+    }
+
+    /// The extension of the type whose full name stands in these brackets. Takes no memory.
+    pub fn get_extension_by_json_name(&self, name: &str) -> Option<ExtensionDescriptor<'p>>
+        ensures { IfSome result (λ x. (x.pool.now ≡ self.now.pool.now) × ((extension_at self.now.pool.now x.index).extendee ≡ self.now.index)) }
+    {
+        let name = name.strip_prefix('[')?.strip_suffix(']')?;
+        self.get_extension_by_full_name(name)
+    }
+
+    /// The extension at a place, if it is one of the type.
+    fn extension_of(&self, place: u32) -> Option<ExtensionDescriptor<'p>>
+        ensures { IfSome result (λ x. (x.pool.now ≡ self.now.pool.now) × ((extension_at self.now.pool.now x.index).extendee ≡ self.now.index)) }
+    {
+        let pool = self.pool;
+        if pool.tables.extensions.get(place as usize)?.extendee == self.index {
+            pool.extension_at(place)
         } else {
             None
         }
@@ -118,7 +263,7 @@ impl<'p> Iterator for Fields<'p> {
 
     fn next(&mut self) -> Option<FieldDescriptor<'p>> {
         let pool = self.message.pool;
-        let message = &pool.messages[self.message.index as usize];
+        let message = &pool.tables.messages[self.message.index as usize];
         if (self.next as usize) < message.fields.len() {
             let field = FieldDescriptor {
                 message: self.message,

@@ -1,39 +1,42 @@
 ghost use Rattle.std.specs.Prelude.{◌≡◌, [], length, IfSome};
-ghost use Rattle.reflect_pool.specs.Types.{PoolType};
+ghost use Rattle.reflect_index.specs.Types.{PoolType};
 
+use crate::blank::Blanks;
+use crate::enums::EnumDescriptor;
+use crate::extension::ExtensionDescriptor;
 use crate::message::MessageDescriptor;
-use crate::stored::{StoredEnum, StoredFile, StoredMessage};
+use reflect_index::Tables;
 use reflect_names::{Definition, DefinitionKind, Links};
 use std::alloc::Global;
 use std::collections::BTreeMap;
 use std::marker::Model;
 
-/// Linked files with the types that they declare.
+/// Linked files with what they declare.
 ///
 /// The descriptors are lent from it: each is a place in the pool that knows its pool.
 #[derive(Drop)]
 pub struct DescriptorPool {
-    pub(crate) files: Vec<StoredFile>,
+    pub(crate) tables: Tables,
     /// What each file imports.
     pub(crate) links: Vec<Links>,
     /// The places of the files, by their names.
     pub(crate) file_names: BTreeMap<String, u32>,
     /// What the full names stand for.
     pub(crate) names: BTreeMap<String, Definition>,
-    pub(crate) messages: Vec<StoredMessage>,
-    pub(crate) enums: Vec<StoredEnum>,
+    /// The places of the extensions, by the message that they extend and their number.
+    pub(crate) extension_numbers: BTreeMap<(u32, u32), u32>,
+    pub(crate) blanks: Blanks,
 }
 
 impl Model for DescriptorPool {
-    ghost use Rattle.std.specs.Prelude.{map};
-    ghost use Rattle.reflect_pool.specs.Types.{PoolType, ArePooled};
-    ghost use Rattle.reflect_pool.specs.Views.{file_of, message_of, enum_of};
+    ghost use Rattle.reflect_index.specs.Types.{PoolType, ArePooled};
+    ghost use Rattle.reflect_index.specs.Views.{pool_of};
 
     ghost Value = { PoolType };
 
-    ghost view = { λ p. record { files = map file_of p.files.items; messages = map message_of p.messages.items; enums = map enum_of p.enums.items } };
+    ghost view = { λ p. pool_of p.tables };
 
-    ghost invariant = { λ p. ArePooled (map message_of p.messages.items) (map enum_of p.enums.items) };
+    ghost invariant = { λ p. ArePooled (pool_of p.tables) };
 }
 
 impl DescriptorPool {
@@ -43,12 +46,54 @@ impl DescriptorPool {
         ensures enums { result.enums ≡ [] }
     {
         DescriptorPool {
-            files: Vec::new(alloc),
+            tables: Tables::new(alloc),
             links: Vec::new(alloc),
             file_names: BTreeMap::new(alloc),
             names: BTreeMap::new(alloc),
-            messages: Vec::new(alloc),
-            enums: Vec::new(alloc),
+            extension_numbers: BTreeMap::new(alloc),
+            blanks: Blanks::new(alloc),
+        }
+    }
+
+    /// What a full name stands for, which may have one leading dot.
+    pub(crate) fn kind_of(&self, name: &str) -> Option<DefinitionKind> {
+        let name = name.strip_prefix('.').unwrap_or(name);
+        Some(self.names.get(name)?.kind)
+    }
+
+    /// The message type at a place, if there is one.
+    pub fn message_at(&self, index: u32) -> Option<MessageDescriptor<'_>>
+        ensures pool { IfSome result (λ d. d.pool.now ≡ self.now) }
+        ensures index { IfSome result (λ d. d.index ≡ index) }
+    {
+        if (index as usize) < self.tables.messages.len() {
+            Some(MessageDescriptor { pool: self, index })
+        } else {
+            None
+        }
+    }
+
+    /// The enum type at a place, if there is one.
+    pub fn enum_at(&self, index: u32) -> Option<EnumDescriptor<'_>>
+        ensures pool { IfSome result (λ d. d.pool.now ≡ self.now) }
+        ensures index { IfSome result (λ d. d.index ≡ index) }
+    {
+        if (index as usize) < self.tables.enums.len() {
+            Some(EnumDescriptor { pool: self, index })
+        } else {
+            None
+        }
+    }
+
+    /// The extension at a place, if there is one.
+    pub fn extension_at(&self, index: u32) -> Option<ExtensionDescriptor<'_>>
+        ensures pool { IfSome result (λ d. d.pool.now ≡ self.now) }
+        ensures index { IfSome result (λ d. d.index ≡ index) }
+    {
+        if (index as usize) < self.tables.extensions.len() {
+            Some(ExtensionDescriptor { pool: self, index })
+        } else {
+            None
         }
     }
 
@@ -56,15 +101,29 @@ impl DescriptorPool {
     pub fn get_message_by_name(&self, name: &str) -> Option<MessageDescriptor<'_>>
         ensures { IfSome result (λ d. d.pool.now ≡ self.now) }
     {
-        let name = name.strip_prefix('.').unwrap_or(name);
-        let definition = self.names.get(name)?;
-        let DefinitionKind::Message(index) = definition.kind else {
-            return None;
-        };
-        if (index as usize) < self.messages.len() {
-            Some(MessageDescriptor { pool: self, index })
-        } else {
-            None
+        match self.kind_of(name)? {
+            DefinitionKind::Message(index) => self.message_at(index),
+            _ => None,
+        }
+    }
+
+    /// The enum type of a full name, which may have one leading dot. Takes no memory.
+    pub fn get_enum_by_name(&self, name: &str) -> Option<EnumDescriptor<'_>>
+        ensures { IfSome result (λ d. d.pool.now ≡ self.now) }
+    {
+        match self.kind_of(name)? {
+            DefinitionKind::Enum(index) => self.enum_at(index),
+            _ => None,
+        }
+    }
+
+    /// The extension of a full name, which may have one leading dot. Takes no memory.
+    pub fn get_extension_by_name(&self, name: &str) -> Option<ExtensionDescriptor<'_>>
+        ensures { IfSome result (λ d. d.pool.now ≡ self.now) }
+    {
+        match self.kind_of(name)? {
+            DefinitionKind::Extension(index) => self.extension_at(index),
+            _ => None,
         }
     }
 

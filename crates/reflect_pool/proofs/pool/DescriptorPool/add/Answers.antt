@@ -1,26 +1,53 @@
-use Rattle.std.proofs.Common.{◌≡◌, ◌++◌, ◌+◌, ◌<◌, ◌^◌, List, length, map, arith, subst, rules}
-use Rattle.std.proofs.Math.ListN.{length-map}
+use Rattle.std.proofs.Common.{rules, arith, ◌≡◌, ◌<◌, ◌^◌, subst, sym, length, map}
 use Rattle.std.proofs.lemmas.Grind.{common_steps}
-use Rattle.std.specs.List.{AllByRecursion}
-use Rattle.reflect_pool.specs.Types.{MessageType, FieldsWithin}
-use Rattle.reflect_pool.specs.Views.{enum_of, message_of}
-use Rattle.reflect_pool.specs.declared.stored.StoredMessage.{StoredMessage}
-use Rattle.reflect_pool.proofs.Pooled.{pooled_more}
+use Rattle.std.proofs.Math.ListN.{length-map}
+use Rattle.reflect_index.specs.Types.{PoolType, ArePooled}
+use Rattle.reflect_index.specs.Views.{file_of, pool_of}
+use Rattle.reflect_index.specs.Cut.{cut_to}
+use Rattle.reflect_pool.proofs.Pooled.{AreWithin, pooled_more}
+use Rattle.reflect_pool.proofs.Back.{AreFrom, cut_back}
 use Rattle.reflect_pool.proofs.pool.DescriptorPool.add.Goals as goal
 
 pub invariant_of-self-2 : goal.invariant_of-self-2
 invariant_of-self-2 c =
-    let inside = c.self.inside in
-    let olds = inside.messages.items in
-    let mores = c.in_ok-messages.messages.items in
-    let total = c.in_ok-total.total in
-    let enums = c.in_ok-enums.enums in
-    let small : total < 2 ^ 31 = search rules in
-    let is : total ≡ length olds + length mores = grind (arith, common_steps, small, c.in_ok-total.ensures, c.len.ensures, c.len-2.ensures, c.saturating_add.ensures) in
-    let same : enums ≡ length (map enum_of inside.enums.items) = grind (arith, common_steps, c.in_ok-enums.ensures, c.len-3.ensures, length-map) in
-    let news : c.append_both.new.messages.items ≡ olds ++ mores = c.in_ok-append_both.ensures.messages in
-    let within : AllByRecursion (FieldsWithin total enums) (map message_of mores) =
-    subst (λ (ms : List StoredMessage). AllByRecursion (FieldsWithin total enums) (map message_of ms)) c.as_slice.ensures.value (c.if-not-are_within.ensures.within (search rules)) in
-    let few : AllByRecursion (λ (m : MessageType). length m.fields < 2 ^ 31) (map message_of mores) =
-    subst (λ (ms : List StoredMessage). AllByRecursion (λ (m : MessageType). length m.fields < 2 ^ 31) (map message_of ms)) c.as_slice.ensures.value (c.if-not-are_within.ensures.few (search rules)) in
-    pooled_more olds mores c.append_both.new.messages.items (map enum_of inside.enums.items) total enums news c.self.invariant is small same within few
+    let more = c.args.more in
+    let counts = c.in_ok-counts.counts in
+    let within : AreWithin counts more = record {
+      messages = c.if-not-are_within.ensures.messages (search rules);
+      enums = c.if-not-are_within.ensures.enums (search rules);
+      extensions = c.if-not-are_within.ensures.extensions (search rules);
+      services = c.if-not-are_within.ensures.services (search rules);
+    } in
+    pooled_more c.self.inside.tables more c.append.new.tables counts c.in_ok-append.ensures.appended c.in_ok-counts.ensures.together c.in_ok-counts.ensures.few c.self.invariant within
+
+pub returns-clause-grown : goal.returns-clause-grown
+returns-clause-grown c =
+    let old = c.self.inside.tables in
+    let more = c.args.more in
+    let first = c.in_ok-first.first in
+    let small : first < 2 ^ 31 = search rules in
+    let same : first ≡ length (map file_of old.files.items) = grind (arith, common_steps, c.in_ok-first.ensures, c.len.ensures, length-map) in
+    let from : AreFrom first more = record {
+      messages = c.if-not-are_from.ensures.messages (search rules);
+      enums = c.if-not-are_from.ensures.enums (search rules);
+      extensions = c.if-not-are_from.ensures.extensions (search rules);
+      services = c.if-not-are_from.ensures.services (search rules);
+    } in
+    subst (λ (p : PoolType). cut_to (pool_of c.append.new.tables) (length p.files) ≡ p) c.self.view_is
+    (cut_back old more c.append.new.tables c.in_ok-append.ensures.appended (subst (λ n. AreFrom n more) same from) c.self.invariant)
+
+pub returns-clause-can_cut : goal.returns-clause-can_cut
+returns-clause-can_cut c =
+    let old = c.self.inside.tables in
+    let more = c.args.more in
+    let first = c.in_ok-first.first in
+    let small : first < 2 ^ 31 = search rules in
+    let same : first ≡ length (map file_of old.files.items) = grind (arith, common_steps, c.in_ok-first.ensures, c.len.ensures, length-map) in
+    let from : AreFrom first more = record {
+      messages = c.if-not-are_from.ensures.messages (search rules);
+      enums = c.if-not-are_from.ensures.enums (search rules);
+      extensions = c.if-not-are_from.ensures.extensions (search rules);
+      services = c.if-not-are_from.ensures.services (search rules);
+    } in
+    subst (λ (p : PoolType). ArePooled (cut_to (pool_of c.append.new.tables) (length p.files))) c.self.view_is
+    (subst ArePooled (sym (cut_back old more c.append.new.tables c.in_ok-append.ensures.appended (subst (λ n. AreFrom n more) same from) c.self.invariant)) c.self.invariant)

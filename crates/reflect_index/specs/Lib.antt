@@ -1,0 +1,4 @@
+pub mod Cut
+pub mod Growth
+pub mod Types
+pub mod Views

@@ -1,0 +1,86 @@
+use crate::finish::{finished_enums, finished_messages};
+use crate::stored::{
+    Declared, StoredEnum, StoredExtension, StoredFile, StoredMessage, StoredService,
+};
+use crate::tables::Tables;
+use descriptor_records::FileDescriptorProto;
+use reflect_names::VisitError;
+use std::alloc::Global;
+
+/// The entries of new files, which have no place in a pool yet.
+#[derive(Drop)]
+pub struct Batch {
+    pub files: Vec<Declared>,
+    pub messages: Vec<StoredMessage>,
+    pub enums: Vec<StoredEnum>,
+    pub extensions: Vec<StoredExtension>,
+    pub services: Vec<StoredService>,
+}
+
+impl Batch {
+    /// No entries. Takes no memory.
+    pub fn new(alloc: Global) -> Batch {
+        Batch {
+            files: Vec::new(alloc),
+            messages: Vec::new(alloc),
+            enums: Vec::new(alloc),
+            extensions: Vec::new(alloc),
+            services: Vec::new(alloc),
+        }
+    }
+
+    /// The entries with all that is known of a type once all of it was visited.
+    pub fn finished(self, alloc: Global) -> Result<Batch, VisitError> {
+        let Batch {
+            files,
+            messages,
+            enums,
+            extensions,
+            services,
+        } = self;
+        Ok(Batch {
+            files,
+            messages: finished_messages(alloc, messages)?,
+            enums: finished_enums(alloc, enums)?,
+            extensions,
+            services,
+        })
+    }
+
+    /// The entries with the records of their files, of which there is one for each file.
+    pub fn with_records(
+        self,
+        alloc: Global,
+        records: Vec<FileDescriptorProto>,
+    ) -> Result<Tables, VisitError> {
+        let Batch {
+            files,
+            messages,
+            enums,
+            extensions,
+            services,
+        } = self;
+        Ok(Tables {
+            files: stored_files(alloc, records, files)?,
+            messages,
+            enums,
+            extensions,
+            services,
+        })
+    }
+}
+
+/// The files with what they declare.
+fn stored_files(
+    alloc: Global,
+    records: Vec<FileDescriptorProto>,
+    declared: Vec<Declared>,
+) -> Result<Vec<StoredFile>, VisitError> {
+    let mut stored = Vec::with_capacity(alloc, records.len())?;
+    let mut rest = declared.into_iter();
+    for record in records {
+        let declared = rest.next().ok_or(VisitError::TooMany)?;
+        stored.push(StoredFile { record, declared })?;
+    }
+    Ok(stored)
+}

@@ -1,0 +1,351 @@
+//! From the records of a batch to what the pool keeps of them.
+
+use crate::field::{field_entry, scalar_kind, syntax_of, text_of};
+use crate::batch::Batch;
+use crate::kind::{Cardinality, Syntax};
+use crate::stored::{
+    Child, Children, Declared, StoredEnum, StoredExtension, StoredField, StoredKind, StoredMessage,
+    StoredMethod, StoredOneof, StoredService, StoredValue,
+};
+use descriptor_records::{
+    DescriptorProto, EnumDescriptorProto, EnumValueDescriptorProto, FieldDescriptorProto,
+    FieldType, FileDescriptorProto, MethodDescriptorProto, OneofDescriptorProto,
+    ServiceDescriptorProto,
+};
+use reflect_names::{DefinitionKind, Offsets, Reference, VisitError, Visitor};
+use std::alloc::Global;
+
+/// Makes the entries of the declarations that it visits.
+#[derive(Drop)]
+pub struct IndexVisitor<'a> {
+    batch: Batch,
+    /// How much there was before.
+    before: Offsets,
+    /// What the references mean that were not met yet.
+    references: &'a [Reference],
+    syntax: Syntax,
+}
+
+impl<'a> IndexVisitor<'a> {
+    /// A visitor of files whose references mean this, in the order in which a walk meets them. Takes no memory.
+    pub fn new(alloc: Global, before: Offsets, references: &'a [Reference]) -> IndexVisitor<'a> {
+        IndexVisitor {
+            batch: Batch::new(alloc),
+            before,
+            references,
+            syntax: Syntax::Proto2,
+        }
+    }
+
+    /// The entries that were made.
+    pub fn into_batch(self) -> Batch {
+        let IndexVisitor {
+            batch,
+            before: _,
+            references: _,
+            syntax: _,
+        } = self;
+        batch
+    }
+
+    /// What the next reference means.
+    fn next_reference(&mut self) -> Option<DefinitionKind> {
+        let (first, others) = self.references.split_first()?;
+        self.references = others;
+        Some(first.definition.kind)
+    }
+
+    /// The message that the next reference means.
+    fn next_message(&mut self) -> Result<u32, VisitError> {
+        match self.next_reference() {
+            Some(DefinitionKind::Message(index)) => Ok(index),
+            _ => Err(VisitError::TooMany),
+        }
+    }
+
+    /// What a field holds, by the definition that its type name means or else by its type.
+    fn kind_of(&mut self, field: &FieldDescriptorProto) -> Option<StoredKind> {
+        if field.type_name.is_some() {
+            return match self.next_reference()? {
+                DefinitionKind::Message(index) => Some(StoredKind::Message(index)),
+                DefinitionKind::Enum(index) => Some(StoredKind::Enum(index)),
+                _ => None,
+            };
+        }
+        scalar_kind(FieldType::from_number(field.field_type?)?)
+    }
+
+    /// Adds a type or an extension to what the message at `parent` declares, or else the file.
+    fn declare_in(&mut self, parent: Option<u32>, child: Child) -> Result<(), VisitError> {
+        let Some(parent) = parent else {
+            return match self.batch.files.last_mut() {
+                Some(file) => Ok(file.children.push(child)?),
+                None => Err(VisitError::TooMany),
+            };
+        };
+        let place = local_place(parent, self.before.messages)?;
+        match self.batch.messages.get_mut(place) {
+            Some(message) => Ok(message.children.push(child)?),
+            None => Err(VisitError::TooMany),
+        }
+    }
+}
+
+/// The place in the batch's list of what has an index in the pool, where there were so many before.
+fn local_place(index: u32, before: u32) -> Result<usize, VisitError> {
+    match index.checked_sub(before) {
+        Some(place) => Ok(place as usize),
+        None => Err(VisitError::TooMany),
+    }
+}
+
+fn is_map_entry(message: &DescriptorProto) -> bool {
+    match &message.options {
+        Some(options) => options.map_entry == Some(true),
+        None => false,
+    }
+}
+
+impl<'a> Visitor for IndexVisitor<'a> {
+    ghost steps = { λ _ _ _. Unit {0} };
+
+    ghost kept = { λ _ _ _. Unit {0} };
+
+    ghost kept_same = { λ _ _. tt };
+
+    ghost kept_on = { λ _ _ _ _ _ _. tt };
+
+    fn visit_file(
+        &mut self,
+        alloc: Global,
+        _path: &[i32],
+        _file: u32,
+        descriptor: &FileDescriptorProto,
+    ) -> Result<(), VisitError> {
+        self.syntax = syntax_of(descriptor);
+        self.batch.files.push(Declared {
+            syntax: self.syntax,
+            children: Children::new(alloc),
+            services: Vec::new(alloc),
+        })?;
+        Ok(())
+    }
+
+    fn visit_message(
+        &mut self,
+        alloc: Global,
+        path: &[i32],
+        full_name: &str,
+        file: u32,
+        parent: Option<u32>,
+        index: u32,
+        message: &DescriptorProto,
+    ) -> Result<(), VisitError> {
+        self.declare_in(parent, Child::Message(index))?;
+        self.batch.messages.push(StoredMessage {
+            file,
+            parent,
+            path: Vec::from_slice(alloc, path)?,
+            name: text_of(alloc, &message.name)?,
+            full_name: String::from_str(alloc, full_name)?,
+            is_entry: is_map_entry(message),
+            entry: None,
+            fields: Vec::new(alloc),
+            oneofs: Vec::new(alloc),
+            children: Children::new(alloc),
+            by_number: Vec::new(alloc),
+            by_name: Vec::new(alloc),
+            by_json_name: Vec::new(alloc),
+        })?;
+        Ok(())
+    }
+
+    fn visit_field(
+        &mut self,
+        alloc: Global,
+        path: &[i32],
+        full_name: &str,
+        _file: u32,
+        message: u32,
+        _index: u32,
+        field: &FieldDescriptorProto,
+    ) -> Result<(), VisitError> {
+        let kind = self.kind_of(field).ok_or(VisitError::TooMany)?;
+        let entry = field_entry(alloc, self.syntax, path, full_name, kind, field)?;
+        let place = local_place(message, self.before.messages)?;
+        match self.batch.messages.get_mut(place) {
+            Some(message) => {
+                message.fields.push(entry)?;
+                Ok(())
+            }
+            None => Err(VisitError::TooMany),
+        }
+    }
+
+    fn visit_oneof(
+        &mut self,
+        alloc: Global,
+        path: &[i32],
+        full_name: &str,
+        _file: u32,
+        message: u32,
+        _index: u32,
+        oneof: &OneofDescriptorProto,
+    ) -> Result<(), VisitError> {
+        let entry = StoredOneof {
+            path: Vec::from_slice(alloc, path)?,
+            name: text_of(alloc, &oneof.name)?,
+            full_name: String::from_str(alloc, full_name)?,
+            fields: Vec::new(alloc),
+            is_synthetic: false,
+        };
+        let place = local_place(message, self.before.messages)?;
+        match self.batch.messages.get_mut(place) {
+            Some(message) => {
+                message.oneofs.push(entry)?;
+                Ok(())
+            }
+            None => Err(VisitError::TooMany),
+        }
+    }
+
+    fn visit_enum(
+        &mut self,
+        alloc: Global,
+        path: &[i32],
+        full_name: &str,
+        file: u32,
+        parent: Option<u32>,
+        index: u32,
+        enumeration: &EnumDescriptorProto,
+    ) -> Result<(), VisitError> {
+        self.declare_in(parent, Child::Enum(index))?;
+        self.batch.enums.push(StoredEnum {
+            file,
+            parent,
+            path: Vec::from_slice(alloc, path)?,
+            name: text_of(alloc, &enumeration.name)?,
+            full_name: String::from_str(alloc, full_name)?,
+            values: Vec::new(alloc),
+            by_number: Vec::new(alloc),
+            by_name: Vec::new(alloc),
+        })?;
+        Ok(())
+    }
+
+    fn visit_enum_value(
+        &mut self,
+        alloc: Global,
+        path: &[i32],
+        full_name: &str,
+        _file: u32,
+        enumeration: u32,
+        _index: u32,
+        value: &EnumValueDescriptorProto,
+    ) -> Result<(), VisitError> {
+        let entry = StoredValue {
+            path: Vec::from_slice(alloc, path)?,
+            name: text_of(alloc, &value.name)?,
+            full_name: String::from_str(alloc, full_name)?,
+            number: value.number.unwrap_or(0),
+        };
+        let place = local_place(enumeration, self.before.enums)?;
+        match self.batch.enums.get_mut(place) {
+            Some(enumeration) => {
+                enumeration.values.push(entry)?;
+                Ok(())
+            }
+            None => Err(VisitError::TooMany),
+        }
+    }
+
+    fn visit_service(
+        &mut self,
+        alloc: Global,
+        path: &[i32],
+        full_name: &str,
+        file: u32,
+        index: u32,
+        service: &ServiceDescriptorProto,
+    ) -> Result<(), VisitError> {
+        match self.batch.files.last_mut() {
+            Some(file) => file.services.push(index)?,
+            None => return Err(VisitError::TooMany),
+        }
+        self.batch.services.push(StoredService {
+            file,
+            path: Vec::from_slice(alloc, path)?,
+            name: text_of(alloc, &service.name)?,
+            full_name: String::from_str(alloc, full_name)?,
+            methods: Vec::new(alloc),
+        })?;
+        Ok(())
+    }
+
+    fn visit_method(
+        &mut self,
+        alloc: Global,
+        path: &[i32],
+        full_name: &str,
+        _file: u32,
+        service: u32,
+        _index: u32,
+        method: &MethodDescriptorProto,
+    ) -> Result<(), VisitError> {
+        let entry = StoredMethod {
+            path: Vec::from_slice(alloc, path)?,
+            name: text_of(alloc, &method.name)?,
+            full_name: String::from_str(alloc, full_name)?,
+            input: self.next_message()?,
+            output: self.next_message()?,
+            is_client_streaming: method.client_streaming == Some(true),
+            is_server_streaming: method.server_streaming == Some(true),
+        };
+        let place = local_place(service, self.before.services)?;
+        match self.batch.services.get_mut(place) {
+            Some(service) => {
+                service.methods.push(entry)?;
+                Ok(())
+            }
+            None => Err(VisitError::TooMany),
+        }
+    }
+
+    fn visit_extension(
+        &mut self,
+        alloc: Global,
+        path: &[i32],
+        full_name: &str,
+        file: u32,
+        parent: Option<u32>,
+        index: u32,
+        extension: &FieldDescriptorProto,
+    ) -> Result<(), VisitError> {
+        self.declare_in(parent, Child::Extension(index))?;
+        let extendee = self.next_message()?;
+        let kind = self.kind_of(extension).ok_or(VisitError::TooMany)?;
+        self.batch.extensions.push(StoredExtension {
+            file,
+            parent,
+            extendee,
+            field: extension_field(alloc, self.syntax, path, full_name, kind, extension)?,
+            json_name: format!(in alloc; "[{full_name}]")?,
+        })?;
+        Ok(())
+    }
+}
+
+/// The entry of an extension's field: a singular one is in no oneof and always has presence.
+fn extension_field(
+    alloc: Global,
+    syntax: Syntax,
+    path: &[i32],
+    full_name: &str,
+    kind: StoredKind,
+    extension: &FieldDescriptorProto,
+) -> Result<StoredField, VisitError> {
+    let mut field = field_entry(alloc, syntax, path, full_name, kind, extension)?;
+    field.oneof = None;
+    field.supports_presence = field.cardinality != Cardinality::Repeated;
+    Ok(field)
+}

@@ -1,0 +1,140 @@
+//! Whether what new entries name is there, among old and new ones.
+
+ghost use Rattle.std.specs.Prelude.{◌≡◌, ◌<◌, ◌^◌, IsTrue, map, length};
+ghost use Rattle.std.specs.List.{AllByRecursion};
+ghost use Rattle.reflect_index.specs.Types.{IsWithin, MessageWithin, EnumWithin, ExtensionWithin, MethodWithin, ServiceWithin, HasParts};
+ghost use Rattle.reflect_index.specs.Views.{message_of, enum_of, extension_of, service_of, method_of, field_of, kind_of};
+
+use crate::stored::{
+    StoredEntry, StoredEnum, StoredExtension, StoredField, StoredKind, StoredMessage, StoredMethod,
+    StoredService,
+};
+use crate::tables::{Counts, Tables};
+
+/// The type that a field names is one of so many.
+fn is_within(kind: StoredKind, counts: Counts) -> bool
+    ensures { IsTrue result → IsWithin counts (kind_of kind) }
+{
+    match kind {
+        StoredKind::Message(index) => index < counts.messages,
+        StoredKind::Enum(index) => index < counts.enums,
+        _ => true,
+    }
+}
+
+fn fields_within(fields: &[StoredField], counts: Counts) -> bool
+    ensures { IsTrue result → AllByRecursion (λ f. IsWithin counts f.kind) (map field_of fields.now) }
+{
+    for field in fields {
+        if !is_within(field.kind, counts) {
+            return false;
+        }
+    }
+    true
+}
+
+fn has_parts(entry: Option<StoredEntry>, fields: usize) -> bool
+    ensures { IsTrue result → HasParts fields entry }
+{
+    match entry {
+        Some(entry) => (entry.key as usize) < fields && (entry.value as usize) < fields,
+        None => true,
+    }
+}
+
+fn message_within(message: &StoredMessage, counts: Counts) -> bool
+    ensures { IsTrue result → MessageWithin counts (message_of message.now) }
+{
+    message.file < counts.files
+        && fields_within(message.fields.as_slice(), counts)
+        && has_parts(message.entry, message.fields.len())
+        && message.fields.len() < 0x8000_0000
+}
+
+fn messages_within(items: &[StoredMessage], counts: Counts) -> bool
+    ensures { IsTrue result → AllByRecursion (MessageWithin counts) (map message_of items.now) }
+{
+    for message in items {
+        if !message_within(message, counts) {
+            return false;
+        }
+    }
+    true
+}
+
+fn enum_within(enumeration: &StoredEnum, counts: Counts) -> bool
+    ensures { IsTrue result → EnumWithin counts (enum_of enumeration.now) }
+{
+    enumeration.file < counts.files && !enumeration.values.is_empty()
+}
+
+fn enums_within(items: &[StoredEnum], counts: Counts) -> bool
+    ensures { IsTrue result → AllByRecursion (EnumWithin counts) (map enum_of items.now) }
+{
+    for enumeration in items {
+        if !enum_within(enumeration, counts) {
+            return false;
+        }
+    }
+    true
+}
+
+fn extension_within(extension: &StoredExtension, counts: Counts) -> bool
+    ensures { IsTrue result → ExtensionWithin counts (extension_of extension.now) }
+{
+    extension.file < counts.files
+        && extension.extendee < counts.messages
+        && is_within(extension.field.kind, counts)
+}
+
+fn extensions_within(items: &[StoredExtension], counts: Counts) -> bool
+    ensures { IsTrue result → AllByRecursion (ExtensionWithin counts) (map extension_of items.now) }
+{
+    for extension in items {
+        if !extension_within(extension, counts) {
+            return false;
+        }
+    }
+    true
+}
+
+fn methods_within(items: &[StoredMethod], counts: Counts) -> bool
+    ensures { IsTrue result → AllByRecursion (MethodWithin counts) (map method_of items.now) }
+{
+    for method in items {
+        if !(method.input < counts.messages && method.output < counts.messages) {
+            return false;
+        }
+    }
+    true
+}
+
+fn service_within(service: &StoredService, counts: Counts) -> bool
+    ensures { IsTrue result → ServiceWithin counts (service_of service.now) }
+{
+    service.file < counts.files && methods_within(service.methods.as_slice(), counts)
+}
+
+fn services_within(items: &[StoredService], counts: Counts) -> bool
+    ensures { IsTrue result → AllByRecursion (ServiceWithin counts) (map service_of items.now) }
+{
+    for service in items {
+        if !service_within(service, counts) {
+            return false;
+        }
+    }
+    true
+}
+
+/// All that the entries name is among so many.
+pub fn are_within(tables: &Tables, counts: Counts) -> bool
+    ensures messages { IsTrue result → AllByRecursion (MessageWithin counts) (map message_of tables.now.messages.items) }
+    ensures enums { IsTrue result → AllByRecursion (EnumWithin counts) (map enum_of tables.now.enums.items) }
+    ensures extensions { IsTrue result → AllByRecursion (ExtensionWithin counts) (map extension_of tables.now.extensions.items) }
+    ensures services { IsTrue result → AllByRecursion (ServiceWithin counts) (map service_of tables.now.services.items) }
+{
+    messages_within(tables.messages.as_slice(), counts)
+        && enums_within(tables.enums.as_slice(), counts)
+        && extensions_within(tables.extensions.as_slice(), counts)
+        && services_within(tables.services.as_slice(), counts)
+}

@@ -1,0 +1,150 @@
+ghost use Rattle.std.specs.Prelude.{◌≡◌, ◌<◌, length};
+
+use crate::lists::{Enums, Extensions, Messages};
+use crate::service::Services;
+use descriptor_records::FileDescriptorProto;
+use reflect_index::StoredFile;
+use reflect_pool::{DescriptorPool, Syntax};
+
+/// A file of a pool.
+#[derive(Clone, Copy)]
+pub struct FileDescriptor<'p> {
+    pub(crate) pool: &'p DescriptorPool,
+    pub(crate) index: u32,
+    ghost in_range: { index < length pool.now.files },
+}
+
+impl<'p> FileDescriptor<'p> {
+    /// The file at a place of a pool.
+    pub fn new(pool: &'p DescriptorPool, index: u32) -> FileDescriptor<'p>
+        requires { index < length pool.now.files }
+        ensures pool { result.pool.now ≡ pool.now }
+        ensures index { result.index ≡ index }
+    {
+        FileDescriptor { pool, index }
+    }
+
+    /// The pool that the file stands in.
+    pub fn parent_pool(&self) -> &'p DescriptorPool
+        ensures { result.now ≡ self.now.pool.now }
+    {
+        self.pool
+    }
+
+    /// The place in the pool.
+    pub fn index(&self) -> u32
+        ensures { result ≡ self.now.index }
+    {
+        self.index
+    }
+
+    fn stored(&self) -> &'p StoredFile {
+        let tables = self.pool.tables();
+        &tables.files[self.index as usize]
+    }
+
+    /// The name, relative to the root of the sources.
+    pub fn name(&self) -> &'p str {
+        text(&self.stored().record.name)
+    }
+
+    /// The package, empty where there is none.
+    pub fn package_name(&self) -> &'p str {
+        text(&self.stored().record.package)
+    }
+
+    /// The syntax that the file is written in.
+    pub fn syntax(&self) -> Syntax {
+        self.stored().declared.syntax
+    }
+
+    /// The record of the file, with full names in place of references.
+    pub fn file_descriptor_proto(&self) -> &'p FileDescriptorProto {
+        &self.stored().record
+    }
+
+    /// The imported files, in the order of the imports.
+    pub fn dependencies(&self) -> Files<'p> {
+        Files {
+            pool: self.pool,
+            places: self.pool.imports_of(self.index),
+        }
+    }
+
+    /// The publicly imported files, in the order in which they are named.
+    pub fn public_dependencies(&self) -> Files<'p> {
+        Files {
+            pool: self.pool,
+            places: self.pool.public_imports_of(self.index),
+        }
+    }
+
+    /// The message types that stand in no message, as they were declared.
+    pub fn messages(&self) -> Messages<'p> {
+        Messages {
+            pool: self.pool,
+            places: self.stored().declared.children.messages.as_slice(),
+        }
+    }
+
+    /// The enum types that stand in no message, as they were declared.
+    pub fn enums(&self) -> Enums<'p> {
+        Enums {
+            pool: self.pool,
+            places: self.stored().declared.children.enums.as_slice(),
+        }
+    }
+
+    /// The extensions that stand in no message, as they were declared.
+    pub fn extensions(&self) -> Extensions<'p> {
+        Extensions {
+            pool: self.pool,
+            places: self.stored().declared.children.extensions.as_slice(),
+        }
+    }
+
+    /// The services, as they were declared.
+    pub fn services(&self) -> Services<'p> {
+        Services {
+            pool: self.pool,
+            places: self.stored().declared.services.as_slice(),
+        }
+    }
+}
+
+fn text(text: &Option<String>) -> &str {
+    match text {
+        Some(text) => text.as_str(),
+        None => "",
+    }
+}
+
+/// Files, by their places.
+#[derive(Drop)]
+pub struct Files<'p> {
+    pool: &'p DescriptorPool,
+    places: &'p [u32],
+}
+
+impl<'p> Iterator for Files<'p> {
+    ghost use Rattle.std.specs.Iterator.{at_most};
+
+    type Item = FileDescriptor<'p>;
+
+    ghost remaining = { λ s. at_most (length s.places.now) };
+
+    fn next(&mut self) -> Option<FileDescriptor<'p>> {
+        let (place, others) = self.places.split_first()?;
+        self.places = others;
+        file_at(self.pool, *place)
+    }
+}
+
+/// The file at a place, if there is one.
+pub fn file_at<'p>(pool: &'p DescriptorPool, index: u32) -> Option<FileDescriptor<'p>> {
+    if (index as usize) < pool.tables().files.len() {
+        Some(FileDescriptor { pool, index })
+    } else {
+        None
+    }
+}

@@ -1,0 +1,244 @@
+ghost use Rattle.std.specs.Prelude.{◌-◌, length};
+
+use crate::file::{FileDescriptor, file_at};
+use crate::service::{ServiceDescriptor, service_in};
+use descriptor_records::FileDescriptorProto;
+use reflect_index::StoredFile;
+use reflect_pool::{DescriptorPool, EnumDescriptor, ExtensionDescriptor, MessageDescriptor};
+
+fn end_of(count: usize) -> u32 {
+    u32::try_from(count).unwrap_or(u32::MAX)
+}
+
+/// Further readers of a pool.
+pub trait PoolReaders {
+    /// The files, in the order in which they were added.
+    fn files(&self) -> AllFiles<'_>;
+
+    /// The records of the files, with full names in place of references.
+    fn file_descriptor_protos(&self) -> FileRecords<'_>;
+
+    /// All message types, of each file with those that stand in others, each before what stands in it.
+    fn all_messages(&self) -> AllMessages<'_>;
+
+    /// All enum types, of each file.
+    fn all_enums(&self) -> AllEnums<'_>;
+
+    /// All extensions, of each file.
+    fn all_extensions(&self) -> AllExtensions<'_>;
+
+    /// All services, of each file.
+    fn services(&self) -> AllServices<'_>;
+
+    /// The file of a name.
+    fn get_file_by_name(&self, name: &str) -> Option<FileDescriptor<'_>>;
+
+    /// The service of a full name, which may have one leading dot.
+    fn get_service_by_name(&self, name: &str) -> Option<ServiceDescriptor<'_>>;
+}
+
+impl PoolReaders for DescriptorPool {
+    fn files(&self) -> AllFiles<'_> {
+        AllFiles {
+            pool: self,
+            next: 0,
+            end: end_of(self.tables().files.len()),
+        }
+    }
+
+    fn file_descriptor_protos(&self) -> FileRecords<'_> {
+        FileRecords {
+            rest: self.tables().files.as_slice(),
+        }
+    }
+
+    fn all_messages(&self) -> AllMessages<'_> {
+        AllMessages {
+            pool: self,
+            next: 0,
+            end: end_of(self.tables().messages.len()),
+        }
+    }
+
+    fn all_enums(&self) -> AllEnums<'_> {
+        AllEnums {
+            pool: self,
+            next: 0,
+            end: end_of(self.tables().enums.len()),
+        }
+    }
+
+    fn all_extensions(&self) -> AllExtensions<'_> {
+        AllExtensions {
+            pool: self,
+            next: 0,
+            end: end_of(self.tables().extensions.len()),
+        }
+    }
+
+    fn services(&self) -> AllServices<'_> {
+        AllServices {
+            pool: self,
+            next: 0,
+            end: end_of(self.tables().services.len()),
+        }
+    }
+
+    fn get_file_by_name(&self, name: &str) -> Option<FileDescriptor<'_>> {
+        file_at(self, self.file_place(name)?)
+    }
+
+    fn get_service_by_name(&self, name: &str) -> Option<ServiceDescriptor<'_>> {
+        service_in(self, self.service_place(name)?)
+    }
+}
+
+/// The files of a pool, by their places.
+#[derive(Drop)]
+pub struct AllFiles<'p> {
+    pool: &'p DescriptorPool,
+    next: u32,
+    end: u32,
+}
+
+impl<'p> Iterator for AllFiles<'p> {
+    ghost use Rattle.std.specs.Iterator.{at_most};
+
+    type Item = FileDescriptor<'p>;
+
+    ghost remaining = { λ s. at_most (s.end - s.next) };
+
+    fn next(&mut self) -> Option<FileDescriptor<'p>> {
+        if self.next < self.end {
+            let place = self.next;
+            self.next += 1;
+            file_at(self.pool, place)
+        } else {
+            None
+        }
+    }
+}
+
+/// The message types of a pool, by their places.
+#[derive(Drop)]
+pub struct AllMessages<'p> {
+    pool: &'p DescriptorPool,
+    next: u32,
+    end: u32,
+}
+
+impl<'p> Iterator for AllMessages<'p> {
+    ghost use Rattle.std.specs.Iterator.{at_most};
+
+    type Item = MessageDescriptor<'p>;
+
+    ghost remaining = { λ s. at_most (s.end - s.next) };
+
+    fn next(&mut self) -> Option<MessageDescriptor<'p>> {
+        if self.next < self.end {
+            let place = self.next;
+            self.next += 1;
+            self.pool.message_at(place)
+        } else {
+            None
+        }
+    }
+}
+
+/// The enum types of a pool, by their places.
+#[derive(Drop)]
+pub struct AllEnums<'p> {
+    pool: &'p DescriptorPool,
+    next: u32,
+    end: u32,
+}
+
+impl<'p> Iterator for AllEnums<'p> {
+    ghost use Rattle.std.specs.Iterator.{at_most};
+
+    type Item = EnumDescriptor<'p>;
+
+    ghost remaining = { λ s. at_most (s.end - s.next) };
+
+    fn next(&mut self) -> Option<EnumDescriptor<'p>> {
+        if self.next < self.end {
+            let place = self.next;
+            self.next += 1;
+            self.pool.enum_at(place)
+        } else {
+            None
+        }
+    }
+}
+
+/// The extensions of a pool, by their places.
+#[derive(Drop)]
+pub struct AllExtensions<'p> {
+    pool: &'p DescriptorPool,
+    next: u32,
+    end: u32,
+}
+
+impl<'p> Iterator for AllExtensions<'p> {
+    ghost use Rattle.std.specs.Iterator.{at_most};
+
+    type Item = ExtensionDescriptor<'p>;
+
+    ghost remaining = { λ s. at_most (s.end - s.next) };
+
+    fn next(&mut self) -> Option<ExtensionDescriptor<'p>> {
+        if self.next < self.end {
+            let place = self.next;
+            self.next += 1;
+            self.pool.extension_at(place)
+        } else {
+            None
+        }
+    }
+}
+
+/// The services of a pool, by their places.
+#[derive(Drop)]
+pub struct AllServices<'p> {
+    pool: &'p DescriptorPool,
+    next: u32,
+    end: u32,
+}
+
+impl<'p> Iterator for AllServices<'p> {
+    ghost use Rattle.std.specs.Iterator.{at_most};
+
+    type Item = ServiceDescriptor<'p>;
+
+    ghost remaining = { λ s. at_most (s.end - s.next) };
+
+    fn next(&mut self) -> Option<ServiceDescriptor<'p>> {
+        if self.next < self.end {
+            let place = self.next;
+            self.next += 1;
+            service_in(self.pool, place)
+        } else {
+            None
+        }
+    }
+}
+
+/// The records of a pool's files.
+#[derive(Drop)]
+pub struct FileRecords<'p> {
+    rest: &'p [StoredFile],
+}
+
+impl<'p> Iterator for FileRecords<'p> {
+    ghost use Rattle.std.specs.Iterator.{at_most};
+
+    type Item = &'p FileDescriptorProto;
+
+    ghost remaining = { λ s. at_most (length s.rest.now) };
+
+    fn next(&mut self) -> Option<&'p FileDescriptorProto> {
+        let (file, others) = self.rest.split_first()?;
+        self.rest = others;
+        Some(&file.record)
+    }
+}

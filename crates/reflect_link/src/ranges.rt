@@ -1,0 +1,94 @@
+//! The ranges and names that a type reserves.
+
+ghost use Rattle.std.specs.Prelude.{length};
+
+use descriptor_records::{EnumReservedRange, ExtensionRange, ReservedRange};
+use std::ops::{Range, RangeInclusive};
+
+/// A bound of a record, 0 where it has none that a field number may be.
+fn bound(number: Option<i32>) -> u32 {
+    match number {
+        Some(number) => u32::try_from(number).unwrap_or(0),
+        None => 0,
+    }
+}
+
+/// Ranges of field numbers that no field may have.
+#[derive(Drop)]
+pub struct ReservedRanges<'p> {
+    pub(crate) rest: &'p [ReservedRange],
+}
+
+impl<'p> Iterator for ReservedRanges<'p> {
+    ghost use Rattle.std.specs.Iterator.{at_most};
+
+    type Item = Range<u32>;
+
+    ghost remaining = { λ s. at_most (length s.rest.now) };
+
+    fn next(&mut self) -> Option<Range<u32>> {
+        let (range, others) = self.rest.split_first()?;
+        self.rest = others;
+        Some(bound(range.start)..bound(range.end))
+    }
+}
+
+/// Ranges of field numbers that are kept for extensions.
+#[derive(Drop)]
+pub struct ExtensionRanges<'p> {
+    pub(crate) rest: &'p [ExtensionRange],
+}
+
+impl<'p> Iterator for ExtensionRanges<'p> {
+    ghost use Rattle.std.specs.Iterator.{at_most};
+
+    type Item = Range<u32>;
+
+    ghost remaining = { λ s. at_most (length s.rest.now) };
+
+    fn next(&mut self) -> Option<Range<u32>> {
+        let (range, others) = self.rest.split_first()?;
+        self.rest = others;
+        Some(bound(range.start)..bound(range.end))
+    }
+}
+
+/// Ranges of numbers that no value of an enum may have.
+#[derive(Drop)]
+pub struct EnumReservedRanges<'p> {
+    pub(crate) rest: &'p [EnumReservedRange],
+}
+
+impl<'p> Iterator for EnumReservedRanges<'p> {
+    ghost use Rattle.std.specs.Iterator.{at_most};
+
+    type Item = RangeInclusive<i32>;
+
+    ghost remaining = { λ s. at_most (length s.rest.now) };
+
+    fn next(&mut self) -> Option<RangeInclusive<i32>> {
+        let (range, others) = self.rest.split_first()?;
+        self.rest = others;
+        Some(range.start.unwrap_or(0)..=range.end.unwrap_or(0))
+    }
+}
+
+/// Names that are reserved.
+#[derive(Drop)]
+pub struct ReservedNames<'p> {
+    pub(crate) rest: &'p [String],
+}
+
+impl<'p> Iterator for ReservedNames<'p> {
+    ghost use Rattle.std.specs.Iterator.{at_most};
+
+    type Item = &'p str;
+
+    ghost remaining = { λ s. at_most (length s.rest.now) };
+
+    fn next(&mut self) -> Option<&'p str> {
+        let (name, others) = self.rest.split_first()?;
+        self.rest = others;
+        Some(name.as_str())
+    }
+}

@@ -1,0 +1,263 @@
+ghost use Rattle.std.specs.Prelude.{◌≡◌, ◌<◌, ◌-◌, length};
+ghost use Rattle.reflect_index.specs.Types.{service_at};
+
+use crate::file::FileDescriptor;
+use crate::records::{method_record, service_record};
+use descriptor_records::{FileDescriptorProto, MethodDescriptorProto, ServiceDescriptorProto};
+use reflect_index::{StoredMethod, StoredService};
+use reflect_pool::{DescriptorPool, MessageDescriptor};
+
+/// A service of a pool.
+#[derive(Clone, Copy)]
+pub struct ServiceDescriptor<'p> {
+    pub(crate) pool: &'p DescriptorPool,
+    pub(crate) index: u32,
+    ghost in_range: { index < length pool.now.services },
+}
+
+impl<'p> ServiceDescriptor<'p> {
+    /// The service at a place of a pool.
+    pub fn new(pool: &'p DescriptorPool, index: u32) -> ServiceDescriptor<'p>
+        requires { index < length pool.now.services }
+        ensures pool { result.pool.now ≡ pool.now }
+        ensures index { result.index ≡ index }
+    {
+        ServiceDescriptor { pool, index }
+    }
+
+    /// The pool that the service stands in.
+    pub fn parent_pool(&self) -> &'p DescriptorPool
+        ensures { result.now ≡ self.now.pool.now }
+    {
+        self.pool
+    }
+
+    /// The place in the pool.
+    pub fn index(&self) -> u32
+        ensures { result ≡ self.now.index }
+    {
+        self.index
+    }
+
+    /// The file that the service is declared in.
+    pub fn parent_file(&self) -> FileDescriptor<'p>
+        ensures { result.pool.now ≡ self.now.pool.now }
+    {
+        FileDescriptor {
+            pool: self.pool,
+            index: self.pool.file_of_service(self.index),
+        }
+    }
+
+    /// The record of the file that the service is declared in.
+    pub fn parent_file_descriptor_proto(&self) -> &'p FileDescriptorProto {
+        self.parent_file().file_descriptor_proto()
+    }
+
+    /// The package of the file that the service is declared in.
+    pub fn package_name(&self) -> &'p str {
+        self.parent_file().package_name()
+    }
+
+    fn stored(&self) -> &'p StoredService {
+        let tables = self.pool.tables();
+        &tables.services[self.index as usize]
+    }
+
+    pub fn name(&self) -> &'p str {
+        self.stored().name.as_str()
+    }
+
+    /// The file's package, a dot and the service's name.
+    pub fn full_name(&self) -> &'p str {
+        self.stored().full_name.as_str()
+    }
+
+    /// Where the declaration stands in its file's record.
+    pub fn path(&self) -> &'p [i32] {
+        self.stored().path.as_slice()
+    }
+
+    /// The record of the service.
+    pub fn service_descriptor_proto(&self) -> &'p ServiceDescriptorProto {
+        let found = service_record(self.parent_file_descriptor_proto(), self.path());
+        found.unwrap_or(&self.pool.blanks().service)
+    }
+
+    /// The methods, as they were declared.
+    pub fn methods(&self) -> Methods<'p> {
+        Methods {
+            service: *self,
+            next: 0,
+            end: u32::try_from(self.stored().methods.len()).unwrap_or(u32::MAX),
+        }
+    }
+
+    /// The method at a place.
+    fn method_at(&self, index: u32) -> Option<MethodDescriptor<'p>> {
+        let tables = self.pool.tables();
+        if (index as usize) < tables.services[self.index as usize].methods.len() {
+            Some(MethodDescriptor {
+                service: *self,
+                index,
+            })
+        } else {
+            None
+        }
+    }
+}
+
+/// Services, by their places.
+#[derive(Drop)]
+pub struct Services<'p> {
+    pub(crate) pool: &'p DescriptorPool,
+    pub(crate) places: &'p [u32],
+}
+
+impl<'p> Iterator for Services<'p> {
+    ghost use Rattle.std.specs.Iterator.{at_most};
+
+    type Item = ServiceDescriptor<'p>;
+
+    ghost remaining = { λ s. at_most (length s.places.now) };
+
+    fn next(&mut self) -> Option<ServiceDescriptor<'p>> {
+        let (place, others) = self.places.split_first()?;
+        self.places = others;
+        service_in(self.pool, *place)
+    }
+}
+
+/// The service at a place, if there is one.
+pub fn service_in<'p>(pool: &'p DescriptorPool, index: u32) -> Option<ServiceDescriptor<'p>> {
+    if (index as usize) < pool.tables().services.len() {
+        Some(ServiceDescriptor { pool, index })
+    } else {
+        None
+    }
+}
+
+/// The methods of a service, as they were declared.
+#[derive(Drop)]
+pub struct Methods<'p> {
+    service: ServiceDescriptor<'p>,
+    next: u32,
+    end: u32,
+}
+
+impl<'p> Iterator for Methods<'p> {
+    ghost use Rattle.std.specs.Iterator.{at_most};
+
+    type Item = MethodDescriptor<'p>;
+
+    ghost remaining = { λ s. at_most (s.end - s.next) };
+
+    fn next(&mut self) -> Option<MethodDescriptor<'p>> {
+        if self.next < self.end {
+            let place = self.next;
+            self.next += 1;
+            self.service.method_at(place)
+        } else {
+            None
+        }
+    }
+}
+
+/// A method of a service.
+#[derive(Clone, Copy)]
+pub struct MethodDescriptor<'p> {
+    pub(crate) service: ServiceDescriptor<'p>,
+    pub(crate) index: u32,
+    ghost in_range: { index < length (service_at service.pool.now service.index).methods },
+}
+
+impl<'p> MethodDescriptor<'p> {
+    /// The method at a place of a service.
+    pub fn new(service: ServiceDescriptor<'p>, index: u32) -> MethodDescriptor<'p>
+        requires { index < length (service_at service.pool.now service.index).methods }
+        ensures service { result.service ≡ service.entry }
+        ensures index { result.index ≡ index }
+    {
+        MethodDescriptor { service, index }
+    }
+
+    /// The pool that the method stands in.
+    pub fn parent_pool(&self) -> &'p DescriptorPool
+        ensures { result.now ≡ self.now.service.pool.now }
+    {
+        self.service.pool
+    }
+
+    /// The service that the method belongs to.
+    pub fn parent_service(&self) -> ServiceDescriptor<'p>
+        ensures { result ≡ self.now.service }
+    {
+        self.service
+    }
+
+    /// The place in the service.
+    pub fn index(&self) -> u32
+        ensures { result ≡ self.now.index }
+    {
+        self.index
+    }
+
+    /// The file that the method is declared in.
+    pub fn parent_file(&self) -> FileDescriptor<'p> {
+        self.service.parent_file()
+    }
+
+    /// The record of the file that the method is declared in.
+    pub fn parent_file_descriptor_proto(&self) -> &'p FileDescriptorProto {
+        self.service.parent_file_descriptor_proto()
+    }
+
+    fn stored(&self) -> &'p StoredMethod {
+        let tables = self.service.pool.tables();
+        &tables.services[self.service.index as usize].methods[self.index as usize]
+    }
+
+    pub fn name(&self) -> &'p str {
+        self.stored().name.as_str()
+    }
+
+    /// The service's full name, a dot and the method's name.
+    pub fn full_name(&self) -> &'p str {
+        self.stored().full_name.as_str()
+    }
+
+    /// Where the declaration stands in its file's record.
+    pub fn path(&self) -> &'p [i32] {
+        self.stored().path.as_slice()
+    }
+
+    /// The record of the method.
+    pub fn method_descriptor_proto(&self) -> &'p MethodDescriptorProto {
+        let found = method_record(self.parent_file_descriptor_proto(), self.path());
+        found.unwrap_or(&self.service.pool.blanks().method)
+    }
+
+    /// The message type that the method takes.
+    pub fn input(&self) -> MessageDescriptor<'p>
+        ensures { result.pool.now ≡ self.now.service.pool.now }
+    {
+        self.service.pool.input_of(self.service.index, self.index)
+    }
+
+    /// The message type that the method answers.
+    pub fn output(&self) -> MessageDescriptor<'p>
+        ensures { result.pool.now ≡ self.now.service.pool.now }
+    {
+        self.service.pool.output_of(self.service.index, self.index)
+    }
+
+    /// The caller sends any number of messages.
+    pub fn is_client_streaming(&self) -> bool {
+        self.stored().is_client_streaming
+    }
+
+    /// The service answers with any number of messages.
+    pub fn is_server_streaming(&self) -> bool {
+        self.stored().is_server_streaming
+    }
+}

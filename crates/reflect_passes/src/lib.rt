@@ -1,0 +1,12 @@
+//! The passes of linking over a batch of files: each lists all faults that it finds, and the first faulty one ends it.
+#![tactic(auto)]
+
+mod error;
+mod extension_numbers;
+mod index_pass;
+mod passes;
+
+pub use error::DescriptorError;
+pub use extension_numbers::list_extensions;
+pub use index_pass::{add_links, index_files};
+pub use passes::{declare_names, resolve_references, walk_error};

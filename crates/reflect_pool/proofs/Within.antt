@@ -1,0 +1,73 @@
+-- What the entries at places of a pool name is there.
+use Rattle.std.proofs.Common.{◌≡◌, ℕ, ◌<◌, ◌^◌, List, map, length, get_or, arith, sym, subst, ap}
+use Rattle.std.proofs.Math.ListN.{length-map}
+use Rattle.reflect_index.specs.Types.{PoolType, MessageType, EnumType, ServiceType, ArePooled, IsWithin, MessageWithin, EnumWithin, ExtensionWithin, MethodWithin, ServiceWithin, counts_of, no_type, no_enum, no_service}
+use Rattle.reflect_index.specs.Views.{pool_of, message_of, enum_of, extension_of, service_of, method_of, field_of, kind_of}
+use Rattle.reflect_index.specs.declared.tables.Tables.{Tables}
+use Rattle.reflect_index.specs.declared.stored.StoredMessage.{StoredMessage}
+use Rattle.reflect_index.specs.declared.stored.StoredField.{StoredField}
+use Rattle.reflect_index.specs.declared.stored.StoredEnum.{StoredEnum}
+use Rattle.reflect_index.specs.declared.stored.StoredExtension.{StoredExtension}
+use Rattle.reflect_index.specs.declared.stored.StoredService.{StoredService}
+use Rattle.reflect_index.specs.declared.stored.StoredMethod.{StoredMethod}
+use Rattle.reflect_pool.proofs.Places.{at_place, at_view, view_there}
+
+pub message_within : (t : Tables) (pool : PoolType) (i : ℕ) (m : StoredMessage) → pool_of t ≡ pool → ArePooled (pool_of t)
+    → i < length pool.messages → m ≡ get_or t.messages.items i m → MessageWithin (counts_of pool) (message_of m)
+message_within t pool i m e h lt is =
+    subst (λ p. i < length p.messages → MessageWithin (counts_of p) (message_of m)) e
+    (λ below. at_view message_of (MessageWithin (counts_of (pool_of t))) t.messages.items i m h.messages below is) lt
+
+pub enum_within : (t : Tables) (pool : PoolType) (i : ℕ) (m : StoredEnum) → pool_of t ≡ pool → ArePooled (pool_of t)
+    → i < length pool.enums → m ≡ get_or t.enums.items i m → EnumWithin (counts_of pool) (enum_of m)
+enum_within t pool i m e h lt is =
+    subst (λ p. i < length p.enums → EnumWithin (counts_of p) (enum_of m)) e
+    (λ below. at_view enum_of (EnumWithin (counts_of (pool_of t))) t.enums.items i m h.enums below is) lt
+
+pub extension_within : (t : Tables) (pool : PoolType) (i : ℕ) (m : StoredExtension) → pool_of t ≡ pool → ArePooled (pool_of t)
+    → i < length pool.extensions → m ≡ get_or t.extensions.items i m → ExtensionWithin (counts_of pool) (extension_of m)
+extension_within t pool i m e h lt is =
+    subst (λ p. i < length p.extensions → ExtensionWithin (counts_of p) (extension_of m)) e
+    (λ below. at_view extension_of (ExtensionWithin (counts_of (pool_of t))) t.extensions.items i m h.extensions below is) lt
+
+pub service_within : (t : Tables) (pool : PoolType) (i : ℕ) (m : StoredService) → pool_of t ≡ pool → ArePooled (pool_of t)
+    → i < length pool.services → m ≡ get_or t.services.items i m → ServiceWithin (counts_of pool) (service_of m)
+service_within t pool i m e h lt is =
+    subst (λ p. i < length p.services → ServiceWithin (counts_of p) (service_of m)) e
+    (λ below. at_view service_of (ServiceWithin (counts_of (pool_of t))) t.services.items i m h.services below is) lt
+
+-- the type that a field names is there
+pub kind_within : (t : Tables) (pool : PoolType) (i k : ℕ) (m : StoredMessage) (f : StoredField) → pool_of t ≡ pool → ArePooled (pool_of t)
+    → i < length pool.messages → m ≡ get_or t.messages.items i m
+    → k < length (get_or pool.messages i no_type).fields → f ≡ get_or m.fields.items k f
+    → IsWithin (counts_of pool) (kind_of f.kind)
+kind_within t pool i k m f e h lt is inner was =
+    let here = message_within t pool i m e h lt is in
+    let there : get_or pool.messages i no_type ≡ message_of m =
+    subst (λ (p : PoolType). i < length p.messages → get_or p.messages i no_type ≡ message_of m) e (λ below. view_there message_of t.messages.items i m no_type below is) lt in
+    at_view field_of (λ g. IsWithin (counts_of pool) g.kind) m.fields.items k f here.fields (subst (λ (n : MessageType). k < length n.fields) there inner) was
+
+-- the message types that a method names are there
+pub method_within : (t : Tables) (pool : PoolType) (i k : ℕ) (m : StoredService) (f : StoredMethod) → pool_of t ≡ pool → ArePooled (pool_of t)
+    → i < length pool.services → m ≡ get_or t.services.items i m
+    → k < length (get_or pool.services i no_service).methods → f ≡ get_or m.methods.items k f
+    → MethodWithin (counts_of pool) (method_of f)
+method_within t pool i k m f e h lt is inner was =
+    let here = service_within t pool i m e h lt is in
+    let there : get_or pool.services i no_service ≡ service_of m =
+    subst (λ (p : PoolType). i < length p.services → get_or p.services i no_service ≡ service_of m) e (λ below. view_there service_of t.services.items i m no_service below is) lt in
+    at_view method_of (MethodWithin (counts_of pool)) m.methods.items k f here.methods (subst (λ (n : ServiceType). k < length n.methods) there inner) was
+
+-- an enum has a first value
+pub has_value : (t : Tables) (pool : PoolType) (i : ℕ) → pool_of t ≡ pool → ArePooled (pool_of t) → i < length pool.enums → 0 < length (get_or pool.enums i no_enum).values
+has_value t pool i e h lt = subst (λ (p : PoolType). i < length p.enums → 0 < length (get_or p.enums i no_enum).values) e (λ below. (at_place_of_enum t i h below)) lt where
+  at_place_of_enum : (t : Tables) (i : ℕ) → ArePooled (pool_of t) → i < length (map enum_of t.enums.items) → 0 < length (get_or (map enum_of t.enums.items) i no_enum).values
+  at_place_of_enum t i h below = (at_place (EnumWithin (counts_of (pool_of t))) (map enum_of t.enums.items) i no_enum h.enums below).some
+
+-- a field's place is small
+pub few_fields : (t : Tables) (pool : PoolType) (i k : ℕ) (m : StoredMessage) → pool_of t ≡ pool → ArePooled (pool_of t)
+    → i < length pool.messages → m ≡ get_or t.messages.items i m → k < length m.fields.items → k < 2 ^ 31
+few_fields t pool i k m e h lt is below =
+    let few = (message_within t pool i m e h lt is).few in
+    let long : length (map field_of m.fields.items) ≡ length m.fields.items = length-map m.fields.items field_of in
+    omega (arith, few, long, below)

@@ -1,0 +1,124 @@
+//! What the readers of the crate above take from a pool.
+
+ghost use Rattle.std.specs.Prelude.{◌≡◌, ◌<◌, length};
+ghost use Rattle.reflect_index.specs.Types.{service_at};
+ghost use Rattle.reflect_index.specs.Views.{pool_of};
+
+use crate::blank::Blanks;
+use crate::enums::EnumDescriptor;
+use crate::extension::ExtensionDescriptor;
+use crate::message::MessageDescriptor;
+use crate::pool::DescriptorPool;
+use reflect_index::{Children, Tables};
+use reflect_names::DefinitionKind;
+
+impl DescriptorPool {
+    /// All that the pool keeps of its files' declarations.
+    pub fn tables(&self) -> &Tables
+        ensures { pool_of result.now ≡ self.now }
+    {
+        &self.tables
+    }
+
+    /// The place of the file that a service is declared in.
+    pub fn file_of_service(&self, index: u32) -> u32
+        requires { index < length self.now.services }
+        ensures { result < length self.now.files }
+    {
+        self.tables.services[index as usize].file
+    }
+
+    /// The places of the files that a file imports, in the order of its imports.
+    pub fn imports_of(&self, file: u32) -> &[u32] {
+        match self.links.get(file as usize) {
+            Some(links) => links.imports.as_slice(),
+            None => &[],
+        }
+    }
+
+    /// The places of the files that a file imports publicly, in the order in which it names them.
+    pub fn public_imports_of(&self, file: u32) -> &[u32] {
+        match self.links.get(file as usize) {
+            Some(links) => links.public.as_slice(),
+            None => &[],
+        }
+    }
+
+    /// The place of the file of a name.
+    pub fn file_place(&self, name: &str) -> Option<u32> {
+        self.file_names.get(name).copied()
+    }
+
+    /// The place of the service of a full name, which may have one leading dot.
+    pub fn service_place(&self, name: &str) -> Option<u32> {
+        match self.kind_of(name)? {
+            DefinitionKind::Service(index) => Some(index),
+            _ => None,
+        }
+    }
+
+    /// Records without content.
+    pub fn blanks(&self) -> &Blanks {
+        &self.blanks
+    }
+
+    /// The message type that a method takes.
+    pub fn input_of(&self, service: u32, method: u32) -> MessageDescriptor<'_>
+        requires service { service < length self.now.services }
+        requires method { method < length (service_at self.now service).methods }
+        ensures { result.pool.now ≡ self.now }
+    {
+        MessageDescriptor {
+            pool: self,
+            index: self.tables.services[service as usize].methods[method as usize].input,
+        }
+    }
+
+    /// The message type that a method answers.
+    pub fn output_of(&self, service: u32, method: u32) -> MessageDescriptor<'_>
+        requires service { service < length self.now.services }
+        requires method { method < length (service_at self.now service).methods }
+        ensures { result.pool.now ≡ self.now }
+    {
+        MessageDescriptor {
+            pool: self,
+            index: self.tables.services[service as usize].methods[method as usize].output,
+        }
+    }
+}
+
+impl<'p> MessageDescriptor<'p> {
+    /// The place of the file that the type is declared in.
+    pub fn file_index(&self) -> u32
+        ensures { result < length self.now.pool.now.files }
+    {
+        let pool = self.pool;
+        pool.tables.messages[self.index as usize].file
+    }
+
+    /// The places of what is declared in the type.
+    pub fn children(&self) -> &'p Children {
+        let pool = self.pool;
+        &pool.tables.messages[self.index as usize].children
+    }
+}
+
+impl<'p> EnumDescriptor<'p> {
+    /// The place of the file that the type is declared in.
+    pub fn file_index(&self) -> u32
+        ensures { result < length self.now.pool.now.files }
+    {
+        let pool = self.pool;
+        pool.tables.enums[self.index as usize].file
+    }
+}
+
+impl<'p> ExtensionDescriptor<'p> {
+    /// The place of the file that the extension is declared in.
+    pub fn file_index(&self) -> u32
+        ensures { result < length self.now.pool.now.files }
+    {
+        let pool = self.pool;
+        pool.tables.extensions[self.index as usize].file
+    }
+}

@@ -1,0 +1,158 @@
+ghost use Rattle.std.specs.Prelude.{◌≡◌, ◌<◌, length, IfSome};
+ghost use Rattle.reflect_index.specs.Types.{extension_at};
+
+use crate::kind::{DefaultValue, Kind};
+use crate::message::MessageDescriptor;
+use crate::pool::DescriptorPool;
+use crate::reading::{default_value, is_map, kind_in};
+use reflect_index::Cardinality;
+use std::collections::btree_map;
+
+/// An extension of a pool: a field of a message type that is declared elsewhere.
+#[derive(Clone, Copy)]
+pub struct ExtensionDescriptor<'p> {
+    pub(crate) pool: &'p DescriptorPool,
+    pub(crate) index: u32,
+    ghost in_range: { index < length pool.now.extensions },
+}
+
+impl<'p> ExtensionDescriptor<'p> {
+    ghost use Rattle.reflect_pool.specs.Kinds.{IsKind};
+
+    /// The pool that the extension stands in.
+    pub fn parent_pool(&self) -> &'p DescriptorPool
+        ensures { result.now ≡ self.now.pool.now }
+    {
+        self.pool
+    }
+
+    /// The message that the extension is declared in, if it is one, whatever it extends.
+    pub fn parent_message(&self) -> Option<MessageDescriptor<'p>>
+        ensures { IfSome result (λ d. d.pool.now ≡ self.now.pool.now) }
+    {
+        let pool = self.pool;
+        pool.message_at(pool.tables.extensions[self.index as usize].parent?)
+    }
+
+    /// The message type that it extends.
+    pub fn containing_message(&self) -> MessageDescriptor<'p>
+        ensures pool { result.pool.now ≡ self.now.pool.now }
+        ensures index { result.index ≡ (extension_at self.now.pool.now self.now.index).extendee }
+    {
+        let pool = self.pool;
+        MessageDescriptor {
+            pool,
+            index: pool.tables.extensions[self.index as usize].extendee,
+        }
+    }
+
+    pub fn name(&self) -> &'p str
+        ensures { result.now ≡ (extension_at self.now.pool.now self.now.index).field.name }
+    {
+        let pool = self.pool;
+        pool.tables.extensions[self.index as usize].field.name.as_str()
+    }
+
+    /// The name with those of all that holds the declaration before it, joined by dots, without a leading dot.
+    pub fn full_name(&self) -> &'p str
+        ensures { result.now ≡ (extension_at self.now.pool.now self.now.index).field.full_name }
+    {
+        let pool = self.pool;
+        pool.tables.extensions[self.index as usize].field.full_name.as_str()
+    }
+
+    /// The full name in brackets.
+    pub fn json_name(&self) -> &'p str {
+        let pool = self.pool;
+        pool.tables.extensions[self.index as usize].json_name.as_str()
+    }
+
+    /// Where the declaration stands in its file's record.
+    pub fn path(&self) -> &'p [i32] {
+        let pool = self.pool;
+        pool.tables.extensions[self.index as usize].field.path.as_slice()
+    }
+
+    pub fn number(&self) -> u32
+        ensures { result ≡ (extension_at self.now.pool.now self.now.index).field.number }
+    {
+        let pool = self.pool;
+        pool.tables.extensions[self.index as usize].field.number
+    }
+
+    pub fn cardinality(&self) -> Cardinality
+        ensures { result ≡ (extension_at self.now.pool.now self.now.index).field.cardinality }
+    {
+        let pool = self.pool;
+        pool.tables.extensions[self.index as usize].field.cardinality
+    }
+
+    /// The value is written between two tags, and its type is declared with the extension.
+    pub fn is_group(&self) -> bool
+        ensures { result ≡ (extension_at self.now.pool.now self.now.index).field.group }
+    {
+        let pool = self.pool;
+        pool.tables.extensions[self.index as usize].field.is_group
+    }
+
+    /// It holds any number of values, and is no map.
+    pub fn is_list(&self) -> bool {
+        self.cardinality() == Cardinality::Repeated && !self.is_map()
+    }
+
+    /// Its values are the entries of a map.
+    pub fn is_map(&self) -> bool {
+        let pool = self.pool;
+        is_map(pool, &pool.tables.extensions[self.index as usize].field)
+    }
+
+    /// A list of numbers is written as one record.
+    pub fn is_packed(&self) -> bool
+        ensures { result ≡ (extension_at self.now.pool.now self.now.index).field.packed }
+    {
+        let pool = self.pool;
+        pool.tables.extensions[self.index as usize].field.is_packed
+    }
+
+    /// An extension that is not set differs from one that holds the default.
+    pub fn supports_presence(&self) -> bool
+        ensures { result ≡ (extension_at self.now.pool.now self.now.index).field.presence }
+    {
+        let pool = self.pool;
+        pool.tables.extensions[self.index as usize].field.supports_presence
+    }
+
+    pub fn kind(&self) -> Kind<'p>
+        ensures { IsKind self.now.pool.now result (extension_at self.now.pool.now self.now.index).field.kind }
+    {
+        let pool = self.pool;
+        kind_in(pool, pool.tables.extensions[self.index as usize].field.kind)
+    }
+
+    /// The default that the declaration gives, if it gives one.
+    pub fn default(&self) -> Option<DefaultValue<'p>> {
+        let pool = self.pool;
+        default_value(pool, &pool.tables.extensions[self.index as usize].field)
+    }
+}
+
+/// The extensions of a message type, by ascending number.
+#[derive(Drop)]
+pub struct MessageExtensions<'p> {
+    pub(crate) pool: &'p DescriptorPool,
+    pub(crate) found: btree_map::Range<'p, (u32, u32), u32>,
+}
+
+impl<'p> Iterator for MessageExtensions<'p> {
+    ghost use Rattle.std.specs.Prelude.{length};
+    ghost use Rattle.std.specs.Iterator.{at_most};
+
+    type Item = ExtensionDescriptor<'p>;
+
+    ghost remaining = { λ s. at_most (length s.found) };
+
+    fn next(&mut self) -> Option<ExtensionDescriptor<'p>> {
+        let (_, place) = self.found.next()?;
+        self.pool.extension_at(*place)
+    }
+}

@@ -1,0 +1,119 @@
+ghost use Rattle.std.specs.Prelude.{◌≡◌, ◌<◌, length, IfSome};
+ghost use Rattle.reflect_index.specs.Types.{type_at};
+
+use crate::field::FieldDescriptor;
+use crate::message::MessageDescriptor;
+use crate::pool::DescriptorPool;
+
+/// A oneof of a message type.
+#[derive(Clone, Copy)]
+pub struct OneofDescriptor<'p> {
+    pub(crate) message: MessageDescriptor<'p>,
+    pub(crate) index: u32,
+    ghost in_range: { index < length (type_at message.pool.now message.index).oneofs },
+}
+
+impl<'p> OneofDescriptor<'p> {
+    /// The pool that the oneof's type stands in.
+    pub fn parent_pool(&self) -> &'p DescriptorPool
+        ensures { result.now ≡ self.now.message.pool.now }
+    {
+        self.message.pool
+    }
+
+    /// The message type that the oneof belongs to.
+    pub fn parent_message(&self) -> MessageDescriptor<'p>
+        ensures { result ≡ self.now.message }
+    {
+        self.message
+    }
+
+    pub fn name(&self) -> &'p str {
+        let pool = self.message.pool;
+        pool.tables.messages[self.message.index as usize].oneofs[self.index as usize]
+            .name
+            .as_str()
+    }
+
+    /// The type's full name, a dot and the oneof's name.
+    pub fn full_name(&self) -> &'p str {
+        let pool = self.message.pool;
+        pool.tables.messages[self.message.index as usize].oneofs[self.index as usize]
+            .full_name
+            .as_str()
+    }
+
+    /// Where the declaration stands in its file's record.
+    pub fn path(&self) -> &'p [i32] {
+        let pool = self.message.pool;
+        pool.tables.messages[self.message.index as usize].oneofs[self.index as usize]
+            .path
+            .as_slice()
+    }
+
+    /// It stands for one field of a proto3 file that was declared `optional`.
+    pub fn is_synthetic(&self) -> bool {
+        let pool = self.message.pool;
+        pool.tables.messages[self.message.index as usize].oneofs[self.index as usize].is_synthetic
+    }
+
+    /// The members, as they were declared.
+    pub fn fields(&self) -> OneofFields<'p> {
+        let pool = self.message.pool;
+        OneofFields {
+            message: self.message,
+            places: pool.tables.messages[self.message.index as usize].oneofs[self.index as usize]
+                .fields
+                .as_slice(),
+        }
+    }
+}
+
+/// The members of a oneof, as they were declared.
+#[derive(Drop)]
+pub struct OneofFields<'p> {
+    message: MessageDescriptor<'p>,
+    places: &'p [u32],
+}
+
+impl<'p> Iterator for OneofFields<'p> {
+    ghost use Rattle.std.specs.Prelude.{length};
+    ghost use Rattle.std.specs.Iterator.{at_most};
+
+    type Item = FieldDescriptor<'p>;
+
+    ghost remaining = { λ s. at_most (length s.places.now) };
+
+    fn next(&mut self) -> Option<FieldDescriptor<'p>> {
+        let (place, others) = self.places.split_first()?;
+        self.places = others;
+        self.message.field_at(*place)
+    }
+}
+
+/// The oneofs of a message type, as they were declared.
+#[derive(Drop)]
+pub struct Oneofs<'p> {
+    pub(crate) message: MessageDescriptor<'p>,
+    pub(crate) next: u32,
+    pub(crate) end: u32,
+}
+
+impl<'p> Iterator for Oneofs<'p> {
+    ghost use Rattle.std.specs.Prelude.{◌-◌};
+    ghost use Rattle.std.specs.Iterator.{at_most};
+
+    type Item = OneofDescriptor<'p>;
+
+    ghost remaining = { λ s. at_most (s.end - s.next) };
+
+    fn next(&mut self) -> Option<OneofDescriptor<'p>> {
+        if self.next < self.end {
+            let place = self.next;
+            self.next += 1;
+            self.message.oneof_at(place)
+        } else {
+            None
+        }
+    }
+}
