@@ -9,7 +9,7 @@ ghost use Rattle.reflect_codec.specs.Held.{held};
 ghost use Rattle.reflect_codec.specs.Fields.{payload_field, number_field, text_field, texts_field, int32_field, int32s_field, packed_field, bool_field, record_field, records_field, options_field};
 
 use descriptor_records::Options;
-use reflect_wire::{WireError, WireType};
+use reflect_wire::{WireError, WireKey, WireType};
 use std::alloc::{AllocError, Global};
 
 /// A record that is written.
@@ -32,6 +32,7 @@ pub struct Backward {
 }
 
 impl Backward {
+    /// Nothing yet. Takes no memory.
     pub fn new(alloc: Global) -> Backward
         ensures { held result ≡ [] }
     {
@@ -52,6 +53,7 @@ impl Backward {
         Ok(())
     }
 
+    /// How many bytes are held.
     pub fn len(&self) -> usize
         ensures { result ≡ length (held self.now) }
     {
@@ -65,7 +67,8 @@ impl Backward {
         Ok(())
     }
 
-    fn put_bytes(&mut self, bytes: &[u8]) -> Result<(), AllocError>
+    /// Puts bytes in front of those that are held.
+    pub fn put_bytes(&mut self, bytes: &[u8]) -> Result<(), AllocError>
         ensures { OnOk result (held self.new ≡ bytes.now ++ held self.old) }
     {
         self.reversed.reserve(bytes.len())?;
@@ -77,7 +80,8 @@ impl Backward {
         Ok(())
     }
 
-    fn put_varint(&mut self, n: u64) -> Result<(), AllocError>
+    /// Puts the shortest varint of a number in front.
+    pub fn put_varint(&mut self, n: u64) -> Result<(), AllocError>
         ensures { OnOk result (held self.new ≡ varint_bytes n ++ held self.old) }
     {
         if n < 128 {
@@ -89,10 +93,11 @@ impl Backward {
         Ok(())
     }
 
-    fn put_key(&mut self, number: i32, wire: WireType) -> Result<(), AllocError>
-        ensures { OnOk result (held self.new ≡ key_bytes (key_of (unsigned_abs number) wire) ++ held self.old) }
+    /// Puts the key of a record in front.
+    pub fn put_key(&mut self, key: WireKey) -> Result<(), AllocError>
+        ensures { OnOk result (held self.new ≡ key_bytes key ++ held self.old) }
     {
-        let code = match wire {
+        let code = match key.wire {
             WireType::Varint => 0,
             WireType::SixtyFourBit => 1,
             WireType::LengthDelimited => 2,
@@ -100,7 +105,7 @@ impl Backward {
             WireType::EndGroup => 4,
             WireType::ThirtyTwoBit => 5,
         };
-        self.put_varint(u64::from(number.unsigned_abs()) * 8 + code)?;
+        self.put_varint(u64::from(key.number) * 8 + code)?;
         Ok(())
     }
 
@@ -111,7 +116,7 @@ impl Backward {
     {
         let len = self.len().saturating_sub(end);
         self.put_varint(len as u64)?;
-        self.put_key(number, WireType::LengthDelimited)?;
+        self.put_key(record_key(number, WireType::LengthDelimited))?;
         Ok(())
     }
 
@@ -148,7 +153,7 @@ impl Backward {
         ensures { OnOk result (held self.new ≡ number_field (unsigned_abs number) n ++ held self.old) }
     {
         self.put_varint(n)?;
-        self.put_key(number, WireType::Varint)?;
+        self.put_key(record_key(number, WireType::Varint))?;
         Ok(())
     }
 
@@ -247,6 +252,16 @@ impl Backward {
             self.put_payload(number, &options.encoded)?;
         }
         Ok(())
+    }
+}
+
+/// The key of a record field, whose number is one of the table of `descriptor.proto`.
+fn record_key(number: i32, wire: WireType) -> WireKey
+    ensures { result ≡ key_of (unsigned_abs number) wire }
+{
+    WireKey {
+        number: number.unsigned_abs(),
+        wire,
     }
 }
 

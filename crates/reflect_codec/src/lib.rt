@@ -15,6 +15,7 @@ mod record;
 mod service;
 mod source_info;
 
+pub use backward::Backward;
 pub use codec::{decode_file, decode_set, encode_file, encode_set};
 
 #[cfg(test)]

@@ -2,157 +2,280 @@
 
 ghost use Rattle.std.specs.Prelude.{◌≡◌, ◌<◌, ◌≤◌, length, IfOk};
 
-use crate::fields;
+use crate::defaults::default_of;
 use crate::message::DynamicMessage;
-use crate::scalar::scalar_at;
 use crate::value::Value;
+use reflect_entries::{UnknownRecords, entries};
 use reflect_link::{FieldDescriptor, Kind, MessageDescriptor};
-use reflect_wire::{
-    UnknownField, UnknownFieldSet, WireError, WireKey, WireType, delimited_at, key_at,
-};
+use reflect_scalar::{AnyField, FieldDescriptorLike, MapKey, is_packable, scalar_at, wire_type};
+use reflect_wire::{UnknownField, WireError, WireKey, WireType, delimited_at, key_at};
 use std::alloc::{AllocError, Global};
+use std::collections::BTreeMap;
 
 /// How many levels of messages and groups may lie below the top.
 pub const MAX_LEVELS: u32 = 100;
 
-/// The field that a message declares under a number. A field of a floating-point kind is none: its records are kept
-/// unread.
-fn declared_field<'p>(
-    descriptor: MessageDescriptor<'p>,
-    number: u32,
-) -> Option<FieldDescriptor<'p>> {
-    let field = descriptor.get_field(number)?;
-    match field.kind() {
-        Kind::Double | Kind::Float => None,
-        _ => Some(field),
-    }
-}
-
-/// The message of a value, if it is one.
-fn into_message(value: Value<'_>) -> Option<DynamicMessage<'_>> {
-    match value {
-        Value::Message(message) => Some(message),
-        _other => None,
-    }
-}
-
-/// What a message field held, to be merged into.
-fn held_message<'p>(
-    alloc: Global,
-    descriptor: MessageDescriptor<'p>,
-    held: Option<Value<'p>>,
-) -> DynamicMessage<'p> {
-    match held.and_then(into_message) {
-        Some(message) => message,
-        None => DynamicMessage::new(alloc, descriptor),
-    }
-}
-
-/// The message value at the front, merged into what the field held, and the bytes behind it.
-#[cycle(merged)]
-fn message_at<'p, 'b>(
-    alloc: Global,
-    descriptor: MessageDescriptor<'p>,
-    held: Option<Value<'p>>,
-    wire: WireType,
-    bytes: &'b [u8],
-    levels: u32,
-) -> Result<(Value<'p>, &'b [u8]), WireError>
-    ensures shorter { IfOk result (λ found. length found.1.now ≤ length bytes.now) }
-{
-    let WireType::LengthDelimited = wire else {
-        return Err(WireError::BadWireType);
-    };
-    if levels == 0 {
-        return Err(WireError::TooDeep);
-    }
-    let (body, rest) = delimited_at(bytes)?;
-    let inner = held_message(alloc, descriptor, held);
-    let inner = merged(alloc, inner, body, levels - 1)?;
-    Ok((Value::Message(inner), rest))
-}
-
-/// The message with the value at the front in the field's place, and the bytes behind it.
-#[cycle(merged)]
-fn field_merged<'p, 'b>(
-    alloc: Global,
-    mut message: DynamicMessage<'p>,
-    field: FieldDescriptor<'p>,
-    wire: WireType,
-    bytes: &'b [u8],
-    levels: u32,
-) -> Result<(DynamicMessage<'p>, &'b [u8]), WireError>
-    ensures shorter { IfOk result (λ found. length found.1.now ≤ length bytes.now) }
-    ensures same_type { IfOk result (λ found. found.0.descriptor ≡ message.entry.descriptor) }
-{
-    let kind = field.kind();
-    let held = fields::take(&mut message.fields, field.number());
-    let (value, rest) = match kind {
-        Kind::Message(inner) => message_at(alloc, inner, held, wire, bytes, levels)?,
-        _ => scalar_at(alloc, &kind, wire, bytes)?,
-    };
-    fields::put(&mut message.fields, field, value)?;
-    Ok((message, rest))
-}
-
-/// Puts a record behind those of its number.
-fn add_unknown(
-    alloc: Global,
-    unknown: &mut Vec<(u32, UnknownFieldSet)>,
-    record: UnknownField,
-) -> Result<(), AllocError> {
-    let number = record.number();
-    let mut records = match fields::take(unknown, number) {
-        Some(records) => records,
-        None => UnknownFieldSet::new(alloc),
-    };
-    records.insert(record)?;
-    fields::set(unknown, number, records)
-}
-
-/// The message with the record behind the key in it, and the bytes behind the record.
-#[cycle(merged)]
-fn record_merged<'p, 'b>(
-    alloc: Global,
-    mut message: DynamicMessage<'p>,
+/// A record whose key was read: its value stands at the front of `bytes`.
+#[derive(Clone, Copy)]
+pub struct RawRecord<'b> {
     key: WireKey,
     bytes: &'b [u8],
+    /// How many levels of messages and groups may lie below the message that the record is of.
     levels: u32,
-) -> Result<(DynamicMessage<'p>, &'b [u8]), WireError>
-    requires positive { 0 < key.number }
-    requires small { key.number ≤ 536870911 }
-    ensures shorter { IfOk result (λ found. length found.1.now ≤ length bytes.now) }
-    ensures same_type { IfOk result (λ found. found.0.descriptor ≡ message.entry.descriptor) }
+    ghost positive: { 0 < key.number },
+    ghost small: { key.number ≤ 536870911 },
+}
+
+impl<'b> RawRecord<'b> {
+    /// How many levels may lie below a message or a group in this record; `TooDeep` where it may not lie there itself.
+    fn levels_below(&self) -> Result<u32, WireError> {
+        self.levels.checked_sub(1).ok_or(WireError::TooDeep)
+    }
+}
+
+/// Takes in the records of a message, up to the end of the bytes, or, of a group, up to its end tag, and gives what is
+/// behind them.
+///
+/// A refusal leaves a part of the records taken in.
+#[cycle(merge)]
+pub fn merge_records<'p, 'b>(
+    message: &mut DynamicMessage<'p>,
+    alloc: Global,
+    bytes: &'b [u8],
+    group: Option<u32>,
+    levels: u32,
+) -> Result<&'b [u8], WireError>
+    ensures same_type { message.new.descriptor ≡ message.old.descriptor }
+    ensures shorter { IfOk result (λ rest. length rest.now ≤ length bytes.now) }
 {
-    match declared_field(message.descriptor, key.number) {
-        Some(field) => field_merged(alloc, message, field, key.wire, bytes, levels),
-        None => {
-            let mut rest = bytes;
-            let depth = MAX_LEVELS.saturating_sub(levels);
-            let record = UnknownField::decode_value(alloc, key.number, key.wire, &mut rest, depth)?;
-            add_unknown(alloc, &mut message.unknown, record)?;
-            Ok((message, rest))
+    let mut rest = bytes;
+    'records: while !rest.is_empty() {
+        let (key, behind) = key_at(rest)?;
+        if key.wire == WireType::EndGroup {
+            return match group {
+                Some(number) if number == key.number => Ok(behind),
+                _ => Err(WireError::EndGroupMismatch),
+            };
+        }
+        let raw = RawRecord {
+            key,
+            bytes: behind,
+            levels,
+        };
+        rest = merge_record(message, alloc, raw)?;
+    }
+    match group {
+        None => Ok(rest),
+        Some(_) => Err(WireError::Truncated),
+    }
+}
+
+/// Takes in a record, and gives what is behind it.
+#[cycle(merge)]
+fn merge_record<'p, 'b>(
+    message: &mut DynamicMessage<'p>,
+    alloc: Global,
+    raw: RawRecord<'b>,
+) -> Result<&'b [u8], WireError>
+    ensures same_type { message.new.descriptor ≡ message.old.descriptor }
+    ensures shorter { IfOk result (λ rest. length rest.now ≤ length raw.entry.bytes.now) }
+{
+    let number = raw.key.number;
+    if let Some(field) = message.declared_field(number) {
+        message.choices.make_room(&field)?;
+        let rest = merge_field(&mut message.fields, alloc, AnyField::Field(field), raw)?;
+        message.clear_siblings(&field);
+        return Ok(rest);
+    }
+    if let Some(extension) = message.declared_extension(number) {
+        let extension = AnyField::Extension(extension);
+        return merge_field(&mut message.extensions, alloc, extension, raw);
+    }
+    keep_unknown(&mut message.unknown, alloc, raw)
+}
+
+/// Keeps a record of a number that the type does not declare behind those of its number.
+fn keep_unknown<'b>(
+    unknown: &mut UnknownRecords,
+    alloc: Global,
+    raw: RawRecord<'b>,
+) -> Result<&'b [u8], WireError>
+    ensures shorter { IfOk result (λ rest. length rest.now ≤ length raw.entry.bytes.now) }
+{
+    let mut rest = raw.bytes;
+    let depth = MAX_LEVELS.saturating_sub(raw.levels);
+    let field = UnknownField::decode_value(alloc, raw.key.number, raw.key.wire, &mut rest, depth)?;
+    unknown.insert(field)?;
+    Ok(rest)
+}
+
+/// Takes in a record of a field or an extension.
+///
+/// `BadWireType` where its wire type is not that of the field, or the message holds what does not suit the field.
+#[cycle(merge)]
+fn merge_field<'p, 'b>(
+    content: &mut Vec<(u32, Value<'p>)>,
+    alloc: Global,
+    field: AnyField<'p>,
+    raw: RawRecord<'b>,
+) -> Result<&'b [u8], WireError>
+    ensures shorter { IfOk result (λ rest. length rest.now ≤ length raw.entry.bytes.now) }
+{
+    let number = raw.key.number;
+    match field.kind() {
+        Kind::Message(entry) if field.is_map() => merge_entry(content, alloc, entry, raw),
+        _ if field.is_list() => {
+            let list = entries::slot(content, number, Value::List(Vec::new(alloc)))?;
+            merge_list(list, alloc, field, raw)
+        }
+        Kind::Message(inner) => {
+            let empty = Value::Message(DynamicMessage::new(alloc, inner));
+            match entries::slot(content, number, empty)? {
+                Value::Message(message) => { merge_message(message, alloc, field.is_group(), raw) }
+                _ => Err(WireError::BadWireType),
+            }
+        }
+        kind => {
+            let (scalar, rest) = scalar_at(&kind, raw.key.wire, raw.bytes)?;
+            entries::set(content, number, Value::from_scalar(alloc, scalar)?)?;
+            Ok(rest)
         }
     }
 }
 
-/// The message with all records of the bytes in it, of at most so many levels.
-#[cycle(merged)]
-pub fn merged<'p>(
+/// Takes in the message at the front: a length and its bytes, or a group up to its end tag.
+///
+/// `TooDeep` where no level may lie below.
+#[cycle(merge)]
+fn merge_message<'p, 'b>(
+    message: &mut DynamicMessage<'p>,
     alloc: Global,
-    message: DynamicMessage<'p>,
-    bytes: &[u8],
-    levels: u32,
-) -> Result<DynamicMessage<'p>, WireError>
-    ensures { IfOk result (λ m. m.descriptor ≡ message.entry.descriptor) }
+    is_group: bool,
+    raw: RawRecord<'b>,
+) -> Result<&'b [u8], WireError>
+    ensures shorter { IfOk result (λ rest. length rest.now ≤ length raw.entry.bytes.now) }
 {
-    let mut message = message;
-    let mut rest = bytes;
-    'records: while !rest.is_empty() {
-        let (key, behind) = key_at(rest)?;
-        let (next, behind) = record_merged(alloc, message, key, behind, levels)?;
-        message = next;
+    match raw.key.wire {
+        WireType::LengthDelimited if !is_group => {
+            let (body, rest) = delimited_at(raw.bytes)?;
+            merge_records(message, alloc, body, None, raw.levels_below()?)?;
+            Ok(rest)
+        }
+        WireType::StartGroup if is_group => {
+            let levels = raw.levels_below()?;
+            merge_records(message, alloc, raw.bytes, Some(raw.key.number), levels)
+        }
+        _ => Err(WireError::BadWireType),
+    }
+}
+
+/// Takes in an element of a list, or the elements of a packed record.
+#[cycle(merge)]
+fn merge_list<'p, 'b>(
+    list: &mut Value<'p>,
+    alloc: Global,
+    field: AnyField<'p>,
+    raw: RawRecord<'b>,
+) -> Result<&'b [u8], WireError>
+    ensures shorter { IfOk result (λ rest. length rest.now ≤ length raw.entry.bytes.now) }
+{
+    let Value::List(values) = list else {
+        return Err(WireError::BadWireType);
+    };
+    match field.kind() {
+        Kind::Message(inner) => {
+            let mut message = DynamicMessage::new(alloc, inner);
+            let rest = merge_message(&mut message, alloc, field.is_group(), raw)?;
+            values.push(Value::Message(message))?;
+            Ok(rest)
+        }
+        kind if raw.key.wire == WireType::LengthDelimited && is_packable(&kind) => {
+            let (body, rest) = delimited_at(raw.bytes)?;
+            push_packed(values, alloc, &kind, body)?;
+            Ok(rest)
+        }
+        kind => {
+            let (scalar, rest) = scalar_at(&kind, raw.key.wire, raw.bytes)?;
+            values.push(Value::from_scalar(alloc, scalar)?)?;
+            Ok(rest)
+        }
+    }
+}
+
+/// Adds the values of a packed record.
+fn push_packed(
+    values: &mut Vec<Value<'_>>,
+    alloc: Global,
+    kind: &Kind<'_>,
+    body: &[u8],
+) -> Result<(), WireError> {
+    let mut rest = body;
+    'values: while !rest.is_empty() {
+        let (scalar, behind) = scalar_at(kind, wire_type(kind), rest)?;
+        values.push(Value::from_scalar(alloc, scalar)?)?;
         rest = behind;
     }
-    Ok(message)
+    Ok(())
+}
+
+/// Takes in an entry of a map: over what stood under its key.
+#[cycle(merge)]
+fn merge_entry<'p, 'b>(
+    content: &mut Vec<(u32, Value<'p>)>,
+    alloc: Global,
+    entry: MessageDescriptor<'p>,
+    raw: RawRecord<'b>,
+) -> Result<&'b [u8], WireError>
+    ensures shorter { IfOk result (λ rest. length rest.now ≤ length raw.entry.bytes.now) }
+{
+    let WireType::LengthDelimited = raw.key.wire else {
+        return Err(WireError::BadWireType);
+    };
+    let (body, rest) = delimited_at(raw.bytes)?;
+    let (key, value) = entry_of(alloc, entry, body, raw.levels)?;
+    match entries::slot(content, raw.key.number, Value::Map(BTreeMap::new(alloc)))? {
+        Value::Map(entries) => {
+            entries.insert(key, value)?;
+            Ok(rest)
+        }
+        _ => Err(WireError::BadWireType),
+    }
+}
+
+/// The key and the value of a map's entry, which is a message of the entry type at the level of the message that holds the
+/// map. What the entry does not set is the default, and its other records are dropped.
+///
+/// A message value is one level below, whether it is written or not.
+#[cycle(merge)]
+fn entry_of<'p>(
+    alloc: Global,
+    entry: MessageDescriptor<'p>,
+    body: &[u8],
+    levels: u32,
+) -> Result<(MapKey, Value<'p>), WireError> {
+    let (Some(key), Some(value)) = (entry.get_field(1), entry.get_field(2)) else {
+        return Err(WireError::BadWireType);
+    };
+    if levels == 0 && value.kind().as_message().is_some() {
+        return Err(WireError::TooDeep);
+    }
+    let mut message = DynamicMessage::new(alloc, entry);
+    merge_records(&mut message, alloc, body, None, levels)?;
+    let found = take_or_default(&mut message, alloc, &key)?;
+    let Some(found) = found.into_map_key() else {
+        return Err(WireError::BadWireType);
+    };
+    Ok((found, take_or_default(&mut message, alloc, &value)?))
+}
+
+/// What a field of an entry held, or its default.
+fn take_or_default<'p>(
+    entry: &mut DynamicMessage<'p>,
+    alloc: Global,
+    field: &FieldDescriptor<'p>,
+) -> Result<Value<'p>, AllocError> {
+    match entries::take(&mut entry.fields, field.number()) {
+        Some(value) => Ok(value),
+        None => default_of(alloc, field),
+    }
 }

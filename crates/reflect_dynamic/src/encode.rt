@@ -1,128 +1,183 @@
-//! From a message to wire bytes: first the declared fields, then the other records, both by ascending number.
+//! From a message to wire bytes, which are put from the last to the first: so the length of what stands behind a key is
+//! known when the key is put.
 
-ghost use Rattle.reflect_wire.specs.Encoding.{KeepsFront};
-
+use crate::defaults::{is_present, is_present_scalar};
 use crate::message::DynamicMessage;
-use crate::scalar::{WireScalar, wire_scalar, wire_type};
+use crate::validity::entry_fields;
 use crate::value::Value;
+use reflect_codec::Backward;
 use reflect_link::Kind;
-use reflect_wire::{
-    WireError, WireKey, delimited_len, key_len, push_delimited, push_fixed32, push_fixed64,
-    push_key, push_varint, varint_len,
+use reflect_scalar::{
+    AnyField, FieldDescriptorLike, MapKey, Scalar, put_scalar, wire_scalar, wire_type,
 };
+use reflect_wire::{WireKey, WireType};
+use std::alloc::AllocError;
+use std::collections::BTreeMap;
 
-/// How many bytes a value takes behind its key.
-fn scalar_len(scalar: WireScalar<'_>) -> Option<usize> {
-    match scalar {
-        WireScalar::Varint(n) => Some(varint_len(n)),
-        WireScalar::ThirtyTwoBit(_) => Some(4),
-        WireScalar::SixtyFourBit(_) => Some(8),
-        WireScalar::LengthDelimited(payload) => delimited_len(payload.len()),
-    }
+/// Puts the records of a message: declared fields, then extensions and other records, each by ascending number.
+#[cycle(put)]
+pub fn put_message(out: &mut Backward, message: &DynamicMessage<'_>) -> Result<(), AllocError> {
+    put_others(out, message)?;
+    put_fields(out, message)
 }
 
-/// How many bytes a field's record takes, `None` past `usize::MAX`.
-#[cycle(length)]
-fn field_len(number: u32, value: &Value<'_>, kind: &Kind<'_>) -> Option<usize> {
-    let key = WireKey {
-        number,
-        wire: wire_type(kind),
-    };
-    let content = match value {
-        Value::Message(inner) => delimited_len(message_len(inner)?)?,
-        _ => match wire_scalar(kind, value) {
-            Some(scalar) => scalar_len(scalar)?,
-            None => return Some(0),
-        },
-    };
-    key_len(key).checked_add(content)
-}
-
-/// How many bytes the declared fields take, `None` past `usize::MAX`.
-#[cycle(length)]
-fn fields_len(message: &DynamicMessage<'_>) -> Option<usize> {
-    let mut len = 0usize;
-    for entry in &message.fields {
-        if let Some(field) = message.descriptor.get_field(entry.0) {
-            len = len.checked_add(field_len(entry.0, &entry.1, &field.kind())?)?;
+/// Puts the records of the declared fields.
+#[cycle(put)]
+fn put_fields(out: &mut Backward, message: &DynamicMessage<'_>) -> Result<(), AllocError> {
+    for entry in message.fields.iter().rev() {
+        if let Some(field) = message.declared_field(entry.0) {
+            put_content(out, AnyField::Field(field), &entry.1)?;
         }
-    }
-    Some(len)
-}
-
-/// How many bytes a message takes, `None` past `usize::MAX`.
-#[cycle(length)]
-pub fn message_len(message: &DynamicMessage<'_>) -> Option<usize> {
-    let mut len = fields_len(message)?;
-    for entry in &message.unknown {
-        len = len.checked_add(entry.1.encoded_len()?)?;
-    }
-    Some(len)
-}
-
-/// Adds a value behind its key.
-fn push_scalar(out: &mut Vec<u8>, scalar: WireScalar<'_>) -> Result<(), WireError>
-    ensures { KeepsFront out.old.items out.new.items }
-{
-    match scalar {
-        WireScalar::Varint(n) => push_varint(out, n)?,
-        WireScalar::ThirtyTwoBit(n) => push_fixed32(out, n)?,
-        WireScalar::SixtyFourBit(n) => push_fixed64(out, n)?,
-        WireScalar::LengthDelimited(payload) => push_delimited(out, payload)?,
     }
     Ok(())
 }
 
-/// Adds a field's record.
-#[cycle(encode)]
-fn push_field(
-    out: &mut Vec<u8>,
+/// Puts the records of the extensions and of the numbers that the type does not declare.
+#[cycle(put)]
+fn put_others(out: &mut Backward, message: &DynamicMessage<'_>) -> Result<(), AllocError> {
+    let mut unknown = message.unknown.descent();
+    for entry in message.extensions.iter().rev() {
+        unknown.put_above(out, entry.0)?;
+        if let Some(extension) = message.declared_extension(entry.0) {
+            put_content(out, AnyField::Extension(extension), &entry.1)?;
+        }
+    }
+    unknown.put_above(out, 0)
+}
+
+/// Puts the records of a field.
+#[cycle(put)]
+fn put_content<'p>(
+    out: &mut Backward,
+    field: AnyField<'p>,
+    value: &Value<'p>,
+) -> Result<(), AllocError> {
+    if !is_present(value, &field) {
+        return Ok(());
+    }
+    match value {
+        Value::List(values) if field.is_packed() => put_packed(out, field, values.as_slice()),
+        Value::List(values) => put_list(out, field, values.as_slice()),
+        Value::Map(entries) => put_map(out, field, entries),
+        _ => put_record(out, field, value),
+    }
+}
+
+/// Puts the record of one value.
+#[cycle(put)]
+fn put_record<'p>(
+    out: &mut Backward,
+    field: AnyField<'p>,
+    value: &Value<'p>,
+) -> Result<(), AllocError> {
+    let number = field.number();
+    match value {
+        Value::Message(message) if field.is_group() => {
+            out.put_key(WireKey {
+                number,
+                wire: WireType::EndGroup,
+            })?;
+            put_message(out, message)?;
+            out.put_key(WireKey {
+                number,
+                wire: WireType::StartGroup,
+            })
+        }
+        Value::Message(message) => {
+            let end = out.len();
+            put_message(out, message)?;
+            put_length(out, number, end)
+        }
+        _ => put_single(out, number, &field.kind(), value.as_scalar()),
+    }
+}
+
+/// Puts the key and the length of what was put since `end` bytes were held.
+fn put_length(out: &mut Backward, number: u32, end: usize) -> Result<(), AllocError> {
+    let len = out.len().saturating_sub(end);
+    out.put_varint(len as u64)?;
+    out.put_key(WireKey {
+        number,
+        wire: WireType::LengthDelimited,
+    })
+}
+
+/// Puts the record of a single value, where it suits the kind.
+fn put_single(
+    out: &mut Backward,
     number: u32,
-    value: &Value<'_>,
     kind: &Kind<'_>,
-) -> Result<(), WireError>
-    ensures { KeepsFront out.old.items out.new.items }
-{
-    let key = WireKey {
-        number,
-        wire: wire_type(kind),
+    value: Option<Scalar<'_>>,
+) -> Result<(), AllocError> {
+    if put_bare(out, kind, value)? {
+        out.put_key(WireKey {
+            number,
+            wire: wire_type(kind),
+        })?;
+    }
+    Ok(())
+}
+
+/// Puts a single value without its key, where it suits the kind, and says whether it does.
+fn put_bare(
+    out: &mut Backward,
+    kind: &Kind<'_>,
+    value: Option<Scalar<'_>>,
+) -> Result<bool, AllocError> {
+    let Some(value) = value else {
+        return Ok(false);
     };
-    if let Value::Message(inner) = value {
-        let Some(len) = message_len(inner) else {
-            return Err(WireError::TooLong);
-        };
-        push_key(out, key)?;
-        push_varint(out, len as u64)?;
-        return push_message(out, inner);
-    }
-    if let Some(scalar) = wire_scalar(kind, value) {
-        push_key(out, key)?;
-        push_scalar(out, scalar)?;
+    let Some(written) = wire_scalar(kind, value) else {
+        return Ok(false);
+    };
+    put_scalar(out, written)?;
+    Ok(true)
+}
+
+/// Puts the records of a list that is not packed.
+#[cycle(put)]
+fn put_list<'p>(
+    out: &mut Backward,
+    field: AnyField<'p>,
+    values: &[Value<'p>],
+) -> Result<(), AllocError> {
+    for value in values.iter().rev() {
+        put_record(out, field, value)?;
     }
     Ok(())
 }
 
-/// Adds the records of the declared fields.
-#[cycle(encode)]
-fn push_fields(out: &mut Vec<u8>, message: &DynamicMessage<'_>) -> Result<(), WireError>
-    ensures { KeepsFront out.old.items out.new.items }
-{
-    for entry in &message.fields {
-        if let Some(field) = message.descriptor.get_field(entry.0) {
-            push_field(out, entry.0, &entry.1, &field.kind())?;
+/// Puts the record of a packed list.
+fn put_packed<'p>(
+    out: &mut Backward,
+    field: AnyField<'p>,
+    values: &[Value<'p>],
+) -> Result<(), AllocError> {
+    let kind = field.kind();
+    let end = out.len();
+    for value in values.iter().rev() {
+        put_bare(out, &kind, value.as_scalar())?;
+    }
+    put_length(out, field.number(), end)
+}
+
+/// Puts the records of a map, by ascending key.
+#[cycle(put)]
+fn put_map<'p>(
+    out: &mut Backward,
+    field: AnyField<'p>,
+    entries: &BTreeMap<MapKey, Value<'p>>,
+) -> Result<(), AllocError> {
+    let Some((keys, values)) = entry_fields(&field.kind()) else {
+        return Ok(());
+    };
+    for (key, value) in entries.iter().rev() {
+        let end = out.len();
+        put_content(out, AnyField::Field(values), value)?;
+        if is_present_scalar(key.as_scalar(), &keys) {
+            put_single(out, keys.number(), &keys.kind(), Some(key.as_scalar()))?;
         }
-    }
-    Ok(())
-}
-
-/// Adds the records of a message.
-#[cycle(encode)]
-pub fn push_message(out: &mut Vec<u8>, message: &DynamicMessage<'_>) -> Result<(), WireError>
-    ensures { KeepsFront out.old.items out.new.items }
-{
-    push_fields(out, message)?;
-    for entry in &message.unknown {
-        entry.1.write(out)?;
+        put_length(out, field.number(), end)?;
     }
     Ok(())
 }

@@ -1,25 +1,29 @@
-ghost use Rattle.std.specs.Prelude.{◌≡◌, IfOk, OnErr};
-ghost use Rattle.reflect_dynamic.specs.Declares.{Declares};
+ghost use Rattle.std.specs.Prelude.{◌≡◌, IfOk, IfSome, OnErr};
 
-use crate::decode::{MAX_LEVELS, merged};
-use crate::encode::{message_len, push_message};
-use crate::fields;
-use crate::set_field_error::SetFieldError;
+use crate::decode::{MAX_LEVELS, merge_records};
+use crate::encode::put_message;
+use crate::lengths::message_len;
 use crate::value::Value;
-use reflect_link::{FieldDescriptor, MessageDescriptor};
-use reflect_wire::{UnknownFieldSet, WireError};
-use std::alloc::Global;
-use std::slice;
+use reflect_codec::Backward;
+use reflect_entries::{Choices, UnknownRecords, entries};
+use reflect_link::{ExtensionDescriptor, FieldDescriptor, MessageDescriptor};
+use reflect_scalar::holds_floats;
+use reflect_wire::{WireError, reserve_room};
+use std::alloc::{AllocError, Global};
 
 /// A message of a type that is known at run time.
 #[derive(Drop)]
 #[cycle(value)]
 pub struct DynamicMessage<'p> {
     pub(crate) descriptor: MessageDescriptor<'p>,
-    /// The fields that are set, by ascending number.
+    /// What the declared fields hold, by ascending number.
     pub(crate) fields: Vec<(u32, Value<'p>)>,
-    /// The records of fields that the type does not declare, by ascending number.
-    pub(crate) unknown: Vec<(u32, UnknownFieldSet)>,
+    /// Which members of oneofs may be among these.
+    pub(crate) choices: Choices,
+    /// What the extensions hold, by ascending number.
+    pub(crate) extensions: Vec<(u32, Value<'p>)>,
+    /// The records of numbers that the type does not declare.
+    pub(crate) unknown: UnknownRecords,
 }
 
 impl<'p> DynamicMessage<'p> {
@@ -30,7 +34,9 @@ impl<'p> DynamicMessage<'p> {
         DynamicMessage {
             descriptor,
             fields: Vec::new(alloc),
-            unknown: Vec::new(alloc),
+            choices: Choices::new(alloc),
+            extensions: Vec::new(alloc),
+            unknown: UnknownRecords::new(alloc),
         }
     }
 
@@ -52,12 +58,23 @@ impl<'p> DynamicMessage<'p> {
     ) -> Result<DynamicMessage<'p>, WireError>
         ensures { IfOk result (λ m. m.descriptor ≡ descriptor.entry) }
     {
-        merged(
-            alloc,
-            DynamicMessage::new(alloc, descriptor),
-            bytes,
-            MAX_LEVELS,
-        )
+        let mut message = DynamicMessage::new(alloc, descriptor);
+        merge_records(&mut message, alloc, bytes, None, MAX_LEVELS)?;
+        Ok(message)
+    }
+
+    /// Takes in the records that the bytes spell behind those that the message stands for: numbers and texts are replaced,
+    /// lists are continued, messages merged.
+    ///
+    /// Refused as `decode` is; the message is then unchanged.
+    pub fn merge(&mut self, bytes: &[u8]) -> Result<(), WireError>
+        ensures type_stays { self.new.descriptor ≡ self.old.descriptor }
+        ensures err { OnErr result (self.new ≡ self.old) }
+    {
+        let mut merged = self.clone()?;
+        merge_records(&mut merged, self.allocator(), bytes, None, MAX_LEVELS)?;
+        *self = merged;
+        Ok(())
     }
 
     /// How many bytes `encode` adds, `None` past `usize::MAX`. Takes no memory.
@@ -65,101 +82,121 @@ impl<'p> DynamicMessage<'p> {
         message_len(self)
     }
 
-    /// Adds the message's wire bytes to `out`: declared fields by ascending number, then other records by ascending
-    /// number.
+    /// Adds the message's wire bytes to `out`: declared fields by ascending number, then extensions and other records by
+    /// ascending number. What does not suit its field is left out.
     ///
     /// `TooLong` where these are more than `usize::MAX` bytes. A refusal leaves `out`.
     pub fn encode(&self, out: &mut Vec<u8>) -> Result<(), WireError>
         ensures { OnErr result (out.new.items ≡ out.old.items) }
     {
-        let Some(len) = message_len(self) else {
-            return Err(WireError::TooLong);
-        };
-        out.reserve(len)?;
-        let before = out.len();
-        let written = push_message(out, self);
-        if written.is_err() {
-            out.truncate(before);
-        }
-        written
+        reserve_room(out, message_len(self))?;
+        let mut written = Backward::new(self.allocator());
+        put_message(&mut written, self)?;
+        written.append_to(out)
     }
 
     /// The message's wire bytes. Refused as `encode` is.
-    pub fn encode_to_vec(&self, alloc: Global) -> Result<Vec<u8>, WireError> {
-        let mut out = Vec::new(alloc);
+    pub fn encode_to_vec(&self) -> Result<Vec<u8>, WireError> {
+        let mut out = Vec::new(self.allocator());
         self.encode(&mut out)?;
         Ok(out)
     }
 
-    /// The field, one of the message's type, is set.
-    pub fn has_field(&self, field: &FieldDescriptor<'p>) -> bool
-        requires { Declares self.now.descriptor field.now }
-    {
-        self.get_field(field).is_some()
-    }
-
-    /// What the field, one of the message's type, was set to, if it is set.
-    pub fn get_field(&self, field: &FieldDescriptor<'p>) -> Option<&Value<'p>>
-        requires { Declares self.now.descriptor field.now }
-    {
-        fields::get(self.fields.as_slice(), field.number())
-    }
-
-    /// Sets the field, one of the message's type, over what it held. A default in a field without presence unsets it.
-    ///
-    /// `InvalidType` hands field and value back where the field does not take the value; then, and for want of memory,
-    /// the message is unchanged.
-    pub fn try_set_field(
-        &mut self,
-        field: FieldDescriptor<'p>,
-        value: Value<'p>,
-    ) -> Result<(), SetFieldError<'p>>
-        requires { Declares self.old.descriptor field }
+    /// Unsets all fields and extensions, and drops the other records. Takes no memory.
+    pub fn clear(&mut self)
         ensures type_stays { self.new.descriptor ≡ self.old.descriptor }
-        ensures err { OnErr result (self.new.fields.items ≡ self.old.fields.items) }
     {
-        if !value.is_valid_for_field(&field) {
-            return Err(SetFieldError::InvalidType { field, value });
-        }
-        fields::put(&mut self.fields, field, value)?;
-        Ok(())
+        self.fields.clear();
+        self.choices.clear();
+        self.extensions.clear();
+        self.unknown.clear();
     }
 
-    /// The numbers of the fields that are set, with what the fields hold, by ascending number.
-    pub fn entries(&self) -> &[(u32, Value<'p>)]
-        ensures { result.now ≡ self.now.fields.items }
+    /// A copy.
+    #[cycle(clone)]
+    pub fn clone(&self) -> Result<DynamicMessage<'p>, AllocError>
+        ensures { IfOk result (λ m. m.descriptor ≡ self.now.descriptor) }
     {
-        self.fields.as_slice()
-    }
-
-    /// The fields that are set, with what they hold, by ascending number.
-    pub fn fields(&self) -> FieldValues<'_, 'p> {
-        FieldValues {
+        Ok(DynamicMessage {
             descriptor: self.descriptor,
-            entries: self.fields.iter(),
+            fields: content_clone(&self.fields)?,
+            choices: self.choices.clone()?,
+            extensions: content_clone(&self.extensions)?,
+            unknown: self.unknown.clone()?,
+        })
+    }
+
+    /// No field or extension is set, and there are no other records. Takes no memory.
+    pub fn is_empty(&self) -> bool {
+        self.unknown.is_empty()
+            && self.fields().next().is_none()
+            && self.extensions().next().is_none()
+    }
+
+    /// The field is one of the message's type, and one that messages hold: no floating-point number, and no map of such.
+    pub fn declares(&self, field: &FieldDescriptor<'p>) -> bool {
+        field.parent_message().is_same(&self.descriptor) && !holds_floats(field)
+    }
+
+    /// The extension is one of the message's type, and one that messages hold, as for fields.
+    pub fn declares_extension(&self, extension: &ExtensionDescriptor<'p>) -> bool {
+        extension.containing_message().is_same(&self.descriptor) && !holds_floats(extension)
+    }
+
+    /// Unsets the other members of the oneof of a field, for whose choice there is room.
+    pub(crate) fn clear_siblings(&mut self, field: &FieldDescriptor<'p>)
+        ensures type_stays { self.new.descriptor ≡ self.old.descriptor }
+    {
+        if let Some(sibling) = self.choices.choose(field) {
+            entries::take(&mut self.fields, sibling);
         }
     }
-}
 
-/// The fields of a message that are set, by ascending number.
-#[derive(Drop)]
-pub struct FieldValues<'m, 'p> {
-    descriptor: MessageDescriptor<'p>,
-    entries: slice::Iter<'m, (u32, Value<'p>)>,
-}
-
-impl<'m, 'p> Iterator for FieldValues<'m, 'p> {
-    ghost use Rattle.std.specs.Prelude.{length};
-    ghost use Rattle.std.specs.Iterator.{at_most};
-    ghost use Rattle.std.specs.Slice.Iter.{iter_rest};
-
-    type Item = (FieldDescriptor<'p>, &'m Value<'p>);
-
-    ghost remaining = { λ s. at_most (length (iter_rest s.entries)) };
-
-    fn next(&mut self) -> Option<(FieldDescriptor<'p>, &'m Value<'p>)> {
-        let (number, value) = self.entries.next()?;
-        let field = self.descriptor.get_field(*number)?;
-        Some((field, value))
+    /// What the message's memory comes from.
+    pub(crate) fn allocator(&self) -> Global {
+        *self.fields.allocator()
     }
+
+    /// The field of a number that messages of the type hold.
+    pub(crate) fn declared_field(&self, number: u32) -> Option<FieldDescriptor<'p>>
+        ensures { IfSome result (λ f. f.message ≡ self.now.descriptor) }
+    {
+        let descriptor = self.descriptor;
+        let field = descriptor.get_field(number)?;
+        if holds_floats(&field) {
+            return None;
+        }
+        Some(field)
+    }
+
+    /// The field of a name that messages of the type hold.
+    pub(crate) fn declared_field_by_name(&self, name: &str) -> Option<FieldDescriptor<'p>>
+        ensures { IfSome result (λ f. f.message ≡ self.now.descriptor) }
+    {
+        let descriptor = self.descriptor;
+        let field = descriptor.get_field_by_name(name)?;
+        if holds_floats(&field) {
+            return None;
+        }
+        Some(field)
+    }
+
+    /// The extension of a number that messages of the type hold.
+    pub(crate) fn declared_extension(&self, number: u32) -> Option<ExtensionDescriptor<'p>> {
+        let descriptor = self.descriptor;
+        let extension = descriptor.get_extension(number)?;
+        if holds_floats(&extension) {
+            return None;
+        }
+        Some(extension)
+    }
+}
+
+#[cycle(clone)]
+fn content_clone<'p>(content: &Vec<(u32, Value<'p>)>) -> Result<Vec<(u32, Value<'p>)>, AllocError> {
+    let mut copy = Vec::with_capacity(*content.allocator(), content.len())?;
+    for entry in content {
+        copy.push((entry.0, entry.1.clone()?))?;
+    }
+    Ok(copy)
 }

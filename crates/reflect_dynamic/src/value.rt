@@ -1,6 +1,8 @@
 use crate::message::DynamicMessage;
-use reflect_link::{FieldDescriptor, Kind};
+use reflect_scalar::{MapKey, Scalar};
+use std::alloc::{AllocError, Global};
 use std::collections::BTreeMap;
+use std::default::Emptied;
 
 /// What a field of a message holds.
 #[derive(Drop)]
@@ -26,68 +28,97 @@ pub enum Value<'p> {
     Map(BTreeMap<MapKey, Value<'p>>),
 }
 
-/// A key of a map field.
-#[derive(PartialEq, Eq, PartialOrd, Ord, Hash, Debug, Drop)]
-pub enum MapKey {
-    Bool(bool),
-    I32(i32),
-    I64(i64),
-    U32(u32),
-    U64(u64),
-    String(String),
-}
-
 impl<'p> Value<'p> {
-    /// The value suits a field that holds one value of the kind.
-    pub fn is_valid(&self, kind: &Kind<'p>) -> bool {
-        match (self, kind) {
-            (Value::Bool(_), Kind::Bool)
-            | (Value::I32(_), Kind::Int32 | Kind::Sint32 | Kind::Sfixed32)
-            | (Value::I64(_), Kind::Int64 | Kind::Sint64 | Kind::Sfixed64)
-            | (Value::U32(_), Kind::Uint32 | Kind::Fixed32)
-            | (Value::U64(_), Kind::Uint64 | Kind::Fixed64)
-            | (Value::String(_), Kind::String)
-            | (Value::Bytes(_), Kind::Bytes)
-            | (Value::EnumNumber(_), Kind::Enum(_)) => true,
-            (Value::Message(message), Kind::Message(wanted)) => {
-                message.descriptor().is_same(wanted)
-            }
-            _ => false,
+    /// The value as a single one, `None` of a message, a list or a map.
+    pub(crate) fn as_scalar(&self) -> Option<Scalar<'_>> {
+        match self {
+            Value::Bool(truth) => Some(Scalar::Bool(*truth)),
+            Value::I32(n) => Some(Scalar::I32(*n)),
+            Value::I64(n) => Some(Scalar::I64(*n)),
+            Value::U32(n) => Some(Scalar::U32(*n)),
+            Value::U64(n) => Some(Scalar::U64(*n)),
+            Value::String(text) => Some(Scalar::String(text.as_str())),
+            Value::Bytes(bytes) => Some(Scalar::Bytes(bytes.as_slice())),
+            Value::EnumNumber(n) => Some(Scalar::EnumNumber(*n)),
+            Value::Message(_) | Value::List(_) | Value::Map(_) => None,
         }
     }
 
-    /// The value suits the field, its label included.
-    pub fn is_valid_for_field(&self, field: &FieldDescriptor<'p>) -> bool {
-        match self {
-            Value::List(values) => field.is_list() && are_valid(values, &field.kind()),
-            _ => !field.is_list() && self.is_valid(&field.kind()),
+    /// A value that owns its text or bytes.
+    pub(crate) fn from_scalar(alloc: Global, scalar: Scalar<'_>) -> Result<Value<'p>, AllocError> {
+        match scalar {
+            Scalar::Bool(truth) => Ok(Value::Bool(truth)),
+            Scalar::I32(n) => Ok(Value::I32(n)),
+            Scalar::I64(n) => Ok(Value::I64(n)),
+            Scalar::U32(n) => Ok(Value::U32(n)),
+            Scalar::U64(n) => Ok(Value::U64(n)),
+            Scalar::String(text) => Ok(Value::String(String::from_str(alloc, text)?)),
+            Scalar::Bytes(bytes) => Ok(Value::Bytes(bytes.to_vec(alloc)?)),
+            Scalar::EnumNumber(n) => Ok(Value::EnumNumber(n)),
         }
     }
 
-    /// The value is the default of its kind: zero, false or empty. A message never is.
-    pub fn is_zero(&self) -> bool {
+    /// The value as a key of a map, if it can be one.
+    pub fn into_map_key(self) -> Option<MapKey> {
         match self {
-            Value::Bool(b) => !*b,
-            Value::I32(n) => *n == 0,
-            Value::I64(n) => *n == 0,
-            Value::U32(n) => *n == 0,
-            Value::U64(n) => *n == 0,
-            Value::String(text) => text.is_empty(),
-            Value::Bytes(bytes) => bytes.is_empty(),
-            Value::EnumNumber(n) => *n == 0,
-            Value::Message(_) => false,
-            Value::List(values) => values.is_empty(),
-            Value::Map(entries) => entries.is_empty(),
+            Value::Bool(truth) => Some(MapKey::Bool(truth)),
+            Value::I32(n) => Some(MapKey::I32(n)),
+            Value::I64(n) => Some(MapKey::I64(n)),
+            Value::U32(n) => Some(MapKey::U32(n)),
+            Value::U64(n) => Some(MapKey::U64(n)),
+            Value::String(text) => Some(MapKey::String(text)),
+            _other => None,
+        }
+    }
+
+    /// A copy.
+    #[cycle(clone)]
+    pub fn clone(&self) -> Result<Value<'p>, AllocError> {
+        match self {
+            Value::Bool(truth) => Ok(Value::Bool(*truth)),
+            Value::I32(n) => Ok(Value::I32(*n)),
+            Value::I64(n) => Ok(Value::I64(*n)),
+            Value::U32(n) => Ok(Value::U32(*n)),
+            Value::U64(n) => Ok(Value::U64(*n)),
+            Value::String(text) => Ok(Value::String(text.clone()?)),
+            Value::Bytes(bytes) => Ok(Value::Bytes(bytes.clone()?)),
+            Value::EnumNumber(n) => Ok(Value::EnumNumber(*n)),
+            Value::Message(message) => Ok(Value::Message(message.clone()?)),
+            Value::List(values) => Ok(Value::List(list_clone(values)?)),
+            Value::Map(entries) => Ok(Value::Map(map_clone(entries)?)),
         }
     }
 }
 
-/// Each value suits the kind.
-fn are_valid<'p>(values: &[Value<'p>], kind: &Kind<'p>) -> bool {
+#[cycle(clone)]
+fn list_clone<'p>(values: &Vec<Value<'p>>) -> Result<Vec<Value<'p>>, AllocError> {
+    let mut copy = Vec::with_capacity(*values.allocator(), values.len())?;
     for value in values {
-        if !value.is_valid(kind) {
-            return false;
+        copy.push(value.clone()?)?;
+    }
+    Ok(copy)
+}
+
+#[cycle(clone)]
+fn map_clone<'p>(
+    entries: &BTreeMap<MapKey, Value<'p>>,
+) -> Result<BTreeMap<MapKey, Value<'p>>, AllocError> {
+    let mut copy = BTreeMap::emptied(entries)?;
+    for (key, value) in entries.iter() {
+        copy.insert(key.clone()?, value.clone()?)?;
+    }
+    Ok(copy)
+}
+
+impl<'p> From<MapKey> for Value<'p> {
+    fn from(key: MapKey) -> Value<'p> {
+        match key {
+            MapKey::Bool(truth) => Value::Bool(truth),
+            MapKey::I32(n) => Value::I32(n),
+            MapKey::I64(n) => Value::I64(n),
+            MapKey::U32(n) => Value::U32(n),
+            MapKey::U64(n) => Value::U64(n),
+            MapKey::String(text) => Value::String(text),
         }
     }
-    true
 }

@@ -6,6 +6,8 @@ mod calls;
 #[cfg(test)]
 mod memory_files;
 #[cfg(test)]
+mod messages;
+#[cfg(test)]
 mod programs;
 #[cfg(test)]
 mod schemas;

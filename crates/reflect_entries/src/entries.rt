@@ -3,12 +3,10 @@
 ghost use Rattle.std.specs.Prelude.{◌≡◌, length, OnErr};
 ghost use Rattle.std.specs.List.Sorted.{IsSearchInRange};
 
-use crate::value::Value;
-use reflect_link::FieldDescriptor;
 use std::alloc::AllocError;
 
 /// The place of a number, or where it would stand. The end is tried first, since the records of a message mostly ascend.
-pub fn place<V>(entries: &[(u32, V)], number: u32) -> Result<usize, usize>
+fn place<V>(entries: &[(u32, V)], number: u32) -> Result<usize, usize>
     ensures { IsSearchInRange result (length entries.now) }
 {
     match entries.last() {
@@ -21,6 +19,14 @@ pub fn place<V>(entries: &[(u32, V)], number: u32) -> Result<usize, usize>
 pub fn get<V>(entries: &[(u32, V)], number: u32) -> Option<&V> {
     match place(entries, number) {
         Ok(at) => Some(&entries[at].1),
+        Err(_) => None,
+    }
+}
+
+/// What stands under a number, to be changed.
+pub fn get_mut<V>(entries: &mut Vec<(u32, V)>, number: u32) -> Option<&mut V> {
+    match place(entries.as_slice(), number) {
+        Ok(at) => Some(&mut entries[at].1),
         Err(_) => None,
     }
 }
@@ -48,20 +54,18 @@ pub fn set<V: Drop>(entries: &mut Vec<(u32, V)>, number: u32, value: V) -> Resul
     Ok(())
 }
 
-/// Puts a field's value in its place, over what stood there. A default in a field without presence is nothing that is set.
-/// A refusal leaves the entries.
-pub fn put<'p>(
-    entries: &mut Vec<(u32, Value<'p>)>,
-    field: FieldDescriptor<'p>,
-    value: Value<'p>,
-) -> Result<(), AllocError>
-    ensures { OnErr result (entries.new.items ≡ entries.old.items) }
-{
-    let number = field.number();
-    if field.supports_presence() || !value.is_zero() {
-        set(entries, number, value)?;
-    } else {
-        take(entries, number);
-    }
-    Ok(())
+/// What stands under a number, to be changed; where nothing does, the default is put there.
+pub fn slot<V: Drop>(
+    entries: &mut Vec<(u32, V)>,
+    number: u32,
+    default: V,
+) -> Result<&mut V, AllocError> {
+    let at = match place(entries.as_slice(), number) {
+        Ok(at) => at,
+        Err(at) => {
+            entries.insert(at, (number, default))?;
+            at
+        }
+    };
+    Ok(&mut entries[at].1)
 }

@@ -1,0 +1,29 @@
+use Rattle.std.proofs.Common.{◌≡◌, ◌+◌, ◌*◌, ◌≤◌, length}
+use Rattle.reflect_dynamic.proofs.decode.+merge.Given as goal
+
+abbrev pub decreases-merge_records : goal.decreases-merge_records
+decreases-merge_records l = 8 * length l.bytes.now + 1
+
+abbrev pub decreases-merge_record : goal.decreases-merge_record
+decreases-merge_record l = 8 * length l.raw.bytes.now + 8
+
+abbrev pub decreases-merge_field : goal.decreases-merge_field
+decreases-merge_field l = 8 * length l.raw.bytes.now + 7
+
+abbrev pub decreases-merge_list : goal.decreases-merge_list
+decreases-merge_list l = 8 * length l.raw.bytes.now + 6
+
+abbrev pub decreases-merge_message : goal.decreases-merge_message
+decreases-merge_message l = 8 * length l.raw.bytes.now + 5
+
+abbrev pub decreases-merge_entry : goal.decreases-merge_entry
+decreases-merge_entry l = 8 * length l.raw.bytes.now + 4
+
+abbrev pub decreases-entry_of : goal.decreases-entry_of
+decreases-entry_of l = 8 * length l.body.now + 2
+
+abbrev pub decreases-merge_records-records : goal.decreases-merge_records-records
+decreases-merge_records-records l = length l.rest
+
+abbrev pub invariant-merge_records-records : goal.invariant-merge_records-records
+invariant-merge_records-records l = (l.message.descriptor ≡ l.initial.message.descriptor) × (length l.rest ≤ length l.initial.rest)

@@ -1,0 +1,64 @@
+//! Extensions by their descriptors.
+
+ghost use Rattle.std.specs.Prelude.{◌≡◌, OnErr};
+
+use crate::content;
+use crate::defaults::default_of;
+use crate::field_ref::FieldRef;
+use crate::message::DynamicMessage;
+use crate::value::Value;
+use reflect_entries::entries;
+use reflect_link::ExtensionDescriptor;
+use std::alloc::AllocError;
+
+impl<'p> DynamicMessage<'p> {
+    /// The extension, one of the message's type, is set. Takes no memory.
+    pub fn has_extension(&self, extension: &ExtensionDescriptor<'p>) -> bool {
+        content::has(self.extensions.as_slice(), extension)
+    }
+
+    /// What the extension, one of the message's type, holds, or its default.
+    pub fn get_extension(
+        &self,
+        extension: &ExtensionDescriptor<'p>,
+    ) -> Result<FieldRef<'_, 'p>, AllocError> {
+        content::lend(self.allocator(), self.extensions.as_slice(), extension)
+    }
+
+    /// What the extension, one of the message's type, holds, to be changed. One that is not set gets its default. A refusal
+    /// leaves the message.
+    pub fn get_extension_mut(
+        &mut self,
+        extension: &ExtensionDescriptor<'p>,
+    ) -> Result<&mut Value<'p>, AllocError> {
+        let default = default_of(self.allocator(), extension)?;
+        entries::slot(&mut self.extensions, extension.number(), default)
+    }
+
+    /// Sets the extension, one of the message's type, to a value that suits it, over what it held. A refusal leaves the
+    /// message.
+    pub fn set_extension(
+        &mut self,
+        extension: &ExtensionDescriptor<'p>,
+        value: Value<'p>,
+    ) -> Result<(), AllocError>
+        ensures type_stays { self.new.descriptor ≡ self.old.descriptor }
+        ensures err { OnErr result (self.new.extensions.items ≡ self.old.extensions.items) }
+    {
+        entries::set(&mut self.extensions, extension.number(), value)
+    }
+
+    /// Unsets the extension, one of the message's type. Takes no memory.
+    pub fn clear_extension(&mut self, extension: &ExtensionDescriptor<'p>)
+        ensures type_stays { self.new.descriptor ≡ self.old.descriptor }
+    {
+        entries::take(&mut self.extensions, extension.number());
+    }
+
+    /// Unsets the extension, one of the message's type, and gives what it held, if it was set. Takes no memory.
+    pub fn take_extension(&mut self, extension: &ExtensionDescriptor<'p>) -> Option<Value<'p>>
+        ensures type_stays { self.new.descriptor ≡ self.old.descriptor }
+    {
+        content::take(&mut self.extensions, extension)
+    }
+}

@@ -1,0 +1,154 @@
+//! Files for a pool, from descriptor records and from the bytes of descriptor sets.
+
+ghost use Rattle.std.specs.Prelude.{◌≡◌, OnErr};
+
+use descriptor_records::{FileDescriptorProto, FileDescriptorSet};
+use reflect_codec::{decode_file, decode_set};
+use reflect_link::{DescriptorError, DescriptorPool};
+use reflect_wire::WireError;
+use std::alloc::{AllocFailed, Global};
+use thiserror::Error;
+
+/// Why files were not added to a pool.
+#[derive(Debug, Drop, Error)]
+pub enum PoolError {
+    /// The bytes are no descriptor record or set.
+    #[error("{0}")]
+    Wire(WireError),
+    /// The files do not fit together, or not with those that are there.
+    #[error("{0}")]
+    Link(DescriptorError),
+    #[error("out of memory")]
+    Memory,
+}
+
+impl From<WireError> for PoolError {
+    fn from(error: WireError) -> PoolError {
+        match error {
+            WireError::Memory => PoolError::Memory,
+            other => PoolError::Wire(other),
+        }
+    }
+}
+
+impl From<DescriptorError> for PoolError {
+    fn from(error: DescriptorError) -> PoolError {
+        if error.is_memory() {
+            PoolError::Memory
+        } else {
+            PoolError::Link(error)
+        }
+    }
+}
+
+impl<T: Drop> From<AllocFailed<T>> for PoolError {
+    fn from(_error: AllocFailed<T>) -> PoolError {
+        PoolError::Memory
+    }
+}
+
+/// Calls that link files into a pool. They read no options. Files whose names the pool has are passed over, and a refusal
+/// leaves the pool as it was.
+pub trait PoolExt: Sized {
+    /// A pool of the set's files.
+    fn from_file_descriptor_set(alloc: Global, set: FileDescriptorSet) -> Result<Self, PoolError>;
+
+    /// A pool of the files of a set, from the set's bytes.
+    fn decode(alloc: Global, bytes: &[u8]) -> Result<Self, PoolError>;
+
+    /// Adds the set's files as one batch.
+    fn add_file_descriptor_set(
+        &mut self,
+        alloc: Global,
+        set: FileDescriptorSet,
+    ) -> Result<(), PoolError>
+        ensures { OnErr result (self.new ≡ self.old) };
+
+    /// Adds files as one batch.
+    fn add_file_descriptor_protos(
+        &mut self,
+        alloc: Global,
+        files: Vec<FileDescriptorProto>,
+    ) -> Result<(), PoolError>
+        ensures { OnErr result (self.new ≡ self.old) };
+
+    /// Adds one file.
+    fn add_file_descriptor_proto(
+        &mut self,
+        alloc: Global,
+        file: FileDescriptorProto,
+    ) -> Result<(), PoolError>
+        ensures { OnErr result (self.new ≡ self.old) };
+
+    /// Adds one file, from the bytes of its record.
+    fn decode_file_descriptor_proto(&mut self, alloc: Global, bytes: &[u8]) -> Result<(), PoolError>
+        ensures { OnErr result (self.new ≡ self.old) };
+
+    /// Adds the files of a set as one batch, from the set's bytes.
+    fn decode_file_descriptor_set(&mut self, alloc: Global, bytes: &[u8]) -> Result<(), PoolError>
+        ensures { OnErr result (self.new ≡ self.old) };
+}
+
+impl PoolExt for DescriptorPool {
+    fn from_file_descriptor_set(
+        alloc: Global,
+        set: FileDescriptorSet,
+    ) -> Result<DescriptorPool, PoolError> {
+        let mut pool = DescriptorPool::new(alloc);
+        pool.build_files(alloc, set.file)?;
+        Ok(pool)
+    }
+
+    fn decode(alloc: Global, bytes: &[u8]) -> Result<DescriptorPool, PoolError> {
+        let set = decode_set(alloc, bytes)?;
+        let mut pool = DescriptorPool::new(alloc);
+        pool.build_files(alloc, set.file)?;
+        Ok(pool)
+    }
+
+    fn add_file_descriptor_set(
+        &mut self,
+        alloc: Global,
+        set: FileDescriptorSet,
+    ) -> Result<(), PoolError> {
+        self.build_files(alloc, set.file)?;
+        Ok(())
+    }
+
+    fn add_file_descriptor_protos(
+        &mut self,
+        alloc: Global,
+        files: Vec<FileDescriptorProto>,
+    ) -> Result<(), PoolError> {
+        self.build_files(alloc, files)?;
+        Ok(())
+    }
+
+    fn add_file_descriptor_proto(
+        &mut self,
+        alloc: Global,
+        file: FileDescriptorProto,
+    ) -> Result<(), PoolError> {
+        let mut files = Vec::new(alloc);
+        files.push(file)?;
+        self.build_files(alloc, files)?;
+        Ok(())
+    }
+
+    fn decode_file_descriptor_proto(
+        &mut self,
+        alloc: Global,
+        bytes: &[u8],
+    ) -> Result<(), PoolError> {
+        let mut files = Vec::new(alloc);
+        files.push(decode_file(alloc, bytes)?)?;
+        self.build_files(alloc, files)?;
+        Ok(())
+    }
+
+    fn decode_file_descriptor_set(&mut self, alloc: Global, bytes: &[u8]) -> Result<(), PoolError> {
+        let set = decode_set(alloc, bytes)?;
+        self.build_files(alloc, set.file)?;
+        Ok(())
+    }
+}

@@ -1,0 +1,90 @@
+//! What a message holds, one content after another.
+
+use crate::defaults::is_present;
+use crate::message::DynamicMessage;
+use crate::value::Value;
+use reflect_entries::UnknownFields;
+use reflect_link::{ExtensionDescriptor, FieldDescriptor, MessageDescriptor};
+use std::slice;
+
+impl<'p> DynamicMessage<'p> {
+    /// The fields that are set, with what they hold, by ascending number. Takes no memory.
+    pub fn fields(&self) -> FieldValues<'_, 'p> {
+        FieldValues {
+            descriptor: self.descriptor,
+            entries: self.fields.iter(),
+        }
+    }
+
+    /// The extensions that are set, with what they hold, by ascending number. Takes no memory.
+    pub fn extensions(&self) -> ExtensionValues<'_, 'p> {
+        ExtensionValues {
+            descriptor: self.descriptor,
+            entries: self.extensions.iter(),
+        }
+    }
+
+    /// The records of numbers that the type does not declare, by ascending number, those of a number as they came. Takes no
+    /// memory.
+    pub fn unknown_fields(&self) -> UnknownFields<'_> {
+        self.unknown.iter()
+    }
+}
+
+/// The fields of a message that are set, by ascending number.
+#[derive(Drop)]
+pub struct FieldValues<'m, 'p> {
+    descriptor: MessageDescriptor<'p>,
+    entries: slice::Iter<'m, (u32, Value<'p>)>,
+}
+
+impl<'m, 'p> Iterator for FieldValues<'m, 'p> {
+    ghost use Rattle.std.specs.Prelude.{length};
+    ghost use Rattle.std.specs.Iterator.{at_most};
+    ghost use Rattle.std.specs.Slice.Iter.{iter_rest};
+
+    type Item = (FieldDescriptor<'p>, &'m Value<'p>);
+
+    ghost remaining = { λ s. at_most (length (iter_rest s.entries)) };
+
+    fn next(&mut self) -> Option<(FieldDescriptor<'p>, &'m Value<'p>)> {
+        let descriptor = self.descriptor;
+        'entries: while let Some((number, value)) = self.entries.next() {
+            if let Some(field) = descriptor.get_field(*number) {
+                if is_present(value, &field) {
+                    return Some((field, value));
+                }
+            }
+        }
+        None
+    }
+}
+
+/// The extensions of a message that are set, by ascending number.
+#[derive(Drop)]
+pub struct ExtensionValues<'m, 'p> {
+    descriptor: MessageDescriptor<'p>,
+    entries: slice::Iter<'m, (u32, Value<'p>)>,
+}
+
+impl<'m, 'p> Iterator for ExtensionValues<'m, 'p> {
+    ghost use Rattle.std.specs.Prelude.{length};
+    ghost use Rattle.std.specs.Iterator.{at_most};
+    ghost use Rattle.std.specs.Slice.Iter.{iter_rest};
+
+    type Item = (ExtensionDescriptor<'p>, &'m Value<'p>);
+
+    ghost remaining = { λ s. at_most (length (iter_rest s.entries)) };
+
+    fn next(&mut self) -> Option<(ExtensionDescriptor<'p>, &'m Value<'p>)> {
+        let descriptor = self.descriptor;
+        'entries: while let Some((number, value)) = self.entries.next() {
+            if let Some(extension) = descriptor.get_extension(*number) {
+                if is_present(value, &extension) {
+                    return Some((extension, value));
+                }
+            }
+        }
+        None
+    }
+}

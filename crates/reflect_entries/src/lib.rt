@@ -1,0 +1,9 @@
+//! What stands under field numbers: sorted entries, the records of undeclared numbers, and the members that oneofs have.
+#![tactic(auto)]
+
+mod choices;
+pub mod entries;
+mod unknown_records;
+
+pub use choices::Choices;
+pub use unknown_records::{Descent, UnknownFields, UnknownRecords};

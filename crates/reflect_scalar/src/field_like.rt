@@ -1,0 +1,197 @@
+//! What fields and extensions have in common.
+
+use reflect_link::{DefaultValue, ExtensionDescriptor, FieldDescriptor, Kind, OneofDescriptor};
+
+/// A field of a message type, or an extension of one.
+pub trait FieldDescriptorLike<'p> {
+    /// The number that stands in the keys of its records.
+    fn number(&self) -> u32;
+
+    /// What it holds; a map's is its entry type.
+    fn kind(&self) -> Kind<'p>;
+
+    /// Its messages are written between two tags.
+    fn is_group(&self) -> bool;
+
+    /// It holds any number of values, and is no map.
+    fn is_list(&self) -> bool;
+
+    /// It holds values under keys.
+    fn is_map(&self) -> bool;
+
+    /// A list is written as one record.
+    fn is_packed(&self) -> bool;
+
+    /// Unset differs from set to the default.
+    fn supports_presence(&self) -> bool;
+
+    /// The default that its declaration gives.
+    fn default(&self) -> Option<DefaultValue<'p>>;
+
+    /// The oneof that it is a member of. An extension is in none.
+    fn containing_oneof(&self) -> Option<OneofDescriptor<'p>>;
+}
+
+impl<'p> FieldDescriptorLike<'p> for FieldDescriptor<'p> {
+    fn number(&self) -> u32 {
+        FieldDescriptor::number(self)
+    }
+
+    fn kind(&self) -> Kind<'p> {
+        FieldDescriptor::kind(self)
+    }
+
+    fn is_group(&self) -> bool {
+        FieldDescriptor::is_group(self)
+    }
+
+    fn is_list(&self) -> bool {
+        FieldDescriptor::is_list(self)
+    }
+
+    fn is_map(&self) -> bool {
+        FieldDescriptor::is_map(self)
+    }
+
+    fn is_packed(&self) -> bool {
+        FieldDescriptor::is_packed(self)
+    }
+
+    fn supports_presence(&self) -> bool {
+        FieldDescriptor::supports_presence(self)
+    }
+
+    fn default(&self) -> Option<DefaultValue<'p>> {
+        FieldDescriptor::default(self)
+    }
+
+    fn containing_oneof(&self) -> Option<OneofDescriptor<'p>> {
+        FieldDescriptor::containing_oneof(self)
+    }
+}
+
+impl<'p> FieldDescriptorLike<'p> for ExtensionDescriptor<'p> {
+    fn number(&self) -> u32 {
+        ExtensionDescriptor::number(self)
+    }
+
+    fn kind(&self) -> Kind<'p> {
+        ExtensionDescriptor::kind(self)
+    }
+
+    fn is_group(&self) -> bool {
+        ExtensionDescriptor::is_group(self)
+    }
+
+    fn is_list(&self) -> bool {
+        ExtensionDescriptor::is_list(self)
+    }
+
+    fn is_map(&self) -> bool {
+        ExtensionDescriptor::is_map(self)
+    }
+
+    fn is_packed(&self) -> bool {
+        ExtensionDescriptor::is_packed(self)
+    }
+
+    fn supports_presence(&self) -> bool {
+        ExtensionDescriptor::supports_presence(self)
+    }
+
+    fn default(&self) -> Option<DefaultValue<'p>> {
+        ExtensionDescriptor::default(self)
+    }
+
+    fn containing_oneof(&self) -> Option<OneofDescriptor<'p>> {
+        None
+    }
+}
+
+/// A field or an extension, where either may stand.
+#[derive(Clone, Copy)]
+pub enum AnyField<'p> {
+    Field(FieldDescriptor<'p>),
+    Extension(ExtensionDescriptor<'p>),
+}
+
+impl<'p> FieldDescriptorLike<'p> for AnyField<'p> {
+    fn number(&self) -> u32 {
+        match self {
+            AnyField::Field(field) => field.number(),
+            AnyField::Extension(extension) => extension.number(),
+        }
+    }
+
+    fn kind(&self) -> Kind<'p> {
+        match self {
+            AnyField::Field(field) => field.kind(),
+            AnyField::Extension(extension) => extension.kind(),
+        }
+    }
+
+    fn is_group(&self) -> bool {
+        match self {
+            AnyField::Field(field) => field.is_group(),
+            AnyField::Extension(extension) => extension.is_group(),
+        }
+    }
+
+    fn is_list(&self) -> bool {
+        match self {
+            AnyField::Field(field) => field.is_list(),
+            AnyField::Extension(extension) => extension.is_list(),
+        }
+    }
+
+    fn is_map(&self) -> bool {
+        match self {
+            AnyField::Field(field) => field.is_map(),
+            AnyField::Extension(extension) => extension.is_map(),
+        }
+    }
+
+    fn is_packed(&self) -> bool {
+        match self {
+            AnyField::Field(field) => field.is_packed(),
+            AnyField::Extension(extension) => extension.is_packed(),
+        }
+    }
+
+    fn supports_presence(&self) -> bool {
+        match self {
+            AnyField::Field(field) => field.supports_presence(),
+            AnyField::Extension(extension) => extension.supports_presence(),
+        }
+    }
+
+    fn default(&self) -> Option<DefaultValue<'p>> {
+        match self {
+            AnyField::Field(field) => field.default(),
+            AnyField::Extension(extension) => extension.default(),
+        }
+    }
+
+    fn containing_oneof(&self) -> Option<OneofDescriptor<'p>> {
+        match self {
+            AnyField::Field(field) => field.containing_oneof(),
+            AnyField::Extension(_) => None,
+        }
+    }
+}
+
+fn is_float(kind: &Kind<'_>) -> bool {
+    matches!(kind, Kind::Float | Kind::Double)
+}
+
+/// Its values, or those of its map, are floating-point numbers. Messages do not hold such fields: their records are kept
+/// unread.
+pub fn holds_floats<'p, F: FieldDescriptorLike<'p>>(field: &F) -> bool {
+    match field.kind() {
+        Kind::Message(entry) if field.is_map() => match entry.get_field(2) {
+            Some(value) => is_float(&value.kind()),
+            None => false,
+        },
+        kind => is_float(&kind),
+    }
+}

@@ -1,0 +1,159 @@
+use crate::scalar::Scalar;
+use reflect_link::Kind;
+use std::alloc::{AllocError, Global};
+
+/// A key of a map field.
+#[derive(PartialEq, Eq, PartialOrd, Ord, Hash, Debug, Drop)]
+pub enum MapKey {
+    Bool(bool),
+    I32(i32),
+    I64(i64),
+    U32(u32),
+    U64(u64),
+    String(String),
+}
+
+impl MapKey {
+    /// The default key of a kind: zero, false or empty. Of a kind that keys do not have it is the empty text. Takes no
+    /// memory.
+    pub fn default_value(alloc: Global, kind: &Kind<'_>) -> MapKey {
+        match kind {
+            Kind::Bool => MapKey::Bool(false),
+            Kind::Int32 | Kind::Sint32 | Kind::Sfixed32 => MapKey::I32(0),
+            Kind::Int64 | Kind::Sint64 | Kind::Sfixed64 => MapKey::I64(0),
+            Kind::Uint32 | Kind::Fixed32 => MapKey::U32(0),
+            Kind::Uint64 | Kind::Fixed64 => MapKey::U64(0),
+            _ => MapKey::String(String::new(alloc)),
+        }
+    }
+
+    /// The key is the default of the kind.
+    pub fn is_default(&self, kind: &Kind<'_>) -> bool {
+        Scalar::default_value(kind) == Some(self.as_scalar())
+    }
+
+    /// The key suits a map whose keys are of the kind.
+    pub fn is_valid(&self, kind: &Kind<'_>) -> bool {
+        self.as_scalar().is_valid(kind)
+    }
+
+    /// The key as a single value.
+    pub fn as_scalar(&self) -> Scalar<'_> {
+        match self {
+            MapKey::Bool(truth) => Scalar::Bool(*truth),
+            MapKey::I32(n) => Scalar::I32(*n),
+            MapKey::I64(n) => Scalar::I64(*n),
+            MapKey::U32(n) => Scalar::U32(*n),
+            MapKey::U64(n) => Scalar::U64(*n),
+            MapKey::String(text) => Scalar::String(text.as_str()),
+        }
+    }
+
+    /// A copy.
+    pub fn clone(&self) -> Result<MapKey, AllocError> {
+        match self {
+            MapKey::Bool(truth) => Ok(MapKey::Bool(*truth)),
+            MapKey::I32(n) => Ok(MapKey::I32(*n)),
+            MapKey::I64(n) => Ok(MapKey::I64(*n)),
+            MapKey::U32(n) => Ok(MapKey::U32(*n)),
+            MapKey::U64(n) => Ok(MapKey::U64(*n)),
+            MapKey::String(text) => Ok(MapKey::String(text.clone()?)),
+        }
+    }
+
+    /// The key, if it is a truth value.
+    pub fn as_bool(&self) -> Option<bool> {
+        match self {
+            MapKey::Bool(truth) => Some(*truth),
+            _ => None,
+        }
+    }
+
+    /// The key to be changed, if it is a truth value.
+    pub fn as_bool_mut(&mut self) -> Option<&mut bool> {
+        match self {
+            MapKey::Bool(truth) => Some(truth),
+            _ => None,
+        }
+    }
+
+    /// The key, if it is a signed 32-bit number.
+    pub fn as_i32(&self) -> Option<i32> {
+        match self {
+            MapKey::I32(n) => Some(*n),
+            _ => None,
+        }
+    }
+
+    /// The key to be changed, if it is a signed 32-bit number.
+    pub fn as_i32_mut(&mut self) -> Option<&mut i32> {
+        match self {
+            MapKey::I32(n) => Some(n),
+            _ => None,
+        }
+    }
+
+    /// The key, if it is a signed 64-bit number.
+    pub fn as_i64(&self) -> Option<i64> {
+        match self {
+            MapKey::I64(n) => Some(*n),
+            _ => None,
+        }
+    }
+
+    /// The key to be changed, if it is a signed 64-bit number.
+    pub fn as_i64_mut(&mut self) -> Option<&mut i64> {
+        match self {
+            MapKey::I64(n) => Some(n),
+            _ => None,
+        }
+    }
+
+    /// The key, if it is an unsigned 32-bit number.
+    pub fn as_u32(&self) -> Option<u32> {
+        match self {
+            MapKey::U32(n) => Some(*n),
+            _ => None,
+        }
+    }
+
+    /// The key to be changed, if it is an unsigned 32-bit number.
+    pub fn as_u32_mut(&mut self) -> Option<&mut u32> {
+        match self {
+            MapKey::U32(n) => Some(n),
+            _ => None,
+        }
+    }
+
+    /// The key, if it is an unsigned 64-bit number.
+    pub fn as_u64(&self) -> Option<u64> {
+        match self {
+            MapKey::U64(n) => Some(*n),
+            _ => None,
+        }
+    }
+
+    /// The key to be changed, if it is an unsigned 64-bit number.
+    pub fn as_u64_mut(&mut self) -> Option<&mut u64> {
+        match self {
+            MapKey::U64(n) => Some(n),
+            _ => None,
+        }
+    }
+
+    /// The key, if it is a text.
+    pub fn as_str(&self) -> Option<&str> {
+        match self {
+            MapKey::String(text) => Some(text.as_str()),
+            _ => None,
+        }
+    }
+
+    /// The key to be changed, if it is a text.
+    pub fn as_string_mut(&mut self) -> Option<&mut String> {
+        match self {
+            MapKey::String(text) => Some(text),
+            _ => None,
+        }
+    }
+}
