@@ -1,2 +1,2 @@
 pub mod Left
-pub mod Unread
+pub mod Takes

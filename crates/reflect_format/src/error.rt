@@ -1,8 +1,8 @@
-use crate::token::Span;
-use std::alloc::{AllocError, AllocFailed};
+use std::alloc::{AllocError, AllocFailed, Global};
 use std::error::Error;
 use std::fmt;
 use std::ops::Range;
+use text_lex::Span;
 
 /// What is wrong with a text.
 #[derive(PartialEq, Debug, Drop)]
@@ -94,8 +94,10 @@ pub enum ParseErrorKind {
     NestingTooDeep {
         span: Span,
     },
-    /// A message that is too long to be encoded.
-    TooLong,
+    /// The message of an expansion is too long to be encoded.
+    TooLong {
+        span: Span,
+    },
     /// Want of memory.
     Memory,
 }
@@ -119,11 +121,47 @@ impl ParseErrorKind {
             | ParseErrorKind::EnumValueNotFound { span, .. }
             | ParseErrorKind::InvalidTypeForAny { span }
             | ParseErrorKind::FloatField { span, .. }
-            | ParseErrorKind::NestingTooDeep { span } => Some(*span),
+            | ParseErrorKind::NestingTooDeep { span }
+            | ParseErrorKind::TooLong { span } => Some(*span),
             ParseErrorKind::UnexpectedEof { .. }
             | ParseErrorKind::InvalidMapKey
-            | ParseErrorKind::TooLong
             | ParseErrorKind::Memory => None,
+        }
+    }
+
+    /// What to write at the fault's place, empty where it has none.
+    pub fn label(&self) -> &'static str {
+        match self {
+            ParseErrorKind::InvalidToken { .. }
+            | ParseErrorKind::NoSpaceBetweenIntAndIdent { .. }
+            | ParseErrorKind::UnexpectedToken { .. }
+            | ParseErrorKind::NestingTooDeep { .. } => "found here",
+            ParseErrorKind::InvalidStringCharacters { .. } => "invalid characters",
+            ParseErrorKind::InvalidStringEscape { .. }
+            | ParseErrorKind::InvalidUtf8String { .. }
+            | ParseErrorKind::IntegerValueOutOfRange { .. } => "defined here",
+            ParseErrorKind::FieldNotFound { .. }
+            | ParseErrorKind::FieldAlreadySet { .. }
+            | ParseErrorKind::OneofAlreadySet { .. }
+            | ParseErrorKind::ExtensionNotFound { .. }
+            | ParseErrorKind::FloatField { .. } => "set here",
+            ParseErrorKind::MessageNotFound { .. }
+            | ParseErrorKind::EnumValueNotFound { .. }
+            | ParseErrorKind::InvalidTypeForAny { .. }
+            | ParseErrorKind::TooLong { .. } => "used here",
+            ParseErrorKind::UnexpectedEof { .. }
+            | ParseErrorKind::InvalidMapKey
+            | ParseErrorKind::Memory => "",
+        }
+    }
+
+    /// How to mend the fault, where there is more to say than its text does.
+    pub fn help(&self, alloc: Global) -> Result<Option<String>, AllocError> {
+        match self {
+            ParseErrorKind::IntegerValueOutOfRange { min, max, .. } => Ok(Some(
+                format!(in alloc; "the value must be between {min} and {max} inclusive")?,
+            )),
+            _ => Ok(None),
         }
     }
 }
@@ -202,7 +240,7 @@ impl fmt::Display for ParseErrorKind {
                 "field '{field_name}' of message '{message_name}' has a floating-point type"
             ),
             ParseErrorKind::NestingTooDeep { .. } => f.write_str("more than 100 open braces"),
-            ParseErrorKind::TooLong => f.write_str("encoded length too large"),
+            ParseErrorKind::TooLong { .. } => f.write_str("encoded length too large"),
             ParseErrorKind::Memory => f.write_str("out of memory"),
         }
     }
@@ -242,6 +280,16 @@ impl ParseError {
         let span = self.kind.place()?;
         Some(span.start..span.end)
     }
+
+    /// What to write at that place, empty where there is none.
+    pub fn label(&self) -> &'static str {
+        self.kind.label()
+    }
+
+    /// How to mend the fault, where there is more to say than its text does.
+    pub fn help(&self, alloc: Global) -> Result<Option<String>, AllocError> {
+        self.kind.help(alloc)
+    }
 }
 
 impl fmt::Display for ParseError {
@@ -252,29 +300,3 @@ impl fmt::Display for ParseError {
 }
 
 impl Error for ParseError {}
-
-/// Why a text was not written.
-#[derive(Clone, Copy, PartialEq, Eq, Debug)]
-pub enum WriteError {
-    /// The writer refused.
-    Format,
-    /// Want of memory.
-    Memory,
-}
-
-impl fmt::Display for WriteError {
-    fn fmt<W: fmt::Write>(&self, f: &mut fmt::Formatter<W>) -> fmt::Result {
-        match self {
-            WriteError::Format => f.write_str("the writer refused the text"),
-            WriteError::Memory => f.write_str("out of memory"),
-        }
-    }
-}
-
-impl Error for WriteError {}
-
-impl From<fmt::Error> for WriteError {
-    fn from(_error: fmt::Error) -> WriteError {
-        WriteError::Format
-    }
-}

@@ -2,15 +2,17 @@
 #![tactic(auto)]
 
 mod error;
-mod lexer;
+mod fault;
+mod names;
 mod number;
 mod parser;
+mod scalar;
+mod target;
 mod text_format;
-mod token;
-mod writer;
+mod tokens;
 
-pub use error::{ParseError, ParseErrorKind, WriteError};
+pub use error::{ParseError, ParseErrorKind};
 pub use parser::Parser;
+pub use reflect_print::{FormatOptions, WriteError, Writer};
 pub use text_format::TextFormat;
-pub use token::{Int, Radix, Span, Token};
-pub use writer::Writer;
+pub use text_lex::{Int, Radix, Span, Token};

@@ -1,6 +1,6 @@
 //! Integers in the ranges of the kinds that hold them.
 
-use crate::token::{Int, Radix};
+use text_lex::{Int, Radix};
 
 /// The integers that a kind holds.
 #[derive(Clone, Copy)]
@@ -8,8 +8,8 @@ pub struct IntegerRange {
     pub expected: &'static str,
     pub min: &'static str,
     pub max: &'static str,
-    /// The greatest magnitude of a negative number; 0 where there is no sign.
-    pub negative: u64,
+    /// The greatest magnitude behind a sign, where there may be one.
+    pub negative: Option<u64>,
     /// The greatest number.
     pub positive: u64,
 }
@@ -18,7 +18,7 @@ pub const SIGNED_32: IntegerRange = IntegerRange {
     expected: "a signed 32-bit integer",
     min: "-2147483648",
     max: "2147483647",
-    negative: 0x8000_0000,
+    negative: Some(0x8000_0000),
     positive: 0x7fff_ffff,
 };
 
@@ -26,7 +26,7 @@ pub const SIGNED_64: IntegerRange = IntegerRange {
     expected: "a signed 64-bit integer",
     min: "-9223372036854775808",
     max: "9223372036854775807",
-    negative: 0x8000_0000_0000_0000,
+    negative: Some(0x8000_0000_0000_0000),
     positive: 0x7fff_ffff_ffff_ffff,
 };
 
@@ -34,7 +34,7 @@ pub const UNSIGNED_32: IntegerRange = IntegerRange {
     expected: "an unsigned 32-bit integer",
     min: "0",
     max: "4294967295",
-    negative: 0,
+    negative: None,
     positive: 0xffff_ffff,
 };
 
@@ -42,7 +42,7 @@ pub const UNSIGNED_64: IntegerRange = IntegerRange {
     expected: "an unsigned 64-bit integer",
     min: "0",
     max: "18446744073709551615",
-    negative: 0,
+    negative: None,
     positive: 0xffff_ffff_ffff_ffff,
 };
 
@@ -70,17 +70,20 @@ pub fn magnitude(int: Int<'_>) -> Option<u64> {
     Some(number)
 }
 
-/// The number with its sign, where the range has it; a number without a sign is given as the signed one of its bits.
+/// The number with its sign, where the range has it, as the unsigned one of its bits.
 pub fn in_range(range: IntegerRange, is_negative: bool, int: Int<'_>) -> Option<u64> {
     let number = magnitude(int)?;
-    if is_negative {
-        if number > range.negative {
-            return None;
-        }
-        Some(number.wrapping_neg())
-    } else if number > range.positive {
-        None
+    let greatest = if is_negative {
+        range.negative?
     } else {
-        Some(number)
+        range.positive
+    };
+    if number > greatest {
+        return None;
     }
+    Some(if is_negative {
+        number.wrapping_neg()
+    } else {
+        number
+    })
 }

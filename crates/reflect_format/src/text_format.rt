@@ -1,8 +1,8 @@
-use crate::error::{ParseError, WriteError};
+use crate::error::ParseError;
 use crate::parser::Parser;
-use crate::writer::Writer;
 use reflect_dynamic::DynamicMessage;
 use reflect_link::MessageDescriptor;
+use reflect_print::{FormatOptions, WriteError, Writer};
 use std::alloc::Global;
 
 /// Messages as text, in protobuf's text format (protobuf.dev, "Text Format Language Specification").
@@ -15,11 +15,18 @@ pub trait TextFormat<'p>: Sized {
     ) -> Result<Self, ParseError>;
 
     /// Reads a text into the message. The first fault ends it; the message then has the fields at the top that were read
-    /// before the fault.
+    /// before the fault, and for want of memory perhaps a part of the map or the `google.protobuf.Any` that was to be set.
     fn merge_text_format(&mut self, alloc: Global, text: &str) -> Result<(), ParseError>;
 
-    /// The message's compact text.
+    /// The message's text in the form of [`FormatOptions::new`].
     fn to_text_format(&self, alloc: Global) -> Result<String, WriteError>;
+
+    /// The message's text in the form of the options.
+    fn to_text_format_with_options(
+        &self,
+        alloc: Global,
+        options: &FormatOptions,
+    ) -> Result<String, WriteError>;
 }
 
 impl<'p> TextFormat<'p> for DynamicMessage<'p> {
@@ -38,8 +45,16 @@ impl<'p> TextFormat<'p> for DynamicMessage<'p> {
     }
 
     fn to_text_format(&self, alloc: Global) -> Result<String, WriteError> {
+        self.to_text_format_with_options(alloc, &FormatOptions::new())
+    }
+
+    fn to_text_format_with_options(
+        &self,
+        alloc: Global,
+        options: &FormatOptions,
+    ) -> Result<String, WriteError> {
         let mut text = String::new(alloc);
-        Writer::new(&mut text).fmt_message(self)?;
+        Writer::new(alloc, *options, &mut text).fmt_message(self)?;
         Ok(text)
     }
 }

@@ -142,7 +142,7 @@ impl From<TextError> for SchemaError {
     fn from(error: TextError) -> SchemaError {
         match error.kind() {
             ParseErrorKind::Memory => SchemaError::Memory,
-            ParseErrorKind::TooLong => SchemaError::TooLong,
+            ParseErrorKind::TooLong { .. } => SchemaError::TooLong,
             _ => SchemaError::Text(error),
         }
     }

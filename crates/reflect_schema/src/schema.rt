@@ -5,7 +5,7 @@ use descriptor_records::FileDescriptorProto;
 use protox_parse::parse;
 use reflect_dynamic::DynamicMessage;
 use reflect_link::{DescriptorPool, MessageDescriptor};
-use reflect_text::{TextFormat, WriteError, check_options};
+use reflect_text::{FormatOptions, TextFormat, WriteError, check_options};
 use std::alloc::Global;
 
 /// Protobuf files that fit together, and the messages of their types as text and as bytes.
@@ -84,7 +84,8 @@ impl Schema {
     pub fn decode(&self, type_name: &str, bytes: &[u8]) -> Result<String, SchemaError> {
         let descriptor = self.message_type(type_name)?;
         let message = DynamicMessage::decode(self.alloc, descriptor, bytes)?;
-        match message.to_text_format(self.alloc) {
+        let options = FormatOptions::new().expand_any(false);
+        match message.to_text_format_with_options(self.alloc, &options) {
             Ok(text) => Ok(text),
             Err(WriteError::Format | WriteError::Memory) => Err(SchemaError::Memory),
         }

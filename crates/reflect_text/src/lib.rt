@@ -7,5 +7,6 @@ mod options_visitor;
 pub use option_error::{OptionError, OptionErrorKind};
 pub use options_visitor::{OptionsVisitor, check_options};
 pub use reflect_format::{
-    Int, ParseError, ParseErrorKind, Parser, Radix, Span, TextFormat, Token, WriteError, Writer,
+    FormatOptions, Int, ParseError, ParseErrorKind, Parser, Radix, Span, TextFormat, Token,
+    WriteError, Writer,
 };

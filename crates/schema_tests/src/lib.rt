@@ -11,3 +11,5 @@ mod messages;
 mod programs;
 #[cfg(test)]
 mod schemas;
+#[cfg(test)]
+mod text;

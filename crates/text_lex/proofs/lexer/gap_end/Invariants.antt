@@ -1,5 +1,5 @@
 use Rattle.std.proofs.Common.{◌≤◌, ◌-◌, length}
-use Rattle.reflect_format.proofs.lexer.gap_end.Given as goal
+use Rattle.text_lex.proofs.lexer.gap_end.Given as goal
 
 abbrev pub invariant-gap : goal.invariant-gap
 invariant-gap l = (l.at ≤ l.end) × (l.end ≤ length l.text)

@@ -1,5 +1,5 @@
 use Rattle.std.proofs.Common.{◌≤◌, ◌-◌, length}
-use Rattle.reflect_format.proofs.lexer.run_end.Given as goal
+use Rattle.text_lex.proofs.lexer.comment_end.Given as goal
 
 abbrev pub invariant-run : goal.invariant-run
 invariant-run l = (l.at ≤ l.end) × (l.end ≤ length l.text)

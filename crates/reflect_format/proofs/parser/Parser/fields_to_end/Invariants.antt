@@ -1,5 +1,0 @@
-use Rattle.reflect_format.specs.Left.{left}
-use Rattle.reflect_format.proofs.parser.Parser.fields_to_end.Given as goal
-
-abbrev pub decreases-fields : goal.decreases-fields
-decreases-fields l = left l.self

@@ -1,0 +1,114 @@
+//! Faults with the names and numbers that they tell.
+
+use crate::error::ParseErrorKind;
+use crate::number::IntegerRange;
+use reflect_link::{EnumDescriptor, MessageDescriptor, OneofDescriptor};
+use std::alloc::{AllocError, Global};
+use text_lex::{Int, Span};
+
+/// The message's type has no field of this name.
+pub fn unknown_field(
+    alloc: Global,
+    name: &str,
+    descriptor: MessageDescriptor<'_>,
+    span: Span,
+) -> Result<ParseErrorKind, AllocError> {
+    Ok(ParseErrorKind::FieldNotFound {
+        field_name: String::from_str(alloc, name)?,
+        message_name: String::from_str(alloc, descriptor.full_name())?,
+        span,
+    })
+}
+
+/// The message's type has no extension of this name.
+pub fn unknown_extension(
+    alloc: Global,
+    name: String,
+    descriptor: MessageDescriptor<'_>,
+    span: Span,
+) -> Result<ParseErrorKind, AllocError> {
+    Ok(ParseErrorKind::ExtensionNotFound {
+        extension_name: name,
+        message_name: String::from_str(alloc, descriptor.full_name())?,
+        span,
+    })
+}
+
+/// The pool has no message type of this name.
+pub fn unknown_message(name: String, span: Span) -> ParseErrorKind {
+    ParseErrorKind::MessageNotFound {
+        message_name: name,
+        span,
+    }
+}
+
+/// The field holds floating-point numbers.
+pub fn float_field(
+    alloc: Global,
+    name: &str,
+    descriptor: MessageDescriptor<'_>,
+    span: Span,
+) -> Result<ParseErrorKind, AllocError> {
+    Ok(ParseErrorKind::FloatField {
+        field_name: String::from_str(alloc, name)?,
+        message_name: String::from_str(alloc, descriptor.full_name())?,
+        span,
+    })
+}
+
+/// The field holds a value.
+pub fn already_set(
+    alloc: Global,
+    name: &str,
+    span: Span,
+) -> Result<ParseErrorKind, AllocError> {
+    Ok(ParseErrorKind::FieldAlreadySet {
+        field_name: String::from_str(alloc, name)?,
+        span,
+    })
+}
+
+/// Another field of the oneof holds a value.
+pub fn oneof_already_set(
+    alloc: Global,
+    oneof: OneofDescriptor<'_>,
+    span: Span,
+) -> Result<ParseErrorKind, AllocError> {
+    Ok(ParseErrorKind::OneofAlreadySet {
+        oneof_name: String::from_str(alloc, oneof.name())?,
+        span,
+    })
+}
+
+/// The enum has no value of this name.
+pub fn unknown_enum_value(
+    alloc: Global,
+    name: &str,
+    descriptor: EnumDescriptor<'_>,
+    span: Span,
+) -> Result<ParseErrorKind, AllocError> {
+    Ok(ParseErrorKind::EnumValueNotFound {
+        value_name: String::from_str(alloc, name)?,
+        enum_name: String::from_str(alloc, descriptor.full_name())?,
+        span,
+    })
+}
+
+/// The kind does not hold the integer.
+pub fn out_of_range(
+    alloc: Global,
+    range: IntegerRange,
+    is_negative: bool,
+    int: Int<'_>,
+    span: Span,
+) -> Result<ParseErrorKind, AllocError> {
+    let sign = if is_negative { "-" } else { "" };
+    let digits = int.digits;
+    Ok(ParseErrorKind::IntegerValueOutOfRange {
+        expected: range.expected,
+        actual: format!(in alloc; "{sign}{digits}")?,
+        min: range.min,
+        max: range.max,
+        span,
+    })
+}

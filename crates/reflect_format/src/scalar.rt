@@ -1,0 +1,114 @@
+//! Values that are no messages.
+
+ghost use Rattle.std.specs.Prelude.{◌≡◌, ◌<◌, ◌≤◌, IfOk};
+
+use crate::error::ParseErrorKind;
+use crate::fault::{out_of_range, unknown_enum_value};
+use crate::number::{IntegerRange, SIGNED_32, UNSIGNED_64, in_range};
+use crate::tokens::{Tokens, through};
+use protox_lex::unescape;
+use reflect_dynamic::Value;
+use reflect_link::EnumDescriptor;
+use text_lex::{Span, Token};
+
+impl<'a> Tokens<'a> {
+    ghost use Rattle.reflect_format.specs.Left.{left};
+
+    /// An integer of a range, as the unsigned number of its bits, and where it stands.
+    pub fn integer(&mut self, range: IntegerRange) -> Result<(u64, Span), ParseErrorKind>
+        ensures { IfOk result (λ _. left self.new < left self.old) }
+    {
+        let minus = self.eat(Token::Minus);
+        let Some(lexeme) = self.peek() else {
+            return Err(self.refuse("an integer"));
+        };
+        let Token::IntLiteral(int) = lexeme.token else {
+            return Err(self.refuse("an integer"));
+        };
+        self.advance();
+        let span = match minus {
+            Some(minus) => through(minus, lexeme.span),
+            None => lexeme.span,
+        };
+        match in_range(range, minus.is_some(), int) {
+            Some(n) => Ok((n, span)),
+            None => Err(out_of_range(self.alloc, range, minus.is_some(), int, span)?),
+        }
+    }
+
+    /// A truth value: a word for it, or 0 or 1.
+    pub fn truth(&mut self) -> Result<(bool, Span), ParseErrorKind>
+        ensures { IfOk result (λ _. left self.new < left self.old) }
+    {
+        let Some(lexeme) = self.peek() else {
+            return Err(self.refuse("'true' or 'false'"));
+        };
+        let value = match lexeme.token {
+            Token::Ident("true" | "True" | "t") => true,
+            Token::Ident("false" | "False" | "f") => false,
+            Token::IntLiteral(int) => match in_range(UNSIGNED_64, false, int) {
+                Some(0) => false,
+                Some(1) => true,
+                _ => return Err(self.refuse("0 or 1")),
+            },
+            _ => return Err(self.refuse("'true' or 'false'")),
+        };
+        self.advance();
+        Ok((value, lexeme.span))
+    }
+
+    /// An enum's value by its name or its number.
+    pub fn enum_number(
+        &mut self,
+        descriptor: EnumDescriptor<'_>,
+    ) -> Result<(i32, Span), ParseErrorKind>
+        ensures { IfOk result (λ _. left self.new < left self.old) }
+    {
+        if let Some((name, span)) = self.ident() {
+            return match descriptor.get_value_by_name(name) {
+                Some(value) => Ok((value.number(), span)),
+                None => Err(unknown_enum_value(self.alloc, name, descriptor, span)?),
+            };
+        }
+        match self.peek() {
+            Some(lexeme) if matches!(lexeme.token, Token::Minus | Token::IntLiteral(_)) => {
+                let (n, span) = self.integer(SIGNED_32)?;
+                Ok((low(n).cast_signed(), span))
+            }
+            _ => Err(self.refuse("an enum value")),
+        }
+    }
+
+    /// The bytes of adjacent string literals. The token behind them is then known to be one.
+    pub fn bytes(&mut self) -> Result<(Vec<u8>, Span), ParseErrorKind>
+        ensures { IfOk result (λ _. left self.new < left self.old) }
+    {
+        let Some((raw, first)) = self.string() else {
+            return Err(self.refuse("a string"));
+        };
+        let mut bytes = unescape(self.alloc, raw)?;
+        let mut last = first;
+        'literals: while let Some((raw, span)) = self.string() {
+            bytes.append(&mut unescape(self.alloc, raw)?)?;
+            last = span;
+        }
+        self.no_fault()?;
+        Ok((bytes, through(first, last)))
+    }
+
+    /// The text of adjacent string literals.
+    pub fn text(&mut self) -> Result<(String, Span), ParseErrorKind>
+        ensures { IfOk result (λ _. left self.new < left self.old) }
+    {
+        let (bytes, span) = self.bytes()?;
+        match String::from_utf8(bytes) {
+            Ok(text) => Ok((text, span)),
+            Err(_) => Err(ParseErrorKind::InvalidUtf8String { span }),
+        }
+    }
+}
+
+/// The low 32 bits.
+pub fn low(n: u64) -> u32 {
+    (n & 0xffff_ffff) as u32
+}

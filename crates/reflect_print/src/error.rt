@@ -1,0 +1,41 @@
+use std::alloc::{AllocError, AllocFailed};
+use std::error::Error;
+use std::fmt;
+
+/// Why a text was not written.
+#[derive(Clone, Copy, PartialEq, Eq, Debug)]
+pub enum WriteError {
+    /// The writer refused.
+    Format,
+    /// Want of memory.
+    Memory,
+}
+
+impl fmt::Display for WriteError {
+    fn fmt<W: fmt::Write>(&self, f: &mut fmt::Formatter<W>) -> fmt::Result {
+        match self {
+            WriteError::Format => f.write_str("the writer refused the text"),
+            WriteError::Memory => f.write_str("out of memory"),
+        }
+    }
+}
+
+impl Error for WriteError {}
+
+impl From<fmt::Error> for WriteError {
+    fn from(_error: fmt::Error) -> WriteError {
+        WriteError::Format
+    }
+}
+
+impl From<AllocError> for WriteError {
+    fn from(_error: AllocError) -> WriteError {
+        WriteError::Memory
+    }
+}
+
+impl<T: Drop> From<AllocFailed<T>> for WriteError {
+    fn from(_error: AllocFailed<T>) -> WriteError {
+        WriteError::Memory
+    }
+}

@@ -1,0 +1,15 @@
+//! Messages, values and unknown records as text, in any of the forms that the options name.
+#![tactic(auto)]
+
+mod any;
+mod entries;
+mod error;
+mod options;
+mod place;
+mod unknown;
+mod writer;
+
+pub use any::{AnyFields, any_fields};
+pub use error::WriteError;
+pub use options::FormatOptions;
+pub use writer::Writer;

@@ -1,0 +1,58 @@
+/// In which form a message is printed.
+#[derive(Clone, Copy, Debug)]
+pub struct FormatOptions {
+    pub(crate) pretty: bool,
+    pub(crate) skip_unknown_fields: bool,
+    pub(crate) skip_default_fields: bool,
+    pub(crate) in_index_order: bool,
+    pub(crate) expand_any: bool,
+}
+
+impl FormatOptions {
+    /// One line without spaces, of the fields that are set, by ascending number, with each `google.protobuf.Any` expanded.
+    pub fn new() -> FormatOptions {
+        FormatOptions {
+            pretty: false,
+            skip_unknown_fields: true,
+            skip_default_fields: true,
+            in_index_order: false,
+            expand_any: true,
+        }
+    }
+
+    /// Whether each field has a line of its own, and deeper ones are indented.
+    pub fn pretty(mut self, yes: bool) -> FormatOptions {
+        self.pretty = yes;
+        self
+    }
+
+    /// Whether records of fields that the type does not declare are left out.
+    pub fn skip_unknown_fields(mut self, yes: bool) -> FormatOptions {
+        self.skip_unknown_fields = yes;
+        self
+    }
+
+    /// Whether fields without presence that hold their default are left out.
+    pub fn skip_default_fields(mut self, yes: bool) -> FormatOptions {
+        self.skip_default_fields = yes;
+        self
+    }
+
+    /// Whether the declared fields come as they are declared, and not by ascending number.
+    pub fn print_message_fields_in_index_order(mut self, yes: bool) -> FormatOptions {
+        self.in_index_order = yes;
+        self
+    }
+
+    /// Whether a `google.protobuf.Any` of a known type is printed as the message that it holds.
+    pub fn expand_any(mut self, yes: bool) -> FormatOptions {
+        self.expand_any = yes;
+        self
+    }
+}
+
+impl Default for FormatOptions {
+    fn default() -> FormatOptions {
+        FormatOptions::new()
+    }
+}

@@ -1,0 +1,52 @@
+ghost use Rattle.std.specs.Prelude.{◌<◌, IfOk};
+
+use crate::error::WriteError;
+
+/// How many payloads that look like records may be printed as such in one another.
+const MAX_PAYLOADS: u32 = 100;
+
+/// How many expanded messages may be printed in one another.
+const MAX_EXPANSIONS: u32 = 100;
+
+/// Where in the text something is printed.
+#[derive(Clone, Copy)]
+pub struct Place {
+    /// How many spaces a line begins with in the pretty form.
+    pub indent: usize,
+    /// How many more values may nest. Each takes memory, so no value runs out of them.
+    pub levels: usize,
+    /// How many more payloads may be printed as records.
+    pub payloads: u32,
+    /// How many more messages may be expanded.
+    pub expansions: u32,
+}
+
+impl Place {
+    pub const TOP: Place = Place {
+        indent: 0,
+        levels: usize::MAX,
+        payloads: MAX_PAYLOADS,
+        expansions: MAX_EXPANSIONS,
+    };
+
+    /// In a list at this place.
+    pub fn in_list(self) -> Result<Place, WriteError>
+        ensures { IfOk result (λ p. p.levels < self.levels) }
+    {
+        match self.levels.checked_sub(1) {
+            Some(levels) => Ok(Place { levels, ..self }),
+            None => Err(WriteError::Memory),
+        }
+    }
+
+    /// In braces at this place.
+    pub fn in_braces(self) -> Result<Place, WriteError>
+        ensures { IfOk result (λ p. p.levels < self.levels) }
+    {
+        let inner = self.in_list()?;
+        Ok(Place {
+            indent: inner.indent.saturating_add(2),
+            ..inner
+        })
+    }
+}

@@ -1,0 +1,375 @@
+//! From a message to text.
+
+use crate::any::{Held, held_message};
+use crate::entries::{Other, declared_fields, other_entries};
+use crate::error::WriteError;
+use crate::options::FormatOptions;
+use crate::place::Place;
+use protox_lex::Escaped;
+use reflect_dynamic::{DynamicMessage, MapKey, Value};
+use reflect_link::{ExtensionDescriptor, FieldDescriptor, Kind};
+use reflect_wire::UnknownField;
+use std::alloc::Global;
+use std::collections::BTreeMap;
+use std::fmt;
+
+/// Writes messages, values and unknown records as text. After an error a part of the text may be written.
+#[derive(Drop)]
+pub struct Writer<'a, W: fmt::Write> {
+    pub(crate) alloc: Global,
+    pub(crate) options: FormatOptions,
+    pub(crate) output: &'a mut W,
+}
+
+/// How far a list of lines or of entries is.
+#[derive(Clone, Copy)]
+pub(crate) struct Items {
+    /// Braces stand around the items.
+    pub in_braces: bool,
+    /// An item is printed.
+    pub any: bool,
+}
+
+impl Items {
+    pub(crate) fn new(in_braces: bool) -> Items {
+        Items {
+            in_braces,
+            any: false,
+        }
+    }
+}
+
+impl<'a, W: fmt::Write> Writer<'a, W> {
+    /// A writer in the form of the options to an output.
+    pub fn new(alloc: Global, options: FormatOptions, output: &'a mut W) -> Writer<'a, W> {
+        Writer {
+            alloc,
+            options,
+            output,
+        }
+    }
+
+    /// Writes a message, without braces around it.
+    pub fn fmt_message(&mut self, message: &DynamicMessage<'_>) -> Result<(), WriteError> {
+        self.items(message, false, Place::TOP)?;
+        Ok(())
+    }
+
+    /// Writes a value of a kind. Without the kind an enum's value is written as a number.
+    pub fn fmt_value(
+        &mut self,
+        value: &Value<'_>,
+        kind: Option<&Kind<'_>>,
+    ) -> Result<(), WriteError> {
+        self.value(value, kind, Place::TOP)
+    }
+
+    /// Writes a record with its number. A payload that is a list of records is written as such.
+    pub fn fmt_unknown_field(&mut self, record: &UnknownField) -> Result<(), WriteError> {
+        self.unknown_field(record, Place::TOP)
+    }
+
+    /// What stands before an item.
+    pub(crate) fn next_item(&mut self, items: &mut Items, at: Place) -> Result<(), WriteError> {
+        if self.options.pretty {
+            if items.any || items.in_braces {
+                self.line(at)?;
+            }
+        } else if items.any {
+            self.output.write_str(",")?;
+        }
+        items.any = true;
+        Ok(())
+    }
+
+    /// The brace behind items that stand in braces at a place.
+    pub(crate) fn close(&mut self, any: bool, at: Place) -> Result<(), WriteError> {
+        if any && self.options.pretty {
+            self.line(at)?;
+        }
+        self.output.write_str("}")?;
+        Ok(())
+    }
+
+    /// The end of a line, and the spaces that the next one begins with.
+    fn line(&mut self, at: Place) -> Result<(), WriteError> {
+        self.output.write_str("\n")?;
+        for _ in 0..at.indent {
+            self.output.write_str(" ")?;
+        }
+        Ok(())
+    }
+
+    /// A space where the form has one.
+    pub(crate) fn padding(&mut self) -> Result<(), WriteError> {
+        if self.options.pretty {
+            self.output.write_str(" ")?;
+        }
+        Ok(())
+    }
+
+    /// A colon and the space behind it.
+    pub(crate) fn colon(&mut self) -> Result<(), WriteError> {
+        self.output.write_str(":")?;
+        self.padding()
+    }
+
+    /// Bytes as a string literal.
+    pub(crate) fn string(&mut self, bytes: &[u8]) -> Result<(), WriteError> {
+        let contents = Escaped(bytes);
+        write!(self.output, "\"{contents}\"")?;
+        Ok(())
+    }
+
+    /// A message in braces.
+    #[cycle(message)]
+    fn braced_message(
+        &mut self,
+        message: &DynamicMessage<'_>,
+        at: Place,
+    ) -> Result<(), WriteError> {
+        self.output.write_str("{")?;
+        let any = self.items(message, true, at.in_braces()?)?;
+        self.close(any, at)
+    }
+
+    /// What a message holds; says whether anything was printed.
+    #[cycle(message)]
+    fn items(
+        &mut self,
+        message: &DynamicMessage<'_>,
+        in_braces: bool,
+        at: Place,
+    ) -> Result<bool, WriteError> {
+        let mut items = Items::new(in_braces);
+        if self.options.expand_any && at.expansions > 0 {
+            if let Some(held) = held_message(self.alloc, message)? {
+                self.next_item(&mut items, at)?;
+                self.expansion(&held, at)?;
+                return Ok(true);
+            }
+        }
+        self.declared(message, &mut items, at)?;
+        self.others(message, &mut items, at)?;
+        Ok(items.any)
+    }
+
+    /// The message that a `google.protobuf.Any` holds, under its type's URL.
+    #[cycle(message)]
+    fn expansion(&mut self, held: &Held<'_, '_>, at: Place) -> Result<(), WriteError> {
+        if let Some(type_url) = held.type_url.value().as_str() {
+            write!(self.output, "[{type_url}]")?;
+        }
+        self.padding()?;
+        let inner = Place {
+            expansions: at.expansions.saturating_sub(1),
+            ..at
+        };
+        self.braced_message(&held.body, inner)
+    }
+
+    /// The declared fields.
+    #[cycle(message)]
+    fn declared(
+        &mut self,
+        message: &DynamicMessage<'_>,
+        items: &mut Items,
+        at: Place,
+    ) -> Result<(), WriteError> {
+        if self.options.skip_default_fields && !self.options.in_index_order {
+            for (field, value) in message.fields() {
+                self.next_item(items, at)?;
+                self.field(field, value, at)?;
+            }
+            return Ok(());
+        }
+        for entry in &declared_fields(self.alloc, message, self.options)? {
+            self.next_item(items, at)?;
+            self.field(entry.field, entry.value.value(), at)?;
+        }
+        Ok(())
+    }
+
+    /// Extensions and unknown records.
+    #[cycle(message)]
+    fn others(
+        &mut self,
+        message: &DynamicMessage<'_>,
+        items: &mut Items,
+        at: Place,
+    ) -> Result<(), WriteError> {
+        for other in &other_entries(self.alloc, message, self.options)? {
+            self.next_item(items, at)?;
+            match other {
+                Other::Extension(extension, value) => self.extension(*extension, value, at)?,
+                Other::Unknown(record) => self.unknown_field(record, at)?,
+            }
+        }
+        Ok(())
+    }
+
+    /// A field with its value. A group bears its type's name.
+    #[cycle(message)]
+    fn field(
+        &mut self,
+        field: FieldDescriptor<'_>,
+        value: &Value<'_>,
+        at: Place,
+    ) -> Result<(), WriteError> {
+        let kind = field.kind();
+        match kind {
+            Kind::Message(group) if field.is_group() => self.output.write_str(group.name())?,
+            _ => self.output.write_str(field.name())?,
+        }
+        self.named_value(value, Some(&kind), at)
+    }
+
+    #[cycle(message)]
+    fn extension(
+        &mut self,
+        extension: ExtensionDescriptor<'_>,
+        value: &Value<'_>,
+        at: Place,
+    ) -> Result<(), WriteError> {
+        let name = extension.full_name();
+        write!(self.output, "[{name}]")?;
+        self.named_value(value, Some(&extension.kind()), at)
+    }
+
+    /// What stands behind a name: a colon but before a message, and the value.
+    #[cycle(message)]
+    fn named_value(
+        &mut self,
+        value: &Value<'_>,
+        kind: Option<&Kind<'_>>,
+        at: Place,
+    ) -> Result<(), WriteError> {
+        if !matches!(value, Value::Message(_)) {
+            self.output.write_str(":")?;
+        }
+        self.padding()?;
+        self.value(value, kind, at)
+    }
+
+    #[cycle(message)]
+    fn value(
+        &mut self,
+        value: &Value<'_>,
+        kind: Option<&Kind<'_>>,
+        at: Place,
+    ) -> Result<(), WriteError> {
+        match value {
+            Value::Bool(value) => write!(self.output, "{value}")?,
+            Value::I32(value) => write!(self.output, "{value}")?,
+            Value::I64(value) => write!(self.output, "{value}")?,
+            Value::U32(value) => write!(self.output, "{value}")?,
+            Value::U64(value) => write!(self.output, "{value}")?,
+            Value::EnumNumber(number) => self.enum_value(*number, kind)?,
+            Value::String(text) => self.string(text.as_str().as_bytes())?,
+            Value::Bytes(bytes) => self.string(bytes.as_slice())?,
+            Value::Message(message) => self.braced_message(message, at)?,
+            Value::List(values) => self.list(values.as_slice(), kind, at.in_list()?)?,
+            Value::Map(entries) => self.map(entries, kind, at.in_list()?)?,
+        }
+        Ok(())
+    }
+
+    /// The name of an enum's value, or its number where it has none.
+    fn enum_value(&mut self, number: i32, kind: Option<&Kind<'_>>) -> Result<(), WriteError> {
+        let value = match kind {
+            Some(Kind::Enum(descriptor)) => descriptor.get_value(number),
+            _ => None,
+        };
+        match value {
+            Some(value) => self.output.write_str(value.name())?,
+            None => write!(self.output, "{number}")?,
+        }
+        Ok(())
+    }
+
+    /// The values of a list in brackets.
+    #[cycle(message)]
+    fn list(
+        &mut self,
+        values: &[Value<'_>],
+        kind: Option<&Kind<'_>>,
+        at: Place,
+    ) -> Result<(), WriteError> {
+        self.output.write_str("[")?;
+        let mut is_first = true;
+        for value in values {
+            self.next_element(&mut is_first)?;
+            self.value(value, kind, at)?;
+        }
+        self.output.write_str("]")?;
+        Ok(())
+    }
+
+    /// What stands before an element of a list.
+    fn next_element(&mut self, is_first: &mut bool) -> Result<(), WriteError> {
+        if !*is_first {
+            self.output.write_str(",")?;
+            self.padding()?;
+        }
+        *is_first = false;
+        Ok(())
+    }
+
+    /// The entries of a map as a list of messages.
+    #[cycle(message)]
+    fn map(
+        &mut self,
+        entries: &BTreeMap<MapKey, Value<'_>>,
+        kind: Option<&Kind<'_>>,
+        at: Place,
+    ) -> Result<(), WriteError> {
+        let value_kind = match kind {
+            Some(Kind::Message(entry)) if entry.is_map_entry() => {
+                Some(entry.map_entry_value_field().kind())
+            }
+            _ => None,
+        };
+        self.output.write_str("[")?;
+        let mut is_first = true;
+        for (key, value) in entries {
+            self.next_element(&mut is_first)?;
+            self.entry(key, value, value_kind.as_ref(), at)?;
+        }
+        self.output.write_str("]")?;
+        Ok(())
+    }
+
+    /// An entry of a map as a message.
+    #[cycle(message)]
+    fn entry(
+        &mut self,
+        key: &MapKey,
+        value: &Value<'_>,
+        value_kind: Option<&Kind<'_>>,
+        at: Place,
+    ) -> Result<(), WriteError> {
+        self.output.write_str("{")?;
+        let inner = at.in_braces()?;
+        let mut items = Items::new(true);
+        self.next_item(&mut items, inner)?;
+        self.output.write_str("key")?;
+        self.colon()?;
+        self.map_key(key)?;
+        self.next_item(&mut items, inner)?;
+        self.output.write_str("value")?;
+        self.named_value(value, value_kind, inner)?;
+        self.close(true, at)
+    }
+
+    fn map_key(&mut self, key: &MapKey) -> Result<(), WriteError> {
+        match key {
+            MapKey::Bool(key) => write!(self.output, "{key}")?,
+            MapKey::I32(key) => write!(self.output, "{key}")?,
+            MapKey::I64(key) => write!(self.output, "{key}")?,
+            MapKey::U32(key) => write!(self.output, "{key}")?,
+            MapKey::U64(key) => write!(self.output, "{key}")?,
+            MapKey::String(text) => self.string(text.as_str().as_bytes())?,
+        }
+        Ok(())
+    }
+}
