@@ -5,7 +5,7 @@ use protox_parse::parse;
 use reflect_dynamic::{DynamicMessage, Value};
 use reflect_link::{Cardinality, DescriptorPool, Kind, MessageDescriptor};
 use reflect_schema::{Action, Schema, serve};
-use reflect_text::{Parser, TextFormat, Writer, check_options};
+use reflect_text::{FormatOptions, Parser, TextFormat, Writer, check_options};
 use std::alloc::Global;
 use std::test::Fail;
 
@@ -131,7 +131,7 @@ fn text_is_parsed_merged_and_printed(rt: HostRuntime) -> Result<(), Fail> {
     };
     assert_eq!(rt; error.span(), Some(7..8));
     let mut shown = String::new(alloc);
-    Writer::new(&mut shown).fmt_message(&partly)?;
+    Writer::new(alloc, FormatOptions::new(), &mut shown).fmt_message(&partly)?;
     assert_eq!(rt; shown.as_str(), "foo:1");
     Ok(())
 }

@@ -18,6 +18,140 @@ extend G { optional int32 x = 10; repeated int32 ys = 11; }"#;
 
 const ANY: &str = r#"syntax = "proto3"; package google.protobuf; message Any { string type_url = 1; bytes value = 2; }"#;
 
+/// The bytes of a `google.protobuf.Any` that holds a `p.N` whose `bar` is 66.
+const ANY_OF_N: &str = "0a17747970652e676f6f676c65617069732e636f6d2f702e4e12021042";
+
+/// A form in which a message is printed.
+#[derive(Clone, Copy)]
+enum Form {
+    Plain,
+    Pretty,
+    Expanded,
+    Defaults,
+    Unknown,
+}
+
+impl Form {
+    fn options(self) -> FormatOptions {
+        let plain = FormatOptions::new().expand_any(false);
+        match self {
+            Form::Plain => plain,
+            Form::Pretty => plain.pretty(true),
+            Form::Expanded => FormatOptions::new(),
+            Form::Defaults => plain.skip_default_fields(false),
+            Form::Unknown => plain.skip_unknown_fields(false),
+        }
+    }
+}
+
+/// A type, a text and the bytes of the message that it spells.
+const BYTES: [(&str, &str, &str); 17] = [
+    ("p.M", "foo: 150 nested { bar: 66 }", "0896011a021042"),
+    ("p.M", "nested: < bar: 0x42; >, foo: 0226;", "0896011a021042"),
+    ("p.A", "a: 0 a: 5", "0805"),
+    ("p.A", "xs: [1, 2] xs: 150", "220401029601"),
+    ("p.A", "xs: []", ""),
+    (
+        "p.A",
+        "m { key: 2 value: \"b\" } m { key: 1 value: \"a\" }",
+        "2a0508011201612a050802120162",
+    ),
+    ("p.A", "m { value: \"a\" }", "2a03120161"),
+    (
+        "p.A",
+        "m: [{key: 1 value: \"a\"}, {key: 1 value: \"b\"}]",
+        "2a050801120162",
+    ),
+    ("p.A", "b: '\\377' \"\\x41\"", "4202ff41"),
+    ("p.A", "s: \"\\u0068\\U0001f600\"", "4a0568f09f9880"),
+    ("p.A", "c: BLUE", "5002"),
+    ("p.A", "c: -1 t: True", "100150ffffffffffffffffff01"),
+    ("p.A", "ms: [{}, {foo: 1}] ms {}", "5a005a0208015a00"),
+    ("q.G", "Foo { a: 7 }", "0b10070c"),
+    ("q.G", "xs: [1, 2]", "20012002"),
+    ("q.G", "[q.x]: 5 [q.ys]: [1, 2]", "500558015802"),
+    (
+        "google.protobuf.Any",
+        "[type.googleapis.com/p.N] { bar: 66 }",
+        ANY_OF_N,
+    ),
+];
+
+/// A type, a text and why it is refused, behind the place.
+const REFUSALS: [(&str, &str, &str); 16] = [
+    ("p.A", "a: 5 a: 0", "8..9 'a' is already set"),
+    ("p.A", "oa: 1 ob: 2", "10..11 a value is already set for oneof 'o'"),
+    ("p.A", "s: \"\\377\"", "3..9 string is not valid utf-8"),
+    ("p.A", "f: 1", "0..1 field 'f' of message 'p.A' has a floating-point type"),
+    ("p.A", "t: 2", "3..4 expected 0 or 1, but found '2'"),
+    ("p.A", "c: GREEN", "3..8 value 'GREEN' was not found for enum 'p.Color'"),
+    ("p.A", "m [1]", "2..3 expected ':' or a message value, but found '['"),
+    ("p.A", "xs: [1", "expected ',' or ']', but reached end of input"),
+    ("p.A", "s: 'a", "expected string terminator, but reached end of input"),
+    (
+        "p.A",
+        "u: -0",
+        "3..5 expected value to be an unsigned 32-bit integer, but the value -0 is out of range",
+    ),
+    ("p.M", "nested < foo: 1 >", "9..12 field 'foo' not found for message 'p.N'"),
+    ("p.M", "nested < }", "9..10 expected '>' or a field name, but found '}'"),
+    ("q.G", "foo { a: 7 }", "0..3 field 'foo' not found for message 'q.G'"),
+    ("q.G", "[q.z]: 1", "0..5 extension 'q.z' not found for message 'q.G'"),
+    ("q.G", "[q/p.M] {}", "0..7 the field type must be 'google.protobuf.Any' to use Any expansion syntax"),
+    (
+        "google.protobuf.Any",
+        "[type.googleapis.com/p.Q] {}",
+        "0..25 message type 'p.Q' not found",
+    ),
+];
+
+/// A type, the bytes of a message, a form and the message's text in it.
+const TEXTS: [(&str, &str, Form, &str); 13] = [
+    ("p.M", "0896011a021042", Form::Plain, "foo:150,nested{bar:66}"),
+    ("p.M", "0896011a021042", Form::Pretty, "foo: 150\nnested {\n  bar: 66\n}"),
+    ("p.M", "", Form::Defaults, "foo:0"),
+    ("q.G", "0b10070c5005", Form::Plain, "Foo{a:7},[q.x]:5"),
+    ("p.A", "4201ff5002", Form::Plain, "b:\"\\377\",c:BLUE"),
+    ("p.A", "2a050801120161", Form::Plain, "m:[{key:1,value:\"a\"}]"),
+    (
+        "p.A",
+        "2a0508011201615a005a020801",
+        Form::Pretty,
+        "m: [{\n  key: 1\n  value: \"a\"\n}]\nms: [{}, {\n  foo: 1\n}]",
+    ),
+    (
+        "google.protobuf.Any",
+        ANY_OF_N,
+        Form::Plain,
+        "type_url:\"type.googleapis.com/p.N\",value:\"\\020B\"",
+    ),
+    (
+        "google.protobuf.Any",
+        ANY_OF_N,
+        Form::Expanded,
+        "[type.googleapis.com/p.N]{bar:66}",
+    ),
+    ("p.Empty", "0896011a021042", Form::Unknown, "1:150,3{2:66}"),
+    (
+        "p.Empty",
+        "099a9999999999f13f15cdcc0c4018037201357a0769a6be6db6ff58",
+        Form::Unknown,
+        "1:0x3ff199999999999a,2:0x400ccccd,3:3,14:\"5\",15:\"i\\246\\276m\\266\\377X\"",
+    ),
+    (
+        "p.Empty",
+        "120d08031209380e40104d0900000022020001",
+        Form::Unknown,
+        "2{1:3,2{7:14,8:16,9:0x00000009}},4:\"\\000\\001\"",
+    ),
+    (
+        "p.Empty",
+        "0b0a036261720c1b0a001c1b0a0568656c6c6f100a1c",
+        Form::Unknown,
+        "1{1:\"bar\"},3{1:\"\"},3{1:\"hello\",2:10}",
+    ),
+];
+
 fn linked(alloc: Global) -> Result<DescriptorPool, Fail> {
     let mut files: Vec<FileDescriptorProto> = Vec::new(alloc);
     for (name, source) in [
@@ -60,49 +194,18 @@ fn printed(
     alloc: Global,
     kind: MessageDescriptor<'_>,
     digits: &str,
-    options: &FormatOptions,
+    form: Form,
 ) -> Result<String, Fail> {
     let bytes = hex::decode(alloc, digits)?;
     let message = DynamicMessage::decode(alloc, kind, bytes.as_slice())?;
-    Ok(message.to_text_format_with_options(alloc, options)?)
+    Ok(message.to_text_format_with_options(alloc, &form.options())?)
 }
 
 #[test]
 fn texts_and_their_bytes(rt: HostRuntime) -> Result<(), Fail> {
     let alloc = rt.alloc();
     let pool = linked(alloc)?;
-    let rows = [
-        ("p.M", "foo: 150 nested { bar: 66 }", "0896011a021042"),
-        ("p.M", "nested: < bar: 0x42; >, foo: 0226;", "0896011a021042"),
-        ("p.A", "a: 0 a: 5", "0805"),
-        ("p.A", "xs: [1, 2] xs: 150", "220401029601"),
-        ("p.A", "xs: []", ""),
-        (
-            "p.A",
-            "m { key: 2 value: \"b\" } m { key: 1 value: \"a\" }",
-            "2a0508011201612a050802120162",
-        ),
-        ("p.A", "m { value: \"a\" }", "2a03120161"),
-        (
-            "p.A",
-            "m: [{key: 1 value: \"a\"}, {key: 1 value: \"b\"}]",
-            "2a050801120162",
-        ),
-        ("p.A", "b: '\\377' \"\\x41\"", "4202ff41"),
-        ("p.A", "s: \"\\u0068\\U0001f600\"", "4a0568f09f9880"),
-        ("p.A", "c: BLUE", "5002"),
-        ("p.A", "c: -1 t: True", "100150ffffffffffffffffff01"),
-        ("p.A", "ms: [{}, {foo: 1}] ms {}", "5a005a0208015a00"),
-        ("q.G", "Foo { a: 7 }", "0b10070c"),
-        ("q.G", "xs: [1, 2]", "20012002"),
-        ("q.G", "[q.x]: 5 [q.ys]: [1, 2]", "500558015802"),
-        (
-            "google.protobuf.Any",
-            "[type.googleapis.com/p.N] { bar: 66 }",
-            "0a17747970652e676f6f676c65617069732e636f6d2f702e4e12021042",
-        ),
-    ];
-    for (name, text, bytes) in rows {
+    for (name, text, bytes) in BYTES {
         assert_eq!(rt; encoded(alloc, message(&pool, name)?, text)?.as_str(), bytes);
     }
     Ok(())
@@ -112,33 +215,7 @@ fn texts_and_their_bytes(rt: HostRuntime) -> Result<(), Fail> {
 fn texts_that_are_refused(rt: HostRuntime) -> Result<(), Fail> {
     let alloc = rt.alloc();
     let pool = linked(alloc)?;
-    let rows = [
-        ("p.A", "a: 5 a: 0", "8..9 'a' is already set"),
-        ("p.A", "oa: 1 ob: 2", "10..11 a value is already set for oneof 'o'"),
-        ("p.A", "s: \"\\377\"", "3..9 string is not valid utf-8"),
-        ("p.A", "f: 1", "0..1 field 'f' of message 'p.A' has a floating-point type"),
-        ("p.A", "t: 2", "3..4 expected 0 or 1, but found '2'"),
-        ("p.A", "c: GREEN", "3..8 value 'GREEN' was not found for enum 'p.Color'"),
-        ("p.A", "m [1]", "2..3 expected ':' or a message value, but found '['"),
-        ("p.A", "xs: [1", "expected ',' or ']', but reached end of input"),
-        ("p.A", "s: 'a", "expected string terminator, but reached end of input"),
-        (
-            "p.A",
-            "u: -0",
-            "3..5 expected value to be an unsigned 32-bit integer, but the value -0 is out of range",
-        ),
-        ("p.M", "nested < foo }", "9..12 field 'foo' not found for message 'p.N'"),
-        ("p.M", "nested < }", "9..10 expected '>' or a field name, but found '}'"),
-        ("q.G", "foo { a: 7 }", "0..3 field 'foo' not found for message 'q.G'"),
-        ("q.G", "[q.z]: 1", "0..5 extension 'q.z' not found for message 'q.G'"),
-        ("q.G", "[q/p.M] {}", "0..7 the field type must be 'google.protobuf.Any' to use Any expansion syntax"),
-        (
-            "google.protobuf.Any",
-            "[type.googleapis.com/p.Q] {}",
-            "0..25 message type 'p.Q' not found",
-        ),
-    ];
-    for (name, text, fault) in rows {
+    for (name, text, fault) in REFUSALS {
         assert_eq!(rt; encoded(alloc, message(&pool, name)?, text)?.as_str(), fault);
     }
     Ok(())
@@ -181,57 +258,8 @@ fn at_most_a_hundred_braces_are_open(rt: HostRuntime) -> Result<(), Fail> {
 fn messages_and_their_text(rt: HostRuntime) -> Result<(), Fail> {
     let alloc = rt.alloc();
     let pool = linked(alloc)?;
-    let any = "0a17747970652e676f6f676c65617069732e636f6d2f702e4e12021042";
-    let plain = FormatOptions::new().expand_any(false);
-    let pretty = FormatOptions::new().pretty(true);
-    let unknown = FormatOptions::new().skip_unknown_fields(false);
-    let rows = [
-        ("p.M", "0896011a021042", plain, "foo:150,nested{bar:66}"),
-        ("p.M", "0896011a021042", pretty, "foo: 150\nnested {\n  bar: 66\n}"),
-        ("p.M", "", FormatOptions::new().skip_default_fields(false), "foo:0"),
-        ("q.G", "0b10070c5005", plain, "Foo{a:7},[q.x]:5"),
-        ("p.A", "4201ff5002", plain, "b:\"\\377\",c:BLUE"),
-        ("p.A", "2a050801120161", plain, "m:[{key:1,value:\"a\"}]"),
-        (
-            "p.A",
-            "2a0508011201615a005a020801",
-            pretty,
-            "m: [{\n  key: 1\n  value: \"a\"\n}]\nms: [{}, {\n  foo: 1\n}]",
-        ),
-        (
-            "google.protobuf.Any",
-            any,
-            plain,
-            "type_url:\"type.googleapis.com/p.N\",value:\"\\020B\"",
-        ),
-        (
-            "google.protobuf.Any",
-            any,
-            FormatOptions::new(),
-            "[type.googleapis.com/p.N]{bar:66}",
-        ),
-        ("p.Empty", "0896011a021042", unknown, "1:150,3{2:66}"),
-        (
-            "p.Empty",
-            "099a9999999999f13f15cdcc0c4018037201357a0769a6be6db6ff58",
-            unknown,
-            "1:0x3ff199999999999a,2:0x400ccccd,3:3,14:\"5\",15:\"i\\246\\276m\\266\\377X\"",
-        ),
-        (
-            "p.Empty",
-            "120d08031209380e40104d0900000022020001",
-            unknown,
-            "2{1:3,2{7:14,8:16,9:0x00000009}},4:\"\\000\\001\"",
-        ),
-        (
-            "p.Empty",
-            "0b0a036261720c1b0a001c1b0a0568656c6c6f100a1c",
-            unknown,
-            "1{1:\"bar\"},3{1:\"\"},3{1:\"hello\",2:10}",
-        ),
-    ];
-    for (name, bytes, options, text) in rows {
-        assert_eq!(rt; printed(alloc, message(&pool, name)?, bytes, &options)?.as_str(), text);
+    for (name, bytes, form, text) in TEXTS {
+        assert_eq!(rt; printed(alloc, message(&pool, name)?, bytes, form)?.as_str(), text);
     }
     Ok(())
 }
