@@ -1,2 +1,4 @@
 pub mod Left
+pub mod Number
+pub mod Radix
 pub mod Takes

@@ -158,9 +158,9 @@ impl ParseErrorKind {
     /// How to mend the fault, where there is more to say than its text does.
     pub fn help(&self, alloc: Global) -> Result<Option<String>, AllocError> {
         match self {
-            ParseErrorKind::IntegerValueOutOfRange { min, max, .. } => Ok(Some(
-                format!(in alloc; "the value must be between {min} and {max} inclusive")?,
-            )),
+            ParseErrorKind::IntegerValueOutOfRange { min, max, .. } => Ok(Some(format!(in alloc;
+                "the value must be between {min} and {max} inclusive"
+            )?)),
             _ => Ok(None),
         }
     }

@@ -1,10 +1,10 @@
 //! Faults with the names and numbers that they tell.
 
 use crate::error::ParseErrorKind;
-use crate::number::IntegerRange;
+use crate::number::{IntegerRange, Literal};
 use reflect_link::{EnumDescriptor, MessageDescriptor, OneofDescriptor};
 use std::alloc::{AllocError, Global};
-use text_lex::{Int, Span};
+use text_lex::Span;
 
 /// The message's type has no field of this name.
 pub fn unknown_field(
@@ -57,11 +57,7 @@ pub fn float_field(
 }
 
 /// The field holds a value.
-pub fn already_set(
-    alloc: Global,
-    name: &str,
-    span: Span,
-) -> Result<ParseErrorKind, AllocError> {
+pub fn already_set(alloc: Global, name: &str, span: Span) -> Result<ParseErrorKind, AllocError> {
     Ok(ParseErrorKind::FieldAlreadySet {
         field_name: String::from_str(alloc, name)?,
         span,
@@ -98,17 +94,15 @@ pub fn unknown_enum_value(
 pub fn out_of_range(
     alloc: Global,
     range: IntegerRange,
-    is_negative: bool,
-    int: Int<'_>,
-    span: Span,
+    literal: Literal<'_>,
 ) -> Result<ParseErrorKind, AllocError> {
-    let sign = if is_negative { "-" } else { "" };
-    let digits = int.digits;
+    let sign = if literal.is_negative { "-" } else { "" };
+    let digits = literal.int.digits;
     Ok(ParseErrorKind::IntegerValueOutOfRange {
         expected: range.expected,
         actual: format!(in alloc; "{sign}{digits}")?,
         min: range.min,
         max: range.max,
-        span,
+        span: literal.span,
     })
 }

@@ -7,8 +7,6 @@ ghost use Rattle.std.specs.Prelude.{◌≡◌, ◌<◌, ◌≤◌, IfOk, OnOk};
 use crate::error::{ParseError, ParseErrorKind};
 use crate::fault::{already_set, oneof_already_set, unknown_message};
 use crate::names::{AnyName, Name};
-use crate::number::{SIGNED_32, SIGNED_64, UNSIGNED_32, UNSIGNED_64};
-use crate::scalar::low;
 use crate::target::Target;
 use crate::tokens::{Brace, Tokens, through};
 use reflect_dynamic::{DynamicMessage, Value};
@@ -206,20 +204,20 @@ fn scalar_value<'p>(
 {
     match kind {
         Kind::Int32 | Kind::Sint32 | Kind::Sfixed32 => {
-            let (n, span) = tokens.integer(SIGNED_32)?;
-            Ok((Value::I32(low(n).cast_signed()), span))
+            let (number, span) = tokens.signed_32()?;
+            Ok((Value::I32(number), span))
         }
         Kind::Int64 | Kind::Sint64 | Kind::Sfixed64 => {
-            let (n, span) = tokens.integer(SIGNED_64)?;
-            Ok((Value::I64(n.cast_signed()), span))
+            let (number, span) = tokens.signed_64()?;
+            Ok((Value::I64(number), span))
         }
         Kind::Uint32 | Kind::Fixed32 => {
-            let (n, span) = tokens.integer(UNSIGNED_32)?;
-            Ok((Value::U32(low(n)), span))
+            let (number, span) = tokens.unsigned_32()?;
+            Ok((Value::U32(number), span))
         }
         Kind::Uint64 | Kind::Fixed64 => {
-            let (n, span) = tokens.integer(UNSIGNED_64)?;
-            Ok((Value::U64(n), span))
+            let (number, span) = tokens.unsigned_64()?;
+            Ok((Value::U64(number), span))
         }
         Kind::Bool => {
             let (truth, span) = tokens.truth()?;

@@ -4,7 +4,7 @@ ghost use Rattle.std.specs.Prelude.{◌≡◌, ◌<◌, ◌≤◌, IfOk};
 
 use crate::error::ParseErrorKind;
 use crate::fault::{out_of_range, unknown_enum_value};
-use crate::number::{IntegerRange, SIGNED_32, UNSIGNED_64, in_range};
+use crate::number::{Literal, SIGNED_32, SIGNED_64, UNSIGNED_32, UNSIGNED_64, magnitude_of};
 use crate::tokens::{Tokens, through};
 use protox_lex::unescape;
 use reflect_dynamic::Value;
@@ -14,8 +14,8 @@ use text_lex::{Span, Token};
 impl<'a> Tokens<'a> {
     ghost use Rattle.reflect_format.specs.Left.{left};
 
-    /// An integer of a range, as the unsigned number of its bits, and where it stands.
-    pub fn integer(&mut self, range: IntegerRange) -> Result<(u64, Span), ParseErrorKind>
+    /// An integer with its sign.
+    fn integer(&mut self) -> Result<Literal<'a>, ParseErrorKind>
         ensures { IfOk result (λ _. left self.new < left self.old) }
     {
         let minus = self.eat(Token::Minus);
@@ -30,9 +30,50 @@ impl<'a> Tokens<'a> {
             Some(minus) => through(minus, lexeme.span),
             None => lexeme.span,
         };
-        match in_range(range, minus.is_some(), int) {
-            Some(n) => Ok((n, span)),
-            None => Err(out_of_range(self.alloc, range, minus.is_some(), int, span)?),
+        Ok(Literal {
+            is_negative: minus.is_some(),
+            int,
+            span,
+        })
+    }
+
+    pub fn signed_32(&mut self) -> Result<(i32, Span), ParseErrorKind>
+        ensures { IfOk result (λ _. left self.new < left self.old) }
+    {
+        let literal = self.integer()?;
+        match literal.number().and_then(|number| number.as_i32()) {
+            Some(value) => Ok((value, literal.span)),
+            None => Err(out_of_range(self.alloc, SIGNED_32, literal)?),
+        }
+    }
+
+    pub fn signed_64(&mut self) -> Result<(i64, Span), ParseErrorKind>
+        ensures { IfOk result (λ _. left self.new < left self.old) }
+    {
+        let literal = self.integer()?;
+        match literal.number().and_then(|number| number.as_i64()) {
+            Some(value) => Ok((value, literal.span)),
+            None => Err(out_of_range(self.alloc, SIGNED_64, literal)?),
+        }
+    }
+
+    pub fn unsigned_32(&mut self) -> Result<(u32, Span), ParseErrorKind>
+        ensures { IfOk result (λ _. left self.new < left self.old) }
+    {
+        let literal = self.integer()?;
+        match literal.number().and_then(|number| number.as_u32()) {
+            Some(value) => Ok((value, literal.span)),
+            None => Err(out_of_range(self.alloc, UNSIGNED_32, literal)?),
+        }
+    }
+
+    pub fn unsigned_64(&mut self) -> Result<(u64, Span), ParseErrorKind>
+        ensures { IfOk result (λ _. left self.new < left self.old) }
+    {
+        let literal = self.integer()?;
+        match literal.number().and_then(|number| number.as_u64()) {
+            Some(value) => Ok((value, literal.span)),
+            None => Err(out_of_range(self.alloc, UNSIGNED_64, literal)?),
         }
     }
 
@@ -46,7 +87,7 @@ impl<'a> Tokens<'a> {
         let value = match lexeme.token {
             Token::Ident("true" | "True" | "t") => true,
             Token::Ident("false" | "False" | "f") => false,
-            Token::IntLiteral(int) => match in_range(UNSIGNED_64, false, int) {
+            Token::IntLiteral(int) => match magnitude_of(int) {
                 Some(0) => false,
                 Some(1) => true,
                 _ => return Err(self.refuse("0 or 1")),
@@ -72,8 +113,7 @@ impl<'a> Tokens<'a> {
         }
         match self.peek() {
             Some(lexeme) if matches!(lexeme.token, Token::Minus | Token::IntLiteral(_)) => {
-                let (n, span) = self.integer(SIGNED_32)?;
-                Ok((low(n).cast_signed(), span))
+                self.signed_32()
             }
             _ => Err(self.refuse("an enum value")),
         }
@@ -106,9 +146,4 @@ impl<'a> Tokens<'a> {
             Err(_) => Err(ParseErrorKind::InvalidUtf8String { span }),
         }
     }
-}
-
-/// The low 32 bits.
-pub fn low(n: u64) -> u32 {
-    (n & 0xffff_ffff) as u32
 }

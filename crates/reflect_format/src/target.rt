@@ -114,8 +114,7 @@ impl<'p> Target<'p> {
     }
 
     /// The oneof that it shares with a field which the message holds a value of.
-    pub fn rival(&self, message: &DynamicMessage<'p>) -> Option<OneofDescriptor<'p>>
-    {
+    pub fn rival(&self, message: &DynamicMessage<'p>) -> Option<OneofDescriptor<'p>> {
         let Target::Field(field) = self else {
             return None;
         };
@@ -129,11 +128,7 @@ impl<'p> Target<'p> {
     }
 
     /// Sets it to a value of its kind.
-    pub fn set(
-        &self,
-        message: &mut DynamicMessage<'p>,
-        value: Value<'p>,
-    ) -> Result<(), AllocError>
+    pub fn set(&self, message: &mut DynamicMessage<'p>, value: Value<'p>) -> Result<(), AllocError>
         requires { Takes message.old.descriptor self.now }
         ensures { message.new.descriptor ≡ message.old.descriptor }
     {

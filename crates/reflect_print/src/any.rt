@@ -52,7 +52,10 @@ pub struct Held<'m, 'p> {
 }
 
 /// The type whose name stands behind the last `/` of a type's URL.
-fn named_type<'p>(descriptor: MessageDescriptor<'p>, type_url: &str) -> Option<MessageDescriptor<'p>> {
+fn named_type<'p>(
+    descriptor: MessageDescriptor<'p>,
+    type_url: &str,
+) -> Option<MessageDescriptor<'p>> {
     let (_, name) = type_url.rsplit_once('/')?;
     descriptor.parent_pool().get_message_by_name(name)
 }

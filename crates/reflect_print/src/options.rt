@@ -1,3 +1,5 @@
+ghost use Rattle.std.specs.Prelude.{◌≡◌};
+
 /// In which form a message is printed.
 #[derive(Clone, Copy, Debug)]
 pub struct FormatOptions {
@@ -21,31 +23,41 @@ impl FormatOptions {
     }
 
     /// Whether each field has a line of its own, and deeper ones are indented.
-    pub fn pretty(mut self, yes: bool) -> FormatOptions {
+    pub fn pretty(mut self, yes: bool) -> FormatOptions
+        ensures { result ≡ record self { pretty = yes } }
+    {
         self.pretty = yes;
         self
     }
 
     /// Whether records of fields that the type does not declare are left out.
-    pub fn skip_unknown_fields(mut self, yes: bool) -> FormatOptions {
+    pub fn skip_unknown_fields(mut self, yes: bool) -> FormatOptions
+        ensures { result ≡ record self { skip_unknown_fields = yes } }
+    {
         self.skip_unknown_fields = yes;
         self
     }
 
     /// Whether fields without presence that hold their default are left out.
-    pub fn skip_default_fields(mut self, yes: bool) -> FormatOptions {
+    pub fn skip_default_fields(mut self, yes: bool) -> FormatOptions
+        ensures { result ≡ record self { skip_default_fields = yes } }
+    {
         self.skip_default_fields = yes;
         self
     }
 
     /// Whether the declared fields come as they are declared, and not by ascending number.
-    pub fn print_message_fields_in_index_order(mut self, yes: bool) -> FormatOptions {
+    pub fn print_message_fields_in_index_order(mut self, yes: bool) -> FormatOptions
+        ensures { result ≡ record self { in_index_order = yes } }
+    {
         self.in_index_order = yes;
         self
     }
 
     /// Whether a `google.protobuf.Any` of a known type is printed as the message that it holds.
-    pub fn expand_any(mut self, yes: bool) -> FormatOptions {
+    pub fn expand_any(mut self, yes: bool) -> FormatOptions
+        ensures { result ≡ record self { expand_any = yes } }
+    {
         self.expand_any = yes;
         self
     }

@@ -29,8 +29,8 @@ impl Place {
         expansions: MAX_EXPANSIONS,
     };
 
-    /// In a list at this place.
-    pub fn in_list(self) -> Result<Place, WriteError>
+    /// One level deeper on the same line.
+    pub fn deeper(self) -> Result<Place, WriteError>
         ensures { IfOk result (λ p. p.levels < self.levels) }
     {
         match self.levels.checked_sub(1) {
@@ -43,7 +43,7 @@ impl Place {
     pub fn in_braces(self) -> Result<Place, WriteError>
         ensures { IfOk result (λ p. p.levels < self.levels) }
     {
-        let inner = self.in_list()?;
+        let inner = self.deeper()?;
         Ok(Place {
             indent: inner.indent.saturating_add(2),
             ..inner

@@ -268,8 +268,8 @@ impl<'a, W: fmt::Write> Writer<'a, W> {
             Value::String(text) => self.string(text.as_str().as_bytes())?,
             Value::Bytes(bytes) => self.string(bytes.as_slice())?,
             Value::Message(message) => self.braced_message(message, at)?,
-            Value::List(values) => self.list(values.as_slice(), kind, at.in_list()?)?,
-            Value::Map(entries) => self.map(entries, kind, at.in_list()?)?,
+            Value::List(values) => self.list(values.as_slice(), kind, at.deeper()?)?,
+            Value::Map(entries) => self.map(entries, kind, at.deeper()?)?,
         }
         Ok(())
     }

@@ -59,7 +59,10 @@ fn tokens(rt: HostRuntime) -> Result<(), Fail> {
             "10f 5.f 0.5f 0.42e+2f 2e-4f .2e+3f",
             "0..3 f10f 4..7 f5.f 8..12 f0.5f 13..21 f0.42e+2f 22..27 f2e-4f 28..34 f.2e+3f ",
         ),
-        ("052 42 0x2A 0 08", "0..3 i52 4..6 i42 7..11 i2A 12..13 i0 14..15 i0 15..16 i8 "),
+        (
+            "052 42 0x2A 0 08",
+            "0..3 i52 4..6 i42 7..11 i2A 12..13 i0 14..15 i0 15..16 i8 ",
+        ),
         (
             "99999999999999999999999999999999999999 x",
             "0..38 i99999999999999999999999999999999999999 39..40 wx ",
@@ -90,8 +93,14 @@ fn faults(rt: HostRuntime) -> Result<(), Fail> {
         ("'\\Uffffffff'", "1..11 InvalidStringEscape"),
         ("\"\\400\"", "1..5 InvalidStringEscape"),
         ("a 'b", "0..1 wa UnterminatedString"),
-        ("foo: 10bar: 20", "0..3 wfoo 3..4 : 5..10 NoSpaceBetweenIntAndIdent"),
-        ("bar: 20_foo", "0..3 wbar 3..4 : 5..11 NoSpaceBetweenIntAndIdent"),
+        (
+            "foo: 10bar: 20",
+            "0..3 wfoo 3..4 : 5..10 NoSpaceBetweenIntAndIdent",
+        ),
+        (
+            "bar: 20_foo",
+            "0..3 wbar 3..4 : 5..11 NoSpaceBetweenIntAndIdent",
+        ),
         ("00f", "1..3 NoSpaceBetweenIntAndIdent"),
         ("99999999999999999999x", "0..21 NoSpaceBetweenIntAndIdent"),
     ];
