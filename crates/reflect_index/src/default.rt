@@ -1,49 +1,44 @@
 //! The default of a field, read from the text of its record.
 
 use crate::stored::{StoredDefault, StoredKind};
+use descriptor_records::{FieldDescriptorProto, FieldType};
 use protox_lex::unescape;
+use reflect_rules::{DefaultText, read_default};
 use std::alloc::{AllocError, Global};
 
-/// The truth value of a text.
-fn truth_value(text: &str) -> Option<StoredDefault> {
-    match text {
-        "true" => Some(StoredDefault::Bool(true)),
-        "false" => Some(StoredDefault::Bool(false)),
-        _ => None,
-    }
+/// The default that a text means for a scalar type, or none where it does not suit the type.
+fn scalar_default(
+    alloc: Global,
+    field_type: FieldType,
+    text: &str,
+) -> Result<Option<StoredDefault>, AllocError> {
+    Ok(match read_default(field_type, text) {
+        Some(DefaultText::I64(value)) => Some(StoredDefault::I64(value)),
+        Some(DefaultText::U64(value)) => Some(StoredDefault::U64(value)),
+        Some(DefaultText::Bool(value)) => Some(StoredDefault::Bool(value)),
+        Some(DefaultText::Text) => Some(StoredDefault::Text(String::from_str(alloc, text)?)),
+        Some(DefaultText::Bytes) => {
+            Some(StoredDefault::Bytes(unescape(alloc, text.as_bytes())?))
+        }
+        Some(DefaultText::Float) => Some(StoredDefault::Float(String::from_str(alloc, text)?)),
+        None => None,
+    })
 }
 
-fn signed(text: &str) -> Option<StoredDefault> {
-    Some(StoredDefault::I64(text.parse::<i64>().ok()?))
-}
-
-fn unsigned(text: &str) -> Option<StoredDefault> {
-    Some(StoredDefault::U64(text.parse::<u64>().ok()?))
-}
-
-/// The default that a text means for a kind, or none where it does not suit the kind.
+/// The default that a field's record gives for its kind, if it gives one that suits.
 pub fn default_of(
     alloc: Global,
     kind: StoredKind,
-    text: &str,
+    field: &FieldDescriptorProto,
 ) -> Result<Option<StoredDefault>, AllocError> {
-    Ok(match kind {
-        StoredKind::Int32
-        | StoredKind::Int64
-        | StoredKind::Sint32
-        | StoredKind::Sint64
-        | StoredKind::Sfixed32
-        | StoredKind::Sfixed64 => signed(text),
-        StoredKind::Uint32 | StoredKind::Uint64 | StoredKind::Fixed32 | StoredKind::Fixed64 => {
-            unsigned(text)
-        }
-        StoredKind::Bool => truth_value(text),
-        StoredKind::String => Some(StoredDefault::Text(String::from_str(alloc, text)?)),
-        StoredKind::Bytes => Some(StoredDefault::Bytes(unescape(alloc, text.as_bytes())?)),
-        StoredKind::Enum(_) => Some(StoredDefault::Enum(String::from_str(alloc, text)?)),
-        StoredKind::Double | StoredKind::Float => {
-            Some(StoredDefault::Float(String::from_str(alloc, text)?))
-        }
-        StoredKind::Message(_) => None,
-    })
+    let Some(text) = &field.default_value else {
+        return Ok(None);
+    };
+    if let StoredKind::Enum(_) = kind {
+        return Ok(Some(StoredDefault::Enum(text.clone()?)));
+    }
+    match field.field_type.and_then(FieldType::from_number) {
+        Some(field_type) => scalar_default(alloc, field_type, text.as_str()),
+        None => Ok(None),
+    }
 }

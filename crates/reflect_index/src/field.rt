@@ -2,7 +2,7 @@
 
 use crate::default::default_of;
 use crate::kind::{Cardinality, Syntax};
-use crate::stored::{StoredDefault, StoredField, StoredKind};
+use crate::stored::{StoredField, StoredKind};
 use descriptor_records::{FieldDescriptorProto, FieldType, FileDescriptorProto, Label};
 use std::alloc::{AllocError, Global};
 
@@ -98,17 +98,6 @@ fn json_name_of(field: &FieldDescriptorProto) -> Result<Option<String>, AllocErr
     })
 }
 
-fn written_default(
-    alloc: Global,
-    kind: StoredKind,
-    field: &FieldDescriptorProto,
-) -> Result<Option<StoredDefault>, AllocError> {
-    match &field.default_value {
-        Some(text) => default_of(alloc, kind, text.as_str()),
-        None => Ok(None),
-    }
-}
-
 /// The entry of a field of a kind in a file of a syntax. A number that no field may have is 0. Refused for want of memory.
 pub fn field_entry(
     alloc: Global,
@@ -133,6 +122,6 @@ pub fn field_entry(
         supports_presence: supports_presence(syntax, cardinality, kind, field),
         is_proto3_optional: field.proto3_optional == Some(true),
         oneof: field.oneof_index.and_then(|index| u32::try_from(index).ok()),
-        default: written_default(alloc, kind, field)?,
+        default: default_of(alloc, kind, field)?,
     })
 }

@@ -2,7 +2,9 @@
 
 use crate::kind::{Cardinality, Syntax};
 use descriptor_records::FileDescriptorProto;
+use reflect_rules::NumberRanges;
 use std::alloc::{AllocError, Global};
+use std::cmp::Ordering;
 
 /// What a field holds, with a message or an enum by its place in the pool.
 #[derive(Clone, Copy, PartialEq, Eq, Debug)]
@@ -149,6 +151,10 @@ pub struct StoredMessage {
     /// The oneofs, as they were declared.
     pub oneofs: Vec<StoredOneof>,
     pub children: Children,
+    /// The numbers that no field or extension may have.
+    pub reserved_numbers: NumberRanges,
+    /// The numbers that extensions may have.
+    pub extension_numbers: NumberRanges,
     /// The places in `fields`, by ascending number.
     pub by_number: Vec<u32>,
     /// The places in `fields`, by ascending name.
@@ -180,6 +186,19 @@ pub struct StoredEnum {
     pub by_number: Vec<u32>,
     /// The places in `values`, by ascending name.
     pub by_name: Vec<u32>,
+}
+
+impl StoredEnum {
+    /// The place of the value of a name. Takes a number of steps that grows with the logarithm of the values' count.
+    pub fn value_of_name(&self, name: &str) -> Option<u32> {
+        let found = self.by_name.as_slice().binary_search_by(|place| {
+            match self.values.get(*place as usize) {
+                Some(value) => value.name.as_str().cmp(&name),
+                None => Ordering::Less,
+            }
+        });
+        self.by_name.get(found.ok()?).copied()
+    }
 }
 
 /// An extension.

@@ -13,6 +13,7 @@ use descriptor_records::{
     ServiceDescriptorProto,
 };
 use reflect_names::{DefinitionKind, Offsets, Reference, VisitError, Visitor};
+use reflect_rules::NumberRanges;
 use std::alloc::Global;
 
 /// Makes the entries of the declarations that it visits.
@@ -153,6 +154,8 @@ impl<'a> Visitor for IndexVisitor<'a> {
             fields: Vec::new(alloc),
             oneofs: Vec::new(alloc),
             children: Children::new(alloc),
+            reserved_numbers: NumberRanges::reserved(alloc, message.reserved_range.as_slice())?,
+            extension_numbers: NumberRanges::extensions(alloc, message.extension_range.as_slice())?,
             by_number: Vec::new(alloc),
             by_name: Vec::new(alloc),
             by_json_name: Vec::new(alloc),

@@ -220,3 +220,18 @@ fn settled_options_are_read(rt: HostRuntime) -> Result<(), Fail> {
     assert!(rt; matches!(&record.options, Some(options) if options.encoded.len() == 1));
     Ok(())
 }
+
+#[test]
+fn a_pool_is_cut_back(rt: HostRuntime) -> Result<(), Fail> {
+    let alloc = rt.alloc();
+    let mut pool = DescriptorPool::new(alloc);
+    pool.build_files(alloc, vec![in alloc; whole_file(alloc)?]?)?;
+    let mark = pool.mark();
+    pool.build_files(alloc, vec![in alloc; extending_file(alloc, 151)?]?)?;
+    pool.cut(mark);
+    assert_eq!(rt; pool.files().count(), 1);
+    assert!(rt; pool.get_extension_by_name("p.more").is_none());
+    let m = pool.get_message_by_name("p.M").ok_or("p.M")?;
+    assert!(rt; m.get_extension(151).is_none());
+    Ok(())
+}

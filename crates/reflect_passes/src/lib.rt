@@ -4,9 +4,11 @@
 mod error;
 mod extension_numbers;
 mod index_pass;
+mod linked_types;
 mod passes;
 
 pub use error::DescriptorError;
 pub use extension_numbers::list_extensions;
 pub use index_pass::{add_links, index_files};
-pub use passes::{declare_names, resolve_references, walk_error};
+pub use linked_types::LinkedTypes;
+pub use passes::{check_numbers, declare_names, resolve_references, walk_error};

@@ -1,11 +1,13 @@
 //! The passes over a batch of files, each of which lists all faults that it finds.
 
 use crate::error::DescriptorError;
+use crate::linked_types::LinkedTypes;
 use descriptor_records::FileDescriptorProto;
 use reflect_names::{
     Definition, DescriptorErrorKind, Faults, Links, NameVisitor, Offsets, Reference,
     ResolveVisitor, VisitError, Visitor, name_files, visit,
 };
+use reflect_rules::check_rules;
 use std::alloc::Global;
 use std::collections::BTreeMap;
 use std::mem;
@@ -77,4 +79,21 @@ pub fn resolve_references(
     let (references, faults) = visitor.into_parts();
     without_faults(faults)?;
     Ok(references)
+}
+
+/// Ok where the files, whose references mean this, break no rule of numbers, defaults, oneof indexes and map entries.
+pub fn check_numbers(
+    alloc: Global,
+    before: Offsets,
+    first: u32,
+    files: &[FileDescriptorProto],
+    references: &[Reference],
+    types: &LinkedTypes<'_>,
+) -> Result<(), DescriptorError> {
+    let faults = check_rules(alloc, before, first, files, references, types)
+        .map_err(|error| walk_error(alloc, error))?;
+    match DescriptorError::from_list(faults) {
+        Some(error) => Err(error),
+        None => Ok(()),
+    }
 }

@@ -12,8 +12,8 @@ use reflect_index::{
 };
 use reflect_names::{Faults, Offsets, VisitError};
 use reflect_passes::{
-    DescriptorError, add_links, declare_names, index_files, list_extensions, resolve_references,
-    walk_error,
+    DescriptorError, LinkedTypes, add_links, check_numbers, declare_names, index_files,
+    list_extensions, resolve_references, walk_error,
 };
 use std::alloc::Global;
 
@@ -164,10 +164,21 @@ impl DescriptorPool {
         )?;
         let batch = index_files(alloc, before, first, files.as_slice(), references.as_slice())
             .map_err(|error| walk_error(alloc, error))?;
+        let types = LinkedTypes {
+            old: &self.tables,
+            new: &batch,
+        };
+        check_numbers(
+            alloc,
+            before,
+            first,
+            files.as_slice(),
+            references.as_slice(),
+            &types,
+        )?;
         list_extensions(
             alloc,
-            &self.tables,
-            &batch,
+            &types,
             Faults::new(alloc, files.as_slice(), first),
             &mut self.extension_numbers,
         )?;

@@ -96,14 +96,8 @@ impl<'p> EnumDescriptor<'p> {
         ensures { IfSome result (λ v. v.enumeration ≡ self.now) }
     {
         let pool = self.pool;
-        let stored = &pool.tables.enums[self.index as usize];
-        let found = stored.by_name.as_slice().binary_search_by(|place| {
-            match stored.values.get(*place as usize) {
-                Some(value) => value.name.as_str().cmp(&name),
-                None => Ordering::Less,
-            }
-        });
-        self.value_at(*stored.by_name.get(found.ok()?)?)
+        let place = pool.tables.enums[self.index as usize].value_of_name(name)?;
+        self.value_at(place)
     }
 
     /// The value at a place.

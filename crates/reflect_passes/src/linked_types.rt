@@ -1,0 +1,64 @@
+//! What the number rules ask about the types of a pool and of a batch.
+
+use reflect_index::{Batch, StoredEnum, StoredMessage, Tables};
+use reflect_rules::{NumberRanges, Types};
+
+/// The types of a pool, and behind them those of a batch that is not in it yet.
+#[derive(Clone, Copy)]
+pub struct LinkedTypes<'a> {
+    pub old: &'a Tables,
+    pub new: &'a Batch,
+}
+
+impl<'a> LinkedTypes<'a> {
+    fn message(&self, index: u32) -> Option<&'a StoredMessage> {
+        let index = index as usize;
+        let count = self.old.messages.len();
+        if index < count {
+            self.old.messages.get(index)
+        } else {
+            self.new.messages.get(index - count)
+        }
+    }
+
+    fn enumeration(&self, index: u32) -> Option<&'a StoredEnum> {
+        let index = index as usize;
+        let count = self.old.enums.len();
+        if index < count {
+            self.old.enums.get(index)
+        } else {
+            self.new.enums.get(index - count)
+        }
+    }
+}
+
+impl<'a> Types for LinkedTypes<'a> {
+    fn reserved_numbers(&self, message: u32) -> Option<&NumberRanges> {
+        Some(&self.message(message)?.reserved_numbers)
+    }
+
+    fn extension_numbers(&self, message: u32) -> Option<&NumberRanges> {
+        Some(&self.message(message)?.extension_numbers)
+    }
+
+    fn is_map_entry(&self, message: u32) -> bool {
+        match self.message(message) {
+            Some(message) => message.is_entry,
+            None => false,
+        }
+    }
+
+    fn message_name(&self, message: u32) -> &str {
+        match self.message(message) {
+            Some(message) => message.full_name.as_str(),
+            None => "",
+        }
+    }
+
+    fn has_value(&self, enumeration: u32, name: &str) -> bool {
+        match self.enumeration(enumeration) {
+            Some(enumeration) => enumeration.value_of_name(name).is_some(),
+            None => false,
+        }
+    }
+}
