@@ -10,7 +10,8 @@ use crate::extension::ExtensionDescriptor;
 use crate::message::MessageDescriptor;
 use crate::pool::DescriptorPool;
 use reflect_index::{Children, Tables};
-use reflect_names::DefinitionKind;
+use reflect_names::{Definition, DefinitionKind, Links};
+use std::collections::BTreeMap;
 
 impl DescriptorPool {
     /// All that the pool keeps of its files' declarations.
@@ -18,6 +19,16 @@ impl DescriptorPool {
         ensures { pool_of result.now ≡ self.now }
     {
         &self.tables
+    }
+
+    /// What the full names stand for.
+    pub fn names(&self) -> &BTreeMap<String, Definition> {
+        &self.names
+    }
+
+    /// What each file imports, by its place.
+    pub fn links(&self) -> &[Links] {
+        self.links.as_slice()
     }
 
     /// The place of the file that a service is declared in.
