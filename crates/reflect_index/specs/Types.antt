@@ -1,6 +1,6 @@
 -- What a pool holds: files, message types with their fields and oneofs, enum types with their values, extensions and services,
 -- each at its place.
-use Rattle.std.specs.Prelude.{◌≡◌, ◌^◌, ℕ, ℤ, ◌<◌, List, [], length, Bool, false, Option, None, Some, slice_index_or, IfSome}
+use Rattle.std.specs.Prelude.{◌^◌, ℕ, ℤ, ◌<◌, List, [], length, Bool, false, Option, None, Some, slice_index_or}
 use Rattle.std.specs.List.{AllByRecursion}
 use Rattle.reflect_index.specs.declared.kind.Cardinality.{Cardinality}
 use Rattle.reflect_index.specs.declared.kind.Cardinality.TheVariants.{Optional}

@@ -121,7 +121,9 @@ pub fn field_entry(
         is_packed: is_packed(syntax, cardinality, kind, field),
         supports_presence: supports_presence(syntax, cardinality, kind, field),
         is_proto3_optional: field.proto3_optional == Some(true),
-        oneof: field.oneof_index.and_then(|index| u32::try_from(index).ok()),
+        oneof: field
+            .oneof_index
+            .and_then(|index| u32::try_from(index).ok()),
         default: default_of(alloc, kind, field)?,
     })
 }

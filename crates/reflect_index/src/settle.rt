@@ -40,12 +40,7 @@ fn settle_field(fields: &mut Vec<FieldDescriptorProto>, place: usize, options: O
     }
 }
 
-fn settle_enum(
-    enums: &mut Vec<EnumDescriptorProto>,
-    place: usize,
-    rest: &[i32],
-    options: Options,
-) {
+fn settle_enum(enums: &mut Vec<EnumDescriptorProto>, place: usize, rest: &[i32], options: Options) {
     let Some(enumeration) = enums.get_mut(place) else {
         return;
     };

@@ -1,9 +1,7 @@
 ghost use Rattle.std.specs.Prelude.{◌≡◌, OnOk, OnErr, IfOk, [], length};
 ghost use Rattle.reflect_index.specs.Growth.{Appended, SameItems, Fronts};
 
-use crate::stored::{
-    StoredEnum, StoredExtension, StoredFile, StoredMessage, StoredService,
-};
+use crate::stored::{StoredEnum, StoredExtension, StoredFile, StoredMessage, StoredService};
 use std::alloc::{AllocError, Global};
 
 /// All entries of linked files, each sort by its places.

@@ -1,7 +1,7 @@
 //! From the records of a batch to what the pool keeps of them.
 
-use crate::field::{field_entry, scalar_kind, syntax_of, text_of};
 use crate::batch::Batch;
+use crate::field::{field_entry, scalar_kind, syntax_of, text_of};
 use crate::kind::{Cardinality, Syntax};
 use crate::stored::{
     Child, Children, Declared, StoredEnum, StoredExtension, StoredField, StoredKind, StoredMessage,

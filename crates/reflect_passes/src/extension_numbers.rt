@@ -34,9 +34,7 @@ pub fn list_extensions(
     mut faults: Faults<'_>,
     numbers: &mut BTreeMap<(u32, u32), u32>,
 ) -> Result<(), DescriptorError> {
-    put_numbers(alloc, types, &mut faults, numbers).map_err(|error| walk_error(
-        alloc, error,
-    ))?;
+    put_numbers(alloc, types, &mut faults, numbers).map_err(|error| walk_error(alloc, error))?;
     without_faults(faults)
 }
 

@@ -90,8 +90,9 @@ pub fn check_numbers(
     references: &[Reference],
     types: &LinkedTypes<'_>,
 ) -> Result<(), DescriptorError> {
-    let faults = check_rules(alloc, before, first, files, references, types)
-        .map_err(|error| walk_error(alloc, error))?;
+    let faults = check_rules(alloc, before, first, files, references, types).map_err(
+        |error| walk_error(alloc, error),
+    )?;
     match DescriptorError::from_list(faults) {
         Some(error) => Err(error),
         None => Ok(()),

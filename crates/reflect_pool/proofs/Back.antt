@@ -1,11 +1,10 @@
 -- A pool that grew, cut back to where it was.
-use Rattle.std.proofs.Common.{◌≡◌, ℕ, ◌<◌, ◌≤◌, List, [], ◌∷◌, ◌++◌, Bool, true, false, cond, map, take, length, nat_lt, arith, sym, ap, ◌∙◌, refl}
-use Rattle.std.proofs.Math.ListN.{length-map}
+use Rattle.std.proofs.Common.{◌≡◌, ℕ, ◌<◌, ◌≤◌, List, [], ◌∷◌, ◌++◌, Bool, true, false, cond, map, take, length, nat_lt, arith, ap, ◌∙◌, refl}
 use Rattle.std.proofs.Math.Seq.{take-append_seam}
 use Rattle.std.proofs.lemmas.List.{append-nil}
 use Rattle.std.proofs.lemmas.List.Elements.{filter-append}
 use Rattle.std.specs.List.{AllByRecursion, filter}
-use Rattle.reflect_index.specs.Types.{MessageType, EnumType, ExtensionType, ServiceType, ArePooled, MessageWithin, EnumWithin, ExtensionWithin, ServiceWithin, counts_of}
+use Rattle.reflect_index.specs.Types.{ArePooled, MessageWithin, EnumWithin, ExtensionWithin, ServiceWithin, counts_of}
 use Rattle.reflect_index.specs.Views.{file_of, message_of, enum_of, extension_of, service_of, pool_of}
 use Rattle.reflect_index.specs.Growth.{Appended}
 use Rattle.reflect_index.specs.Cut.{cut_to}

@@ -1,5 +1,5 @@
 -- Facts of each element, as a list grows.
-use Rattle.std.proofs.Common.{◌≡◌, ℕ, ◌+◌, ◌<◌, ◌≤◌, List, [], ◌∷◌, ◌++◌, map, take, length, get_or, arith, sym, ap, subst}
+use Rattle.std.proofs.Common.{◌≡◌, ℕ, ◌+◌, ◌<◌, List, [], ◌∷◌, ◌++◌, map, take, length, get_or, sym, subst}
 use Rattle.std.proofs.lemmas.List.{map_more}
 use Rattle.std.specs.List.{AllByRecursion}
 

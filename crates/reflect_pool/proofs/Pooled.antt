@@ -3,7 +3,7 @@ use Rattle.std.proofs.Common.{◌≡◌, ℕ, ◌<◌, ◌≤◌, ◌+◌, ◌^�
 use Rattle.std.proofs.Math.ListN.{length-map}
 use Rattle.std.proofs.lemmas.List.{length-append}
 use Rattle.std.specs.List.{AllByRecursion}
-use Rattle.reflect_index.specs.Types.{KindType, MessageType, FieldType, EnumType, ExtensionType, MethodType, ServiceType, PoolType, message, enumeration, ArePooled, IsWithin, MessageWithin, EnumWithin, ExtensionWithin, MethodWithin, ServiceWithin, counts_of}
+use Rattle.reflect_index.specs.Types.{KindType, MessageType, FieldType, EnumType, ExtensionType, MethodType, ServiceType, message, enumeration, ArePooled, IsWithin, MessageWithin, EnumWithin, ExtensionWithin, MethodWithin, ServiceWithin, counts_of}
 use Rattle.reflect_index.specs.Views.{file_of, message_of, enum_of, extension_of, service_of, pool_of}
 use Rattle.reflect_index.specs.Growth.{Appended, Together}
 use Rattle.reflect_index.specs.declared.tables.Counts.{Counts}
@@ -95,12 +95,12 @@ pooled_more old more new c e t small h w =
     let same : c ≡ counts_of (pool_of new) = sym (counted old more new c e t) in
     record {
       messages = subst (λ d. AllByRecursion (MessageWithin d) (map message_of new.messages.items)) same
-      (joined message_of (MessageWithin a) (MessageWithin c) old.messages.items more.messages.items new.messages.items e.messages (message_more a c le) h.messages w.messages);
+          (joined message_of (MessageWithin a) (MessageWithin c) old.messages.items more.messages.items new.messages.items e.messages (message_more a c le) h.messages w.messages);
       enums = subst (λ d. AllByRecursion (EnumWithin d) (map enum_of new.enums.items)) same
-      (joined enum_of (EnumWithin a) (EnumWithin c) old.enums.items more.enums.items new.enums.items e.enums (enum_more a c le) h.enums w.enums);
+          (joined enum_of (EnumWithin a) (EnumWithin c) old.enums.items more.enums.items new.enums.items e.enums (enum_more a c le) h.enums w.enums);
       extensions = subst (λ d. AllByRecursion (ExtensionWithin d) (map extension_of new.extensions.items)) same
-      (joined extension_of (ExtensionWithin a) (ExtensionWithin c) old.extensions.items more.extensions.items new.extensions.items e.extensions (extension_more a c le) h.extensions w.extensions);
+          (joined extension_of (ExtensionWithin a) (ExtensionWithin c) old.extensions.items more.extensions.items new.extensions.items e.extensions (extension_more a c le) h.extensions w.extensions);
       services = subst (λ d. AllByRecursion (ServiceWithin d) (map service_of new.services.items)) same
-      (joined service_of (ServiceWithin a) (ServiceWithin c) old.services.items more.services.items new.services.items e.services (service_more a c le) h.services w.services);
+          (joined service_of (ServiceWithin a) (ServiceWithin c) old.services.items more.services.items new.services.items e.services (service_more a c le) h.services w.services);
       few = subst (λ d. d.files < 2 ^ 31) same small;
     }

@@ -1,7 +1,7 @@
 -- What the entries at places of a pool name is there.
-use Rattle.std.proofs.Common.{◌≡◌, ℕ, ◌<◌, ◌^◌, List, map, length, get_or, arith, sym, subst, ap}
+use Rattle.std.proofs.Common.{◌≡◌, ℕ, ◌<◌, ◌^◌, map, length, get_or, arith, subst}
 use Rattle.std.proofs.Math.ListN.{length-map}
-use Rattle.reflect_index.specs.Types.{PoolType, MessageType, EnumType, ServiceType, ArePooled, IsWithin, MessageWithin, EnumWithin, ExtensionWithin, MethodWithin, ServiceWithin, counts_of, no_type, no_enum, no_service}
+use Rattle.reflect_index.specs.Types.{PoolType, MessageType, ServiceType, ArePooled, IsWithin, MessageWithin, EnumWithin, ExtensionWithin, MethodWithin, ServiceWithin, counts_of, no_type, no_enum, no_service}
 use Rattle.reflect_index.specs.Views.{pool_of, message_of, enum_of, extension_of, service_of, method_of, field_of, kind_of}
 use Rattle.reflect_index.specs.declared.tables.Tables.{Tables}
 use Rattle.reflect_index.specs.declared.stored.StoredMessage.{StoredMessage}

@@ -140,9 +140,7 @@ impl DescriptorPool {
             None => true,
         });
         let before = self.offsets().map_err(|error| walk_error(alloc, error))?;
-        let first = next_place(self.tables.files.len()).map_err(|error| walk_error(
-            alloc, error,
-        ))?;
+        let first = next_place(self.tables.files.len()).map_err(|error| walk_error(alloc, error))?;
         declare_names(
             alloc,
             before,
@@ -162,8 +160,14 @@ impl DescriptorPool {
             &self.names,
             self.links.as_slice(),
         )?;
-        let batch = index_files(alloc, before, first, files.as_slice(), references.as_slice())
-            .map_err(|error| walk_error(alloc, error))?;
+        let batch = index_files(
+            alloc,
+            before,
+            first,
+            files.as_slice(),
+            references.as_slice(),
+        )
+        .map_err(|error| walk_error(alloc, error))?;
         let types = LinkedTypes {
             old: &self.tables,
             new: &batch,

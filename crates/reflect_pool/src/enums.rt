@@ -1,8 +1,8 @@
 ghost use Rattle.std.specs.Prelude.{◌≡◌, ◌<◌, length, IfSome};
 ghost use Rattle.reflect_index.specs.Types.{enum_at};
 
-use crate::message::MessageDescriptor;
 use crate::counting::end_of;
+use crate::message::MessageDescriptor;
 use crate::pool::DescriptorPool;
 use std::cmp::Ordering;
 

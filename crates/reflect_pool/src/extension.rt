@@ -50,7 +50,10 @@ impl<'p> ExtensionDescriptor<'p> {
         ensures { result.now ≡ (extension_at self.now.pool.now self.now.index).field.name }
     {
         let pool = self.pool;
-        pool.tables.extensions[self.index as usize].field.name.as_str()
+        pool.tables.extensions[self.index as usize]
+            .field
+            .name
+            .as_str()
     }
 
     /// The name with those of all that holds the declaration before it, joined by dots, without a leading dot.
@@ -58,19 +61,27 @@ impl<'p> ExtensionDescriptor<'p> {
         ensures { result.now ≡ (extension_at self.now.pool.now self.now.index).field.full_name }
     {
         let pool = self.pool;
-        pool.tables.extensions[self.index as usize].field.full_name.as_str()
+        pool.tables.extensions[self.index as usize]
+            .field
+            .full_name
+            .as_str()
     }
 
     /// The full name in brackets.
     pub fn json_name(&self) -> &'p str {
         let pool = self.pool;
-        pool.tables.extensions[self.index as usize].json_name.as_str()
+        pool.tables.extensions[self.index as usize]
+            .json_name
+            .as_str()
     }
 
     /// Where the declaration stands in its file's record.
     pub fn path(&self) -> &'p [i32] {
         let pool = self.pool;
-        pool.tables.extensions[self.index as usize].field.path.as_slice()
+        pool.tables.extensions[self.index as usize]
+            .field
+            .path
+            .as_slice()
     }
 
     pub fn number(&self) -> u32
@@ -84,7 +95,9 @@ impl<'p> ExtensionDescriptor<'p> {
         ensures { result ≡ (extension_at self.now.pool.now self.now.index).field.cardinality }
     {
         let pool = self.pool;
-        pool.tables.extensions[self.index as usize].field.cardinality
+        pool.tables.extensions[self.index as usize]
+            .field
+            .cardinality
     }
 
     /// The value is written between two tags, and its type is declared with the extension.
@@ -119,7 +132,9 @@ impl<'p> ExtensionDescriptor<'p> {
         ensures { result ≡ (extension_at self.now.pool.now self.now.index).field.presence }
     {
         let pool = self.pool;
-        pool.tables.extensions[self.index as usize].field.supports_presence
+        pool.tables.extensions[self.index as usize]
+            .field
+            .supports_presence
     }
 
     pub fn kind(&self) -> Kind<'p>

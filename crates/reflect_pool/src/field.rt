@@ -55,7 +55,9 @@ impl<'p> FieldDescriptor<'p> {
     /// The JSON name that was written, if one was.
     pub fn json_name(&self) -> Option<&'p str> {
         let pool = self.message.pool;
-        match &pool.tables.messages[self.message.index as usize].fields[self.index as usize].json_name
+        match &pool.tables.messages[self
+            .message
+            .index as usize].fields[self.index as usize].json_name
         {
             Some(name) => Some(name.as_str()),
             None => None,
@@ -124,7 +126,9 @@ impl<'p> FieldDescriptor<'p> {
         ensures { result ≡ (type_of_field self.now.message.pool.now self.now.message.index self.now.index).presence }
     {
         let pool = self.message.pool;
-        pool.tables.messages[self.message.index as usize].fields[self.index as usize].supports_presence
+        pool.tables.messages[self
+            .message
+            .index as usize].fields[self.index as usize].supports_presence
     }
 
     /// The oneof that the field is a member of, a synthetic one too.

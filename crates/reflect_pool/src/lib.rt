@@ -11,7 +11,6 @@ mod field;
 mod kind;
 mod message;
 mod oneof;
-
 mod pool;
 mod reading;
 

@@ -1,10 +1,10 @@
 ghost use Rattle.std.specs.Prelude.{◌≡◌, ◌<◌, ◌↔◌, length, IfSome, IsSome, IsTrue};
 ghost use Rattle.reflect_index.specs.Types.{type_at, extension_at};
 
+use crate::counting::end_of;
 use crate::extension::{ExtensionDescriptor, MessageExtensions};
 use crate::field::FieldDescriptor;
 use crate::oneof::{OneofDescriptor, Oneofs};
-use crate::counting::end_of;
 use crate::pool::DescriptorPool;
 use reflect_names::DefinitionKind;
 use std::cmp::Ordering;
@@ -187,7 +187,10 @@ impl<'p> MessageDescriptor<'p> {
         let pool = self.pool;
         FieldDescriptor {
             message: *self,
-            index: pool.tables.messages[self.index as usize].entry.unwrap().value,
+            index: pool.tables.messages[self.index as usize]
+                .entry
+                .unwrap()
+                .value,
         }
     }
 

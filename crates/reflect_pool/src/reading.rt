@@ -44,9 +44,7 @@ pub fn is_map(pool: &DescriptorPool, field: &StoredField) -> bool {
     };
     match pool.tables.messages.get(index as usize) {
         Some(message) => {
-            field.cardinality == Cardinality::Repeated
-                && !field.is_group
-                && message.entry.is_some()
+            field.cardinality == Cardinality::Repeated && !field.is_group && message.entry.is_some()
         }
         None => false,
     }

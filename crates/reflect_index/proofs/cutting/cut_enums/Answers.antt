@@ -1,4 +1,4 @@
-use Rattle.std.proofs.Common.{◌≡◌, map, nat_lt, ap, ◌∙◌, rules}
+use Rattle.std.proofs.Common.{map, nat_lt, ap, ◌∙◌, rules}
 use Rattle.std.proofs.lemmas.Fn.{filter_same}
 use Rattle.reflect_index.specs.Views.{enum_of}
 use Rattle.reflect_index.proofs.Filters.{map-filter}

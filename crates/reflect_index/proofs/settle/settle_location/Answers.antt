@@ -1,6 +1,5 @@
-use Rattle.std.proofs.Common.{◌≡◌, ◌∙◌, ap, map}
+use Rattle.std.proofs.Common.{◌≡◌, ◌∙◌, ap}
 use Rattle.std.proofs.Math.Seq.{map-set_same}
-use Rattle.reflect_index.specs.Types.{FileType}
 use Rattle.reflect_index.specs.Views.{file_of, text_of}
 use Rattle.reflect_index.proofs.settle.settle_location.Goals as goal
 
