@@ -56,8 +56,13 @@ macro_rules! stands_in {
 }
 
 knows_its_file!(MessageDescriptor);
+
 knows_its_file!(EnumDescriptor);
+
 knows_its_file!(ExtensionDescriptor);
+
 stands_in!(FieldDescriptor, parent_message);
+
 stands_in!(OneofDescriptor, parent_message);
+
 stands_in!(EnumValueDescriptor, parent_enum);

@@ -20,8 +20,8 @@ pub use ranges::{EnumReservedRanges, ExtensionRanges, ReservedNames, ReservedRan
 pub use readers::{EnumReaders, EnumValueReaders, FieldReaders, MessageReaders, OneofReaders};
 pub use reflect_pool::{
     Cardinality, DefaultValue, DescriptorError, DescriptorPool, Edit, EnumDescriptor,
-    EnumValueDescriptor, EnumValues, ExtensionDescriptor, FieldDescriptor, Fields, Kind, MessageDescriptor,
-    MessageExtensions, OneofDescriptor, OneofFields, Oneofs, Syntax,
+    EnumValueDescriptor, EnumValues, ExtensionDescriptor, FieldDescriptor, Fields, Kind,
+    MessageDescriptor, MessageExtensions, OneofDescriptor, OneofFields, Oneofs, Syntax,
 };
 pub use service::{MethodDescriptor, Methods, ServiceDescriptor, Services};
 

@@ -13,7 +13,10 @@ fn split_path(path: &[i32]) -> Option<(&[i32], usize)> {
 }
 
 /// The message at a path, which goes through messages alone.
-pub fn message_record<'a>(file: &'a FileDescriptorProto, path: &[i32]) -> Option<&'a DescriptorProto> {
+pub fn message_record<'a>(
+    file: &'a FileDescriptorProto,
+    path: &[i32],
+) -> Option<&'a DescriptorProto> {
     let mut messages = file.message_type.as_slice();
     let mut found = None;
     for step in path.chunks(2) {

@@ -41,11 +41,7 @@ fn typed(
     Ok(field)
 }
 
-fn value(
-    alloc: Global,
-    name: &str,
-    number: i32,
-) -> Result<EnumValueDescriptorProto, AllocError> {
+fn value(alloc: Global, name: &str, number: i32) -> Result<EnumValueDescriptorProto, AllocError> {
     Ok(EnumValueDescriptorProto {
         name: text(alloc, name)?,
         number: Some(number),
@@ -178,10 +174,16 @@ fn enums_answer(rt: HostRuntime) -> Result<(), Fail> {
     let Kind::Enum(e) = m.get_field(7).ok_or("es")?.kind() else {
         return Err(Fail::from("an enum"));
     };
-    assert_eq!(rt; e.get_value(3).ok_or("3")?.name().as_bytes(), "FIRST".as_bytes());
+    assert_eq!(rt;
+        e.get_value(3).ok_or("3")?.name().as_bytes(),
+        "FIRST".as_bytes()
+    );
     assert_eq!(rt; e.get_value_by_name("SAME").ok_or("SAME")?.number(), 3);
     assert!(rt; e.get_value(0).is_none());
-    assert_eq!(rt; e.default_value().full_name().as_bytes(), "p.FIRST".as_bytes());
+    assert_eq!(rt;
+        e.default_value().full_name().as_bytes(),
+        "p.FIRST".as_bytes()
+    );
     assert_eq!(rt; e.enum_descriptor_proto().value.len(), 3);
     Ok(())
 }
@@ -208,13 +210,13 @@ fn settled_options_are_read(rt: HostRuntime) -> Result<(), Fail> {
     let mut options = Options::new(alloc);
     options.encoded.push(8)?;
     let path = Vec::from_slice(alloc, &[4, 0, 2, 1])?;
-    pool.settle(
-        vec![in alloc; Edit::Options {
+    pool.settle(vec![in alloc;
+        Edit::Options {
             file: 0,
             path,
             options,
-        }]?,
-    );
+        },
+    ]?);
     let m = pool.get_message_by_name("p.M").ok_or("p.M")?;
     let record = m.get_field(2).ok_or("k")?.field_descriptor_proto();
     assert!(rt; matches!(&record.options, Some(options) if options.encoded.len() == 1));
