@@ -1,6 +1,6 @@
 //! How a text names fields.
 
-ghost use Rattle.std.specs.Prelude.{◌≡◌, ◌<◌, ◌≤◌, IfOk};
+ghost use Rattle.std.specs.Prelude.{◌<◌, ◌≤◌, IfOk};
 
 use crate::error::ParseErrorKind;
 use crate::tokens::{Tokens, through};

@@ -2,7 +2,7 @@
 
 ghost use Rattle.reflect_format.specs.Left.{left};
 ghost use Rattle.reflect_format.specs.Takes.{Takes};
-ghost use Rattle.std.specs.Prelude.{◌≡◌, ◌<◌, ◌≤◌, IfOk, OnOk};
+ghost use Rattle.std.specs.Prelude.{◌<◌, IfOk, OnOk};
 
 use crate::error::{ParseError, ParseErrorKind};
 use crate::fault::{already_set, oneof_already_set, unknown_message};

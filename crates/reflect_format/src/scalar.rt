@@ -1,6 +1,6 @@
 //! Values that are no messages.
 
-ghost use Rattle.std.specs.Prelude.{◌≡◌, ◌<◌, ◌≤◌, IfOk};
+ghost use Rattle.std.specs.Prelude.{◌<◌, IfOk};
 
 use crate::error::ParseErrorKind;
 use crate::fault::{out_of_range, unknown_enum_value};

@@ -1,6 +1,6 @@
 //! A text, one token ahead.
 
-ghost use Rattle.std.specs.Prelude.{◌≡◌, ◌<◌, ◌≤◌, ◌-◌, IfOk, IfSome, Some, Ok};
+ghost use Rattle.std.specs.Prelude.{◌≡◌, ◌<◌, ◌≤◌, ◌-◌, IfSome, Some, Ok};
 
 use crate::error::ParseErrorKind;
 use std::alloc::Global;

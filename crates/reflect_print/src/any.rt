@@ -1,6 +1,6 @@
 //! Messages that hold a message of any type (protobuf.dev, "Any").
 
-ghost use Rattle.std.specs.Prelude.{◌≡◌, IfSome};
+ghost use Rattle.std.specs.Prelude.{IfSome};
 ghost use Rattle.reflect_dynamic.specs.Declares.{Declares};
 
 use crate::error::WriteError;

@@ -2,7 +2,7 @@
 //!
 //! They are those of a source, but for comments, for some signs and for integers, which may have any length.
 
-ghost use Rattle.std.specs.Prelude.{◌≡◌, ◌≢◌, ◌<◌, ◌≤◌, ◌+◌, length, IfOk, IfSome};
+ghost use Rattle.std.specs.Prelude.{◌≡◌, ◌<◌, ◌≤◌, length, IfOk, IfSome};
 
 use crate::token::{Int, Token};
 use protox_lex::{LexError as SourceError, LexErrorKind, Span};

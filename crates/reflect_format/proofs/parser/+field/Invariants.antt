@@ -3,7 +3,7 @@ use Rattle.reflect_format.specs.Left.{left}
 use Rattle.reflect_format.proofs.parser.+field.Given as goal
 
 abbrev pub decreases-message_value : goal.decreases-message_value
-decreases-message_value l = 6 * l.braces + 0
+decreases-message_value l = 6 * l.braces
 
 abbrev pub decreases-value : goal.decreases-value
 decreases-value l = 6 * l.braces + 1

@@ -2,7 +2,7 @@ use Rattle.std.proofs.Common.{◌+◌, ◌*◌}
 use Rattle.reflect_print.proofs.writer.Writer.+message.Given as goal
 
 abbrev pub decreases-braced_message : goal.decreases-braced_message
-decreases-braced_message g l = 6 * l.at.levels + 0
+decreases-braced_message g l = 6 * l.at.levels
 
 abbrev pub decreases-value : goal.decreases-value
 decreases-value g l = 6 * l.at.levels + 1
@@ -14,7 +14,7 @@ abbrev pub decreases-map : goal.decreases-map
 decreases-map g l = 6 * l.at.levels + 1
 
 abbrev pub decreases-entry : goal.decreases-entry
-decreases-entry g l = 6 * l.at.levels + 0
+decreases-entry g l = 6 * l.at.levels
 
 abbrev pub decreases-named_value : goal.decreases-named_value
 decreases-named_value g l = 6 * l.at.levels + 2

@@ -2,7 +2,7 @@ use Rattle.std.proofs.Common.{◌+◌, ◌*◌}
 use Rattle.reflect_print.proofs.writer.Writer.+unknown.Given as goal
 
 abbrev pub decreases-braced_records : goal.decreases-braced_records
-decreases-braced_records g l = 3 * l.at.levels + 0
+decreases-braced_records g l = 3 * l.at.levels
 
 abbrev pub decreases-payload : goal.decreases-payload
 decreases-payload g l = 3 * l.at.levels + 1
