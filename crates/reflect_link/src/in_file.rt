@@ -17,52 +17,86 @@ pub trait InFile<'p> {
     fn package_name(&self) -> &'p str;
 }
 
-/// A type or an extension knows the place of its file.
-macro_rules! knows_its_file {
-    ($descriptor:ident) => {
-        impl<'p> InFile<'p> for $descriptor<'p> {
-            fn parent_file(&self) -> FileDescriptor<'p> {
-                FileDescriptor::new(self.parent_pool(), self.file_index())
-            }
+impl<'p> InFile<'p> for MessageDescriptor<'p> {
+    fn parent_file(&self) -> FileDescriptor<'p> {
+        FileDescriptor::new(self.parent_pool(), self.file_index())
+    }
 
-            fn parent_file_descriptor_proto(&self) -> &'p FileDescriptorProto {
-                self.parent_file().file_descriptor_proto()
-            }
+    fn parent_file_descriptor_proto(&self) -> &'p FileDescriptorProto {
+        self.parent_file().file_descriptor_proto()
+    }
 
-            fn package_name(&self) -> &'p str {
-                self.parent_file().package_name()
-            }
-        }
-    };
+    fn package_name(&self) -> &'p str {
+        self.parent_file().package_name()
+    }
 }
 
-/// A part of a type stands in the type's file.
-macro_rules! stands_in {
-    ($descriptor:ident, $parent:ident) => {
-        impl<'p> InFile<'p> for $descriptor<'p> {
-            fn parent_file(&self) -> FileDescriptor<'p> {
-                self.$parent().parent_file()
-            }
+impl<'p> InFile<'p> for EnumDescriptor<'p> {
+    fn parent_file(&self) -> FileDescriptor<'p> {
+        FileDescriptor::new(self.parent_pool(), self.file_index())
+    }
 
-            fn parent_file_descriptor_proto(&self) -> &'p FileDescriptorProto {
-                self.$parent().parent_file_descriptor_proto()
-            }
+    fn parent_file_descriptor_proto(&self) -> &'p FileDescriptorProto {
+        self.parent_file().file_descriptor_proto()
+    }
 
-            fn package_name(&self) -> &'p str {
-                self.$parent().package_name()
-            }
-        }
-    };
+    fn package_name(&self) -> &'p str {
+        self.parent_file().package_name()
+    }
 }
 
-knows_its_file!(MessageDescriptor);
+impl<'p> InFile<'p> for ExtensionDescriptor<'p> {
+    fn parent_file(&self) -> FileDescriptor<'p> {
+        FileDescriptor::new(self.parent_pool(), self.file_index())
+    }
 
-knows_its_file!(EnumDescriptor);
+    fn parent_file_descriptor_proto(&self) -> &'p FileDescriptorProto {
+        self.parent_file().file_descriptor_proto()
+    }
 
-knows_its_file!(ExtensionDescriptor);
+    fn package_name(&self) -> &'p str {
+        self.parent_file().package_name()
+    }
+}
 
-stands_in!(FieldDescriptor, parent_message);
+impl<'p> InFile<'p> for FieldDescriptor<'p> {
+    fn parent_file(&self) -> FileDescriptor<'p> {
+        self.parent_message().parent_file()
+    }
 
-stands_in!(OneofDescriptor, parent_message);
+    fn parent_file_descriptor_proto(&self) -> &'p FileDescriptorProto {
+        self.parent_message().parent_file_descriptor_proto()
+    }
 
-stands_in!(EnumValueDescriptor, parent_enum);
+    fn package_name(&self) -> &'p str {
+        self.parent_message().package_name()
+    }
+}
+
+impl<'p> InFile<'p> for OneofDescriptor<'p> {
+    fn parent_file(&self) -> FileDescriptor<'p> {
+        self.parent_message().parent_file()
+    }
+
+    fn parent_file_descriptor_proto(&self) -> &'p FileDescriptorProto {
+        self.parent_message().parent_file_descriptor_proto()
+    }
+
+    fn package_name(&self) -> &'p str {
+        self.parent_message().package_name()
+    }
+}
+
+impl<'p> InFile<'p> for EnumValueDescriptor<'p> {
+    fn parent_file(&self) -> FileDescriptor<'p> {
+        self.parent_enum().parent_file()
+    }
+
+    fn parent_file_descriptor_proto(&self) -> &'p FileDescriptorProto {
+        self.parent_enum().parent_file_descriptor_proto()
+    }
+
+    fn package_name(&self) -> &'p str {
+        self.parent_enum().package_name()
+    }
+}

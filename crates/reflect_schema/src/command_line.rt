@@ -4,11 +4,23 @@ use crate::payload::Action;
 use clap::{Arg, ArgAction, ArgMatches, Command, Error};
 use std::alloc::{AllocError, Global};
 
+/// What a run is to do with the schema.
+#[derive(Clone, Copy)]
+pub enum Task<'a> {
+    /// It translates a payload of the type of this name.
+    Payload(Action, &'a str),
+    /// It writes the schema's descriptor set.
+    Set,
+}
+
 /// What the command line asks for.
 #[derive(Clone, Copy)]
 pub struct Request<'a> {
-    pub action: Action,
-    pub type_name: &'a str,
+    pub task: Task<'a>,
+    /// The file that declares the types of options.
+    pub descriptor: Option<&'a str>,
+    /// The file that holds a descriptor set.
+    pub set: Option<&'a str>,
     pub root: &'a str,
     pub is_hex: bool,
     /// The names of the sources.
@@ -20,15 +32,25 @@ fn command<'a>(alloc: Global) -> Result<Command<'a>, AllocError> {
     let action = Arg::new(alloc, "action")
         .value_name("ACTION")
         .required(true)
-        .value_parser(["encode", "decode", "recode"].as_slice())
+        .value_parser(["encode", "decode", "recode", "set"].as_slice())
         .help(
-            "encode: text to wire bytes; decode: wire bytes to text; recode: wire bytes to their one written form",
+            "encode: text to wire bytes; decode: wire bytes to text; recode: wire bytes to their one written form; set: the schema's descriptor set",
         );
+    let descriptor = Arg::new(alloc, "descriptor")
+        .long("descriptor")
+        .value_name("FILE")
+        .help("A descriptor.proto whose types the options are read by");
+    let set = Arg::new(alloc, "set")
+        .long("set")
+        .value_name("FILE")
+        .help("A descriptor set whose files come before the sources");
     let type_name = Arg::new(alloc, "type")
         .long("type")
         .value_name("NAME")
-        .required(true)
-        .help("The full name of the message type");
+        .required_if_eq("action", "encode")?
+        .required_if_eq("action", "decode")?
+        .required_if_eq("action", "recode")?
+        .help("The full name of the message type; set does without");
     let root = Arg::new(alloc, "root")
         .long("root")
         .value_name("DIR")
@@ -47,10 +69,12 @@ fn command<'a>(alloc: Global) -> Result<Command<'a>, AllocError> {
     Command::new(alloc, "schema")
         .no_binary_name(true)
         .about(
-            "Translates protobuf messages between text and wire bytes, from standard input to standard output",
+            "Translates protobuf messages between text and wire bytes, from standard input to standard output, or writes the descriptor set of a schema",
         )
         .after_help("Example: schema encode --type p.M --hex a.proto < message.txt")
         .arg(action)?
+        .arg(descriptor)?
+        .arg(set)?
         .arg(type_name)?
         .arg(root)?
         .arg(hex)?
@@ -62,17 +86,24 @@ pub fn parse<'a>(alloc: Global, words: &'a [&'a str]) -> Result<ArgMatches<'a>, 
     command(alloc)?.try_get_matches_from(words)
 }
 
-/// What the words that were read ask for; nothing where a word is missing that the command line requires.
-pub fn requested<'m, 'a>(matches: &'m ArgMatches<'a>) -> Option<Request<'m>> {
+/// What is asked of the payload, or of the schema itself; nothing where a word is missing that the command line requires.
+fn asked_task<'m, 'a>(matches: &'m ArgMatches<'a>) -> Option<Task<'m>> {
     let action = match matches.get_str("action")? {
         "encode" => Action::Encode,
         "decode" => Action::Decode,
         "recode" => Action::Recode,
+        "set" => return Some(Task::Set),
         _ => return None,
     };
+    Some(Task::Payload(action, matches.get_str("type")?))
+}
+
+/// What the words that were read ask for; nothing where a word is missing that the command line requires.
+pub fn requested<'m, 'a>(matches: &'m ArgMatches<'a>) -> Option<Request<'m>> {
     Some(Request {
-        action,
-        type_name: matches.get_str("type")?,
+        task: asked_task(matches)?,
+        descriptor: matches.get_str("descriptor"),
+        set: matches.get_str("set"),
         root: matches.get_str("root")?,
         is_hex: matches.get_flag("hex"),
         names: matches.get_strs("names").unwrap_or(&[]),

@@ -118,8 +118,8 @@ fn payload_bytes(alloc: Global, is_hex: bool, input: Vec<u8>) -> Result<Vec<u8>,
     }
 }
 
-/// Writes wire bytes as an answer.
-fn write_bytes<W: Write>(
+/// Writes wire bytes as an answer: with `is_hex` as a line of hexadecimal text.
+pub fn write_bytes<W: Write>(
     alloc: Global,
     is_hex: bool,
     bytes: &[u8],

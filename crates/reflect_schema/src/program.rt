@@ -1,8 +1,8 @@
 //! The program `schema`, over any files and any streams.
 
-use crate::command_line::{Request, parse, requested};
+use crate::command_line::{Request, Task, parse, requested};
 use crate::error::SchemaError;
-use crate::payload::{Fault, serve};
+use crate::payload::{Fault, serve, write_bytes};
 use crate::schema::Schema;
 use std::alloc::{AllocError, AllocFailed, Global};
 use std::fmt::Display;
@@ -63,8 +63,21 @@ impl<T: Drop> From<AllocFailed<T>> for RunFault {
     }
 }
 
+/// The bytes of the file at a path.
+fn read_file<F: SourceFiles>(
+    alloc: Global,
+    files: &mut F,
+    path: &str,
+) -> Result<Vec<u8>, RunFault> {
+    match files.read(alloc, path) {
+        Ok(bytes) => Ok(bytes),
+        Err(ReadFault::Read) => Err(RunFault::File(String::from_str(alloc, path)?)),
+        Err(ReadFault::Memory) => Err(RunFault::Memory),
+    }
+}
+
 /// The bytes of the named files under the root, in order.
-fn read_files<F: SourceFiles>(
+fn read_sources<F: SourceFiles>(
     alloc: Global,
     files: &mut F,
     wanted: Request<'_>,
@@ -73,11 +86,7 @@ fn read_files<F: SourceFiles>(
     for name in wanted.names {
         let root = wanted.root;
         let path = format!(in alloc; "{root}/{name}")?;
-        match files.read(alloc, path.as_str()) {
-            Ok(bytes) => contents.push(bytes)?,
-            Err(ReadFault::Read) => return Err(RunFault::File(path)),
-            Err(ReadFault::Memory) => return Err(RunFault::Memory),
-        }
+        contents.push(read_file(alloc, files, path.as_str())?)?;
     }
     Ok(contents)
 }
@@ -98,7 +107,55 @@ fn sources<'a>(
     Ok(sources)
 }
 
-/// Reads the sources and answers the payload.
+/// The schema of the file that declares the types of options, or one without files.
+fn first_schema<F: SourceFiles>(
+    alloc: Global,
+    files: &mut F,
+    descriptor: Option<&str>,
+) -> Result<Schema, RunFault> {
+    let Some(path) = descriptor else {
+        return Ok(Schema::bare(alloc));
+    };
+    let bytes = read_file(alloc, files, path)?;
+    match str::from_utf8(bytes.as_slice()) {
+        Ok(text) => Schema::new(alloc, text).map_err(RunFault::Schema),
+        Err(_) => Err(RunFault::SourceNotUtf8(String::from_str(alloc, path)?)),
+    }
+}
+
+/// The schema of the files that are asked for: first what declares the types of options, then the set, then the sources.
+fn read_schema<F: SourceFiles>(
+    alloc: Global,
+    files: &mut F,
+    wanted: Request<'_>,
+) -> Result<Schema, RunFault> {
+    let mut schema = first_schema(alloc, files, wanted.descriptor)?;
+    if let Some(path) = wanted.set {
+        let bytes = read_file(alloc, files, path)?;
+        schema
+            .add_descriptor_set(bytes.as_slice())
+            .map_err(RunFault::Schema)?;
+    }
+    let contents = read_sources(alloc, files, wanted)?;
+    let sources = sources(alloc, wanted.names, contents.as_slice())?;
+    schema
+        .add_sources(sources.as_slice())
+        .map_err(RunFault::Schema)?;
+    Ok(schema)
+}
+
+/// Writes the schema's descriptor set.
+fn write_set<W: Write>(
+    alloc: Global,
+    schema: &Schema,
+    is_hex: bool,
+    output: &mut W,
+) -> Result<(), RunFault> {
+    let bytes = schema.to_descriptor_set().map_err(RunFault::Schema)?;
+    write_bytes(alloc, is_hex, bytes.as_slice(), output).map_err(RunFault::Payload)
+}
+
+/// Reads the schema, and does with it what is asked.
 fn answer<F: SourceFiles, R: Read, W: Write>(
     alloc: Global,
     wanted: Request<'_>,
@@ -106,22 +163,16 @@ fn answer<F: SourceFiles, R: Read, W: Write>(
     input: &mut R,
     output: &mut W,
 ) -> Result<(), RunFault> {
-    let contents = read_files(alloc, files, wanted)?;
-    let sources = sources(alloc, wanted.names, contents.as_slice())?;
-    let mut schema = Schema::bare(alloc);
-    schema
-        .add_sources(sources.as_slice())
-        .map_err(RunFault::Schema)?;
-    serve(
-        alloc,
-        &schema,
-        wanted.action,
-        wanted.type_name,
-        wanted.is_hex,
-        input,
-        output,
-    )
-    .map_err(RunFault::Payload)
+    let schema = read_schema(alloc, files, wanted)?;
+    let is_hex = wanted.is_hex;
+    match wanted.task {
+        Task::Set => write_set(alloc, &schema, is_hex, output),
+        Task::Payload(action, type_name) => {
+            serve(alloc, &schema, action, type_name, is_hex, input, output).map_err(
+                RunFault::Payload,
+            )
+        }
+    }
 }
 
 /// Writes a text to a stream, with a line end; a stream that refuses it gets no more.

@@ -3,10 +3,18 @@ ghost use Rattle.std.specs.Prelude.{◌≡◌, OnErr};
 use crate::error::SchemaError;
 use descriptor_records::FileDescriptorProto;
 use protox_parse::parse;
+use reflect_bytes::PoolBytes;
+use reflect_codec::decode_set;
 use reflect_dynamic::DynamicMessage;
 use reflect_link::{DescriptorPool, MessageDescriptor};
-use reflect_text::{FormatOptions, TextFormat, WriteError, check_options};
+use reflect_text::{
+    FormatOptions, OptionError, ResolveOptions, TextFormat, WriteError, copy_typed_options,
+    require_option_types,
+};
 use std::alloc::Global;
+
+/// The name under which the types of options are known.
+const DESCRIPTOR_NAME: &str = "google/protobuf/descriptor.proto";
 
 /// Protobuf files that fit together, and the messages of their types as text and as bytes.
 #[derive(Drop)]
@@ -24,6 +32,25 @@ impl Schema {
         }
     }
 
+    /// A schema of one source, which declares the types of options under the name `google/protobuf/descriptor.proto`.
+    ///
+    /// Refused as `add_sources` is, and as `Options` where not all of the nine types are there and can be read by.
+    pub fn new(alloc: Global, descriptor_source: &str) -> Result<Schema, SchemaError> {
+        let mut schema = Schema::bare(alloc);
+        schema.add_sources(&[(DESCRIPTOR_NAME, descriptor_source)])?;
+        match require_option_types(alloc, &schema.pool)? {
+            Some(kind) => Err(SchemaError::from(OptionError::new(kind, None))),
+            None => Ok(schema),
+        }
+    }
+
+    /// The schema of a descriptor set's files. Refused as `add_descriptor_set` is.
+    pub fn from_descriptor_set(alloc: Global, bytes: &[u8]) -> Result<Schema, SchemaError> {
+        let mut schema = Schema::bare(alloc);
+        schema.add_descriptor_set(bytes)?;
+        Ok(schema)
+    }
+
     /// The linked files.
     pub fn pool(&self) -> &DescriptorPool
         ensures { result.now ≡ self.now.pool }
@@ -35,26 +62,48 @@ impl Schema {
     ///
     /// They are parsed in order, and the first that is refused ends it (`Parse`). Those whose names the schema has are passed
     /// over; the others are linked with each other and with those that are there (`Link`, with all faults of the first pass
-    /// that found one). Any refusal leaves the schema as it was.
+    /// that found one), and their options are read by the types that the schema has for them (`Options`, with the first fault).
+    /// Any refusal leaves the schema as it was.
     pub fn add_sources(&mut self, sources: &[(&str, &str)]) -> Result<(), SchemaError>
         ensures { OnErr result (self.new.pool ≡ self.old.pool) }
     {
-        let files = self.new_files(sources)?;
-        check_options(self.alloc, files.as_slice())?;
-        self.pool.build_files(self.alloc, files)?;
-        Ok(())
-    }
-
-    /// The records of the sources, without those whose names the schema has.
-    fn new_files(&self, sources: &[(&str, &str)]) -> Result<Vec<FileDescriptorProto>, SchemaError> {
         let mut files = Vec::new(self.alloc);
         for source in sources {
-            let file = parse(self.alloc, source.0, source.1)?;
-            if !self.pool.has_file(source.0) {
-                files.push(file)?;
-            }
+            files.push(parse(self.alloc, source.0, source.1)?)?;
         }
-        Ok(files)
+        self.add_batch(files)
+    }
+
+    /// Adds the files of a descriptor set, as protobuf's `FileDescriptorSet` is written, as one batch.
+    ///
+    /// `Wire` where the bytes are no set; else as `add_sources` does and refuses with files that are parsed. Any refusal leaves
+    /// the schema as it was.
+    pub fn add_descriptor_set(&mut self, bytes: &[u8]) -> Result<(), SchemaError>
+        ensures { OnErr result (self.new.pool ≡ self.old.pool) }
+    {
+        let set = decode_set(self.alloc, bytes)?;
+        self.add_batch(set.file)
+    }
+
+    /// The descriptor set of all files, in the order in which they were added, with their options settled.
+    ///
+    /// `TooLong` where it would have more bytes than a length can say.
+    pub fn to_descriptor_set(&self) -> Result<Vec<u8>, SchemaError> {
+        Ok(self.pool.encode_to_vec(self.alloc)?)
+    }
+
+    /// Links files and settles their options. Any refusal leaves the pool as it was.
+    fn add_batch(&mut self, mut files: Vec<FileDescriptorProto>) -> Result<(), SchemaError>
+        ensures { OnErr result (self.new.pool ≡ self.old.pool) }
+    {
+        copy_typed_options(&mut files);
+        let mark = self.pool.mark();
+        self.pool.build_files(self.alloc, files)?;
+        let settled = self.pool.resolve_options(self.alloc, mark);
+        if settled.is_err() {
+            self.pool.cut(mark);
+        }
+        Ok(settled?)
     }
 
     /// The message type of a name.
@@ -75,7 +124,7 @@ impl Schema {
     pub fn encode(&self, type_name: &str, text: &str) -> Result<Vec<u8>, SchemaError> {
         let descriptor = self.message_type(type_name)?;
         let message = DynamicMessage::parse_text_format(self.alloc, descriptor, text)?;
-        Ok(message.encode_to_vec(self.alloc)?)
+        Ok(message.encode_to_vec()?)
     }
 
     /// The compact text of the message of a type that wire bytes spell. The type's full name may have one leading dot.
@@ -98,6 +147,6 @@ impl Schema {
     pub fn recode(&self, type_name: &str, bytes: &[u8]) -> Result<Vec<u8>, SchemaError> {
         let descriptor = self.message_type(type_name)?;
         let message = DynamicMessage::decode(self.alloc, descriptor, bytes)?;
-        Ok(message.encode_to_vec(self.alloc)?)
+        Ok(message.encode_to_vec()?)
     }
 }

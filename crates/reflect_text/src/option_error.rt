@@ -28,8 +28,8 @@ pub enum OptionErrorKind {
     NoDescriptorProto,
     /// The pool's type for the options lacks what every such type has.
     BadDescriptorProto { name: String },
-    /// The stored bytes are no options of the pool's type.
-    UndecodableOptions { error: WireError },
+    /// The stored bytes are no options of the pool's type, or contradict the record about map entries.
+    UndecodableOptions { error: Option<WireError> },
     /// Want of memory.
     Memory,
 }
@@ -68,11 +68,26 @@ impl fmt::Display for OptionErrorKind {
                     "'{name}' is not the type of options that it is named after"
                 )
             }
-            OptionErrorKind::UndecodableOptions { error } => {
+            OptionErrorKind::UndecodableOptions { error: Some(error) } => {
                 write!(f, "the stored options cannot be read: {error}")
+            }
+            OptionErrorKind::UndecodableOptions { error: None } => {
+                f.write_str("the stored options contradict the record about map entries")
             }
             OptionErrorKind::Memory => f.write_str("out of memory"),
         }
+    }
+}
+
+impl From<AllocError> for OptionErrorKind {
+    fn from(_error: AllocError) -> OptionErrorKind {
+        OptionErrorKind::Memory
+    }
+}
+
+impl<T: Drop> From<AllocFailed<T>> for OptionErrorKind {
+    fn from(_error: AllocFailed<T>) -> OptionErrorKind {
+        OptionErrorKind::Memory
     }
 }
 

@@ -5,7 +5,7 @@ use protox_parse::parse;
 use reflect_dynamic::{DynamicMessage, Value};
 use reflect_link::{Cardinality, DescriptorPool, Kind, MessageDescriptor};
 use reflect_schema::{Action, Schema, serve};
-use reflect_text::{FormatOptions, Parser, TextFormat, Writer, check_options};
+use reflect_text::{FormatOptions, Parser, TextFormat, Writer};
 use std::alloc::Global;
 use std::test::Fail;
 
@@ -15,7 +15,6 @@ const SOURCE: &str =
 fn linked(alloc: Global) -> Result<DescriptorPool, Fail> {
     let mut files: Vec<FileDescriptorProto> = Vec::new(alloc);
     files.push(parse(alloc, "a.proto", SOURCE)?)?;
-    check_options(alloc, files.as_slice())?;
     let mut pool = DescriptorPool::new(alloc);
     pool.build_files(alloc, files)?;
     Ok(pool)

@@ -4,9 +4,15 @@
 #[cfg(test)]
 mod calls;
 #[cfg(test)]
+mod descriptor;
+#[cfg(test)]
+mod links;
+#[cfg(test)]
 mod memory_files;
 #[cfg(test)]
 mod messages;
+#[cfg(test)]
+mod options;
 #[cfg(test)]
 mod programs;
 #[cfg(test)]

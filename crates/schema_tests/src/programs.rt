@@ -1,5 +1,6 @@
 //! The program over files, inputs and outputs in memory.
 
+use crate::descriptor::DESCRIPTOR;
 use crate::memory_files::{BrokenReader, BrokenWriter, MemoryFiles};
 use reflect_schema::run;
 use std::alloc::Global;
@@ -8,7 +9,16 @@ use std::test::Fail;
 const SOURCE: &[u8] =
     b"syntax = \"proto3\"; package p; message M { int32 foo = 1; N nested = 3; } message N { int32 bar = 2; }";
 
-const FILES: [(&str, &[u8]); 4] = [
+/// A set of one file, `a.proto` of the package `p` in proto3, and the same with a record that no file has.
+const SET: &[u8] = b"\x0a\x14\x0a\x07a.proto\x12\x01pb\x06proto3";
+
+const LONGER_SET: &[u8] = b"\x0a\x17\x0a\x07a.proto\x12\x01pb\x06proto3\xa0\x06\x01";
+
+const FILES: [(&str, &[u8]); 8] = [
+    ("p.set", SET),
+    ("longer.set", LONGER_SET),
+    ("short.set", b"\x0a\x14\x0a\x07"),
+    ("descriptor.proto", DESCRIPTOR),
     ("./a.proto", SOURCE),
     ("sub/a.proto", SOURCE),
     ("./bad.proto", b"message {}"),
@@ -132,6 +142,56 @@ fn answers_and_statuses(rt: HostRuntime) -> Result<(), Fail> {
     ];
     for (words, input, status, output, errors) in cases {
         let ran = ran(rt.alloc(), words, input);
+        assert_eq!(rt; ran.status, status, "at {words:?}");
+        assert_eq!(rt; ran.output.as_slice(), output, "at {words:?}");
+        assert_eq!(rt; ran.errors.as_slice(), errors, "at {words:?}");
+    }
+    Ok(())
+}
+
+#[test]
+fn sets_and_descriptors(rt: HostRuntime) -> Result<(), Fail> {
+    let cases: [(&[&str], u8, &[u8], &[u8]); 6] = [
+        (&["set"], 0, b"", b""),
+        (
+            &["set", "--hex", "--set", "p.set"],
+            0,
+            b"0a140a07612e70726f746f120170620670726f746f33\n",
+            b"",
+        ),
+        (
+            &["set", "--type", "p.M", "--set", "longer.set"],
+            0,
+            SET,
+            b"",
+        ),
+        (
+            &["set", "--set", "short.set"],
+            1,
+            b"",
+            b"the input ends inside a record\n",
+        ),
+        (
+            &[
+                "decode",
+                "--type",
+                "google.protobuf.FileOptions",
+                "--descriptor",
+                "descriptor.proto",
+            ],
+            0,
+            b"\n",
+            b"",
+        ),
+        (
+            &["set", "--descriptor", "a.proto"],
+            4,
+            b"",
+            b"'a.proto' cannot be read\n",
+        ),
+    ];
+    for (words, status, output, errors) in cases {
+        let ran = ran(rt.alloc(), words, b"");
         assert_eq!(rt; ran.status, status, "at {words:?}");
         assert_eq!(rt; ran.output.as_slice(), output, "at {words:?}");
         assert_eq!(rt; ran.errors.as_slice(), errors, "at {words:?}");

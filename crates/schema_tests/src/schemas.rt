@@ -126,18 +126,18 @@ fn a_refused_batch_changes_nothing(rt: HostRuntime) -> Result<(), Fail> {
                 "b.proto",
                 "syntax = \"proto3\"; package p; message B { Missing m = 1; }",
             ),
-            "b.proto: name 'Missing' is not defined",
+            "b.proto:1:43: name 'Missing' is not defined",
         ),
         (
             (
                 "b.proto",
                 "syntax = \"proto3\"; package p; message B {} message M {}",
             ),
-            "b.proto: name 'p.M' is defined twice",
+            "b.proto:1:52: name 'p.M' is defined twice",
         ),
         (
             ("b.proto", "syntax = \"proto3\"; import \"c.proto\";"),
-            "b.proto: imported file 'c.proto' has not been added",
+            "b.proto:1:20: imported file 'c.proto' has not been added",
         ),
         (
             ("b.proto", "message {}"),
@@ -178,7 +178,7 @@ fn a_dotted_name_is_settled_at_its_first_part(rt: HostRuntime) -> Result<(), Fai
         "y.proto",
         "syntax = \"proto3\"; package p; import \"x.proto\"; message foo {} message M { foo.Bar f = 1; }",
     );
-    let wanted = "y.proto: 'foo.Bar' resolves to 'p.foo.Bar', which is not defined";
+    let wanted = "y.proto:1:76: 'foo.Bar' resolves to 'p.foo.Bar', which is not defined";
     for sources in [[x, y], [y, x]] {
         match schema_of(alloc, &sources) {
             Ok(_) => assert!(rt; false, "accepted"),

@@ -13,10 +13,12 @@ message M { int32 foo = 1; N nested = 3; } message N { int32 bar = 2; } message 
 message A { int32 a = 1; bool t = 2; float f = 3; repeated int32 xs = 4; map<int32, string> m = 5; oneof o { int32 oa = 6; int32 ob = 7; }
   bytes b = 8; string s = 9; Color c = 10; repeated M ms = 11; uint32 u = 12; } enum Color { RED = 0; BLUE = 2; }"#;
 
-const PROTO2: &str = r#"package q; message G { optional group Foo = 1 { optional int32 a = 2; } extensions 10 to 20; repeated int32 xs = 4; }
+const PROTO2: &str =
+    r#"package q; message G { optional group Foo = 1 { optional int32 a = 2; } extensions 10 to 20; repeated int32 xs = 4; }
 extend G { optional int32 x = 10; repeated int32 ys = 11; }"#;
 
-const ANY: &str = r#"syntax = "proto3"; package google.protobuf; message Any { string type_url = 1; bytes value = 2; }"#;
+const ANY: &str =
+    r#"syntax = "proto3"; package google.protobuf; message Any { string type_url = 1; bytes value = 2; }"#;
 
 /// The bytes of a `google.protobuf.Any` that holds a `p.N` whose `bar` is 66.
 const ANY_OF_N: &str = "0a17747970652e676f6f676c65617069732e636f6d2f702e4e12021042";
@@ -47,7 +49,11 @@ impl Form {
 /// A type, a text and the bytes of the message that it spells.
 const BYTES: [(&str, &str, &str); 17] = [
     ("p.M", "foo: 150 nested { bar: 66 }", "0896011a021042"),
-    ("p.M", "nested: < bar: 0x42; >, foo: 0226;", "0896011a021042"),
+    (
+        "p.M",
+        "nested: < bar: 0x42; >, foo: 0226;",
+        "0896011a021042",
+    ),
     ("p.A", "a: 0 a: 5", "0805"),
     ("p.A", "xs: [1, 2] xs: 150", "220401029601"),
     ("p.A", "xs: []", ""),
@@ -80,24 +86,68 @@ const BYTES: [(&str, &str, &str); 17] = [
 /// A type, a text and why it is refused, behind the place.
 const REFUSALS: [(&str, &str, &str); 16] = [
     ("p.A", "a: 5 a: 0", "8..9 'a' is already set"),
-    ("p.A", "oa: 1 ob: 2", "10..11 a value is already set for oneof 'o'"),
+    (
+        "p.A",
+        "oa: 1 ob: 2",
+        "10..11 a value is already set for oneof 'o'",
+    ),
     ("p.A", "s: \"\\377\"", "3..9 string is not valid utf-8"),
-    ("p.A", "f: 1", "0..1 field 'f' of message 'p.A' has a floating-point type"),
+    (
+        "p.A",
+        "f: 1",
+        "0..1 field 'f' of message 'p.A' has a floating-point type",
+    ),
     ("p.A", "t: 2", "3..4 expected 0 or 1, but found '2'"),
-    ("p.A", "c: GREEN", "3..8 value 'GREEN' was not found for enum 'p.Color'"),
-    ("p.A", "m [1]", "2..3 expected ':' or a message value, but found '['"),
-    ("p.A", "xs: [1", "expected ',' or ']', but reached end of input"),
-    ("p.A", "s: 'a", "expected string terminator, but reached end of input"),
+    (
+        "p.A",
+        "c: GREEN",
+        "3..8 value 'GREEN' was not found for enum 'p.Color'",
+    ),
+    (
+        "p.A",
+        "m [1]",
+        "2..3 expected ':' or a message value, but found '['",
+    ),
+    (
+        "p.A",
+        "xs: [1",
+        "expected ',' or ']', but reached end of input",
+    ),
+    (
+        "p.A",
+        "s: 'a",
+        "expected string terminator, but reached end of input",
+    ),
     (
         "p.A",
         "u: -0",
         "3..5 expected value to be an unsigned 32-bit integer, but the value -0 is out of range",
     ),
-    ("p.M", "nested < foo: 1 >", "9..12 field 'foo' not found for message 'p.N'"),
-    ("p.M", "nested < }", "9..10 expected '>' or a field name, but found '}'"),
-    ("q.G", "foo { a: 7 }", "0..3 field 'foo' not found for message 'q.G'"),
-    ("q.G", "[q.z]: 1", "0..5 extension 'q.z' not found for message 'q.G'"),
-    ("q.G", "[q/p.M] {}", "0..7 the field type must be 'google.protobuf.Any' to use Any expansion syntax"),
+    (
+        "p.M",
+        "nested < foo: 1 >",
+        "9..12 field 'foo' not found for message 'p.N'",
+    ),
+    (
+        "p.M",
+        "nested < }",
+        "9..10 expected '>' or a field name, but found '}'",
+    ),
+    (
+        "q.G",
+        "foo { a: 7 }",
+        "0..3 field 'foo' not found for message 'q.G'",
+    ),
+    (
+        "q.G",
+        "[q.z]: 1",
+        "0..5 extension 'q.z' not found for message 'q.G'",
+    ),
+    (
+        "q.G",
+        "[q/p.M] {}",
+        "0..7 the field type must be 'google.protobuf.Any' to use Any expansion syntax",
+    ),
     (
         "google.protobuf.Any",
         "[type.googleapis.com/p.Q] {}",
@@ -107,12 +157,27 @@ const REFUSALS: [(&str, &str, &str); 16] = [
 
 /// A type, the bytes of a message, a form and the message's text in it.
 const TEXTS: [(&str, &str, Form, &str); 13] = [
-    ("p.M", "0896011a021042", Form::Plain, "foo:150,nested{bar:66}"),
-    ("p.M", "0896011a021042", Form::Pretty, "foo: 150\nnested {\n  bar: 66\n}"),
+    (
+        "p.M",
+        "0896011a021042",
+        Form::Plain,
+        "foo:150,nested{bar:66}",
+    ),
+    (
+        "p.M",
+        "0896011a021042",
+        Form::Pretty,
+        "foo: 150\nnested {\n  bar: 66\n}",
+    ),
     ("p.M", "", Form::Defaults, "foo:0"),
     ("q.G", "0b10070c5005", Form::Plain, "Foo{a:7},[q.x]:5"),
     ("p.A", "4201ff5002", Form::Plain, "b:\"\\377\",c:BLUE"),
-    ("p.A", "2a050801120161", Form::Plain, "m:[{key:1,value:\"a\"}]"),
+    (
+        "p.A",
+        "2a050801120161",
+        Form::Plain,
+        "m:[{key:1,value:\"a\"}]",
+    ),
     (
         "p.A",
         "2a0508011201615a005a020801",
@@ -154,11 +219,7 @@ const TEXTS: [(&str, &str, Form, &str); 13] = [
 
 fn linked(alloc: Global) -> Result<DescriptorPool, Fail> {
     let mut files: Vec<FileDescriptorProto> = Vec::new(alloc);
-    for (name, source) in [
-        ("p.proto", PROTO3),
-        ("q.proto", PROTO2),
-        ("any.proto", ANY),
-    ] {
+    for (name, source) in [("p.proto", PROTO3), ("q.proto", PROTO2), ("any.proto", ANY)] {
         files.push(parse(alloc, name, source)?)?;
     }
     let mut pool = DescriptorPool::new(alloc);
@@ -206,7 +267,10 @@ fn texts_and_their_bytes(rt: HostRuntime) -> Result<(), Fail> {
     let alloc = rt.alloc();
     let pool = linked(alloc)?;
     for (name, text, bytes) in BYTES {
-        assert_eq!(rt; encoded(alloc, message(&pool, name)?, text)?.as_str(), bytes);
+        assert_eq!(rt;
+            encoded(alloc, message(&pool, name)?, text)?.as_str(),
+            bytes
+        );
     }
     Ok(())
 }
@@ -216,7 +280,10 @@ fn texts_that_are_refused(rt: HostRuntime) -> Result<(), Fail> {
     let alloc = rt.alloc();
     let pool = linked(alloc)?;
     for (name, text, fault) in REFUSALS {
-        assert_eq!(rt; encoded(alloc, message(&pool, name)?, text)?.as_str(), fault);
+        assert_eq!(rt;
+            encoded(alloc, message(&pool, name)?, text)?.as_str(),
+            fault
+        );
     }
     Ok(())
 }
@@ -246,7 +313,10 @@ fn at_most_a_hundred_braces_are_open(rt: HostRuntime) -> Result<(), Fail> {
         text.push_str("n{")?;
     }
     let open = format!(in alloc; "{text}n{{")?;
-    assert_eq!(rt; encoded(alloc, deep, open.as_str())?.as_str(), "201..202 more than 100 open braces");
+    assert_eq!(rt;
+        encoded(alloc, deep, open.as_str())?.as_str(),
+        "201..202 more than 100 open braces"
+    );
     for _ in 0..100 {
         text.push_str("}")?;
     }
@@ -259,7 +329,10 @@ fn messages_and_their_text(rt: HostRuntime) -> Result<(), Fail> {
     let alloc = rt.alloc();
     let pool = linked(alloc)?;
     for (name, bytes, form, text) in TEXTS {
-        assert_eq!(rt; printed(alloc, message(&pool, name)?, bytes, form)?.as_str(), text);
+        assert_eq!(rt;
+            printed(alloc, message(&pool, name)?, bytes, form)?.as_str(),
+            text
+        );
     }
     Ok(())
 }
