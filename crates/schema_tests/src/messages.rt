@@ -3,11 +3,9 @@
 
 use descriptor_records::{FileDescriptorProto, Options};
 use protox_parse::parse;
-use reflect_dynamic::{
-    DynamicMessage, FieldDefault, KindExt, MapKey, PoolExt, ReadOptions, SetFieldError, Value,
-};
-use reflect_link::{DescriptorPool, Kind, MessageDescriptor};
-use reflect_wire::{WireError, WireType, push_delimited};
+use reflect_dynamic::{DynamicMessage, MapKey, PoolExt, ReadOptions, SetFieldError, Value};
+use reflect_link::{DescriptorPool, MessageDescriptor};
+use reflect_wire::{WireError, push_delimited};
 use std::alloc::Global;
 use std::collections::BTreeMap;
 use std::test::Fail;
@@ -165,8 +163,17 @@ fn groups_and_extensions(rt: HostRuntime) -> Result<(), Fail> {
     let e = descriptor.get_extension(5).ok_or("no extension")?;
     let mut message = DynamicMessage::decode(alloc, descriptor, &bytes)?;
     assert!(rt; message.has_extension(&e));
-    assert_eq!(rt; message.extensions().count(), 2);
-    assert_eq!(rt; message.unknown_fields().count(), 1);
+    let mut names = String::new(alloc);
+    for (extension, _) in message.extensions() {
+        names.push_str(extension.name())?;
+        names.push(' ')?;
+    }
+    assert_eq!(rt; names.as_str(), "l e ");
+    let mut numbers = Vec::new(alloc);
+    for record in message.unknown_fields() {
+        numbers.push(record.number())?;
+    }
+    assert_eq!(rt; numbers.as_slice(), [6].as_slice());
     let held = message.take_extension(&e).ok_or("not set")?;
     assert_eq!(rt; held.as_str(), Some("a"));
     assert!(rt; !message.has_extension(&e));
@@ -298,38 +305,6 @@ fn a_refused_merge_changes_nothing(rt: HostRuntime) -> Result<(), Fail> {
     message.set_field_by_name("ms", Value::I32(3))?;
     assert!(rt; !message.is_encodable());
     message.clear();
-    assert!(rt; message.is_empty());
-    Ok(())
-}
-
-#[test]
-fn what_is_not_set_has_its_default(rt: HostRuntime) -> Result<(), Fail> {
-    let alloc = rt.alloc();
-    let source =
-        "syntax = \"proto2\"; enum E { A = 5; B = 6; } message M { optional int32 d = 1 [default = 7]; optional E e = 2; optional string s = 3 [default = \"x\"]; repeated E l = 4; optional M m = 5; }";
-    let pool = linked(alloc, source)?;
-    let descriptor = message(&pool, "M")?;
-    let mut message = DynamicMessage::new(alloc, descriptor);
-    let d = message.get_field_by_name("d")?.ok_or("no d")?;
-    assert_eq!(rt; d.value().as_i32(), Some(7));
-    let e = message.get_field_by_number(2)?.ok_or("no e")?;
-    assert_eq!(rt; e.value().as_enum_number(), Some(5));
-    let s = descriptor.get_field(3).ok_or("no s")?;
-    assert_eq!(rt; s.default_value(alloc)?.as_str(), Some("x"));
-    assert_eq!(rt; s.kind().wire_type(), WireType::LengthDelimited);
-    assert_eq!(rt; s.kind().default_value(alloc).as_str(), Some(""));
-    assert_eq!(rt; Kind::Bool.default_value(alloc).as_bool(), Some(false));
-    assert!(rt; !message.has_field_by_name("d"));
-    // Set to its default a field with presence is set, and an empty list is not.
-    message.try_set_field_by_name("d", Value::I32(7))?;
-    message.try_set_field_by_name("l", Value::List(Vec::new(alloc)))?;
-    assert!(rt; message.has_field_by_name("d"));
-    assert!(rt; !message.has_field_by_name("l"));
-    assert_eq!(rt;
-        message.encode_to_vec()?.as_slice(),
-        [0x08, 0x07].as_slice()
-    );
-    assert_eq!(rt; message.take_fields().count(), 1);
     assert!(rt; message.is_empty());
     Ok(())
 }
