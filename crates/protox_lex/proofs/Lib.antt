@@ -5,3 +5,8 @@ pub mod Streams
 pub mod Contents
 pub mod Feeds
 pub mod Lengthened
+pub mod Runs
+pub mod Cuts
+pub mod Escapes
+pub mod Numbers
+pub mod NumberCuts

@@ -8,3 +8,4 @@ pub mod Lines
 pub mod Resolver
 pub mod Signed
 pub mod Blocks
+pub mod Longest
