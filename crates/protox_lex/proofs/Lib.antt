@@ -9,4 +9,5 @@ pub mod Runs
 pub mod Cuts
 pub mod Escapes
 pub mod Numbers
+pub mod Floats
 pub mod NumberCuts

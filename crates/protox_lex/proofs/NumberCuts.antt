@@ -13,57 +13,7 @@ use Rattle.protox_lex.specs.Lex.{is_hex, begins_number, value, short, integer, o
 use Rattle.protox_lex.specs.Longest.{if_all, is_float_text, int_of, number_of, piece_of, IsLongest, prefix_of}
 use Rattle.protox_lex.proofs.Runs.{longest_run, longest_run_behind, GoesOn, more_than_run}
 use Rattle.protox_lex.proofs.Cuts.{IsRight, not_same, IsOther}
-use Rattle.protox_lex.proofs.Numbers.{past-take, cut_off, fraction-take, fraction-least, fraction_cut}
-
--- where the digits end, and the decimals and the exponent behind them
-abbrev whole : Text → ℕ
-whole z = past class.Digit z 0
-
-abbrev end_of : Text → ℕ
-end_of z = past_fraction z (whole z)
-
-abbrev floats : Text → Bool
-floats z = is_float z (whole z) (end_of z)
-
-and_false : (b : Bool) → (b && false) ≡ false
-and_false true = refl
-and_false false = refl
-
-both_false : (a b : Bool) → a ≡ false → (a && b) ≡ false
-both_false a b e = rw e refl
-
--- a text that is not read as a float has no point and no exponent behind its digits
-ends_whole : (z : Text) → floats z ≡ false → end_of z ≡ whole z
-ends_whole z none = by (ltb (whole z) (end_of z)) refl where
-  by : (u : Bool) → ltb (whole z) (end_of z) ≡ u → end_of z ≡ whole z
-  by true less = absurd (let f = rw less at none in cc)
-  by false le = omega (arith, ltb-false _ _ le, fraction-least z (whole z))
-
-no_suffix : (z : Text) → floats z ≡ false → ((not (slice_index z 0 == 48) || whole z == 1) && is_suffix (slice_index z (whole z))) ≡ false
-no_suffix z none = by (ltb (whole z) (end_of z)) refl where
-  by : (u : Bool) → ltb (whole z) (end_of z) ≡ u → ((not (slice_index z 0 == 48) || whole z == 1) && is_suffix (slice_index z (whole z))) ≡ false
-  by true less = absurd (let f = rw less at none in cc)
-  by false le = ap (λ k. (not (slice_index z 0 == 48) || whole z == 1) && is_suffix (slice_index z k)) (sym (ends_whole z none)) ∙ (rw le at none)
-
-floats_at : (x : Text) (k : ℕ) → whole x ≡ k → past_fraction x k ≡ k → floats x ≡ ((not (slice_index x 0 == 48) || k == 1) && is_suffix (slice_index x k))
-floats_at x k w e =
-    let l : ltb k k ≡ false = le-ltb k k (omega arith) in
-    ap (λ j. is_float x j (past_fraction x j)) w ∙ ap (λ j. is_float x k j) e ∙ ap (λ b. b || ((not (slice_index x 0 == 48) || k == 1) && is_suffix (slice_index x k))) l
-
--- what is cut from a text that is not read as a float is not a float either
-float_text_not : (z : Text) (m : ℕ) → floats z ≡ false → is_float_text (take m z) ≡ false
-float_text_not z m none = both_false (floats (take m z)) _ (elim (cases_lt (whole z) m) [ inl lt ↦ behind lt | inr le ↦ inside le ]) where
-  inside : m ≤ whole z → floats (take m z) ≡ false
-  inside le =
-      floats_at (take m z) m (past-take class.Digit z 0 m (omega arith) ∙ omega arith) (fraction_cut z m)
-      ∙ ap (λ b. (not (slice_index (take m z) 0 == 48) || m == 1) && b) (ap is_suffix (cut_off z m m (omega arith))) ∙ and_false _
-
-  behind : whole z < m → floats (take m z) ≡ false
-  behind lt =
-      let end = ends_whole z none in
-      floats_at (take m z) (whole z) (past-take class.Digit z 0 m (omega arith) ∙ omega arith) (fraction-take z (whole z) m (omega arith) (omega (arith, end)) ∙ end)
-      ∙ ap (λ b. (not (b == 48) || whole z == 1) && is_suffix (get_or (take m z) (whole z) 0)) (get_or-take m z 0 0 (omega arith))
-      ∙ ap (λ b. (not (slice_index z 0 == 48) || whole z == 1) && is_suffix b) (get_or-take m z (whole z) 0 lt) ∙ no_suffix z none
+use Rattle.protox_lex.proofs.Floats.{whole, end_of, floats, float_text_not, float_end, more_than_digits, float_text-take, no_integer, float_within, begins_with_point, point_floats, begins-take}
 
 -- ---- what a piece that begins with a number is
 
@@ -128,3 +78,66 @@ module _ (b : ℕ) (y : Text) (other : IsOther b) (starts : is_in class.Digit b 
     goes : GoesOn (is_in class.Hex) (c ∷ w) (λ v. token (int (value 16 v))) (λ v. b ∷ x ∷ v)
     goes zero h = let some : 1 + prefix_len (is_in class.Hex) w ≤ 0 = rw digit at h in absurd (omega arith)
     goes (suc m) h = piece_number b (x ∷ c ∷ take m w) other (begins-digit b (x ∷ c ∷ take m w) starts) ∙ ap (option_map token) (rw hex refl) ∙ token_if (list_all (is_in class.Hex) (c ∷ take m w)) (int (value 16 (c ∷ take m w)))
+
+decimal_text : (x : Text) (v : Bool) → is_hex x ≡ false → is_float_text x ≡ v → number_of x ≡ cond v (Some (float x)) (option_map int (int_of x))
+decimal_text x v hex is = rw (hex, is) refl
+
+float_longest : (b : ℕ) (y : Text) → IsOther b → begins_number (b ∷ y) ≡ true → is_hex (b ∷ y) ≡ false → floats (b ∷ y) ≡ true → IsLongest (b ∷ y) (token (float (take (float_end (b ∷ y)) (b ∷ y)))) (float_end (b ∷ y))
+float_longest b y other begins hex is = record {
+  moves = omega (arith, some);
+  within = float_within (b ∷ y);
+  is = cut (float_end (b ∷ y)) (omega arith) (float_within (b ∷ y)) ∙ rw (eq-eqb (float_end (b ∷ y)) (float_end (b ∷ y)) refl) refl;
+  longest = λ m lt le. cut m (omega arith) le ∙ rw (not_same (float_end (b ∷ y)) m lt, no_integer (b ∷ y) m (omega (arith, some)) le) refl;
+} where
+  some : whole (b ∷ y) < float_end (b ∷ y)
+  some = more_than_digits (b ∷ y) is
+
+  cut : (m : ℕ) → float_end (b ∷ y) ≤ m → m ≤ length (b ∷ y) → piece_of (take m (b ∷ y)) ≡ option_map token (cond (float_end (b ∷ y) == m) (Some (float (take m (b ∷ y)))) (option_map int (int_of (take m (b ∷ y)))))
+  cut zero le within = absurd (omega (arith, some))
+  cut (suc m) le within =
+      piece_number b (take m y) other (begins-take b y m begins is le)
+      ∙ ap (option_map token) (decimal_text (b ∷ take m y) (float_end (b ∷ y) == suc m) (not_hex-take (b ∷ y) (suc m) hex) (float_text-take (b ∷ y) (suc m) is le within))
+
+-- ---- the number at the front
+
+hex_right : (b : ℕ) (y : Text) → IsOther b → is_in class.Digit b ≡ true → is_hex (b ∷ y) ≡ true → IsRight (b ∷ y) (number (b ∷ y))
+unfolding number
+hex_right b [] other starts hex = absurd (let h = (and_parts (eqb b 48) false hex).1 in cc)
+hex_right b (x ∷ []) other starts hex = absurd (let h = (and_parts (eqb x 120 || eqb x 88) false (and_parts (eqb b 48) _ hex).1).1 in cc)
+hex_right b (x ∷ c ∷ w) other starts hex =
+    let k = prefix_len (is_in class.Hex) (c ∷ w) in
+    let two : 2 + k ≡ suc (suc k) = omega arith in
+    let less : 2 + k - 2 ≡ k = omega arith in
+    rw (hex, less) (integer_right (b ∷ x ∷ c ∷ w) 2 (2 + k) (value 16 (take k (c ∷ w))) (rw two (long_hex b (x ∷ c ∷ w) other starts x c w refl hex)) (rw hex refl))
+
+module _ (b : ℕ) (y : Text) (other : IsOther b) (begins : begins_number (b ∷ y) ≡ true) where
+  starts : floats (b ∷ y) ≡ false → is_in class.Digit b ≡ true
+  starts plain = by (is_in class.Digit b) refl where
+    by : (v : Bool) → is_in class.Digit b ≡ v → is_in class.Digit b ≡ true
+    by true digit = digit
+    by false none =
+        let point = begins_with_point b y begins none in
+        absurd (let wrong : true ≡ false = sym (point_floats y point.1) ∙ subst (λ c. floats (c ∷ y) ≡ false) point.0 plain in cc)
+
+  octal_right : is_hex (b ∷ y) ≡ false → floats (b ∷ y) ≡ false → (b == 48) ≡ true → IsRight (b ∷ y) (octal (b ∷ y))
+  unfolding octal
+  octal_right hex plain nought =
+      let k = prefix_len (is_in class.Octal) y in
+      let one : 1 + k ≡ suc k = omega arith in
+      rw one (integer_right (b ∷ y) (min (suc k) 2 - 1) (suc k) (value 8 (take (suc k) (b ∷ y))) (long_octal b y other (starts plain) hex plain nought) (rw (hex, nought) refl))
+
+  decimal_right : is_hex (b ∷ y) ≡ false → floats (b ∷ y) ≡ false → (b == 48) ≡ false → IsRight (b ∷ y) (integer (b ∷ y) 0 (whole (b ∷ y)) (short (value 10 (take (whole (b ∷ y)) (b ∷ y)))))
+  decimal_right hex plain nought =
+      let k = prefix_len (is_in class.Digit) y in
+      let digit = starts plain in
+      let end : whole (b ∷ y) ≡ suc k = rw digit (omega arith) in
+      rw end (integer_right (b ∷ y) 0 (suc k) (value 10 (take (suc k) (b ∷ y))) (long_digits b y other digit hex plain nought) (rw (hex, nought) refl))
+
+  pub number_right : IsRight (b ∷ y) (number (b ∷ y))
+  unfolding number
+  number_right = by (is_hex (b ∷ y)) refl (floats (b ∷ y)) refl (b == 48) refl where
+    by : (h : Bool) → is_hex (b ∷ y) ≡ h → (f : Bool) → floats (b ∷ y) ≡ f → (o : Bool) → (b == 48) ≡ o → IsRight (b ∷ y) (number (b ∷ y))
+    by true hex f _ o _ = hex_right b y other (rw (eqb-true b 48 (and_parts (eqb b 48) _ hex).0) refl) hex
+    by false hex true is o _ = rw (hex, is) (float_longest b y other begins hex is, tt)
+    by false hex false plain true nought = rw (hex, plain, nought) (octal_right hex plain nought)
+    by false hex false plain false nought = rw (hex, plain, nought) (decimal_right hex plain nought)

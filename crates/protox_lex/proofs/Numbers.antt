@@ -1,10 +1,10 @@
 -- Where a number ends does not depend on what is cut off behind its end.
-use Rattle.std.proofs.Common.{◌≡◌, ◌≢◌, ℕ, zero, suc, ◌+◌, ◌-◌, ◌≤◌, ◌<◌, Bool, true, false, cond, eqb, ltb, ◌&&◌, ◌||◌, List, [], ◌∷◌, take, drop, get_or, length, ap, sym, subst, ◌∙◌, arith, refl, min, length-take, ◌⊎◌, inl, inr}
+use Rattle.std.proofs.Common.{◌≡◌, ◌≢◌, ℕ, zero, suc, ◌+◌, ◌-◌, ◌≤◌, ◌<◌, Bool, true, false, cond, eqb, ltb, ◌&&◌, ◌||◌, List, [], ◌∷◌, take, drop, get_or, length, ap, sym, subst, ◌∙◌, arith, refl, min, length-take, length-drop, ◌⊎◌, inl, inr}
 use Rattle.std.specs.Prelude.{slice_index, ◌==◌}
 use Rattle.std.specs.List.{prefix_len}
-use Rattle.std.proofs.lemmas.Bool.{cases_lt}
+use Rattle.std.proofs.lemmas.Bool.{cases_lt, eqb-true}
 use Rattle.std.proofs.lemmas.List.{get_or_past, get_or-take, get_or-drop}
-use Rattle.std.proofs.lemmas.List.Sums.{prefix_len_stops}
+use Rattle.std.proofs.lemmas.List.Sums.{prefix_len-le-length}
 use Rattle.protox_lex.specs.declared.class.Class.{Class}
 use Rattle.protox_lex.specs.declared.class.Class.TheVariants as class
 use Rattle.protox_lex.specs.Class.{Text, is_in, past}
@@ -54,7 +54,7 @@ exp_digit : (z : Text) (at : ℕ) → is_exponent_mark (slice_index z at) ≡ tr
 unfolding past_exponent
 exp_digit z at mark digit = rw (mark, digit) refl
 
-first_run : (p : ℕ → Bool) (w : Text) → p 0 ≡ false → p (get_or w 0 0) ≡ true → 1 ≤ prefix_len p w
+pub first_run : (p : ℕ → Bool) (w : Text) → p 0 ≡ false → p (get_or w 0 0) ≡ true → 1 ≤ prefix_len p w
 first_run p [] none is = absurd (cc)
 first_run p (b ∷ w) none is = rw is (omega arith)
 
@@ -122,7 +122,7 @@ exponent-take z at m low le = elim (cases_lt at m) [
   by false mark lt = exp_no_mark (take m z) at (ap is_exponent_mark (get_or-take m z at 0 lt) ∙ mark) ∙ sym (exp_no_mark z at mark)
   by true mark lt = elim (cases_lt (at + 1) m) [ inl more ↦ exponent_inside z at m more mark le | inr last ↦ exponent_last z at m (omega arith) le ]
 
-frac_point : (z : Text) (at : ℕ) → (slice_index z at == 46) ≡ true → past_fraction z at ≡ past_exponent z (past class.Digit z (at + 1))
+pub frac_point : (z : Text) (at : ℕ) → (slice_index z at == 46) ≡ true → past_fraction z at ≡ past_exponent z (past class.Digit z (at + 1))
 unfolding past_fraction
 frac_point z at point = rw point refl
 
@@ -151,3 +151,30 @@ fraction-take z at m low le = by (slice_index z at == 46) refl where
 
 pub fraction_cut : (z : Text) (m : ℕ) → past_fraction (take m z) m ≡ m
 fraction_cut z m = frac_none (take m z) m (ap (λ b. b == 46) (cut_off z m m (omega arith))) ∙ exponent_cut z m m (omega arith)
+
+-- ---- a number ends within the text
+
+-- a byte that is there
+within_text : (z : Text) (k c : ℕ) → get_or z k 0 ≡ suc c → k < length z
+within_text z k c e = elim (cases_lt k (length z)) [ inl lt ↦ lt | inr le ↦ absurd (let f = sym (get_or_past z k 0 le) ∙ e in omega (arith, f)) ]
+
+digit_within : (z : Text) (k : ℕ) → is_in class.Digit (slice_index z k) ≡ true → k < length z
+digit_within z k is = elim (cases_lt k (length z)) [ inl lt ↦ lt | inr le ↦ absurd (let f : is_in class.Digit 0 ≡ true = sym (ap (is_in class.Digit) (get_or_past z k 0 le)) ∙ is in cc) ]
+
+pub past_within : (c : Class) (z : Text) (at : ℕ) → at ≤ length z → past c z at ≤ length z
+past_within c z at le = omega (arith, prefix_len-le-length (is_in c) (drop at z), length-drop at z)
+
+pub exponent_within : (z : Text) (at : ℕ) → at ≤ length z → past_exponent z at ≤ length z
+exponent_within z at le = by (is_exponent_mark (slice_index z at)) refl (is_in class.Digit (slice_index z (exponent_digits z at))) refl where
+  by : (u : Bool) → is_exponent_mark (slice_index z at) ≡ u → (v : Bool) → is_in class.Digit (slice_index z (exponent_digits z at)) ≡ v → past_exponent z at ≤ length z
+  by false mark v _ = omega (arith, exp_no_mark z at mark)
+  by true mark false digit = omega (arith, exp_no_digit z at digit)
+  by true mark true digit = omega (arith, exp_digit z at mark digit, past_within class.Digit z (exponent_digits z at) (omega (arith, digit_within z (exponent_digits z at) digit)))
+
+pub fraction_within : (z : Text) (at : ℕ) → at ≤ length z → past_fraction z at ≤ length z
+fraction_within z at le = by (slice_index z at == 46) refl where
+  by : (u : Bool) → (slice_index z at == 46) ≡ u → past_fraction z at ≤ length z
+  by true point =
+      let here : at < length z = within_text z at 45 (eqb-true _ 46 point) in
+      omega (arith, frac_point z at point, exponent_within z (past class.Digit z (at + 1)) (past_within class.Digit z (at + 1) (omega arith)))
+  by false none = omega (arith, frac_none z at none, exponent_within z at le)
