@@ -1,21 +1,13 @@
--- An escape is what it is whatever stands behind the byte after it.
+-- An escape is the same whatever stands behind the byte after it.
 use Rattle.std.proofs.Common.{◌≡◌, ◌≢◌, ℕ, zero, suc, ◌+◌, ◌-◌, ◌≤◌, ◌<◌, Bool, true, false, cond, eqb, ltb, ◌&&◌, ◌||◌, Result, Option, Some, None, List, [], ◌∷◌, take, drop, get_or, length, Ok, Err, ap, sym, subst, ◌∙◌, arith, refl, min}
 use Rattle.std.specs.Prelude.{slice_index, ◌==◌, nat_lt}
 use Rattle.std.specs.List.{prefix_len}
 use Rattle.std.proofs.lemmas.Bool.{cases_lt, lt-ltb, le-ltb, ltb-true, ltb-false}
-use Rattle.std.proofs.lemmas.List.{take-take}
 use Rattle.protox_lex.specs.declared.class.Class.TheVariants as class
 use Rattle.protox_lex.specs.declared.escape.Meaning.{Meaning}
 use Rattle.protox_lex.specs.Class.{Text, is_in, past}
 use Rattle.protox_lex.specs.Lex.{Escaped, value, short, scalar, meant, byte_of, char_of, simple, simple_of, hex, octal_escape, unicode, escape}
-
-pub prefix_len-take : (p : ℕ → Bool) (y : Text) (m : ℕ) → prefix_len p (take m y) ≡ min m (prefix_len p y)
-prefix_len-take p y zero = omega arith
-prefix_len-take p [] (suc m) = omega arith
-prefix_len-take p (b ∷ y) (suc m) = by (p b) refl (prefix_len-take p y m) where
-  by : (v : Bool) → p b ≡ v → prefix_len p (take m y) ≡ min m (prefix_len p y) → prefix_len p (b ∷ take m y) ≡ min (suc m) (prefix_len p (b ∷ y))
-  by true e h = rw e (omega (arith, h))
-  by false e h = rw e (omega arith)
+use Rattle.protox_lex.proofs.Alike.{Alike, alike_back, alike_rest, alike_head, alike_cons, alike_none, alike_run, alike_front}
 
 byte_of_len : (o : Option ℕ) (n : ℕ) (x : Meaning × ℕ) → byte_of o n ≡ Ok x → x.1 ≡ n
 byte_of_len (Some v) n x e = by (nat_lt v 256) refl where
@@ -40,40 +32,48 @@ hex_len e y x h = by (e == 1) refl where
   by true t = absurd (let f = rw t at h in cc)
   by false t = byte_of_len (short (value 16 (take (e - 1) y))) e x (rw t at h)
 
-hex_take : (c : ℕ) (y : Text) (m : ℕ) (x : Meaning × ℕ) → hex (c ∷ y) ≡ Ok x → x.1 < suc m → hex (c ∷ take m y) ≡ hex (c ∷ y)
+hex_alike : (c : ℕ) (u v : Text) (m : ℕ) (x : Meaning × ℕ) → Alike m u v → hex (c ∷ u) ≡ Ok x → x.1 ≤ m → hex (c ∷ v) ≡ hex (c ∷ u)
 unfolding hex
-hex_take c y m x h lt =
-    let r = prefix_len (is_in class.Hex) y in
-    let e = min (1 + r) 3 in
-    let len : x.1 ≡ e = hex_len e y x h in
-    let same : min (1 + prefix_len (is_in class.Hex) (take m y)) 3 ≡ e = omega (arith, prefix_len-take (is_in class.Hex) y m, len) in
-    ap (λ k. hex_with k (take m y)) same ∙ ap (λ t. cond (e == 1) (Err 0) (byte_of (short (value 16 t)) e)) (take-take (e - 1) m y (omega (arith, len)))
+hex_alike c u v m x a h le =
+    let e = min (1 + prefix_len (is_in class.Hex) u) 3 in
+    let len : x.1 ≡ e = hex_len e u x h in
+    let same : min (1 + prefix_len (is_in class.Hex) v) 3 ≡ e = omega (arith, alike_run (is_in class.Hex) m u v a, len) in
+    ap (λ k. hex_with k v) same ∙ ap (λ t. cond (e == 1) (Err 0) (byte_of (short (value 16 t)) e)) (alike_front (e - 1) m v u (omega (arith, len)) (alike_back m u v a))
 
-octal_take : (c : ℕ) (y : Text) (m : ℕ) (x : Meaning × ℕ) → octal_escape (c ∷ y) ≡ Ok x → x.1 < suc m → octal_escape (c ∷ take m y) ≡ octal_escape (c ∷ y)
+octal_alike : (c : ℕ) (u v : Text) (m : ℕ) (x : Meaning × ℕ) → Alike m u v → octal_escape (c ∷ u) ≡ Ok x → x.1 ≤ m → octal_escape (c ∷ v) ≡ octal_escape (c ∷ u)
 unfolding octal_escape
-octal_take c y m x h lt =
-    let r = prefix_len (is_in class.Octal) (c ∷ y) in
-    let e = min (0 + r) 3 in
-    let len : x.1 ≡ e = byte_of_len (short (value 8 (take e (c ∷ y)))) e x h in
-    let same : min (0 + prefix_len (is_in class.Octal) (take (suc m) (c ∷ y))) 3 ≡ e = omega (arith, prefix_len-take (is_in class.Octal) (c ∷ y) (suc m), len) in
-    ap (λ k. byte_of (short (value 8 (take k (c ∷ take m y)))) k) same ∙ ap (λ t. byte_of (short (value 8 t)) e) (take-take e (suc m) (c ∷ y) (omega (arith, len)))
+octal_alike c u v m x a h le =
+    let e = min (0 + prefix_len (is_in class.Octal) (c ∷ u)) 3 in
+    let len : x.1 ≡ e = byte_of_len (short (value 8 (take e (c ∷ u)))) e x h in
+    let more = alike_cons m c u v a in
+    let same : min (0 + prefix_len (is_in class.Octal) (c ∷ v)) 3 ≡ e = omega (arith, alike_run (is_in class.Octal) (suc m) (c ∷ u) (c ∷ v) more, len) in
+    ap (λ k. byte_of (short (value 8 (take k (c ∷ v)))) k) same ∙ ap (λ t. byte_of (short (value 8 t)) e) (alike_front e (suc m) (c ∷ v) (c ∷ u) (omega (arith, len)) (alike_back (suc m) (c ∷ u) (c ∷ v) more))
 
-unicode_take : (c : ℕ) (y : Text) (d m : ℕ) (x : Meaning × ℕ) → unicode (c ∷ y) d ≡ Ok x → x.1 < suc m → unicode (c ∷ take m y) d ≡ unicode (c ∷ y) d
+unicode_alike : (c : ℕ) (u v : Text) (d m : ℕ) (x : Meaning × ℕ) → Alike m u v → unicode (c ∷ u) d ≡ Ok x → x.1 ≤ m → unicode (c ∷ v) d ≡ unicode (c ∷ u) d
 unfolding unicode
-unicode_take c y d m x h lt = by (ltb (1 + prefix_len (is_in class.Hex) y) (d + 1)) refl where
-  by : (b : Bool) → ltb (1 + prefix_len (is_in class.Hex) y) (d + 1) ≡ b → unicode (c ∷ take m y) d ≡ unicode (c ∷ y) d
+unicode_alike c u v d m x a h le = by (ltb (1 + prefix_len (is_in class.Hex) u) (d + 1)) refl where
+  by : (b : Bool) → ltb (1 + prefix_len (is_in class.Hex) u) (d + 1) ≡ b → unicode (c ∷ v) d ≡ unicode (c ∷ u) d
   by true t = absurd (let f = rw t at h in cc)
   by false t =
-      let len : x.1 ≡ d + 1 = char_of_len (short (value 16 (take d y))) (d + 1) x (rw t at h) in
-      let enough : ltb (1 + prefix_len (is_in class.Hex) (take m y)) (d + 1) ≡ false = le-ltb _ _ (omega (arith, prefix_len-take (is_in class.Hex) y m, len, ltb-false _ _ t)) in
-      rw (t, enough) (ap (λ s. char_of (short (value 16 s)) (d + 1)) (take-take d m y (omega (arith, len))))
+      let len : x.1 ≡ d + 1 = char_of_len (short (value 16 (take d u))) (d + 1) x (rw t at h) in
+      let enough : ltb (1 + prefix_len (is_in class.Hex) v) (d + 1) ≡ false = le-ltb _ _ (omega (arith, alike_run (is_in class.Hex) m u v a, len, ltb-false _ _ t)) in
+      rw (t, enough) (ap (λ s. char_of (short (value 16 s)) (d + 1)) (alike_front d m v u (omega (arith, len)) (alike_back m u v a)))
 
-pub escape_take : (c : ℕ) (y : Text) (m : ℕ) (x : Meaning × ℕ) → escape (c ∷ y) ≡ Ok x → x.1 < suc m → escape (c ∷ take m y) ≡ escape (c ∷ y)
+escape_behind : (c : ℕ) (u v : Text) (m : ℕ) (x : Meaning × ℕ) → Alike m u v → escape (c ∷ u) ≡ Ok x → x.1 ≤ m → escape (c ∷ v) ≡ escape (c ∷ u)
 unfolding escape
-escape_take c y m x h lt = by (c == 120 || c == 88) refl (c == 117) refl (c == 85) refl (is_in class.Octal c) refl where
-  by : (u : Bool) → (c == 120 || c == 88) ≡ u → (v : Bool) → (c == 117) ≡ v → (w : Bool) → (c == 85) ≡ w → (o : Bool) → is_in class.Octal c ≡ o → escape (c ∷ take m y) ≡ escape (c ∷ y)
-  by true a v _ w _ o _ = rw a (hex_take c y m x (rw a at h) lt)
-  by false a true b w _ o _ = rw (a, b) (unicode_take c y 4 m x (rw (a, b) at h) lt)
-  by false a false b true d o _ = rw (a, b, d) (unicode_take c y 8 m x (rw (a, b, d) at h) lt)
-  by false a false b false d true e = rw (a, b, d, e) (octal_take c y m x (rw (a, b, d, e) at h) lt)
-  by false a false b false d false e = rw (a, b, d, e) refl
+escape_behind c u v m x a h le = by (c == 120 || c == 88) refl (c == 117) refl (c == 85) refl (is_in class.Octal c) refl where
+  by : (u1 : Bool) → (c == 120 || c == 88) ≡ u1 → (u2 : Bool) → (c == 117) ≡ u2 → (u3 : Bool) → (c == 85) ≡ u3 → (u4 : Bool) → is_in class.Octal c ≡ u4 → escape (c ∷ v) ≡ escape (c ∷ u)
+  by true e1 u2 _ u3 _ u4 _ = rw e1 (hex_alike c u v m x a (rw e1 at h) le)
+  by false e1 true e2 u3 _ u4 _ = rw (e1, e2) (unicode_alike c u v 4 m x a (rw (e1, e2) at h) le)
+  by false e1 false e2 true e3 u4 _ = rw (e1, e2, e3) (unicode_alike c u v 8 m x a (rw (e1, e2, e3) at h) le)
+  by false e1 false e2 false e3 true e4 = rw (e1, e2, e3, e4) (octal_alike c u v m x a (rw (e1, e2, e3, e4) at h) le)
+  by false e1 false e2 false e3 false e4 = rw (e1, e2, e3, e4) refl
+
+-- an escape is the same in a text that has the same bytes up to the one behind it
+pub escape_alike : (u v : Text) (m : ℕ) (x : Meaning × ℕ) → Alike m u v → escape u ≡ Ok x → x.1 < m → escape v ≡ Ok x
+unfolding escape
+escape_alike u v zero x a h lt = absurd (omega arith)
+escape_alike [] v (suc m) x a h lt = absurd (cc)
+escape_alike (b ∷ u) [] (suc m) x a h lt = alike_none m b u a
+escape_alike (b ∷ u) (c ∷ v) (suc m) x a h lt =
+    ap (λ k. escape (k ∷ v)) (sym (alike_head m b c u v a)) ∙ escape_behind b u v m x (alike_rest m b c u v a) h (omega arith) ∙ h

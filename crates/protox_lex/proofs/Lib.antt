@@ -6,8 +6,10 @@ pub mod Contents
 pub mod Feeds
 pub mod Lengthened
 pub mod Runs
+pub mod Alike
 pub mod Cuts
 pub mod Escapes
+pub mod StringCuts
 pub mod Numbers
 pub mod Floats
 pub mod NumberCuts

@@ -9,7 +9,7 @@ use Rattle.protox_lex.specs.declared.class.Class.{Class}
 use Rattle.protox_lex.specs.declared.class.Class.TheVariants as class
 use Rattle.protox_lex.specs.Class.{Text, is_in, past}
 use Rattle.protox_lex.specs.Lex.{is_exponent_mark, exponent_digits, past_exponent, past_fraction}
-use Rattle.protox_lex.proofs.Escapes.{prefix_len-take}
+use Rattle.protox_lex.proofs.Alike.{prefix_len-take}
 
 drop-take : (at m : ℕ) (z : Text) → at ≤ m → drop at (take m z) ≡ take (m - at) (drop at z)
 drop-take zero m z le = let e : m - 0 ≡ m = omega arith in rw e refl
