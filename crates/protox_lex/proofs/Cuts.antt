@@ -1,4 +1,4 @@
--- The piece at the front is the longest that begins there.
+-- What is right of a cut, and words and white space.
 use Rattle.std.proofs.Common.{◌≡◌, ◌≢◌, ℕ, zero, suc, ◌+◌, ◌-◌, ◌^◌, ◌≤◌, ◌<◌, Bool, true, false, cond, eqb, ltb, ◌&&◌, ◌||◌, Result, Option, Some, None, List, [], ◌∷◌, take, drop, get_or, length, Ok, Err, ap, sym, subst, ◌∙◌, arith, refl, length-take, eq-eqb, ◌⊎◌, inl, inr, min}
 use Rattle.std.specs.Prelude.{slice_index, ◌==◌, option_map}
 use Rattle.std.specs.List.{prefix_len, list_all}
@@ -24,15 +24,15 @@ IsRight z (Err f) = IsFault z f.kind f.start f.end
 
 -- ---- what a piece that begins with b is
 
-piece_blank : (b : ℕ) (y : Text) → is_in class.Blank b ≡ true → piece_of (b ∷ y) ≡ if_all (list_all (is_in class.Blank) y) gap
+pub piece_blank : (b : ℕ) (y : Text) → is_in class.Blank b ≡ true → piece_of (b ∷ y) ≡ if_all (list_all (is_in class.Blank) y) gap
 unfolding piece_of
 piece_blank b y h = rw h refl
 
-record IsWord (b : ℕ) : Type 0 where
-  blank : is_in class.Blank b ≡ false
-  letter : is_in class.Letter b ≡ true
+pub record IsWord (b : ℕ) : Type 0 where
+  pub blank : is_in class.Blank b ≡ false
+  pub letter : is_in class.Letter b ≡ true
 
-piece_word : (b : ℕ) (y : Text) → IsWord b → piece_of (b ∷ y) ≡ if_all (list_all (is_in class.Word) y) (token (ident (b ∷ y)))
+pub piece_word : (b : ℕ) (y : Text) → IsWord b → piece_of (b ∷ y) ≡ if_all (list_all (is_in class.Word) y) (token (ident (b ∷ y)))
 unfolding piece_of
 piece_word b y h = rw (h.blank, h.letter) refl
 
@@ -40,159 +40,8 @@ pub record IsOther (b : ℕ) : Type 0 where
   pub blank : is_in class.Blank b ≡ false
   pub letter : is_in class.Letter b ≡ false
 
-pub piece_hash : (y : Text) → piece_of (35 ∷ y) ≡ if_all (is_line y) (token comment)
-unfolding piece_of
-piece_hash y = refl
-
-pub piece_comment : (y : Text) → piece_of (47 ∷ 47 ∷ y) ≡ if_all (list_all (is_in class.Line) y) gap
-unfolding piece_of
-piece_comment y = refl
-
-pub piece_block : (y : Text) → piece_of (47 ∷ 42 ∷ y) ≡ if_all (is_block y) gap
-unfolding piece_of
-piece_block y = refl
-
--- ---- comments to the end of a line
-
-line_whole-step : (b : ℕ) (y : Text) (m : ℕ) (v : Bool) → is_in class.Line b ≡ v → suc m ≤ suc (prefix_len (is_in class.Line) (b ∷ y)) → (m ≤ suc (prefix_len (is_in class.Line) y) → is_line (take m y) ≡ true) → is_line (b ∷ take m y) ≡ true
-line_whole-step b y m true line le later =
-    let more : suc m ≤ suc (1 + prefix_len (is_in class.Line) y) = rw line at le in
-    rw line (later (omega arith))
-line_whole-step b y m false line le later =
-    let none : suc m ≤ 1 = rw line at le in
-    let e : m ≡ 0 = omega arith in
-    rw (line, e) refl
-
-line_whole : (y : Text) (m : ℕ) → m ≤ suc (prefix_len (is_in class.Line) y) → is_line (take m y) ≡ true
-line_whole [] zero le = refl
-line_whole [] (suc m) le = refl
-line_whole (b ∷ y) zero le = refl
-line_whole (b ∷ y) (suc m) le = line_whole-step b y m (is_in class.Line b) refl le (line_whole y m)
-
-not_empty-take : (m : ℕ) (y : Text) → 0 < m → m ≤ length y → is_empty (take m y) ≡ false
-not_empty-take zero y some le = absurd (omega arith)
-not_empty-take (suc m) [] some le = absurd (omega arith)
-not_empty-take (suc m) (c ∷ y) some le = refl
-
-line_more-step : (b : ℕ) (y : Text) (m : ℕ) (v : Bool) → is_in class.Line b ≡ v → suc (prefix_len (is_in class.Line) (b ∷ y)) < suc m → m ≤ length y → (suc (prefix_len (is_in class.Line) y) < m → is_line (take m y) ≡ false) → is_line (b ∷ take m y) ≡ false
-line_more-step b y m true line lt le later =
-    let more : suc (1 + prefix_len (is_in class.Line) y) < suc m = rw line at lt in
-    rw line (later (omega arith))
-line_more-step b y m false line lt le later =
-    let some : 1 < suc m = rw line at lt in
-    rw line (not_empty-take m y (omega arith) le)
-
-line_more : (y : Text) (m : ℕ) → suc (prefix_len (is_in class.Line) y) < m → m ≤ length y → is_line (take m y) ≡ false
-line_more [] m lt le = absurd (omega arith)
-line_more (b ∷ y) zero lt le = absurd (omega arith)
-line_more (b ∷ y) (suc m) lt le = line_more-step b y m (is_in class.Line b) refl lt (omega arith) (λ h. line_more y m h (omega arith))
-
-hash_to : (y : Text) (n : ℕ) → n ≤ length y → n ≤ suc (prefix_len (is_in class.Line) y) → ((m : ℕ) → n < m → m ≤ length y → suc (prefix_len (is_in class.Line) y) < m) → IsLongest (35 ∷ y) (token comment) (suc n)
-hash_to y n within whole past = record {
-  moves = omega arith;
-  within = omega arith;
-  is = piece_hash (take n y) ∙ ap (λ v. if_all v (token comment)) (line_whole y n whole);
-  longest = longer;
-} where
-  longer : (m : ℕ) → suc n < m → m ≤ length (35 ∷ y) → piece_of (take m (35 ∷ y)) ≡ None
-  longer zero lt le = absurd (omega arith)
-  longer (suc m) lt le = piece_hash (take m y) ∙ ap (λ v. if_all v (token comment)) (line_more y m (past m (omega arith) (omega arith)) (omega arith))
-
-hash_longest : (y : Text) → IsLongest (35 ∷ y) (token comment) (past_line (35 ∷ y))
-hash_longest y = elim (cases_lt (1 + prefix_len (is_in class.Line) y) (length (35 ∷ y))) [
-  | inl lt ↦
-      let two : 1 + prefix_len (is_in class.Line) y + 1 ≡ suc (suc (prefix_len (is_in class.Line) y)) = omega arith in
-      rw (lt-ltb (1 + prefix_len (is_in class.Line) y) (length (35 ∷ y)) lt, two) (hash_to y (suc (prefix_len (is_in class.Line) y)) (omega arith) (omega arith) (λ m h le. h))
-  | inr le ↦
-      let one : 1 + prefix_len (is_in class.Line) y ≡ suc (prefix_len (is_in class.Line) y) = omega arith in
-      rw (le-ltb (1 + prefix_len (is_in class.Line) y) (length (35 ∷ y)) le, one) (hash_to y (prefix_len (is_in class.Line) y) (prefix_len-le-length (is_in class.Line) y) (omega arith) (λ m h l. absurd (omega arith)))
-]
-
--- ---- block comments
-
-comment_len-take-step : (b c : ℕ) (y : Text) (m : ℕ) (v : Bool) → is_comment_mark b c ≡ v → comment_len (b ∷ c ∷ y) + 1 < suc (suc m) → (comment_len (c ∷ y) + 1 < suc m → comment_len (c ∷ take m y) ≡ comment_len (c ∷ y)) → comment_len (b ∷ c ∷ take m y) ≡ comment_len (b ∷ c ∷ y)
-comment_len-take-step b c y m true mark lt later = rw mark refl
-comment_len-take-step b c y m false mark lt later =
-    let less : suc (comment_len (c ∷ y)) + 1 < suc (suc m) = rw mark at lt in
-    rw mark (ap suc (later (omega arith)))
-
-comment_len-take : (y : Text) (m : ℕ) → comment_len y + 1 < m → comment_len (take m y) ≡ comment_len y
-comment_len-take y zero lt = absurd (omega arith)
-comment_len-take [] (suc m) lt = refl
-comment_len-take (b ∷ []) (suc zero) lt = refl
-comment_len-take (b ∷ []) (suc (suc m)) lt = refl
-comment_len-take (b ∷ c ∷ y) (suc zero) lt = absurd (omega arith)
-comment_len-take (b ∷ c ∷ y) (suc (suc m)) lt = comment_len-take-step b c y m (is_comment_mark b c) refl lt (comment_len-take (c ∷ y) (suc m))
-
--- what stands where the text of a block comment ends
-abbrev MarkAt : Text → ℕ → Type 0
-MarkAt y k = is_comment_mark (get_or y k 0) (get_or y (suc k) 0) ≡ true
-
-comment_mark-step : (b : ℕ) (y : Text) (v : Bool) → is_comment_mark b (slice_index y 0) ≡ v → comment_len (b ∷ y) < length (b ∷ y) → (comment_len y < length y → MarkAt y (comment_len y)) → MarkAt (b ∷ y) (comment_len (b ∷ y))
-comment_mark-step b y true mark lt later = rw mark mark
-comment_mark-step b y false mark lt later =
-    let less : suc (comment_len y) < length (b ∷ y) = rw mark at lt in
-    rw mark (later (omega arith))
-
-comment_mark : (y : Text) → comment_len y < length y → MarkAt y (comment_len y)
-comment_mark [] lt = absurd (omega arith)
-comment_mark (b ∷ y) lt = comment_mark-step b y (is_comment_mark b (slice_index y 0)) refl lt (comment_mark y)
-
-nonzero_within : (y : Text) (k c : ℕ) → get_or y k 0 ≡ suc c → k < length y
-nonzero_within y k c e = elim (cases_lt k (length y)) [ inl lt ↦ lt | inr le ↦ absurd (let f = sym (get_or_past y k 0 le) ∙ e in omega (arith, f)) ]
-
-block_is : (x : Text) (k : ℕ) → comment_len x ≡ k → length x ≡ suc (suc k) → get_or x k 0 ≡ 42 → is_block x ≡ true
-block_is x k b l e = let same : eqb (k + 2) (suc (suc k)) ≡ true = eq-eqb (k + 2) (suc (suc k)) (omega arith) in rw (b, l, e, same) refl
-
 pub not_same : (a b : ℕ) → a < b → eqb a b ≡ false
 not_same a b lt = by (eqb a b) refl where
   by : (v : Bool) → eqb a b ≡ v → eqb a b ≡ false
   by true e = absurd (omega (arith, eqb-true a b e))
   by false e = e
-
-block_is_not : (x : Text) (k : ℕ) → comment_len x ≡ k → suc (suc k) < length x → is_block x ≡ false
-block_is_not x k b lt = let other : eqb (k + 2) (length x) ≡ false = not_same (k + 2) (length x) (omega arith) in rw (b, other) refl
-
--- `*` is followed by `/`, and the other way round
-after_star : (b c : ℕ) → is_comment_mark b c ≡ true → b ≡ 42 → c ≡ 47
-after_star b c mark e = by (eqb c 47) refl (rw e at mark) where
-  by : (v : Bool) → eqb c 47 ≡ v → is_comment_mark 42 c ≡ true → c ≡ 47
-  by true f mark = eqb-true c 47 f
-  by false f mark = absurd (let g = rw f at mark in cc)
-
-block_longest : (y : Text) (k : ℕ) → comment_len y ≡ k → get_or y k 0 ≡ 42 → IsLongest (47 ∷ 42 ∷ y) gap (suc (suc (suc (suc k))))
-block_longest y k is star = record {
-  moves = omega arith;
-  within = omega (arith, room);
-  is = piece_block (take (suc (suc k)) y) ∙ ap (λ v. if_all v gap) (block_is (take (suc (suc k)) y) k (cut (suc (suc k)) (omega arith)) (omega (arith, length-take (suc (suc k)) y, room)) (get_or-take (suc (suc k)) y k 0 (omega arith) ∙ star));
-  longest = longer;
-} where
-  here : k < length y
-  here = nonzero_within y k 41 star
-
-  room : suc k < length y
-  room = nonzero_within y (suc k) 46 (after_star (get_or y k 0) (get_or y (suc k) 0) (subst (λ i. MarkAt y i) is (comment_mark y (omega (arith, is, here)))) star)
-
-  cut : (m : ℕ) → suc k < m → comment_len (take m y) ≡ k
-  cut m lt = comment_len-take y m (omega (arith, is)) ∙ is
-
-  longer : (m : ℕ) → suc (suc (suc (suc k))) < m → m ≤ length (47 ∷ 42 ∷ y) → piece_of (take m (47 ∷ 42 ∷ y)) ≡ None
-  longer zero lt le = absurd (omega arith)
-  longer (suc zero) lt le = absurd (omega arith)
-  longer (suc (suc m)) lt le = piece_block (take m y) ∙ ap (λ v. if_all v gap) (block_is_not (take m y) k (cut m (omega arith)) (omega (arith, length-take m y)))
-
-block_right : (y : Text) → IsRight (47 ∷ 42 ∷ y) (block_comment (47 ∷ 42 ∷ y))
-unfolding block_comment
-block_right y = by (eqb (get_or y (comment_len y) 0) 42) refl (eqb (get_or y (comment_len y) 0) 47) refl where
-  two : 2 + comment_len y ≡ suc (suc (comment_len y))
-  two = omega arith
-
-  no_mark : (get_or y (comment_len y) 0 == 42) ≡ false → (get_or y (comment_len y) 0 == 47) ≡ false → length y ≤ comment_len y
-  no_mark star slash = elim (cases_lt (comment_len y) (length y)) [ inl lt ↦ absurd (let mark = rw (star, slash) at (comment_mark y lt) in cc) | inr le ↦ le ]
-
-  by : (u : Bool) → (get_or y (comment_len y) 0 == 42) ≡ u → (v : Bool) → (get_or y (comment_len y) 0 == 47) ≡ v → IsRight (47 ∷ 42 ∷ y) (block_comment (47 ∷ 42 ∷ y))
-  by true star v _ =
-      let four : suc (suc (comment_len y)) + 2 ≡ suc (suc (suc (suc (comment_len y)))) = omega arith in
-      rw (two, star, four) (block_longest y (comment_len y) refl (eqb-true _ 42 star), tt)
-  by false star true slash = rw (two, star, slash) (y, refl, (eqb-true _ 47 slash, omega arith, omega arith))
-  by false star false slash = rw (two, star, slash) (y, refl, (no_mark star slash, refl, refl))

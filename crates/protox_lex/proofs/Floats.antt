@@ -22,7 +22,7 @@ end_of z = past_fraction z (whole z)
 abbrev pub floats : Text → Bool
 floats z = is_float z (whole z) (end_of z)
 
-and_false : (b : Bool) → (b && false) ≡ false
+pub and_false : (b : Bool) → (b && false) ≡ false
 and_false true = refl
 and_false false = refl
 

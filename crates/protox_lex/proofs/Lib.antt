@@ -8,6 +8,8 @@ pub mod Lengthened
 pub mod Runs
 pub mod Alike
 pub mod Cuts
+pub mod CommentCuts
+pub mod Fronts
 pub mod Escapes
 pub mod StringCuts
 pub mod Numbers
