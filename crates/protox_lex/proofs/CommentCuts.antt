@@ -11,6 +11,7 @@ use Rattle.protox_lex.specs.declared.error.LexErrorKind.{LexErrorKind}
 use Rattle.protox_lex.specs.declared.error.LexErrorKind.TheVariants as kinds
 use Rattle.protox_lex.specs.declared.front.Flaw.{Flaw}
 use Rattle.protox_lex.specs.declared.token.Sign.{Sign}
+use Rattle.protox_lex.specs.declared.token.Sign.TheVariants as signs
 use Rattle.protox_lex.specs.Class.{Text, is_in, past}
 use Rattle.protox_lex.specs.Token.{Token, ident, int, float, str, sign, comment, Piece, gap, token}
 use Rattle.protox_lex.specs.Lex.{Cut, flaw, is_hex, begins_number, value, short, integer, octal, number, is_float, past_exponent, past_fraction, past_suffix, float_to, word_to, contents_len, closed, unclosed, quoted, is_comment_mark, comment_len, block_comment, past_line, sign_of, signed, front}
@@ -172,3 +173,23 @@ block_right y = by (eqb (get_or y (comment_len y) 0) 42) refl (eqb (get_or y (co
       rw (two, star, four) (block_longest y (comment_len y) refl (eqb-true _ 42 star), tt)
   by false star true slash = rw (two, star, slash) (y, refl, (eqb-true _ 47 slash, omega arith, omega arith))
   by false star false slash = rw (two, star, slash) (y, refl, (no_mark star slash, refl, refl))
+
+-- ---- a piece that begins with `/*`
+
+pub slash_piece : (y : Text) → piece_of (take 1 (47 ∷ y)) ≡ Some (token (sign signs.ForwardSlash))
+unfolding piece_of
+slash_piece y = refl
+
+-- such a piece is the sign alone, or a comment whose text ends at `*/`
+pub block_closed : (y : Text) (p : Piece) (n : ℕ) → IsLongest (47 ∷ 42 ∷ y) p n → (p ≡ token (sign signs.ForwardSlash)) ⊎ (p ≡ gap) × (slice_index y (comment_len y) ≡ 42)
+block_closed y p zero l = absurd (omega (arith, l.moves))
+block_closed y p (suc zero) l = inl (let e : Some (token (sign signs.ForwardSlash)) ≡ Some p = sym (slash_piece (42 ∷ y)) ∙ l.is in cc)
+block_closed y p (suc (suc m)) l = by _ refl (sym (piece_block (take m y)) ∙ l.is) where
+  by : (v : Bool) → (eqb (comment_len (take m y) + 2) (length (take m y)) && eqb (slice_index (take m y) (comment_len (take m y))) 42) ≡ v → if_all v gap ≡ Some p → (p ≡ token (sign signs.ForwardSlash)) ⊎ (p ≡ gap) × (slice_index y (comment_len y) ≡ 42)
+  by false h e = absurd (cc)
+  by true h e =
+      let x = take m y in
+      let both = and_parts (eqb (comment_len x + 2) (length x)) (eqb (slice_index x (comment_len x)) 42) h in
+      let less : comment_len x + 1 < m = omega (arith, eqb-true (comment_len x + 2) (length x) both.0, length-take m y) in
+      let same : comment_len y ≡ comment_len x = comment_alike x y m (alike-take m y) less in
+      inr (cc, ap (slice_index y) same ∙ sym (alike_at (comment_len x) m x y (omega arith) (alike-take m y)) ∙ eqb-true _ 42 both.1)

@@ -15,3 +15,5 @@ pub mod StringCuts
 pub mod Numbers
 pub mod Floats
 pub mod NumberCuts
+pub mod Lexing
+pub mod OneReading

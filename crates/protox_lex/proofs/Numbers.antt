@@ -155,7 +155,7 @@ fraction_cut z m = frac_none (take m z) m (ap (λ b. b == 46) (cut_off z m m (om
 -- ---- a number ends within the text
 
 -- a byte that is there
-within_text : (z : Text) (k c : ℕ) → get_or z k 0 ≡ suc c → k < length z
+pub within_text : (z : Text) (k c : ℕ) → get_or z k 0 ≡ suc c → k < length z
 within_text z k c e = elim (cases_lt k (length z)) [ inl lt ↦ lt | inr le ↦ absurd (let f = sym (get_or_past z k 0 le) ∙ e in omega (arith, f)) ]
 
 digit_within : (z : Text) (k : ℕ) → is_in class.Digit (slice_index z k) ≡ true → k < length z
