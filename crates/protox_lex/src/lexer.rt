@@ -48,12 +48,13 @@ pub struct Lexer<'a> {
 }
 
 impl<'a> Lexer<'a> {
-    ghost use Rattle.protox_lex.specs.Lex.{lexemes};
+    ghost use Rattle.protox_lex.specs.Longest.{Lexes};
     ghost use Rattle.protox_lex.specs.Shown.{stream, token_of};
     ghost use Rattle.protox_lex.specs.Unread.{unread};
 
+    /// A lexer at the front of a source, whose tokens are those that the longest match cuts it into (`laws`).
     pub fn new(source: &'a str) -> Lexer<'a>
-        ensures { stream result ≡ lexemes source.now }
+        ensures { Lexes 0 source.now (stream result) }
     {
         Lexer {
             source: source.as_bytes(),

@@ -6,6 +6,7 @@ mod comments;
 mod error;
 mod escape;
 mod front;
+pub mod laws;
 mod lexer;
 mod lines;
 mod literal;

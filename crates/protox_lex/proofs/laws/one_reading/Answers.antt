@@ -1,0 +1,5 @@
+use Rattle.protox_lex.proofs.OneReading.{one_list}
+use Rattle.protox_lex.proofs.laws.one_reading.Goals as goal
+
+pub returns : goal.returns
+returns c = one_list

@@ -1,0 +1,19 @@
+//! Laws of a source's tokens, each the contract of a function that does nothing.
+//!
+//! `Lexes at z ts` says that the text `z`, which begins at the place `at`, is cut into the tokens `ts` by the longest match. `Lexer::new` gives a
+//! lexer whose tokens are those of its source, and `Lexer::next` gives them one after the other; by `one_reading` there are no others.
+ghost use Rattle.protox_lex.specs.Class.{Text};
+ghost use Rattle.protox_lex.specs.Lex.{lexemes};
+ghost use Rattle.protox_lex.specs.Longest.{Lexes};
+ghost use Rattle.protox_lex.specs.Token.{Lexeme};
+ghost use Rattle.std.specs.Prelude.{◌≡◌, ℕ, List};
+
+/// Each text is cut by the longest match, up to its first fault: `lexemes` finds the tokens.
+pub fn tokens_are_longest()
+    ensures { (z : Text) → Lexes 0 z (lexemes z) }
+{}
+
+/// A text is cut by the longest match in one way, and has one first fault at most.
+pub fn one_reading()
+    ensures { (at : ℕ) (z : Text) (ts us : List Lexeme) → Lexes at z ts → Lexes at z us → ts ≡ us }
+{}
