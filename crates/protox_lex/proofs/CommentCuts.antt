@@ -108,7 +108,7 @@ comment_alike (b ∷ u) (c ∷ v) (suc m) a lt =
     ap (λ k. comment_len (k ∷ v)) (sym (alike_head m b c u v a)) ∙ comment_alike-step b c u v m (is_comment_mark b (slice_index u 0)) refl (alike_at 0 m u v (omega arith) r) lt (comment_alike u v m r)
 
 -- what stands where the text of a block comment ends
-abbrev MarkAt : Text → ℕ → Type 0
+abbrev pub MarkAt : Text → ℕ → Type 0
 MarkAt y k = is_comment_mark (get_or y k 0) (get_or y (suc k) 0) ≡ true
 
 comment_mark-step : (b : ℕ) (y : Text) (v : Bool) → is_comment_mark b (slice_index y 0) ≡ v → comment_len (b ∷ y) < length (b ∷ y) → (comment_len y < length y → MarkAt y (comment_len y)) → MarkAt (b ∷ y) (comment_len (b ∷ y))
@@ -117,21 +117,21 @@ comment_mark-step b y false mark lt later =
     let less : suc (comment_len y) < length (b ∷ y) = rw mark at lt in
     rw mark (later (omega arith))
 
-comment_mark : (y : Text) → comment_len y < length y → MarkAt y (comment_len y)
+pub comment_mark : (y : Text) → comment_len y < length y → MarkAt y (comment_len y)
 comment_mark [] lt = absurd (omega arith)
 comment_mark (b ∷ y) lt = comment_mark-step b y (is_comment_mark b (slice_index y 0)) refl lt (comment_mark y)
 
 nonzero_within : (y : Text) (k c : ℕ) → get_or y k 0 ≡ suc c → k < length y
 nonzero_within y k c e = elim (cases_lt k (length y)) [ inl lt ↦ lt | inr le ↦ absurd (let f = sym (get_or_past y k 0 le) ∙ e in omega (arith, f)) ]
 
-block_is : (x : Text) (k : ℕ) → comment_len x ≡ k → length x ≡ suc (suc k) → get_or x k 0 ≡ 42 → is_block x ≡ true
+pub block_is : (x : Text) (k : ℕ) → comment_len x ≡ k → length x ≡ suc (suc k) → get_or x k 0 ≡ 42 → is_block x ≡ true
 block_is x k b l e = let same : eqb (k + 2) (suc (suc k)) ≡ true = eq-eqb (k + 2) (suc (suc k)) (omega arith) in rw (b, l, e, same) refl
 
 block_is_not : (x : Text) (k : ℕ) → comment_len x ≡ k → suc (suc k) < length x → is_block x ≡ false
 block_is_not x k b lt = let other : eqb (k + 2) (length x) ≡ false = not_same (k + 2) (length x) (omega arith) in rw (b, other) refl
 
 -- `*` is followed by `/`, and the other way round
-after_star : (b c : ℕ) → is_comment_mark b c ≡ true → b ≡ 42 → c ≡ 47
+pub after_star : (b c : ℕ) → is_comment_mark b c ≡ true → b ≡ 42 → c ≡ 47
 after_star b c mark e = by (eqb c 47) refl (rw e at mark) where
   by : (v : Bool) → eqb c 47 ≡ v → is_comment_mark 42 c ≡ true → c ≡ 47
   by true f mark = eqb-true c 47 f

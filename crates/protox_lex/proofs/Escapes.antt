@@ -9,14 +9,14 @@ use Rattle.protox_lex.specs.Class.{Text, is_in, past}
 use Rattle.protox_lex.specs.Lex.{Escaped, value, short, scalar, meant, byte_of, char_of, simple, simple_of, hex, octal_escape, unicode, escape}
 use Rattle.protox_lex.proofs.Alike.{Alike, alike_back, alike_rest, alike_head, alike_cons, alike_none, alike_run, alike_front}
 
-byte_of_len : (o : Option ℕ) (n : ℕ) (x : Meaning × ℕ) → byte_of o n ≡ Ok x → x.1 ≡ n
+pub byte_of_len : (o : Option ℕ) (n : ℕ) (x : Meaning × ℕ) → byte_of o n ≡ Ok x → x.1 ≡ n
 byte_of_len (Some v) n x e = by (nat_lt v 256) refl where
   by : (b : Bool) → nat_lt v 256 ≡ b → x.1 ≡ n
   by true t = let f = rw t at e in cc
   by false t = absurd (let f = rw t at e in cc)
 byte_of_len None n x e = absurd (cc)
 
-char_of_len : (o : Option ℕ) (n : ℕ) (x : Meaning × ℕ) → char_of o n ≡ Ok x → x.1 ≡ n
+pub char_of_len : (o : Option ℕ) (n : ℕ) (x : Meaning × ℕ) → char_of o n ≡ Ok x → x.1 ≡ n
 char_of_len (Some v) n x e = by (scalar v) refl where
   by : (s : Option ℕ) → scalar v ≡ s → x.1 ≡ n
   by (Some c) t = let f : meant (Some c) n ≡ Ok x = ap (λ s. meant s n) (sym t) ∙ e in cc
@@ -26,7 +26,7 @@ char_of_len None n x e = absurd (cc)
 abbrev hex_with : ℕ → Text → Escaped
 hex_with e y = cond (e == 1) (Err 0) (byte_of (short (value 16 (take (e - 1) y))) e)
 
-hex_len : (e : ℕ) (y : Text) (x : Meaning × ℕ) → hex_with e y ≡ Ok x → x.1 ≡ e
+pub hex_len : (e : ℕ) (y : Text) (x : Meaning × ℕ) → hex_with e y ≡ Ok x → x.1 ≡ e
 hex_len e y x h = by (e == 1) refl where
   by : (b : Bool) → (e == 1) ≡ b → x.1 ≡ e
   by true t = absurd (let f = rw t at h in cc)

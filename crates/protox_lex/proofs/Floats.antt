@@ -68,7 +68,7 @@ float_text_not z m none = both_false (floats (take m z)) _ (elim (cases_lt (whol
 abbrev pub float_end : Text → ℕ
 float_end z = past_suffix z (end_of z)
 
-suffix_cases : (z : Text) (at : ℕ) → (is_suffix (slice_index z at) ≡ true) × (past_suffix z at ≡ at + 1) ⊎ (is_suffix (slice_index z at) ≡ false) × (past_suffix z at ≡ at)
+pub suffix_cases : (z : Text) (at : ℕ) → (is_suffix (slice_index z at) ≡ true) × (past_suffix z at ≡ at + 1) ⊎ (is_suffix (slice_index z at) ≡ false) × (past_suffix z at ≡ at)
 suffix_cases z at = by (is_suffix (slice_index z at)) refl where
   by : (v : Bool) → is_suffix (slice_index z at) ≡ v → (is_suffix (slice_index z at) ≡ true) × (past_suffix z at ≡ at + 1) ⊎ (is_suffix (slice_index z at) ≡ false) × (past_suffix z at ≡ at)
   by true h = inl (h, rw h refl)
@@ -168,7 +168,7 @@ begins_with_point b y begins none =
     let both = and_parts (eqb b 46) (is_in class.Digit (slice_index y 0)) (rw none at begins) in
     (eqb-true b 46 both.0, both.1)
 
-point_end : (y : Text) → is_in class.Digit (slice_index y 0) ≡ true → 2 ≤ end_of (46 ∷ y)
+pub point_end : (y : Text) → is_in class.Digit (slice_index y 0) ≡ true → 2 ≤ end_of (46 ∷ y)
 point_end y digit =
     let run : 1 ≤ prefix_len (is_in class.Digit) y = first_run (is_in class.Digit) y refl digit in
     omega (arith, run, frac_point (46 ∷ y) 0 refl, exponent-least (46 ∷ y) (past class.Digit (46 ∷ y) 1))

@@ -17,3 +17,6 @@ pub mod Floats
 pub mod NumberCuts
 pub mod Lexing
 pub mod OneReading
+pub mod FloatSpelling
+pub mod StringSpelling
+pub mod CommentSpelling

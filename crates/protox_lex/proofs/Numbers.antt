@@ -39,18 +39,18 @@ exponent-least z at = by (is_exponent_mark (slice_index z at)) refl (is_in class
   by true mark true digit false sign = rw (mark, digit, sign) (omega arith)
 
 -- the ways in which an exponent is read
-exp_no_mark : (z : Text) (at : ℕ) → is_exponent_mark (slice_index z at) ≡ false → past_exponent z at ≡ at
+pub exp_no_mark : (z : Text) (at : ℕ) → is_exponent_mark (slice_index z at) ≡ false → past_exponent z at ≡ at
 unfolding past_exponent
 exp_no_mark z at mark = rw mark refl
 
-exp_no_digit : (z : Text) (at : ℕ) → is_in class.Digit (slice_index z (exponent_digits z at)) ≡ false → past_exponent z at ≡ at
+pub exp_no_digit : (z : Text) (at : ℕ) → is_in class.Digit (slice_index z (exponent_digits z at)) ≡ false → past_exponent z at ≡ at
 unfolding past_exponent
 exp_no_digit z at digit = by (is_exponent_mark (slice_index z at)) refl where
   by : (u : Bool) → is_exponent_mark (slice_index z at) ≡ u → past_exponent z at ≡ at
   by true mark = rw (mark, digit) refl
   by false mark = rw mark refl
 
-exp_digit : (z : Text) (at : ℕ) → is_exponent_mark (slice_index z at) ≡ true → is_in class.Digit (slice_index z (exponent_digits z at)) ≡ true → past_exponent z at ≡ past class.Digit z (exponent_digits z at)
+pub exp_digit : (z : Text) (at : ℕ) → is_exponent_mark (slice_index z at) ≡ true → is_in class.Digit (slice_index z (exponent_digits z at)) ≡ true → past_exponent z at ≡ past class.Digit z (exponent_digits z at)
 unfolding past_exponent
 exp_digit z at mark digit = rw (mark, digit) refl
 
@@ -126,7 +126,7 @@ pub frac_point : (z : Text) (at : ℕ) → (slice_index z at == 46) ≡ true →
 unfolding past_fraction
 frac_point z at point = rw point refl
 
-frac_none : (z : Text) (at : ℕ) → (slice_index z at == 46) ≡ false → past_fraction z at ≡ past_exponent z at
+pub frac_none : (z : Text) (at : ℕ) → (slice_index z at == 46) ≡ false → past_fraction z at ≡ past_exponent z at
 unfolding past_fraction
 frac_none z at point = rw point refl
 

@@ -25,7 +25,7 @@ reaches q (suc left) (b ∷ y) some e = omega (arith, reaches q left y some e)
 abbrev unit_with : Bool → Escaped → Bool → ℕ
 unit_with s o p = cond s (escape_len o) (cond p 1 0)
 
-first_unit : (q b : ℕ) (y : Text) (s : Bool) (o : Escaped) (p : Bool) → (b == 92) ≡ s → escape y ≡ o → is_plain q b ≡ p → contents_from q zero (b ∷ y) ≡ after_unit (unit_with s o p) (λ n. contents_from q n y)
+pub first_unit : (q b : ℕ) (y : Text) (s : Bool) (o : Escaped) (p : Bool) → (b == 92) ≡ s → escape y ≡ o → is_plain q b ≡ p → contents_from q zero (b ∷ y) ≡ after_unit (unit_with s o p) (λ n. contents_from q n y)
 unfolding contents_from
 first_unit q b y s o p slash esc plain = rw (plain, slash, esc) refl
 
@@ -102,7 +102,7 @@ quoted_within q y k is e = by (one_quote q is) (cases_lt k (length y)) where
   by (inl f) (inr le) = absurd (let g = sym (get_or_past y k 0 le) ∙ e in omega (arith, f, g))
   by (inr f) (inr le) = absurd (let g = sym (get_or_past y k 0 le) ∙ e in omega (arith, f, g))
 
-literal_is : (q : ℕ) (x : Text) (k : ℕ) → contents_len q x ≡ k → length x ≡ suc k → slice_index x k ≡ q → literal_of q x ≡ Some (take k x)
+pub literal_is : (q : ℕ) (x : Text) (k : ℕ) → contents_len q x ≡ k → length x ≡ suc k → slice_index x k ≡ q → literal_of q x ≡ Some (take k x)
 literal_is q x k n l e =
     let same : eqb (k + 1) (suc k) ≡ true = eq-eqb (k + 1) (suc k) (omega arith) in
     let here : eqb q q ≡ true = eq-eqb q q refl in

@@ -8,4 +8,5 @@ pub mod Lines
 pub mod Resolver
 pub mod Signed
 pub mod Blocks
+pub mod Spelled
 pub mod Longest
