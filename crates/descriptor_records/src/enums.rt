@@ -1,5 +1,8 @@
+ghost use Rattle.std.specs.Prelude.{◌≡◌};
+ghost use Rattle.descriptor_records.specs.Content.{enum_value_view, enum_view};
+
 use crate::options::Options;
-use std::alloc::Global;
+use std::alloc::{AllocError, Global};
 
 /// An enum type.
 #[derive(PartialEq, Debug, Drop)]
@@ -37,4 +40,33 @@ pub struct EnumValueDescriptorProto {
 pub struct EnumReservedRange {
     pub start: Option<i32>,
     pub end: Option<i32>,
+}
+
+impl Clone for EnumDescriptorProto {
+    ghost is_clone = { λ a b. enum_view b ≡ enum_view a };
+
+    fn clone(&self) -> Result<EnumDescriptorProto, AllocError> {
+        Ok(EnumDescriptorProto {
+            name: self.name.clone()?,
+            value: self.value.clone()?,
+            options: self.options.clone()?,
+            reserved_range: Vec::from_slice(
+                *self.reserved_range.allocator(),
+                &self.reserved_range,
+            )?,
+            reserved_name: self.reserved_name.clone()?,
+        })
+    }
+}
+
+impl Clone for EnumValueDescriptorProto {
+    ghost is_clone = { λ a b. enum_value_view b ≡ enum_value_view a };
+
+    fn clone(&self) -> Result<EnumValueDescriptorProto, AllocError> {
+        Ok(EnumValueDescriptorProto {
+            name: self.name.clone()?,
+            number: self.number,
+            options: self.options.clone()?,
+        })
+    }
 }

@@ -1,4 +1,8 @@
+ghost use Rattle.std.specs.Prelude.{◌≡◌};
+ghost use Rattle.descriptor_records.specs.Content.{field_view, oneof_view};
+
 use crate::options::Options;
+use std::alloc::AllocError;
 
 /// A field, or an extension.
 #[derive(PartialEq, Debug, Drop)]
@@ -126,5 +130,36 @@ impl FieldType {
             18 => Some(FieldType::Sint64),
             _ => None,
         }
+    }
+}
+
+impl Clone for FieldDescriptorProto {
+    ghost is_clone = { λ a b. field_view b ≡ field_view a };
+
+    fn clone(&self) -> Result<FieldDescriptorProto, AllocError> {
+        Ok(FieldDescriptorProto {
+            name: self.name.clone()?,
+            number: self.number,
+            label: self.label,
+            field_type: self.field_type,
+            type_name: self.type_name.clone()?,
+            extendee: self.extendee.clone()?,
+            default_value: self.default_value.clone()?,
+            oneof_index: self.oneof_index,
+            json_name: self.json_name.clone()?,
+            options: self.options.clone()?,
+            proto3_optional: self.proto3_optional,
+        })
+    }
+}
+
+impl Clone for OneofDescriptorProto {
+    ghost is_clone = { λ a b. oneof_view b ≡ oneof_view a };
+
+    fn clone(&self) -> Result<OneofDescriptorProto, AllocError> {
+        Ok(OneofDescriptorProto {
+            name: self.name.clone()?,
+            options: self.options.clone()?,
+        })
     }
 }

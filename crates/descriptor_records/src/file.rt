@@ -1,10 +1,13 @@
+ghost use Rattle.std.specs.Prelude.{◌≡◌};
+ghost use Rattle.descriptor_records.specs.Content.{file_view, set_view};
+
 use crate::enums::EnumDescriptorProto;
 use crate::field::FieldDescriptorProto;
-use crate::message::DescriptorProto;
+use crate::message::{DescriptorProto, clone_messages};
 use crate::options::Options;
 use crate::service::ServiceDescriptorProto;
 use crate::source_info::SourceCodeInfo;
-use std::alloc::Global;
+use std::alloc::{AllocError, Global};
 
 /// Files that belong together, as `protoc --descriptor_set_out` writes them.
 #[derive(PartialEq, Debug, Drop)]
@@ -51,5 +54,36 @@ impl FileDescriptorProto {
             source_code_info: None,
             syntax: None,
         }
+    }
+}
+
+impl Clone for FileDescriptorSet {
+    ghost is_clone = { λ a b. set_view b ≡ set_view a };
+
+    fn clone(&self) -> Result<FileDescriptorSet, AllocError> {
+        Ok(FileDescriptorSet {
+            file: self.file.clone()?,
+        })
+    }
+}
+
+impl Clone for FileDescriptorProto {
+    ghost is_clone = { λ a b. file_view b ≡ file_view a };
+
+    fn clone(&self) -> Result<FileDescriptorProto, AllocError> {
+        Ok(FileDescriptorProto {
+            name: self.name.clone()?,
+            package: self.package.clone()?,
+            dependency: self.dependency.clone()?,
+            public_dependency: self.public_dependency.clone()?,
+            weak_dependency: self.weak_dependency.clone()?,
+            message_type: clone_messages(&self.message_type)?,
+            enum_type: self.enum_type.clone()?,
+            service: self.service.clone()?,
+            extension: self.extension.clone()?,
+            options: self.options.clone()?,
+            source_code_info: self.source_code_info.clone()?,
+            syntax: self.syntax.clone()?,
+        })
     }
 }

@@ -1,7 +1,10 @@
+ghost use Rattle.std.specs.Prelude.{◌≡◌, IfOk, map};
+ghost use Rattle.descriptor_records.specs.Content.{extension_range_view, message_view};
+
 use crate::enums::EnumDescriptorProto;
 use crate::field::{FieldDescriptorProto, OneofDescriptorProto};
 use crate::options::Options;
-use std::alloc::Global;
+use std::alloc::{AllocError, Global};
 
 /// A message type, with the types that are declared in it.
 #[derive(PartialEq, Debug, Drop)]
@@ -35,6 +38,40 @@ impl DescriptorProto {
             reserved_name: Vec::new(alloc),
         }
     }
+
+    /// A copy, with the same content.
+    #[cycle(clone)]
+    pub fn clone(&self) -> Result<DescriptorProto, AllocError>
+        ensures { IfOk result (λ m. message_view m ≡ message_view self.now) }
+    {
+        Ok(DescriptorProto {
+            name: self.name.clone()?,
+            field: self.field.clone()?,
+            extension: self.extension.clone()?,
+            nested_type: clone_messages(&self.nested_type)?,
+            enum_type: self.enum_type.clone()?,
+            extension_range: self.extension_range.clone()?,
+            oneof_decl: self.oneof_decl.clone()?,
+            options: self.options.clone()?,
+            reserved_range: Vec::from_slice(
+                *self.reserved_range.allocator(),
+                &self.reserved_range,
+            )?,
+            reserved_name: self.reserved_name.clone()?,
+        })
+    }
+}
+
+/// Copies of message types, with the same content.
+#[cycle(clone)]
+pub fn clone_messages(messages: &Vec<DescriptorProto>) -> Result<Vec<DescriptorProto>, AllocError>
+    ensures { IfOk result (λ ms. map message_view ms.items ≡ map message_view messages.now.items) }
+{
+    let mut copies = Vec::with_capacity(*messages.allocator(), messages.len())?;
+    for message in messages {
+        copies.push(message.clone()?)?;
+    }
+    Ok(copies)
 }
 
 /// Field numbers that extensions may take: from `start`, below `end`.
@@ -50,4 +87,16 @@ pub struct ExtensionRange {
 pub struct ReservedRange {
     pub start: Option<i32>,
     pub end: Option<i32>,
+}
+
+impl Clone for ExtensionRange {
+    ghost is_clone = { λ a b. extension_range_view b ≡ extension_range_view a };
+
+    fn clone(&self) -> Result<ExtensionRange, AllocError> {
+        Ok(ExtensionRange {
+            start: self.start,
+            end: self.end,
+            options: self.options.clone()?,
+        })
+    }
 }

@@ -1,4 +1,8 @@
-use std::alloc::Global;
+ghost use Rattle.std.specs.Prelude.{◌≡◌};
+ghost use Rattle.descriptor_records.specs.Content.{double_view, name_view, option_view, options_view};
+
+use std::alloc::{AllocError, Global};
+
 /// The options of one declaration, of whatever kind it is.
 ///
 /// A declaration's options are a message of a type that `descriptor.proto` defines and that anyone may extend. So they are
@@ -74,4 +78,56 @@ pub enum DoubleValue {
     Text(String),
     /// The 64 bits of a descriptor set.
     Bits(u64),
+}
+
+impl Clone for Options {
+    ghost is_clone = { λ a b. options_view b ≡ options_view a };
+
+    fn clone(&self) -> Result<Options, AllocError> {
+        Ok(Options {
+            encoded: self.encoded.clone()?,
+            packed: self.packed,
+            allow_alias: self.allow_alias,
+            map_entry: self.map_entry,
+            uninterpreted_option: self.uninterpreted_option.clone()?,
+        })
+    }
+}
+
+impl Clone for UninterpretedOption {
+    ghost is_clone = { λ a b. option_view b ≡ option_view a };
+
+    fn clone(&self) -> Result<UninterpretedOption, AllocError> {
+        Ok(UninterpretedOption {
+            name: self.name.clone()?,
+            identifier_value: self.identifier_value.clone()?,
+            positive_int_value: self.positive_int_value,
+            negative_int_value: self.negative_int_value,
+            double_value: self.double_value.clone()?,
+            string_value: self.string_value.clone()?,
+            aggregate_value: self.aggregate_value.clone()?,
+        })
+    }
+}
+
+impl Clone for NamePart {
+    ghost is_clone = { λ a b. name_view b ≡ name_view a };
+
+    fn clone(&self) -> Result<NamePart, AllocError> {
+        Ok(NamePart {
+            name_part: self.name_part.clone()?,
+            is_extension: self.is_extension,
+        })
+    }
+}
+
+impl Clone for DoubleValue {
+    ghost is_clone = { λ a b. double_view b ≡ double_view a };
+
+    fn clone(&self) -> Result<DoubleValue, AllocError> {
+        match self {
+            DoubleValue::Text(text) => Ok(DoubleValue::Text(text.clone()?)),
+            DoubleValue::Bits(bits) => Ok(DoubleValue::Bits(*bits)),
+        }
+    }
 }

@@ -1,3 +1,8 @@
+ghost use Rattle.std.specs.Prelude.{◌≡◌};
+ghost use Rattle.descriptor_records.specs.Content.{source_info_view, location_view};
+
+use std::alloc::AllocError;
+
 /// Where the declarations of a file stand in its source.
 #[derive(PartialEq, Debug, Drop)]
 pub struct SourceCodeInfo {
@@ -14,4 +19,28 @@ pub struct Location {
     pub leading_comments: Option<String>,
     pub trailing_comments: Option<String>,
     pub leading_detached_comments: Vec<String>,
+}
+
+impl Clone for SourceCodeInfo {
+    ghost is_clone = { λ a b. source_info_view b ≡ source_info_view a };
+
+    fn clone(&self) -> Result<SourceCodeInfo, AllocError> {
+        Ok(SourceCodeInfo {
+            location: self.location.clone()?,
+        })
+    }
+}
+
+impl Clone for Location {
+    ghost is_clone = { λ a b. location_view b ≡ location_view a };
+
+    fn clone(&self) -> Result<Location, AllocError> {
+        Ok(Location {
+            path: self.path.clone()?,
+            span: self.span.clone()?,
+            leading_comments: self.leading_comments.clone()?,
+            trailing_comments: self.trailing_comments.clone()?,
+            leading_detached_comments: self.leading_detached_comments.clone()?,
+        })
+    }
 }
