@@ -15,7 +15,9 @@ use Rattle.protox_lex.specs.declared.token.Sign.TheVariants as signs
 use Rattle.protox_lex.specs.Class.{Text, is_in, past}
 use Rattle.protox_lex.specs.Token.{Token, ident, int, float, str, sign, comment, Piece, gap, token}
 use Rattle.protox_lex.specs.Lex.{Cut, flaw, is_hex, begins_number, value, short, integer, octal, number, is_float, past_exponent, past_fraction, past_suffix, float_to, word_to, contents_len, closed, unclosed, quoted, is_comment_mark, comment_len, block_comment, past_line, sign_of, signed, front}
-use Rattle.protox_lex.specs.Longest.{if_all, is_empty, is_float_text, int_of, number_of, literal_of, is_block, is_line, piece_of, IsLongest, IsAlone, IsFault}
+use Rattle.protox_lex.specs.Spelled.{is_empty, is_line}
+use Rattle.protox_lex.specs.Longest.{IsAlone}
+use Rattle.protox_lex.proofs.Pieces.{if_all, is_float_text, int_of, number_of, literal_of, is_block, piece_of, IsCut, IsFlaw}
 use Rattle.protox_lex.proofs.Alike.{Alike, alike_back, alike_rest, alike_head, alike_none, alike_at, alike-take}
 use Rattle.protox_lex.proofs.Cuts.{IsRight, not_same}
 use Rattle.protox_lex.proofs.Runs.{longest_run, longest_run_behind, GoesOn}
@@ -67,7 +69,7 @@ line_more [] m lt le = absurd (omega arith)
 line_more (b ∷ y) zero lt le = absurd (omega arith)
 line_more (b ∷ y) (suc m) lt le = line_more-step b y m (is_in class.Line b) refl lt (omega arith) (λ h. line_more y m h (omega arith))
 
-hash_to : (y : Text) (n : ℕ) → n ≤ length y → n ≤ suc (prefix_len (is_in class.Line) y) → ((m : ℕ) → n < m → m ≤ length y → suc (prefix_len (is_in class.Line) y) < m) → IsLongest (35 ∷ y) (token comment) (suc n)
+hash_to : (y : Text) (n : ℕ) → n ≤ length y → n ≤ suc (prefix_len (is_in class.Line) y) → ((m : ℕ) → n < m → m ≤ length y → suc (prefix_len (is_in class.Line) y) < m) → IsCut (35 ∷ y) (token comment) (suc n)
 hash_to y n within whole past = record {
   moves = omega arith;
   within = omega arith;
@@ -78,7 +80,7 @@ hash_to y n within whole past = record {
   longer zero lt le = absurd (omega arith)
   longer (suc m) lt le = piece_hash (take m y) ∙ ap (λ v. if_all v (token comment)) (line_more y m (past m (omega arith) (omega arith)) (omega arith))
 
-pub hash_longest : (y : Text) → IsLongest (35 ∷ y) (token comment) (past_line (35 ∷ y))
+pub hash_longest : (y : Text) → IsCut (35 ∷ y) (token comment) (past_line (35 ∷ y))
 hash_longest y = elim (cases_lt (1 + prefix_len (is_in class.Line) y) (length (35 ∷ y))) [
   | inl lt ↦
       let two : 1 + prefix_len (is_in class.Line) y + 1 ≡ suc (suc (prefix_len (is_in class.Line) y)) = omega arith in
@@ -137,7 +139,7 @@ after_star b c mark e = by (eqb c 47) refl (rw e at mark) where
   by true f mark = eqb-true c 47 f
   by false f mark = absurd (let g = rw f at mark in cc)
 
-block_longest : (y : Text) (k : ℕ) → comment_len y ≡ k → get_or y k 0 ≡ 42 → IsLongest (47 ∷ 42 ∷ y) gap (suc (suc (suc (suc k))))
+block_longest : (y : Text) (k : ℕ) → comment_len y ≡ k → get_or y k 0 ≡ 42 → IsCut (47 ∷ 42 ∷ y) gap (suc (suc (suc (suc k))))
 block_longest y k is star = record {
   moves = omega arith;
   within = omega (arith, room);
@@ -181,7 +183,7 @@ unfolding piece_of
 slash_piece y = refl
 
 -- such a piece is the sign alone, or a comment whose text ends at `*/`
-pub block_closed : (y : Text) (p : Piece) (n : ℕ) → IsLongest (47 ∷ 42 ∷ y) p n → (p ≡ token (sign signs.ForwardSlash)) ⊎ (p ≡ gap) × (slice_index y (comment_len y) ≡ 42)
+pub block_closed : (y : Text) (p : Piece) (n : ℕ) → IsCut (47 ∷ 42 ∷ y) p n → (p ≡ token (sign signs.ForwardSlash)) ⊎ (p ≡ gap) × (slice_index y (comment_len y) ≡ 42)
 block_closed y p zero l = absurd (omega (arith, l.moves))
 block_closed y p (suc zero) l = inl (let e : Some (token (sign signs.ForwardSlash)) ≡ Some p = sym (slash_piece (42 ∷ y)) ∙ l.is in cc)
 block_closed y p (suc (suc m)) l = by _ refl (sym (piece_block (take m y)) ∙ l.is) where

@@ -7,7 +7,7 @@ use Rattle.std.proofs.Math.Seq.{get_or-append_seam, take-length}
 use Rattle.protox_lex.specs.Class.{Text}
 use Rattle.protox_lex.specs.Lex.{is_comment_mark, comment_len}
 use Rattle.protox_lex.specs.Spelled.{Unmarked, IsBlock}
-use Rattle.protox_lex.specs.Longest.{is_block}
+use Rattle.protox_lex.proofs.Pieces.{is_block}
 use Rattle.protox_lex.proofs.CommentCuts.{comment_mark, after_star, block_is}
 
 abbrev mark_at : Text → ℕ → Bool

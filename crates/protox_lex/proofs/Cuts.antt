@@ -14,13 +14,15 @@ use Rattle.protox_lex.specs.declared.token.Sign.{Sign}
 use Rattle.protox_lex.specs.Class.{Text, is_in, past}
 use Rattle.protox_lex.specs.Token.{Token, ident, int, float, str, sign, comment, Piece, gap, token}
 use Rattle.protox_lex.specs.Lex.{Cut, flaw, is_hex, begins_number, value, short, integer, octal, number, is_float, past_exponent, past_fraction, past_suffix, float_to, word_to, contents_len, closed, unclosed, quoted, is_comment_mark, comment_len, block_comment, past_line, sign_of, signed, front}
-use Rattle.protox_lex.specs.Longest.{if_all, is_empty, is_float_text, int_of, number_of, literal_of, is_block, is_line, piece_of, IsLongest, IsAlone, IsFault}
+use Rattle.protox_lex.specs.Spelled.{is_empty, is_line}
+use Rattle.protox_lex.specs.Longest.{IsAlone}
+use Rattle.protox_lex.proofs.Pieces.{if_all, is_float_text, int_of, number_of, literal_of, is_block, piece_of, IsCut, IsFlaw}
 use Rattle.protox_lex.proofs.Runs.{longest_run, longest_run_behind, GoesOn}
 
 -- what is cut is the longest piece, or a fault that is there
 abbrev pub IsRight : Text → Cut → Type 0
-IsRight z (Ok x) = IsLongest z x.0 x.1 × IsAlone z x.0 x.1
-IsRight z (Err f) = IsFault z f.kind f.start f.end
+IsRight z (Ok x) = IsCut z x.0 x.1 × IsAlone z x.0 x.1
+IsRight z (Err f) = IsFlaw z f.kind f.start f.end
 
 -- ---- what a piece that begins with b is
 

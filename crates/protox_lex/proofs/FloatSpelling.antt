@@ -11,7 +11,7 @@ use Rattle.protox_lex.specs.declared.class.Class.TheVariants as class
 use Rattle.protox_lex.specs.Class.{Text, is_in, past}
 use Rattle.protox_lex.specs.Lex.{begins_number, is_float, is_suffix, is_exponent_mark, exponent_digits, past_exponent, past_fraction, past_suffix}
 use Rattle.protox_lex.specs.Spelled.{IsDecimals, IsExponent, unsigned, signed, Maybe, IsFloatLit, with_point, with_exponent, from_point, IsDecLit, IsFloat, plain, with_suffix}
-use Rattle.protox_lex.specs.Longest.{is_float_text}
+use Rattle.protox_lex.proofs.Pieces.{is_float_text}
 use Rattle.protox_lex.proofs.Runs.{all_of_run}
 use Rattle.protox_lex.proofs.Numbers.{exp_no_mark, exp_no_digit, exp_digit, frac_point, frac_none, fraction-least, first_run}
 use Rattle.protox_lex.proofs.Floats.{whole, end_of, floats, begins_with_point, suffix_cases, point_end, and_false}
@@ -61,7 +61,7 @@ fraction_behind a r k = by (slice_index r k == 46) refl where
 
 -- ---- what is spelled is read
 
-run_front : (p : ℕ → Bool) (a r : Text) → list_all p a ≡ true → prefix_len p r ≡ 0 → prefix_len p (a ++ r) ≡ length a
+pub run_front : (p : ℕ → Bool) (a r : Text) → list_all p a ≡ true → prefix_len p r ≡ 0 → prefix_len p (a ++ r) ≡ length a
 run_front p [] r all none = none
 run_front p (b ∷ a) r all none =
     let both = and_parts (p b) (list_all p a) all in
@@ -71,11 +71,11 @@ first_not : (p : ℕ → Bool) (r : Text) → p (slice_index r 0) ≡ false → 
 first_not p [] e = refl
 first_not p (b ∷ r) e = rw e refl
 
-first_is : (a r : Text) → 0 < length a → slice_index (a ++ r) 0 ≡ slice_index a 0
+pub first_is : (a r : Text) → 0 < length a → slice_index (a ++ r) 0 ≡ slice_index a 0
 first_is [] r some = absurd (omega arith)
 first_is (b ∷ a) r some = refl
 
-first_digit : (a : Text) → IsDecimals a → is_in class.Digit (slice_index a 0) ≡ true
+pub first_digit : (a : Text) → IsDecimals a → is_in class.Digit (slice_index a 0) ≡ true
 first_digit [] d = absurd (omega (arith, d.some))
 first_digit (b ∷ a) d = (and_parts (is_in class.Digit b) (list_all (is_in class.Digit) a) d.digits).0
 

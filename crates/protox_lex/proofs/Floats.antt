@@ -8,7 +8,7 @@ use Rattle.protox_lex.specs.declared.class.Class.{Class}
 use Rattle.protox_lex.specs.declared.class.Class.TheVariants as class
 use Rattle.protox_lex.specs.Class.{Text, is_in, past}
 use Rattle.protox_lex.specs.Lex.{begins_number, value, is_float, is_suffix, is_exponent_mark, exponent_digits, past_exponent, past_fraction, past_suffix}
-use Rattle.protox_lex.specs.Longest.{if_all, is_float_text, int_of}
+use Rattle.protox_lex.proofs.Pieces.{if_all, is_float_text, int_of}
 use Rattle.protox_lex.proofs.Runs.{more_than_run}
 use Rattle.protox_lex.proofs.Numbers.{past-take, past_within, cut_off, fraction-take, fraction-least, fraction_within, fraction_cut, exponent-least, frac_point, first_run}
 
@@ -26,7 +26,7 @@ pub and_false : (b : Bool) → (b && false) ≡ false
 and_false true = refl
 and_false false = refl
 
-both_false : (a b : Bool) → a ≡ false → (a && b) ≡ false
+pub both_false : (a b : Bool) → a ≡ false → (a && b) ≡ false
 both_false a b e = rw e refl
 
 -- a text that is not read as a float has no point and no exponent behind its digits
@@ -42,7 +42,7 @@ no_suffix z none = by (ltb (whole z) (end_of z)) refl where
   by true less = absurd (let f = rw less at none in cc)
   by false le = ap (λ k. (not (slice_index z 0 == 48) || whole z == 1) && is_suffix (slice_index z k)) (sym (ends_whole z none)) ∙ (rw le at none)
 
-floats_at : (x : Text) (k : ℕ) → whole x ≡ k → past_fraction x k ≡ k → floats x ≡ ((not (slice_index x 0 == 48) || k == 1) && is_suffix (slice_index x k))
+pub floats_at : (x : Text) (k : ℕ) → whole x ≡ k → past_fraction x k ≡ k → floats x ≡ ((not (slice_index x 0 == 48) || k == 1) && is_suffix (slice_index x k))
 floats_at x k w e =
     let l : ltb k k ≡ false = le-ltb k k (omega arith) in
     ap (λ j. is_float x j (past_fraction x j)) w ∙ ap (λ j. is_float x k j) e ∙ ap (λ b. b || ((not (slice_index x 0 == 48) || k == 1) && is_suffix (slice_index x k))) l
@@ -130,7 +130,7 @@ float_text-take z m is le within =
 octal_is_digit : (b : ℕ) → is_in class.Octal b ≡ true → is_in class.Digit b ≡ true
 octal_is_digit b h = grind arith
 
-octals_are_digits : (x : Text) → list_all (is_in class.Octal) x ≡ true → list_all (is_in class.Digit) x ≡ true
+pub octals_are_digits : (x : Text) → list_all (is_in class.Octal) x ≡ true → list_all (is_in class.Digit) x ≡ true
 octals_are_digits [] h = refl
 octals_are_digits (b ∷ x) h =
     let parts = and_parts (is_in class.Octal b) (list_all (is_in class.Octal) x) h in

@@ -9,25 +9,27 @@ use Rattle.protox_lex.specs.declared.token.Sign.{Sign}
 use Rattle.protox_lex.specs.Class.{Text, is_in}
 use Rattle.protox_lex.specs.Token.{Token, ident, sign, Piece, gap, token}
 use Rattle.protox_lex.specs.Lex.{begins_number, sign_of, signed, past_line, front}
-use Rattle.protox_lex.specs.Longest.{piece_of, IsLongest, IsAlone, IsFault, opens_block}
+use Rattle.protox_lex.specs.Longest.{IsAlone, opens_block}
+use Rattle.protox_lex.specs.Spelled.{is_quote}
+use Rattle.protox_lex.proofs.Pieces.{piece_of, IsCut, IsFlaw}
 use Rattle.protox_lex.proofs.Runs.{longest_run, longest_run_behind}
 use Rattle.protox_lex.proofs.Cuts.{IsRight, IsOther, IsWord, piece_blank, piece_word}
 use Rattle.protox_lex.proofs.CommentCuts.{piece_comment, hash_longest, block_right}
 use Rattle.protox_lex.proofs.NumberCuts.{number_right}
-use Rattle.protox_lex.proofs.StringCuts.{is_quote, quoted_right}
+use Rattle.protox_lex.proofs.StringCuts.{quoted_right}
 use Rattle.protox_lex.proofs.Floats.{and_false}
 
 -- ---- signs
 
 -- the byte begins no piece that is not a sign or a comment of `/`
-record IsMark (b : ℕ) : Type 0 where
-  blank : is_in class.Blank b ≡ false
-  letter : is_in class.Letter b ≡ false
-  digit : is_in class.Digit b ≡ false
-  quote : is_quote b ≡ false
-  hash : (b == 35) ≡ false
+pub record IsMark (b : ℕ) : Type 0 where
+  pub blank : is_in class.Blank b ≡ false
+  pub letter : is_in class.Letter b ≡ false
+  pub digit : is_in class.Digit b ≡ false
+  pub quote : is_quote b ≡ false
+  pub hash : (b == 35) ≡ false
 
-piece_sign : (b : ℕ) → IsMark b → piece_of (b ∷ []) ≡ option_map (λ s. token (sign s)) (sign_of b)
+pub piece_sign : (b : ℕ) → IsMark b → piece_of (b ∷ []) ≡ option_map (λ s. token (sign s)) (sign_of b)
 unfolding piece_of
 piece_sign b h = rw (h.blank, h.letter, h.digit, h.quote, h.hash, and_false (b == 46), and_false (b == 47)) refl
 
@@ -69,15 +71,15 @@ module _ (b : ℕ) (y : Text) (is : IsMark b) (only : IsApart b (slice_index y 0
 
 -- ---- comments
 
-line_longest : (b : ℕ) (y : Text) → (b == 47 && slice_index y 0 == 47) ≡ true → IsLongest (b ∷ y) gap (2 + prefix_len (is_in class.Line) (drop 1 y))
+line_longest : (b : ℕ) (y : Text) → (b == 47 && slice_index y 0 == 47) ≡ true → IsCut (b ∷ y) gap (2 + prefix_len (is_in class.Line) (drop 1 y))
 line_longest b [] h = absurd (let both = and_parts (b == 47) false h in let wrong : false ≡ true = both.1 in cc)
 line_longest b (c ∷ y) h =
     let both = and_parts (b == 47) (c == 47) h in
     let start : b ∷ c ∷ y ≡ 47 ∷ 47 ∷ y = ap (λ k. k ∷ c ∷ y) (eqb-true b 47 both.0) ∙ ap (λ k. 47 ∷ k ∷ y) (eqb-true c 47 both.1) in
     let two : 2 + prefix_len (is_in class.Line) y ≡ suc (suc (prefix_len (is_in class.Line) y)) = omega arith in
-    rw two (subst (λ z. IsLongest z gap (suc (suc (prefix_len (is_in class.Line) y)))) (sym start) (longest_run_behind (is_in class.Line) y (λ x. gap) 47 47 (λ m h. piece_comment (take m y))))
+    rw two (subst (λ z. IsCut z gap (suc (suc (prefix_len (is_in class.Line) y)))) (sym start) (longest_run_behind (is_in class.Line) y (λ x. gap) 47 47 (λ m h. piece_comment (take m y))))
 
-block_begins : (b : ℕ) (y : Text) → (b == 47 && slice_index y 0 == 42) ≡ true → (x : Text) × (b ∷ y ≡ 47 ∷ 42 ∷ x)
+pub block_begins : (b : ℕ) (y : Text) → (b == 47 && slice_index y 0 == 42) ≡ true → (x : Text) × (b ∷ y ≡ 47 ∷ 42 ∷ x)
 block_begins b [] h = absurd (let both = and_parts (b == 47) false h in let wrong : false ≡ true = both.1 in cc)
 block_begins b (c ∷ x) h =
     let both = and_parts (b == 47) (c == 42) h in

@@ -5,6 +5,7 @@ pub mod Streams
 pub mod Contents
 pub mod Feeds
 pub mod Lengthened
+pub mod Pieces
 pub mod Runs
 pub mod Alike
 pub mod Cuts
@@ -15,8 +16,10 @@ pub mod StringCuts
 pub mod Numbers
 pub mod Floats
 pub mod NumberCuts
-pub mod Lexing
-pub mod OneReading
 pub mod FloatSpelling
 pub mod StringSpelling
 pub mod CommentSpelling
+pub mod PieceSpelling
+pub mod Faults
+pub mod Lexing
+pub mod OneReading

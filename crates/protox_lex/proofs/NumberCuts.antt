@@ -10,14 +10,15 @@ use Rattle.protox_lex.specs.declared.error.LexErrorKind.TheVariants as kinds
 use Rattle.protox_lex.specs.Class.{Text, is_in, past}
 use Rattle.protox_lex.specs.Token.{Token, int, float, Piece, token}
 use Rattle.protox_lex.specs.Lex.{is_hex, begins_number, value, short, integer, octal, number, is_float, is_suffix, past_fraction, past_suffix, float_to}
-use Rattle.protox_lex.specs.Longest.{if_all, is_float_text, int_of, number_of, piece_of, IsLongest, prefix_of}
+use Rattle.protox_lex.specs.Longest.{prefix_of}
+use Rattle.protox_lex.proofs.Pieces.{if_all, is_float_text, int_of, number_of, piece_of, IsCut}
 use Rattle.protox_lex.proofs.Runs.{longest_run, longest_run_behind, GoesOn, more_than_run}
 use Rattle.protox_lex.proofs.Cuts.{IsRight, not_same, IsOther}
 use Rattle.protox_lex.proofs.Floats.{whole, end_of, floats, float_text_not, float_end, more_than_digits, float_text-take, no_integer, float_within, begins_with_point, point_floats, begins-take}
 
 -- ---- what a piece that begins with a number is
 
-piece_number : (b : ℕ) (y : Text) → IsOther b → begins_number (b ∷ y) ≡ true → piece_of (b ∷ y) ≡ option_map token (number_of (b ∷ y))
+pub piece_number : (b : ℕ) (y : Text) → IsOther b → begins_number (b ∷ y) ≡ true → piece_of (b ∷ y) ≡ option_map token (number_of (b ∷ y))
 unfolding piece_of
 piece_number b y h begins = rw (h.blank, h.letter, begins) refl
 
@@ -45,7 +46,7 @@ not_hex-take (a ∷ b ∷ c ∷ z) (suc (suc (suc m))) h = h
 size_cases : (v : ℕ) → ((v < 2 ^ 64) × (short v ≡ Some v)) ⊎ ((2 ^ 64 ≤ v) × (short v ≡ None))
 size_cases v = elim (cases_lt v (2 ^ 64)) [ inl lt ↦ inl (lt, rw (lt-ltb v (2 ^ 64) lt) refl) | inr le ↦ inr (le, rw (le-ltb v (2 ^ 64) le) refl) ]
 
-integer_right : (z : Text) (start end v : ℕ) → IsLongest z (token (int v)) end → start ≡ prefix_of z end → IsRight z (integer z start end (short v))
+integer_right : (z : Text) (start end v : ℕ) → IsCut z (token (int v)) end → start ≡ prefix_of z end → IsRight z (integer z start end (short v))
 integer_right z start end v l first = by (is_in class.Letter (slice_index z end)) refl (size_cases v) where
   by : (u : Bool) → is_in class.Letter (slice_index z end) ≡ u → ((v < 2 ^ 64) × (short v ≡ Some v)) ⊎ ((2 ^ 64 ≤ v) × (short v ≡ None)) → IsRight z (integer z start end (short v))
   by true letter s = rw letter (v, end, l, letter, first, refl)
@@ -54,7 +55,7 @@ integer_right z start end v l first = by (is_in class.Letter (slice_index z end)
 
 module _ (b : ℕ) (y : Text) (other : IsOther b) (starts : is_in class.Digit b ≡ true) where
   module _ (hex : is_hex (b ∷ y) ≡ false) (plain : floats (b ∷ y) ≡ false) where
-    long_octal : (b == 48) ≡ true → IsLongest (b ∷ y) (token (int (value 8 (b ∷ take (prefix_len (is_in class.Octal) y) y)))) (suc (prefix_len (is_in class.Octal) y))
+    long_octal : (b == 48) ≡ true → IsCut (b ∷ y) (token (int (value 8 (b ∷ take (prefix_len (is_in class.Octal) y) y)))) (suc (prefix_len (is_in class.Octal) y))
     long_octal nought = longest_run (is_in class.Octal) y (λ x. token (int (value 8 (b ∷ x)))) b goes where
       octal : is_in class.Octal b ≡ true
       octal = rw (eqb-true b 48 nought) refl
@@ -63,14 +64,14 @@ module _ (b : ℕ) (y : Text) (other : IsOther b) (starts : is_in class.Digit b 
       goes m h = piece_number b (take m y) other (begins-digit b (take m y) starts)
           ∙ ap (option_map token) (rw (not_hex-take (b ∷ y) (suc m) hex, float_text_not (b ∷ y) (suc m) plain, nought, octal) refl) ∙ int_if (list_all (is_in class.Octal) (take m y)) (value 8 (b ∷ take m y))
 
-    long_digits : (b == 48) ≡ false → IsLongest (b ∷ y) (token (int (value 10 (b ∷ take (prefix_len (is_in class.Digit) y) y)))) (suc (prefix_len (is_in class.Digit) y))
+    long_digits : (b == 48) ≡ false → IsCut (b ∷ y) (token (int (value 10 (b ∷ take (prefix_len (is_in class.Digit) y) y)))) (suc (prefix_len (is_in class.Digit) y))
     long_digits nought = longest_run (is_in class.Digit) y (λ x. token (int (value 10 (b ∷ x)))) b goes where
       goes : GoesOn (is_in class.Digit) y (λ x. token (int (value 10 (b ∷ x)))) (λ x. b ∷ x)
       goes m h = piece_number b (take m y) other (begins-digit b (take m y) starts)
           ∙ ap (option_map token) (rw (not_hex-take (b ∷ y) (suc m) hex, float_text_not (b ∷ y) (suc m) plain, nought, starts) refl) ∙ int_if (list_all (is_in class.Digit) (take m y)) (value 10 (b ∷ take m y))
 
   long_hex : (x c : ℕ) (w : Text) → y ≡ x ∷ c ∷ w → is_hex (b ∷ x ∷ c ∷ w) ≡ true
-      → IsLongest (b ∷ x ∷ c ∷ w) (token (int (value 16 (take (prefix_len (is_in class.Hex) (c ∷ w)) (c ∷ w))))) (suc (suc (prefix_len (is_in class.Hex) (c ∷ w))))
+      → IsCut (b ∷ x ∷ c ∷ w) (token (int (value 16 (take (prefix_len (is_in class.Hex) (c ∷ w)) (c ∷ w))))) (suc (suc (prefix_len (is_in class.Hex) (c ∷ w))))
   long_hex x c w same hex = longest_run_behind (is_in class.Hex) (c ∷ w) (λ v. token (int (value 16 v))) b x goes where
     digit : is_in class.Hex c ≡ true
     digit = (and_parts (eqb x 120 || eqb x 88) (is_in class.Hex c) (and_parts (eqb b 48) _ hex).1).1
@@ -82,7 +83,7 @@ module _ (b : ℕ) (y : Text) (other : IsOther b) (starts : is_in class.Digit b 
 decimal_text : (x : Text) (v : Bool) → is_hex x ≡ false → is_float_text x ≡ v → number_of x ≡ cond v (Some (float x)) (option_map int (int_of x))
 decimal_text x v hex is = rw (hex, is) refl
 
-float_longest : (b : ℕ) (y : Text) → IsOther b → begins_number (b ∷ y) ≡ true → is_hex (b ∷ y) ≡ false → floats (b ∷ y) ≡ true → IsLongest (b ∷ y) (token (float (take (float_end (b ∷ y)) (b ∷ y)))) (float_end (b ∷ y))
+float_longest : (b : ℕ) (y : Text) → IsOther b → begins_number (b ∷ y) ≡ true → is_hex (b ∷ y) ≡ false → floats (b ∷ y) ≡ true → IsCut (b ∷ y) (token (float (take (float_end (b ∷ y)) (b ∷ y)))) (float_end (b ∷ y))
 float_longest b y other begins hex is = record {
   moves = omega (arith, some);
   within = float_within (b ∷ y);

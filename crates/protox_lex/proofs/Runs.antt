@@ -5,7 +5,7 @@ use Rattle.std.specs.List.{prefix_len, list_all}
 use Rattle.std.proofs.lemmas.List.Sums.{prefix_len-le-length}
 use Rattle.protox_lex.specs.Class.{Text}
 use Rattle.protox_lex.specs.Token.{Token, Piece, gap, token}
-use Rattle.protox_lex.specs.Longest.{if_all, piece_of, IsLongest}
+use Rattle.protox_lex.proofs.Pieces.{if_all, piece_of, IsCut}
 
 pub all_of_run : (p : ℕ → Bool) (y : Text) → list_all p (take (prefix_len p y) y) ≡ true
 all_of_run p [] = refl
@@ -33,7 +33,7 @@ module _ (p : ℕ → Bool) (y : Text) (what : Text → Piece) where
   too_long : (front : Text → Text) → GoesOn front → (m : ℕ) → prefix_len p y < m → m ≤ length y → piece_of (front (take m y)) ≡ None
   too_long front is m lt le = is m (omega arith) ∙ ap (λ v. if_all v (what (take m y))) (more_than_run p y m lt le)
 
-  pub longest_run : (b : ℕ) → GoesOn (λ x. b ∷ x) → IsLongest (b ∷ y) (what (take (prefix_len p y) y)) (suc (prefix_len p y))
+  pub longest_run : (b : ℕ) → GoesOn (λ x. b ∷ x) → IsCut (b ∷ y) (what (take (prefix_len p y) y)) (suc (prefix_len p y))
   longest_run b is = record {
     moves = omega arith;
     within = omega (arith, prefix_len-le-length p y);
@@ -44,7 +44,7 @@ module _ (p : ℕ → Bool) (y : Text) (what : Text → Piece) where
     not_longer zero lt le = absurd (omega arith)
     not_longer (suc m) lt le = too_long (λ x. b ∷ x) is m (omega arith) (omega arith)
 
-  pub longest_run_behind : (a b : ℕ) → GoesOn (λ x. a ∷ b ∷ x) → IsLongest (a ∷ b ∷ y) (what (take (prefix_len p y) y)) (suc (suc (prefix_len p y)))
+  pub longest_run_behind : (a b : ℕ) → GoesOn (λ x. a ∷ b ∷ x) → IsCut (a ∷ b ∷ y) (what (take (prefix_len p y) y)) (suc (suc (prefix_len p y)))
   longest_run_behind a b is = record {
     moves = omega arith;
     within = omega (arith, prefix_len-le-length p y);

@@ -8,7 +8,8 @@ use Rattle.protox_lex.specs.declared.escape.Meaning.{Meaning}
 use Rattle.protox_lex.specs.Class.{Text}
 use Rattle.protox_lex.specs.Token.{Token, str, Piece, token}
 use Rattle.protox_lex.specs.Lex.{Escaped, escape, escape_len, is_plain, unit_len, after_unit, contents_from, contents_len, closed, unclosed, quoted}
-use Rattle.protox_lex.specs.Longest.{if_all, literal_of, piece_of, IsLongest}
+use Rattle.protox_lex.proofs.Pieces.{if_all, literal_of, piece_of, IsCut}
+use Rattle.protox_lex.specs.Spelled.{is_quote}
 use Rattle.protox_lex.proofs.Alike.{Alike, alike_rest, alike_head, alike_none, alike_at, alike-take, alike_back}
 use Rattle.protox_lex.proofs.Escapes.{escape_alike}
 use Rattle.protox_lex.proofs.Cuts.{IsRight, not_same}
@@ -63,9 +64,6 @@ contents_alike q some other zero (b ∷ u) (c ∷ v) (suc m) a lt end =
 
 -- ---- quotes
 
-abbrev pub is_quote : ℕ → Bool
-is_quote q = q == 34 || q == 39
-
 pub one_quote : (q : ℕ) → is_quote q ≡ true → (q ≡ 34) ⊎ (q ≡ 39)
 one_quote q h = by (q == 34) refl (q == 39) refl where
   by : (u : Bool) → (q == 34) ≡ u → (v : Bool) → (q == 39) ≡ v → (q ≡ 34) ⊎ (q ≡ 39)
@@ -111,9 +109,9 @@ literal_is q x k n l e =
 literal_is_not : (q : ℕ) (x : Text) (k : ℕ) → contents_len q x ≡ k → suc k < length x → literal_of q x ≡ None
 literal_is_not q x k n lt = let other : eqb (k + 1) (length x) ≡ false = not_same (k + 1) (length x) (omega arith) in rw (n, other) refl
 
-str_longest : (q : ℕ) (y : Text) → is_quote q ≡ true → slice_index y (contents_len q y) ≡ q → IsLongest (q ∷ y) (token (str (take (contents_len q y) y))) (suc (suc (contents_len q y)))
+str_longest : (q : ℕ) (y : Text) → is_quote q ≡ true → slice_index y (contents_len q y) ≡ q → IsCut (q ∷ y) (token (str (take (contents_len q y) y))) (suc (suc (contents_len q y)))
 str_longest q y quote e = by (contents_len q y) refl e where
-  by : (k : ℕ) → contents_len q y ≡ k → slice_index y k ≡ q → IsLongest (q ∷ y) (token (str (take k y))) (suc (suc k))
+  by : (k : ℕ) → contents_len q y ≡ k → slice_index y k ≡ q → IsCut (q ∷ y) (token (str (take k y))) (suc (suc k))
   by k is e = record {
     moves = omega arith;
     within = omega (arith, quoted_within q y k quote e);
@@ -150,7 +148,7 @@ closes q x s e = by _ refl e where
   by false h e = absurd (cc)
 
 -- a text that begins with a quote has no piece but a string, whose contents end at that quote
-pub string_closed : (q : ℕ) (y : Text) (p : Piece) (n : ℕ) → is_quote q ≡ true → IsLongest (q ∷ y) p n → (s : Text) × (p ≡ token (str s)) × (slice_index y (contents_len q y) ≡ q)
+pub string_closed : (q : ℕ) (y : Text) (p : Piece) (n : ℕ) → is_quote q ≡ true → IsCut (q ∷ y) p n → (s : Text) × (p ≡ token (str s)) × (slice_index y (contents_len q y) ≡ q)
 string_closed q y p zero is l = absurd (omega (arith, l.moves))
 string_closed q y p (suc m) is l = by (literal_of q (take m y)) refl (sym (piece_quote q (take m y) is) ∙ l.is) where
   by : (o : Option Text) → literal_of q (take m y) ≡ o → option_map (λ s. token (str s)) o ≡ Some p → (s : Text) × (p ≡ token (str s)) × (slice_index y (contents_len q y) ≡ q)

@@ -10,12 +10,12 @@ use Rattle.protox_lex.specs.declared.class.Class.TheVariants as class
 use Rattle.protox_lex.specs.declared.escape.Meaning.{Meaning}
 use Rattle.protox_lex.specs.Class.{Text, is_in}
 use Rattle.protox_lex.specs.Lex.{Escaped, value, short, simple, simple_of, hex, octal_escape, unicode, escape, is_plain, unit_len, contents_from, contents_len}
-use Rattle.protox_lex.specs.Spelled.{Contents, ends, plain_byte, escaped, IsString}
-use Rattle.protox_lex.specs.Longest.{if_all, literal_of}
+use Rattle.protox_lex.specs.Spelled.{is_quote, Contents, ends, plain_byte, escaped, IsString}
+use Rattle.protox_lex.proofs.Pieces.{if_all, literal_of}
 use Rattle.protox_lex.proofs.Contents.{contents_pass, contents_end}
 use Rattle.protox_lex.proofs.Escapes.{byte_of_len, char_of_len, hex_len}
 use Rattle.protox_lex.proofs.FloatSpelling.{last_byte}
-use Rattle.protox_lex.proofs.StringCuts.{first_unit, is_quote, one_quote, literal_is}
+use Rattle.protox_lex.proofs.StringCuts.{first_unit, one_quote, literal_is}
 
 -- ---- an escape ends within its text
 
@@ -79,32 +79,41 @@ contents_read q rest (b ∷ y) none (escaped y' x esc more) =
     let e : contents_len q (92 ∷ y) ≡ suc (x.1 + contents_len q (drop x.1 y)) = first_unit q 92 y true (Ok x) (is_plain q 92) refl esc refl ∙ ap suc (contents_pass q x.1 y within) in
     record { sum = omega (arith, e, r.sum, length-drop x.1 y); left = ap (λ k. drop k (92 ∷ y)) e ∙ sym (drop-drop (contents_len q (drop x.1 y)) x.1 y) ∙ r.left }
 
--- what is read is contents
-abbrev ReadsAll : ℕ → ℕ → Type 0
-ReadsAll q most = (y : Text) → length y ≤ most → Contents q (drop (contents_len q y) y) y
+-- the text is contents up to where no more of them begins
+pub record IsEnd (q : ℕ) (y rest : Text) : Type 0 where
+  pub contents : Contents q rest y
+  pub none : unit_len q rest ≡ 0
 
-read_unit : (q most b : ℕ) (y : Text) → length y ≤ most → ReadsAll q most → Contents q (drop (contents_len q (b ∷ y)) (b ∷ y)) (b ∷ y)
+abbrev ReadsAll : ℕ → ℕ → Type 0
+ReadsAll q most = (y : Text) → length y ≤ most → IsEnd q y (drop (contents_len q y) y)
+
+end_here : (q : ℕ) (y : Text) → contents_len q y ≡ 0 → unit_len q y ≡ 0 → IsEnd q y (drop (contents_len q y) y)
+end_here q y e none = subst (IsEnd q y) (sym (ap (λ k. drop k y) e)) (record { contents = ends y refl; none = none })
+
+read_unit : (q most b : ℕ) (y : Text) → length y ≤ most → ReadsAll q most → IsEnd q (b ∷ y) (drop (contents_len q (b ∷ y)) (b ∷ y))
 read_unit q most b y le later = by (b == 92) refl (escape y) refl (is_plain q b) refl where
-  by : (s : Bool) → (b == 92) ≡ s → (o : Escaped) → escape y ≡ o → (p : Bool) → is_plain q b ≡ p → Contents q (drop (contents_len q (b ∷ y)) (b ∷ y)) (b ∷ y)
+  by : (s : Bool) → (b == 92) ≡ s → (o : Escaped) → escape y ≡ o → (p : Bool) → is_plain q b ≡ p → IsEnd q (b ∷ y) (drop (contents_len q (b ∷ y)) (b ∷ y))
   by true slash (Ok x) esc p plain =
       let within : x.1 ≤ length y = escape_within y x esc in
-      let rest : Contents q (drop (contents_len q (drop x.1 y)) (drop x.1 y)) (drop x.1 y) = later (drop x.1 y) (omega (arith, length-drop x.1 y)) in
+      let rest : IsEnd q (drop x.1 y) (drop (contents_len q (drop x.1 y)) (drop x.1 y)) = later (drop x.1 y) (omega (arith, length-drop x.1 y)) in
       let e : contents_len q (b ∷ y) ≡ suc (x.1 + contents_len q (drop x.1 y)) = first_unit q b y true (Ok x) p slash esc plain ∙ ap suc (contents_pass q x.1 y within) in
       let left : drop (contents_len q (b ∷ y)) (b ∷ y) ≡ drop (contents_len q (drop x.1 y)) (drop x.1 y) = ap (λ k. drop k (b ∷ y)) e ∙ sym (drop-drop (contents_len q (drop x.1 y)) x.1 y) in
-      subst (λ r. Contents q r (b ∷ y)) (sym left) (subst (λ k. Contents q (drop (contents_len q (drop x.1 y)) (drop x.1 y)) (k ∷ y)) (sym (eqb-true b 92 slash)) (escaped y x esc rest))
-  by true slash (Err n) esc p plain = let e : contents_len q (b ∷ y) ≡ 0 = first_unit q b y true (Err n) p slash esc plain in ends (b ∷ y) (sym (ap (λ k. drop k (b ∷ y)) e))
+      let all : Contents q (drop (contents_len q (drop x.1 y)) (drop x.1 y)) (b ∷ y) = subst (λ k. Contents q (drop (contents_len q (drop x.1 y)) (drop x.1 y)) (k ∷ y)) (sym (eqb-true b 92 slash)) (escaped y x esc rest.contents) in
+      subst (IsEnd q (b ∷ y)) (sym left) (record { contents = all; none = rest.none })
+  by true slash (Err n) esc p plain = end_here q (b ∷ y) (first_unit q b y true (Err n) p slash esc plain) (rw (slash, esc) refl)
   by false slash o esc true plain =
+      let rest : IsEnd q y (drop (contents_len q y) y) = later y le in
       let e : contents_len q (b ∷ y) ≡ suc (contents_len q y) = first_unit q b y false o true slash esc plain in
-      subst (λ r. Contents q r (b ∷ y)) (sym (ap (λ k. drop k (b ∷ y)) e)) (plain_byte b y plain (later y le))
-  by false slash o esc false plain = let e : contents_len q (b ∷ y) ≡ 0 = first_unit q b y false o false slash esc plain in ends (b ∷ y) (sym (ap (λ k. drop k (b ∷ y)) e))
+      subst (IsEnd q (b ∷ y)) (sym (ap (λ k. drop k (b ∷ y)) e)) (record { contents = plain_byte b y plain rest.contents; none = rest.none })
+  by false slash o esc false plain = end_here q (b ∷ y) (first_unit q b y false o false slash esc plain) (rw (plain, slash) refl)
 
 reads_all : (q most : ℕ) → ReadsAll q most
 unfolding contents_from
-reads_all q most [] le = ends [] refl
+reads_all q most [] le = record { contents = ends [] refl; none = refl }
 reads_all q zero (b ∷ y) le = absurd (omega arith)
 reads_all q (suc most) (b ∷ y) le = read_unit q most b y (omega arith) (reads_all q most)
 
-pub contents_spelled : (q : ℕ) (y : Text) → Contents q (drop (contents_len q y) y) y
+pub contents_spelled : (q : ℕ) (y : Text) → IsEnd q y (drop (contents_len q y) y)
 contents_spelled q y = reads_all q (length y) y (omega arith)
 
 -- ---- strings
@@ -124,7 +133,7 @@ string_text q y s is string =
     literal_is q y (length s) n long last ∙ ap (λ w. Some w) (ap (take (length s)) string.closes ∙ take-append_seam s (q ∷ []))
 
 string_of : (q : ℕ) (y s : Text) → contents_len q y + 1 ≡ length y → slice_index y (contents_len q y) ≡ q → take (contents_len q y) y ≡ s → IsString q y s
-string_of q y s long last front = record { closes = shape; contents = subst (λ r. Contents q r y) rest (contents_spelled q y) } where
+string_of q y s long last front = record { closes = shape; contents = subst (λ r. Contents q r y) rest (contents_spelled q y).contents } where
   shape : y ≡ s ++ (q ∷ [])
   shape = last_byte y (contents_len q y) long ∙ ap (λ w. w ++ (slice_index y (contents_len q y) ∷ [])) front ∙ ap (λ b. s ++ (b ∷ [])) last
 

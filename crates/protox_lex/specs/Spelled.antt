@@ -1,17 +1,22 @@
 -- Numbers, strings and comments as the language specification spells them.
 --
 -- Sources: "Lexical elements" of the protobuf language specification and of the text format specification, on protobuf.dev.
-use Rattle.std.specs.Prelude.{◌≡◌, ℕ, suc, ◌+◌, ◌<◌, Bool, true, false, not, ◌&&◌, ◌||◌, ◌==◌, ◌⊎◌, List, [], ◌∷◌, ◌++◌, length, drop, slice_index, Ok}
+use Rattle.std.specs.Prelude.{◌≡◌, ℕ, suc, ◌+◌, ◌<◌, Bool, true, false, not, ◌&&◌, ◌||◌, ◌==◌, if◌then◌else◌, ◌⊎◌, List, [], ◌∷◌, ◌++◌, length, drop, slice_index, Ok}
 use Rattle.std.specs.List.{list_all}
+use Rattle.protox_lex.specs.declared.class.Class.{Class}
 use Rattle.protox_lex.specs.declared.class.Class.TheVariants as class
 use Rattle.protox_lex.specs.declared.escape.Meaning.{Meaning}
 use Rattle.protox_lex.specs.Class.{Text, is_in}
 use Rattle.protox_lex.specs.Lex.{is_exponent_mark, is_suffix, is_plain, is_comment_mark, escape}
 
--- decimals = decimalDigit { decimalDigit }
-pub record IsDecimals (z : Text) : Type 0 where
+-- one or more bytes of the class
+pub record IsDigits (c : Class) (z : Text) : Type 0 where
   pub some : 0 < length z
-  pub digits : list_all (is_in class.Digit) z ≡ true
+  pub digits : list_all (is_in c) z ≡ true
+
+-- decimals = decimalDigit { decimalDigit }
+abbrev pub IsDecimals : Text → Type 0
+IsDecimals z = IsDigits class.Digit z
 
 -- exponent = ( "e" | "E" ) [ "+" | "-" ] decimals
 pub data IsExponent (z : Text) : Type 0 where
@@ -38,6 +43,10 @@ pub data IsFloat (z : Text) : Type 0 where
   plain : IsFloatLit z → IsFloat z
   with_suffix : (x : Text) (s : ℕ) → z ≡ x ++ (s ∷ []) → is_suffix s ≡ true → IsFloatLit x ⊎ IsDecLit x → IsFloat z
 
+-- `"` or `'`
+abbrev pub is_quote : ℕ → Bool
+is_quote q = q == 34 || q == 39
+
 -- The text is contents of a string up to this rest, that is, plain bytes and escapes.
 -- charValue = any byte but the quote, a backslash, a line's end and NUL, or hexEscape, octEscape, charEscape, unicodeEscape, unicodeLongEscape
 pub data Contents (quote : ℕ) (rest : Text) : Text → Type 0 where
@@ -57,3 +66,12 @@ Unmarked y k = (j : ℕ) → j < k → is_comment_mark (slice_index y j) (slice_
 -- A block comment, behind `/*`: text, in which no comment begins or ends, and `*/`.
 abbrev pub IsBlock : Text → Type 0
 IsBlock y = (s : Text) × (y ≡ s ++ (42 ∷ 47 ∷ [])) × Unmarked y (length s)
+
+abbrev pub is_empty : Text → Bool
+is_empty [] = true
+is_empty (b ∷ z) = false
+
+-- all bytes of a line, and its end if it has one
+abbrev pub is_line : Text → Bool
+is_line [] = true
+is_line (b ∷ z) = if is_in class.Line b then is_line z else is_empty z
