@@ -1,5 +1,5 @@
 -- Texts with the same first bytes.
-use Rattle.std.proofs.Common.{◌≡◌, ℕ, zero, suc, ◌≤◌, ◌<◌, Bool, true, false, List, [], ◌∷◌, take, get_or, ap, sym, ◌∙◌, arith, refl, min}
+use Rattle.std.proofs.Common.{◌≡◌, ℕ, zero, suc, ◌≤◌, ◌<◌, Bool, true, false, [], ◌∷◌, take, get_or, ap, sym, ◌∙◌, arith, refl, min}
 use Rattle.std.specs.List.{prefix_len}
 use Rattle.std.proofs.lemmas.List.{get_or-take, take-take}
 use Rattle.protox_lex.specs.Class.{Text}

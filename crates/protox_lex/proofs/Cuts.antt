@@ -1,23 +1,13 @@
 -- What is right of a cut, and words and white space.
-use Rattle.std.proofs.Common.{◌≡◌, ◌≢◌, ℕ, zero, suc, ◌+◌, ◌-◌, ◌^◌, ◌≤◌, ◌<◌, Bool, true, false, cond, eqb, ltb, ◌&&◌, ◌||◌, Result, Option, Some, None, List, [], ◌∷◌, take, drop, get_or, length, Ok, Err, ap, sym, subst, ◌∙◌, arith, refl, length-take, eq-eqb, ◌⊎◌, inl, inr, min}
-use Rattle.std.specs.Prelude.{slice_index, ◌==◌, option_map}
-use Rattle.std.specs.List.{prefix_len, list_all}
-use Rattle.std.proofs.Math.Numerals.{one-add}
-use Rattle.std.proofs.lemmas.Bool.{cases_lt, lt-ltb, le-ltb, eqb-true, eqb-false, ltb-true, ltb-false, and_parts}
-use Rattle.std.proofs.lemmas.List.Sums.{prefix_len-le-length}
-use Rattle.std.proofs.lemmas.List.{get_or_past, get_or-take, take-take}
+use Rattle.std.proofs.Common.{◌≡◌, ℕ, ◌<◌, Bool, true, false, eqb, ◌∷◌, Ok, Err, arith, refl}
+use Rattle.std.specs.List.{list_all}
+use Rattle.std.proofs.lemmas.Bool.{eqb-true}
 use Rattle.protox_lex.specs.declared.class.Class.TheVariants as class
-use Rattle.protox_lex.specs.declared.error.LexErrorKind.{LexErrorKind}
-use Rattle.protox_lex.specs.declared.error.LexErrorKind.TheVariants as kinds
-use Rattle.protox_lex.specs.declared.front.Flaw.{Flaw}
-use Rattle.protox_lex.specs.declared.token.Sign.{Sign}
-use Rattle.protox_lex.specs.Class.{Text, is_in, past}
-use Rattle.protox_lex.specs.Token.{Token, ident, int, float, str, sign, comment, Piece, gap, token}
-use Rattle.protox_lex.specs.Lex.{Cut, flaw, is_hex, begins_number, value, short, integer, octal, number, is_float, past_exponent, past_fraction, past_suffix, float_to, word_to, contents_len, closed, unclosed, quoted, is_comment_mark, comment_len, block_comment, past_line, sign_of, signed, front}
-use Rattle.protox_lex.specs.Spelled.{is_empty, is_line}
+use Rattle.protox_lex.specs.Class.{Text, is_in}
+use Rattle.protox_lex.specs.Token.{ident, gap, token}
+use Rattle.protox_lex.specs.Lex.{Cut}
 use Rattle.protox_lex.specs.Longest.{IsAlone}
-use Rattle.protox_lex.proofs.Pieces.{if_all, is_float_text, int_of, number_of, literal_of, is_block, piece_of, IsCut, IsFlaw}
-use Rattle.protox_lex.proofs.Runs.{longest_run, longest_run_behind, GoesOn}
+use Rattle.protox_lex.proofs.Pieces.{if_all, piece_of, IsCut, IsFlaw}
 
 -- what is cut is the longest piece, or a fault that is there
 abbrev pub IsRight : Text → Cut → Type 0

@@ -1,12 +1,12 @@
 -- An escape is the same whatever stands behind the byte after it.
-use Rattle.std.proofs.Common.{◌≡◌, ◌≢◌, ℕ, zero, suc, ◌+◌, ◌-◌, ◌≤◌, ◌<◌, Bool, true, false, cond, eqb, ltb, ◌&&◌, ◌||◌, Result, Option, Some, None, List, [], ◌∷◌, take, drop, get_or, length, Ok, Err, ap, sym, subst, ◌∙◌, arith, refl, min}
-use Rattle.std.specs.Prelude.{slice_index, ◌==◌, nat_lt}
+use Rattle.std.proofs.Common.{◌≡◌, ℕ, zero, suc, ◌+◌, ◌-◌, ◌≤◌, ◌<◌, Bool, true, false, cond, ltb, ◌||◌, Option, Some, None, [], ◌∷◌, take, Ok, Err, ap, sym, ◌∙◌, arith, refl, min}
+use Rattle.std.specs.Prelude.{◌==◌, nat_lt}
 use Rattle.std.specs.List.{prefix_len}
-use Rattle.std.proofs.lemmas.Bool.{cases_lt, lt-ltb, le-ltb, ltb-true, ltb-false}
+use Rattle.std.proofs.lemmas.Bool.{le-ltb, ltb-false}
 use Rattle.protox_lex.specs.declared.class.Class.TheVariants as class
 use Rattle.protox_lex.specs.declared.escape.Meaning.{Meaning}
-use Rattle.protox_lex.specs.Class.{Text, is_in, past}
-use Rattle.protox_lex.specs.Lex.{Escaped, value, short, scalar, meant, byte_of, char_of, simple, simple_of, hex, octal_escape, unicode, escape}
+use Rattle.protox_lex.specs.Class.{Text, is_in}
+use Rattle.protox_lex.specs.Lex.{Escaped, value, short, scalar, meant, byte_of, char_of, hex, octal_escape, unicode, escape}
 use Rattle.protox_lex.proofs.Alike.{Alike, alike_back, alike_rest, alike_head, alike_cons, alike_none, alike_run, alike_front}
 
 pub byte_of_len : (o : Option ℕ) (n : ℕ) (x : Meaning × ℕ) → byte_of o n ≡ Ok x → x.1 ≡ n

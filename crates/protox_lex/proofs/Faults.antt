@@ -1,16 +1,15 @@
 -- The faults that are found are the faults of the definition.
-use Rattle.std.proofs.Common.{◌≡◌, ◌≢◌, ℕ, zero, suc, ◌+◌, ◌≤◌, ◌<◌, Bool, true, false, cond, eqb, ◌&&◌, ◌||◌, not, Result, Option, Some, None, List, [], ◌∷◌, take, drop, get_or, length, Ok, Err, ap, sym, subst, ◌∙◌, arith, refl, length-drop, drop-cons, inl, inr, ◌⊎◌}
+use Rattle.std.proofs.Common.{◌≡◌, ◌≢◌, ℕ, suc, ◌+◌, ◌≤◌, ◌<◌, Bool, true, false, eqb, ◌||◌, Some, None, ◌∷◌, take, drop, get_or, length, Ok, Err, ap, sym, ◌∙◌, arith, refl, length-drop, drop-cons}
 use Rattle.std.specs.Prelude.{slice_index, ◌==◌}
-use Rattle.std.proofs.lemmas.Bool.{cases_lt, eqb-true, ne_eqb}
+use Rattle.std.proofs.lemmas.Bool.{eqb-true, ne_eqb}
 use Rattle.std.proofs.Math.ListN.{drop_of_length-le}
 use Rattle.protox_lex.specs.declared.error.LexErrorKind.{LexErrorKind}
 use Rattle.protox_lex.specs.declared.error.LexErrorKind.TheVariants as kinds
-use Rattle.protox_lex.specs.declared.escape.Meaning.{Meaning}
 use Rattle.protox_lex.specs.Class.{Text}
-use Rattle.protox_lex.specs.Token.{Piece, int, token}
-use Rattle.protox_lex.specs.Lex.{Escaped, escape, escape_len, fault_len, is_plain, unit_len, contents_len, is_comment_mark, comment_len}
-use Rattle.protox_lex.specs.Longest.{IsPiece, IsFault}
-use Rattle.protox_lex.proofs.Pieces.{piece_of, IsFlaw}
+use Rattle.protox_lex.specs.Token.{int, token}
+use Rattle.protox_lex.specs.Lex.{Escaped, escape, escape_len, fault_len, unit_len, contents_len, is_comment_mark, comment_len}
+use Rattle.protox_lex.specs.Longest.{IsFault}
+use Rattle.protox_lex.proofs.Pieces.{IsFlaw}
 use Rattle.protox_lex.proofs.Numbers.{within_text}
 use Rattle.protox_lex.proofs.CommentCuts.{comment_mark}
 use Rattle.protox_lex.proofs.CommentSpelling.{text_unmarked}

@@ -1,14 +1,13 @@
 -- What is cut from a float, and from a text that is none.
-use Rattle.std.proofs.Common.{◌≡◌, ℕ, zero, suc, ◌+◌, ◌-◌, ◌≤◌, ◌<◌, Bool, true, false, cond, eqb, ltb, leb, ◌&&◌, ◌||◌, not, Option, Some, None, List, [], ◌∷◌, take, drop, get_or, length, ap, sym, subst, ◌∙◌, arith, refl, length-take, eq-eqb, ◌⊎◌, inl, inr, min}
+use Rattle.std.proofs.Common.{◌≡◌, ℕ, suc, ◌+◌, ◌≤◌, ◌<◌, Bool, true, false, cond, eqb, ltb, ◌&&◌, ◌||◌, not, None, [], ◌∷◌, take, get_or, length, ap, sym, subst, ◌∙◌, arith, refl, length-take, ◌⊎◌, inl, inr}
 use Rattle.std.specs.Prelude.{slice_index, ◌==◌}
 use Rattle.std.specs.List.{prefix_len, list_all}
-use Rattle.std.proofs.lemmas.Bool.{cases_lt, lt-ltb, le-ltb, eqb-true, eqb-false, ltb-true, ltb-false, and_parts}
-use Rattle.std.proofs.lemmas.List.{get_or_past, get_or-take, take-take}
-use Rattle.protox_lex.specs.declared.class.Class.{Class}
+use Rattle.std.proofs.lemmas.Bool.{cases_lt, lt-ltb, le-ltb, eqb-true, ltb-true, ltb-false, and_parts}
+use Rattle.std.proofs.lemmas.List.{get_or_past, get_or-take}
 use Rattle.protox_lex.specs.declared.class.Class.TheVariants as class
 use Rattle.protox_lex.specs.Class.{Text, is_in, past}
-use Rattle.protox_lex.specs.Lex.{begins_number, value, is_float, is_suffix, is_exponent_mark, exponent_digits, past_exponent, past_fraction, past_suffix}
-use Rattle.protox_lex.proofs.Pieces.{if_all, is_float_text, int_of}
+use Rattle.protox_lex.specs.Lex.{begins_number, is_float, is_suffix, past_fraction, past_suffix}
+use Rattle.protox_lex.proofs.Pieces.{is_float_text, int_of}
 use Rattle.protox_lex.proofs.Runs.{more_than_run}
 use Rattle.protox_lex.proofs.Numbers.{past-take, past_within, cut_off, fraction-take, fraction-least, fraction_within, fraction_cut, exponent-least, frac_point, first_run}
 

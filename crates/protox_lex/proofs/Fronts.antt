@@ -1,19 +1,18 @@
 -- The piece at the front is the longest that begins there, or there is a fault.
-use Rattle.std.proofs.Common.{◌≡◌, ◌≢◌, ℕ, zero, suc, ◌+◌, ◌≤◌, ◌<◌, Bool, true, false, ◌&&◌, ◌||◌, Option, Some, None, List, [], ◌∷◌, take, drop, length, ap, sym, subst, ◌∙◌, arith, refl}
+use Rattle.std.proofs.Common.{◌≡◌, ℕ, zero, suc, ◌+◌, ◌≤◌, ◌<◌, Bool, true, false, ◌&&◌, Option, Some, None, [], ◌∷◌, take, drop, length, ap, sym, subst, ◌∙◌, arith, refl}
 use Rattle.std.specs.Prelude.{slice_index, ◌==◌, option_map}
-use Rattle.std.specs.List.{prefix_len, list_all}
+use Rattle.std.specs.List.{prefix_len}
 use Rattle.std.proofs.Math.Numerals.{one-add}
 use Rattle.std.proofs.lemmas.Bool.{eqb-true, and_parts, or_parts}
 use Rattle.protox_lex.specs.declared.class.Class.TheVariants as class
 use Rattle.protox_lex.specs.declared.token.Sign.{Sign}
 use Rattle.protox_lex.specs.Class.{Text, is_in}
-use Rattle.protox_lex.specs.Token.{Token, ident, sign, Piece, gap, token}
-use Rattle.protox_lex.specs.Lex.{begins_number, sign_of, signed, past_line, front}
-use Rattle.protox_lex.specs.Longest.{IsAlone, opens_block}
+use Rattle.protox_lex.specs.Token.{ident, sign, gap, token}
+use Rattle.protox_lex.specs.Lex.{begins_number, sign_of, signed, front}
 use Rattle.protox_lex.specs.Spelled.{is_quote}
-use Rattle.protox_lex.proofs.Pieces.{piece_of, IsCut, IsFlaw}
+use Rattle.protox_lex.proofs.Pieces.{piece_of, IsCut}
 use Rattle.protox_lex.proofs.Runs.{longest_run, longest_run_behind}
-use Rattle.protox_lex.proofs.Cuts.{IsRight, IsOther, IsWord, piece_blank, piece_word}
+use Rattle.protox_lex.proofs.Cuts.{IsRight, IsWord, piece_blank, piece_word}
 use Rattle.protox_lex.proofs.CommentCuts.{piece_comment, hash_longest, block_right}
 use Rattle.protox_lex.proofs.NumberCuts.{number_right}
 use Rattle.protox_lex.proofs.StringCuts.{quoted_right}

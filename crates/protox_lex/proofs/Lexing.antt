@@ -1,8 +1,7 @@
 -- The tokens that are cut are the longest.
-use Rattle.std.proofs.Common.{◌≡◌, ℕ, zero, suc, ◌+◌, ◌≤◌, List, [], ◌∷◌, drop, length, Ok, Err, subst, arith, refl, length-drop}
-use Rattle.protox_lex.specs.declared.front.Flaw.{Flaw}
+use Rattle.std.proofs.Common.{◌≡◌, ℕ, zero, suc, ◌+◌, ◌≤◌, [], ◌∷◌, drop, length, Ok, Err, arith, refl, length-drop}
 use Rattle.protox_lex.specs.Class.{Text}
-use Rattle.protox_lex.specs.Token.{Token, Piece, gap, token, Lexeme, token_at, fault_at}
+use Rattle.protox_lex.specs.Token.{gap, token}
 use Rattle.protox_lex.specs.Lex.{Cut, front, lexemes_from, lexemes}
 use Rattle.protox_lex.specs.Longest.{Lexes, ends, passes, takes, stops}
 use Rattle.protox_lex.proofs.Cuts.{IsRight}

@@ -23,3 +23,4 @@ pub mod PieceSpelling
 pub mod Faults
 pub mod Lexing
 pub mod OneReading
+pub mod EscapedTexts

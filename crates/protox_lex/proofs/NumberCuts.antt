@@ -1,20 +1,17 @@
 -- The number at the front is the longest that begins there.
-use Rattle.std.proofs.Common.{◌≡◌, ◌≢◌, ℕ, zero, suc, ◌+◌, ◌-◌, ◌^◌, ◌≤◌, ◌<◌, Bool, true, false, cond, eqb, ltb, ◌&&◌, ◌||◌, not, Result, Option, Some, None, List, [], ◌∷◌, take, drop, get_or, length, Ok, Err, ap, sym, subst, ◌∙◌, arith, refl, length-take, eq-eqb, ◌⊎◌, inl, inr, min}
+use Rattle.std.proofs.Common.{◌≡◌, ℕ, zero, suc, ◌+◌, ◌-◌, ◌^◌, ◌≤◌, ◌<◌, Bool, true, false, cond, eqb, ◌&&◌, ◌||◌, Some, None, [], ◌∷◌, take, length, ap, sym, subst, ◌∙◌, arith, refl, eq-eqb, ◌⊎◌, inl, inr, min}
 use Rattle.std.specs.Prelude.{slice_index, ◌==◌, option_map}
 use Rattle.std.specs.List.{prefix_len, list_all}
-use Rattle.std.proofs.Math.Numerals.{one-add}
-use Rattle.std.proofs.lemmas.Bool.{cases_lt, lt-ltb, le-ltb, eqb-true, eqb-false, ltb-true, ltb-false, and_parts}
-use Rattle.std.proofs.lemmas.List.{get_or_past, get_or-take, take-take}
+use Rattle.std.proofs.lemmas.Bool.{cases_lt, lt-ltb, le-ltb, eqb-true, and_parts}
 use Rattle.protox_lex.specs.declared.class.Class.TheVariants as class
-use Rattle.protox_lex.specs.declared.error.LexErrorKind.TheVariants as kinds
-use Rattle.protox_lex.specs.Class.{Text, is_in, past}
-use Rattle.protox_lex.specs.Token.{Token, int, float, Piece, token}
-use Rattle.protox_lex.specs.Lex.{is_hex, begins_number, value, short, integer, octal, number, is_float, is_suffix, past_fraction, past_suffix, float_to}
+use Rattle.protox_lex.specs.Class.{Text, is_in}
+use Rattle.protox_lex.specs.Token.{Token, int, float, token}
+use Rattle.protox_lex.specs.Lex.{is_hex, begins_number, value, short, integer, octal, number}
 use Rattle.protox_lex.specs.Longest.{prefix_of}
 use Rattle.protox_lex.proofs.Pieces.{if_all, is_float_text, int_of, number_of, piece_of, IsCut}
-use Rattle.protox_lex.proofs.Runs.{longest_run, longest_run_behind, GoesOn, more_than_run}
+use Rattle.protox_lex.proofs.Runs.{longest_run, longest_run_behind, GoesOn}
 use Rattle.protox_lex.proofs.Cuts.{IsRight, not_same, IsOther}
-use Rattle.protox_lex.proofs.Floats.{whole, end_of, floats, float_text_not, float_end, more_than_digits, float_text-take, no_integer, float_within, begins_with_point, point_floats, begins-take}
+use Rattle.protox_lex.proofs.Floats.{whole, floats, float_text_not, float_end, more_than_digits, float_text-take, no_integer, float_within, begins_with_point, point_floats, begins-take}
 
 -- ---- what a piece that begins with a number is
 

@@ -1,5 +1,5 @@
 -- Where a number ends does not depend on what is cut off behind its end.
-use Rattle.std.proofs.Common.{◌≡◌, ◌≢◌, ℕ, zero, suc, ◌+◌, ◌-◌, ◌≤◌, ◌<◌, Bool, true, false, cond, eqb, ltb, ◌&&◌, ◌||◌, List, [], ◌∷◌, take, drop, get_or, length, ap, sym, subst, ◌∙◌, arith, refl, min, length-take, length-drop, ◌⊎◌, inl, inr}
+use Rattle.std.proofs.Common.{◌≡◌, ℕ, zero, suc, ◌+◌, ◌-◌, ◌≤◌, ◌<◌, Bool, true, false, cond, ◌||◌, [], ◌∷◌, take, drop, get_or, length, ap, sym, ◌∙◌, arith, refl, min, length-take, length-drop, inl, inr}
 use Rattle.std.specs.Prelude.{slice_index, ◌==◌}
 use Rattle.std.specs.List.{prefix_len}
 use Rattle.std.proofs.lemmas.Bool.{cases_lt, eqb-true}

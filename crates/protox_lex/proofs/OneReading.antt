@@ -1,5 +1,5 @@
 -- A text has one list of tokens.
-use Rattle.std.proofs.Common.{◌≡◌, ◌≢◌, ℕ, zero, suc, ◌+◌, ◌^◌, ◌≤◌, ◌<◌, Bool, true, false, ◌||◌, cond, eqb, leb, eq-eqb, Result, Option, Some, None, List, [], ◌∷◌, take, drop, get_or, length, Ok, Err, ap, sym, subst, ◌∙◌, arith, refl, inl, inr, ◌⊎◌, min}
+use Rattle.std.proofs.Common.{◌≡◌, ◌≢◌, ℕ, ◌+◌, ◌^◌, ◌≤◌, ◌<◌, Bool, true, false, ◌||◌, cond, eqb, leb, eq-eqb, Some, None, List, [], ◌∷◌, take, drop, get_or, length, Err, ap, sym, subst, ◌∙◌, arith, refl, inl, inr, ◌⊎◌, min}
 use Rattle.std.specs.Prelude.{slice_index, ◌==◌}
 use Rattle.std.proofs.lemmas.Bool.{cases_lt, eqb-true, eqb-false, le-leb, lt-leb, ne_eqb}
 use Rattle.std.proofs.lemmas.List.{get_or_past, get_or-drop, drop-drop}
@@ -9,9 +9,9 @@ use Rattle.protox_lex.specs.declared.error.LexErrorKind.TheVariants as kinds
 use Rattle.protox_lex.specs.declared.front.Flaw.{Flaw}
 use Rattle.protox_lex.specs.declared.token.Sign.TheVariants as signs
 use Rattle.protox_lex.specs.Class.{Text, is_in, past}
-use Rattle.protox_lex.specs.Token.{Token, int, str, sign, Piece, gap, token, Lexeme, token_at, fault_at}
+use Rattle.protox_lex.specs.Token.{Token, int, sign, Piece, gap, token, Lexeme, token_at, fault_at}
 use Rattle.protox_lex.specs.Lex.{Cut, is_plain, unit_len, contents_len, unclosed, is_comment_mark, comment_len, char_len, escape, escape_len, fault_len}
-use Rattle.protox_lex.specs.Longest.{prefix_of, IsPiece, IsLongest, IsAlone, IsFault, Lexes, ends, passes, takes, stops}
+use Rattle.protox_lex.specs.Longest.{prefix_of, IsLongest, IsAlone, IsFault, Lexes, ends, passes, takes, stops}
 use Rattle.protox_lex.proofs.Pieces.{piece_of, IsCut}
 use Rattle.protox_lex.specs.Spelled.{is_quote, Contents, Unmarked}
 use Rattle.protox_lex.proofs.Numbers.{within_text}

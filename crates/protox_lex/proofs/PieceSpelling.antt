@@ -1,21 +1,21 @@
 -- What the test of a piece says is what is spelled.
-use Rattle.std.proofs.Common.{◌≡◌, ◌≢◌, ℕ, zero, suc, ◌+◌, ◌≤◌, ◌<◌, Bool, true, false, cond, eqb, ltb, ◌&&◌, ◌||◌, not, Option, Some, None, List, [], ◌∷◌, ◌++◌, take, drop, get_or, length, ap, sym, subst, ◌∙◌, arith, refl, append_assoc, eq-eqb, ◌⊎◌, inl, inr}
+use Rattle.std.proofs.Common.{◌≡◌, ℕ, zero, suc, ◌≤◌, ◌<◌, Bool, true, false, cond, eqb, ◌&&◌, ◌||◌, not, Option, Some, None, [], ◌∷◌, ◌++◌, take, drop, length, ap, sym, subst, ◌∙◌, arith, refl, append_assoc, inl, inr}
 use Rattle.std.specs.Prelude.{slice_index, ◌==◌, option_map}
 use Rattle.std.specs.List.{prefix_len, list_all}
-use Rattle.std.proofs.lemmas.Bool.{cases_lt, eqb-true, eqb-false, le-ltb, and_parts, or_parts}
+use Rattle.std.proofs.lemmas.Bool.{eqb-true, and_parts}
 use Rattle.std.proofs.lemmas.List.{append-nil, get_or_past}
 use Rattle.protox_lex.specs.declared.class.Class.TheVariants as class
 use Rattle.protox_lex.specs.declared.token.Sign.{Sign}
-use Rattle.protox_lex.specs.Class.{Text, is_in, past}
+use Rattle.protox_lex.specs.Class.{Text, is_in}
 use Rattle.protox_lex.specs.Token.{Token, ident, int, float, str, sign, comment, Piece, gap, token}
 use Rattle.protox_lex.specs.Lex.{is_hex, begins_number, value, sign_of, is_suffix, is_exponent_mark, past_fraction, past_suffix}
-use Rattle.protox_lex.specs.Spelled.{IsDigits, IsDecimals, IsFloatLit, with_point, with_exponent, from_point, IsDecLit, IsFloat, plain, with_suffix, is_quote, IsString, IsBlock, is_empty, is_line}
+use Rattle.protox_lex.specs.Spelled.{IsDigits, IsDecimals, IsFloatLit, with_point, with_exponent, from_point, IsFloat, plain, with_suffix, is_quote, is_empty, is_line}
 use Rattle.protox_lex.specs.Longest.{IsPiece, white_space, line_comment, block_comment, hash_comment, word, hexadecimal, octal, decimal, floating, quoted, one_sign, IsLongest}
 use Rattle.protox_lex.proofs.Pieces.{if_all, is_float_text, int_of, number_of, literal_of, is_block, piece_of, IsCut}
-use Rattle.protox_lex.proofs.Cuts.{IsOther, IsWord, piece_blank, piece_word}
+use Rattle.protox_lex.proofs.Cuts.{IsOther, piece_blank, piece_word}
 use Rattle.protox_lex.proofs.CommentCuts.{piece_hash, piece_comment, piece_block}
 use Rattle.protox_lex.proofs.StringCuts.{piece_quote}
-use Rattle.protox_lex.proofs.Numbers.{frac_none, exp_no_mark, past-take}
+use Rattle.protox_lex.proofs.Numbers.{frac_none, exp_no_mark}
 use Rattle.protox_lex.proofs.Floats.{whole, end_of, floats, floats_at, begins_with_point, and_false, both_false, octals_are_digits}
 use Rattle.protox_lex.proofs.NumberCuts.{piece_number}
 use Rattle.protox_lex.proofs.Fronts.{IsMark, piece_sign, block_begins}
@@ -232,29 +232,32 @@ float_piece (b ∷ y) begins is = piece_number b y (begins_other b y begins) beg
 
 -- ---- signs
 
-try : (b k : ℕ) → IsMark k → ((b == k) ≡ false → IsMark b) → IsMark b
+is_mark : ℕ → Bool
+is_mark b = not (is_in class.Blank b || (is_in class.Letter b || (is_in class.Digit b || (is_quote b || b == 35))))
+
+mark_of : (b : ℕ) → is_mark b ≡ true → IsMark b
+unfolding is_mark
+mark_of b h = by (is_in class.Blank b) refl (is_in class.Letter b) refl (is_in class.Digit b) refl (is_quote b) refl (b == 35) refl where
+  by : (t1 : Bool) → is_in class.Blank b ≡ t1 → (t2 : Bool) → is_in class.Letter b ≡ t2 → (t3 : Bool) → is_in class.Digit b ≡ t3 → (t4 : Bool) → is_quote b ≡ t4 → (t5 : Bool) → (b == 35) ≡ t5 → IsMark b
+  by false e1 false e2 false e3 false e4 false e5 = record { blank = e1; letter = e2; digit = e3; quote = e4; hash = e5 }
+  by true e1 t2 _ t3 _ t4 _ t5 _ = absurd (let f = rw e1 at h in cc)
+  by false e1 true e2 t3 _ t4 _ t5 _ = absurd (let f = rw (e1, e2) at h in cc)
+  by false e1 false e2 true e3 t4 _ t5 _ = absurd (let f = rw (e1, e2, e3) at h in cc)
+  by false e1 false e2 false e3 true e4 t5 _ = absurd (let f = rw (e1, e2, e3, e4) at h in cc)
+  by false e1 false e2 false e3 false e4 true e5 = absurd (let f = rw (e1, e2, e3, e4, e5) at h in cc)
+
+try : (b k : ℕ) → is_mark k ≡ true → ((b == k) ≡ false → is_mark b ≡ true) → is_mark b ≡ true
 try b k is other = by (b == k) refl where
-  by : (v : Bool) → (b == k) ≡ v → IsMark b
-  by true h = subst IsMark (sym (eqb-true b k h)) is
+  by : (v : Bool) → (b == k) ≡ v → is_mark b ≡ true
+  by true h = ap is_mark (eqb-true b k h) ∙ is
   by false h = other h
 
-sign_mark : (b : ℕ) (s : Sign) → sign_of b ≡ Some s → IsMark b
+-- each byte of a sign is such a byte
+sign_mark : (b : ℕ) (s : Sign) → sign_of b ≡ Some s → is_mark b ≡ true
+unfolding is_mark
 sign_mark b s e =
-    try b 46 (record { blank = refl; letter = refl; digit = refl; quote = refl; hash = refl }) λ h1.
-    try b 45 (record { blank = refl; letter = refl; digit = refl; quote = refl; hash = refl }) λ h2.
-    try b 40 (record { blank = refl; letter = refl; digit = refl; quote = refl; hash = refl }) λ h3.
-    try b 41 (record { blank = refl; letter = refl; digit = refl; quote = refl; hash = refl }) λ h4.
-    try b 123 (record { blank = refl; letter = refl; digit = refl; quote = refl; hash = refl }) λ h5.
-    try b 125 (record { blank = refl; letter = refl; digit = refl; quote = refl; hash = refl }) λ h6.
-    try b 91 (record { blank = refl; letter = refl; digit = refl; quote = refl; hash = refl }) λ h7.
-    try b 93 (record { blank = refl; letter = refl; digit = refl; quote = refl; hash = refl }) λ h8.
-    try b 60 (record { blank = refl; letter = refl; digit = refl; quote = refl; hash = refl }) λ h9.
-    try b 62 (record { blank = refl; letter = refl; digit = refl; quote = refl; hash = refl }) λ h10.
-    try b 44 (record { blank = refl; letter = refl; digit = refl; quote = refl; hash = refl }) λ h11.
-    try b 61 (record { blank = refl; letter = refl; digit = refl; quote = refl; hash = refl }) λ h12.
-    try b 58 (record { blank = refl; letter = refl; digit = refl; quote = refl; hash = refl }) λ h13.
-    try b 59 (record { blank = refl; letter = refl; digit = refl; quote = refl; hash = refl }) λ h14.
-    try b 47 (record { blank = refl; letter = refl; digit = refl; quote = refl; hash = refl }) λ h15.
+    try b 46 refl λ h1. try b 45 refl λ h2. try b 40 refl λ h3. try b 41 refl λ h4. try b 123 refl λ h5. try b 125 refl λ h6. try b 91 refl λ h7. try b 93 refl λ h8.
+    try b 60 refl λ h9. try b 62 refl λ h10. try b 44 refl λ h11. try b 61 refl λ h12. try b 58 refl λ h13. try b 59 refl λ h14. try b 47 refl λ h15.
     absurd (let f : None ≡ Some s = rw (h1, h2, h3, h4, h5, h6, h7, h8, h9, h10, h11, h12, h13, h14, h15) at e in cc)
 
 pub piece_text : (z : Text) (p : Piece) → IsPiece z p → piece_of z ≡ Some p
@@ -268,7 +271,7 @@ piece_text z (token (int n)) (octal y is all) = subst (λ w. piece_of w ≡ Some
 piece_text z (token (int n)) (decimal d other) = decimal_text z d other
 piece_text z (token (float s)) (floating is) = float_piece z (float_begins z is) (float_text z is)
 piece_text z (token (str t)) (quoted q y s is quote string) = ap piece_of is ∙ piece_quote q y quote ∙ ap (option_map (λ s. token (str s))) (string_text q y s quote string)
-piece_text z (token (sign t)) (one_sign b s is known) = ap piece_of is ∙ piece_sign b (sign_mark b s known) ∙ ap (option_map (λ s. token (sign s))) known
+piece_text z (token (sign t)) (one_sign b s is known) = ap piece_of is ∙ piece_sign b (mark_of b (sign_mark b s known)) ∙ ap (option_map (λ s. token (sign s))) known
 
 -- ---- the longest
 

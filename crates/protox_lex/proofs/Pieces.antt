@@ -1,11 +1,11 @@
 -- The longest match by a test of what all bytes of a text are: what the proofs compute with.
-use Rattle.std.specs.Prelude.{◌≡◌, ◌≢◌, ℕ, zero, suc, ◌+◌, ◌-◌, ◌^◌, ◌<◌, ◌≤◌, Bool, true, false, not, ◌&&◌, ◌||◌, if◌then◌else◌, ◌==◌, List, [], ◌∷◌, length, take, drop, slice_index, min, Option, Some, None, option_map}
+use Rattle.std.specs.Prelude.{◌≡◌, ◌≢◌, ℕ, ◌+◌, ◌^◌, ◌<◌, ◌≤◌, Bool, true, false, ◌&&◌, ◌||◌, if◌then◌else◌, ◌==◌, [], ◌∷◌, length, take, drop, slice_index, min, Option, Some, None, option_map}
 use Rattle.std.specs.List.{list_all}
 use Rattle.protox_lex.specs.declared.class.Class.TheVariants as class
 use Rattle.protox_lex.specs.declared.error.LexErrorKind.{LexErrorKind}
 use Rattle.protox_lex.specs.declared.error.LexErrorKind.TheVariants as kinds
 use Rattle.protox_lex.specs.Class.{Text, is_in, past}
-use Rattle.protox_lex.specs.Token.{Token, ident, int, float, str, sign, comment, Piece, gap, token, Lexeme, token_at, fault_at}
+use Rattle.protox_lex.specs.Token.{Token, ident, int, float, str, sign, comment, Piece, gap, token}
 use Rattle.protox_lex.specs.Spelled.{is_empty, is_line}
 use Rattle.protox_lex.specs.Longest.{prefix_of}
 use Rattle.protox_lex.specs.Lex.{is_hex, begins_number, value, is_float, past_fraction, past_suffix, contents_len, comment_len, fault_len, escape, sign_of, char_len}

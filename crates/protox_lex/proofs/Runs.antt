@@ -1,10 +1,9 @@
 -- Pieces that are runs of a class, and cuts of them.
-use Rattle.std.proofs.Common.{◌≡◌, ℕ, zero, suc, ◌+◌, ◌-◌, ◌≤◌, ◌<◌, Bool, true, false, cond, ◌&&◌, ◌||◌, List, [], ◌∷◌, take, drop, get_or, length, Option, Some, None, Ok, Err, ap, sym, ◌∙◌, arith, refl, inl, inr, ◌⊎◌, length-take}
-use Rattle.std.specs.Prelude.{slice_index}
+use Rattle.std.proofs.Common.{◌≡◌, ℕ, zero, suc, ◌+◌, ◌≤◌, ◌<◌, Bool, true, false, cond, ◌&&◌, [], ◌∷◌, take, length, Some, None, ap, ◌∙◌, arith, refl}
 use Rattle.std.specs.List.{prefix_len, list_all}
 use Rattle.std.proofs.lemmas.List.Sums.{prefix_len-le-length}
 use Rattle.protox_lex.specs.Class.{Text}
-use Rattle.protox_lex.specs.Token.{Token, Piece, gap, token}
+use Rattle.protox_lex.specs.Token.{Piece}
 use Rattle.protox_lex.proofs.Pieces.{if_all, piece_of, IsCut}
 
 pub all_of_run : (p : ℕ → Bool) (y : Text) → list_all p (take (prefix_len p y) y) ≡ true

@@ -1,13 +1,11 @@
 -- The string at the front is the longest that begins there, or it is not closed.
-use Rattle.std.proofs.Common.{◌≡◌, ◌≢◌, ℕ, zero, suc, ◌+◌, ◌-◌, ◌≤◌, ◌<◌, Bool, true, false, cond, eqb, leb, ◌&&◌, ◌||◌, Result, Option, Some, None, List, [], ◌∷◌, take, drop, get_or, length, Ok, Err, ap, sym, subst, ◌∙◌, arith, refl, length-take, eq-eqb, ◌⊎◌, inl, inr, min}
+use Rattle.std.proofs.Common.{◌≡◌, ◌≢◌, ℕ, zero, suc, ◌+◌, ◌≤◌, ◌<◌, Bool, true, false, cond, eqb, leb, ◌&&◌, Option, Some, None, [], ◌∷◌, take, get_or, length, Ok, Err, ap, sym, subst, ◌∙◌, arith, refl, length-take, eq-eqb, ◌⊎◌, inl, inr}
 use Rattle.std.specs.Prelude.{slice_index, ◌==◌, option_map}
 use Rattle.std.proofs.lemmas.Bool.{cases_lt, eqb-true, eqb-false, leb-true, leb-false, and_parts}
 use Rattle.std.proofs.lemmas.List.{get_or_past, get_or-take, take-take}
-use Rattle.protox_lex.specs.declared.error.LexErrorKind.TheVariants as kinds
-use Rattle.protox_lex.specs.declared.escape.Meaning.{Meaning}
 use Rattle.protox_lex.specs.Class.{Text}
-use Rattle.protox_lex.specs.Token.{Token, str, Piece, token}
-use Rattle.protox_lex.specs.Lex.{Escaped, escape, escape_len, is_plain, unit_len, after_unit, contents_from, contents_len, closed, unclosed, quoted}
+use Rattle.protox_lex.specs.Token.{str, Piece, token}
+use Rattle.protox_lex.specs.Lex.{Escaped, escape, escape_len, is_plain, after_unit, contents_from, contents_len, closed, quoted}
 use Rattle.protox_lex.proofs.Pieces.{if_all, literal_of, piece_of, IsCut}
 use Rattle.protox_lex.specs.Spelled.{is_quote}
 use Rattle.protox_lex.proofs.Alike.{Alike, alike_rest, alike_head, alike_none, alike_at, alike-take, alike_back}

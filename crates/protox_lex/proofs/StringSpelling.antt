@@ -1,8 +1,8 @@
 -- A text is a string exactly where it is spelled as one.
-use Rattle.std.proofs.Common.{◌≡◌, ◌≢◌, ℕ, zero, suc, ◌+◌, ◌-◌, ◌≤◌, ◌<◌, Bool, true, false, cond, eqb, ltb, ◌&&◌, ◌||◌, not, Result, Option, Some, None, List, [], ◌∷◌, ◌++◌, take, drop, get_or, length, Ok, Err, ap, sym, subst, ◌∙◌, arith, refl, length-take, length-drop, length-append, eq-eqb, ◌⊎◌, inl, inr, min}
+use Rattle.std.proofs.Common.{◌≡◌, ℕ, zero, suc, ◌+◌, ◌≤◌, Bool, true, false, eqb, ltb, ◌&&◌, ◌||◌, not, Option, Some, None, [], ◌∷◌, ◌++◌, take, drop, length, Ok, Err, ap, sym, subst, ◌∙◌, arith, refl, length-take, length-drop, length-append, ◌⊎◌, inl, inr, min}
 use Rattle.std.specs.Prelude.{slice_index, ◌==◌}
 use Rattle.std.specs.List.{prefix_len}
-use Rattle.std.proofs.lemmas.Bool.{eqb-true, ltb-false, and_parts, or_parts}
+use Rattle.std.proofs.lemmas.Bool.{eqb-true, ltb-false, and_parts}
 use Rattle.std.proofs.lemmas.List.{drop-drop}
 use Rattle.std.proofs.lemmas.List.Sums.{prefix_len-le-length}
 use Rattle.std.proofs.Math.Seq.{take-append_seam, drop-append_seam, get_or-append_seam}

@@ -9,4 +9,5 @@ pub mod Resolver
 pub mod Signed
 pub mod Blocks
 pub mod Spelled
+pub mod TextFormat
 pub mod Longest

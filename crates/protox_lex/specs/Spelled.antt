@@ -1,7 +1,7 @@
 -- Numbers, strings and comments as the language specification spells them.
 --
 -- Sources: "Lexical elements" of the protobuf language specification and of the text format specification, on protobuf.dev.
-use Rattle.std.specs.Prelude.{◌≡◌, ℕ, suc, ◌+◌, ◌<◌, Bool, true, false, not, ◌&&◌, ◌||◌, ◌==◌, if◌then◌else◌, ◌⊎◌, List, [], ◌∷◌, ◌++◌, length, drop, slice_index, Ok}
+use Rattle.std.specs.Prelude.{◌≡◌, ◌≢◌, ℕ, ◌+◌, ◌<◌, Bool, true, false, not, ◌||◌, ◌==◌, if◌then◌else◌, ◌⊎◌, [], ◌∷◌, ◌++◌, length, drop, slice_index, Ok}
 use Rattle.std.specs.List.{list_all}
 use Rattle.protox_lex.specs.declared.class.Class.{Class}
 use Rattle.protox_lex.specs.declared.class.Class.TheVariants as class
@@ -53,6 +53,12 @@ pub data Contents (quote : ℕ) (rest : Text) : Text → Type 0 where
   ends : (y : Text) → y ≡ rest → Contents quote rest y
   plain_byte : (b : ℕ) (y : Text) → is_plain quote b ≡ true → Contents quote rest y → Contents quote rest (b ∷ y)
   escaped : (y : Text) (e : Meaning × ℕ) → escape y ≡ Ok e → Contents quote rest (drop e.1 y) → Contents quote rest (92 ∷ y)
+
+-- each backslash begins an escape
+pub data IsEscaped : Text → Type 0 where
+  nothing : IsEscaped []
+  other_byte : (b : ℕ) (y : Text) → b ≢ 92 → IsEscaped y → IsEscaped (b ∷ y)
+  one_escape : (y : Text) (e : Meaning × ℕ) → escape y ≡ Ok e → IsEscaped (drop e.1 y) → IsEscaped (92 ∷ y)
 
 -- strLit, behind its opening quote: contents and the quote
 pub record IsString (quote : ℕ) (y : Text) (s : Text) : Type 0 where

@@ -108,6 +108,8 @@ impl Comments {
         ensures parted { (blocks self.old).is_parted ≡ true → result.1 ≡ None }
         ensures last { (blocks self.old).is_parted ≡ false → result.1 ≡ None → (blocks self.old).texts ≡ [] }
         ensures after { (blocks self.new).texts ≡ [] }
+        ensures closed { (blocks self.new).is_open ≡ false }
+        ensures unparted { (blocks self.new).is_parted ≡ false }
     {
         let alloc = *self.blocks.allocator();
         let mut detached = mem::replace(&mut self.blocks, Vec::new(alloc));

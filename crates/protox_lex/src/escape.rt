@@ -1,8 +1,9 @@
 //! The escapes of a string.
 
-ghost use Rattle.std.specs.Prelude.{◌≡◌, ◌≢◌, ◌<◌, ◌≤◌, ◌+◌, ◌++◌, length, slice_index, OnOk, IfOk, IfErr, IsSome, true};
+ghost use Rattle.std.specs.Prelude.{◌≡◌, ◌≢◌, ◌<◌, ◌≤◌, ◌+◌, ◌++◌, length, slice_index, OnOk, IfOk, IfErr, IsSome, true, false};
 ghost use Rattle.protox_lex.specs.Class.{is_in};
 ghost use Rattle.protox_lex.specs.Lex as spec;
+ghost use Rattle.protox_lex.specs.Spelled.{IsEscaped};
 ghost use Rattle.protox_lex.specs.declared.class.Class.TheVariants as class;
 
 use crate::class::{Class, byte, is_in, past};
@@ -222,7 +223,10 @@ pub(crate) fn write_contents<W: fmt::Write>(f: &mut fmt::Formatter<W>, raw: &[u8
 }
 
 /// Each backslash among the bytes begins an escape, as [`unescape`] reads them.
-pub fn is_escaped(raw: &[u8]) -> bool {
+pub fn is_escaped(raw: &[u8]) -> bool
+    ensures yes { result ≡ true → IsEscaped raw.now }
+    ensures no { result ≡ false → IsEscaped raw.now → ⊥ }
+{
     let mut at = 0;
     while at < raw.len() {
         if raw[at] != b'\\' {

@@ -1,7 +1,7 @@
 //! Laws of a source's tokens, each the contract of a function that does nothing.
 //!
-//! `Lexes at z ts` says that the text `z`, which begins at the place `at`, is cut into the tokens `ts` by the longest match. `Lexer::new` gives a
-//! lexer whose tokens are those of its source, and `Lexer::next` gives them one after the other; by `one_reading` there are no others.
+//! `Lexes at z ts` says that the text `z`, which begins at the place `at`, is cut into `ts` by the longest match: each piece is spelled as "Lexical
+//! elements" of the protobuf language specification has it, no longer front of what is left is a piece, and a fault is true where it stands.
 ghost use Rattle.protox_lex.specs.Class.{Text};
 ghost use Rattle.protox_lex.specs.Lex.{lexemes};
 ghost use Rattle.protox_lex.specs.Longest.{Lexes};
