@@ -1,1 +1,5 @@
+pub mod Levels
 pub mod Messages
+pub mod Parts
+pub mod Spelled
+pub mod Values

@@ -17,7 +17,7 @@ use Rattle.descriptor_records.specs.declared.service.MethodDescriptorProto.{Meth
 use Rattle.descriptor_records.specs.declared.service.ServiceDescriptorProto.{ServiceDescriptorProto}
 use Rattle.descriptor_records.specs.declared.source_info.Location.{Location}
 use Rattle.descriptor_records.specs.declared.source_info.SourceCodeInfo.{SourceCodeInfo}
-use Rattle.reflect_codec.specs.Fields.{payload_field, text_field, texts_field, int32_field, int32s_field, packed_field, bool_field, record_field, records_field, options_field}
+use Rattle.reflect_codec.specs.Fields.{text_field, texts_field, int32_field, int32s_field, packed_field, bool_field, record_field, records_field, options_field}
 
 abbrev pub field_bytes : FieldDescriptorProto → List ℕ
 field_bytes f = concat (

@@ -1,10 +1,12 @@
 //! Files and sets, and their bytes.
 ghost use Rattle.std.specs.Prelude.{◌≡◌, ◌++◌, IfErr, OnErr, OnOk};
 ghost use Rattle.reflect_wire.specs.declared.wire_error.WireError.TheVariants.{Memory};
+ghost use Rattle.reflect_codec.specs.Meaning.{IsFileBytes, IsSetBytes};
+ghost use Rattle.reflect_codec.specs.Reading.{Takes};
 ghost use Rattle.reflect_codec.specs.Written.{file_bytes, set_bytes};
 
 use crate::backward::{Backward, WriteRecord};
-use crate::record::{ReadRecord, merge_fields};
+use crate::fields::{Fields, ReadRecord};
 use descriptor_records::{FileDescriptorProto, FileDescriptorSet};
 use reflect_wire::WireError;
 use std::alloc::Global;
@@ -17,17 +19,19 @@ pub const MAX_LEVELS: u32 = 100;
 /// Lists of numbers are read packed and unpacked, unknown fields outside options are dropped, and the bytes of options
 /// are kept as they came. Refused where the bytes are no records of at most 100 levels (those in an options record
 /// counted by themselves), where a known field has another wire type (`BadWireType`), and where a text is not UTF-8.
-pub fn decode_file(alloc: Global, bytes: &[u8]) -> Result<FileDescriptorProto, WireError> {
-    let mut file = FileDescriptorProto::new(alloc);
-    merge_fields(&mut file, alloc, bytes, MAX_LEVELS)?;
-    Ok(file)
+pub fn decode_file(alloc: Global, bytes: &[u8]) -> Result<FileDescriptorProto, WireError>
+    ensures { Takes IsFileBytes bytes.now result }
+{
+    let fields = Fields::read(alloc, bytes, MAX_LEVELS)?;
+    FileDescriptorProto::from_fields(alloc, &fields)
 }
 
 /// The descriptor set that the bytes spell, read and refused as `decode_file` says.
-pub fn decode_set(alloc: Global, bytes: &[u8]) -> Result<FileDescriptorSet, WireError> {
-    let mut set = FileDescriptorSet::empty(alloc);
-    merge_fields(&mut set, alloc, bytes, MAX_LEVELS)?;
-    Ok(set)
+pub fn decode_set(alloc: Global, bytes: &[u8]) -> Result<FileDescriptorSet, WireError>
+    ensures { Takes IsSetBytes bytes.now result }
+{
+    let fields = Fields::read(alloc, bytes, MAX_LEVELS)?;
+    FileDescriptorSet::from_fields(alloc, &fields)
 }
 
 /// Appends the file's bytes: present fields by ascending number, options as the bytes that they hold.

@@ -1,37 +1,25 @@
 //! Enum types and their values.
 ghost use Rattle.reflect_codec.specs.Written.{enum_bytes, enum_value_bytes, enum_range_bytes};
+ghost use Rattle.reflect_codec.specs.Meaning.{IsEnum, IsEnumRange, IsEnumValue};
 
 use crate::backward::{Backward, WriteRecord};
-use crate::options::{OptionsOf, merge_options};
-use crate::raw_field::RawField;
-use crate::record::{ReadRecord, merge_int32, merge_text, push_record, push_text};
+use crate::fields::{Fields, ReadRecord};
+use crate::options::OptionsOf;
 use descriptor_records::{EnumDescriptorProto, EnumReservedRange, EnumValueDescriptorProto, tag};
 use reflect_wire::WireError;
 use std::alloc::{AllocError, Global};
 
 impl ReadRecord for EnumDescriptorProto {
-    fn empty(alloc: Global) -> EnumDescriptorProto {
-        EnumDescriptorProto::new(alloc)
-    }
+    ghost facts = { λ levels fs r. IsEnum levels fs r };
 
-    fn merge_field<'b>(
-        &mut self,
-        alloc: Global,
-        field: RawField<'b>,
-    ) -> Result<&'b [u8], WireError> {
-        match field.number {
-            tag::enumeration::NAME => merge_text(&mut self.name, alloc, field),
-            tag::enumeration::VALUE => push_record(&mut self.value, alloc, field),
-            tag::enumeration::OPTIONS => merge_options(
-                &mut self.options,
-                OptionsOf::Enum,
-                alloc,
-                field,
-            ),
-            tag::enumeration::RESERVED_RANGE => push_record(&mut self.reserved_range, alloc, field),
-            tag::enumeration::RESERVED_NAME => push_text(&mut self.reserved_name, alloc, field),
-            _ => field.skip(alloc),
-        }
+    fn from_fields(alloc: Global, fields: &Fields<'_>) -> Result<EnumDescriptorProto, WireError> {
+        Ok(EnumDescriptorProto {
+            name: fields.last(alloc, tag::enumeration::NAME)?,
+            value: fields.list(alloc, tag::enumeration::VALUE)?,
+            options: fields.options(alloc, tag::enumeration::OPTIONS, OptionsOf::Enum)?,
+            reserved_range: fields.list(alloc, tag::enumeration::RESERVED_RANGE)?,
+            reserved_name: fields.list(alloc, tag::enumeration::RESERVED_NAME)?,
+        })
     }
 }
 
@@ -49,30 +37,17 @@ impl WriteRecord for EnumDescriptorProto {
 }
 
 impl ReadRecord for EnumValueDescriptorProto {
-    fn empty(_alloc: Global) -> EnumValueDescriptorProto {
-        EnumValueDescriptorProto {
-            name: None,
-            number: None,
-            options: None,
-        }
-    }
+    ghost facts = { λ levels fs r. IsEnumValue levels fs r };
 
-    fn merge_field<'b>(
-        &mut self,
+    fn from_fields(
         alloc: Global,
-        field: RawField<'b>,
-    ) -> Result<&'b [u8], WireError> {
-        match field.number {
-            tag::enum_value::NAME => merge_text(&mut self.name, alloc, field),
-            tag::enum_value::NUMBER => merge_int32(&mut self.number, field),
-            tag::enum_value::OPTIONS => merge_options(
-                &mut self.options,
-                OptionsOf::Other,
-                alloc,
-                field,
-            ),
-            _ => field.skip(alloc),
-        }
+        fields: &Fields<'_>,
+    ) -> Result<EnumValueDescriptorProto, WireError> {
+        Ok(EnumValueDescriptorProto {
+            name: fields.last(alloc, tag::enum_value::NAME)?,
+            number: fields.last(alloc, tag::enum_value::NUMBER)?,
+            options: fields.options(alloc, tag::enum_value::OPTIONS, OptionsOf::Other)?,
+        })
     }
 }
 
@@ -88,23 +63,13 @@ impl WriteRecord for EnumValueDescriptorProto {
 }
 
 impl ReadRecord for EnumReservedRange {
-    fn empty(_alloc: Global) -> EnumReservedRange {
-        EnumReservedRange {
-            start: None,
-            end: None,
-        }
-    }
+    ghost facts = { λ levels fs r. IsEnumRange levels fs r };
 
-    fn merge_field<'b>(
-        &mut self,
-        alloc: Global,
-        field: RawField<'b>,
-    ) -> Result<&'b [u8], WireError> {
-        match field.number {
-            tag::reserved_range::START => merge_int32(&mut self.start, field),
-            tag::reserved_range::END => merge_int32(&mut self.end, field),
-            _ => field.skip(alloc),
-        }
+    fn from_fields(alloc: Global, fields: &Fields<'_>) -> Result<EnumReservedRange, WireError> {
+        Ok(EnumReservedRange {
+            start: fields.last(alloc, tag::reserved_range::START)?,
+            end: fields.last(alloc, tag::reserved_range::END)?,
+        })
     }
 }
 

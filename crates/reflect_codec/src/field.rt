@@ -1,38 +1,31 @@
 //! Fields, extensions and oneofs.
 ghost use Rattle.reflect_codec.specs.Written.{field_bytes, oneof_bytes};
+ghost use Rattle.reflect_codec.specs.Meaning.{IsField, IsOneof};
 
 use crate::backward::{Backward, WriteRecord};
-use crate::options::{OptionsOf, merge_options};
-use crate::raw_field::RawField;
-use crate::record::{ReadRecord, merge_bool, merge_int32, merge_text};
+use crate::fields::{Fields, ReadRecord};
+use crate::options::OptionsOf;
 use descriptor_records::{FieldDescriptorProto, OneofDescriptorProto, tag};
 use reflect_wire::WireError;
 use std::alloc::{AllocError, Global};
 
 impl ReadRecord for FieldDescriptorProto {
-    fn empty(_alloc: Global) -> FieldDescriptorProto {
-        FieldDescriptorProto::new()
-    }
+    ghost facts = { λ levels fs r. IsField levels fs r };
 
-    fn merge_field<'b>(
-        &mut self,
-        alloc: Global,
-        field: RawField<'b>,
-    ) -> Result<&'b [u8], WireError> {
-        match field.number {
-            tag::field::NAME => merge_text(&mut self.name, alloc, field),
-            tag::field::EXTENDEE => merge_text(&mut self.extendee, alloc, field),
-            tag::field::NUMBER => merge_int32(&mut self.number, field),
-            tag::field::LABEL => merge_int32(&mut self.label, field),
-            tag::field::TYPE => merge_int32(&mut self.field_type, field),
-            tag::field::TYPE_NAME => merge_text(&mut self.type_name, alloc, field),
-            tag::field::DEFAULT_VALUE => merge_text(&mut self.default_value, alloc, field),
-            tag::field::OPTIONS => merge_options(&mut self.options, OptionsOf::Field, alloc, field),
-            tag::field::ONEOF_INDEX => merge_int32(&mut self.oneof_index, field),
-            tag::field::JSON_NAME => merge_text(&mut self.json_name, alloc, field),
-            tag::field::PROTO3_OPTIONAL => merge_bool(&mut self.proto3_optional, field),
-            _ => field.skip(alloc),
-        }
+    fn from_fields(alloc: Global, fields: &Fields<'_>) -> Result<FieldDescriptorProto, WireError> {
+        Ok(FieldDescriptorProto {
+            name: fields.last(alloc, tag::field::NAME)?,
+            number: fields.last(alloc, tag::field::NUMBER)?,
+            label: fields.last(alloc, tag::field::LABEL)?,
+            field_type: fields.last(alloc, tag::field::TYPE)?,
+            type_name: fields.last(alloc, tag::field::TYPE_NAME)?,
+            extendee: fields.last(alloc, tag::field::EXTENDEE)?,
+            default_value: fields.last(alloc, tag::field::DEFAULT_VALUE)?,
+            oneof_index: fields.last(alloc, tag::field::ONEOF_INDEX)?,
+            json_name: fields.last(alloc, tag::field::JSON_NAME)?,
+            options: fields.options(alloc, tag::field::OPTIONS, OptionsOf::Field)?,
+            proto3_optional: fields.last(alloc, tag::field::PROTO3_OPTIONAL)?,
+        })
     }
 }
 
@@ -56,23 +49,13 @@ impl WriteRecord for FieldDescriptorProto {
 }
 
 impl ReadRecord for OneofDescriptorProto {
-    fn empty(_alloc: Global) -> OneofDescriptorProto {
-        OneofDescriptorProto {
-            name: None,
-            options: None,
-        }
-    }
+    ghost facts = { λ levels fs r. IsOneof levels fs r };
 
-    fn merge_field<'b>(
-        &mut self,
-        alloc: Global,
-        field: RawField<'b>,
-    ) -> Result<&'b [u8], WireError> {
-        match field.number {
-            tag::oneof::NAME => merge_text(&mut self.name, alloc, field),
-            tag::oneof::OPTIONS => merge_options(&mut self.options, OptionsOf::Other, alloc, field),
-            _ => field.skip(alloc),
-        }
+    fn from_fields(alloc: Global, fields: &Fields<'_>) -> Result<OneofDescriptorProto, WireError> {
+        Ok(OneofDescriptorProto {
+            name: fields.last(alloc, tag::oneof::NAME)?,
+            options: fields.options(alloc, tag::oneof::OPTIONS, OptionsOf::Other)?,
+        })
     }
 }
 

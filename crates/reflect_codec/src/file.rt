@@ -1,11 +1,11 @@
 //! Files and sets of files.
 ghost use Rattle.reflect_codec.specs.Written.{set_bytes, file_bytes};
+ghost use Rattle.reflect_codec.specs.Meaning.{IsFile, IsSet};
 
 use crate::backward::{Backward, WriteRecord};
-use crate::message::{push_message_type, put_message_types};
-use crate::options::{OptionsOf, merge_options};
-use crate::raw_field::RawField;
-use crate::record::{ReadRecord, merge_record, merge_text, push_int32s, push_record, push_text};
+use crate::fields::{Fields, ReadRecord};
+use crate::message::{message_types, put_message_types};
+use crate::options::OptionsOf;
 use descriptor_records::{FileDescriptorProto, FileDescriptorSet, tag};
 use reflect_wire::WireError;
 use std::alloc::{AllocError, Global};
@@ -14,21 +14,12 @@ use std::alloc::{AllocError, Global};
 const FILE: i32 = 1;
 
 impl ReadRecord for FileDescriptorSet {
-    fn empty(alloc: Global) -> FileDescriptorSet {
-        FileDescriptorSet {
-            file: Vec::new(alloc),
-        }
-    }
+    ghost facts = { λ levels fs r. IsSet levels fs r };
 
-    fn merge_field<'b>(
-        &mut self,
-        alloc: Global,
-        field: RawField<'b>,
-    ) -> Result<&'b [u8], WireError> {
-        match field.number {
-            FILE => push_record(&mut self.file, alloc, field),
-            _ => field.skip(alloc),
-        }
+    fn from_fields(alloc: Global, fields: &Fields<'_>) -> Result<FileDescriptorSet, WireError> {
+        Ok(FileDescriptorSet {
+            file: fields.list(alloc, FILE)?,
+        })
     }
 }
 
@@ -42,30 +33,23 @@ impl WriteRecord for FileDescriptorSet {
 }
 
 impl ReadRecord for FileDescriptorProto {
-    fn empty(alloc: Global) -> FileDescriptorProto {
-        FileDescriptorProto::new(alloc)
-    }
+    ghost facts = { λ levels fs r. IsFile levels fs r };
 
-    fn merge_field<'b>(
-        &mut self,
-        alloc: Global,
-        field: RawField<'b>,
-    ) -> Result<&'b [u8], WireError> {
-        match field.number {
-            tag::file::NAME => merge_text(&mut self.name, alloc, field),
-            tag::file::PACKAGE => merge_text(&mut self.package, alloc, field),
-            tag::file::DEPENDENCY => push_text(&mut self.dependency, alloc, field),
-            tag::file::MESSAGE_TYPE => push_message_type(&mut self.message_type, alloc, field),
-            tag::file::ENUM_TYPE => push_record(&mut self.enum_type, alloc, field),
-            tag::file::SERVICE => push_record(&mut self.service, alloc, field),
-            tag::file::EXTENSION => push_record(&mut self.extension, alloc, field),
-            tag::file::OPTIONS => merge_options(&mut self.options, OptionsOf::Other, alloc, field),
-            tag::file::SOURCE_CODE_INFO => merge_record(&mut self.source_code_info, alloc, field),
-            tag::file::PUBLIC_DEPENDENCY => push_int32s(&mut self.public_dependency, field),
-            tag::file::WEAK_DEPENDENCY => push_int32s(&mut self.weak_dependency, field),
-            tag::file::SYNTAX => merge_text(&mut self.syntax, alloc, field),
-            _ => field.skip(alloc),
-        }
+    fn from_fields(alloc: Global, fields: &Fields<'_>) -> Result<FileDescriptorProto, WireError> {
+        Ok(FileDescriptorProto {
+            name: fields.last(alloc, tag::file::NAME)?,
+            package: fields.last(alloc, tag::file::PACKAGE)?,
+            dependency: fields.list(alloc, tag::file::DEPENDENCY)?,
+            public_dependency: fields.int32s(alloc, tag::file::PUBLIC_DEPENDENCY)?,
+            weak_dependency: fields.int32s(alloc, tag::file::WEAK_DEPENDENCY)?,
+            message_type: message_types(alloc, fields, tag::file::MESSAGE_TYPE)?,
+            enum_type: fields.list(alloc, tag::file::ENUM_TYPE)?,
+            service: fields.list(alloc, tag::file::SERVICE)?,
+            extension: fields.list(alloc, tag::file::EXTENSION)?,
+            options: fields.options(alloc, tag::file::OPTIONS, OptionsOf::Other)?,
+            source_code_info: fields.merged(alloc, tag::file::SOURCE_CODE_INFO)?,
+            syntax: fields.last(alloc, tag::file::SYNTAX)?,
+        })
     }
 }
 

@@ -7,11 +7,10 @@ mod backward;
 mod codec;
 mod enums;
 mod field;
+mod fields;
 mod file;
 mod message;
 mod options;
-mod raw_field;
-mod record;
 mod service;
 mod source_info;
 

@@ -1,73 +1,70 @@
 //! Message types and their ranges.
-ghost use Rattle.std.specs.Prelude.{◌≡◌, ◌≤◌, ◌++◌, IfOk, OnOk, length, unsigned_abs};
+ghost use Rattle.std.specs.Prelude.{◌≡◌, ◌++◌, OnOk, unsigned_abs};
+ghost use Rattle.std.specs.List.{AllZip};
+ghost use Rattle.descriptor_records.specs.declared.message.DescriptorProto.TheViews.{out-DescriptorProto};
 ghost use Rattle.reflect_codec.specs.Fields.{records_field};
 ghost use Rattle.reflect_codec.specs.Held.{held};
 ghost use Rattle.reflect_codec.specs.Written.{extension_range_bytes, reserved_range_bytes, message_bytes};
+ghost use Rattle.reflect_codec.specs.Raw.{fields_view, value_view};
+ghost use Rattle.reflect_codec.specs.Reading.{Takes, values_at};
+ghost use Rattle.reflect_codec.specs.Meaning.{IsExtensionRange, IsLevel, IsMessage, IsReservedRange};
 
 use crate::backward::{Backward, WriteRecord};
-use crate::options::{OptionsOf, merge_options};
-use crate::raw_field::{RawField, field_at};
-use crate::record::{ReadRecord, merge_int32, merge_text, push_record, push_text};
+use crate::fields::{Fields, RawValue, ReadRecord};
+use crate::options::OptionsOf;
 use descriptor_records::{DescriptorProto, ExtensionRange, ReservedRange, tag};
 use reflect_wire::WireError;
 use std::alloc::{AllocError, Global};
 
-/// A message type of a list.
+/// The message types of a list.
 #[cycle(read)]
-pub fn push_message_type<'b>(
-    list: &mut Vec<DescriptorProto>,
+pub fn message_types(
     alloc: Global,
-    field: RawField<'b>,
-) -> Result<&'b [u8], WireError>
-    ensures { IfOk result (λ rest. length rest.now ≤ length field.entry.bytes.now) }
+    fields: &Fields<'_>,
+    number: i32,
+) -> Result<Vec<DescriptorProto>, WireError>
+    ensures { Takes (λ vs ms. AllZip (IsMessage fields.now.levels) vs ms.items) (values_at (unsigned_abs number) (fields_view fields.now.list.items)) result }
 {
-    let (payload, rest) = field.record()?;
-    let message = message_type_of(alloc, payload, field.levels - 1)?;
-    list.push(message)?;
-    Ok(rest)
+    let wanted = number.unsigned_abs();
+    let mut list = Vec::new(alloc);
+    for field in &fields.list {
+        if field.number == wanted {
+            list.push(message_type(alloc, field.value, fields.levels)?)?;
+        }
+    }
+    Ok(list)
 }
 
+/// A message type that a value holds, below which so many levels of records may lie.
 #[cycle(read)]
-fn message_type_of(
+fn message_type(
     alloc: Global,
-    payload: &[u8],
+    value: RawValue<'_>,
     levels: u32,
-) -> Result<DescriptorProto, WireError> {
-    let mut message = DescriptorProto::new(alloc);
-    let mut rest = payload;
-    while !rest.is_empty() {
-        let field = field_at(rest, levels)?;
-        rest = merge_message_field(&mut message, alloc, field)?;
-    }
-    Ok(message)
+) -> Result<DescriptorProto, WireError>
+    ensures { Takes (IsMessage levels) (value_view value.entry) result }
+{
+    let payload = value.record(levels)?;
+    let fields = Fields::read(alloc, payload, levels - 1)?;
+    message_from_fields(alloc, &fields)
 }
 
 #[cycle(read)]
-fn merge_message_field<'b>(
-    message: &mut DescriptorProto,
-    alloc: Global,
-    field: RawField<'b>,
-) -> Result<&'b [u8], WireError>
-    ensures { IfOk result (λ rest. length rest.now ≤ length field.entry.bytes.now) }
+fn message_from_fields(alloc: Global, fields: &Fields<'_>) -> Result<DescriptorProto, WireError>
+    ensures { Takes (λ fs m. IsLevel (IsMessage fields.now.levels) fields.now.levels fs (out-DescriptorProto m)) (fields_view fields.now.list.items) result }
 {
-    match field.number {
-        tag::message::NAME => merge_text(&mut message.name, alloc, field),
-        tag::message::FIELD => push_record(&mut message.field, alloc, field),
-        tag::message::NESTED_TYPE => push_message_type(&mut message.nested_type, alloc, field),
-        tag::message::ENUM_TYPE => push_record(&mut message.enum_type, alloc, field),
-        tag::message::EXTENSION_RANGE => push_record(&mut message.extension_range, alloc, field),
-        tag::message::EXTENSION => push_record(&mut message.extension, alloc, field),
-        tag::message::OPTIONS => merge_options(
-            &mut message.options,
-            OptionsOf::Message,
-            alloc,
-            field,
-        ),
-        tag::message::ONEOF_DECL => push_record(&mut message.oneof_decl, alloc, field),
-        tag::message::RESERVED_RANGE => push_record(&mut message.reserved_range, alloc, field),
-        tag::message::RESERVED_NAME => push_text(&mut message.reserved_name, alloc, field),
-        _ => field.skip(alloc),
-    }
+    Ok(DescriptorProto {
+        name: fields.last(alloc, tag::message::NAME)?,
+        field: fields.list(alloc, tag::message::FIELD)?,
+        extension: fields.list(alloc, tag::message::EXTENSION)?,
+        nested_type: message_types(alloc, fields, tag::message::NESTED_TYPE)?,
+        enum_type: fields.list(alloc, tag::message::ENUM_TYPE)?,
+        extension_range: fields.list(alloc, tag::message::EXTENSION_RANGE)?,
+        oneof_decl: fields.list(alloc, tag::message::ONEOF_DECL)?,
+        options: fields.options(alloc, tag::message::OPTIONS, OptionsOf::Message)?,
+        reserved_range: fields.list(alloc, tag::message::RESERVED_RANGE)?,
+        reserved_name: fields.list(alloc, tag::message::RESERVED_NAME)?,
+    })
 }
 
 /// Puts the message types of a list.
@@ -107,30 +104,14 @@ fn put_message_type(message: &DescriptorProto, out: &mut Backward) -> Result<(),
 }
 
 impl ReadRecord for ExtensionRange {
-    fn empty(_alloc: Global) -> ExtensionRange {
-        ExtensionRange {
-            start: None,
-            end: None,
-            options: None,
-        }
-    }
+    ghost facts = { λ levels fs r. IsExtensionRange levels fs r };
 
-    fn merge_field<'b>(
-        &mut self,
-        alloc: Global,
-        field: RawField<'b>,
-    ) -> Result<&'b [u8], WireError> {
-        match field.number {
-            tag::extension_range::START => merge_int32(&mut self.start, field),
-            tag::extension_range::END => merge_int32(&mut self.end, field),
-            tag::extension_range::OPTIONS => merge_options(
-                &mut self.options,
-                OptionsOf::Other,
-                alloc,
-                field,
-            ),
-            _ => field.skip(alloc),
-        }
+    fn from_fields(alloc: Global, fields: &Fields<'_>) -> Result<ExtensionRange, WireError> {
+        Ok(ExtensionRange {
+            start: fields.last(alloc, tag::extension_range::START)?,
+            end: fields.last(alloc, tag::extension_range::END)?,
+            options: fields.options(alloc, tag::extension_range::OPTIONS, OptionsOf::Other)?,
+        })
     }
 }
 
@@ -146,23 +127,13 @@ impl WriteRecord for ExtensionRange {
 }
 
 impl ReadRecord for ReservedRange {
-    fn empty(_alloc: Global) -> ReservedRange {
-        ReservedRange {
-            start: None,
-            end: None,
-        }
-    }
+    ghost facts = { λ levels fs r. IsReservedRange levels fs r };
 
-    fn merge_field<'b>(
-        &mut self,
-        alloc: Global,
-        field: RawField<'b>,
-    ) -> Result<&'b [u8], WireError> {
-        match field.number {
-            tag::reserved_range::START => merge_int32(&mut self.start, field),
-            tag::reserved_range::END => merge_int32(&mut self.end, field),
-            _ => field.skip(alloc),
-        }
+    fn from_fields(alloc: Global, fields: &Fields<'_>) -> Result<ReservedRange, WireError> {
+        Ok(ReservedRange {
+            start: fields.last(alloc, tag::reserved_range::START)?,
+            end: fields.last(alloc, tag::reserved_range::END)?,
+        })
     }
 }
 

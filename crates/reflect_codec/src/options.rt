@@ -1,13 +1,12 @@
 //! Options, whose bytes are kept, and from which the few that linking needs are read.
-ghost use Rattle.std.specs.Prelude.{◌≤◌, IfOk, length};
+ghost use Rattle.std.specs.Prelude.{◌≡◌, unsigned_abs};
+ghost use Rattle.reflect_codec.specs.Raw.{fields_view};
+ghost use Rattle.reflect_codec.specs.Reading.{Takes, IsLastIf, values_at};
+ghost use Rattle.reflect_codec.specs.Meaning.{AreOptions, IsNamePart, IsUninterpretedOption, is_enum, is_field, is_message};
 
 use crate::codec::MAX_LEVELS;
-use crate::raw_field::{RawField, field_at};
-use crate::record::{
-    ReadRecord, merge_bool, merge_bytes, merge_int64, merge_text, merge_uint64, push_record,
-    set_text,
-};
-use descriptor_records::{DoubleValue, NamePart, Options, UninterpretedOption, tag};
+use crate::fields::{FieldValue, Fields, ReadRecord};
+use descriptor_records::{NamePart, Options, UninterpretedOption, tag};
 use reflect_wire::WireError;
 use std::alloc::Global;
 
@@ -29,58 +28,64 @@ pub enum OptionsOf {
     Other,
 }
 
-/// Options: a further record of their field stands behind the first.
-///
-/// They are a level of the record that holds them; the levels inside are counted from them.
-pub fn merge_options<'b>(
-    options: &mut Option<Options>,
-    of: OptionsOf,
-    alloc: Global,
-    field: RawField<'b>,
-) -> Result<&'b [u8], WireError>
-    ensures { IfOk result (λ rest. length rest.now ≤ length field.entry.bytes.now) }
-{
-    let (payload, rest) = field.record()?;
-    let mut merged = match options.take() {
-        Some(options) => options,
-        None => Options::new(alloc),
-    };
-    merged.encoded.extend_from_slice(payload)?;
-    read_options(&mut merged, of, alloc, payload)?;
-    *options = Some(merged);
-    Ok(rest)
-}
-
-fn read_options(
-    options: &mut Options,
-    of: OptionsOf,
-    alloc: Global,
-    payload: &[u8],
-) -> Result<(), WireError> {
-    let mut rest = payload;
-    while !rest.is_empty() {
-        let field = field_at(rest, MAX_LEVELS)?;
-        rest = read_option(options, of, alloc, field)?;
+impl OptionsOf {
+    fn is_field(self) -> bool
+        ensures { result ≡ is_field self }
+    {
+        matches!(self, OptionsOf::Field)
     }
-    Ok(())
+
+    fn is_enum(self) -> bool
+        ensures { result ≡ is_enum self }
+    {
+        matches!(self, OptionsOf::Enum)
+    }
+
+    fn is_message(self) -> bool
+        ensures { result ≡ is_message self }
+    {
+        matches!(self, OptionsOf::Message)
+    }
 }
 
-fn read_option<'b>(
-    options: &mut Options,
-    of: OptionsOf,
-    alloc: Global,
-    field: RawField<'b>,
-) -> Result<&'b [u8], WireError>
-    ensures { IfOk result (λ rest. length rest.now ≤ length field.entry.bytes.now) }
-{
-    match (of, field.number) {
-        (_, tag::UNINTERPRETED_OPTION) => {
-            push_record(&mut options.uninterpreted_option, alloc, field)
+impl<'b> Fields<'b> {
+    /// Options, of which further ones stand behind the first.
+    ///
+    /// They are a level of the record that holds them; the levels inside are counted from them.
+    pub fn options(
+        &self,
+        alloc: Global,
+        number: i32,
+        of: OptionsOf,
+    ) -> Result<Option<Options>, WireError>
+        ensures { Takes (AreOptions of self.now.levels) (values_at (unsigned_abs number) (fields_view self.now.list.items)) result }
+    {
+        match self.joined(alloc, number, MAX_LEVELS)? {
+            Some(fields) => Ok(Some(Options {
+                encoded: self.joined_bytes(alloc, number)?,
+                packed: fields.last_if(of.is_field(), alloc, PACKED)?,
+                allow_alias: fields.last_if(of.is_enum(), alloc, ALLOW_ALIAS)?,
+                map_entry: fields.last_if(of.is_message(), alloc, MAP_ENTRY)?,
+                uninterpreted_option: fields.list(alloc, tag::UNINTERPRETED_OPTION)?,
+            })),
+            None => Ok(None),
         }
-        (OptionsOf::Field, PACKED) => merge_bool(&mut options.packed, field),
-        (OptionsOf::Enum, ALLOW_ALIAS) => merge_bool(&mut options.allow_alias, field),
-        (OptionsOf::Message, MAP_ENTRY) => merge_bool(&mut options.map_entry, field),
-        _ => field.skip(alloc),
+    }
+
+    /// The last value of a field that is read only where it is wanted.
+    fn last_if<T: FieldValue>(
+        &self,
+        wanted: bool,
+        alloc: Global,
+        number: i32,
+    ) -> Result<Option<T>, WireError>
+        ensures { Takes (IsLastIf wanted (T.means self.now.levels)) (values_at (unsigned_abs number) (fields_view self.now.list.items)) result }
+    {
+        if wanted {
+            self.last(alloc, number)
+        } else {
+            Ok(None)
+        }
     }
 }
 
@@ -107,55 +112,30 @@ mod uninterpreted {
 }
 
 impl ReadRecord for UninterpretedOption {
-    fn empty(alloc: Global) -> UninterpretedOption {
-        UninterpretedOption::new(alloc)
-    }
+    ghost facts = { λ levels fs r. IsUninterpretedOption levels fs r };
 
-    fn merge_field<'b>(
-        &mut self,
-        alloc: Global,
-        field: RawField<'b>,
-    ) -> Result<&'b [u8], WireError> {
-        match field.number {
-            uninterpreted::NAME => push_record(&mut self.name, alloc, field),
-            uninterpreted::IDENTIFIER_VALUE => {
-                merge_text(&mut self.identifier_value, alloc, field)
-            }
-            uninterpreted::POSITIVE_INT_VALUE => merge_uint64(&mut self.positive_int_value, field),
-            uninterpreted::NEGATIVE_INT_VALUE => merge_int64(&mut self.negative_int_value, field),
-            uninterpreted::DOUBLE_VALUE => {
-                let (bits, rest) = field.fixed64()?;
-                self.double_value = Some(DoubleValue::Bits(bits));
-                Ok(rest)
-            }
-            uninterpreted::STRING_VALUE => merge_bytes(&mut self.string_value, alloc, field),
-            uninterpreted::AGGREGATE_VALUE => merge_text(&mut self.aggregate_value, alloc, field),
-            _ => field.skip(alloc),
-        }
+    fn from_fields(alloc: Global, fields: &Fields<'_>) -> Result<UninterpretedOption, WireError> {
+        Ok(UninterpretedOption {
+            name: fields.list(alloc, uninterpreted::NAME)?,
+            identifier_value: fields.last(alloc, uninterpreted::IDENTIFIER_VALUE)?,
+            positive_int_value: fields.last(alloc, uninterpreted::POSITIVE_INT_VALUE)?,
+            negative_int_value: fields.last(alloc, uninterpreted::NEGATIVE_INT_VALUE)?,
+            double_value: fields.last(alloc, uninterpreted::DOUBLE_VALUE)?,
+            string_value: fields.last(alloc, uninterpreted::STRING_VALUE)?,
+            aggregate_value: fields.last(alloc, uninterpreted::AGGREGATE_VALUE)?,
+        })
     }
 }
 
 impl ReadRecord for NamePart {
-    fn empty(alloc: Global) -> NamePart {
-        NamePart {
-            name_part: String::new(alloc),
-            is_extension: false,
-        }
-    }
+    ghost facts = { λ levels fs r. IsNamePart levels fs r };
 
-    fn merge_field<'b>(
-        &mut self,
-        alloc: Global,
-        field: RawField<'b>,
-    ) -> Result<&'b [u8], WireError> {
-        match field.number {
-            NAME_PART => set_text(&mut self.name_part, alloc, field),
-            IS_EXTENSION => {
-                let (n, rest) = field.varint()?;
-                self.is_extension = n != 0;
-                Ok(rest)
-            }
-            _ => field.skip(alloc),
-        }
+    fn from_fields(alloc: Global, fields: &Fields<'_>) -> Result<NamePart, WireError> {
+        let name_part: Option<String> = fields.last(alloc, NAME_PART)?;
+        let is_extension: Option<bool> = fields.last(alloc, IS_EXTENSION)?;
+        Ok(NamePart {
+            name_part: name_part.unwrap_or(String::new(alloc)),
+            is_extension: is_extension.unwrap_or(false),
+        })
     }
 }

@@ -1,39 +1,26 @@
 //! Services and their methods.
 ghost use Rattle.reflect_codec.specs.Written.{service_bytes, method_bytes};
+ghost use Rattle.reflect_codec.specs.Meaning.{IsMethod, IsService};
 
 use crate::backward::{Backward, WriteRecord};
-use crate::options::{OptionsOf, merge_options};
-use crate::raw_field::RawField;
-use crate::record::{ReadRecord, merge_bool, merge_text, push_record};
+use crate::fields::{Fields, ReadRecord};
+use crate::options::OptionsOf;
 use descriptor_records::{MethodDescriptorProto, ServiceDescriptorProto, tag};
 use reflect_wire::WireError;
 use std::alloc::{AllocError, Global};
 
 impl ReadRecord for ServiceDescriptorProto {
-    fn empty(alloc: Global) -> ServiceDescriptorProto {
-        ServiceDescriptorProto {
-            name: None,
-            method: Vec::new(alloc),
-            options: None,
-        }
-    }
+    ghost facts = { λ levels fs r. IsService levels fs r };
 
-    fn merge_field<'b>(
-        &mut self,
+    fn from_fields(
         alloc: Global,
-        field: RawField<'b>,
-    ) -> Result<&'b [u8], WireError> {
-        match field.number {
-            tag::service::NAME => merge_text(&mut self.name, alloc, field),
-            tag::service::METHOD => push_record(&mut self.method, alloc, field),
-            tag::service::OPTIONS => merge_options(
-                &mut self.options,
-                OptionsOf::Other,
-                alloc,
-                field,
-            ),
-            _ => field.skip(alloc),
-        }
+        fields: &Fields<'_>,
+    ) -> Result<ServiceDescriptorProto, WireError> {
+        Ok(ServiceDescriptorProto {
+            name: fields.last(alloc, tag::service::NAME)?,
+            method: fields.list(alloc, tag::service::METHOD)?,
+            options: fields.options(alloc, tag::service::OPTIONS, OptionsOf::Other)?,
+        })
     }
 }
 
@@ -49,36 +36,17 @@ impl WriteRecord for ServiceDescriptorProto {
 }
 
 impl ReadRecord for MethodDescriptorProto {
-    fn empty(_alloc: Global) -> MethodDescriptorProto {
-        MethodDescriptorProto {
-            name: None,
-            input_type: None,
-            output_type: None,
-            options: None,
-            client_streaming: None,
-            server_streaming: None,
-        }
-    }
+    ghost facts = { λ levels fs r. IsMethod levels fs r };
 
-    fn merge_field<'b>(
-        &mut self,
-        alloc: Global,
-        field: RawField<'b>,
-    ) -> Result<&'b [u8], WireError> {
-        match field.number {
-            tag::method::NAME => merge_text(&mut self.name, alloc, field),
-            tag::method::INPUT_TYPE => merge_text(&mut self.input_type, alloc, field),
-            tag::method::OUTPUT_TYPE => merge_text(&mut self.output_type, alloc, field),
-            tag::method::OPTIONS => merge_options(
-                &mut self.options,
-                OptionsOf::Other,
-                alloc,
-                field,
-            ),
-            tag::method::CLIENT_STREAMING => merge_bool(&mut self.client_streaming, field),
-            tag::method::SERVER_STREAMING => merge_bool(&mut self.server_streaming, field),
-            _ => field.skip(alloc),
-        }
+    fn from_fields(alloc: Global, fields: &Fields<'_>) -> Result<MethodDescriptorProto, WireError> {
+        Ok(MethodDescriptorProto {
+            name: fields.last(alloc, tag::method::NAME)?,
+            input_type: fields.last(alloc, tag::method::INPUT_TYPE)?,
+            output_type: fields.last(alloc, tag::method::OUTPUT_TYPE)?,
+            options: fields.options(alloc, tag::method::OPTIONS, OptionsOf::Other)?,
+            client_streaming: fields.last(alloc, tag::method::CLIENT_STREAMING)?,
+            server_streaming: fields.last(alloc, tag::method::SERVER_STREAMING)?,
+        })
     }
 }
 

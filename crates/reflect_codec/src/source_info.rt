@@ -1,9 +1,9 @@
 //! Where declarations stand in their source.
 ghost use Rattle.reflect_codec.specs.Written.{source_info_bytes, location_bytes};
+ghost use Rattle.reflect_codec.specs.Meaning.{IsLocation, IsSourceInfo};
 
 use crate::backward::{Backward, WriteRecord};
-use crate::raw_field::RawField;
-use crate::record::{ReadRecord, merge_text, push_int32s, push_record, push_text};
+use crate::fields::{Fields, ReadRecord};
 use descriptor_records::{Location, SourceCodeInfo};
 use reflect_wire::WireError;
 use std::alloc::{AllocError, Global};
@@ -24,21 +24,12 @@ mod location {
 }
 
 impl ReadRecord for SourceCodeInfo {
-    fn empty(alloc: Global) -> SourceCodeInfo {
-        SourceCodeInfo {
-            location: Vec::new(alloc),
-        }
-    }
+    ghost facts = { λ levels fs r. IsSourceInfo levels fs r };
 
-    fn merge_field<'b>(
-        &mut self,
-        alloc: Global,
-        field: RawField<'b>,
-    ) -> Result<&'b [u8], WireError> {
-        match field.number {
-            LOCATION => push_record(&mut self.location, alloc, field),
-            _ => field.skip(alloc),
-        }
+    fn from_fields(alloc: Global, fields: &Fields<'_>) -> Result<SourceCodeInfo, WireError> {
+        Ok(SourceCodeInfo {
+            location: fields.list(alloc, LOCATION)?,
+        })
     }
 }
 
@@ -52,33 +43,16 @@ impl WriteRecord for SourceCodeInfo {
 }
 
 impl ReadRecord for Location {
-    fn empty(alloc: Global) -> Location {
-        Location {
-            path: Vec::new(alloc),
-            span: Vec::new(alloc),
-            leading_comments: None,
-            trailing_comments: None,
-            leading_detached_comments: Vec::new(alloc),
-        }
-    }
+    ghost facts = { λ levels fs r. IsLocation levels fs r };
 
-    fn merge_field<'b>(
-        &mut self,
-        alloc: Global,
-        field: RawField<'b>,
-    ) -> Result<&'b [u8], WireError> {
-        match field.number {
-            location::PATH => push_int32s(&mut self.path, field),
-            location::SPAN => push_int32s(&mut self.span, field),
-            location::LEADING_COMMENTS => merge_text(&mut self.leading_comments, alloc, field),
-            location::TRAILING_COMMENTS => merge_text(&mut self.trailing_comments, alloc, field),
-            location::LEADING_DETACHED_COMMENTS => push_text(
-                &mut self.leading_detached_comments,
-                alloc,
-                field,
-            ),
-            _ => field.skip(alloc),
-        }
+    fn from_fields(alloc: Global, fields: &Fields<'_>) -> Result<Location, WireError> {
+        Ok(Location {
+            path: fields.int32s(alloc, location::PATH)?,
+            span: fields.int32s(alloc, location::SPAN)?,
+            leading_comments: fields.last(alloc, location::LEADING_COMMENTS)?,
+            trailing_comments: fields.last(alloc, location::TRAILING_COMMENTS)?,
+            leading_detached_comments: fields.list(alloc, location::LEADING_DETACHED_COMMENTS)?,
+        })
     }
 }
 

@@ -1,4 +1,4 @@
-use Rattle.std.proofs.Common.{◌++◌, ap, sym, ◌∙◌}
+use Rattle.std.proofs.Common.{◌++◌, ap}
 use Rattle.reflect_wire.proofs.Encodings.{varint_bytes-last, varint_bytes-more}
 use Rattle.reflect_codec.specs.Held.{held}
 use Rattle.reflect_codec.proofs.backward.Backward.+put_varint.Goals as goal

@@ -1,0 +1,26 @@
+-- Message types that are read, one level at a time.
+use Rattle.std.proofs.Common.{◌≡◌, ℕ, zero, suc, ◌-◌, ◌<◌, List, subst, arith, rules}
+use Rattle.descriptor_records.specs.declared.message.DescriptorProto.{DescriptorProto}
+use Rattle.descriptor_records.specs.declared.message.DescriptorProto.TheOpen.{DescriptorProto-F}
+use Rattle.descriptor_records.specs.declared.message.DescriptorProto.TheViews.{out-DescriptorProto, roll-DescriptorProto, the_lemmas}
+use Rattle.reflect_codec.specs.Meaning.{IsLevel, IsMessage}
+use Rattle.reflect_codec.specs.Reading.{Value, Field, IsPart}
+
+-- a message type below so many levels, with those that may lie below it
+abbrev pub IsOpened : ℕ → Value → DescriptorProto → Type 0
+IsOpened levels v m = (fs : List Field) × IsPart levels (levels - 1) v fs × IsLevel (IsMessage (levels - 1)) (levels - 1) fs (out-DescriptorProto m)
+
+pub message_opens : (levels : ℕ) (v : Value) (m : DescriptorProto) → IsMessage levels v m → IsOpened levels v m
+message_opens zero v m h = absurd h
+message_opens (suc k) v m h =
+    let e : k ≡ suc k - 1 = omega arith in
+    subst (λ j. (fs : List Field) × IsPart (suc k) j v fs × IsLevel (IsMessage j) j fs (out-DescriptorProto m)) e h
+
+pub message_closes : (levels : ℕ) (v : Value) (m : DescriptorProto) → IsOpened levels v m → IsMessage levels v m
+message_closes zero v m h = let none : 0 < 0 = h.1.1.0 in absurd (omega (arith, none))
+message_closes (suc k) v m h =
+    let e : suc k - 1 ≡ k = omega arith in
+    subst (λ j. (fs : List Field) × IsPart (suc k) j v fs × IsLevel (IsMessage j) j fs (out-DescriptorProto m)) e h
+
+pub level_rolls : (inner : Value → DescriptorProto → Type 0) (levels : ℕ) (fs : List Field) (x : DescriptorProto-F DescriptorProto) → IsLevel inner levels fs x → IsLevel inner levels fs (out-DescriptorProto (roll-DescriptorProto x))
+level_rolls inner levels fs x h = let e : x ≡ out-DescriptorProto (roll-DescriptorProto x) = search (rules, the_lemmas) in subst (IsLevel inner levels fs) e h

@@ -1,0 +1,65 @@
+-- One record, or one number, more behind those that were read.
+use Rattle.std.proofs.Common.{◌≡◌, ℕ, ℤ, List, [], ◌∷◌, ◌++◌, refl, sym, ap, ◌∙◌, subst, append-nil, append_assoc}
+use Rattle.reflect_wire.specs.Key.{IsKey}
+use Rattle.reflect_wire.specs.Reads.{Fronts, NoFront}
+use Rattle.reflect_wire.specs.Records.{Payload, Records, no_records, more_records, key_of, wire_of, SpellsPayload, SpellsRecords, IsValue}
+use Rattle.reflect_wire.specs.Varint.{IsVarint}
+use Rattle.reflect_wire.specs.declared.wire_key.WireKey.{WireKey}
+use Rattle.reflect_wire.proofs.Varints.{one_form}
+use Rattle.reflect_codec.specs.Raw.{IsRawValue}
+use Rattle.reflect_codec.specs.Reading.{Field, value_of, fields_in, int32_of, SpellsNumbers}
+
+-- the records with one more behind them
+abbrev pushed : Records → ℕ → Payload → Records
+pushed no_records n p = more_records n p no_records
+pushed (more_records m q rs) n p = more_records m q (pushed rs n p)
+
+fields_in-pushed : (rs : Records) (n : ℕ) (p : Payload) → fields_in (pushed rs n p) ≡ fields_in rs ++ (n, value_of p) ∷ []
+fields_in-pushed no_records n p = refl
+fields_in-pushed (more_records m q rs) n p = ap (λ (fs : List Field). (m, value_of q) ∷ fs) (fields_in-pushed rs n p)
+
+spells_pushed : (levels n : ℕ) (front key value : List ℕ) (rs : Records) (p : Payload) → SpellsRecords levels front rs → IsKey key (key_of n (wire_of p)) → SpellsPayload levels n value p
+    → SpellsRecords levels (front ++ (key ++ value)) (pushed rs n p)
+spells_pushed levels n front key value no_records p h k v = (key, value, [], k, v, refl, ap (λ f. f ++ (key ++ value)) h ∙ ap (λ v. key ++ v) (sym (append-nil value)))
+spells_pushed levels n front key value (more_records m q rs) p h k v =
+    (h.0, h.1, h.2 ++ (key ++ value), h.3, h.4, spells_pushed levels n h.2 key value rs p h.5 k v, ap (λ f. f ++ (key ++ value)) h.6 ∙ simp append_assoc)
+
+-- one field more was read
+pub one_more : (levels : ℕ) (bytes rest behind more : List ℕ) (done : Records) (key : WireKey) (value : List ℕ) (p : Payload) → Fronts (SpellsRecords levels) bytes done rest → Fronts IsKey rest key behind
+    → IsValue levels key value p → behind ≡ value ++ more → (rs : Records) × Fronts (SpellsRecords levels) bytes rs more × (fields_in rs ≡ fields_in done ++ (key.number, value_of p) ∷ [])
+one_more levels bytes rest behind more done key value p found read h e =
+    let same : key ≡ key_of key.number (wire_of p) = ap (key_of key.number) h.0 in (
+      pushed done key.number p,
+      (
+        found.0 ++ (read.0 ++ value),
+        spells_pushed levels key.number found.0 read.0 value done p found.1 (subst (IsKey read.0) same read.1) h.1,
+        found.2 ∙ ap (λ r. found.0 ++ r) (read.2 ∙ ap (λ b. read.0 ++ b) e) ∙ simp append_assoc,
+      ),
+      fields_in-pushed done key.number p,
+    )
+
+no_varint : (n : ℕ) → IsVarint [] n → ⊥
+no_varint n h = h.spelled
+
+module _ (left front rest : List ℕ) (n : ℕ) (h : IsVarint front n) (e : left ≡ front ++ rest) where
+  -- numbers behind are numbers with this one in front
+  pub number_before : (zs : List ℤ) → SpellsNumbers rest zs → SpellsNumbers left (int32_of n ∷ zs)
+  number_before zs s = (front, rest, n, h, refl, s, e)
+
+  -- any numbers that are read here have this one in front
+  pub numbers_behind : (zs : List ℤ) → SpellsNumbers left zs → (ys : List ℤ) × SpellsNumbers rest ys
+  numbers_behind [] s = absurd (by front h (sym e ∙ s)) where
+    by : (f : List ℕ) → IsVarint f n → f ++ rest ≡ [] → ⊥
+    by [] v w = no_varint n v
+    by (b ∷ bs) v w = cc
+  numbers_behind (z ∷ zs) s =
+      let one = one_form front s.0 rest s.1 _ _ h.spelled s.3.spelled (sym e ∙ s.6) in
+      (zs, subst (λ r. SpellsNumbers r zs) (sym one.2) s.5)
+
+-- where nothing is a number, nothing is a list of numbers but at the end
+pub no_numbers : (left : List ℕ) → (left ≡ [] → ⊥) → NoFront IsVarint left → (zs : List ℤ) → SpellsNumbers left zs → ⊥
+no_numbers left more none [] s = more s
+no_numbers left more none (z ∷ zs) s = none s.0 s.1 s.2 s.3 s.6
+
+pub no_raw : (levels : ℕ) (key : WireKey) (bytes : List ℕ) → NoFront (IsRawValue levels key) bytes → NoFront (IsValue levels key) bytes
+no_raw levels key bytes none front more p h e = none front more (value_of p) (p, h, refl) e
