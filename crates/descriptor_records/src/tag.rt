@@ -1,4 +1,8 @@
-//! The numbers of the records' fields in `descriptor.proto`, which a [`Location`](crate::Location)'s path is made of.
+//! The numbers of the records' fields in `descriptor.proto`, of which a [`Location`](crate::Location)'s path is made.
+
+pub mod set {
+    pub const FILE: i32 = 1;
+}
 
 pub mod file {
     pub const NAME: i32 = 1;
@@ -132,6 +136,44 @@ pub mod method {
     pub const CLIENT_STREAMING: i32 = 5;
 
     pub const SERVER_STREAMING: i32 = 6;
+}
+
+pub mod source_info {
+    pub const LOCATION: i32 = 1;
+}
+
+pub mod location {
+    pub const PATH: i32 = 1;
+
+    pub const SPAN: i32 = 2;
+
+    pub const LEADING_COMMENTS: i32 = 3;
+
+    pub const TRAILING_COMMENTS: i32 = 4;
+
+    pub const LEADING_DETACHED_COMMENTS: i32 = 6;
+}
+
+pub mod uninterpreted_option {
+    pub const NAME: i32 = 2;
+
+    pub const IDENTIFIER_VALUE: i32 = 3;
+
+    pub const POSITIVE_INT_VALUE: i32 = 4;
+
+    pub const NEGATIVE_INT_VALUE: i32 = 5;
+
+    pub const DOUBLE_VALUE: i32 = 6;
+
+    pub const STRING_VALUE: i32 = 7;
+
+    pub const AGGREGATE_VALUE: i32 = 8;
+}
+
+pub mod name_part {
+    pub const NAME_PART: i32 = 1;
+
+    pub const IS_EXTENSION: i32 = 2;
 }
 
 /// The list of uninterpreted options, in each options message.

@@ -1,6 +1,6 @@
 -- Going over fields: the values of a number, one after another.
 use Rattle.std.proofs.Common.{◌≡◌, ℕ, suc, ◌+◌, ◌<◌, true, false, List, [], ◌∷◌, ◌++◌, map, filter, length, take, drop, get_or, refl, sym, ap, ◌∙◌, subst, append-nil, append_assoc, arith, Option, Some, None, Vec, Global}
-use Rattle.std.specs.Prelude.{◌==◌, option_map}
+use Rattle.std.specs.Prelude.{◌==◌, option_map, unwrap_or}
 use Rattle.std.specs.List.{AllZip}
 use Rattle.std.proofs.lemmas.List.{map-append, take_more, take-append-drop}
 use Rattle.std.proofs.lemmas.List.Elements.{filter-append}
@@ -11,7 +11,7 @@ use Rattle.reflect_wire.specs.declared.wire_error.WireError.{WireError}
 use Rattle.reflect_wire.specs.declared.wire_error.WireError.TheVariants.{Truncated, BadVarint, BadKey, BadWireType, EndGroupMismatch, TooDeep, BadUtf8, TooLong, Memory}
 use Rattle.reflect_codec.specs.declared.fields.RawField.{RawField}
 use Rattle.reflect_codec.specs.declared.fields.RawValue.TheVariants.{Varint}
-use Rattle.reflect_codec.specs.Raw.{value_view, field_view, fields_view, items_or_none}
+use Rattle.reflect_codec.specs.Raw.{value_view, field_view, fields_view}
 use Rattle.reflect_codec.specs.Reading.{Value, number, eight_bytes, payload, other, Field, values_at, Rejects, IsText, IsPayload, last, joins, joined}
 
 -- a refusal of one reading is one of another that could not be without it
@@ -133,6 +133,6 @@ text_is_payload (number n) t h = absurd h
 text_is_payload (eight_bytes n) t h = absurd h
 text_is_payload other t h = absurd h
 
-pub none_seen : (o : Option (Vec RawField Global)) → fields_view (items_or_none o) ≡ none_is_empty (option_map (λ (v : Vec RawField Global). fields_view v.items) o)
-none_seen None = refl
-none_seen (Some v) = refl
+pub none_seen : (o : Option (Vec RawField Global)) (empty : Vec RawField Global) → empty.items ≡ [] → fields_view (unwrap_or o empty).items ≡ none_is_empty (option_map (λ (v : Vec RawField Global). fields_view v.items) o)
+none_seen None empty e = ap fields_view e
+none_seen (Some v) empty e = refl

@@ -1,5 +1,5 @@
 -- Fields that are being read, without where they lie in memory.
-use Rattle.std.specs.Prelude.{◌≡◌, ℕ, ℤ, List, [], ◌++◌, map, Option, Some, None, Result, Ok, Err}
+use Rattle.std.specs.Prelude.{◌≡◌, ℕ, ℤ, List, ◌++◌, map, Result, Ok, Err}
 use Rattle.std.specs.declared.alloc.Global.{Global}
 use Rattle.std.specs.declared.vec.Vec.{Vec}
 use Rattle.reflect_wire.specs.Records.{Payload, IsValue}
@@ -21,10 +21,6 @@ field_view f = (f.number, value_view f.value)
 
 abbrev pub fields_view : List RawField → List Field
 fields_view = map field_view
-
-abbrev pub items_or_none : Option (Vec RawField Global) → List RawField
-items_or_none None = []
-items_or_none (Some v) = v.items
 
 -- the bytes behind the key spell the value
 abbrev pub IsRawValue : ℕ → WireKey → List ℕ → Value → Type 0

@@ -2,7 +2,7 @@
 ghost use Rattle.std.specs.Prelude.{◌≡◌, ℕ, ◌-◌, ◌++◌, List, IfOk, IfSome, option_map, flat_map, string_bytes, unsigned_abs};
 ghost use Rattle.std.specs.List.{AllZip};
 ghost use Rattle.reflect_wire.specs.Reads.{ReadsBy};
-ghost use Rattle.reflect_codec.specs.Raw.{value_view, fields_view, items_or_none, IsRawValue, MoreFields, MoreNumbers};
+ghost use Rattle.reflect_codec.specs.Raw.{value_view, fields_view, IsRawValue, MoreFields, MoreNumbers};
 ghost use Rattle.reflect_codec.specs.Reading.{Value, Field, Takes, TakesBy, SpellsFields, values_at, IsText, IsNumber, IsInt32, IsInt64, IsBool, IsDouble, IsPayload, IsNumbers, IsPart, IsRecord, IsLast, AreNumbers, AreJoined, IsMerged, SpellsNumbers, int32_of, HasPayload, ArePayloads};
 
 use descriptor_records::DoubleValue;
@@ -192,7 +192,7 @@ impl<'b> Fields<'b> {
         for field in &self.list {
             if field.number == wanted {
                 found = Some(with_part(
-                    list_of(alloc, found),
+                    found.unwrap_or(Vec::new(alloc)),
                     alloc,
                     field.value,
                     self.levels,
@@ -256,16 +256,6 @@ impl<'b> RawValue<'b> {
             return Err(WireError::TooDeep);
         }
         Ok(payload)
-    }
-}
-
-/// The fields that were found, if any were.
-fn list_of(alloc: Global, found: Option<Vec<RawField<'_>>>) -> Vec<RawField<'_>>
-    ensures { result.items ≡ items_or_none found.entry }
-{
-    match found {
-        Some(list) => list,
-        None => Vec::new(alloc),
     }
 }
 

@@ -10,15 +10,12 @@ use descriptor_records::{FileDescriptorProto, FileDescriptorSet, tag};
 use reflect_wire::WireError;
 use std::alloc::{AllocError, Global};
 
-/// `file` of a descriptor set.
-const FILE: i32 = 1;
-
 impl ReadRecord for FileDescriptorSet {
     ghost facts = { λ levels fs r. IsSet levels fs r };
 
     fn from_fields(alloc: Global, fields: &Fields<'_>) -> Result<FileDescriptorSet, WireError> {
         Ok(FileDescriptorSet {
-            file: fields.list(alloc, FILE)?,
+            file: fields.list(alloc, tag::set::FILE)?,
         })
     }
 }
@@ -27,7 +24,7 @@ impl WriteRecord for FileDescriptorSet {
     ghost bytes = { set_bytes };
 
     fn put(&self, out: &mut Backward) -> Result<(), AllocError> {
-        out.put_records(FILE, &self.file)?;
+        out.put_records(tag::set::FILE, &self.file)?;
         Ok(())
     }
 }

@@ -89,40 +89,18 @@ impl<'b> Fields<'b> {
     }
 }
 
-/// `name_part` of a part of an option's name.
-const NAME_PART: i32 = 1;
-
-/// `is_extension` of a part of an option's name.
-const IS_EXTENSION: i32 = 2;
-
-mod uninterpreted {
-    pub const NAME: i32 = 2;
-
-    pub const IDENTIFIER_VALUE: i32 = 3;
-
-    pub const POSITIVE_INT_VALUE: i32 = 4;
-
-    pub const NEGATIVE_INT_VALUE: i32 = 5;
-
-    pub const DOUBLE_VALUE: i32 = 6;
-
-    pub const STRING_VALUE: i32 = 7;
-
-    pub const AGGREGATE_VALUE: i32 = 8;
-}
-
 impl ReadRecord for UninterpretedOption {
     ghost facts = { λ levels fs r. IsUninterpretedOption levels fs r };
 
     fn from_fields(alloc: Global, fields: &Fields<'_>) -> Result<UninterpretedOption, WireError> {
         Ok(UninterpretedOption {
-            name: fields.list(alloc, uninterpreted::NAME)?,
-            identifier_value: fields.last(alloc, uninterpreted::IDENTIFIER_VALUE)?,
-            positive_int_value: fields.last(alloc, uninterpreted::POSITIVE_INT_VALUE)?,
-            negative_int_value: fields.last(alloc, uninterpreted::NEGATIVE_INT_VALUE)?,
-            double_value: fields.last(alloc, uninterpreted::DOUBLE_VALUE)?,
-            string_value: fields.last(alloc, uninterpreted::STRING_VALUE)?,
-            aggregate_value: fields.last(alloc, uninterpreted::AGGREGATE_VALUE)?,
+            name: fields.list(alloc, tag::uninterpreted_option::NAME)?,
+            identifier_value: fields.last(alloc, tag::uninterpreted_option::IDENTIFIER_VALUE)?,
+            positive_int_value: fields.last(alloc, tag::uninterpreted_option::POSITIVE_INT_VALUE)?,
+            negative_int_value: fields.last(alloc, tag::uninterpreted_option::NEGATIVE_INT_VALUE)?,
+            double_value: fields.last(alloc, tag::uninterpreted_option::DOUBLE_VALUE)?,
+            string_value: fields.last(alloc, tag::uninterpreted_option::STRING_VALUE)?,
+            aggregate_value: fields.last(alloc, tag::uninterpreted_option::AGGREGATE_VALUE)?,
         })
     }
 }
@@ -131,8 +109,8 @@ impl ReadRecord for NamePart {
     ghost facts = { λ levels fs r. IsNamePart levels fs r };
 
     fn from_fields(alloc: Global, fields: &Fields<'_>) -> Result<NamePart, WireError> {
-        let name_part: Option<String> = fields.last(alloc, NAME_PART)?;
-        let is_extension: Option<bool> = fields.last(alloc, IS_EXTENSION)?;
+        let name_part: Option<String> = fields.last(alloc, tag::name_part::NAME_PART)?;
+        let is_extension: Option<bool> = fields.last(alloc, tag::name_part::IS_EXTENSION)?;
         Ok(NamePart {
             name_part: name_part.unwrap_or(String::new(alloc)),
             is_extension: is_extension.unwrap_or(false),

@@ -4,31 +4,16 @@ ghost use Rattle.reflect_codec.specs.Meaning.{IsLocation, IsSourceInfo};
 
 use crate::backward::{Backward, WriteRecord};
 use crate::fields::{Fields, ReadRecord};
-use descriptor_records::{Location, SourceCodeInfo};
+use descriptor_records::{Location, SourceCodeInfo, tag};
 use reflect_wire::WireError;
 use std::alloc::{AllocError, Global};
-
-/// `location` of the source information.
-const LOCATION: i32 = 1;
-
-mod location {
-    pub const PATH: i32 = 1;
-
-    pub const SPAN: i32 = 2;
-
-    pub const LEADING_COMMENTS: i32 = 3;
-
-    pub const TRAILING_COMMENTS: i32 = 4;
-
-    pub const LEADING_DETACHED_COMMENTS: i32 = 6;
-}
 
 impl ReadRecord for SourceCodeInfo {
     ghost facts = { λ levels fs r. IsSourceInfo levels fs r };
 
     fn from_fields(alloc: Global, fields: &Fields<'_>) -> Result<SourceCodeInfo, WireError> {
         Ok(SourceCodeInfo {
-            location: fields.list(alloc, LOCATION)?,
+            location: fields.list(alloc, tag::source_info::LOCATION)?,
         })
     }
 }
@@ -37,7 +22,7 @@ impl WriteRecord for SourceCodeInfo {
     ghost bytes = { source_info_bytes };
 
     fn put(&self, out: &mut Backward) -> Result<(), AllocError> {
-        out.put_records(LOCATION, &self.location)?;
+        out.put_records(tag::source_info::LOCATION, &self.location)?;
         Ok(())
     }
 }
@@ -47,11 +32,14 @@ impl ReadRecord for Location {
 
     fn from_fields(alloc: Global, fields: &Fields<'_>) -> Result<Location, WireError> {
         Ok(Location {
-            path: fields.int32s(alloc, location::PATH)?,
-            span: fields.int32s(alloc, location::SPAN)?,
-            leading_comments: fields.last(alloc, location::LEADING_COMMENTS)?,
-            trailing_comments: fields.last(alloc, location::TRAILING_COMMENTS)?,
-            leading_detached_comments: fields.list(alloc, location::LEADING_DETACHED_COMMENTS)?,
+            path: fields.int32s(alloc, tag::location::PATH)?,
+            span: fields.int32s(alloc, tag::location::SPAN)?,
+            leading_comments: fields.last(alloc, tag::location::LEADING_COMMENTS)?,
+            trailing_comments: fields.last(alloc, tag::location::TRAILING_COMMENTS)?,
+            leading_detached_comments: fields.list(
+                alloc,
+                tag::location::LEADING_DETACHED_COMMENTS,
+            )?,
         })
     }
 }
@@ -61,13 +49,13 @@ impl WriteRecord for Location {
 
     fn put(&self, out: &mut Backward) -> Result<(), AllocError> {
         out.put_texts(
-            location::LEADING_DETACHED_COMMENTS,
+            tag::location::LEADING_DETACHED_COMMENTS,
             &self.leading_detached_comments,
         )?;
-        out.put_text(location::TRAILING_COMMENTS, &self.trailing_comments)?;
-        out.put_text(location::LEADING_COMMENTS, &self.leading_comments)?;
-        out.put_packed(location::SPAN, &self.span)?;
-        out.put_packed(location::PATH, &self.path)?;
+        out.put_text(tag::location::TRAILING_COMMENTS, &self.trailing_comments)?;
+        out.put_text(tag::location::LEADING_COMMENTS, &self.leading_comments)?;
+        out.put_packed(tag::location::SPAN, &self.span)?;
+        out.put_packed(tag::location::PATH, &self.path)?;
         Ok(())
     }
 }

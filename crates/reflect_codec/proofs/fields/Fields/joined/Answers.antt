@@ -25,7 +25,7 @@ loop-field-preserved c =
           let found = ap (option_map (λ (v : Vec RawField Global). fields_view v.items)) w.found-is in (
             i.0 ++ more.0 ∷ [],
             each_hit c.unsigned_abs-wanted.result c.deref-field-items.result.now c.loop-field.field-index blank c.loop-field-test.true (IsPart c.args.self.now.levels c.args.levels) i.0 i.1 more.0 w.if-field-wanted.true more.1,
-            found ∙ ap Some (more.2 ∙ ap (λ fs. fs ++ more.0) (ap fields_view w.list_of.ensures ∙ none_seen c.loop-field.found ∙ ap none_is_empty i.2)) ∙ sym (joined-push i.0 more.0),
+            found ∙ ap Some (more.2 ∙ ap (λ fs. fs ++ more.0) (ap (λ (v : Vec RawField Global). fields_view v.items) w.unwrap_or.ensures ∙ none_seen c.loop-field.found w.new.result w.new.ensures.items ∙ ap none_is_empty i.2)) ∙ sym (joined-push i.0 more.0),
           )
       | else-field-wanted w ↦
           let found = ap (option_map (λ (v : Vec RawField Global). fields_view v.items)) w.found-is in
