@@ -176,5 +176,14 @@ pub mod name_part {
     pub const IS_EXTENSION: i32 = 2;
 }
 
+/// The options that are kept apart: of a field, of an enum and of a message.
+pub mod options {
+    pub const PACKED: i32 = 2;
+
+    pub const ALLOW_ALIAS: i32 = 2;
+
+    pub const MAP_ENTRY: i32 = 7;
+}
+
 /// The list of uninterpreted options, in each options message.
 pub const UNINTERPRETED_OPTION: i32 = 999;

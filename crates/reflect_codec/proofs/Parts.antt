@@ -10,7 +10,7 @@ use Rattle.reflect_codec.specs.Raw.{fields_view, MoreFields}
 use Rattle.reflect_codec.specs.Reading.{Value, number, eight_bytes, payload, other, Field, fields_in, values_at, Takes, SpellsFields, IsPayload, HasPayload, IsPart, AreJoined, joined, AlongOption}
 use Rattle.reflect_codec.proofs.Values.{rejects}
 
-one_payload : (v : Value) (a b : List ℕ) → IsPayload v a → IsPayload v b → a ≡ b
+pub one_payload : (v : Value) (a b : List ℕ) → IsPayload v a → IsPayload v b → a ≡ b
 one_payload (payload p) a b h k = h ∙ sym k
 one_payload (number n) a b h k = absurd h
 one_payload (eight_bytes n) a b h k = absurd h
@@ -19,11 +19,11 @@ one_payload other a b h k = absurd h
 pub one_fields : (levels : ℕ) (bytes : List ℕ) (fs gs : List Field) → SpellsFields levels bytes fs → SpellsFields levels bytes gs → fs ≡ gs
 one_fields levels bytes fs gs h k = h.2 ∙ ap fields_in (one_list levels bytes h.0 k.0 h.1 k.1) ∙ sym k.2
 
-one_part : (outside inside : ℕ) (v : Value) (fs gs : List Field) → IsPart outside inside v fs → IsPart outside inside v gs → fs ≡ gs
+pub one_part : (outside inside : ℕ) (v : Value) (fs gs : List Field) → IsPart outside inside v fs → IsPart outside inside v gs → fs ≡ gs
 one_part outside inside v fs gs h k =
     one_fields inside h.0 fs gs h.2 (subst (λ bytes. SpellsFields inside bytes gs) (one_payload v k.0 h.0 k.1.1 h.1.1) k.2)
 
-one_each : {A X : Type 0} (R : A → X → Type 0) → ((a : A) (x y : X) → R a x → R a y → x ≡ y) → (vs : List A) (xs ys : List X) → AllZip R vs xs → AllZip R vs ys → xs ≡ ys
+pub one_each : {A X : Type 0} (R : A → X → Type 0) → ((a : A) (x y : X) → R a x → R a y → x ≡ y) → (vs : List A) (xs ys : List X) → AllZip R vs xs → AllZip R vs ys → xs ≡ ys
 one_each R one [] [] [] h k = refl
 one_each R one [] [] (y ∷ ys) h k = absurd k
 one_each R one [] (x ∷ xs) ys h k = absurd h

@@ -9,6 +9,7 @@ mod enums;
 mod field;
 mod fields;
 mod file;
+pub mod laws;
 mod message;
 mod options;
 mod service;

@@ -10,15 +10,6 @@ use descriptor_records::{NamePart, Options, UninterpretedOption, tag};
 use reflect_wire::WireError;
 use std::alloc::Global;
 
-/// `packed` of a field's options.
-const PACKED: i32 = 2;
-
-/// `allow_alias` of an enum's options.
-const ALLOW_ALIAS: i32 = 2;
-
-/// `map_entry` of a message's options.
-const MAP_ENTRY: i32 = 7;
-
 /// What the options are of, by the option that linking needs of it.
 #[derive(Clone, Copy)]
 pub enum OptionsOf {
@@ -63,9 +54,9 @@ impl<'b> Fields<'b> {
         match self.joined(alloc, number, MAX_LEVELS)? {
             Some(fields) => Ok(Some(Options {
                 encoded: self.joined_bytes(alloc, number)?,
-                packed: fields.last_if(of.is_field(), alloc, PACKED)?,
-                allow_alias: fields.last_if(of.is_enum(), alloc, ALLOW_ALIAS)?,
-                map_entry: fields.last_if(of.is_message(), alloc, MAP_ENTRY)?,
+                packed: fields.last_if(of.is_field(), alloc, tag::options::PACKED)?,
+                allow_alias: fields.last_if(of.is_enum(), alloc, tag::options::ALLOW_ALIAS)?,
+                map_entry: fields.last_if(of.is_message(), alloc, tag::options::MAP_ENTRY)?,
                 uninterpreted_option: fields.list(alloc, tag::UNINTERPRETED_OPTION)?,
             })),
             None => Ok(None),
