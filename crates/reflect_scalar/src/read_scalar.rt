@@ -98,6 +98,9 @@ pub fn scalar_at<'b>(
 ) -> Result<(Scalar<'b>, &'b [u8]), WireError>
     ensures shorter { IfOk result (λ found. length found.1.now < length bytes.now) }
 {
+    if wire != wire_type(kind) {
+        return Err(WireError::BadWireType);
+    }
     let (value, rest) = match wire {
         WireType::Varint => {
             let (n, rest) = varint_at(bytes)?;
