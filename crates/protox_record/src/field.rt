@@ -1,5 +1,8 @@
 //! The records of fields, and of the types of map entries.
 
+ghost use Rattle.std.specs.Prelude.{◌≡◌, IfOk, string_bytes};
+ghost use Rattle.protox_record.specs.FieldName.{field_name_of};
+
 use crate::option::add_option;
 use crate::text;
 use descriptor_records::{DescriptorProto, FieldDescriptorProto, FieldType, Label, Options};
@@ -10,7 +13,11 @@ use std::alloc::{AllocError, Global};
 /// The record of a field, without its oneof.
 pub fn field_record(alloc: Global, field: &Field) -> Result<FieldDescriptorProto, AllocError> {
     let mut record = FieldDescriptorProto::new();
-    record.name = Some(field_name(alloc, field)?);
+    record.name = Some(field_name(
+        alloc,
+        field.name.value.as_str(),
+        matches!(field.kind, FieldKind::Group(_)),
+    )?);
     record.number = field.number.as_i32();
     record.label = Some(label(field).number());
     set_kind(alloc, field, &mut record)?;
@@ -22,12 +29,14 @@ pub fn field_record(alloc: Global, field: &Field) -> Result<FieldDescriptorProto
     Ok(record)
 }
 
-/// A group's field has the name of its type in lower case.
-fn field_name(alloc: Global, field: &Field) -> Result<String, AllocError> {
-    let name = field.name.value.as_str();
-    match field.kind {
-        FieldKind::Group(_) => name.to_ascii_lowercase(alloc),
-        FieldKind::Normal(_) | FieldKind::Map(_) => String::from_str(alloc, name),
+/// The name of a field: a group's field has the name of its type in lower case.
+fn field_name(alloc: Global, name: &str, is_group: bool) -> Result<String, AllocError>
+    ensures { IfOk result (λ written. string_bytes written ≡ field_name_of name.now is_group) }
+{
+    if is_group {
+        name.to_ascii_lowercase(alloc)
+    } else {
+        String::from_str(alloc, name)
     }
 }
 
