@@ -1,5 +1,5 @@
 //! A buffer that is filled from its end to its front.
-ghost use Rattle.std.specs.Prelude.{◌≡◌, ℕ, List, ◌∷◌, ◌++◌, [], length, reverse, OnOk, OnErr, IfErr, unsigned_abs};
+ghost use Rattle.std.specs.Prelude.{◌≡◌, ◌≤◌, ℕ, List, ◌∷◌, ◌++◌, [], length, reverse, take, drop, OnOk, OnErr, IfErr, unsigned_abs};
 ghost use Rattle.std.specs.Int.{w64, cast_unsigned};
 ghost use Rattle.std.specs.List.{flat_map};
 ghost use Rattle.reflect_wire.specs.declared.wire_error.WireError.TheVariants.{Memory};
@@ -41,15 +41,22 @@ impl Backward {
         }
     }
 
+    /// The bytes, first to last. Takes no memory.
+    pub fn into_bytes(self) -> Vec<u8>
+        ensures { result.items ≡ held self }
+    {
+        let mut bytes = self.reversed;
+        bytes.reverse();
+        bytes
+    }
+
     /// Appends the bytes, first to last. A refusal leaves the vector.
     pub fn append_to(self, out: &mut Vec<u8>) -> Result<(), WireError>
         ensures ok { OnOk result (out.new.items ≡ out.old.items ++ held self) }
         ensures err { IfErr result (λ e. e ≡ Memory) }
         ensures left { OnErr result (out.new.items ≡ out.old.items) }
     {
-        let mut bytes = self.reversed;
-        bytes.reverse();
-        out.extend_from_slice(&bytes)?;
+        out.extend_from_slice(&self.into_bytes())?;
         Ok(())
     }
 
@@ -71,12 +78,9 @@ impl Backward {
     pub fn put_bytes(&mut self, bytes: &[u8]) -> Result<(), AllocError>
         ensures { OnOk result (held self.new ≡ bytes.now ++ held self.old) }
     {
-        self.reversed.reserve(bytes.len())?;
-        let mut left = bytes;
-        while let Some((last, front)) = left.split_last() {
-            self.put_byte(*last)?;
-            left = front;
-        }
+        let start = self.reversed.len();
+        self.reversed.extend_from_slice(bytes)?;
+        reverse_from(&mut self.reversed, start);
         Ok(())
     }
 
@@ -253,6 +257,14 @@ impl Backward {
         }
         Ok(())
     }
+}
+
+/// Turns around what stands from a place on.
+fn reverse_from(bytes: &mut Vec<u8>, from: usize)
+    requires { from ≤ length bytes.old.items }
+    ensures { bytes.new.items ≡ take from bytes.old.items ++ reverse (drop from bytes.old.items) }
+{
+    bytes.as_mut_slice()[from..].reverse();
 }
 
 /// The key of a record field, whose number is one of the table of `descriptor.proto`.

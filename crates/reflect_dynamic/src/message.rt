@@ -8,7 +8,7 @@ use reflect_codec::Backward;
 use reflect_entries::{Choices, UnknownRecords, entries};
 use reflect_link::{ExtensionDescriptor, FieldDescriptor, MessageDescriptor};
 use reflect_scalar::holds_floats;
-use reflect_wire::{WireError, reserve_room};
+use reflect_wire::WireError;
 use std::alloc::{AllocError, Global};
 
 /// A message of a type that is known at run time.
@@ -85,21 +85,22 @@ impl<'p> DynamicMessage<'p> {
     /// Adds the message's wire bytes to `out`: declared fields by ascending number, then extensions and other records by
     /// ascending number. What does not suit its field is left out.
     ///
-    /// `TooLong` where these are more than `usize::MAX` bytes. A refusal leaves `out`.
+    /// Refused for want of memory alone, which leaves `out`.
     pub fn encode(&self, out: &mut Vec<u8>) -> Result<(), WireError>
         ensures { OnErr result (out.new.items ≡ out.old.items) }
     {
-        reserve_room(out, message_len(self))?;
-        let mut written = Backward::new(self.allocator());
-        put_message(&mut written, self)?;
-        written.append_to(out)
+        self.written()?.append_to(out)
     }
 
     /// The message's wire bytes. Refused as `encode` is.
     pub fn encode_to_vec(&self) -> Result<Vec<u8>, WireError> {
-        let mut out = Vec::new(self.allocator());
-        self.encode(&mut out)?;
-        Ok(out)
+        Ok(self.written()?.into_bytes())
+    }
+
+    fn written(&self) -> Result<Backward, WireError> {
+        let mut written = Backward::new(self.allocator());
+        put_message(&mut written, self)?;
+        Ok(written)
     }
 
     /// Unsets all fields and extensions, and drops the other records. Takes no memory.

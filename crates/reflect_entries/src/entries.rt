@@ -5,12 +5,14 @@ ghost use Rattle.std.specs.List.Sorted.{IsSearchInRange};
 
 use std::alloc::AllocError;
 
-/// The place of a number, or where it would stand. The end is tried first, since the records of a message mostly ascend.
+/// The place of a number, or where it would stand. The last place is tried first, since the records of a message mostly
+/// ascend, and those of a list have one number.
 fn place<V>(entries: &[(u32, V)], number: u32) -> Result<usize, usize>
     ensures { IsSearchInRange result (length entries.now) }
 {
     match entries.last() {
         Some(last) if last.0 < number => Err(entries.len()),
+        Some(last) if last.0 == number => Ok(entries.len() - 1),
         _ => entries.binary_search_by(|entry| entry.0.cmp(&number)),
     }
 }

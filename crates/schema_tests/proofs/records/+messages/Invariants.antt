@@ -1,0 +1,4 @@
+use Rattle.schema_tests.proofs.records.+messages.Given as goal
+
+abbrev pub decreases-messages : goal.decreases-messages
+decreases-messages l = l.levels
