@@ -4,6 +4,7 @@ use crate::command_line::{Request, Task, parse, requested};
 use crate::error::SchemaError;
 use crate::payload::{Fault, serve, write_bytes};
 use crate::schema::Schema;
+use clap::error::ErrorKind;
 use std::alloc::{AllocError, AllocFailed, Global};
 use std::fmt::Display;
 use std::io::{Read, Write};
@@ -182,6 +183,25 @@ fn write_line<W: Write>(alloc: Global, stream: &mut W, text: impl Display + Drop
     }
 }
 
+/// Writes help, or why the command line is refused, and gives the status.
+fn tell_usage<W: Write, E: Write>(
+    alloc: Global,
+    error: clap::Error,
+    output: &mut W,
+    errors: &mut E,
+) -> u8 {
+    if error.kind() == ErrorKind::OutOfMemory {
+        write_line(alloc, errors, RunFault::Memory);
+        5
+    } else if error.use_stderr() {
+        write_line(alloc, errors, error);
+        2
+    } else {
+        write_line(alloc, output, error);
+        0
+    }
+}
+
 /// Runs the program `schema` on its words, without its own name, and gives the status that it ends with.
 ///
 /// 0: answered, or help was asked for. 1: the schema is refused, or a source is not UTF-8. 2: the command line is refused.
@@ -196,14 +216,7 @@ pub fn run<F: SourceFiles, R: Read, W: Write, E: Write>(
 ) -> u8 {
     let matches = match parse(alloc, words) {
         Ok(matches) => matches,
-        Err(error) => {
-            if error.use_stderr() {
-                write_line(alloc, errors, error);
-                return 2;
-            }
-            write_line(alloc, output, error);
-            return 0;
-        }
+        Err(error) => return tell_usage(alloc, error, output, errors),
     };
     let Some(wanted) = requested(&matches) else {
         return 2;
