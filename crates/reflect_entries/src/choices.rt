@@ -1,5 +1,11 @@
 //! Which member of each oneof was set last.
 
+ghost use Rattle.std.specs.Prelude.{◌≡◌, ℕ, None, Some, IfOk, OnErr};
+ghost use Rattle.std.specs.Option.{IsSome};
+ghost use Rattle.std.proofs.Props.{props};
+ghost use Rattle.reflect_entries.specs.Entries.{IsAscending, Updates, value_at};
+ghost use Rattle.reflect_entries.specs.Members.{other_than};
+
 use crate::entries;
 use reflect_link::FieldDescriptor;
 use std::alloc::{AllocError, Global};
@@ -10,6 +16,7 @@ use std::mem;
 pub struct Choices {
     /// The members' numbers by those of the first members of their oneofs, which ascend.
     members: Vec<(u32, u32)>,
+    ghost ascending: { IsAscending members.items } by { Prim.hlevel props },
 }
 
 /// The number of the first member of the field's oneof.
@@ -17,16 +24,34 @@ fn first_member(field: &FieldDescriptor<'_>) -> Option<u32> {
     Some(field.containing_oneof()?.fields().next()?.number())
 }
 
+/// Notes the member as the one that was set last of the oneof whose first member has the number, if there is room for it,
+/// and gives the number of the one before, if it is another.
+fn note(members: &mut Vec<(u32, u32)>, first: u32, member: u32) -> Option<u32>
+    ensures before { IsAscending members.old.items → result ≡ other_than member (value_at members.old.items first) }
+    ensures updates { IsAscending members.old.items → IsSome (value_at members.old.items first) → Updates members.old.items members.new.items first (Some member) }
+    ensures no_room { value_at members.old.items first ≡ None → IsAscending members.old.items → members.new.items ≡ members.old.items }
+{
+    let before = mem::replace(entries::get_mut(members, first)?, member);
+    if before == member { None } else { Some(before) }
+}
+
 impl Choices {
+    ghost use Rattle.reflect_entries.specs.Choosing.{choice};
+
     /// No member was set. Takes no memory.
-    pub fn new(alloc: Global) -> Choices {
+    pub fn new(alloc: Global) -> Choices
+        ensures { (first : ℕ) → choice result first ≡ None }
+    {
         Choices {
             members: Vec::new(alloc),
         }
     }
 
-    /// Makes room for the choice of the field, if it is a member of a oneof.
-    pub fn make_room(&mut self, field: &FieldDescriptor<'_>) -> Result<(), AllocError> {
+    /// Makes room for the choice of the field, if it is a member of a oneof. What was noted stays.
+    pub fn make_room(&mut self, field: &FieldDescriptor<'_>) -> Result<(), AllocError>
+        ensures stays { (first : ℕ) → IsSome (choice self.old first) → choice self.new first ≡ choice self.old first }
+        ensures refused { OnErr result (self.new.members.items ≡ self.old.members.items) }
+    {
         if let Some(first) = first_member(field) {
             entries::slot(&mut self.members, first, field.number())?;
         }
@@ -36,22 +61,20 @@ impl Choices {
     /// Notes the field, for which there is room, as the member of its oneof that was set last, and gives the number of the
     /// one before, if it is another.
     pub fn choose(&mut self, field: &FieldDescriptor<'_>) -> Option<u32> {
-        let member = entries::get_mut(&mut self.members, first_member(field)?)?;
-        let before = mem::replace(member, field.number());
-        if before == field.number() {
-            None
-        } else {
-            Some(before)
-        }
+        note(&mut self.members, first_member(field)?, field.number())
     }
 
     /// Forgets all choices. Takes no memory.
-    pub fn clear(&mut self) {
+    pub fn clear(&mut self)
+        ensures { (first : ℕ) → choice self.new first ≡ None }
+    {
         self.members.clear();
     }
 
     /// A copy.
-    pub fn clone(&self) -> Result<Choices, AllocError> {
+    pub fn clone(&self) -> Result<Choices, AllocError>
+        ensures { IfOk result (λ copy. copy.members.items ≡ self.now.members.items) }
+    {
         Ok(Choices {
             members: self.members.clone()?,
         })
