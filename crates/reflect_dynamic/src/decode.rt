@@ -94,6 +94,16 @@ fn merge_record<'p, 'b>(
     keep_unknown(&mut message.unknown, alloc, raw)
 }
 
+/// The record of a number that the type does not declare, and what is behind it.
+fn unknown_at<'b>(alloc: Global, raw: RawRecord<'b>) -> Result<(UnknownField, &'b [u8]), WireError>
+    ensures shorter { IfOk result (λ found. length found.1.now ≤ length raw.entry.bytes.now) }
+{
+    let mut rest = raw.bytes;
+    let depth = MAX_LEVELS.saturating_sub(raw.levels);
+    let field = UnknownField::decode_value(alloc, raw.key.number, raw.key.wire, &mut rest, depth)?;
+    Ok((field, rest))
+}
+
 /// Keeps a record of a number that the type does not declare behind those of its number.
 fn keep_unknown<'b>(
     unknown: &mut UnknownRecords,
@@ -102,9 +112,7 @@ fn keep_unknown<'b>(
 ) -> Result<&'b [u8], WireError>
     ensures shorter { IfOk result (λ rest. length rest.now ≤ length raw.entry.bytes.now) }
 {
-    let mut rest = raw.bytes;
-    let depth = MAX_LEVELS.saturating_sub(raw.levels);
-    let field = UnknownField::decode_value(alloc, raw.key.number, raw.key.wire, &mut rest, depth)?;
+    let (field, rest) = unknown_at(alloc, raw)?;
     unknown.insert(field)?;
     Ok(rest)
 }
@@ -202,6 +210,16 @@ fn merge_list<'p, 'b>(
     }
 }
 
+/// How many values a packed record of the kind holds, where it can be read.
+fn packed_count(kind: &Kind<'_>, body: &[u8]) -> usize {
+    match wire_type(kind) {
+        WireType::SixtyFourBit => body.len() / 8,
+        WireType::ThirtyTwoBit => body.len() / 4,
+        // (a varint ends with its first byte below 128)
+        _ => body.iter().filter(|byte| **byte < 128).count(),
+    }
+}
+
 /// Adds the values of a packed record.
 fn push_packed(
     values: &mut Vec<Value<'_>>,
@@ -209,6 +227,7 @@ fn push_packed(
     kind: &Kind<'_>,
     body: &[u8],
 ) -> Result<(), WireError> {
+    values.reserve(packed_count(kind, body))?;
     let mut rest = body;
     'values: while !rest.is_empty() {
         let (scalar, behind) = scalar_at(kind, wire_type(kind), rest)?;
@@ -242,8 +261,8 @@ fn merge_entry<'p, 'b>(
     }
 }
 
-/// The key and the value of a map's entry, which is a message of the entry type at the level of the message that holds the
-/// map. What the entry does not set is the default, and its other records are dropped.
+/// The key and the value of a map's entry, which is at the level of the message that holds the map. What the entry does not
+/// set is the default, and its other records are dropped.
 ///
 /// A message value is one level below, whether it is written or not.
 #[cycle(merge)]
@@ -253,29 +272,44 @@ fn entry_of<'p>(
     body: &[u8],
     levels: u32,
 ) -> Result<(MapKey, Value<'p>), WireError> {
-    let (Some(key), Some(value)) = (entry.get_field(1), entry.get_field(2)) else {
+    let (Some(keys), Some(values)) = (entry.get_field(1), entry.get_field(2)) else {
         return Err(WireError::BadWireType);
     };
-    if levels == 0 && value.kind().as_message().is_some() {
+    if levels == 0 && values.kind().as_message().is_some() {
         return Err(WireError::TooDeep);
     }
-    let mut message = DynamicMessage::new(alloc, entry);
-    merge_records(&mut message, alloc, body, None, levels)?;
-    let found = take_or_default(&mut message, alloc, &key)?;
-    let Some(found) = found.into_map_key() else {
-        return Err(WireError::BadWireType);
-    };
-    Ok((found, take_or_default(&mut message, alloc, &value)?))
+    let mut held_key = default_of(alloc, &keys)?;
+    let mut value = default_of(alloc, &values)?;
+    let mut rest = body;
+    'records: while !rest.is_empty() {
+        let (key, bytes) = key_at(rest)?;
+        let raw = RawRecord { key, bytes, levels };
+        rest = match key.number {
+            1 => merge_part(&mut held_key, alloc, &keys, raw)?,
+            2 => merge_part(&mut value, alloc, &values, raw)?,
+            _ => unknown_at(alloc, raw)?.1,
+        };
+    }
+    match held_key.into_map_key() {
+        Some(key) => Ok((key, value)),
+        None => Err(WireError::BadWireType),
+    }
 }
 
-/// What a field of an entry held, or its default.
-fn take_or_default<'p>(
-    entry: &mut DynamicMessage<'p>,
+/// Takes in a record of the key or the value of a map's entry.
+#[cycle(merge)]
+fn merge_part<'p, 'b>(
+    held: &mut Value<'p>,
     alloc: Global,
     field: &FieldDescriptor<'p>,
-) -> Result<Value<'p>, AllocError> {
-    match entries::take(&mut entry.fields, field.number()) {
-        Some(value) => Ok(value),
-        None => default_of(alloc, field),
+    raw: RawRecord<'b>,
+) -> Result<&'b [u8], WireError>
+    ensures shorter { IfOk result (λ rest. length rest.now ≤ length raw.entry.bytes.now) }
+{
+    if let Value::Message(message) = held {
+        return merge_message(message, alloc, field.is_group(), raw);
     }
+    let (scalar, rest) = scalar_at(&field.kind(), raw.key.wire, raw.bytes)?;
+    *held = Value::from_scalar(alloc, scalar)?;
+    Ok(rest)
 }

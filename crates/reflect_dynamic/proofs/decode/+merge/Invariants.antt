@@ -27,3 +27,12 @@ decreases-merge_records-records l = length l.rest
 
 abbrev pub invariant-merge_records-records : goal.invariant-merge_records-records
 invariant-merge_records-records l = (l.message.descriptor ≡ l.initial.message.descriptor) × (length l.rest ≤ length l.initial.rest)
+
+abbrev pub decreases-merge_part : goal.decreases-merge_part
+decreases-merge_part l = 8 * length l.raw.bytes.now + 6
+
+abbrev pub decreases-entry_of-records : goal.decreases-entry_of-records
+decreases-entry_of-records l = length l.rest
+
+abbrev pub invariant-entry_of-records : goal.invariant-entry_of-records
+invariant-entry_of-records l = length l.rest ≤ length l.initial.rest
