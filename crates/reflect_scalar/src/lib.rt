@@ -2,6 +2,7 @@
 #![tactic(auto)]
 
 mod field_like;
+pub mod laws;
 mod map_key;
 mod read_scalar;
 mod scalar;
@@ -10,5 +11,5 @@ mod write_scalar;
 pub use field_like::{AnyField, FieldDescriptorLike, holds_floats};
 pub use map_key::MapKey;
 pub use read_scalar::{is_packable, scalar_at, wire_type};
-pub use scalar::{Scalar, default_scalar};
-pub use write_scalar::{WireScalar, put_scalar, scalar_len, wire_scalar};
+pub use scalar::{Scalar, WireScalar, default_scalar};
+pub use write_scalar::{put_scalar, scalar_len, wire_scalar};

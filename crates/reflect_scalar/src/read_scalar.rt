@@ -1,13 +1,21 @@
 //! From the bytes of one record to its value.
 
-ghost use Rattle.std.specs.Prelude.{◌<◌, length, IfOk};
+ghost use Rattle.std.specs.Prelude.{◌≡◌, ◌%◌, ◌^◌, ◌<◌, length, IfOk, IfErr};
+ghost use Rattle.std.specs.Int.{w32, w64, cast_signed};
+ghost use Rattle.reflect_wire.specs.Reads.{ReadsBy};
+ghost use Rattle.reflect_wire.specs.Records.{varint, fixed32, fixed64, delimited};
+ghost use Rattle.reflect_scalar.specs.Kinds.{wire_type, packs};
+ghost use Rattle.reflect_scalar.specs.Meaning.{zigzag, low, Means, MeaningFault, IsPlain, PlainFault, IsScalar, ScalarFault};
+ghost use Rattle.reflect_scalar.specs.Singles.{scalar_view, wire_view};
 
-use crate::scalar::Scalar;
+use crate::scalar::{Scalar, WireScalar};
 use reflect_link::Kind;
 use reflect_wire::{WireError, WireType, delimited_at, fixed32_at, fixed64_at, varint_at};
 
 /// The wire type of one value of a kind: a message's is that of a length and its bytes.
-pub fn wire_type(kind: &Kind<'_>) -> WireType {
+pub fn wire_type(kind: &Kind<'_>) -> WireType
+    ensures { result ≡ wire_type kind.now }
+{
     match kind {
         Kind::Int32
         | Kind::Int64
@@ -24,66 +32,88 @@ pub fn wire_type(kind: &Kind<'_>) -> WireType {
 }
 
 /// A list of the kind may stand in one record: numbers, truth values and enums.
-pub fn is_packable(kind: &Kind<'_>) -> bool {
+pub fn is_packable(kind: &Kind<'_>) -> bool
+    ensures { result ≡ packs (wire_type kind.now) }
+{
     wire_type(kind) != WireType::LengthDelimited
 }
 
 /// The low 32 bits.
-fn low(n: u64) -> u32 {
-    (n & 0xffff_ffff) as u32
+fn low(n: u64) -> u32
+    ensures { result ≡ low n }
+{
+    (n % (1 << 32)) as u32
 }
 
 /// The signed number that an unsigned one stands for where small amounts of either sign are to be short.
-fn unzigzag32(n: u32) -> i32 {
-    ((n >> 1) ^ (n & 1).wrapping_neg()).cast_signed()
+fn unzigzag32(n: u32) -> i32
+    ensures { n ≡ zigzag result }
+{
+    let half = (n / 2).cast_signed();
+    if n % 2 == 0 { half } else { -half - 1 }
 }
 
-fn unzigzag64(n: u64) -> i64 {
-    ((n >> 1) ^ (n & 1).wrapping_neg()).cast_signed()
+fn unzigzag64(n: u64) -> i64
+    ensures { n ≡ zigzag result }
+{
+    let half = (n / 2).cast_signed();
+    if n % 2 == 0 { half } else { -half - 1 }
 }
 
-/// The value of a varint. Of the 32-bit kinds only the low 32 bits count.
-fn varint_value<'b>(kind: &Kind<'_>, n: u64) -> Option<Scalar<'b>> {
-    match kind {
-        Kind::Int32 => Some(Scalar::I32(low(n).cast_signed())),
-        Kind::Int64 => Some(Scalar::I64(n.cast_signed())),
-        Kind::Uint32 => Some(Scalar::U32(low(n))),
-        Kind::Uint64 => Some(Scalar::U64(n)),
-        Kind::Sint32 => Some(Scalar::I32(unzigzag32(low(n)))),
-        Kind::Sint64 => Some(Scalar::I64(unzigzag64(n))),
-        Kind::Bool => Some(Scalar::Bool(n != 0)),
-        Kind::Enum(_) => Some(Scalar::EnumNumber(low(n).cast_signed())),
-        _ => None,
-    }
-}
-
-/// The value of four bytes.
-fn fixed32_value<'b>(kind: &Kind<'_>, n: u32) -> Option<Scalar<'b>> {
-    match kind {
-        Kind::Fixed32 => Some(Scalar::U32(n)),
-        Kind::Sfixed32 => Some(Scalar::I32(n.cast_signed())),
-        _ => None,
-    }
-}
-
-/// The value of eight bytes.
-fn fixed64_value<'b>(kind: &Kind<'_>, n: u64) -> Option<Scalar<'b>> {
-    match kind {
-        Kind::Fixed64 => Some(Scalar::U64(n)),
-        Kind::Sfixed64 => Some(Scalar::I64(n.cast_signed())),
-        _ => None,
-    }
-}
-
-/// The value of a length and its bytes, of a kind that is no message.
-fn delimited_value<'b>(kind: &Kind<'_>, payload: &'b [u8]) -> Result<Scalar<'b>, WireError> {
-    match kind {
-        Kind::String => match str::from_utf8(payload) {
+/// The value of a kind that is written so. Of a varint only the low 32 bits count where the kind has 32.
+///
+/// `BadWireType` where the kind is written in another form or is none of a single value, `BadUtf8` where a string is no
+/// UTF-8.
+fn value_of<'b>(kind: &Kind<'_>, written: WireScalar<'b>) -> Result<Scalar<'b>, WireError>
+    ensures ok { IfOk result (λ s. Means kind.now (wire_view written.entry) (scalar_view s)) }
+    ensures err { IfErr result (MeaningFault kind.now (wire_view written.entry)) }
+{
+    match (kind, written) {
+        (Kind::Int32, WireScalar::Varint(n)) => Ok(Scalar::I32(low(n).cast_signed())),
+        (Kind::Int64, WireScalar::Varint(n)) => Ok(Scalar::I64(n.cast_signed())),
+        (Kind::Uint32, WireScalar::Varint(n)) => Ok(Scalar::U32(low(n))),
+        (Kind::Uint64, WireScalar::Varint(n)) => Ok(Scalar::U64(n)),
+        (Kind::Sint32, WireScalar::Varint(n)) => Ok(Scalar::I32(unzigzag32(low(n)))),
+        (Kind::Sint64, WireScalar::Varint(n)) => Ok(Scalar::I64(unzigzag64(n))),
+        (Kind::Bool, WireScalar::Varint(n)) => Ok(Scalar::Bool(n != 0)),
+        (Kind::Enum(_), WireScalar::Varint(n)) => Ok(Scalar::EnumNumber(low(n).cast_signed())),
+        (Kind::Fixed32, WireScalar::ThirtyTwoBit(n)) => Ok(Scalar::U32(n)),
+        (Kind::Sfixed32, WireScalar::ThirtyTwoBit(n)) => Ok(Scalar::I32(n.cast_signed())),
+        (Kind::Fixed64, WireScalar::SixtyFourBit(n)) => Ok(Scalar::U64(n)),
+        (Kind::Sfixed64, WireScalar::SixtyFourBit(n)) => Ok(Scalar::I64(n.cast_signed())),
+        (Kind::String, WireScalar::LengthDelimited(payload)) => match str::from_utf8(payload) {
             Ok(text) => Ok(Scalar::String(text)),
             Err(_) => Err(WireError::BadUtf8),
         },
-        Kind::Bytes => Ok(Scalar::Bytes(payload)),
+        (Kind::Bytes, WireScalar::LengthDelimited(payload)) => Ok(Scalar::Bytes(payload)),
         _ => Err(WireError::BadWireType),
+    }
+}
+
+/// What is written at the front behind a key of the wire type, and the bytes behind it. A group is no single value.
+fn wire_scalar_at(wire: WireType, bytes: &[u8]) -> Result<(WireScalar<'_>, &[u8]), WireError>
+    ensures read { ReadsBy wire_view (IsPlain wire) bytes.now result }
+    ensures fault { IfErr result (PlainFault wire bytes.now) }
+    ensures shorter { IfOk result (λ found. length found.1.now < length bytes.now) }
+{
+    match wire {
+        WireType::Varint => {
+            let (n, rest) = varint_at(bytes)?;
+            Ok((WireScalar::Varint(n), rest))
+        }
+        WireType::ThirtyTwoBit => {
+            let (n, rest) = fixed32_at(bytes)?;
+            Ok((WireScalar::ThirtyTwoBit(n), rest))
+        }
+        WireType::SixtyFourBit => {
+            let (n, rest) = fixed64_at(bytes)?;
+            Ok((WireScalar::SixtyFourBit(n), rest))
+        }
+        WireType::LengthDelimited => {
+            let (payload, rest) = delimited_at(bytes)?;
+            Ok((WireScalar::LengthDelimited(payload), rest))
+        }
+        WireType::StartGroup | WireType::EndGroup => Err(WireError::BadWireType),
     }
 }
 
@@ -96,32 +126,13 @@ pub fn scalar_at<'b>(
     wire: WireType,
     bytes: &'b [u8],
 ) -> Result<(Scalar<'b>, &'b [u8]), WireError>
+    ensures read { ReadsBy scalar_view (IsScalar kind.now wire) bytes.now result }
+    ensures fault { IfErr result (ScalarFault kind.now wire bytes.now) }
     ensures shorter { IfOk result (λ found. length found.1.now < length bytes.now) }
 {
     if wire != wire_type(kind) {
         return Err(WireError::BadWireType);
     }
-    let (value, rest) = match wire {
-        WireType::Varint => {
-            let (n, rest) = varint_at(bytes)?;
-            (varint_value(kind, n), rest)
-        }
-        WireType::ThirtyTwoBit => {
-            let (n, rest) = fixed32_at(bytes)?;
-            (fixed32_value(kind, n), rest)
-        }
-        WireType::SixtyFourBit => {
-            let (n, rest) = fixed64_at(bytes)?;
-            (fixed64_value(kind, n), rest)
-        }
-        WireType::LengthDelimited => {
-            let (payload, rest) = delimited_at(bytes)?;
-            (Some(delimited_value(kind, payload)?), rest)
-        }
-        WireType::StartGroup | WireType::EndGroup => return Err(WireError::BadWireType),
-    };
-    match value {
-        Some(value) => Ok((value, rest)),
-        None => Err(WireError::BadWireType),
-    }
+    let (written, rest) = wire_scalar_at(wire, bytes)?;
+    Ok((value_of(kind, written)?, rest))
 }

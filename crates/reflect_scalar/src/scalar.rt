@@ -1,5 +1,9 @@
 //! Single values, and the defaults of fields that hold them.
 
+ghost use Rattle.std.specs.Prelude.{◌≡◌, option_map};
+ghost use Rattle.reflect_scalar.specs.Kinds.{suits, IsDefault};
+ghost use Rattle.reflect_scalar.specs.Singles.{scalar_view};
+
 use crate::field_like::FieldDescriptorLike;
 use reflect_link::{DefaultValue, Kind};
 
@@ -16,9 +20,20 @@ pub enum Scalar<'a> {
     EnumNumber(i32),
 }
 
+/// What one value is written as, behind its key.
+#[derive(Clone, Copy)]
+pub enum WireScalar<'a> {
+    Varint(u64),
+    ThirtyTwoBit(u32),
+    SixtyFourBit(u64),
+    LengthDelimited(&'a [u8]),
+}
+
 impl<'a> Scalar<'a> {
     /// The value suits a field that holds one value of the kind.
-    pub fn is_valid(&self, kind: &Kind<'_>) -> bool {
+    pub fn is_valid(&self, kind: &Kind<'_>) -> bool
+        ensures { result ≡ suits kind.now (scalar_view self.now) }
+    {
         matches!(
             (self, kind),
             (Scalar::Bool(_), Kind::Bool)
@@ -35,7 +50,9 @@ impl<'a> Scalar<'a> {
     /// The default of a kind, `None` of a message: zero, false or empty, of an enum its first value.
     ///
     /// Messages hold no floating-point numbers; of these kinds it is the bits of zero.
-    pub fn default_value(kind: &Kind<'_>) -> Option<Scalar<'a>> {
+    pub fn default_value(kind: &Kind<'_>) -> Option<Scalar<'a>>
+        ensures { IsDefault kind.now (option_map scalar_view result) }
+    {
         match kind {
             Kind::Int32 | Kind::Sint32 | Kind::Sfixed32 => Some(Scalar::I32(0)),
             Kind::Int64 | Kind::Sint64 | Kind::Sfixed64 => Some(Scalar::I64(0)),

@@ -1,0 +1,4 @@
+pub mod Kinds
+pub mod Meaning
+pub mod Singles
+pub mod Written
