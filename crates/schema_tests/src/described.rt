@@ -9,7 +9,7 @@ use reflect_link::{
     FileDescriptor, InFile, MessageDescriptor, MessageReaders, MethodDescriptor, OneofDescriptor,
     OneofReaders, PoolReaders, ServiceDescriptor, Syntax,
 };
-use std::alloc::Global;
+use std::alloc::{AllocError, Global};
 
 /// A name, or a dash where there is none.
 pub fn or_dash<'t>(name: Option<&'t str>) -> &'t str {
@@ -28,7 +28,7 @@ pub fn record_name(name: &Option<String>) -> &str {
 pub fn listed<'t, I: Iterator<Item = &'t str> + Drop>(
     alloc: Global,
     names: I,
-) -> Result<String, Difference>
+) -> Result<String, AllocError>
     requires can { I.can_next names }
     requires ends { IsFinite (I.remaining names) }
 {

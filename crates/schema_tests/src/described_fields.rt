@@ -2,7 +2,7 @@
 
 use crate::described::{dotted, or_dash, record_name};
 use crate::json::Difference;
-use reflect_dynamic::FieldDescriptorLike;
+use reflect_dynamic::{AnyField, FieldDescriptorLike};
 use reflect_link::{
     Cardinality, DefaultValue, ExtensionDescriptor, FieldDescriptor, FieldReaders, InFile, Kind,
 };
@@ -27,7 +27,7 @@ pub fn field_line(alloc: Global, field: FieldDescriptor<'_>) -> Result<String, D
         or_dash(by_json_name.map(|field| field.name())),
         field.is_required(),
         or_dash(field.containing_oneof().map(|oneof| oneof.name())),
-        form(alloc, &field, field.cardinality())?,
+        form(alloc, AnyField::Field(field), field.cardinality())?,
     )?;
     Ok(line)
 }
@@ -49,7 +49,11 @@ pub fn extension_line(
         extension.containing_message().full_name(),
         record_name(&extension.field_descriptor_proto().name),
         extension_lookups(alloc, extension)?,
-        form(alloc, &extension, extension.cardinality())?,
+        form(
+            alloc,
+            AnyField::Extension(extension),
+            extension.cardinality()
+        )?,
     )?;
     Ok(line)
 }
@@ -77,9 +81,9 @@ fn extension_lookups(
 }
 
 /// What fields and extensions have in common.
-fn form<'p, F: FieldDescriptorLike<'p>>(
+fn form(
     alloc: Global,
-    field: &F,
+    field: AnyField<'_>,
     cardinality: Cardinality,
 ) -> Result<String, Difference> {
     let form = format!(in alloc;
