@@ -1,7 +1,7 @@
-/* Loaded before the C library: the allocation of the number FAIL_AT is refused, and the count of all is written to the file COUNT_TO. */
+/* Loaded before the C library: of the calls of malloc and realloc, which are all that the program makes, the one of the number FAIL_AT is
+   refused; their count is written to the file COUNT_TO. */
 #define _GNU_SOURCE
 #include <dlfcn.h>
-#include <errno.h>
 #include <stdio.h>
 #include <stdlib.h>
 
@@ -31,22 +31,6 @@ void *realloc(void *block, size_t size)
     if (!next)
         next = dlsym(RTLD_NEXT, "realloc");
     return refused() ? NULL : next(block, size);
-}
-
-void *aligned_alloc(size_t alignment, size_t size)
-{
-    static void *(*next)(size_t, size_t);
-    if (!next)
-        next = dlsym(RTLD_NEXT, "aligned_alloc");
-    return refused() ? NULL : next(alignment, size);
-}
-
-int posix_memalign(void **block, size_t alignment, size_t size)
-{
-    static int (*next)(void **, size_t, size_t);
-    if (!next)
-        next = dlsym(RTLD_NEXT, "posix_memalign");
-    return refused() ? ENOMEM : next(block, alignment, size);
 }
 
 __attribute__((destructor)) static void count(void)
