@@ -1,5 +1,6 @@
 -- What a value is written as means that value, and no other.
 use Rattle.std.proofs.Common.{◌≡◌, ℕ, ℤ, pos, negsuc, ◌<◌, ◌^◌, List, ◌++◌, refl, sym, ap, ◌∙◌, subst, arith, IfSome, Option, Some, None, FitsSigned, true, false}
+use Rattle.std.specs.Prelude.{option_map, is_some}
 use Rattle.std.specs.Int.{w32, w64, cast_signed, cast_unsigned}
 use Rattle.std.proofs.lemmas.Int.{to_z-of_z}
 use Rattle.std.proofs.Math.Nat.{mod-eq_of_lt}
@@ -10,10 +11,11 @@ use Rattle.reflect_wire.proofs.Spelling.{payload_spelled}
 use Rattle.reflect_wire.proofs.Unique.{one_payload}
 use Rattle.reflect_pool.specs.declared.kind.Kind.{Kind}
 use Rattle.reflect_pool.specs.declared.kind.Kind.TheVariants as kinds
-use Rattle.reflect_scalar.specs.Kinds.{wire_type}
+use Rattle.reflect_scalar.specs.declared.scalar.WireScalar.{WireScalar}
+use Rattle.reflect_scalar.specs.Kinds.{wire_type, suits}
 use Rattle.reflect_scalar.specs.Meaning.{Means, IsScalar, zigzag, low}
-use Rattle.reflect_scalar.specs.Singles.{Single, truth, int32, int64, uint32, uint64, text, blob, enumerated}
-use Rattle.reflect_scalar.specs.Written.{written, plain_bytes, Fits}
+use Rattle.reflect_scalar.specs.Singles.{Single, truth, int32, int64, uint32, uint64, text, blob, enumerated, wire_view}
+use Rattle.reflect_scalar.specs.Written.{written, plain_bytes, Fits, IsReadAs}
 use Rattle.reflect_scalar.proofs.Meanings.{form_of_meaning}
 
 plain_spelled : (p : Payload) → FitsPayload 0 p → SpellsPayload 0 0 (plain_bytes p) p
@@ -80,6 +82,31 @@ read_back kind v f = by (written kind v) (means_written kind v f) where
   by : (o : Option Payload) → IfSome o (λ p. FitsPayload 0 p × Means kind p v) → IfSome o (λ p. IsScalar kind (wire_type kind) (plain_bytes p) v)
   by None h = tt
   by (Some p) h = (p, (sym (form_of_meaning kind p v h.1), plain_spelled p h.0), h.1)
+
+pub read_written : (kind : Kind) (v : Single) (o : Option WireScalar) → Fits v → option_map wire_view o ≡ written kind v → IfSome o (IsReadAs kind v)
+read_written kind v None f e = tt
+read_written kind v (Some w) f e = subst (λ p. IfSome p (λ p. IsScalar kind (wire_type kind) (plain_bytes p) v)) (sym e) (read_back kind v f)
+
+suits_where_written : (kind : Kind) (v : Single) → is_some (written kind v) ≡ suits kind v
+suits_where_written kinds.Int32 (int32 z) = refl
+suits_where_written kinds.Int64 (int64 z) = refl
+suits_where_written kinds.Uint32 (uint32 n) = refl
+suits_where_written kinds.Uint64 (uint64 n) = refl
+suits_where_written kinds.Sint32 (int32 z) = refl
+suits_where_written kinds.Sint64 (int64 z) = refl
+suits_where_written kinds.Fixed32 (uint32 n) = refl
+suits_where_written kinds.Fixed64 (uint64 n) = refl
+suits_where_written kinds.Sfixed32 (int32 z) = refl
+suits_where_written kinds.Sfixed64 (int64 z) = refl
+suits_where_written kinds.Bool (truth b) = refl
+suits_where_written (kinds.Enum e) (enumerated z) = refl
+suits_where_written kinds.String (text t) = refl
+suits_where_written kinds.Bytes (blob b) = refl
+suits_where_written kind v = refl
+
+pub written_suits : (kind : Kind) (v : Single) (o : Option WireScalar) → option_map wire_view o ≡ written kind v → is_some o ≡ suits kind v
+written_suits kind v None e = ap is_some e ∙ suits_where_written kind v
+written_suits kind v (Some w) e = ap is_some e ∙ suits_where_written kind v
 
 one_meaning : (kind : Kind) (p : Payload) (v w : Single) → Means kind p v → Means kind p w → v ≡ w
 one_meaning kinds.Int32 (varint n) v w h k = h ∙ sym k

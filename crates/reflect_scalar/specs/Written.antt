@@ -1,13 +1,15 @@
 -- The one form in which a value of a kind is written.
-use Rattle.std.specs.Prelude.{ℕ, ◌<◌, ◌^◌, List, length, Option, Some, None, if◌then◌else◌, FitsSigned}
+use Rattle.std.specs.Prelude.{◌≡◌, ℕ, ◌<◌, ◌^◌, List, length, Option, Some, None, option_map, if◌then◌else◌, FitsSigned}
 use Rattle.std.specs.Int.{w32, w64, cast_unsigned}
 use Rattle.std.specs.Str.{IsUtf8}
 use Rattle.reflect_wire.specs.Records.{Payload, varint, fixed64, delimited, fixed32}
 use Rattle.reflect_wire.specs.Encoding.{payload_bytes}
 use Rattle.reflect_pool.specs.declared.kind.Kind.{Kind}
 use Rattle.reflect_pool.specs.declared.kind.Kind.TheVariants as kinds
-use Rattle.reflect_scalar.specs.Meaning.{zigzag}
-use Rattle.reflect_scalar.specs.Singles.{Single, truth, int32, int64, uint32, uint64, text, blob, enumerated}
+use Rattle.reflect_scalar.specs.declared.scalar.WireScalar.{WireScalar}
+use Rattle.reflect_scalar.specs.Kinds.{wire_type}
+use Rattle.reflect_scalar.specs.Meaning.{zigzag, IsScalar}
+use Rattle.reflect_scalar.specs.Singles.{Single, truth, int32, int64, uint32, uint64, text, blob, enumerated, wire_view}
 
 -- a negative number of an int32 or an enum is written in the ten bytes of its 64 bits
 abbrev pub written : Kind → Single → Option Payload
@@ -41,3 +43,11 @@ Fits (uint64 n) = n < 2 ^ 64
 Fits (text t) = IsUtf8 t × (length t < 2 ^ 64)
 Fits (blob b) = length b < 2 ^ 64
 Fits (enumerated z) = FitsSigned w32 z
+
+-- the value is one that the code holds, and this is what it is written as
+abbrev pub IsFormOf : Kind → Single → Option WireScalar → Type 0
+IsFormOf kind v o = Fits v × (option_map wire_view o ≡ written kind v)
+
+-- what is written of a value of the kind is read as that value
+abbrev pub IsReadAs : Kind → Single → WireScalar → Type 0
+IsReadAs kind v w = IsScalar kind (wire_type kind) (plain_bytes (wire_view w)) v

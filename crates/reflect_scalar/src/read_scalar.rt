@@ -1,9 +1,7 @@
 //! From the bytes of one record to its value.
 
-ghost use Rattle.std.specs.Prelude.{◌≡◌, ◌%◌, ◌^◌, ◌<◌, length, IfOk, IfErr};
-ghost use Rattle.std.specs.Int.{w32, w64, cast_signed};
+ghost use Rattle.std.specs.Prelude.{◌≡◌, ◌<◌, length, IfOk, IfErr};
 ghost use Rattle.reflect_wire.specs.Reads.{ReadsBy};
-ghost use Rattle.reflect_wire.specs.Records.{varint, fixed32, fixed64, delimited};
 ghost use Rattle.reflect_scalar.specs.Kinds.{wire_type, packs};
 ghost use Rattle.reflect_scalar.specs.Meaning.{zigzag, low, Means, MeaningFault, IsPlain, PlainFault, IsScalar, ScalarFault};
 ghost use Rattle.reflect_scalar.specs.Singles.{scalar_view, wire_view};

@@ -1,13 +1,12 @@
 //! From a single value to the bytes of its record.
 
-ghost use Rattle.std.specs.Prelude.{◌≡◌, ◌<◌, ◌^◌, ◌++◌, length, option_map, is_some, OnOk, SomeIff};
+ghost use Rattle.std.specs.Prelude.{◌≡◌, ◌<◌, ◌^◌, ◌++◌, length, option_map, is_some, IfSome, OnOk, SomeIff};
 ghost use Rattle.std.specs.Int.{w64, cast_unsigned};
-ghost use Rattle.reflect_wire.specs.Encoding.{payload_bytes};
 ghost use Rattle.reflect_codec.specs.Held.{held};
 ghost use Rattle.reflect_scalar.specs.Kinds.{suits};
 ghost use Rattle.reflect_scalar.specs.Meaning.{zigzag};
-ghost use Rattle.reflect_scalar.specs.Singles.{scalar_view, wire_view};
-ghost use Rattle.reflect_scalar.specs.Written.{written, plain_bytes};
+ghost use Rattle.reflect_scalar.specs.Singles.{truth, int32, int64, uint32, uint64, text, blob, enumerated, scalar_view, wire_view};
+ghost use Rattle.reflect_scalar.specs.Written.{written, plain_bytes, IsFormOf, IsReadAs};
 
 use crate::scalar::{Scalar, WireScalar};
 use reflect_codec::Backward;
@@ -43,27 +42,108 @@ fn sign_extended(n: i32) -> u64
     i64::from(n).cast_unsigned()
 }
 
-/// What a value is written as in a record of a kind, `None` where it does not suit the kind.
+/// What a truth value is written as.
+fn of_bool<'a>(kind: &Kind<'_>, is_true: bool) -> Option<WireScalar<'a>>
+    ensures { IsFormOf kind.now (truth is_true) result }
+{
+    match kind {
+        Kind::Bool => Some(WireScalar::Varint(u64::from(is_true))),
+        _ => None,
+    }
+}
+
+/// What a 32-bit number with a sign is written as.
+fn of_i32<'a>(kind: &Kind<'_>, n: i32) -> Option<WireScalar<'a>>
+    ensures { IsFormOf kind.now (int32 n) result }
+{
+    match kind {
+        Kind::Int32 => Some(WireScalar::Varint(sign_extended(n))),
+        Kind::Sint32 => Some(WireScalar::Varint(u64::from(zigzag32(n)))),
+        Kind::Sfixed32 => Some(WireScalar::ThirtyTwoBit(n.cast_unsigned())),
+        _ => None,
+    }
+}
+
+/// What a 64-bit number with a sign is written as.
+fn of_i64<'a>(kind: &Kind<'_>, n: i64) -> Option<WireScalar<'a>>
+    ensures { IsFormOf kind.now (int64 n) result }
+{
+    match kind {
+        Kind::Int64 => Some(WireScalar::Varint(n.cast_unsigned())),
+        Kind::Sint64 => Some(WireScalar::Varint(zigzag64(n))),
+        Kind::Sfixed64 => Some(WireScalar::SixtyFourBit(n.cast_unsigned())),
+        _ => None,
+    }
+}
+
+/// What a 32-bit number without a sign is written as.
+fn of_u32<'a>(kind: &Kind<'_>, n: u32) -> Option<WireScalar<'a>>
+    ensures { IsFormOf kind.now (uint32 n) result }
+{
+    match kind {
+        Kind::Uint32 => Some(WireScalar::Varint(u64::from(n))),
+        Kind::Fixed32 => Some(WireScalar::ThirtyTwoBit(n)),
+        _ => None,
+    }
+}
+
+/// What a 64-bit number without a sign is written as.
+fn of_u64<'a>(kind: &Kind<'_>, n: u64) -> Option<WireScalar<'a>>
+    ensures { IsFormOf kind.now (uint64 n) result }
+{
+    match kind {
+        Kind::Uint64 => Some(WireScalar::Varint(n)),
+        Kind::Fixed64 => Some(WireScalar::SixtyFourBit(n)),
+        _ => None,
+    }
+}
+
+/// What the number of an enum's value is written as.
+fn of_enum_number<'a>(kind: &Kind<'_>, n: i32) -> Option<WireScalar<'a>>
+    ensures { IsFormOf kind.now (enumerated n) result }
+{
+    match kind {
+        Kind::Enum(_) => Some(WireScalar::Varint(sign_extended(n))),
+        _ => None,
+    }
+}
+
+/// What a text is written as.
+fn of_text<'a>(kind: &Kind<'_>, string: &'a str) -> Option<WireScalar<'a>>
+    ensures { IsFormOf kind.now (text string.now) result }
+{
+    match kind {
+        Kind::String => Some(WireScalar::LengthDelimited(string.as_bytes())),
+        _ => None,
+    }
+}
+
+/// What bytes are written as.
+fn of_bytes<'a>(kind: &Kind<'_>, bytes: &'a [u8]) -> Option<WireScalar<'a>>
+    ensures { IsFormOf kind.now (blob bytes.now) result }
+{
+    match kind {
+        Kind::Bytes => Some(WireScalar::LengthDelimited(bytes)),
+        _ => None,
+    }
+}
+
+/// What a value is written as in a record of a kind, `None` where it does not suit the kind. It is read as the value.
+#[tactic(auto, using(crate::proofs::ReadBack::read_written, crate::proofs::ReadBack::written_suits))]
 pub fn wire_scalar<'a>(kind: &Kind<'_>, value: Scalar<'a>) -> Option<WireScalar<'a>>
     ensures form { option_map wire_view result ≡ written kind.now (scalar_view value.entry) }
     ensures some { is_some result ≡ suits kind.now (scalar_view value.entry) }
+    ensures read { IfSome result (IsReadAs kind.now (scalar_view value.entry)) }
 {
-    match (kind, value) {
-        (Kind::Int32, Scalar::I32(n)) => Some(WireScalar::Varint(sign_extended(n))),
-        (Kind::Int64, Scalar::I64(n)) => Some(WireScalar::Varint(n.cast_unsigned())),
-        (Kind::Uint32, Scalar::U32(n)) => Some(WireScalar::Varint(u64::from(n))),
-        (Kind::Uint64, Scalar::U64(n)) => Some(WireScalar::Varint(n)),
-        (Kind::Sint32, Scalar::I32(n)) => Some(WireScalar::Varint(u64::from(zigzag32(n)))),
-        (Kind::Sint64, Scalar::I64(n)) => Some(WireScalar::Varint(zigzag64(n))),
-        (Kind::Bool, Scalar::Bool(truth)) => Some(WireScalar::Varint(u64::from(truth))),
-        (Kind::Enum(_), Scalar::EnumNumber(n)) => Some(WireScalar::Varint(sign_extended(n))),
-        (Kind::Fixed32, Scalar::U32(n)) => Some(WireScalar::ThirtyTwoBit(n)),
-        (Kind::Sfixed32, Scalar::I32(n)) => Some(WireScalar::ThirtyTwoBit(n.cast_unsigned())),
-        (Kind::Fixed64, Scalar::U64(n)) => Some(WireScalar::SixtyFourBit(n)),
-        (Kind::Sfixed64, Scalar::I64(n)) => Some(WireScalar::SixtyFourBit(n.cast_unsigned())),
-        (Kind::String, Scalar::String(text)) => Some(WireScalar::LengthDelimited(text.as_bytes())),
-        (Kind::Bytes, Scalar::Bytes(bytes)) => Some(WireScalar::LengthDelimited(bytes)),
-        _ => None,
+    match value {
+        Scalar::Bool(truth) => of_bool(kind, truth),
+        Scalar::I32(n) => of_i32(kind, n),
+        Scalar::I64(n) => of_i64(kind, n),
+        Scalar::U32(n) => of_u32(kind, n),
+        Scalar::U64(n) => of_u64(kind, n),
+        Scalar::String(text) => of_text(kind, text),
+        Scalar::Bytes(bytes) => of_bytes(kind, bytes),
+        Scalar::EnumNumber(n) => of_enum_number(kind, n),
     }
 }
 
