@@ -42,6 +42,8 @@ fn sign_extended(n: i32) -> u64
     i64::from(n).cast_unsigned()
 }
 
+// One function for each type of value: of a function's number the prover knows that it fits its type.
+
 /// What a truth value is written as.
 fn of_bool<'a>(kind: &Kind<'_>, is_true: bool) -> Option<WireScalar<'a>>
     ensures { IsFormOf kind.now (truth is_true) result }
