@@ -6,22 +6,16 @@
 
 #[cfg(test)]
 mod calls;
-mod described;
-mod described_fields;
-mod json;
 mod memory_files;
-mod message_laws;
 #[cfg(test)]
 mod messages;
 #[cfg(test)]
 mod programs;
-mod random;
-mod records;
 mod refusals;
 mod replay;
 mod single_cases;
 
-use json::Difference;
+use case_json::{Difference, json};
 use replay::Replay;
 use serde_json::Value;
 use std::alloc::{AllocError, Global};
@@ -106,7 +100,7 @@ fn told(alloc: Global, difference: Difference) -> Result<String, Difference> {
 
 /// Tries the laws of messages on random ones, and prints how many of them hold.
 fn random_messages(rt: &HostRuntime) -> io::Result<bool> {
-    let (held, difference) = message_laws::run(rt.alloc(), SOURCES);
+    let (held, difference) = random_messages::run(rt.alloc(), SOURCES);
     let Some(difference) = difference else {
         println!(rt; "laws of messages: {held} random messages hold")?;
         return Ok(true);

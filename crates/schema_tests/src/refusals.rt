@@ -1,6 +1,7 @@
 //! Refusals of each layer against what a case says of them.
 
-use crate::json::{Difference, items, same, text};
+use case_json::Difference;
+use case_json::json::{items, same, text};
 use protox_lex::Span;
 use protox_parse::{ParseError as SourceError, ParseErrorKind as SourceFault};
 use reflect_link::DescriptorError;

@@ -4,13 +4,13 @@
 //! refusal. A `schema` case builds a schema in steps, which later cases name by its `id`; after a refused last step it is the
 //! schema of the steps before. Bytes are hex text.
 
-use crate::described::described;
-use crate::json::{
-    Difference, bytes, expected, items, number, same, same_bytes, text, truth, wanted,
-    wanted_refusal,
-};
 use crate::refusals::{same_refusal, same_text_refusal};
 use crate::single_cases::{parsed, program, unknown_records};
+use case_json::Difference;
+use case_json::json::{
+    bytes, expected, items, number, same, same_bytes, text, truth, wanted, wanted_refusal,
+};
+use described_pools::described;
 use descriptor_records::{DescriptorProto, FileDescriptorProto, Options};
 use reflect_codec::{decode_set, encode_set};
 use reflect_dynamic::DynamicMessage;

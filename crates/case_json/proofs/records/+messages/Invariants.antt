@@ -1,4 +1,4 @@
-use Rattle.schema_tests.proofs.records.+messages.Given as goal
+use Rattle.case_json.proofs.records.+messages.Given as goal
 
 abbrev pub decreases-messages : goal.decreases-messages
 decreases-messages l = l.levels

@@ -1,7 +1,8 @@
 //! Laws of messages, tried on messages of random types.
 
-use crate::json::{Difference, same_bytes};
 use crate::random::Random;
+use case_json::Difference;
+use case_json::json::same_bytes;
 use reflect_dynamic::DynamicMessage;
 use reflect_link::MessageDescriptor;
 use reflect_schema::Schema;

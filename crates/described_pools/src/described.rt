@@ -3,7 +3,6 @@
 ghost use Rattle.std.specs.Iterator.{IsFinite};
 
 use crate::described_fields::{extension_line, field_line};
-use crate::json::Difference;
 use reflect_link::{
     DescriptorPool, EnumDescriptor, EnumReaders, EnumValueDescriptor, EnumValueReaders,
     FileDescriptor, InFile, MessageDescriptor, MessageReaders, MethodDescriptor, OneofDescriptor,
@@ -43,7 +42,7 @@ pub fn listed<'t, I: Iterator<Item = &'t str> + Drop>(
 }
 
 /// The numbers of a path, with dots between them.
-pub fn dotted(alloc: Global, path: &[i32]) -> Result<String, Difference> {
+pub fn dotted(alloc: Global, path: &[i32]) -> Result<String, AllocError> {
     let mut text = String::new(alloc);
     for number in path {
         let dot = if text.is_empty() { "" } else { "." };
@@ -53,7 +52,7 @@ pub fn dotted(alloc: Global, path: &[i32]) -> Result<String, Difference> {
 }
 
 /// What all readers of the pool's descriptors answer.
-pub fn described(alloc: Global, pool: &DescriptorPool) -> Result<String, Difference> {
+pub fn described(alloc: Global, pool: &DescriptorPool) -> Result<String, AllocError> {
     let mut text = String::new(alloc);
     add_files(alloc, &mut text, pool)?;
     add_messages(alloc, &mut text, pool)?;
@@ -65,7 +64,7 @@ pub fn described(alloc: Global, pool: &DescriptorPool) -> Result<String, Differe
     Ok(text)
 }
 
-fn add_files(alloc: Global, text: &mut String, pool: &DescriptorPool) -> Result<(), Difference> {
+fn add_files(alloc: Global, text: &mut String, pool: &DescriptorPool) -> Result<(), AllocError> {
     for file in pool.files() {
         text.push_str(file_line(alloc, file)?.as_str())?;
         text.push_str(file_parts(alloc, file)?.as_str())?;
@@ -73,7 +72,7 @@ fn add_files(alloc: Global, text: &mut String, pool: &DescriptorPool) -> Result<
     Ok(())
 }
 
-fn file_line(alloc: Global, file: FileDescriptor<'_>) -> Result<String, Difference> {
+fn file_line(alloc: Global, file: FileDescriptor<'_>) -> Result<String, AllocError> {
     let syntax = match file.syntax() {
         Syntax::Proto2 => "proto2",
         Syntax::Proto3 => "proto3",
@@ -90,7 +89,7 @@ fn file_line(alloc: Global, file: FileDescriptor<'_>) -> Result<String, Differen
     Ok(line)
 }
 
-fn file_parts(alloc: Global, file: FileDescriptor<'_>) -> Result<String, Difference> {
+fn file_parts(alloc: Global, file: FileDescriptor<'_>) -> Result<String, AllocError> {
     let parts = format!(in alloc;
         " imports={} public={} messages={} enums={} extensions={} services={}\n",
         listed(alloc, file.dependencies().map(|file| file.name()))?,
@@ -103,7 +102,7 @@ fn file_parts(alloc: Global, file: FileDescriptor<'_>) -> Result<String, Differe
     Ok(parts)
 }
 
-fn add_messages(alloc: Global, text: &mut String, pool: &DescriptorPool) -> Result<(), Difference> {
+fn add_messages(alloc: Global, text: &mut String, pool: &DescriptorPool) -> Result<(), AllocError> {
     for message in pool.all_messages() {
         text.push_str(message_line(alloc, message)?.as_str())?;
         text.push_str(message_parts(alloc, message)?.as_str())?;
@@ -114,7 +113,7 @@ fn add_messages(alloc: Global, text: &mut String, pool: &DescriptorPool) -> Resu
     Ok(())
 }
 
-fn message_line(alloc: Global, message: MessageDescriptor<'_>) -> Result<String, Difference> {
+fn message_line(alloc: Global, message: MessageDescriptor<'_>) -> Result<String, AllocError> {
     let found = message
         .parent_pool()
         .get_message_by_name(message.full_name());
@@ -134,7 +133,7 @@ fn message_line(alloc: Global, message: MessageDescriptor<'_>) -> Result<String,
 }
 
 /// The names of the key and the value of a map's entry.
-fn entry_parts(alloc: Global, message: MessageDescriptor<'_>) -> Result<String, Difference> {
+fn entry_parts(alloc: Global, message: MessageDescriptor<'_>) -> Result<String, AllocError> {
     if !message.is_map_entry() {
         return Ok(String::new(alloc));
     }
@@ -143,7 +142,7 @@ fn entry_parts(alloc: Global, message: MessageDescriptor<'_>) -> Result<String, 
     Ok(format!(in alloc; "{},{}", key.name(), value.name())?)
 }
 
-fn message_parts(alloc: Global, message: MessageDescriptor<'_>) -> Result<String, Difference> {
+fn message_parts(alloc: Global, message: MessageDescriptor<'_>) -> Result<String, AllocError> {
     let parts = format!(in alloc;
         " fields={} oneofs={} messages={} enums={} extensions={}",
         listed(alloc, message.fields().map(|part| part.name()))?,
@@ -156,7 +155,7 @@ fn message_parts(alloc: Global, message: MessageDescriptor<'_>) -> Result<String
 }
 
 /// What a type reserves, the ranges that it keeps for extensions, and its extensions.
-fn message_numbers(alloc: Global, message: MessageDescriptor<'_>) -> Result<String, Difference> {
+fn message_numbers(alloc: Global, message: MessageDescriptor<'_>) -> Result<String, AllocError> {
     let mut text = String::new(alloc);
     for range in message.reserved_ranges() {
         text.push_str(format!(in alloc; " reserved={}..{}", range.start, range.end)?.as_str())?;
@@ -174,14 +173,14 @@ fn add_oneofs(
     alloc: Global,
     text: &mut String,
     message: MessageDescriptor<'_>,
-) -> Result<(), Difference> {
+) -> Result<(), AllocError> {
     for oneof in message.oneofs() {
         text.push_str(oneof_line(alloc, oneof)?.as_str())?;
     }
     Ok(())
 }
 
-fn oneof_line(alloc: Global, oneof: OneofDescriptor<'_>) -> Result<String, Difference> {
+fn oneof_line(alloc: Global, oneof: OneofDescriptor<'_>) -> Result<String, AllocError> {
     let line = format!(in alloc;
         "oneof {} name={} path={} in={} record={} synthetic={} fields={}\n",
         oneof.full_name(),
@@ -199,14 +198,14 @@ fn add_fields(
     alloc: Global,
     text: &mut String,
     message: MessageDescriptor<'_>,
-) -> Result<(), Difference> {
+) -> Result<(), AllocError> {
     for field in message.fields() {
         text.push_str(field_line(alloc, field)?.as_str())?;
     }
     Ok(())
 }
 
-fn add_enums(alloc: Global, text: &mut String, pool: &DescriptorPool) -> Result<(), Difference> {
+fn add_enums(alloc: Global, text: &mut String, pool: &DescriptorPool) -> Result<(), AllocError> {
     for kind in pool.all_enums() {
         text.push_str(enum_line(alloc, kind)?.as_str())?;
         text.push_str(enum_parts(alloc, kind)?.as_str())?;
@@ -215,7 +214,7 @@ fn add_enums(alloc: Global, text: &mut String, pool: &DescriptorPool) -> Result<
     Ok(())
 }
 
-fn enum_line(alloc: Global, kind: EnumDescriptor<'_>) -> Result<String, Difference> {
+fn enum_line(alloc: Global, kind: EnumDescriptor<'_>) -> Result<String, AllocError> {
     let found = kind.parent_pool().get_enum_by_name(kind.full_name());
     let line = format!(in alloc;
         "enum {} name={} path={} file={} package={} in={} record={} found={}",
@@ -232,7 +231,7 @@ fn enum_line(alloc: Global, kind: EnumDescriptor<'_>) -> Result<String, Differen
 }
 
 /// The values, the default, and what the type reserves.
-fn enum_parts(alloc: Global, kind: EnumDescriptor<'_>) -> Result<String, Difference> {
+fn enum_parts(alloc: Global, kind: EnumDescriptor<'_>) -> Result<String, AllocError> {
     let mut text = String::new(alloc);
     for range in kind.reserved_ranges() {
         text.push_str(format!(in alloc;
@@ -254,14 +253,14 @@ fn add_values(
     alloc: Global,
     text: &mut String,
     kind: EnumDescriptor<'_>,
-) -> Result<(), Difference> {
+) -> Result<(), AllocError> {
     for value in kind.values() {
         text.push_str(value_line(alloc, value)?.as_str())?;
     }
     Ok(())
 }
 
-fn value_line(alloc: Global, value: EnumValueDescriptor<'_>) -> Result<String, Difference> {
+fn value_line(alloc: Global, value: EnumValueDescriptor<'_>) -> Result<String, AllocError> {
     let kind = value.parent_enum();
     let by_number = kind.get_value(value.number());
     let by_name = kind.get_value_by_name(value.name());
@@ -279,7 +278,7 @@ fn value_line(alloc: Global, value: EnumValueDescriptor<'_>) -> Result<String, D
     Ok(line)
 }
 
-fn add_services(alloc: Global, text: &mut String, pool: &DescriptorPool) -> Result<(), Difference> {
+fn add_services(alloc: Global, text: &mut String, pool: &DescriptorPool) -> Result<(), AllocError> {
     for service in pool.services() {
         text.push_str(service_line(alloc, service)?.as_str())?;
         add_methods(alloc, text, service)?;
@@ -287,7 +286,7 @@ fn add_services(alloc: Global, text: &mut String, pool: &DescriptorPool) -> Resu
     Ok(())
 }
 
-fn service_line(alloc: Global, service: ServiceDescriptor<'_>) -> Result<String, Difference> {
+fn service_line(alloc: Global, service: ServiceDescriptor<'_>) -> Result<String, AllocError> {
     let found = service
         .parent_pool()
         .get_service_by_name(service.full_name());
@@ -310,14 +309,14 @@ fn add_methods(
     alloc: Global,
     text: &mut String,
     service: ServiceDescriptor<'_>,
-) -> Result<(), Difference> {
+) -> Result<(), AllocError> {
     for method in service.methods() {
         text.push_str(method_line(alloc, method)?.as_str())?;
     }
     Ok(())
 }
 
-fn method_line(alloc: Global, method: MethodDescriptor<'_>) -> Result<String, Difference> {
+fn method_line(alloc: Global, method: MethodDescriptor<'_>) -> Result<String, AllocError> {
     let line = format!(in alloc;
         "method {} name={} index={} path={} file={} in={} record={} input={} output={} streams={},{}\n",
         method.full_name(),

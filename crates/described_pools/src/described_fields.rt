@@ -1,15 +1,14 @@
 //! What the readers of fields and extensions answer, as lines of text.
 
 use crate::described::{dotted, or_dash, record_name};
-use crate::json::Difference;
 use reflect_dynamic::{AnyField, FieldDescriptorLike};
 use reflect_link::{
     Cardinality, DefaultValue, ExtensionDescriptor, FieldDescriptor, FieldReaders, InFile, Kind,
 };
-use std::alloc::Global;
+use std::alloc::{AllocError, Global};
 
 /// A field's name, and what finds it again.
-pub fn field_line(alloc: Global, field: FieldDescriptor<'_>) -> Result<String, Difference> {
+pub fn field_line(alloc: Global, field: FieldDescriptor<'_>) -> Result<String, AllocError> {
     let message = field.parent_message();
     let by_number = message.get_field(field.number());
     let by_name = message.get_field_by_name(field.name());
@@ -36,7 +35,7 @@ pub fn field_line(alloc: Global, field: FieldDescriptor<'_>) -> Result<String, D
 pub fn extension_line(
     alloc: Global,
     extension: ExtensionDescriptor<'_>,
-) -> Result<String, Difference> {
+) -> Result<String, AllocError> {
     let line = format!(in alloc;
         "extension {} name={} json={} path={} file={} package={} in={} of={} record={} found={}{}",
         extension.full_name(),
@@ -62,7 +61,7 @@ pub fn extension_line(
 fn extension_lookups(
     alloc: Global,
     extension: ExtensionDescriptor<'_>,
-) -> Result<String, Difference> {
+) -> Result<String, AllocError> {
     let message = extension.containing_message();
     let by_number = message.get_extension(extension.number());
     let by_name = message.get_extension_by_full_name(extension.full_name());
@@ -85,7 +84,7 @@ fn form(
     alloc: Global,
     field: AnyField<'_>,
     cardinality: Cardinality,
-) -> Result<String, Difference> {
+) -> Result<String, AllocError> {
     let form = format!(in alloc;
         " number={} {cardinality:?} kind={} default={} group={} list={} map={} packed={} presence={}\n",
         field.number(),
@@ -123,11 +122,11 @@ fn kind_name<'p>(kind: Kind<'p>) -> &'p str {
     }
 }
 
-fn hex_of(alloc: Global, bytes: &[u8]) -> Result<String, Difference> {
-    hex::encode(alloc, bytes).map_err(|_| Difference::Memory)
+fn hex_of(alloc: Global, bytes: &[u8]) -> Result<String, AllocError> {
+    hex::encode(alloc, bytes).map_err(|_| AllocError)
 }
 
-fn default_text(alloc: Global, default: Option<DefaultValue<'_>>) -> Result<String, Difference> {
+fn default_text(alloc: Global, default: Option<DefaultValue<'_>>) -> Result<String, AllocError> {
     let text = match default {
         None => String::new(alloc),
         Some(DefaultValue::I64(number)) => format!(in alloc; "{number}")?,

@@ -1,5 +1,5 @@
 use Rattle.std.proofs.Common.{◌+◌, ◌*◌}
-use Rattle.schema_tests.proofs.random.Random.+fill.Given as goal
+use Rattle.random_messages.proofs.random.Random.+fill.Given as goal
 
 abbrev pub decreases-fill : goal.decreases-fill
 decreases-fill l = 4 * l.levels + 3
