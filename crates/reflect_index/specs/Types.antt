@@ -30,6 +30,7 @@ pub data KindType : Type 0 where
 pub record FieldType : Type 0 where
   pub name : List ℕ
   pub full_name : List ℕ
+  pub json_name : Option (List ℕ)
   pub number : ℕ
   pub kind : KindType
   pub cardinality : Cardinality
@@ -139,7 +140,7 @@ abbrev pub no_type : MessageType
 no_type = record { name = []; full_name = []; file = 0; fields = []; oneofs = []; entry = None }
 
 abbrev pub no_field : FieldType
-no_field = record { name = []; full_name = []; number = 0; kind = int32; cardinality = Optional; group = false; packed = false; presence = false; oneof = None }
+no_field = record { name = []; full_name = []; json_name = None; number = 0; kind = int32; cardinality = Optional; group = false; packed = false; presence = false; oneof = None }
 
 abbrev pub no_oneof : OneofType
 no_oneof = record { name = []; full_name = []; fields = []; synthetic = false }

@@ -34,20 +34,25 @@ kind_of kinds.Bytes = bytes
 kind_of (kinds.Message i) = message i
 kind_of (kinds.Enum i) = enumeration i
 
+-- a text that may be missing
+abbrev pub name_of : Option (String Global) → Option (List ℕ)
+name_of None = None
+name_of (Some s) = Some (string_bytes s)
+
 abbrev pub field_of : StoredField → FieldType
-field_of f = record { name = string_bytes f.name; full_name = string_bytes f.full_name; number = f.number; kind = kind_of f.kind; cardinality = f.cardinality; group = f.is_group; packed = f.is_packed; presence = f.supports_presence; oneof = f.oneof }
+field_of f = record { name = string_bytes f.name; full_name = string_bytes f.full_name; json_name = name_of f.json_name; number = f.number; kind = kind_of f.kind; cardinality = f.cardinality; group = f.is_group; packed = f.is_packed; presence = f.supports_presence; oneof = f.oneof }
 
 abbrev pub oneof_of : StoredOneof → OneofType
 oneof_of o = record { name = string_bytes o.name; full_name = string_bytes o.full_name; fields = o.fields.items; synthetic = o.is_synthetic }
 
 abbrev pub message_of : StoredMessage → MessageType
-message_of m = record { name = string_bytes m.name; full_name = string_bytes m.full_name; file = m.file; fields = map field_of m.fields.items; oneofs = map oneof_of m.oneofs.items; entry = m.entry }
+message_of m = record { name = string_bytes m.name; full_name = string_bytes m.full_name; file = m.file; fields = map field_of m.fields.list.items; oneofs = map oneof_of m.oneofs.items; entry = m.entry }
 
 abbrev pub value_of : StoredValue → ValueType
 value_of v = record { name = string_bytes v.name; full_name = string_bytes v.full_name; number = v.number }
 
 abbrev pub enum_of : StoredEnum → EnumType
-enum_of e = record { name = string_bytes e.name; full_name = string_bytes e.full_name; file = e.file; values = map value_of e.values.items }
+enum_of e = record { name = string_bytes e.name; full_name = string_bytes e.full_name; file = e.file; values = map value_of e.values.list.items }
 
 abbrev pub extension_of : StoredExtension → ExtensionType
 extension_of x = record { file = x.file; extendee = x.extendee; field = field_of x.field }

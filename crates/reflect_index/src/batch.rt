@@ -1,4 +1,3 @@
-use crate::finish::{finished_enums, finished_messages};
 use crate::stored::{
     Declared, StoredEnum, StoredExtension, StoredFile, StoredMessage, StoredService,
 };
@@ -18,35 +17,6 @@ pub struct Batch {
 }
 
 impl Batch {
-    /// No entries. Takes no memory.
-    pub fn new(alloc: Global) -> Batch {
-        Batch {
-            files: Vec::new(alloc),
-            messages: Vec::new(alloc),
-            enums: Vec::new(alloc),
-            extensions: Vec::new(alloc),
-            services: Vec::new(alloc),
-        }
-    }
-
-    /// The entries with all that is known of a type once all of it was visited.
-    pub fn finished(self, alloc: Global) -> Result<Batch, VisitError> {
-        let Batch {
-            files,
-            messages,
-            enums,
-            extensions,
-            services,
-        } = self;
-        Ok(Batch {
-            files,
-            messages: finished_messages(alloc, messages)?,
-            enums: finished_enums(alloc, enums)?,
-            extensions,
-            services,
-        })
-    }
-
     /// The entries with the records of their files, of which there is one for each file.
     pub fn with_records(
         self,

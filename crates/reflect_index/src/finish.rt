@@ -1,70 +1,10 @@
-//! What is known of a type once all of it was visited: sorted places for lookups, members of oneofs, a map entry's parts.
+//! What is known of a type once all of it was visited: what its parts are looked up by, members of oneofs, a map entry's parts.
 
-use crate::stored::{
-    StoredEntry, StoredEnum, StoredField, StoredMessage, StoredOneof, StoredValue,
-};
+use crate::drafts::{EnumDraft, MessageDraft};
+use crate::lists::{FieldList, ValueList};
+use crate::stored::{StoredEntry, StoredEnum, StoredField, StoredMessage, StoredOneof};
 use reflect_names::VisitError;
 use std::alloc::Global;
-
-/// The places of a list, in order.
-fn places<T>(alloc: Global, items: &[T]) -> Result<Vec<u32>, VisitError> {
-    let mut places = Vec::with_capacity(alloc, items.len())?;
-    for place in 0..items.len() {
-        let place = i32::try_from(place).map_err(|_| VisitError::TooMany)?;
-        places.push(place.unsigned_abs())?;
-    }
-    Ok(places)
-}
-
-fn field_number(fields: &[StoredField], place: u32) -> u32 {
-    match fields.get(place as usize) {
-        Some(field) => field.number,
-        None => 0,
-    }
-}
-
-fn field_name(fields: &[StoredField], place: u32) -> &str {
-    match fields.get(place as usize) {
-        Some(field) => field.name.as_str(),
-        None => "",
-    }
-}
-
-fn json_name(fields: &[StoredField], place: u32) -> Option<&str> {
-    match &fields.get(place as usize)?.json_name {
-        Some(name) => Some(name.as_str()),
-        None => None,
-    }
-}
-
-fn value_number(values: &[StoredValue], place: u32) -> i32 {
-    match values.get(place as usize) {
-        Some(value) => value.number,
-        None => 0,
-    }
-}
-
-fn value_name(values: &[StoredValue], place: u32) -> &str {
-    match values.get(place as usize) {
-        Some(value) => value.name.as_str(),
-        None => "",
-    }
-}
-
-/// The places of the fields with a written JSON name, by that name; of equal names the first field's alone.
-fn json_places(alloc: Global, fields: &[StoredField]) -> Result<Vec<u32>, VisitError> {
-    let mut sorted = places(alloc, fields)?;
-    sorted.retain(|place| json_name(fields, *place).is_some());
-    sorted.sort_by(|a, b| json_name(fields, *a).cmp(&json_name(fields, *b)))?;
-    let mut last = None;
-    sorted.retain(|place| {
-        let name = json_name(fields, *place);
-        let is_new = name != last;
-        last = name;
-        is_new
-    });
-    Ok(sorted)
-}
 
 /// The key and the value of a map's entry: its fields of the numbers 1 and 2.
 fn entry_of(fields: &[StoredField]) -> Option<StoredEntry> {
@@ -100,46 +40,69 @@ fn list_members(fields: &[StoredField], oneofs: &mut Vec<StoredOneof>) -> Result
     Ok(())
 }
 
-fn finish_message(alloc: Global, message: &mut StoredMessage) -> Result<(), VisitError> {
-    let fields = message.fields.as_slice();
-    let mut by_number = places(alloc, fields)?;
-    by_number.sort_unstable_by_key(|place| field_number(fields, *place));
-    let mut by_name = places(alloc, fields)?;
-    by_name.sort_by(|a, b| field_name(fields, *a).cmp(field_name(fields, *b)))?;
-    message.by_json_name = json_places(alloc, fields)?;
-    message.by_number = by_number;
-    message.by_name = by_name;
-    if message.is_entry {
-        message.entry = entry_of(message.fields.as_slice());
-    }
-    list_members(message.fields.as_slice(), &mut message.oneofs)
+fn finished_message(alloc: Global, draft: MessageDraft) -> Result<StoredMessage, VisitError> {
+    let MessageDraft {
+        file,
+        parent,
+        path,
+        name,
+        full_name,
+        is_entry,
+        fields,
+        mut oneofs,
+        children,
+        reserved_numbers,
+        extension_numbers,
+    } = draft;
+    list_members(fields.as_slice(), &mut oneofs)?;
+    let entry = if is_entry {
+        entry_of(fields.as_slice())
+    } else {
+        None
+    };
+    Ok(StoredMessage {
+        file,
+        parent,
+        path,
+        name,
+        full_name,
+        is_entry,
+        entry,
+        fields: FieldList::new(alloc, fields)?,
+        oneofs,
+        children,
+        reserved_numbers,
+        extension_numbers,
+    })
 }
 
-fn finish_enum(alloc: Global, enumeration: &mut StoredEnum) -> Result<(), VisitError> {
-    let values = enumeration.values.as_slice();
-    let mut by_number = places(alloc, values)?;
-    by_number.sort_by_key(|place| value_number(values, *place))?;
-    let mut last = None;
-    by_number.retain(|place| {
-        let number = Some(value_number(values, *place));
-        let is_new = number != last;
-        last = number;
-        is_new
-    });
-    let mut by_name = places(alloc, values)?;
-    by_name.sort_by(|a, b| value_name(values, *a).cmp(value_name(values, *b)))?;
-    enumeration.by_number = by_number;
-    enumeration.by_name = by_name;
-    Ok(())
+fn finished_enum(alloc: Global, draft: EnumDraft) -> Result<StoredEnum, VisitError> {
+    let EnumDraft {
+        file,
+        parent,
+        path,
+        name,
+        full_name,
+        values,
+    } = draft;
+    Ok(StoredEnum {
+        file,
+        parent,
+        path,
+        name,
+        full_name,
+        values: ValueList::new(alloc, values)?,
+    })
 }
 
 /// The messages with all that is known of them.
 pub fn finished_messages(
     alloc: Global,
-    mut messages: Vec<StoredMessage>,
+    drafts: Vec<MessageDraft>,
 ) -> Result<Vec<StoredMessage>, VisitError> {
-    for message in messages.iter_mut() {
-        finish_message(alloc, message)?;
+    let mut messages = Vec::with_capacity(alloc, drafts.len())?;
+    for draft in drafts {
+        messages.push(finished_message(alloc, draft)?)?;
     }
     Ok(messages)
 }
@@ -147,10 +110,11 @@ pub fn finished_messages(
 /// The enums with all that is known of them.
 pub fn finished_enums(
     alloc: Global,
-    mut enums: Vec<StoredEnum>,
+    drafts: Vec<EnumDraft>,
 ) -> Result<Vec<StoredEnum>, VisitError> {
-    for enumeration in enums.iter_mut() {
-        finish_enum(alloc, enumeration)?;
+    let mut enums = Vec::with_capacity(alloc, drafts.len())?;
+    for draft in drafts {
+        enums.push(finished_enum(alloc, draft)?)?;
     }
     Ok(enums)
 }

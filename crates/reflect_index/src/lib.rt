@@ -4,10 +4,15 @@
 mod batch;
 mod cutting;
 mod default;
+mod drafts;
 mod field;
 mod finish;
 mod from;
+mod index;
+mod keys;
 mod kind;
+mod lists;
+mod lookups;
 mod rewrite;
 mod settle;
 mod stored;
@@ -19,6 +24,7 @@ pub use batch::Batch;
 pub use cutting::cut;
 pub use from::are_from;
 pub use kind::{Cardinality, Syntax};
+pub use lists::{FieldList, ValueList};
 pub use rewrite::rewritten;
 pub use settle::{Edit, settle_all};
 pub use stored::{

@@ -1,10 +1,10 @@
 //! What is kept of each declaration: places in place of names.
 
 use crate::kind::{Cardinality, Syntax};
+use crate::lists::{FieldList, ValueList};
 use descriptor_records::FileDescriptorProto;
 use reflect_rules::NumberRanges;
 use std::alloc::{AllocError, Global};
-use std::cmp::Ordering;
 
 /// What a field holds, with a message or an enum by its place in the pool.
 #[derive(Clone, Copy, PartialEq, Eq, Debug)]
@@ -146,8 +146,7 @@ pub struct StoredMessage {
     pub is_entry: bool,
     /// The key and the value of a map's entry.
     pub entry: Option<StoredEntry>,
-    /// The fields, as they were declared.
-    pub fields: Vec<StoredField>,
+    pub fields: FieldList,
     /// The oneofs, as they were declared.
     pub oneofs: Vec<StoredOneof>,
     pub children: Children,
@@ -155,12 +154,6 @@ pub struct StoredMessage {
     pub reserved_numbers: NumberRanges,
     /// The numbers that extensions may have.
     pub extension_numbers: NumberRanges,
-    /// The places in `fields`, by ascending number.
-    pub by_number: Vec<u32>,
-    /// The places in `fields`, by ascending name.
-    pub by_name: Vec<u32>,
-    /// The places in `fields` of the first field of each written JSON name, by ascending name.
-    pub by_json_name: Vec<u32>,
 }
 
 /// A value of an enum type.
@@ -180,25 +173,7 @@ pub struct StoredEnum {
     pub path: Vec<i32>,
     pub name: String,
     pub full_name: String,
-    /// The values, as they were declared.
-    pub values: Vec<StoredValue>,
-    /// The places in `values` of the first value of each number, by ascending number.
-    pub by_number: Vec<u32>,
-    /// The places in `values`, by ascending name.
-    pub by_name: Vec<u32>,
-}
-
-impl StoredEnum {
-    /// The place of the value of a name. Takes a number of steps that grows with the logarithm of the values' count.
-    pub fn value_of_name(&self, name: &str) -> Option<u32> {
-        let found = self.by_name.as_slice().binary_search_by(|place| {
-            match self.values.get(*place as usize) {
-                Some(value) => value.name.as_str().cmp(&name),
-                None => Ordering::Less,
-            }
-        });
-        self.by_name.get(found.ok()?).copied()
-    }
+    pub values: ValueList,
 }
 
 /// An extension.

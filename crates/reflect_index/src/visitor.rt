@@ -1,11 +1,12 @@
 //! From the records of a batch to what the pool keeps of them.
 
 use crate::batch::Batch;
+use crate::drafts::{Drafts, EnumDraft, MessageDraft};
 use crate::field::{field_entry, scalar_kind, syntax_of, text_of};
 use crate::kind::{Cardinality, Syntax};
 use crate::stored::{
-    Child, Children, Declared, StoredEnum, StoredExtension, StoredField, StoredKind, StoredMessage,
-    StoredMethod, StoredOneof, StoredService, StoredValue,
+    Child, Children, Declared, StoredExtension, StoredField, StoredKind, StoredMethod, StoredOneof,
+    StoredService, StoredValue,
 };
 use descriptor_records::{
     DescriptorProto, EnumDescriptorProto, EnumValueDescriptorProto, FieldDescriptorProto,
@@ -19,7 +20,7 @@ use std::alloc::Global;
 /// Makes the entries of the declarations that it visits.
 #[derive(Drop)]
 pub struct IndexVisitor<'a> {
-    batch: Batch,
+    drafts: Drafts,
     /// How much there was before.
     before: Offsets,
     /// What the references mean that were not met yet.
@@ -31,22 +32,22 @@ impl<'a> IndexVisitor<'a> {
     /// A visitor of files whose references mean this, in the order in which a walk meets them. Takes no memory.
     pub fn new(alloc: Global, before: Offsets, references: &'a [Reference]) -> IndexVisitor<'a> {
         IndexVisitor {
-            batch: Batch::new(alloc),
+            drafts: Drafts::new(alloc),
             before,
             references,
             syntax: Syntax::Proto2,
         }
     }
 
-    /// The entries that were made.
-    pub fn into_batch(self) -> Batch {
+    /// The entries that were made, with all that is known of a type once all of it was visited.
+    pub fn into_batch(self, alloc: Global) -> Result<Batch, VisitError> {
         let IndexVisitor {
-            batch,
+            drafts,
             before: _,
             references: _,
             syntax: _,
         } = self;
-        batch
+        drafts.finished(alloc)
     }
 
     /// What the next reference means.
@@ -79,13 +80,13 @@ impl<'a> IndexVisitor<'a> {
     /// Adds a type or an extension to what the message at `parent` declares, or else the file.
     fn declare_in(&mut self, parent: Option<u32>, child: Child) -> Result<(), VisitError> {
         let Some(parent) = parent else {
-            return match self.batch.files.last_mut() {
+            return match self.drafts.files.last_mut() {
                 Some(file) => Ok(file.children.push(child)?),
                 None => Err(VisitError::TooMany),
             };
         };
         let place = local_place(parent, self.before.messages)?;
-        match self.batch.messages.get_mut(place) {
+        match self.drafts.messages.get_mut(place) {
             Some(message) => Ok(message.children.push(child)?),
             None => Err(VisitError::TooMany),
         }
@@ -124,7 +125,7 @@ impl<'a> Visitor for IndexVisitor<'a> {
         descriptor: &FileDescriptorProto,
     ) -> Result<(), VisitError> {
         self.syntax = syntax_of(descriptor);
-        self.batch.files.push(Declared {
+        self.drafts.files.push(Declared {
             syntax: self.syntax,
             children: Children::new(alloc),
             services: Vec::new(alloc),
@@ -143,22 +144,18 @@ impl<'a> Visitor for IndexVisitor<'a> {
         message: &DescriptorProto,
     ) -> Result<(), VisitError> {
         self.declare_in(parent, Child::Message(index))?;
-        self.batch.messages.push(StoredMessage {
+        self.drafts.messages.push(MessageDraft {
             file,
             parent,
             path: Vec::from_slice(alloc, path)?,
             name: text_of(alloc, &message.name)?,
             full_name: String::from_str(alloc, full_name)?,
             is_entry: is_map_entry(message),
-            entry: None,
             fields: Vec::new(alloc),
             oneofs: Vec::new(alloc),
             children: Children::new(alloc),
             reserved_numbers: NumberRanges::reserved(alloc, message.reserved_range.as_slice())?,
             extension_numbers: NumberRanges::extensions(alloc, message.extension_range.as_slice())?,
-            by_number: Vec::new(alloc),
-            by_name: Vec::new(alloc),
-            by_json_name: Vec::new(alloc),
         })?;
         Ok(())
     }
@@ -176,7 +173,7 @@ impl<'a> Visitor for IndexVisitor<'a> {
         let kind = self.kind_of(field).ok_or(VisitError::TooMany)?;
         let entry = field_entry(alloc, self.syntax, path, full_name, kind, field)?;
         let place = local_place(message, self.before.messages)?;
-        match self.batch.messages.get_mut(place) {
+        match self.drafts.messages.get_mut(place) {
             Some(message) => {
                 message.fields.push(entry)?;
                 Ok(())
@@ -203,7 +200,7 @@ impl<'a> Visitor for IndexVisitor<'a> {
             is_synthetic: false,
         };
         let place = local_place(message, self.before.messages)?;
-        match self.batch.messages.get_mut(place) {
+        match self.drafts.messages.get_mut(place) {
             Some(message) => {
                 message.oneofs.push(entry)?;
                 Ok(())
@@ -223,15 +220,13 @@ impl<'a> Visitor for IndexVisitor<'a> {
         enumeration: &EnumDescriptorProto,
     ) -> Result<(), VisitError> {
         self.declare_in(parent, Child::Enum(index))?;
-        self.batch.enums.push(StoredEnum {
+        self.drafts.enums.push(EnumDraft {
             file,
             parent,
             path: Vec::from_slice(alloc, path)?,
             name: text_of(alloc, &enumeration.name)?,
             full_name: String::from_str(alloc, full_name)?,
             values: Vec::new(alloc),
-            by_number: Vec::new(alloc),
-            by_name: Vec::new(alloc),
         })?;
         Ok(())
     }
@@ -253,7 +248,7 @@ impl<'a> Visitor for IndexVisitor<'a> {
             number: value.number.unwrap_or(0),
         };
         let place = local_place(enumeration, self.before.enums)?;
-        match self.batch.enums.get_mut(place) {
+        match self.drafts.enums.get_mut(place) {
             Some(enumeration) => {
                 enumeration.values.push(entry)?;
                 Ok(())
@@ -271,11 +266,11 @@ impl<'a> Visitor for IndexVisitor<'a> {
         index: u32,
         service: &ServiceDescriptorProto,
     ) -> Result<(), VisitError> {
-        match self.batch.files.last_mut() {
+        match self.drafts.files.last_mut() {
             Some(file) => file.services.push(index)?,
             None => return Err(VisitError::TooMany),
         }
-        self.batch.services.push(StoredService {
+        self.drafts.services.push(StoredService {
             file,
             path: Vec::from_slice(alloc, path)?,
             name: text_of(alloc, &service.name)?,
@@ -305,7 +300,7 @@ impl<'a> Visitor for IndexVisitor<'a> {
             is_server_streaming: method.server_streaming == Some(true),
         };
         let place = local_place(service, self.before.services)?;
-        match self.batch.services.get_mut(place) {
+        match self.drafts.services.get_mut(place) {
             Some(service) => {
                 service.methods.push(entry)?;
                 Ok(())
@@ -327,7 +322,7 @@ impl<'a> Visitor for IndexVisitor<'a> {
         self.declare_in(parent, Child::Extension(index))?;
         let extendee = self.next_message()?;
         let kind = self.kind_of(extension).ok_or(VisitError::TooMany)?;
-        self.batch.extensions.push(StoredExtension {
+        self.drafts.extensions.push(StoredExtension {
             file,
             parent,
             extendee,

@@ -46,9 +46,9 @@ fn message_within(message: &StoredMessage, counts: Counts) -> bool
     ensures { IsTrue result → MessageWithin counts (message_of message.now) }
 {
     message.file < counts.files
-        && fields_within(message.fields.as_slice(), counts)
-        && has_parts(message.entry, message.fields.len())
-        && message.fields.len() < 0x8000_0000
+        && fields_within(message.fields.list.as_slice(), counts)
+        && has_parts(message.entry, message.fields.list.len())
+        && message.fields.list.len() < 0x8000_0000
 }
 
 fn messages_within(items: &[StoredMessage], counts: Counts) -> bool
@@ -65,7 +65,7 @@ fn messages_within(items: &[StoredMessage], counts: Counts) -> bool
 fn enum_within(enumeration: &StoredEnum, counts: Counts) -> bool
     ensures { IsTrue result → EnumWithin counts (enum_of enumeration.now) }
 {
-    enumeration.file < counts.files && !enumeration.values.is_empty()
+    enumeration.file < counts.files && !enumeration.values.list.is_empty()
 }
 
 fn enums_within(items: &[StoredEnum], counts: Counts) -> bool

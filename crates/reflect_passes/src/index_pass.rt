@@ -17,7 +17,7 @@ pub fn index_files(
 ) -> Result<Batch, VisitError> {
     let mut visitor = IndexVisitor::new(alloc, before, references);
     visit_all(alloc, before, first, files, &mut visitor)?;
-    visitor.into_batch().finished(alloc)
+    visitor.into_batch(alloc)
 }
 
 /// Adds what the new files import.

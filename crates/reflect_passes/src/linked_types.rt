@@ -57,7 +57,7 @@ impl<'a> Types for LinkedTypes<'a> {
 
     fn has_value(&self, enumeration: u32, name: &str) -> bool {
         match self.enumeration(enumeration) {
-            Some(enumeration) => enumeration.value_of_name(name).is_some(),
+            Some(enumeration) => enumeration.values.of_name(name).is_some(),
             None => false,
         }
     }

@@ -36,16 +36,20 @@ service_within t pool i m e h lt is =
     subst (λ p. i < length p.services → ServiceWithin (counts_of p) (service_of m)) e
     (λ below. at_view service_of (ServiceWithin (counts_of (pool_of t))) t.services.items i m h.services below is) lt
 
+-- the type at a place is what the message there stands for
+pub type_there : (t : Tables) (pool : PoolType) (i : ℕ) (m : StoredMessage) → pool_of t ≡ pool → i < length pool.messages → m ≡ get_or t.messages.items i m → get_or pool.messages i no_type ≡ message_of m
+type_there t pool i m e lt is =
+    subst (λ (p : PoolType). i < length p.messages → get_or p.messages i no_type ≡ message_of m) e (λ below. view_there message_of t.messages.items i m no_type below is) lt
+
 -- the type that a field names is there
 pub kind_within : (t : Tables) (pool : PoolType) (i k : ℕ) (m : StoredMessage) (f : StoredField) → pool_of t ≡ pool → ArePooled (pool_of t)
     → i < length pool.messages → m ≡ get_or t.messages.items i m
-    → k < length (get_or pool.messages i no_type).fields → f ≡ get_or m.fields.items k f
+    → k < length (get_or pool.messages i no_type).fields → f ≡ get_or m.fields.list.items k f
     → IsWithin (counts_of pool) (kind_of f.kind)
 kind_within t pool i k m f e h lt is inner was =
     let here = message_within t pool i m e h lt is in
-    let there : get_or pool.messages i no_type ≡ message_of m =
-    subst (λ (p : PoolType). i < length p.messages → get_or p.messages i no_type ≡ message_of m) e (λ below. view_there message_of t.messages.items i m no_type below is) lt in
-    at_view field_of (λ g. IsWithin (counts_of pool) g.kind) m.fields.items k f here.fields (subst (λ (n : MessageType). k < length n.fields) there inner) was
+    let there = type_there t pool i m e lt is in
+    at_view field_of (λ g. IsWithin (counts_of pool) g.kind) m.fields.list.items k f here.fields (subst (λ (n : MessageType). k < length n.fields) there inner) was
 
 -- the message types that a method names are there
 pub method_within : (t : Tables) (pool : PoolType) (i k : ℕ) (m : StoredService) (f : StoredMethod) → pool_of t ≡ pool → ArePooled (pool_of t)
@@ -66,8 +70,8 @@ has_value t pool i e h lt = subst (λ (p : PoolType). i < length p.enums → 0 <
 
 -- a field's place is small
 pub few_fields : (t : Tables) (pool : PoolType) (i k : ℕ) (m : StoredMessage) → pool_of t ≡ pool → ArePooled (pool_of t)
-    → i < length pool.messages → m ≡ get_or t.messages.items i m → k < length m.fields.items → k < 2 ^ 31
+    → i < length pool.messages → m ≡ get_or t.messages.items i m → k < length m.fields.list.items → k < 2 ^ 31
 few_fields t pool i k m e h lt is below =
     let few = (message_within t pool i m e h lt is).few in
-    let long : length (map field_of m.fields.items) ≡ length m.fields.items = length-map m.fields.items field_of in
+    let long : length (map field_of m.fields.list.items) ≡ length m.fields.list.items = length-map m.fields.list.items field_of in
     omega (arith, few, long, below)

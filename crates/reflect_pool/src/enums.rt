@@ -4,7 +4,6 @@ ghost use Rattle.reflect_index.specs.Types.{enum_at};
 use crate::counting::end_of;
 use crate::message::MessageDescriptor;
 use crate::pool::DescriptorPool;
-use std::cmp::Ordering;
 
 /// An enum type of a pool.
 #[derive(Clone, Copy)]
@@ -15,6 +14,8 @@ pub struct EnumDescriptor<'p> {
 }
 
 impl<'p> EnumDescriptor<'p> {
+    ghost use Rattle.reflect_pool.specs.Finds.{FindsValue};
+
     /// The pool that the type stands in.
     pub fn parent_pool(&self) -> &'p DescriptorPool
         ensures { result.now ≡ self.now.pool.now }
@@ -71,33 +72,35 @@ impl<'p> EnumDescriptor<'p> {
         EnumValues {
             enumeration: *self,
             next: 0,
-            end: end_of(pool.tables.enums[self.index as usize].values.len()),
+            end: end_of(pool.tables.enums[self.index as usize].values.list.len()),
         }
     }
 
     /// The value of a number, of several the first that was declared. Takes no memory, and a number of steps that grows with
     /// the logarithm of the values' count.
     pub fn get_value(&self, number: i32) -> Option<EnumValueDescriptor<'p>>
-        ensures { IfSome result (λ v. v.enumeration ≡ self.now) }
+        ensures enumeration { IfSome result (λ v. v.enumeration ≡ self.now) }
+        ensures first { FindsValue (λ v. v.number ≡ number) self.now result }
     {
         let pool = self.pool;
-        let stored = &pool.tables.enums[self.index as usize];
-        let found = stored.by_number.as_slice().binary_search_by(|place| {
-            match stored.values.get(*place as usize) {
-                Some(value) => value.number.cmp(&number),
-                None => Ordering::Less,
-            }
-        });
-        self.value_at(*stored.by_number.get(found.ok()?)?)
+        let place = pool.tables.enums[self.index as usize].values.of_number(number)?;
+        Some(EnumValueDescriptor {
+            enumeration: *self,
+            index: place,
+        })
     }
 
     /// The value of a name. Takes no memory, and a number of steps that grows with the logarithm of the values' count.
     pub fn get_value_by_name(&self, name: &str) -> Option<EnumValueDescriptor<'p>>
-        ensures { IfSome result (λ v. v.enumeration ≡ self.now) }
+        ensures enumeration { IfSome result (λ v. v.enumeration ≡ self.now) }
+        ensures first { FindsValue (λ v. v.name ≡ name.now) self.now result }
     {
         let pool = self.pool;
-        let place = pool.tables.enums[self.index as usize].value_of_name(name)?;
-        self.value_at(place)
+        let place = pool.tables.enums[self.index as usize].values.of_name(name)?;
+        Some(EnumValueDescriptor {
+            enumeration: *self,
+            index: place,
+        })
     }
 
     /// The value at a place.
@@ -105,7 +108,7 @@ impl<'p> EnumDescriptor<'p> {
         ensures { IfSome result (λ v. v.enumeration ≡ self.now) }
     {
         let pool = self.pool;
-        if (place as usize) < pool.tables.enums[self.index as usize].values.len() {
+        if (place as usize) < pool.tables.enums[self.index as usize].values.list.len() {
             Some(EnumValueDescriptor {
                 enumeration: *self,
                 index: place,
@@ -168,7 +171,7 @@ impl<'p> EnumValueDescriptor<'p> {
 
     pub fn name(&self) -> &'p str {
         let pool = self.enumeration.pool;
-        pool.tables.enums[self.enumeration.index as usize].values[self.index as usize]
+        pool.tables.enums[self.enumeration.index as usize].values.list[self.index as usize]
             .name
             .as_str()
     }
@@ -176,7 +179,7 @@ impl<'p> EnumValueDescriptor<'p> {
     /// The value's name behind that of what the enum is declared in.
     pub fn full_name(&self) -> &'p str {
         let pool = self.enumeration.pool;
-        pool.tables.enums[self.enumeration.index as usize].values[self.index as usize]
+        pool.tables.enums[self.enumeration.index as usize].values.list[self.index as usize]
             .full_name
             .as_str()
     }
@@ -184,13 +187,13 @@ impl<'p> EnumValueDescriptor<'p> {
     /// Where the declaration stands in its file's record.
     pub fn path(&self) -> &'p [i32] {
         let pool = self.enumeration.pool;
-        pool.tables.enums[self.enumeration.index as usize].values[self.index as usize]
+        pool.tables.enums[self.enumeration.index as usize].values.list[self.index as usize]
             .path
             .as_slice()
     }
 
     pub fn number(&self) -> i32 {
         let pool = self.enumeration.pool;
-        pool.tables.enums[self.enumeration.index as usize].values[self.index as usize].number
+        pool.tables.enums[self.enumeration.index as usize].values.list[self.index as usize].number
     }
 }

@@ -37,7 +37,7 @@ impl<'p> FieldDescriptor<'p> {
         ensures { result.now ≡ (type_of_field self.now.message.pool.now self.now.message.index self.now.index).name }
     {
         let pool = self.message.pool;
-        pool.tables.messages[self.message.index as usize].fields[self.index as usize]
+        pool.tables.messages[self.message.index as usize].fields.list[self.index as usize]
             .name
             .as_str()
     }
@@ -47,7 +47,7 @@ impl<'p> FieldDescriptor<'p> {
         ensures { result.now ≡ (type_of_field self.now.message.pool.now self.now.message.index self.now.index).full_name }
     {
         let pool = self.message.pool;
-        pool.tables.messages[self.message.index as usize].fields[self.index as usize]
+        pool.tables.messages[self.message.index as usize].fields.list[self.index as usize]
             .full_name
             .as_str()
     }
@@ -57,7 +57,7 @@ impl<'p> FieldDescriptor<'p> {
         let pool = self.message.pool;
         match &pool.tables.messages[self
             .message
-            .index as usize].fields[self.index as usize].json_name
+            .index as usize].fields.list[self.index as usize].json_name
         {
             Some(name) => Some(name.as_str()),
             None => None,
@@ -67,7 +67,7 @@ impl<'p> FieldDescriptor<'p> {
     /// Where the declaration stands in its file's record.
     pub fn path(&self) -> &'p [i32] {
         let pool = self.message.pool;
-        pool.tables.messages[self.message.index as usize].fields[self.index as usize]
+        pool.tables.messages[self.message.index as usize].fields.list[self.index as usize]
             .path
             .as_slice()
     }
@@ -76,14 +76,14 @@ impl<'p> FieldDescriptor<'p> {
         ensures { result ≡ (type_of_field self.now.message.pool.now self.now.message.index self.now.index).number }
     {
         let pool = self.message.pool;
-        pool.tables.messages[self.message.index as usize].fields[self.index as usize].number
+        pool.tables.messages[self.message.index as usize].fields.list[self.index as usize].number
     }
 
     pub fn cardinality(&self) -> Cardinality
         ensures { result ≡ (type_of_field self.now.message.pool.now self.now.message.index self.now.index).cardinality }
     {
         let pool = self.message.pool;
-        pool.tables.messages[self.message.index as usize].fields[self.index as usize].cardinality
+        pool.tables.messages[self.message.index as usize].fields.list[self.index as usize].cardinality
     }
 
     /// The field has to be set (proto2).
@@ -96,7 +96,7 @@ impl<'p> FieldDescriptor<'p> {
         ensures { result ≡ (type_of_field self.now.message.pool.now self.now.message.index self.now.index).group }
     {
         let pool = self.message.pool;
-        pool.tables.messages[self.message.index as usize].fields[self.index as usize].is_group
+        pool.tables.messages[self.message.index as usize].fields.list[self.index as usize].is_group
     }
 
     /// The field holds any number of values, and is no map.
@@ -109,7 +109,7 @@ impl<'p> FieldDescriptor<'p> {
         let pool = self.message.pool;
         is_map(
             pool,
-            &pool.tables.messages[self.message.index as usize].fields[self.index as usize],
+            &pool.tables.messages[self.message.index as usize].fields.list[self.index as usize],
         )
     }
 
@@ -118,7 +118,7 @@ impl<'p> FieldDescriptor<'p> {
         ensures { result ≡ (type_of_field self.now.message.pool.now self.now.message.index self.now.index).packed }
     {
         let pool = self.message.pool;
-        pool.tables.messages[self.message.index as usize].fields[self.index as usize].is_packed
+        pool.tables.messages[self.message.index as usize].fields.list[self.index as usize].is_packed
     }
 
     /// A field that is not set differs from one that holds the default.
@@ -128,7 +128,7 @@ impl<'p> FieldDescriptor<'p> {
         let pool = self.message.pool;
         pool.tables.messages[self
             .message
-            .index as usize].fields[self.index as usize].supports_presence
+            .index as usize].fields.list[self.index as usize].supports_presence
     }
 
     /// The oneof that the field is a member of, a synthetic one too.
@@ -136,7 +136,7 @@ impl<'p> FieldDescriptor<'p> {
         ensures { IfSome result (λ o. o.message ≡ self.now.message) }
     {
         let pool = self.message.pool;
-        let field = &pool.tables.messages[self.message.index as usize].fields[self.index as usize];
+        let field = &pool.tables.messages[self.message.index as usize].fields.list[self.index as usize];
         self.message.oneof_at(field.oneof?)
     }
 
@@ -146,7 +146,7 @@ impl<'p> FieldDescriptor<'p> {
         let pool = self.message.pool;
         kind_in(
             pool,
-            pool.tables.messages[self.message.index as usize].fields[self.index as usize].kind,
+            pool.tables.messages[self.message.index as usize].fields.list[self.index as usize].kind,
         )
     }
 
@@ -155,7 +155,7 @@ impl<'p> FieldDescriptor<'p> {
         let pool = self.message.pool;
         default_value(
             pool,
-            &pool.tables.messages[self.message.index as usize].fields[self.index as usize],
+            &pool.tables.messages[self.message.index as usize].fields.list[self.index as usize],
         )
     }
 }

@@ -1,4 +1,4 @@
-ghost use Rattle.std.specs.Prelude.{◌≡◌, ◌<◌, ◌↔◌, length, IfSome, IsSome, IsTrue};
+ghost use Rattle.std.specs.Prelude.{◌≡◌, ◌<◌, ◌↔◌, length, Some, IfSome, IsSome, IsTrue};
 ghost use Rattle.reflect_index.specs.Types.{type_at, extension_at};
 
 use crate::counting::end_of;
@@ -7,7 +7,6 @@ use crate::field::FieldDescriptor;
 use crate::oneof::{OneofDescriptor, Oneofs};
 use crate::pool::DescriptorPool;
 use reflect_names::DefinitionKind;
-use std::cmp::Ordering;
 
 /// A message type of a pool.
 #[derive(Clone, Copy)]
@@ -18,6 +17,8 @@ pub struct MessageDescriptor<'p> {
 }
 
 impl<'p> MessageDescriptor<'p> {
+    ghost use Rattle.reflect_pool.specs.Finds.{FindsField};
+
     /// The pool that the type stands in.
     pub fn parent_pool(&self) -> &'p DescriptorPool
         ensures { result.now ≡ self.now.pool.now }
@@ -83,50 +84,41 @@ impl<'p> MessageDescriptor<'p> {
     /// The field of a number. Takes no memory, and a number of steps that grows with the logarithm of the fields' count.
     pub fn get_field(&self, number: u32) -> Option<FieldDescriptor<'p>>
         ensures message { IfSome result (λ f. f.message ≡ self.now) }
+        ensures first { FindsField (λ f. f.number ≡ number) self.now result }
     {
         let pool = self.pool;
-        let message = &pool.tables.messages[self.index as usize];
-        let found = message.by_number.as_slice().binary_search_by(|place| {
-            match message.fields.get(*place as usize) {
-                Some(field) => field.number.cmp(&number),
-                None => Ordering::Less,
-            }
-        });
-        self.field_at(*message.by_number.get(found.ok()?)?)
+        let place = pool.tables.messages[self.index as usize].fields.of_number(number)?;
+        Some(FieldDescriptor {
+            message: *self,
+            index: place,
+        })
     }
 
     /// The field of a name. Takes no memory, and a number of steps that grows with the logarithm of the fields' count.
     pub fn get_field_by_name(&self, name: &str) -> Option<FieldDescriptor<'p>>
         ensures message { IfSome result (λ f. f.message ≡ self.now) }
+        ensures first { FindsField (λ f. f.name ≡ name.now) self.now result }
     {
         let pool = self.pool;
-        let message = &pool.tables.messages[self.index as usize];
-        let found = message.by_name.as_slice().binary_search_by(|place| {
-            match message.fields.get(*place as usize) {
-                Some(field) => field.name.as_str().cmp(&name),
-                None => Ordering::Less,
-            }
-        });
-        self.field_at(*message.by_name.get(found.ok()?)?)
+        let place = pool.tables.messages[self.index as usize].fields.of_name(name)?;
+        Some(FieldDescriptor {
+            message: *self,
+            index: place,
+        })
     }
 
     /// The field of a written JSON name, of several the first that was declared. Takes no memory, and a number of steps that
     /// grows with the logarithm of the fields' count.
     pub fn get_field_by_json_name(&self, name: &str) -> Option<FieldDescriptor<'p>>
         ensures message { IfSome result (λ f. f.message ≡ self.now) }
+        ensures first { FindsField (λ f. f.json_name ≡ Some name.now) self.now result }
     {
         let pool = self.pool;
-        let message = &pool.tables.messages[self.index as usize];
-        let found = message.by_json_name.as_slice().binary_search_by(|place| {
-            match message.fields.get(*place as usize) {
-                Some(field) => match &field.json_name {
-                    Some(json_name) => json_name.as_str().cmp(&name),
-                    None => Ordering::Less,
-                },
-                None => Ordering::Less,
-            }
-        });
-        self.field_at(*message.by_json_name.get(found.ok()?)?)
+        let place = pool.tables.messages[self.index as usize].fields.of_json_name(name)?;
+        Some(FieldDescriptor {
+            message: *self,
+            index: place,
+        })
     }
 
     /// The field at a place.
@@ -134,7 +126,7 @@ impl<'p> MessageDescriptor<'p> {
         ensures message { IfSome result (λ f. f.message ≡ self.now) }
     {
         let pool = self.pool;
-        if (place as usize) < pool.tables.messages[self.index as usize].fields.len() {
+        if (place as usize) < pool.tables.messages[self.index as usize].fields.list.len() {
             Some(FieldDescriptor {
                 message: *self,
                 index: place,
@@ -267,7 +259,7 @@ impl<'p> Iterator for Fields<'p> {
     fn next(&mut self) -> Option<FieldDescriptor<'p>> {
         let pool = self.message.pool;
         let message = &pool.tables.messages[self.message.index as usize];
-        if (self.next as usize) < message.fields.len() {
+        if (self.next as usize) < message.fields.list.len() {
             let field = FieldDescriptor {
                 message: self.message,
                 index: self.next,
