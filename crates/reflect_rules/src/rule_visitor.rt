@@ -4,6 +4,7 @@ use crate::map_entry::{has_entry_shape, says_map_entry};
 use crate::numbers::{
     check_distinct, check_extension, check_not_extension, check_number, check_oneof, check_reserved,
 };
+use crate::ranges::find_in;
 use crate::references::References;
 use crate::types::Types;
 use crate::uses::EntryUse;
@@ -160,9 +161,9 @@ impl<'a, T: Types> RuleVisitor<'a, T> {
         let Some(DefinitionKind::Message(index)) = extendee else {
             return Ok(());
         };
-        let reserved = self.types.reserved_numbers(index);
+        let reserved = find_in(self.types.reserved_numbers(index), number);
         check_reserved(alloc, &mut self.faults, file, path, number, reserved)?;
-        let kept = self.types.extension_numbers(index);
+        let kept = find_in(self.types.extension_numbers(index), number);
         let name = self.types.message_name(index);
         check_extension(alloc, &mut self.faults, file, path, number, kept, name)
     }
@@ -220,9 +221,9 @@ impl<'a, T: Types> Visitor for RuleVisitor<'a, T> {
         let meaning = self.references.meaning_of(&field.type_name);
         let number = field.number.unwrap_or(0);
         check_number(alloc, &mut self.faults, file, path, number)?;
-        let reserved = self.types.reserved_numbers(message);
+        let reserved = find_in(self.types.reserved_numbers(message), number);
         check_reserved(alloc, &mut self.faults, file, path, number, reserved)?;
-        let kept = self.types.extension_numbers(message);
+        let kept = find_in(self.types.extension_numbers(message), number);
         check_not_extension(alloc, &mut self.faults, file, path, number, kept)?;
         check_oneof(alloc, &mut self.faults, file, path, field, self.oneofs)?;
         self.check_older_entry(alloc, file, path, meaning)?;
