@@ -4,3 +4,6 @@ pub mod Repeats
 pub mod MapEntries
 pub mod EnumRules
 pub mod Meanings
+pub mod Walks
+pub mod Rules
+pub mod RuleSteps

@@ -19,4 +19,3 @@ pub record TypesSay : Type 0 where
   pub extensions : ℕ → List Range
   pub is_entry : ℕ → Bool
   pub name : ℕ → List ℕ
-  pub has_value : ℕ → List ℕ → Bool

@@ -1,5 +1,5 @@
-ghost use Rattle.std.specs.Prelude.{[]};
 ghost use Rattle.reflect_rules.specs.Ranges.{IsRangeOf};
+ghost use Rattle.reflect_rules.specs.Walks.{ranges_of, ranges_in};
 
 use descriptor_records::{ExtensionRange, ReservedRange};
 use std::alloc::{AllocError, Global};
@@ -60,7 +60,7 @@ impl NumberRanges {
     /// The start and the end of a range that has the number, if one does. Takes no memory, and a number of steps that grows
     /// with the logarithm of the ranges' count.
     pub fn find(&self, number: i32) -> Option<(i32, i32)>
-        ensures { IsRangeOf [] number result }
+        ensures { IsRangeOf (ranges_of self.now) number result }
     {
         let behind = self
             .ranges
@@ -84,7 +84,7 @@ fn range_of(start: Option<i32>, end: Option<i32>) -> NumberRange {
 
 /// A range that has the number, if there are ranges and one of them has it.
 pub fn find_in(ranges: Option<&NumberRanges>, number: i32) -> Option<(i32, i32)>
-    ensures { IsRangeOf [] number result }
+    ensures { IsRangeOf (ranges_in ranges.entry) number result }
 {
     match ranges {
         Some(ranges) => ranges.find(number),
