@@ -70,11 +70,11 @@ pub record FieldFindings (g : Facts) (values : Values) (m : Option DefinitionKin
 abbrev pub number_of : FieldDescriptorProto → ℤ
 number_of f = unwrap_or f.number (pos 0)
 
-abbrev pub FieldFaults : Facts → Values → Place → Places → List ℤ → ℕ → FieldDescriptorProto → List Fault → Type 0
-FieldFaults g values p at path message f xs =
-    (r : FieldFindings g values (meaning f.type_name p.rest) message (number_of f) f)
-    × (xs ≡ number_faults at path (number_of f) ++ reserved_faults at path (number_of f) r.reserved ++ kept_faults at path (number_of f) r.kept
-      ++ oneof_faults at path p.oneofs f.oneof_index ++ older_faults at path g.types g.first (message_of (meaning f.type_name p.rest)) ++ default_faults at path f.default_value r.suits)
+abbrev pub FieldFaults : Facts → Values → ℕ → Places → List ℤ → ℕ → FieldDescriptorProto → ℤ → Option DefinitionKind → List Fault → Type 0
+FieldFaults g values oneofs at path message f n m xs =
+    (r : FieldFindings g values m message n f)
+    × (xs ≡ number_faults at path n ++ reserved_faults at path n r.reserved ++ kept_faults at path n r.kept
+      ++ oneof_faults at path oneofs f.oneof_index ++ older_faults at path g.types g.first (message_of m) ++ default_faults at path f.default_value r.suits)
 
 -- the number of an extension of a message
 abbrev pub ExtensionNumber : TypesSay → Places → List ℤ → ℤ → Option ℕ → List Fault → Type 0
@@ -83,11 +83,17 @@ ExtensionNumber types at path n (Some i) xs =
     (reserved : Option Range) × (kept : Option Range) × IsRangeOf (types.reserved i) n reserved × IsRangeOf (types.extensions i) n kept
     × (xs ≡ reserved_faults at path n reserved ++ outside_faults at path n (types.name i) kept)
 
-abbrev pub ExtensionFaults : Facts → Values → Place → Places → List ℤ → FieldDescriptorProto → List Fault → Type 0
-ExtensionFaults g values p at path x xs =
-    (suits : Bool) × (ns : List Fault) × IsDefaultOf values (meaning x.type_name (behind x.extendee p.rest)) x.default_value suits
-    × ExtensionNumber g.types at path (number_of x) (message_of (meaning x.extendee p.rest)) ns
-    × (xs ≡ number_faults at path (number_of x) ++ ns ++ older_faults at path g.types g.first (message_of (meaning x.type_name (behind x.extendee p.rest))) ++ default_faults at path x.default_value suits)
+-- what is found of an extension: the faults of its number, and whether its default suits
+pub record ExtensionFindings (g : Facts) (values : Values) (at : Places) (path : List ℤ) (x : FieldDescriptorProto) (n : ℤ) (extendee m : Option DefinitionKind) : Type 0 where
+  pub numbers : List Fault
+  pub suits : Bool
+  pub is_number : ExtensionNumber g.types at path n (message_of extendee) numbers
+  pub is_suited : IsDefaultOf values m x.default_value suits
+
+abbrev pub ExtensionFaults : Facts → Values → Places → List ℤ → FieldDescriptorProto → ℤ → Option DefinitionKind → Option DefinitionKind → List Fault → Type 0
+ExtensionFaults g values at path x n extendee m xs =
+    (r : ExtensionFindings g values at path x n extendee m)
+    × (xs ≡ number_faults at path n ++ r.numbers ++ older_faults at path g.types g.first (message_of m) ++ default_faults at path x.default_value r.suits)
 
 -- the index of the message that a declaration is in
 abbrev pub parent_of : Declaration → ℕ
@@ -98,11 +104,11 @@ abbrev pub FaultsOf : Facts → Values → Place → Places → Declaration → 
 FaultsOf g values p at d xs = elim d.body [
   | of_file f ↦ xs ≡ []
   | of_message m ↦ xs ≡ message_faults at d.path d.name (g.uses d.index) m
-  | of_field f ↦ FieldFaults g values p at d.path (parent_of d) f xs
+  | of_field f ↦ FieldFaults g values p.oneofs at d.path (parent_of d) f (number_of f) (meaning f.type_name p.rest) xs
   | of_oneof o ↦ xs ≡ []
   | of_enum e ↦ xs ≡ enum_faults at d.path p.is_proto3 e
   | of_enum_value v ↦ xs ≡ []
   | of_service s ↦ xs ≡ []
   | of_method m ↦ xs ≡ []
-  | of_extension x ↦ ExtensionFaults g values p at d.path x xs
+  | of_extension x ↦ ExtensionFaults g values at d.path x (number_of x) (meaning x.extendee p.rest) (meaning x.type_name (behind x.extendee p.rest)) xs
 ]
