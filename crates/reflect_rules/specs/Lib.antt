@@ -7,3 +7,4 @@ pub mod Meanings
 pub mod Walks
 pub mod Rules
 pub mod RuleSteps
+pub mod RulePass
