@@ -22,6 +22,18 @@ pub data Fault : Type 0 where
   unknown_syntax : List ℕ → Place → Fault
   missing : Place → Fault
   bad_import_index : ℤ → Place → Fault
+  invalid_number : ℤ → Place → Fault
+  duplicate_number : ℤ → Place → Fault
+  reserved_number : ℤ → ℤ × ℤ → Place → Fault
+  number_of_extensions : ℤ → ℤ × ℤ → Place → Fault
+  no_extension_number : ℤ → List ℕ → Place → Fault
+  empty_enum : Place → Fault
+  duplicate_enum_number : ℤ → Place → Fault
+  bad_first_value : Place → Fault
+  bad_default : List ℕ → Place → Fault
+  bad_oneof_index : ℤ → Place → Fault
+  bad_map_entry : List ℕ → Place → Fault
+  duplicate_extension : ℤ → List ℕ → Place → Fault
   another : Fault
 
 abbrev pub place_of : Label → Place
@@ -37,6 +49,18 @@ fault_view (kind.InvalidType name expected found) = invalid_type (place_of found
 fault_view (kind.UnknownSyntax syntax found) = unknown_syntax (string_bytes syntax) (place_of found)
 fault_view (kind.MissingRequiredField field found) = missing (place_of found)
 fault_view (kind.InvalidImportIndex index found) = bad_import_index index (place_of found)
+fault_view (kind.InvalidFieldNumber number found) = invalid_number number (place_of found)
+fault_view (kind.DuplicateFieldNumber number found) = duplicate_number number (place_of found)
+fault_view (kind.NumberInReservedRange number start end found) = reserved_number number (start, end) (place_of found)
+fault_view (kind.NumberInExtensionRange number start end found) = number_of_extensions number (start, end) (place_of found)
+fault_view (kind.ExtensionNumberOutOfRange number message found) = no_extension_number number (string_bytes message) (place_of found)
+fault_view (kind.EmptyEnum found) = empty_enum (place_of found)
+fault_view (kind.DuplicateEnumNumber number found) = duplicate_enum_number number (place_of found)
+fault_view (kind.InvalidProto3EnumDefault found) = bad_first_value (place_of found)
+fault_view (kind.InvalidFieldDefault value found) = bad_default (string_bytes value) (place_of found)
+fault_view (kind.InvalidOneofIndex index found) = bad_oneof_index index (place_of found)
+fault_view (kind.BadMapEntry name found) = bad_map_entry (string_bytes name) (place_of found)
+fault_view (kind.DuplicateExtensionNumber number message found) = duplicate_extension number (string_bytes message) (place_of found)
 fault_view _ = another
 
 abbrev pub list_of : Faults → List Fault

@@ -57,7 +57,8 @@ pub fn name_files(
     Ok(())
 }
 
-/// The path of a list's entry.
+/// The path of a list's entry: the record at `path`, its field of the number `tag`, and there the place `at`. `TooMany` is a
+/// place past `i32::MAX`.
 pub fn entry_path(alloc: Global, path: &[i32], tag: i32, at: usize) -> Result<Vec<i32>, VisitError>
     ensures { IfOk result (λ place. place.items ≡ entry path.now tag at) }
 {

@@ -13,7 +13,7 @@ mod resolve_visitor;
 
 pub use error::DescriptorErrorKind;
 pub use faults::Faults;
-pub use imports::{links_of, name_files};
+pub use imports::{entry_path, links_of, name_files};
 pub use label::{Label, SourceSpan};
 pub use name_visitor::NameVisitor;
 pub use reflect_scope::{

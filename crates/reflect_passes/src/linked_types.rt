@@ -1,5 +1,8 @@
 //! What the number rules ask about the types of a pool and of a batch.
 
+ghost use Rattle.std.specs.Prelude.{◌≡◌};
+ghost use Rattle.std.specs.Option.{option_copied};
+
 use reflect_index::{Batch, StoredEnum, StoredMessage, Tables};
 use reflect_rules::{NumberRanges, Types};
 
@@ -11,7 +14,11 @@ pub struct LinkedTypes<'a> {
 }
 
 impl<'a> LinkedTypes<'a> {
-    fn message(&self, index: u32) -> Option<&'a StoredMessage> {
+    ghost use Rattle.reflect_passes.specs.Linked.{message_at};
+
+    fn message(&self, index: u32) -> Option<&'a StoredMessage>
+        ensures { option_copied result ≡ message_at self.now index }
+    {
         let index = index as usize;
         let count = self.old.messages.len();
         if index < count {
@@ -33,6 +40,12 @@ impl<'a> LinkedTypes<'a> {
 }
 
 impl<'a> Types for LinkedTypes<'a> {
+    ghost use Rattle.reflect_passes.specs.Linked.{linked_says};
+
+    ghost says = { linked_says };
+
+    ghost values = { λ _ _ _ _. Unit {0} };
+
     fn reserved_numbers(&self, message: u32) -> Option<&NumberRanges> {
         Some(&self.message(message)?.reserved_numbers)
     }

@@ -1,3 +1,8 @@
+ghost use Rattle.std.specs.Prelude.{◌≡◌, OnOk, IfOk, map};
+ghost use Rattle.reflect_walk.specs.Declarations.{Runs};
+ghost use Rattle.reflect_names.specs.Faults.{fault_view};
+ghost use Rattle.reflect_rules.specs.RulePass.{batch_declarations, BatchFaults};
+
 use crate::references::References;
 use crate::rule_visitor::RuleVisitor;
 use crate::types::Types;
@@ -13,10 +18,12 @@ fn visit_all<V: Visitor>(
     first: u32,
     files: &[FileDescriptorProto],
     visitor: &mut V,
-) -> Result<(), VisitError> {
+) -> Result<(), VisitError>
+    ensures { OnOk result (Runs V.steps visitor.old (batch_declarations before first files.now) visitor.new) }
+{
     let mut offsets = before;
     let mut index = first;
-    for file in files {
+    'turns: for file in files {
         offsets = visit(alloc, offsets, index, file, visitor)?;
         index = index.checked_add(1).ok_or(VisitError::TooMany)?;
     }
@@ -35,7 +42,9 @@ pub fn check_rules<T: Types>(
     files: &[FileDescriptorProto],
     references: &[Reference],
     types: &T,
-) -> Result<Vec<DescriptorErrorKind>, VisitError> {
+) -> Result<Vec<DescriptorErrorKind>, VisitError>
+    ensures { IfOk result (λ found. BatchFaults (T.says types.now) (T.values types.now) before first files.now references.now (map fault_view found.items)) }
+{
     let references = References::new(references);
     let mut visitor = UseVisitor::new(alloc, references, types);
     visit_all(alloc, before, first, files, &mut visitor)?;

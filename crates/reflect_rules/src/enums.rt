@@ -1,30 +1,68 @@
 //! The rules of enums (protobuf.dev, "Enumerations").
 
-use crate::numbers::repeated;
-use descriptor_records::{EnumDescriptorProto, join_path, tag};
-use reflect_names::{DescriptorErrorKind, Faults};
+ghost use Rattle.std.specs.Prelude.{◌≡◌, OnOk, IfOk, map, pos};
+ghost use Rattle.reflect_names.specs.Faults.{Adds, place_at, duplicate_enum_number};
+ghost use Rattle.reflect_rules.specs.Repeats.{repeat_fault, listed};
+ghost use Rattle.reflect_rules.specs.EnumRules.{allows_aliases as may_alias, alias_faults, first_faults, enum_faults};
+
+use crate::map_entry::is_equal;
+use crate::numbers::{entry_label, repeated};
+use descriptor_records::{EnumDescriptorProto, EnumValueDescriptorProto, tag};
+use reflect_names::{DescriptorErrorKind, Faults, VisitError};
 use std::alloc::{AllocError, Global};
 
 /// Two values of the enum may have one number.
-fn allows_aliases(enumeration: &EnumDescriptorProto) -> bool {
+fn allows_aliases(enumeration: &EnumDescriptorProto) -> bool
+    ensures { result ≡ may_alias enumeration.now.options }
+{
     match &enumeration.options {
-        Some(options) => options.allow_alias == Some(true),
+        Some(options) => options.allow_alias.unwrap_or(false),
         None => false,
     }
 }
 
-/// The numbers of an enum's values, with their places.
+/// Lists that the value at a place has a number that an earlier value has.
+fn list_repeat(
+    alloc: Global,
+    faults: &mut Faults<'_>,
+    file: u32,
+    path: &[i32],
+    place: usize,
+    number: i32,
+) -> Result<(), VisitError>
+    ensures { OnOk result (Adds faults.old faults.new (repeat_fault duplicate_enum_number (pos 2) (pos 2) path.now (place_at faults.old file) (place, number))) }
+{
+    let (list, field) = (tag::enumeration::VALUE, tag::enum_value::NUMBER);
+    let found = entry_label(alloc, faults, file, path, list, place, field)?;
+    faults.push(DescriptorErrorKind::DuplicateEnumNumber { number, found })?;
+    Ok(())
+}
+
+fn list_repeats(
+    alloc: Global,
+    faults: &mut Faults<'_>,
+    file: u32,
+    path: &[i32],
+    repeats: &[(usize, i32)],
+) -> Result<(), VisitError>
+    ensures { OnOk result (Adds faults.old faults.new (listed duplicate_enum_number (pos 2) (pos 2) path.now (place_at faults.old file) repeats.now)) }
+{
+    'turns: for repeat in repeats {
+        list_repeat(alloc, faults, file, path, repeat.0, repeat.1)?;
+    }
+    Ok(())
+}
+
+/// The numbers of values, None where one has none.
 fn value_numbers(
     alloc: Global,
-    enumeration: &EnumDescriptorProto,
-) -> Result<Vec<(i32, i32)>, AllocError> {
-    let mut numbers = Vec::with_capacity(alloc, enumeration.value.len())?;
-    let mut place = 0i32;
-    for value in &enumeration.value {
-        if let Some(number) = value.number {
-            numbers.push((number, place))?;
-        }
-        place = place.saturating_add(1);
+    values: &[EnumValueDescriptorProto],
+) -> Result<Vec<Option<i32>>, AllocError>
+    ensures { IfOk result (λ numbers. numbers.items ≡ map (λ x. x.number) values.now) }
+{
+    let mut numbers = Vec::with_capacity(alloc, values.len())?;
+    'turns: for value in values {
+        numbers.push(value.number)?;
     }
     Ok(numbers)
 }
@@ -36,21 +74,39 @@ fn check_values(
     file: u32,
     path: &[i32],
     enumeration: &EnumDescriptorProto,
-) -> Result<(), AllocError> {
+) -> Result<(), VisitError>
+    ensures { OnOk result (Adds faults.old faults.new (alias_faults (place_at faults.old file) path.now enumeration.now)) }
+{
     if allows_aliases(enumeration) {
         return Ok(());
     }
-    let numbers = value_numbers(alloc, enumeration)?;
-    for (number, place) in repeated(alloc, numbers)? {
-        let at = join_path(alloc, path, &[tag::enumeration::VALUE, place])?;
-        let found = faults.label_at(alloc, file, at.as_slice(), tag::enum_value::NUMBER)?;
-        faults.push(DescriptorErrorKind::DuplicateEnumNumber { number, found })?;
+    let numbers = value_numbers(alloc, enumeration.value.as_slice())?;
+    let again = repeated(alloc, numbers.as_slice())?;
+    list_repeats(alloc, faults, file, path, again.as_slice())?;
+    Ok(())
+}
+
+/// Lists the first value of a proto3 enum that is not 0.
+fn check_first(
+    alloc: Global,
+    faults: &mut Faults<'_>,
+    file: u32,
+    path: &[i32],
+    number: Option<i32>,
+    is_proto3: bool,
+) -> Result<(), VisitError>
+    ensures { OnOk result (Adds faults.old faults.new (first_faults (place_at faults.old file) path.now is_proto3 number)) }
+{
+    if is_proto3 && !is_equal(number, 0) {
+        let (list, field) = (tag::enumeration::VALUE, tag::enum_value::NUMBER);
+        let found = entry_label(alloc, faults, file, path, list, 0, field)?;
+        faults.push(DescriptorErrorKind::InvalidProto3EnumDefault { found })?;
     }
     Ok(())
 }
 
 /// Lists what is wrong with an enum: that it has no value, that two of its values have one number without its leave, and in
-/// proto3 that the first value's number is not zero.
+/// proto3 that the first value's number is not zero. `TooMany` is a value's place past `i32::MAX`.
 pub fn check_enum(
     alloc: Global,
     faults: &mut Faults<'_>,
@@ -58,15 +114,15 @@ pub fn check_enum(
     path: &[i32],
     enumeration: &EnumDescriptorProto,
     is_proto3: bool,
-) -> Result<(), AllocError> {
+) -> Result<(), VisitError>
+    ensures { OnOk result (Adds faults.old faults.new (enum_faults (place_at faults.old file) path.now is_proto3 enumeration.now)) }
+{
     let Some(first) = enumeration.value.first() else {
         let found = faults.label(alloc, file, path)?;
-        return faults.push(DescriptorErrorKind::EmptyEnum { found });
+        faults.push(DescriptorErrorKind::EmptyEnum { found })?;
+        return Ok(());
     };
-    if is_proto3 && first.number != Some(0) {
-        let at = join_path(alloc, path, &[tag::enumeration::VALUE, 0])?;
-        let found = faults.label_at(alloc, file, at.as_slice(), tag::enum_value::NUMBER)?;
-        faults.push(DescriptorErrorKind::InvalidProto3EnumDefault { found })?;
-    }
-    check_values(alloc, faults, file, path, enumeration)
+    check_first(alloc, faults, file, path, first.number, is_proto3)?;
+    check_values(alloc, faults, file, path, enumeration)?;
+    Ok(())
 }

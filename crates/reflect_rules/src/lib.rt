@@ -4,7 +4,10 @@
 
 mod check;
 mod default;
+mod default_rules;
+mod entry_rules;
 mod enums;
+mod extension_number;
 mod map_entry;
 mod numbers;
 mod ranges;

@@ -1,62 +1,99 @@
 //! The shape of the type of a map's entries (protobuf.dev, "Maps": a repeated field of a message with `key` and `value`).
 
-use descriptor_records::{DescriptorProto, FieldDescriptorProto, FieldType, Label};
+ghost use Rattle.std.specs.Prelude.{◌≡◌};
+ghost use Rattle.reflect_walk.specs.Tree.{parts_of};
+ghost use Rattle.reflect_rules.specs.MapEntries.{says_entry, has_name as is_named_so, is_optional as may_be_optional, is_equal as is_number_so, is_part as is_part_so, is_key_type as may_be_key, share_oneof as share_one, are_key_and_value as are_parts, has_entry_shape as is_shaped};
+
+use descriptor_records::{DescriptorProto, FieldDescriptorProto};
 
 /// The message type says that it is the type of a map's entries.
-pub fn says_map_entry(message: &DescriptorProto) -> bool {
+pub fn says_map_entry(message: &DescriptorProto) -> bool
+    ensures { result ≡ says_entry (parts_of message.now).options }
+{
     match &message.options {
-        Some(options) => options.map_entry == Some(true),
+        Some(options) => options.map_entry.unwrap_or(false),
+        None => false,
+    }
+}
+
+/// The number of an optional field's label.
+const OPTIONAL: i32 = 1;
+
+fn is_named(field: &FieldDescriptorProto, name: &str) -> bool
+    ensures { result ≡ is_named_so field.now name.now }
+{
+    match &field.name {
+        Some(found) => found.as_str() == name,
+        None => false,
+    }
+}
+
+fn is_optional(label: Option<i32>) -> bool
+    ensures { result ≡ may_be_optional label }
+{
+    match label {
+        Some(label) => label == OPTIONAL,
+        None => true,
+    }
+}
+
+/// The number is there, and is this one.
+pub fn is_equal(found: Option<i32>, number: i32) -> bool
+    ensures { result ≡ is_number_so found number }
+{
+    match found {
+        Some(found) => found == number,
         None => false,
     }
 }
 
 /// The field has this name and number, and is optional.
-fn is_part(field: &FieldDescriptorProto, name: &str, number: i32) -> bool {
-    let is_named = match &field.name {
-        Some(found) => found.as_str() == name,
-        None => false,
-    };
-    let is_optional = match field.label {
-        Some(label) => label == Label::Optional.number(),
-        None => true,
-    };
-    is_named && field.number == Some(number) && is_optional
+fn is_part(field: &FieldDescriptorProto, name: &str, number: i32) -> bool
+    ensures { result ≡ is_part_so field.now name.now number }
+{
+    is_named(field, name) && is_equal(field.number, number) && is_optional(field.label)
 }
 
-/// The field's type is one of the integers, a truth value or a string.
-fn is_key_type(field: &FieldDescriptorProto) -> bool {
-    let Some(number) = field.field_type else {
+/// The number of the type is that of one of the integers, a truth value or a string: not of a float (1, 2), a group, a message
+/// or bytes (10 to 12) or an enum (14).
+fn is_key_type(field_type: Option<i32>) -> bool
+    ensures { result ≡ may_be_key field_type }
+{
+    let Some(number) = field_type else {
         return false;
     };
-    match FieldType::from_number(number) {
-        None
-        | Some(
-            FieldType::Double
-            | FieldType::Float
-            | FieldType::Group
-            | FieldType::Message
-            | FieldType::Bytes
-            | FieldType::Enum,
-        ) => false,
-        Some(_) => true,
+    match u32::try_from(number) {
+        Ok(number) => {
+            (3 <= number && number <= 9) || number == 13 || (15 <= number && number <= 18)
+        }
+        Err(_) => false,
     }
 }
 
-/// Both fields are members of one oneof.
-fn share_oneof(key: &FieldDescriptorProto, value: &FieldDescriptorProto) -> bool {
-    key.oneof_index.is_some() && key.oneof_index == value.oneof_index
+/// Both are the index of one oneof.
+fn share_oneof(key: Option<i32>, value: Option<i32>) -> bool
+    ensures { result ≡ share_one key value }
+{
+    match (key, value) {
+        (Some(key), Some(value)) => key == value,
+        _ => false,
+    }
 }
 
-fn are_key_and_value(key: &FieldDescriptorProto, value: &FieldDescriptorProto) -> bool {
+fn are_key_and_value(key: &FieldDescriptorProto, value: &FieldDescriptorProto) -> bool
+    ensures { result ≡ are_parts key.now value.now }
+{
     is_part(key, "key", 1)
         && is_part(value, "value", 2)
-        && is_key_type(key)
-        && !share_oneof(key, value)
+        && is_key_type(key.field_type)
+        && !share_oneof(key.oneof_index, value.oneof_index)
 }
 
 /// The message type has two fields, an optional `key` of number 1, of an integer type, `bool` or `string`, and an optional
 /// `value` of number 2, which are not both in one oneof.
-pub fn has_entry_shape(message: &DescriptorProto) -> bool {
+pub fn has_entry_shape(message: &DescriptorProto) -> bool
+    ensures { result ≡ is_shaped (parts_of message.now).field }
+{
     match message.field.as_slice() {
         [a, b] => are_key_and_value(a, b) || are_key_and_value(b, a),
         _ => false,

@@ -1,3 +1,6 @@
+ghost use Rattle.reflect_rules.specs.Ranges.{IsRangeOf};
+ghost use Rattle.reflect_rules.specs.Walks.{ranges_of, ranges_in};
+
 use descriptor_records::{ExtensionRange, ReservedRange};
 use std::alloc::{AllocError, Global};
 
@@ -56,7 +59,9 @@ impl NumberRanges {
 
     /// The start and the end of a range that has the number, if one does. Takes no memory, and a number of steps that grows
     /// with the logarithm of the ranges' count.
-    pub fn find(&self, number: i32) -> Option<(i32, i32)> {
+    pub fn find(&self, number: i32) -> Option<(i32, i32)>
+        ensures { IsRangeOf (ranges_of self.now) number result }
+    {
         let behind = self
             .ranges
             .as_slice()
@@ -74,5 +79,15 @@ fn range_of(start: Option<i32>, end: Option<i32>) -> NumberRange {
     NumberRange {
         start: start.unwrap_or(0),
         end: end.unwrap_or(0),
+    }
+}
+
+/// A range that has the number, if there are ranges and one of them has it.
+pub fn find_in(ranges: Option<&NumberRanges>, number: i32) -> Option<(i32, i32)>
+    ensures { IsRangeOf (ranges_in ranges.entry) number result }
+{
+    match ranges {
+        Some(ranges) => ranges.find(number),
+        None => None,
     }
 }

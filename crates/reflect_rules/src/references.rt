@@ -1,3 +1,6 @@
+ghost use Rattle.std.specs.Prelude.{◌≡◌};
+ghost use Rattle.reflect_rules.specs.Meanings.{meaning, behind};
+
 use reflect_names::{DefinitionKind, Reference};
 
 /// What the references of files mean that a walk over them has not met yet.
@@ -8,12 +11,17 @@ pub struct References<'a> {
 
 impl<'a> References<'a> {
     /// All of them, in the order in which a walk meets them.
-    pub fn new(all: &'a [Reference]) -> References<'a> {
+    pub fn new(all: &'a [Reference]) -> References<'a>
+        ensures { result.rest.now ≡ all.now }
+    {
         References { rest: all }
     }
 
     /// What the next reference means, where there is one at this place.
-    pub fn meaning_of(&mut self, name: &Option<String>) -> Option<DefinitionKind> {
+    pub fn meaning_of(&mut self, name: &Option<String>) -> Option<DefinitionKind>
+        ensures meaning { result ≡ meaning name.now self.old.rest.now }
+        ensures rest { self.new.rest.now ≡ behind name.now self.old.rest.now }
+    {
         if name.is_none() {
             return None;
         }

@@ -1,19 +1,22 @@
-use crate::default::read_default;
+ghost use Rattle.std.specs.Prelude.{◌≡◌, false};
+
+use crate::default_rules::{check_default, has_right_default};
+use crate::entry_rules::{check_entry, check_older_entry};
 use crate::enums::check_enum;
-use crate::map_entry::{has_entry_shape, says_map_entry};
+use crate::extension_number::check_extension_number;
 use crate::numbers::{
-    check_distinct, check_extension, check_not_extension, check_number, check_oneof, check_reserved,
+    check_distinct, check_not_extension, check_number, check_oneof, check_reserved,
 };
+use crate::ranges::find_in;
 use crate::references::References;
 use crate::types::Types;
 use crate::uses::EntryUse;
 use descriptor_records::{
     DescriptorProto, EnumDescriptorProto, EnumValueDescriptorProto, FieldDescriptorProto,
-    FieldType, FileDescriptorProto, MethodDescriptorProto, OneofDescriptorProto,
-    ServiceDescriptorProto, tag,
+    FileDescriptorProto, MethodDescriptorProto, OneofDescriptorProto, ServiceDescriptorProto,
 };
-use reflect_names::{DefinitionKind, DescriptorErrorKind, Faults, VisitError, Visitor};
-use std::alloc::{AllocError, Global};
+use reflect_names::{Faults, VisitError, Visitor};
+use std::alloc::Global;
 use std::collections::BTreeMap;
 
 /// Lists what is wrong with the numbers, the defaults, the oneof indexes and the map entries of the files that it visits.
@@ -39,7 +42,15 @@ impl<'a, T: Types> RuleVisitor<'a, T> {
         types: &'a T,
         uses: &'a BTreeMap<u32, EntryUse>,
         first_message: u32,
-    ) -> RuleVisitor<'a, T> {
+    ) -> RuleVisitor<'a, T>
+        ensures faults { result.faults ≡ faults.entry }
+        ensures references { result.references.rest.now ≡ references.entry.rest.now }
+        ensures types { result.types.now ≡ types.now }
+        ensures uses { result.uses.now ≡ uses.now }
+        ensures first { result.first_message ≡ first_message }
+        ensures is_proto3 { result.is_proto3 ≡ false }
+        ensures oneofs { result.oneofs ≡ 0 }
+    {
         RuleVisitor {
             faults,
             references,
@@ -52,7 +63,9 @@ impl<'a, T: Types> RuleVisitor<'a, T> {
     }
 
     /// The faults that were met.
-    pub fn into_faults(self) -> Faults<'a> {
+    pub fn into_faults(self) -> Faults<'a>
+        ensures { result ≡ self.entry.faults }
+    {
         let RuleVisitor {
             faults,
             references: _,
@@ -64,112 +77,12 @@ impl<'a, T: Types> RuleVisitor<'a, T> {
         } = self;
         faults
     }
-
-    /// Lists the type of a map's entries that has not the shape of one or is not the type of one repeated field.
-    fn check_entry(
-        &mut self,
-        alloc: Global,
-        full_name: &str,
-        file: u32,
-        path: &[i32],
-        index: u32,
-        message: &DescriptorProto,
-    ) -> Result<(), AllocError> {
-        if !says_map_entry(message) {
-            return Ok(());
-        }
-        let used = self.uses.get(&index).copied();
-        if has_entry_shape(message) && used == Some(EntryUse::OneMap) {
-            return Ok(());
-        }
-        let found = self.faults.label(alloc, file, path)?;
-        let name = String::from_str(alloc, full_name)?;
-        self.faults
-            .push(DescriptorErrorKind::BadMapEntry { name, found })
-    }
-
-    /// Lists a field whose type is that of an older map's entries: these have their field.
-    fn check_older_entry(
-        &mut self,
-        alloc: Global,
-        file: u32,
-        path: &[i32],
-        meaning: Option<DefinitionKind>,
-    ) -> Result<(), AllocError> {
-        let Some(DefinitionKind::Message(index)) = meaning else {
-            return Ok(());
-        };
-        if self.first_message <= index || !self.types.is_map_entry(index) {
-            return Ok(());
-        }
-        let found = self.faults.label(alloc, file, path)?;
-        let name = String::from_str(alloc, self.types.message_name(index))?;
-        self.faults
-            .push(DescriptorErrorKind::BadMapEntry { name, found })
-    }
-
-    /// A default suits its field: it is a value of the scalar type or the name of a value of the enum. No message type has one.
-    fn suits(
-        &self,
-        field: &FieldDescriptorProto,
-        meaning: Option<DefinitionKind>,
-        value: &str,
-    ) -> bool {
-        match meaning {
-            Some(DefinitionKind::Enum(index)) => self.types.has_value(index, value),
-            Some(_) => false,
-            None => match field.field_type.and_then(FieldType::from_number) {
-                Some(field_type) => read_default(field_type, value).is_some(),
-                None => false,
-            },
-        }
-    }
-
-    /// Lists a default that does not suit its field.
-    fn check_default(
-        &mut self,
-        alloc: Global,
-        file: u32,
-        path: &[i32],
-        field: &FieldDescriptorProto,
-        meaning: Option<DefinitionKind>,
-    ) -> Result<(), AllocError> {
-        let Some(value) = &field.default_value else {
-            return Ok(());
-        };
-        if self.suits(field, meaning, value.as_str()) {
-            return Ok(());
-        }
-        let found = self
-            .faults
-            .label_at(alloc, file, path, tag::field::DEFAULT_VALUE)?;
-        let value = String::from_str(alloc, value.as_str())?;
-        self.faults
-            .push(DescriptorErrorKind::InvalidFieldDefault { value, found })
-    }
-
-    /// Lists what is wrong with the number of an extension of a message type.
-    fn check_extension_number(
-        &mut self,
-        alloc: Global,
-        file: u32,
-        path: &[i32],
-        number: i32,
-        extendee: Option<DefinitionKind>,
-    ) -> Result<(), AllocError> {
-        let Some(DefinitionKind::Message(index)) = extendee else {
-            return Ok(());
-        };
-        let reserved = self.types.reserved_numbers(index);
-        check_reserved(alloc, &mut self.faults, file, path, number, reserved)?;
-        let kept = self.types.extension_numbers(index);
-        let name = self.types.message_name(index);
-        check_extension(alloc, &mut self.faults, file, path, number, kept, name)
-    }
 }
 
 impl<'a, T: Types> Visitor for RuleVisitor<'a, T> {
-    ghost steps = { λ _ _ _. Unit {0} };
+    ghost use Rattle.reflect_rules.specs.RuleSteps.{Checks};
+
+    ghost steps = { Checks T.says T.values };
 
     ghost kept = { λ _ _ _. Unit {0} };
 
@@ -202,7 +115,8 @@ impl<'a, T: Types> Visitor for RuleVisitor<'a, T> {
         message: &DescriptorProto,
     ) -> Result<(), VisitError> {
         self.oneofs = message.oneof_decl.len();
-        self.check_entry(alloc, full_name, file, path, index, message)?;
+        let used = self.uses.get(&index).copied();
+        check_entry(alloc, &mut self.faults, file, path, full_name, message, used)?;
         check_distinct(alloc, &mut self.faults, file, path, message)?;
         Ok(())
     }
@@ -220,13 +134,15 @@ impl<'a, T: Types> Visitor for RuleVisitor<'a, T> {
         let meaning = self.references.meaning_of(&field.type_name);
         let number = field.number.unwrap_or(0);
         check_number(alloc, &mut self.faults, file, path, number)?;
-        let reserved = self.types.reserved_numbers(message);
+        let reserved = find_in(self.types.reserved_numbers(message), number);
         check_reserved(alloc, &mut self.faults, file, path, number, reserved)?;
-        let kept = self.types.extension_numbers(message);
+        let kept = find_in(self.types.extension_numbers(message), number);
         check_not_extension(alloc, &mut self.faults, file, path, number, kept)?;
         check_oneof(alloc, &mut self.faults, file, path, field, self.oneofs)?;
-        self.check_older_entry(alloc, file, path, meaning)?;
-        self.check_default(alloc, file, path, field, meaning)?;
+        let (types, first) = (self.types, self.first_message);
+        check_older_entry(alloc, &mut self.faults, file, path, types, first, meaning)?;
+        let suits = has_right_default(self.types, field, meaning);
+        check_default(alloc, &mut self.faults, file, path, field, suits)?;
         Ok(())
     }
 
@@ -318,9 +234,11 @@ impl<'a, T: Types> Visitor for RuleVisitor<'a, T> {
         let meaning = self.references.meaning_of(&extension.type_name);
         let number = extension.number.unwrap_or(0);
         check_number(alloc, &mut self.faults, file, path, number)?;
-        self.check_extension_number(alloc, file, path, number, extendee)?;
-        self.check_older_entry(alloc, file, path, meaning)?;
-        self.check_default(alloc, file, path, extension, meaning)?;
+        check_extension_number(alloc, &mut self.faults, file, path, self.types, number, extendee)?;
+        let (types, first) = (self.types, self.first_message);
+        check_older_entry(alloc, &mut self.faults, file, path, types, first, meaning)?;
+        let suits = has_right_default(self.types, extension, meaning);
+        check_default(alloc, &mut self.faults, file, path, extension, suits)?;
         Ok(())
     }
 }

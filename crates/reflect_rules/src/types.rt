@@ -1,19 +1,34 @@
+ghost use Rattle.std.specs.Prelude.{◌≡◌, ℕ, List, Bool};
+ghost use Rattle.reflect_rules.specs.Ranges.{TypesSay};
+ghost use Rattle.reflect_rules.specs.Walks.{ranges_in};
+
 use crate::ranges::NumberRanges;
 
 /// What the rules ask about message types and enums, those of the files and older ones, by index.
 pub trait Types {
+    /// What is told of message types.
+    ghost says: { Self → TypesSay };
+
+    /// What `has_value` may answer: of the enum of an index and a name.
+    ghost values: { Self → ℕ → List ℕ → Bool → Type 0 };
+
     /// The numbers that no field or extension of the message type may take.
-    fn reserved_numbers(&self, message: u32) -> Option<&NumberRanges>;
+    fn reserved_numbers(&self, message: u32) -> Option<&NumberRanges>
+        ensures { ranges_in result ≡ (says self.now).reserved message };
 
     /// The numbers that extensions of the message type may take.
-    fn extension_numbers(&self, message: u32) -> Option<&NumberRanges>;
+    fn extension_numbers(&self, message: u32) -> Option<&NumberRanges>
+        ensures { ranges_in result ≡ (says self.now).extensions message };
 
     /// The message type is the type of a map's entries.
-    fn is_map_entry(&self, message: u32) -> bool;
+    fn is_map_entry(&self, message: u32) -> bool
+        ensures { result ≡ (says self.now).is_entry message };
 
     /// The full name of the message type.
-    fn message_name(&self, message: u32) -> &str;
+    fn message_name(&self, message: u32) -> &str
+        ensures { result.now ≡ (says self.now).name message };
 
     /// The enum has a value of this name.
-    fn has_value(&self, enumeration: u32, name: &str) -> bool;
+    fn has_value(&self, enumeration: u32, name: &str) -> bool
+        ensures { values self.now enumeration name.now result };
 }

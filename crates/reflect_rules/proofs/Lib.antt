@@ -1,0 +1,4 @@
+pub mod Again
+pub mod Then
+pub mod Batches
+pub mod RuleRuns

@@ -1,0 +1,10 @@
+pub mod Ranges
+pub mod Numbers
+pub mod Repeats
+pub mod MapEntries
+pub mod EnumRules
+pub mod Meanings
+pub mod Walks
+pub mod Rules
+pub mod RuleSteps
+pub mod RulePass

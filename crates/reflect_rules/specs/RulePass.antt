@@ -1,0 +1,38 @@
+-- The faults of a batch of files.
+use Rattle.std.specs.Prelude.{◌≡◌, ℕ, ◌+◌, List, [], ◌∷◌, ◌++◌, false, Option}
+use Rattle.descriptor_records.specs.declared.file.FileDescriptorProto.{FileDescriptorProto}
+use Rattle.reflect_walk.specs.declared.visit_parts.Offsets.{Offsets}
+use Rattle.reflect_walk.specs.Declarations.{Declaration, file_declarations, past_file}
+use Rattle.reflect_names.specs.Faults.{Fault, name_at}
+use Rattle.reflect_names.specs.Names.{Places}
+use Rattle.reflect_names.specs.declared.resolve_visitor.Reference.{Reference}
+use Rattle.reflect_rules.specs.Ranges.{TypesSay}
+use Rattle.reflect_rules.specs.Walks.{Facts, Place, place_behind}
+use Rattle.reflect_rules.specs.Rules.{Values, FaultsOf}
+use Rattle.reflect_rules.specs.declared.uses.EntryUse.{EntryUse}
+
+abbrev pub past_files : Offsets → List FileDescriptorProto → Offsets
+past_files o [] = o
+past_files o (f ∷ fs) = past_files (past_file o f) fs
+
+-- the declarations of files, the first of which has this index
+abbrev pub batch_declarations : Offsets → ℕ → List FileDescriptorProto → List Declaration
+batch_declarations o i [] = []
+batch_declarations o i (f ∷ fs) = file_declarations o i f ++ batch_declarations (past_file o f) (i + 1) fs
+
+-- the faults of declarations, one after another
+abbrev pub FaultsAlong : Facts → Values → (ℕ → Places) → Place → List Declaration → List Fault → Type 0
+FaultsAlong g values at p [] xs = xs ≡ []
+FaultsAlong g values at p (d ∷ ds) xs =
+    (ys : List Fault) × (zs : List Fault) × FaultsOf g values p (at d.file) d ys × FaultsAlong g values at (place_behind p d) ds zs × (xs ≡ ys ++ zs)
+
+-- the places of the files of a batch
+abbrev pub batch_places : List FileDescriptorProto → ℕ → ℕ → Places
+batch_places files first i path = record { file = name_at files first i; path = path }
+
+-- the faults of a batch of files, whose references mean this, for some uses of the types of maps' entries
+abbrev pub BatchFaults : TypesSay → Values → Offsets → ℕ → List FileDescriptorProto → List Reference → List Fault → Type 0
+BatchFaults types values before first files references xs =
+    (uses : ℕ → Option EntryUse)
+    × FaultsAlong (record { types = types; uses = uses; first = before.messages }) values (batch_places files first)
+      (record { rest = references; is_proto3 = false; oneofs = 0 }) (batch_declarations before first files) xs
