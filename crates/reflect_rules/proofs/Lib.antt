@@ -1,4 +1,5 @@
 pub mod Again
-pub mod Then
 pub mod Batches
+pub mod Furthest
 pub mod RuleRuns
+pub mod Then

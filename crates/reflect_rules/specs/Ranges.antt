@@ -1,5 +1,5 @@
 -- Ranges of numbers, and what is asked of the types that messages and fields mean.
-use Rattle.std.specs.Prelude.{ℕ, ℤ, ◌≤ℤ◌, ◌<ℤ◌, List, Bool, Option, Some, None, Contains}
+use Rattle.std.specs.Prelude.{ℕ, ℤ, ◌≤ℤ◌, ◌<ℤ◌, List, Bool, Option, Some, None, All, Contains}
 
 -- the numbers from the first, below the second
 abbrev pub Range : Type 0
@@ -10,8 +10,8 @@ IsIn n r = (r.0 ≤ℤ n) × (n <ℤ r.1)
 
 -- one of the ranges that has the number, or none where none has it
 abbrev pub IsRangeOf : List Range → ℤ → Option Range → Type 0
-IsRangeOf rs n (Some r) = IsIn n r
-IsRangeOf rs n None = Unit {0}
+IsRangeOf rs n (Some r) = Contains rs r × IsIn n r
+IsRangeOf rs n None = All (λ r. IsIn n r → ⊥) rs
 
 -- what there is to know of message types and enums, by index
 pub record TypesSay : Type 0 where

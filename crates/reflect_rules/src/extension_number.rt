@@ -6,8 +6,7 @@ ghost use Rattle.reflect_rules.specs.Rules.{message_of, ExtensionNumber};
 
 use crate::entry_rules::message_meant;
 use crate::numbers::{check_extension, check_reserved};
-use crate::ranges::find_in;
-use crate::types::Types;
+use crate::types::{Types, find_in};
 use reflect_names::{DefinitionKind, Faults};
 use std::alloc::{AllocError, Global};
 

@@ -1,5 +1,6 @@
+ghost use Rattle.std.specs.Prelude.{◌≡◌, ◌<◌, ◌≤ℤ◌, ◌⊎◌, IfOk, length, slice_index_or};
+ghost use Rattle.reflect_rules.specs.Furthest.{RiseByStart, EndLast, no_range};
 ghost use Rattle.reflect_rules.specs.Ranges.{IsRangeOf};
-ghost use Rattle.reflect_rules.specs.Walks.{ranges_of, ranges_in};
 
 use descriptor_records::{ExtensionRange, ReservedRange};
 use std::alloc::{AllocError, Global};
@@ -15,11 +16,45 @@ struct NumberRange {
 #[derive(Debug, Drop)]
 pub struct NumberRanges {
     ranges: Vec<NumberRange>,
-    /// At each place the range that ends last of those up to there.
-    furthest: Vec<NumberRange>,
+    /// At each place that of the range which ends last of those up to there.
+    furthest: Vec<usize>,
+    ghost rise: { RiseByStart ranges.items },
+    ghost each: { length furthest.items ≡ length ranges.items },
+    ghost last: { EndLast ranges.items furthest.items },
+}
+
+/// Of the places of two ranges that of the one which ends later, and of ranges that end alike the first.
+fn later(ranges: &[NumberRange], first: usize, second: usize) -> usize
+    requires first { first < length ranges.now }
+    requires second { second < length ranges.now }
+    ensures either { (result ≡ first) ⊎ (result ≡ second) }
+    ensures not_before_first { (slice_index_or ranges.now first no_range).end ≤ℤ (slice_index_or ranges.now result no_range).end }
+    ensures not_before_second { (slice_index_or ranges.now second no_range).end ≤ℤ (slice_index_or ranges.now result no_range).end }
+{
+    if ranges[first].end < ranges[second].end {
+        second
+    } else {
+        first
+    }
+}
+
+/// The places of the ranges that end last of those up to each place.
+fn furthest_places(alloc: Global, ranges: &[NumberRange]) -> Result<Vec<usize>, AllocError>
+    ensures each { IfOk result (λ places. length places.items ≡ length ranges.now) }
+    ensures last { IfOk result (λ places. EndLast ranges.now places.items) }
+{
+    let mut places = Vec::with_capacity(alloc, ranges.len())?;
+    let mut last = 0;
+    for at in 0..ranges.len() {
+        last = later(ranges, last, at);
+        places.push(last)?;
+    }
+    Ok(places)
 }
 
 impl NumberRanges {
+    ghost use Rattle.reflect_rules.specs.Walks.{ranges_of};
+
     /// The ranges of numbers that no field may take.
     pub fn reserved(alloc: Global, records: &[ReservedRange]) -> Result<NumberRanges, AllocError> {
         let mut ranges = Vec::with_capacity(alloc, records.len())?;
@@ -43,17 +78,7 @@ impl NumberRanges {
 
     fn sorted(alloc: Global, mut ranges: Vec<NumberRange>) -> Result<NumberRanges, AllocError> {
         ranges.sort_unstable_by_key(|range| range.start);
-        let mut furthest = Vec::with_capacity(alloc, ranges.len())?;
-        let mut last = NumberRange {
-            start: 0,
-            end: i32::MIN,
-        };
-        for range in &ranges {
-            if last.end < range.end {
-                last = *range;
-            }
-            furthest.push(last)?;
-        }
+        let furthest = furthest_places(alloc, ranges.as_slice())?;
         Ok(NumberRanges { ranges, furthest })
     }
 
@@ -66,8 +91,11 @@ impl NumberRanges {
             .ranges
             .as_slice()
             .partition_point(|range| range.start <= number);
-        let range = self.furthest.get(behind.checked_sub(1)?)?;
-        if range.start <= number && number < range.end {
+        if behind == 0 {
+            return None;
+        }
+        let range = self.ranges[self.furthest[behind - 1]];
+        if number < range.end {
             Some((range.start, range.end))
         } else {
             None
@@ -79,15 +107,5 @@ fn range_of(start: Option<i32>, end: Option<i32>) -> NumberRange {
     NumberRange {
         start: start.unwrap_or(0),
         end: end.unwrap_or(0),
-    }
-}
-
-/// A range that has the number, if there are ranges and one of them has it.
-pub fn find_in(ranges: Option<&NumberRanges>, number: i32) -> Option<(i32, i32)>
-    ensures { IsRangeOf (ranges_in ranges.entry) number result }
-{
-    match ranges {
-        Some(ranges) => ranges.find(number),
-        None => None,
     }
 }

@@ -7,9 +7,8 @@ use crate::extension_number::check_extension_number;
 use crate::numbers::{
     check_distinct, check_not_extension, check_number, check_oneof, check_reserved,
 };
-use crate::ranges::find_in;
 use crate::references::References;
-use crate::types::Types;
+use crate::types::{Types, find_in};
 use crate::uses::EntryUse;
 use descriptor_records::{
     DescriptorProto, EnumDescriptorProto, EnumValueDescriptorProto, FieldDescriptorProto,
@@ -116,7 +115,15 @@ impl<'a, T: Types> Visitor for RuleVisitor<'a, T> {
     ) -> Result<(), VisitError> {
         self.oneofs = message.oneof_decl.len();
         let used = self.uses.get(&index).copied();
-        check_entry(alloc, &mut self.faults, file, path, full_name, message, used)?;
+        check_entry(
+            alloc,
+            &mut self.faults,
+            file,
+            path,
+            full_name,
+            message,
+            used,
+        )?;
         check_distinct(alloc, &mut self.faults, file, path, message)?;
         Ok(())
     }
@@ -234,7 +241,15 @@ impl<'a, T: Types> Visitor for RuleVisitor<'a, T> {
         let meaning = self.references.meaning_of(&extension.type_name);
         let number = extension.number.unwrap_or(0);
         check_number(alloc, &mut self.faults, file, path, number)?;
-        check_extension_number(alloc, &mut self.faults, file, path, self.types, number, extendee)?;
+        check_extension_number(
+            alloc,
+            &mut self.faults,
+            file,
+            path,
+            self.types,
+            number,
+            extendee,
+        )?;
         let (types, first) = (self.types, self.first_message);
         check_older_entry(alloc, &mut self.faults, file, path, types, first, meaning)?;
         let suits = has_right_default(self.types, extension, meaning);

@@ -1,5 +1,5 @@
 ghost use Rattle.std.specs.Prelude.{◌≡◌, ℕ, List, Bool};
-ghost use Rattle.reflect_rules.specs.Ranges.{TypesSay};
+ghost use Rattle.reflect_rules.specs.Ranges.{IsRangeOf, TypesSay};
 ghost use Rattle.reflect_rules.specs.Walks.{ranges_in};
 
 use crate::ranges::NumberRanges;
@@ -31,4 +31,14 @@ pub trait Types {
     /// The enum has a value of this name.
     fn has_value(&self, enumeration: u32, name: &str) -> bool
         ensures { values self.now enumeration name.now result };
+}
+
+/// A range that has the number, if there are ranges and one of them has it.
+pub fn find_in(ranges: Option<&NumberRanges>, number: i32) -> Option<(i32, i32)>
+    ensures { IsRangeOf (ranges_in ranges.entry) number result }
+{
+    match ranges {
+        Some(ranges) => ranges.find(number),
+        None => None,
+    }
 }

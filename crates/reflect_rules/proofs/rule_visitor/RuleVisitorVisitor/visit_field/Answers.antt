@@ -50,7 +50,7 @@ returns-clause-step g c =
     record {
       found = xs;
       right = subst (λ o. FieldFaults facts values v.oneofs at path c.args.message f (number_of f) o xs) c.meaning_of-meaning.ensures.meaning
-      (subst (λ x. FieldFaults facts values v.oneofs at path c.args.message f x m xs) number given);
+          (subst (λ x. FieldFaults facts values v.oneofs at path c.args.message f x m xs) number given);
       faults = b6;
       rest = c.meaning_of-meaning.ensures.rest;
       is_proto3 = refl;
