@@ -1,4 +1,4 @@
-ghost use Rattle.std.specs.Prelude.{◌≡◌, ◌<◌, length, IfSome};
+ghost use Rattle.std.specs.Prelude.{◌≡◌, ◌<◌, length, Some, IfSome};
 ghost use Rattle.reflect_index.specs.Types.{type_at, type_of_field};
 
 use crate::kind::{DefaultValue, Kind};
@@ -133,7 +133,8 @@ impl<'p> FieldDescriptor<'p> {
 
     /// The oneof that the field is a member of, a synthetic one too.
     pub fn containing_oneof(&self) -> Option<OneofDescriptor<'p>>
-        ensures { IfSome result (λ o. o.message ≡ self.now.message) }
+        ensures message { IfSome result (λ o. o.message ≡ self.now.message) }
+        ensures place { IfSome result (λ o. (type_of_field self.now.message.pool.now self.now.message.index self.now.index).oneof ≡ Some o.index) }
     {
         let pool = self.message.pool;
         let field = &pool.tables.messages[self.message.index as usize].fields.list[self.index as usize];

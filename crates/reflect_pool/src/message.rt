@@ -139,6 +139,7 @@ impl<'p> MessageDescriptor<'p> {
     /// The oneof at a place.
     pub(crate) fn oneof_at(&self, place: u32) -> Option<OneofDescriptor<'p>>
         ensures message { IfSome result (λ o. o.message ≡ self.now) }
+        ensures place { IfSome result (λ o. o.index ≡ place) }
     {
         let pool = self.pool;
         if (place as usize) < pool.tables.messages[self.index as usize].oneofs.len() {
@@ -162,7 +163,8 @@ impl<'p> MessageDescriptor<'p> {
     /// The key of a map's entry.
     pub fn map_entry_key_field(&self) -> FieldDescriptor<'p>
         requires { IsSome (type_at self.now.pool.now self.now.index).entry }
-        ensures { result.message ≡ self.now }
+        ensures message { result.message ≡ self.now }
+        ensures place { IfSome (type_at self.now.pool.now self.now.index).entry (λ e. result.index ≡ e.key) }
     {
         let pool = self.pool;
         FieldDescriptor {
@@ -174,7 +176,8 @@ impl<'p> MessageDescriptor<'p> {
     /// The value of a map's entry.
     pub fn map_entry_value_field(&self) -> FieldDescriptor<'p>
         requires { IsSome (type_at self.now.pool.now self.now.index).entry }
-        ensures { result.message ≡ self.now }
+        ensures message { result.message ≡ self.now }
+        ensures place { IfSome (type_at self.now.pool.now self.now.index).entry (λ e. result.index ≡ e.value) }
     {
         let pool = self.pool;
         FieldDescriptor {
