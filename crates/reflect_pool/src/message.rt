@@ -140,6 +140,7 @@ impl<'p> MessageDescriptor<'p> {
     pub(crate) fn oneof_at(&self, place: u32) -> Option<OneofDescriptor<'p>>
         ensures message { IfSome result (λ o. o.message ≡ self.now) }
         ensures place { IfSome result (λ o. o.index ≡ place) }
+        ensures there { place < length (type_at self.now.pool.now self.now.index).oneofs → IsSome result }
     {
         let pool = self.pool;
         if (place as usize) < pool.tables.messages[self.index as usize].oneofs.len() {
@@ -202,11 +203,17 @@ impl<'p> MessageDescriptor<'p> {
 
     /// The extension of the type with a number. Takes no memory.
     pub fn get_extension(&self, number: u32) -> Option<ExtensionDescriptor<'p>>
-        ensures { IfSome result (λ x. (x.pool.now ≡ self.now.pool.now) × ((extension_at self.now.pool.now x.index).extendee ≡ self.now.index)) }
+        ensures extendee { IfSome result (λ x. (x.pool.now ≡ self.now.pool.now) × ((extension_at self.now.pool.now x.index).extendee ≡ self.now.index)) }
+        ensures number { IfSome result (λ x. (extension_at x.pool.now x.index).field.number ≡ number) }
     {
         let pool = self.pool;
         let place = *pool.extension_numbers.get(&(self.index, number))?;
-        self.extension_of(place)
+        let extension = self.extension_of(place)?;
+        if extension.number() == number {
+            Some(extension)
+        } else {
+            None
+        }
     }
 
     /// The extension of the type with a full name. Takes no memory.
