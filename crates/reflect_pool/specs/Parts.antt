@@ -1,5 +1,5 @@
 -- The parts of types at their places.
-use Rattle.std.specs.Prelude.{ℕ, ℤ, pos, [], slice_index_or}
+use Rattle.std.specs.Prelude.{ℕ, pos, [], slice_index_or}
 use Rattle.reflect_index.specs.Types.{PoolType, OneofType, ValueType, type_at, enum_at, no_oneof}
 
 -- what stands for a value that is not there
