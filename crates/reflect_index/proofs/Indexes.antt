@@ -1,6 +1,6 @@
 -- What sorted places tell of the items of a key.
-use Rattle.std.proofs.Common.{◌≡◌, ◌≢◌, ◌<◌, ◌≤◌, ℕ, suc, zero, ◌+◌, List, Result, Ok, Err, Option, Some, None, IfOk, IfErr, All, HoldsAt, length, get_or, sym, ap, ◌∙◌, subst, refl, ⊎_elim, arith, Less, Equal, Greater, Bool, true, false, true≢false}
-use Rattle.std.specs.List.Sorted.{IsBinarySearchResult, IsPartitionPoint, IsSortedBy, IsNonDecreasingBy}
+use Rattle.std.proofs.Common.{◌≡◌, ◌≢◌, ◌<◌, ℕ, suc, zero, ◌+◌, List, Result, Ok, Err, Some, None, IfOk, IfErr, All, HoldsAt, length, get_or, sym, ap, ◌∙◌, subst, ⊎_elim, arith, Less, Equal, true≢false}
+use Rattle.std.specs.List.Sorted.{IsBinarySearchResult, IsSortedBy, IsNonDecreasingBy}
 use Rattle.std.specs.Ordering.{is_lt, is_eq, ordering_reverse, ordering_index, int_cmp, nat_cmp}
 use Rattle.std.specs.Cmp.{IsTotalOrder}
 use Rattle.std.specs.Cmp.Lexicographic.{slice_cmp}

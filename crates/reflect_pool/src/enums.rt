@@ -1,5 +1,6 @@
 ghost use Rattle.std.specs.Prelude.{◌≡◌, ◌<◌, length, IfSome};
 ghost use Rattle.reflect_index.specs.Types.{enum_at};
+ghost use Rattle.reflect_pool.specs.Parts.{type_of_value};
 
 use crate::counting::end_of;
 use crate::message::MessageDescriptor;
@@ -169,7 +170,9 @@ impl<'p> EnumValueDescriptor<'p> {
         self.enumeration
     }
 
-    pub fn name(&self) -> &'p str {
+    pub fn name(&self) -> &'p str
+        ensures { result.now ≡ (type_of_value self.now.enumeration.pool.now self.now.enumeration.index self.now.index).name }
+    {
         let pool = self.enumeration.pool;
         pool.tables.enums[self.enumeration.index as usize].values.list[self.index as usize]
             .name
@@ -177,7 +180,9 @@ impl<'p> EnumValueDescriptor<'p> {
     }
 
     /// The value's name behind that of what the enum is declared in.
-    pub fn full_name(&self) -> &'p str {
+    pub fn full_name(&self) -> &'p str
+        ensures { result.now ≡ (type_of_value self.now.enumeration.pool.now self.now.enumeration.index self.now.index).full_name }
+    {
         let pool = self.enumeration.pool;
         pool.tables.enums[self.enumeration.index as usize].values.list[self.index as usize]
             .full_name
@@ -192,7 +197,9 @@ impl<'p> EnumValueDescriptor<'p> {
             .as_slice()
     }
 
-    pub fn number(&self) -> i32 {
+    pub fn number(&self) -> i32
+        ensures { result ≡ (type_of_value self.now.enumeration.pool.now self.now.enumeration.index self.now.index).number }
+    {
         let pool = self.enumeration.pool;
         pool.tables.enums[self.enumeration.index as usize].values.list[self.index as usize].number
     }

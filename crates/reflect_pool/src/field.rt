@@ -1,4 +1,4 @@
-ghost use Rattle.std.specs.Prelude.{◌≡◌, ◌<◌, length, IfSome};
+ghost use Rattle.std.specs.Prelude.{◌≡◌, ◌<◌, ℕ, length, Some, IfSome, IsSome};
 ghost use Rattle.reflect_index.specs.Types.{type_at, type_of_field};
 
 use crate::kind::{DefaultValue, Kind};
@@ -131,9 +131,11 @@ impl<'p> FieldDescriptor<'p> {
             .index as usize].fields.list[self.index as usize].supports_presence
     }
 
-    /// The oneof that the field is a member of, a synthetic one too.
+    /// The oneof that the field is a member of, a synthetic one too; none where it is in none.
     pub fn containing_oneof(&self) -> Option<OneofDescriptor<'p>>
-        ensures { IfSome result (λ o. o.message ≡ self.now.message) }
+        ensures message { IfSome result (λ o. o.message ≡ self.now.message) }
+        ensures place { IfSome result (λ o. (type_of_field self.now.message.pool.now self.now.message.index self.now.index).oneof ≡ Some o.index) }
+        ensures there { (k : ℕ) → (type_of_field self.now.message.pool.now self.now.message.index self.now.index).oneof ≡ Some k → k < length (type_at self.now.message.pool.now self.now.message.index).oneofs → IsSome result }
     {
         let pool = self.message.pool;
         let field = &pool.tables.messages[self.message.index as usize].fields.list[self.index as usize];

@@ -139,6 +139,8 @@ impl<'p> MessageDescriptor<'p> {
     /// The oneof at a place.
     pub(crate) fn oneof_at(&self, place: u32) -> Option<OneofDescriptor<'p>>
         ensures message { IfSome result (λ o. o.message ≡ self.now) }
+        ensures place { IfSome result (λ o. o.index ≡ place) }
+        ensures there { place < length (type_at self.now.pool.now self.now.index).oneofs → IsSome result }
     {
         let pool = self.pool;
         if (place as usize) < pool.tables.messages[self.index as usize].oneofs.len() {
@@ -162,7 +164,8 @@ impl<'p> MessageDescriptor<'p> {
     /// The key of a map's entry.
     pub fn map_entry_key_field(&self) -> FieldDescriptor<'p>
         requires { IsSome (type_at self.now.pool.now self.now.index).entry }
-        ensures { result.message ≡ self.now }
+        ensures message { result.message ≡ self.now }
+        ensures place { IfSome (type_at self.now.pool.now self.now.index).entry (λ e. result.index ≡ e.key) }
     {
         let pool = self.pool;
         FieldDescriptor {
@@ -174,7 +177,8 @@ impl<'p> MessageDescriptor<'p> {
     /// The value of a map's entry.
     pub fn map_entry_value_field(&self) -> FieldDescriptor<'p>
         requires { IsSome (type_at self.now.pool.now self.now.index).entry }
-        ensures { result.message ≡ self.now }
+        ensures message { result.message ≡ self.now }
+        ensures place { IfSome (type_at self.now.pool.now self.now.index).entry (λ e. result.index ≡ e.value) }
     {
         let pool = self.pool;
         FieldDescriptor {
@@ -199,11 +203,17 @@ impl<'p> MessageDescriptor<'p> {
 
     /// The extension of the type with a number. Takes no memory.
     pub fn get_extension(&self, number: u32) -> Option<ExtensionDescriptor<'p>>
-        ensures { IfSome result (λ x. (x.pool.now ≡ self.now.pool.now) × ((extension_at self.now.pool.now x.index).extendee ≡ self.now.index)) }
+        ensures extendee { IfSome result (λ x. (x.pool.now ≡ self.now.pool.now) × ((extension_at self.now.pool.now x.index).extendee ≡ self.now.index)) }
+        ensures number { IfSome result (λ x. (extension_at x.pool.now x.index).field.number ≡ number) }
     {
         let pool = self.pool;
         let place = *pool.extension_numbers.get(&(self.index, number))?;
-        self.extension_of(place)
+        let extension = self.extension_of(place)?;
+        if extension.number() == number {
+            Some(extension)
+        } else {
+            None
+        }
     }
 
     /// The extension of the type with a full name. Takes no memory.

@@ -1,5 +1,6 @@
 ghost use Rattle.std.specs.Prelude.{◌≡◌, ◌<◌, length, IfSome};
 ghost use Rattle.reflect_index.specs.Types.{type_at};
+ghost use Rattle.reflect_pool.specs.Parts.{type_of_oneof};
 
 use crate::field::FieldDescriptor;
 use crate::message::MessageDescriptor;
@@ -28,7 +29,9 @@ impl<'p> OneofDescriptor<'p> {
         self.message
     }
 
-    pub fn name(&self) -> &'p str {
+    pub fn name(&self) -> &'p str
+        ensures { result.now ≡ (type_of_oneof self.now.message.pool.now self.now.message.index self.now.index).name }
+    {
         let pool = self.message.pool;
         pool.tables.messages[self.message.index as usize].oneofs[self.index as usize]
             .name
@@ -36,7 +39,9 @@ impl<'p> OneofDescriptor<'p> {
     }
 
     /// The type's full name, a dot and the oneof's name.
-    pub fn full_name(&self) -> &'p str {
+    pub fn full_name(&self) -> &'p str
+        ensures { result.now ≡ (type_of_oneof self.now.message.pool.now self.now.message.index self.now.index).full_name }
+    {
         let pool = self.message.pool;
         pool.tables.messages[self.message.index as usize].oneofs[self.index as usize]
             .full_name
@@ -52,7 +57,9 @@ impl<'p> OneofDescriptor<'p> {
     }
 
     /// It stands for one field of a proto3 file that was declared `optional`.
-    pub fn is_synthetic(&self) -> bool {
+    pub fn is_synthetic(&self) -> bool
+        ensures { result ≡ (type_of_oneof self.now.message.pool.now self.now.message.index self.now.index).synthetic }
+    {
         let pool = self.message.pool;
         pool.tables.messages[self.message.index as usize].oneofs[self.index as usize].is_synthetic
     }
