@@ -8,7 +8,7 @@ Range = ℤ × ℤ
 abbrev pub IsIn : ℤ → Range → Type 0
 IsIn n r = (r.0 ≤ℤ n) × (n <ℤ r.1)
 
--- one of the ranges that has the number, or none where none has it
+-- a range that has the number, if there is one; what is answered where there is none is not told
 abbrev pub IsRangeOf : List Range → ℤ → Option Range → Type 0
 IsRangeOf rs n (Some r) = IsIn n r
 IsRangeOf rs n None = Unit {0}
