@@ -1,5 +1,5 @@
 -- What a walk of the visitor of the rules leaves.
-use Rattle.std.proofs.Common.{◌≡◌, ℕ, List, [], ◌∷◌, ◌++◌, ap, sym, ◌∙◌, subst, refl}
+use Rattle.std.proofs.Common.{◌≡◌, List, [], ◌∷◌, ◌++◌, ap, sym, ◌∙◌, subst, refl}
 use Rattle.std.proofs.Math.Path.{fun_ext}
 use Rattle.std.specs.BTreeMap.{get}
 use Rattle.std.specs.Ordering.{nat_cmp}
@@ -25,13 +25,13 @@ ran says values s (d ∷ ds) t (m, (step, rest)) =
     let r = ran says values m ds t rest in
     let places : place_at m.faults ≡ place_at s.faults = fun_ext (same_places s.faults m.faults _ step.faults) in
     let facts : facts_of says m ≡ facts_of says s =
-        ap {B = Facts} (λ x. record { types = says x; uses = λ i. get nat_cmp m.uses.now i; first = m.first_message }) step.facts.types
-        ∙ ap {B = Facts} (λ u. record { types = says s.types.now; uses = λ i. get nat_cmp u i; first = m.first_message }) step.facts.uses
-        ∙ ap {B = Facts} (λ n. record { types = says s.types.now; uses = λ i. get nat_cmp s.uses.now i; first = n }) step.facts.first in
+    ap {B = Facts} (λ x. record { types = says x; uses = λ i. get nat_cmp m.uses.now i; first = m.first_message }) step.facts.types
+    ∙ ap {B = Facts} (λ u. record { types = says s.types.now; uses = λ i. get nat_cmp u i; first = m.first_message }) step.facts.uses
+    ∙ ap {B = Facts} (λ n. record { types = says s.types.now; uses = λ i. get nat_cmp s.uses.now i; first = n }) step.facts.first in
     let place : place_of m ≡ place_behind (place_of s) d =
-        ap {B = Place} (λ x. record { rest = x; is_proto3 = m.is_proto3; oneofs = m.oneofs }) step.rest
-        ∙ ap {B = Place} (λ x. record { rest = (place_behind (place_of s) d).rest; is_proto3 = x; oneofs = m.oneofs }) step.is_proto3
-        ∙ ap {B = Place} (λ x. record { rest = (place_behind (place_of s) d).rest; is_proto3 = (place_behind (place_of s) d).is_proto3; oneofs = x }) step.oneofs in
+    ap {B = Place} (λ x. record { rest = x; is_proto3 = m.is_proto3; oneofs = m.oneofs }) step.rest
+    ∙ ap {B = Place} (λ x. record { rest = (place_behind (place_of s) d).rest; is_proto3 = x; oneofs = m.oneofs }) step.is_proto3
+    ∙ ap {B = Place} (λ x. record { rest = (place_behind (place_of s) d).rest; is_proto3 = (place_behind (place_of s) d).is_proto3; oneofs = x }) step.oneofs in
     let later = subst (λ p. FaultsAlong (facts_of says s) (values s.types.now) (place_at s.faults) p ds r.found) place
     (subst (λ a. FaultsAlong (facts_of says s) (values s.types.now) a (place_of m) ds r.found) places
     (subst (λ x. FaultsAlong (facts_of says s) (values x) (place_at m.faults) (place_of m) ds r.found) step.facts.types

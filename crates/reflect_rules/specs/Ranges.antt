@@ -1,5 +1,5 @@
 -- Ranges of numbers, and what is asked of the types that messages and fields mean.
-use Rattle.std.specs.Prelude.{ℕ, ℤ, ◌≤ℤ◌, ◌<ℤ◌, List, Bool, Option, Some, None, Contains}
+use Rattle.std.specs.Prelude.{ℕ, ℤ, ◌≤ℤ◌, ◌<ℤ◌, List, Bool, Option, Some, None}
 
 -- the numbers from the first, below the second
 abbrev pub Range : Type 0

@@ -35,4 +35,4 @@ abbrev pub BatchFaults : TypesSay → Values → Offsets → ℕ → List FileDe
 BatchFaults types values before first files references xs =
     (uses : ℕ → Option EntryUse)
     × FaultsAlong (record { types = types; uses = uses; first = before.messages }) values (batch_places files first)
-      (record { rest = references; is_proto3 = false; oneofs = 0 }) (batch_declarations before first files) xs
+    (record { rest = references; is_proto3 = false; oneofs = 0 }) (batch_declarations before first files) xs

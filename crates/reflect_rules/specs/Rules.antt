@@ -74,7 +74,7 @@ abbrev pub FieldFaults : Facts → Values → ℕ → Places → List ℤ → �
 FieldFaults g values oneofs at path message f n m xs =
     (r : FieldFindings g values m message n f)
     × (xs ≡ number_faults at path n ++ reserved_faults at path n r.reserved ++ kept_faults at path n r.kept
-      ++ oneof_faults at path oneofs f.oneof_index ++ older_faults at path g.types g.first (message_of m) ++ default_faults at path f.default_value r.suits)
+    ++ oneof_faults at path oneofs f.oneof_index ++ older_faults at path g.types g.first (message_of m) ++ default_faults at path f.default_value r.suits)
 
 -- the number of an extension of a message
 abbrev pub ExtensionNumber : TypesSay → Places → List ℤ → ℤ → Option ℕ → List Fault → Type 0

@@ -115,10 +115,7 @@ pub fn check_extension(
 }
 
 /// Those of the numbers that stand earlier too, each behind its place.
-pub fn repeated(
-    alloc: Global,
-    numbers: &[Option<i32>],
-) -> Result<Vec<(usize, i32)>, AllocError>
+pub fn repeated(alloc: Global, numbers: &[Option<i32>]) -> Result<Vec<(usize, i32)>, AllocError>
     ensures { IfOk result (λ found. found.items ≡ repeats numbers.now) }
 {
     let mut seen = BTreeSet::new(alloc);

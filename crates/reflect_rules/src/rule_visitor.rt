@@ -116,7 +116,15 @@ impl<'a, T: Types> Visitor for RuleVisitor<'a, T> {
     ) -> Result<(), VisitError> {
         self.oneofs = message.oneof_decl.len();
         let used = self.uses.get(&index).copied();
-        check_entry(alloc, &mut self.faults, file, path, full_name, message, used)?;
+        check_entry(
+            alloc,
+            &mut self.faults,
+            file,
+            path,
+            full_name,
+            message,
+            used,
+        )?;
         check_distinct(alloc, &mut self.faults, file, path, message)?;
         Ok(())
     }
@@ -234,7 +242,15 @@ impl<'a, T: Types> Visitor for RuleVisitor<'a, T> {
         let meaning = self.references.meaning_of(&extension.type_name);
         let number = extension.number.unwrap_or(0);
         check_number(alloc, &mut self.faults, file, path, number)?;
-        check_extension_number(alloc, &mut self.faults, file, path, self.types, number, extendee)?;
+        check_extension_number(
+            alloc,
+            &mut self.faults,
+            file,
+            path,
+            self.types,
+            number,
+            extendee,
+        )?;
         let (types, first) = (self.types, self.first_message);
         check_older_entry(alloc, &mut self.faults, file, path, types, first, meaning)?;
         let suits = has_right_default(self.types, extension, meaning);

@@ -1,5 +1,5 @@
-use Rattle.std.proofs.Common.{◌≡◌, ℕ, List, ◌++◌, map, ap, sym, ◌∙◌, subst, false}
-use Rattle.reflect_names.specs.Faults.{Fault, fault_view, list_of, place_at}
+use Rattle.std.proofs.Common.{◌≡◌, ℕ, ◌++◌, map, ap, sym, ◌∙◌, subst, false}
+use Rattle.reflect_names.specs.Faults.{fault_view, list_of, place_at}
 use Rattle.reflect_names.specs.Names.{Places}
 use Rattle.reflect_rules.specs.Walks.{Place}
 use Rattle.reflect_rules.specs.RulePass.{batch_declarations, batch_places, FaultsAlong}
@@ -18,15 +18,15 @@ returns g c =
     let r = ran says values v ds c.visit_all-2.new.visitor c.in_ok-visit_all-2.ensures in
     let uses = (facts_of says v).uses in
     let files : place_at v.faults ≡ batch_places fs c.args.first =
-        ap place_at made.faults
-        ∙ ap {B = ℕ → Places} (λ xs. batch_places xs c.new-faults.result.first) c.new-faults.ensures.files
-        ∙ ap {B = ℕ → Places} (batch_places fs) c.new-faults.ensures.first in
+    ap place_at made.faults
+    ∙ ap {B = ℕ → Places} (λ xs. batch_places xs c.new-faults.result.first) c.new-faults.ensures.files
+    ∙ ap {B = ℕ → Places} (batch_places fs) c.new-faults.ensures.first in
     let place : place_of v ≡ record { rest = c.args.references.now; is_proto3 = false; oneofs = 0 } =
-        ap {B = Place} (λ x. record { rest = x; is_proto3 = v.is_proto3; oneofs = v.oneofs }) (made.references ∙ c.new-references.ensures)
-        ∙ ap {B = Place} (λ x. record { rest = c.args.references.now; is_proto3 = x; oneofs = v.oneofs }) made.is_proto3
-        ∙ ap {B = Place} (λ x. record { rest = c.args.references.now; is_proto3 = false; oneofs = x }) made.oneofs in
+    ap {B = Place} (λ x. record { rest = x; is_proto3 = v.is_proto3; oneofs = v.oneofs }) (made.references ∙ c.new-references.ensures)
+    ∙ ap {B = Place} (λ x. record { rest = c.args.references.now; is_proto3 = x; oneofs = v.oneofs }) made.is_proto3
+    ∙ ap {B = Place} (λ x. record { rest = c.args.references.now; is_proto3 = false; oneofs = x }) made.oneofs in
     let found : map fault_view c.into_list.result.items ≡ r.found =
-        c.into_list.ensures ∙ ap list_of c.into_faults.ensures ∙ r.faults.added ∙ ap (λ l. l ++ r.found) (ap list_of made.faults ∙ c.new-faults.ensures.none) in
+    c.into_list.ensures ∙ ap list_of c.into_faults.ensures ∙ r.faults.added ∙ ap (λ l. l ++ r.found) (ap list_of made.faults ∙ c.new-faults.ensures.none) in
     let types = subst (λ y. FaultsAlong (record { types = says y; uses = uses; first = v.first_message }) (values y) (place_at v.faults) (place_of v) ds r.found) made.types r.right in
     let t = c.args.types.now in
     let first = subst (λ n. FaultsAlong (record { types = says t; uses = uses; first = n }) (values t) (place_at v.faults) (place_of v) ds r.found) made.first types in

@@ -14,7 +14,7 @@ turns-preserved g c =
     let next : c.in_ok-index.index ≡ c.turns.index + 1 = search rules in
     record {
       runs = run_file g.V.Visitor.steps o c.turns.offsets c.args.first c.turns.index fs k f c.args.visitor.now c.turns.visitor c.visit.new.visitor
-      c.turns-test.true c.file-item.is before.counts before.index before.runs c.in_ok-offsets.ensures.runs;
+          c.turns-test.true c.file-item.is before.counts before.index before.runs c.in_ok-offsets.ensures.runs;
       counts = c.in_ok-offsets.ensures.counts ∙ ap (λ p. past_file p f) before.counts ∙ ap (λ x. past_file (past_files o (take k fs)) x) c.file-item.is ∙ sym (past_more o fs k f c.turns-test.true);
       index = omega (arith, next, before.index);
     }

@@ -26,8 +26,7 @@ returns g c =
     let named = subst (λ m. Adds t u (outside_faults (place_at t c.args.file) path w m k)) c.message_name-name.ensures c.in_ok-check_extension.ensures in
     let second = subst (λ v. Adds t u (outside_faults (place_at t c.args.file) path v (types.name i) k)) same named in
     let xs = reserved_faults at path n r ++ outside_faults at path n (types.name i) k in
-    let right : ExtensionNumber types at path n (Some i) xs = (r, k, is_r, is_k, refl) in
-    (
+    let right : ExtensionNumber types at path n (Some i) xs = (r, k, is_r, is_k, refl) in (
       xs,
       subst (λ m. ExtensionNumber types at path n m xs) c.in-Some.ensures right,
       adds_then s t u c.args.file _ (λ p. outside_faults p path n (types.name i) k) first second,

@@ -45,8 +45,8 @@ returns-clause-step g c =
     record {
       found = xs;
       right = subst (λ o. ExtensionFaults facts values at path x (number_of x) (meaning x.extendee v.references.rest.now) o xs) meant
-      (subst (λ o. ExtensionFaults facts values at path x (number_of x) o m xs) c.meaning_of-extendee.ensures.meaning
-      (subst (λ y. ExtensionFaults facts values at path x y e m xs) number given));
+          (subst (λ o. ExtensionFaults facts values at path x (number_of x) o m xs) c.meaning_of-extendee.ensures.meaning
+          (subst (λ y. ExtensionFaults facts values at path x y e m xs) number given));
       faults = b4;
       rest = c.meaning_of-meaning.ensures.rest ∙ ap (behind x.type_name) rest;
       is_proto3 = refl;

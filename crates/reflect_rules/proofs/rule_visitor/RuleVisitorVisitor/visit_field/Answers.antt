@@ -1,7 +1,6 @@
 use Rattle.std.proofs.Common.{◌≡◌, ℤ, Option, ◌++◌, subst, refl, to_z, of_z, w32, rules}
 use Rattle.reflect_names.specs.Faults.{Adds, place_at}
 use Rattle.reflect_scope.specs.declared.definition.DefinitionKind.{DefinitionKind}
-use Rattle.reflect_rules.specs.Meanings.{meaning}
 use Rattle.reflect_rules.specs.Numbers.{number_faults, reserved_faults, kept_faults, oneof_faults}
 use Rattle.reflect_rules.specs.Ranges.{IsRangeOf}
 use Rattle.reflect_rules.specs.Rules.{message_of, older_faults, default_faults, number_of, FieldFindings, FieldFaults}
@@ -50,7 +49,7 @@ returns-clause-step g c =
     record {
       found = xs;
       right = subst (λ o. FieldFaults facts values v.oneofs at path c.args.message f (number_of f) o xs) c.meaning_of-meaning.ensures.meaning
-      (subst (λ x. FieldFaults facts values v.oneofs at path c.args.message f x m xs) number given);
+          (subst (λ x. FieldFaults facts values v.oneofs at path c.args.message f x m xs) number given);
       faults = b6;
       rest = c.meaning_of-meaning.ensures.rest;
       is_proto3 = refl;
