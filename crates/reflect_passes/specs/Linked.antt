@@ -1,5 +1,5 @@
 -- What is told of the message types of a pool, and behind them those of a batch.
-use Rattle.std.specs.Prelude.{ℕ, ◌-◌, List, [], Bool, false, cond, nat_lt, length, slice_get, Option, Some, None, string_bytes}
+use Rattle.std.specs.Prelude.{ℕ, ◌-◌, [], false, cond, nat_lt, length, slice_get, Option, Some, None, string_bytes}
 use Rattle.reflect_index.specs.declared.stored.StoredMessage.{StoredMessage}
 use Rattle.reflect_rules.specs.Ranges.{TypesSay}
 use Rattle.reflect_rules.specs.Walks.{ranges_of}
