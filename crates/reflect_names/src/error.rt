@@ -5,6 +5,11 @@ use std::error::Error;
 use std::fmt;
 
 impl From<VisitError> for DescriptorErrorKind {
+    ghost use Rattle.std.specs.Prelude.{◌≡◌};
+    ghost use Rattle.reflect_names.specs.Faults.{fault_view, another};
+
+    ghost from_gives = { λ error kind. fault_view kind ≡ another };
+
     fn from(error: VisitError) -> Self {
         match error {
             VisitError::TooMany => DescriptorErrorKind::TooMany,

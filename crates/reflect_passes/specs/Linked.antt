@@ -1,8 +1,9 @@
 -- What is told of the message types of a pool, and behind them those of a batch.
-use Rattle.std.specs.Prelude.{ℕ, ◌-◌, List, [], Bool, false, cond, nat_lt, length, slice_get, Option, Some, None, string_bytes}
+use Rattle.std.specs.Prelude.{ℕ, ◌-◌, [], false, cond, nat_lt, length, slice_get, Option, Some, None, string_bytes}
 use Rattle.reflect_index.specs.declared.stored.StoredMessage.{StoredMessage}
 use Rattle.reflect_rules.specs.Ranges.{TypesSay}
 use Rattle.reflect_rules.specs.Walks.{ranges_of}
+use Rattle.reflect_rules.specs.Rules.{Values}
 use Rattle.reflect_passes.specs.declared.linked_types.LinkedTypes.{LinkedTypes}
 
 abbrev pub message_at : LinkedTypes → ℕ → Option StoredMessage
@@ -15,3 +16,7 @@ linked_says t = record {
   is_entry = λ i. elim (message_at t i) [ None ↦ false | Some m ↦ m.is_entry ];
   name = λ i. elim (message_at t i) [ None ↦ [] | Some m ↦ string_bytes m.full_name ];
 }
+
+-- of the names of enums' values nothing is told
+abbrev pub no_values : Values
+no_values i text suits = Unit {0}

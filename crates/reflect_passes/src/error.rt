@@ -1,3 +1,5 @@
+ghost use Rattle.std.specs.Prelude.{◌≡◌, ◌∷◌, [], map, IfSome, IfNone};
+
 use reflect_names::{DescriptorErrorKind, Label, VisitError};
 use std::alloc::{AllocError, Global};
 use std::error::Error;
@@ -12,8 +14,13 @@ pub struct DescriptorError {
 }
 
 impl DescriptorError {
+    ghost use Rattle.reflect_names.specs.Faults.{fault_view};
+    ghost use Rattle.reflect_passes.specs.Errors.{faults_of};
+
     /// The error of one fault. Takes no memory.
-    pub fn new(alloc: Global, first: DescriptorErrorKind) -> DescriptorError {
+    pub fn new(alloc: Global, first: DescriptorErrorKind) -> DescriptorError
+        ensures { faults_of result ≡ fault_view first ∷ [] }
+    {
         DescriptorError {
             first,
             others: Vec::new(alloc),
@@ -21,7 +28,10 @@ impl DescriptorError {
     }
 
     /// The error of a list of faults, if there is one. Takes no memory.
-    pub fn from_list(mut faults: Vec<DescriptorErrorKind>) -> Option<DescriptorError> {
+    pub fn from_list(mut faults: Vec<DescriptorErrorKind>) -> Option<DescriptorError>
+        ensures none { IfNone result (faults.items ≡ []) }
+        ensures some { IfSome result (λ e. faults_of e ≡ map fault_view faults.items) }
+    {
         if faults.is_empty() {
             return None;
         }

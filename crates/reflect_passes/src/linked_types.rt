@@ -40,11 +40,11 @@ impl<'a> LinkedTypes<'a> {
 }
 
 impl<'a> Types for LinkedTypes<'a> {
-    ghost use Rattle.reflect_passes.specs.Linked.{linked_says};
+    ghost use Rattle.reflect_passes.specs.Linked.{linked_says, no_values};
 
     ghost says = { linked_says };
 
-    ghost values = { λ _ _ _ _. Unit {0} };
+    ghost values = { λ _. no_values };
 
     fn reserved_numbers(&self, message: u32) -> Option<&NumberRanges> {
         Some(&self.message(message)?.reserved_numbers)

@@ -1,5 +1,11 @@
 //! The passes over a batch of files, each of which lists all faults that it finds.
 
+ghost use Rattle.std.specs.Prelude.{◌≡◌, ◌∷◌, [], map, OnOk, IfErr};
+ghost use Rattle.reflect_names.specs.Faults.{fault_view, list_of, another};
+ghost use Rattle.reflect_rules.specs.RulePass.{BatchFaults};
+ghost use Rattle.reflect_passes.specs.Linked.{linked_says, no_values};
+ghost use Rattle.reflect_passes.specs.Errors.{faults_of, Refuses};
+
 use crate::error::DescriptorError;
 use crate::linked_types::LinkedTypes;
 use descriptor_records::FileDescriptorProto;
@@ -13,16 +19,29 @@ use std::collections::BTreeMap;
 use std::mem;
 
 /// The error of a walk that ended early.
-pub fn walk_error(alloc: Global, error: VisitError) -> DescriptorError {
+pub fn walk_error(alloc: Global, error: VisitError) -> DescriptorError
+    ensures { faults_of result ≡ another ∷ [] }
+{
     DescriptorError::new(alloc, DescriptorErrorKind::from(error))
 }
 
-/// Ok where there are no faults.
-pub fn without_faults(faults: Faults<'_>) -> Result<(), DescriptorError> {
-    match DescriptorError::from_list(faults.into_list()) {
+/// Ok where there are no faults, else the error that lists them.
+fn refused(faults: Vec<DescriptorErrorKind>) -> Result<(), DescriptorError>
+    ensures ok { OnOk result (faults.items ≡ []) }
+    ensures err { IfErr result (λ e. faults_of e ≡ map fault_view faults.items) }
+{
+    match DescriptorError::from_list(faults) {
         Some(error) => Err(error),
         None => Ok(()),
     }
+}
+
+/// Ok where no faults were met, else the error that lists them.
+pub fn without_faults(faults: Faults<'_>) -> Result<(), DescriptorError>
+    ensures ok { OnOk result (list_of faults.entry ≡ []) }
+    ensures err { IfErr result (λ e. faults_of e ≡ list_of faults.entry) }
+{
+    refused(faults.into_list())
 }
 
 /// Calls the visitor at each declaration of the files, the first of which has the index `first`.
@@ -81,7 +100,8 @@ pub fn resolve_references(
     Ok(references)
 }
 
-/// Ok where the files, whose references mean this, break no rule of numbers, defaults, oneof indexes and map entries.
+/// Ok where the files, whose references mean this, break no rule of numbers, defaults, oneof indexes and map entries, else all
+/// that is wrong with them. Want of memory, or an index past the last, is alone.
 pub fn check_numbers(
     alloc: Global,
     before: Offsets,
@@ -89,12 +109,12 @@ pub fn check_numbers(
     files: &[FileDescriptorProto],
     references: &[Reference],
     types: &LinkedTypes<'_>,
-) -> Result<(), DescriptorError> {
-    let faults = check_rules(alloc, before, first, files, references, types).map_err(
-        |error| walk_error(alloc, error),
-    )?;
-    match DescriptorError::from_list(faults) {
-        Some(error) => Err(error),
-        None => Ok(()),
+) -> Result<(), DescriptorError>
+    ensures ok { OnOk result (BatchFaults (linked_says types.now) no_values before first files.now references.now []) }
+    ensures err { IfErr result (λ e. Refuses (λ xs. BatchFaults (linked_says types.now) no_values before first files.now references.now xs) e) }
+{
+    match check_rules(alloc, before, first, files, references, types) {
+        Ok(faults) => refused(faults),
+        Err(error) => Err(walk_error(alloc, error)),
     }
 }

@@ -1,5 +1,5 @@
 -- The rules of the numbers of fields and extensions, and of the oneofs of fields.
-use Rattle.std.specs.Prelude.{ℕ, ℤ, pos, negsuc, List, [], ◌∷◌, ◌++◌, Bool, true, false, not, ◌&&◌, cond, nat_le, is_some, Option, Some, None}
+use Rattle.std.specs.Prelude.{ℕ, ℤ, pos, negsuc, List, [], ◌∷◌, ◌++◌, Bool, false, not, ◌&&◌, cond, nat_le, Option, Some, None}
 use Rattle.reflect_names.specs.Faults.{Fault, invalid_number, reserved_number, number_of_extensions, no_extension_number, bad_oneof_index}
 use Rattle.reflect_names.specs.Names.{Places, is_index}
 use Rattle.reflect_rules.specs.Ranges.{Range}

@@ -1,5 +1,5 @@
 -- What the visitor of the rules does at a declaration.
-use Rattle.std.specs.Prelude.{◌≡◌, ℕ, List}
+use Rattle.std.specs.Prelude.{◌≡◌, List}
 use Rattle.std.specs.BTreeMap.{get}
 use Rattle.std.specs.Ordering.{nat_cmp}
 use Rattle.reflect_walk.specs.Declarations.{Declaration}

@@ -1,5 +1,5 @@
 -- What a walk over declarations has at hand.
-use Rattle.std.specs.Prelude.{ℕ, List, Bool, true, false, Option, Some, None, string_bytes, codes}
+use Rattle.std.specs.Prelude.{ℕ, List, Bool, false, Option, Some, None, string_bytes, codes}
 use Rattle.std.specs.Borrow.{Bor}
 use Rattle.std.specs.Str.{bytes_eq}
 use Rattle.reflect_names.specs.declared.resolve_visitor.Reference.{Reference}

@@ -1,5 +1,5 @@
-use Rattle.std.proofs.Common.{◌≡◌, ℕ, List, ◌++◌, map, ap, sym, ◌∙◌, subst, false}
-use Rattle.reflect_names.specs.Faults.{Fault, fault_view, list_of, place_at}
+use Rattle.std.proofs.Common.{◌≡◌, ℕ, ◌++◌, map, ap, sym, ◌∙◌, subst, false}
+use Rattle.reflect_names.specs.Faults.{fault_view, list_of, place_at}
 use Rattle.reflect_names.specs.Names.{Places}
 use Rattle.reflect_rules.specs.Walks.{Place}
 use Rattle.reflect_rules.specs.RulePass.{batch_declarations, batch_places, FaultsAlong}

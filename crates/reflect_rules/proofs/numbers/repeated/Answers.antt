@@ -1,9 +1,7 @@
-use Rattle.std.proofs.Common.{◌≡◌, ℕ, ℤ, ◌<◌, to_z, of_z, w32, List, length, get_or, take, [], ◌∷◌, ◌++◌, Some, None, true, false, ap, sym, ◌∙◌, rules, cond}
+use Rattle.std.proofs.Common.{◌≡◌, ℕ, ℤ, to_z, of_z, w32, List, get_or, [], ◌∷◌, ◌++◌, Some, None, true, false, ap, sym, ◌∙◌, rules, cond}
 use Rattle.std.specs.BTreeSet.{contains}
-use Rattle.std.specs.List.{list_any}
 use Rattle.std.specs.Ordering.{int_cmp, int_eq}
 use Rattle.std.proofs.lemmas.List.{append-nil}
-use Rattle.reflect_rules.specs.Repeats.{is_number}
 use Rattle.reflect_rules.proofs.Again.{seen_none, found_none, seen_more, found_more}
 use Rattle.reflect_rules.proofs.numbers.repeated.Goals as goal
 use Rattle.reflect_rules.proofs.numbers.repeated.Goals.{in-Some+in_ok-insert+then-not-branch+in_ok-push, in-Some+in_ok-insert+else-not-branch, in_default}

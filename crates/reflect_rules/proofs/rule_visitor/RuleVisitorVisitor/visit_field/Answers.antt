@@ -1,7 +1,6 @@
 use Rattle.std.proofs.Common.{◌≡◌, ℤ, Option, ◌++◌, subst, refl, to_z, of_z, w32, rules}
 use Rattle.reflect_names.specs.Faults.{Adds, place_at}
 use Rattle.reflect_scope.specs.declared.definition.DefinitionKind.{DefinitionKind}
-use Rattle.reflect_rules.specs.Meanings.{meaning}
 use Rattle.reflect_rules.specs.Numbers.{number_faults, reserved_faults, kept_faults, oneof_faults}
 use Rattle.reflect_rules.specs.Ranges.{IsRangeOf}
 use Rattle.reflect_rules.specs.Rules.{message_of, older_faults, default_faults, number_of, FieldFindings, FieldFaults}
