@@ -1,4 +1,4 @@
-use Rattle.std.proofs.Common.{◌≡◌, ◌+◌, ◌*◌, ◌≤◌, length}
+use Rattle.std.proofs.Common.{◌+◌, ◌*◌, ◌≤◌, length}
 use Rattle.reflect_dynamic.proofs.decode.+merge.Given as goal
 
 abbrev pub decreases-merge_body : goal.decreases-merge_body
