@@ -1,5 +1,5 @@
 -- What is left of bytes that were read from the front.
-use Rattle.std.proofs.Common.{◌≡◌, ℕ, ◌<◌, ◌≤◌, List, [], ◌∷◌, ◌++◌, length, arith, ap}
+use Rattle.std.proofs.Common.{ℕ, ◌≤◌, List, length, arith, ap}
 use Rattle.std.proofs.lemmas.List.{length-append}
 use Rattle.reflect_wire.specs.Reads.{Fronts}
 

@@ -1,1 +1,3 @@
 pub mod Declares
+pub mod Held
+pub mod Left

@@ -2,11 +2,13 @@
 
 ghost use Rattle.std.specs.Prelude.{◌≡◌, OnErr};
 ghost use Rattle.reflect_dynamic.specs.Declares.{Declares};
+ghost use Rattle.reflect_dynamic.specs.Held.{fields_of};
 
 use crate::content;
 use crate::defaults::default_of;
 use crate::field_ref::FieldRef;
 use crate::message::DynamicMessage;
+use crate::parts::Held;
 use crate::set_field_error::SetFieldError;
 use crate::validity::is_valid_for;
 use crate::value::Value;
@@ -20,14 +22,14 @@ impl<'p> DynamicMessage<'p> {
     pub fn has_field(&self, field: &FieldDescriptor<'p>) -> bool
         requires { Declares self.now.descriptor field.now }
     {
-        content::has(self.fields.as_slice(), field)
+        content::has(self.field_entries(), field)
     }
 
     /// What the field, one of the message's type, holds, or its default.
     pub fn get_field(&self, field: &FieldDescriptor<'p>) -> Result<FieldRef<'_, 'p>, AllocError>
         requires { Declares self.now.descriptor field.now }
     {
-        content::lend(self.allocator(), self.fields.as_slice(), field)
+        content::lend(self.allocator(), self.field_entries(), field)
     }
 
     /// What the field, one of the message's type, holds, to be changed. A field that is not set gets its default, and the
@@ -39,10 +41,7 @@ impl<'p> DynamicMessage<'p> {
         requires { Declares self.old.descriptor field.now }
     {
         let default = default_of(self.allocator(), field)?;
-        self.choices.make_room(field)?;
-        self.fields.reserve(1)?;
-        self.clear_siblings(field);
-        entries::slot(&mut self.fields, field.number(), default)
+        self.parts_mut()?.field_slot(field, default)
     }
 
     /// Sets the field, one of the message's type, to a value that suits it, over what it held; the other members of its
@@ -54,12 +53,12 @@ impl<'p> DynamicMessage<'p> {
     ) -> Result<(), AllocError>
         requires { Declares self.old.descriptor field.now }
         ensures type_stays { self.new.descriptor ≡ self.old.descriptor }
-        ensures err { OnErr result (self.new.fields.items ≡ self.old.fields.items) }
+        ensures err { OnErr result (fields_of self.new ≡ fields_of self.old) }
     {
-        self.choices.make_room(field)?;
-        entries::set(&mut self.fields, field.number(), value)?;
-        self.clear_siblings(field);
-        Ok(())
+        let mut parts = self.take_block()?;
+        let outcome = parts.set_field(field, value);
+        self.put_block(parts);
+        outcome
     }
 
     /// Sets the field, one of the message's type, as `set_field` does.
@@ -73,7 +72,7 @@ impl<'p> DynamicMessage<'p> {
     ) -> Result<(), SetFieldError<'p>>
         requires { Declares self.old.descriptor field.now }
         ensures type_stays { self.new.descriptor ≡ self.old.descriptor }
-        ensures err { OnErr result (self.new.fields.items ≡ self.old.fields.items) }
+        ensures err { OnErr result (fields_of self.new ≡ fields_of self.old) }
     {
         if !is_valid_for(&value, field) {
             return Err(SetFieldError::InvalidType {
@@ -90,7 +89,9 @@ impl<'p> DynamicMessage<'p> {
         requires { Declares self.old.descriptor field.now }
         ensures type_stays { self.new.descriptor ≡ self.old.descriptor }
     {
-        entries::take(&mut self.fields, field.number());
+        if let Held::Block(parts) = &mut self.held {
+            entries::take(&mut parts.fields, field.number());
+        }
     }
 
     /// Unsets the field, one of the message's type, and gives what it held, if it was set. Takes no memory.
@@ -98,6 +99,9 @@ impl<'p> DynamicMessage<'p> {
         requires { Declares self.old.descriptor field.now }
         ensures type_stays { self.new.descriptor ≡ self.old.descriptor }
     {
-        content::take(&mut self.fields, field)
+        match &mut self.held {
+            Held::Block(parts) => content::take(&mut parts.fields, field),
+            Held::Nothing => None,
+        }
     }
 }

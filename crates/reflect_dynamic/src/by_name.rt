@@ -1,7 +1,9 @@
 //! Fields by their names.
 
 ghost use Rattle.std.specs.Prelude.{◌≡◌, OnErr};
+ghost use Rattle.reflect_dynamic.specs.Held.{fields_of};
 
+use crate::declared::declared_field_by_name;
 use crate::field_ref::FieldRef;
 use crate::message::DynamicMessage;
 use crate::set_field_error::SetFieldError;
@@ -11,7 +13,7 @@ use std::alloc::AllocError;
 impl<'p> DynamicMessage<'p> {
     /// The field of the name is set. Takes no memory.
     pub fn has_field_by_name(&self, name: &str) -> bool {
-        match self.declared_field_by_name(name) {
+        match declared_field_by_name(self.descriptor, name) {
             Some(field) => self.has_field(&field),
             None => false,
         }
@@ -19,7 +21,7 @@ impl<'p> DynamicMessage<'p> {
 
     /// What the field of the name holds, or its default; `None` where there is no such field.
     pub fn get_field_by_name(&self, name: &str) -> Result<Option<FieldRef<'_, 'p>>, AllocError> {
-        match self.declared_field_by_name(name) {
+        match declared_field_by_name(self.descriptor, name) {
             Some(field) => Ok(Some(self.get_field(&field)?)),
             None => Ok(None),
         }
@@ -30,7 +32,7 @@ impl<'p> DynamicMessage<'p> {
         &mut self,
         name: &str,
     ) -> Result<Option<&mut Value<'p>>, AllocError> {
-        match self.declared_field_by_name(name) {
+        match declared_field_by_name(self.descriptor, name) {
             Some(field) => Ok(Some(self.get_field_mut(&field)?)),
             None => Ok(None),
         }
@@ -40,9 +42,9 @@ impl<'p> DynamicMessage<'p> {
     /// message.
     pub fn set_field_by_name(&mut self, name: &str, value: Value<'p>) -> Result<(), AllocError>
         ensures type_stays { self.new.descriptor ≡ self.old.descriptor }
-        ensures err { OnErr result (self.new.fields.items ≡ self.old.fields.items) }
+        ensures err { OnErr result (fields_of self.new ≡ fields_of self.old) }
     {
-        match self.declared_field_by_name(name) {
+        match declared_field_by_name(self.descriptor, name) {
             Some(field) => self.set_field(&field, value),
             None => Ok(()),
         }
@@ -55,9 +57,9 @@ impl<'p> DynamicMessage<'p> {
         value: Value<'p>,
     ) -> Result<(), SetFieldError<'p>>
         ensures type_stays { self.new.descriptor ≡ self.old.descriptor }
-        ensures err { OnErr result (self.new.fields.items ≡ self.old.fields.items) }
+        ensures err { OnErr result (fields_of self.new ≡ fields_of self.old) }
     {
-        match self.declared_field_by_name(name) {
+        match declared_field_by_name(self.descriptor, name) {
             Some(field) => self.try_set_field(&field, value),
             None => Err(SetFieldError::NotFound),
         }
@@ -67,7 +69,7 @@ impl<'p> DynamicMessage<'p> {
     pub fn clear_field_by_name(&mut self, name: &str)
         ensures type_stays { self.new.descriptor ≡ self.old.descriptor }
     {
-        if let Some(field) = self.declared_field_by_name(name) {
+        if let Some(field) = declared_field_by_name(self.descriptor, name) {
             self.clear_field(&field);
         }
     }
@@ -76,7 +78,7 @@ impl<'p> DynamicMessage<'p> {
     pub fn take_field_by_name(&mut self, name: &str) -> Option<Value<'p>>
         ensures type_stays { self.new.descriptor ≡ self.old.descriptor }
     {
-        let field = self.declared_field_by_name(name)?;
+        let field = declared_field_by_name(self.descriptor, name)?;
         self.take_field(&field)
     }
 }

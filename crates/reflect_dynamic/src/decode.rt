@@ -2,8 +2,10 @@
 
 ghost use Rattle.std.specs.Prelude.{◌≡◌, ◌<◌, ◌≤◌, length, IfOk};
 
+use crate::declared::{declared_extension, declared_field};
 use crate::defaults::default_of;
 use crate::message::DynamicMessage;
+use crate::parts::Parts;
 use crate::value::Value;
 use reflect_entries::{UnknownRecords, entries};
 use reflect_link::{FieldDescriptor, Kind, MessageDescriptor};
@@ -34,11 +36,11 @@ impl<'b> RawRecord<'b> {
 }
 
 /// Takes in the records of a message, up to the end of the bytes, or, of a group, up to its end tag, and gives what is
-/// behind them.
+/// behind them. Where there are no bytes, no memory is taken.
 ///
 /// A refusal leaves a part of the records taken in.
 #[cycle(merge)]
-pub fn merge_records<'p, 'b>(
+pub fn merge_body<'p, 'b>(
     message: &mut DynamicMessage<'p>,
     alloc: Global,
     bytes: &'b [u8],
@@ -46,6 +48,27 @@ pub fn merge_records<'p, 'b>(
     levels: u32,
 ) -> Result<&'b [u8], WireError>
     ensures same_type { message.new.descriptor ≡ message.old.descriptor }
+    ensures shorter { IfOk result (λ rest. length rest.now ≤ length bytes.now) }
+{
+    if bytes.is_empty() && group.is_none() {
+        return Ok(bytes);
+    }
+    let mut parts = message.take_block()?;
+    let outcome = merge_records(&mut parts, alloc, message.descriptor, bytes, group, levels);
+    message.put_block(parts);
+    outcome
+}
+
+/// Takes in the records of a message of the type, as `merge_body` does.
+#[cycle(merge)]
+fn merge_records<'p, 'b>(
+    parts: &mut Parts<'p>,
+    alloc: Global,
+    descriptor: MessageDescriptor<'p>,
+    bytes: &'b [u8],
+    group: Option<u32>,
+    levels: u32,
+) -> Result<&'b [u8], WireError>
     ensures shorter { IfOk result (λ rest. length rest.now ≤ length bytes.now) }
 {
     let mut rest = bytes;
@@ -62,7 +85,7 @@ pub fn merge_records<'p, 'b>(
             bytes: behind,
             levels,
         };
-        rest = merge_record(message, alloc, raw)?;
+        rest = merge_record(parts, alloc, descriptor, raw)?;
     }
     match group {
         None => Ok(rest),
@@ -73,25 +96,25 @@ pub fn merge_records<'p, 'b>(
 /// Takes in a record, and gives what is behind it.
 #[cycle(merge)]
 fn merge_record<'p, 'b>(
-    message: &mut DynamicMessage<'p>,
+    parts: &mut Parts<'p>,
     alloc: Global,
+    descriptor: MessageDescriptor<'p>,
     raw: RawRecord<'b>,
 ) -> Result<&'b [u8], WireError>
-    ensures same_type { message.new.descriptor ≡ message.old.descriptor }
     ensures shorter { IfOk result (λ rest. length rest.now ≤ length raw.entry.bytes.now) }
 {
     let number = raw.key.number;
-    if let Some(field) = message.declared_field(number) {
-        message.choices.make_room(&field)?;
-        let rest = merge_field(&mut message.fields, alloc, AnyField::Field(field), raw)?;
-        message.clear_siblings(&field);
+    if let Some(field) = declared_field(descriptor, number) {
+        parts.choices.make_room(&field)?;
+        let rest = merge_field(&mut parts.fields, alloc, AnyField::Field(field), raw)?;
+        parts.clear_siblings(&field);
         return Ok(rest);
     }
-    if let Some(extension) = message.declared_extension(number) {
+    if let Some(extension) = declared_extension(descriptor, number) {
         let extension = AnyField::Extension(extension);
-        return merge_field(&mut message.extensions, alloc, extension, raw);
+        return merge_field(&mut parts.extensions, alloc, extension, raw);
     }
-    keep_unknown(&mut message.unknown, alloc, raw)
+    keep_unknown(&mut parts.unknown, alloc, raw)
 }
 
 /// The record of a number that the type does not declare, and what is behind it.
@@ -166,12 +189,12 @@ fn merge_message<'p, 'b>(
     match raw.key.wire {
         WireType::LengthDelimited if !is_group => {
             let (body, rest) = delimited_at(raw.bytes)?;
-            merge_records(message, alloc, body, None, raw.levels_below()?)?;
+            merge_body(message, alloc, body, None, raw.levels_below()?)?;
             Ok(rest)
         }
         WireType::StartGroup if is_group => {
             let levels = raw.levels_below()?;
-            merge_records(message, alloc, raw.bytes, Some(raw.key.number), levels)
+            merge_body(message, alloc, raw.bytes, Some(raw.key.number), levels)
         }
         _ => Err(WireError::BadWireType),
     }

@@ -1,12 +1,14 @@
 //! From a message to wire bytes, which are put from the last to the first: so the length of what stands behind a key is
 //! known when the key is put.
 
+use crate::declared::{declared_extension, declared_field};
 use crate::defaults::{is_present, is_present_scalar};
 use crate::message::DynamicMessage;
+use crate::parts::{Held, Parts};
 use crate::validity::entry_fields;
 use crate::value::Value;
 use reflect_codec::Backward;
-use reflect_link::Kind;
+use reflect_link::{Kind, MessageDescriptor};
 use reflect_scalar::{
     AnyField, FieldDescriptorLike, MapKey, Scalar, put_scalar, wire_scalar, wire_type,
 };
@@ -17,15 +19,32 @@ use std::collections::BTreeMap;
 /// Puts the records of a message: declared fields, then extensions and other records, each by ascending number.
 #[cycle(put)]
 pub fn put_message(out: &mut Backward, message: &DynamicMessage<'_>) -> Result<(), AllocError> {
-    put_others(out, message)?;
-    put_fields(out, message)
+    match &message.held {
+        Held::Block(parts) => put_parts(out, message.descriptor, parts),
+        Held::Nothing => Ok(()),
+    }
+}
+
+/// Puts the records of what a message of the type holds.
+#[cycle(put)]
+fn put_parts<'p>(
+    out: &mut Backward,
+    descriptor: MessageDescriptor<'p>,
+    parts: &Parts<'p>,
+) -> Result<(), AllocError> {
+    put_others(out, descriptor, parts)?;
+    put_fields(out, descriptor, parts)
 }
 
 /// Puts the records of the declared fields.
 #[cycle(put)]
-fn put_fields(out: &mut Backward, message: &DynamicMessage<'_>) -> Result<(), AllocError> {
-    for entry in message.fields.iter().rev() {
-        if let Some(field) = message.declared_field(entry.0) {
+fn put_fields<'p>(
+    out: &mut Backward,
+    descriptor: MessageDescriptor<'p>,
+    parts: &Parts<'p>,
+) -> Result<(), AllocError> {
+    for entry in parts.fields.iter().rev() {
+        if let Some(field) = declared_field(descriptor, entry.0) {
             put_content(out, AnyField::Field(field), &entry.1)?;
         }
     }
@@ -34,11 +53,15 @@ fn put_fields(out: &mut Backward, message: &DynamicMessage<'_>) -> Result<(), Al
 
 /// Puts the records of the extensions and of the numbers that the type does not declare.
 #[cycle(put)]
-fn put_others(out: &mut Backward, message: &DynamicMessage<'_>) -> Result<(), AllocError> {
-    let mut unknown = message.unknown.descent();
-    for entry in message.extensions.iter().rev() {
+fn put_others<'p>(
+    out: &mut Backward,
+    descriptor: MessageDescriptor<'p>,
+    parts: &Parts<'p>,
+) -> Result<(), AllocError> {
+    let mut unknown = parts.unknown.descent();
+    for entry in parts.extensions.iter().rev() {
         unknown.put_above(out, entry.0)?;
-        if let Some(extension) = message.declared_extension(entry.0) {
+        if let Some(extension) = declared_extension(descriptor, entry.0) {
             put_content(out, AnyField::Extension(extension), &entry.1)?;
         }
     }

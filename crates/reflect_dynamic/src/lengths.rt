@@ -1,10 +1,12 @@
 //! How many bytes a message and its parts are written in, `None` past `usize::MAX`. Measuring takes no memory.
 
+use crate::declared::{declared_extension, declared_field};
 use crate::defaults::{is_present, is_present_scalar};
 use crate::message::DynamicMessage;
+use crate::parts::{Held, Parts};
 use crate::validity::entry_fields;
 use crate::value::Value;
-use reflect_link::{FieldDescriptor, Kind};
+use reflect_link::{FieldDescriptor, Kind, MessageDescriptor};
 use reflect_scalar::{AnyField, FieldDescriptorLike, MapKey, Scalar, scalar_len, wire_scalar};
 use reflect_wire::{WireKey, WireType, delimited_len, key_len};
 use std::collections::BTreeMap;
@@ -20,16 +22,26 @@ fn key_len_of(number: u32) -> usize {
 /// The length of a message.
 #[cycle(length)]
 pub fn message_len(message: &DynamicMessage<'_>) -> Option<usize> {
-    let declared = fields_len(message)?.checked_add(extensions_len(message)?)?;
-    declared.checked_add(message.unknown.encoded_len()?)
+    match &message.held {
+        Held::Block(parts) => parts_len(message.descriptor, parts),
+        Held::Nothing => Some(0),
+    }
+}
+
+/// The length of the records of what a message of the type holds.
+#[cycle(length)]
+fn parts_len<'p>(descriptor: MessageDescriptor<'p>, parts: &Parts<'p>) -> Option<usize> {
+    let fields = fields_len(descriptor, parts)?;
+    let declared = fields.checked_add(extensions_len(descriptor, parts)?)?;
+    declared.checked_add(parts.unknown.encoded_len()?)
 }
 
 /// The length of the records of the declared fields.
 #[cycle(length)]
-fn fields_len(message: &DynamicMessage<'_>) -> Option<usize> {
+fn fields_len<'p>(descriptor: MessageDescriptor<'p>, parts: &Parts<'p>) -> Option<usize> {
     let mut len = 0usize;
-    for entry in &message.fields {
-        if let Some(field) = message.declared_field(entry.0) {
+    for entry in &parts.fields {
+        if let Some(field) = declared_field(descriptor, entry.0) {
             len = len.checked_add(content_len(AnyField::Field(field), &entry.1)?)?;
         }
     }
@@ -38,10 +50,10 @@ fn fields_len(message: &DynamicMessage<'_>) -> Option<usize> {
 
 /// The length of the records of the extensions.
 #[cycle(length)]
-fn extensions_len(message: &DynamicMessage<'_>) -> Option<usize> {
+fn extensions_len<'p>(descriptor: MessageDescriptor<'p>, parts: &Parts<'p>) -> Option<usize> {
     let mut len = 0usize;
-    for entry in &message.extensions {
-        if let Some(extension) = message.declared_extension(entry.0) {
+    for entry in &parts.extensions {
+        if let Some(extension) = declared_extension(descriptor, entry.0) {
             len = len.checked_add(content_len(AnyField::Extension(extension), &entry.1)?)?;
         }
     }

@@ -1,29 +1,25 @@
-ghost use Rattle.std.specs.Prelude.{◌≡◌, IfOk, IfSome, OnErr};
+ghost use Rattle.std.specs.Prelude.{◌≡◌, IfOk, OnErr};
+ghost use Rattle.reflect_dynamic.specs.Held.{fields_of, extensions_of};
 
-use crate::decode::{MAX_LEVELS, merge_records};
+use crate::decode::{MAX_LEVELS, merge_body};
 use crate::encode::put_message;
 use crate::lengths::message_len;
+use crate::parts::{Held, Parts};
 use crate::value::Value;
 use reflect_codec::Backward;
-use reflect_entries::{Choices, UnknownRecords, entries};
 use reflect_link::{ExtensionDescriptor, FieldDescriptor, MessageDescriptor};
 use reflect_scalar::holds_floats;
 use reflect_wire::WireError;
 use std::alloc::{AllocError, Global};
+use std::mem;
 
 /// A message of a type that is known at run time.
 #[derive(Drop)]
 #[cycle(value)]
 pub struct DynamicMessage<'p> {
     pub(crate) descriptor: MessageDescriptor<'p>,
-    /// What the declared fields hold, by ascending number.
-    pub(crate) fields: Vec<(u32, Value<'p>)>,
-    /// Which members of oneofs may be among these.
-    pub(crate) choices: Choices,
-    /// What the extensions hold, by ascending number.
-    pub(crate) extensions: Vec<(u32, Value<'p>)>,
-    /// The records of numbers that the type does not declare.
-    pub(crate) unknown: UnknownRecords,
+    alloc: Global,
+    pub(crate) held: Held<'p>,
 }
 
 impl<'p> DynamicMessage<'p> {
@@ -33,10 +29,8 @@ impl<'p> DynamicMessage<'p> {
     {
         DynamicMessage {
             descriptor,
-            fields: Vec::new(alloc),
-            choices: Choices::new(alloc),
-            extensions: Vec::new(alloc),
-            unknown: UnknownRecords::new(alloc),
+            alloc,
+            held: Held::Nothing,
         }
     }
 
@@ -59,7 +53,7 @@ impl<'p> DynamicMessage<'p> {
         ensures { IfOk result (λ m. m.descriptor ≡ descriptor.entry) }
     {
         let mut message = DynamicMessage::new(alloc, descriptor);
-        merge_records(&mut message, alloc, bytes, None, MAX_LEVELS)?;
+        merge_body(&mut message, alloc, bytes, None, MAX_LEVELS)?;
         Ok(message)
     }
 
@@ -72,7 +66,7 @@ impl<'p> DynamicMessage<'p> {
         ensures err { OnErr result (self.new ≡ self.old) }
     {
         let mut merged = self.clone()?;
-        merge_records(&mut merged, self.allocator(), bytes, None, MAX_LEVELS)?;
+        merge_body(&mut merged, self.allocator(), bytes, None, MAX_LEVELS)?;
         *self = merged;
         Ok(())
     }
@@ -107,10 +101,7 @@ impl<'p> DynamicMessage<'p> {
     pub fn clear(&mut self)
         ensures type_stays { self.new.descriptor ≡ self.old.descriptor }
     {
-        self.fields.clear();
-        self.choices.clear();
-        self.extensions.clear();
-        self.unknown.clear();
+        self.held = Held::Nothing;
     }
 
     /// A copy.
@@ -120,16 +111,14 @@ impl<'p> DynamicMessage<'p> {
     {
         Ok(DynamicMessage {
             descriptor: self.descriptor,
-            fields: content_clone(&self.fields)?,
-            choices: self.choices.clone()?,
-            extensions: content_clone(&self.extensions)?,
-            unknown: self.unknown.clone()?,
+            alloc: self.alloc,
+            held: self.held.clone(self.alloc)?,
         })
     }
 
     /// No field or extension is set, and there are no other records. Takes no memory.
     pub fn is_empty(&self) -> bool {
-        self.unknown.is_empty()
+        self.unknown_fields().next().is_none()
             && self.fields().next().is_none()
             && self.extensions().next().is_none()
     }
@@ -144,60 +133,62 @@ impl<'p> DynamicMessage<'p> {
         extension.containing_message().is_same(&self.descriptor) && !holds_floats(extension)
     }
 
-    /// Unsets the other members of the oneof of a field, for whose choice there is room.
-    pub(crate) fn clear_siblings(&mut self, field: &FieldDescriptor<'p>)
-        ensures type_stays { self.new.descriptor ≡ self.old.descriptor }
-    {
-        if let Some(sibling) = self.choices.choose(field) {
-            entries::take(&mut self.fields, sibling);
-        }
-    }
-
     /// What the message's memory comes from.
     pub(crate) fn allocator(&self) -> Global {
-        *self.fields.allocator()
+        self.alloc
     }
 
-    /// The field of a number that messages of the type hold.
-    pub(crate) fn declared_field(&self, number: u32) -> Option<FieldDescriptor<'p>>
-        ensures { IfSome result (λ f. f.message ≡ self.now.descriptor) }
+    /// What the declared fields hold, by ascending number.
+    pub(crate) fn field_entries(&self) -> &[(u32, Value<'p>)]
+        ensures { result.now ≡ fields_of self.now }
     {
-        let descriptor = self.descriptor;
-        let field = descriptor.get_field(number)?;
-        if holds_floats(&field) {
-            return None;
+        match &self.held {
+            Held::Block(parts) => parts.fields.as_slice(),
+            Held::Nothing => &[],
         }
-        Some(field)
     }
 
-    /// The field of a name that messages of the type hold.
-    pub(crate) fn declared_field_by_name(&self, name: &str) -> Option<FieldDescriptor<'p>>
-        ensures { IfSome result (λ f. f.message ≡ self.now.descriptor) }
+    /// What the extensions hold, by ascending number.
+    pub(crate) fn extension_entries(&self) -> &[(u32, Value<'p>)]
+        ensures { result.now ≡ extensions_of self.now }
     {
-        let descriptor = self.descriptor;
-        let field = descriptor.get_field_by_name(name)?;
-        if holds_floats(&field) {
-            return None;
+        match &self.held {
+            Held::Block(parts) => parts.extensions.as_slice(),
+            Held::Nothing => &[],
         }
-        Some(field)
     }
 
-    /// The extension of a number that messages of the type hold.
-    pub(crate) fn declared_extension(&self, number: u32) -> Option<ExtensionDescriptor<'p>> {
-        let descriptor = self.descriptor;
-        let extension = descriptor.get_extension(number)?;
-        if holds_floats(&extension) {
-            return None;
+    /// The block of what the message holds, taken out, or a new one. A refusal leaves the message.
+    pub(crate) fn take_block(&mut self) -> Result<Box<Parts<'p>>, AllocError>
+        ensures type_stays { self.new.descriptor ≡ self.old.descriptor }
+        ensures fields { IfOk result (λ block. block.value.fields.items ≡ fields_of self.old) }
+        ensures extensions { IfOk result (λ block. block.value.extensions.items ≡ extensions_of self.old) }
+        ensures err { OnErr result (self.new ≡ self.old) }
+    {
+        match mem::replace(&mut self.held, Held::Nothing) {
+            Held::Block(block) => Ok(block),
+            Held::Nothing => Ok(Box::new(self.alloc, Parts::new(self.alloc))?),
         }
-        Some(extension)
     }
-}
 
-#[cycle(clone)]
-fn content_clone<'p>(content: &Vec<(u32, Value<'p>)>) -> Result<Vec<(u32, Value<'p>)>, AllocError> {
-    let mut copy = Vec::with_capacity(*content.allocator(), content.len())?;
-    for entry in content {
-        copy.push((entry.0, entry.1.clone()?))?;
+    /// Lets the message hold what the block does, and nothing else.
+    pub(crate) fn put_block(&mut self, parts: Box<Parts<'p>>)
+        ensures type_stays { self.new.descriptor ≡ self.old.descriptor }
+        ensures fields { fields_of self.new ≡ parts.entry.value.fields.items }
+        ensures extensions { extensions_of self.new ≡ parts.entry.value.extensions.items }
+    {
+        self.held = Held::Block(parts);
     }
-    Ok(copy)
+
+    /// What the message holds, to be changed. A refusal leaves the message.
+    ///
+    /// No contract says what the message is behind such a change: where one is to, the block is taken out and put back.
+    pub(crate) fn parts_mut(&mut self) -> Result<&mut Parts<'p>, AllocError> {
+        let block = self.take_block()?;
+        self.held = Held::Block(block);
+        match &mut self.held {
+            Held::Block(parts) => Ok(parts),
+            Held::Nothing => unreachable!(),
+        }
+    }
 }

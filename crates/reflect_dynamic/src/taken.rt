@@ -2,6 +2,7 @@
 
 use crate::defaults::is_present;
 use crate::message::DynamicMessage;
+use crate::parts::Held;
 use crate::value::Value;
 use reflect_link::{ExtensionDescriptor, FieldDescriptor, MessageDescriptor};
 use reflect_wire::UnknownField;
@@ -11,19 +12,25 @@ use std::{mem, vec};
 impl<'p> DynamicMessage<'p> {
     /// Unsets all fields, and gives those that were set with what they held, by ascending number. Takes no memory.
     pub fn take_fields(&mut self) -> TakenFields<'p> {
-        let alloc = self.allocator();
+        let mut taken = Vec::new(self.allocator());
+        if let Held::Block(parts) = &mut self.held {
+            mem::swap(&mut taken, &mut parts.fields);
+        }
         TakenFields {
             descriptor: self.descriptor,
-            entries: mem::replace(&mut self.fields, Vec::new(alloc)).into_iter(),
+            entries: taken.into_iter(),
         }
     }
 
     /// Unsets all extensions, and gives those that were set with what they held, by ascending number. Takes no memory.
     pub fn take_extensions(&mut self) -> TakenExtensions<'p> {
-        let alloc = self.allocator();
+        let mut taken = Vec::new(self.allocator());
+        if let Held::Block(parts) = &mut self.held {
+            mem::swap(&mut taken, &mut parts.extensions);
+        }
         TakenExtensions {
             descriptor: self.descriptor,
-            entries: mem::replace(&mut self.extensions, Vec::new(alloc)).into_iter(),
+            entries: taken.into_iter(),
         }
     }
 
@@ -34,7 +41,9 @@ impl<'p> DynamicMessage<'p> {
         for field in self.unknown_fields() {
             fields.push(field.clone()?)?;
         }
-        self.unknown.clear();
+        if let Held::Block(parts) = &mut self.held {
+            parts.unknown.clear();
+        }
         Ok(fields)
     }
 }

@@ -1,6 +1,8 @@
 //! Which values suit which fields.
 
+use crate::declared::{declared_extension, declared_field};
 use crate::message::DynamicMessage;
+use crate::parts::{Held, Parts};
 use crate::value::Value;
 use reflect_link::{ExtensionDescriptor, FieldDescriptor, Kind, MessageDescriptor};
 use reflect_scalar::{AnyField, FieldDescriptorLike, MapKey, holds_floats};
@@ -147,9 +149,13 @@ fn content_suits<'p>(value: &Value<'p>, field: AnyField<'p>, strictness: Strictn
 
 /// What the declared fields hold suits them.
 #[cycle(suits)]
-fn fields_suit(message: &DynamicMessage<'_>, strictness: Strictness) -> bool {
-    for entry in &message.fields {
-        let Some(field) = message.declared_field(entry.0) else {
+fn fields_suit<'p>(
+    parts: &Parts<'p>,
+    descriptor: MessageDescriptor<'p>,
+    strictness: Strictness,
+) -> bool {
+    for entry in &parts.fields {
+        let Some(field) = declared_field(descriptor, entry.0) else {
             return false;
         };
         if !content_suits(&entry.1, AnyField::Field(field), strictness) {
@@ -161,9 +167,13 @@ fn fields_suit(message: &DynamicMessage<'_>, strictness: Strictness) -> bool {
 
 /// What the extensions hold suits them.
 #[cycle(suits)]
-fn extensions_suit(message: &DynamicMessage<'_>, strictness: Strictness) -> bool {
-    for entry in &message.extensions {
-        let Some(extension) = message.declared_extension(entry.0) else {
+fn extensions_suit<'p>(
+    parts: &Parts<'p>,
+    descriptor: MessageDescriptor<'p>,
+    strictness: Strictness,
+) -> bool {
+    for entry in &parts.extensions {
+        let Some(extension) = declared_extension(descriptor, entry.0) else {
             return false;
         };
         if !content_suits(&entry.1, AnyField::Extension(extension), strictness) {
@@ -173,9 +183,17 @@ fn extensions_suit(message: &DynamicMessage<'_>, strictness: Strictness) -> bool
     true
 }
 
+/// What the message holds suits its type.
 #[cycle(suits)]
 fn message_suits(message: &DynamicMessage<'_>, strictness: Strictness) -> bool {
-    fields_suit(message, strictness) && extensions_suit(message, strictness)
+    let descriptor = message.descriptor;
+    match &message.held {
+        Held::Block(parts) => {
+            fields_suit(parts, descriptor, strictness)
+                && extensions_suit(parts, descriptor, strictness)
+        }
+        Held::Nothing => true,
+    }
 }
 
 impl<'p> DynamicMessage<'p> {

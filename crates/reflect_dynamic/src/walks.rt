@@ -2,9 +2,10 @@
 
 use crate::defaults::is_present;
 use crate::message::DynamicMessage;
+use crate::parts::Held;
 use crate::value::Value;
-use reflect_entries::UnknownFields;
 use reflect_link::{ExtensionDescriptor, FieldDescriptor, MessageDescriptor};
+use reflect_wire::UnknownField;
 use std::slice;
 
 impl<'p> DynamicMessage<'p> {
@@ -12,7 +13,7 @@ impl<'p> DynamicMessage<'p> {
     pub fn fields(&self) -> FieldValues<'_, 'p> {
         FieldValues {
             descriptor: self.descriptor,
-            entries: self.fields.iter(),
+            entries: self.field_entries().iter(),
         }
     }
 
@@ -20,14 +21,18 @@ impl<'p> DynamicMessage<'p> {
     pub fn extensions(&self) -> ExtensionValues<'_, 'p> {
         ExtensionValues {
             descriptor: self.descriptor,
-            entries: self.extensions.iter(),
+            entries: self.extension_entries().iter(),
         }
     }
 
     /// The records of numbers that the type does not declare, by ascending number, those of a number as they came. Takes no
     /// memory.
     pub fn unknown_fields(&self) -> UnknownFields<'_> {
-        self.unknown.iter()
+        let records = match &self.held {
+            Held::Block(parts) => Some(parts.unknown.iter()),
+            Held::Nothing => None,
+        };
+        UnknownFields { records }
     }
 }
 
@@ -86,5 +91,28 @@ impl<'m, 'p> Iterator for ExtensionValues<'m, 'p> {
             }
         }
         None
+    }
+}
+
+/// The records that a message's type does not declare, by ascending number.
+#[derive(Drop)]
+pub struct UnknownFields<'m> {
+    /// `None` where the message holds nothing.
+    records: Option<reflect_entries::UnknownFields<'m>>,
+}
+
+impl<'m> Iterator for UnknownFields<'m> {
+    ghost use Rattle.std.specs.Iterator.{at_most};
+    ghost use Rattle.reflect_dynamic.specs.Left.{records_left};
+
+    type Item = &'m UnknownField;
+
+    ghost remaining = { λ s. at_most (records_left s) };
+
+    fn next(&mut self) -> Option<&'m UnknownField> {
+        match &mut self.records {
+            Some(records) => records.next(),
+            None => None,
+        }
     }
 }

@@ -1,5 +1,8 @@
-use Rattle.std.proofs.Common.{◌≡◌, ◌+◌, ◌*◌, ◌≤◌, length}
+use Rattle.std.proofs.Common.{◌+◌, ◌*◌, ◌≤◌, length}
 use Rattle.reflect_dynamic.proofs.decode.+merge.Given as goal
+
+abbrev pub decreases-merge_body : goal.decreases-merge_body
+decreases-merge_body l = 8 * length l.bytes.now + 2
 
 abbrev pub decreases-merge_records : goal.decreases-merge_records
 decreases-merge_records l = 8 * length l.bytes.now + 1
@@ -26,7 +29,7 @@ abbrev pub decreases-merge_records-records : goal.decreases-merge_records-record
 decreases-merge_records-records l = length l.rest
 
 abbrev pub invariant-merge_records-records : goal.invariant-merge_records-records
-invariant-merge_records-records l = (l.message.descriptor ≡ l.initial.message.descriptor) × (length l.rest ≤ length l.initial.rest)
+invariant-merge_records-records l = length l.rest ≤ length l.initial.rest
 
 abbrev pub decreases-merge_part : goal.decreases-merge_part
 decreases-merge_part l = 8 * length l.raw.bytes.now + 6

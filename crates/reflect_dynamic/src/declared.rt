@@ -1,0 +1,46 @@
+//! The fields and extensions of a type that its messages hold: all but those of floating-point numbers and of maps of such.
+
+ghost use Rattle.std.specs.Prelude.{◌≡◌, IfSome};
+
+use reflect_link::{ExtensionDescriptor, FieldDescriptor, MessageDescriptor};
+use reflect_scalar::holds_floats;
+
+/// The field of a number that messages of the type hold.
+pub fn declared_field<'p>(
+    descriptor: MessageDescriptor<'p>,
+    number: u32,
+) -> Option<FieldDescriptor<'p>>
+    ensures { IfSome result (λ f. f.message ≡ descriptor.entry) }
+{
+    let field = descriptor.get_field(number)?;
+    if holds_floats(&field) {
+        return None;
+    }
+    Some(field)
+}
+
+/// The field of a name that messages of the type hold.
+pub fn declared_field_by_name<'p>(
+    descriptor: MessageDescriptor<'p>,
+    name: &str,
+) -> Option<FieldDescriptor<'p>>
+    ensures { IfSome result (λ f. f.message ≡ descriptor.entry) }
+{
+    let field = descriptor.get_field_by_name(name)?;
+    if holds_floats(&field) {
+        return None;
+    }
+    Some(field)
+}
+
+/// The extension of a number that messages of the type hold.
+pub fn declared_extension<'p>(
+    descriptor: MessageDescriptor<'p>,
+    number: u32,
+) -> Option<ExtensionDescriptor<'p>> {
+    let extension = descriptor.get_extension(number)?;
+    if holds_floats(&extension) {
+        return None;
+    }
+    Some(extension)
+}
