@@ -102,12 +102,15 @@ pub struct UnknownFields<'m> {
 }
 
 impl<'m> Iterator for UnknownFields<'m> {
-    ghost use Rattle.std.specs.Iterator.{at_most};
+    ghost use Rattle.std.specs.Iterator.{YieldsFirstBy, item_count};
+    ghost use Rattle.reflect_wire.specs.Views.{field_view};
     ghost use Rattle.reflect_dynamic.specs.Left.{records_left};
 
     type Item = &'m UnknownField;
 
-    ghost remaining = { λ s. at_most (records_left s) };
+    ghost next_gives = { YieldsFirstBy (λ r. field_view r.now) records_left };
+
+    ghost remaining = { item_count records_left };
 
     fn next(&mut self) -> Option<&'m UnknownField> {
         match &mut self.records {
