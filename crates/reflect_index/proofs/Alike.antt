@@ -13,11 +13,15 @@ module _ {X Y Z : Type 0} (g : X → Y) (h : X → Z) (Q : Y → Type 0) (P : Z 
       let zs = x ∷ xs in
       let gs : length (map g zs) ≡ length zs = length-map zs g in
       let hs : length (map h zs) ≡ length zs = length-map zs h in
-      let lt : i < length zs = omega (arith, q.0, gs) in
-      (omega (arith, lt, hs), (λ d. subst P (sym (lists.get_or-map h zs i x d lt)) (to (get_or zs i x) (subst Q (lists.get_or-map g zs i x (g x) lt) (q.1.0 (g x)))),
-        λ k d low less p.
-          let below : k < length zs = omega (arith, lt, less) in
-          q.1.1 k (g x) low less (subst Q (sym (lists.get_or-map g zs k x (g x) below)) (back (get_or zs k x) (subst P (lists.get_or-map h zs k x d below) p)))))
+      let lt : i < length zs = omega (arith, q.0, gs) in (
+        omega (arith, lt, hs),
+        (
+          λ d. subst P (sym (lists.get_or-map h zs i x d lt)) (to (get_or zs i x) (subst Q (lists.get_or-map g zs i x (g x) lt) (q.1.0 (g x)))),
+          λ k d low less p.
+              let below : k < length zs = omega (arith, lt, less) in
+              q.1.1 k (g x) low less (subst Q (sym (lists.get_or-map g zs k x (g x) below)) (back (get_or zs k x) (subst P (lists.get_or-map h zs k x d below) p))),
+        ),
+      )
   first_as (x ∷ xs) None q = λ k d lt p.
       let zs = x ∷ xs in
       let gs : length (map g zs) ≡ length zs = length-map zs g in

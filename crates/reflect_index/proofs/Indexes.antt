@@ -29,7 +29,7 @@ module _ (keys : List KeyType) (places : List ℕ) (up : IsAscending keys places
   far i zero d lt below = absurd (omega (arith, lt))
   far i (suc j) d lt below =
       let step : key_order (key_at keys (get_or places j d)) (key_at keys (get_or places (suc j) d)) ≡ Less =
-          subst (λ k. key_order (key_at keys (get_or places j d)) (key_at keys (get_or places k d)) ≡ Less) (omega arith) (up j d (omega arith)) in
+      subst (λ k. key_order (key_at keys (get_or places j d)) (key_at keys (get_or places k d)) ≡ Less) (omega arith) (up j d (omega arith)) in
       ⊎_elim
       (λ t. subst (λ k. key_order (key_at keys (get_or places k d)) (key_at keys (get_or places (suc j) d)) ≡ Less) (sym t.1) step)
       (λ t. key_order_total.trans (key_at keys (get_or places i d)) (key_at keys (get_or places j d)) (key_at keys (get_or places (suc j) d)) (far i j d (omega (arith, lt, t.1)) (omega arith)) step)
@@ -72,13 +72,18 @@ module _ (keys : List KeyType) (places : List ℕ) (key : KeyType) (is : IsIndex
   pub first_of : (i p : ℕ) → i < length places → p ≡ get_or places i p → HoldsAt (λ q. key_at keys q ≡ key) places i → IsFirst (λ k. k ≡ key) keys (Some p)
   first_of i p lt at same =
       let within : p < length keys = subst (λ q. q < length keys) (sym at) (is.0 i p lt) in
-      let here : key_at keys p ≡ key = ap (key_at keys) at ∙ same p in
-      (within, (λ d. get_or_default keys p d no_key within ∙ here, λ k d low less eq.
-          let inside : k < length keys = omega (arith, within, less) in
-          is.1.1 k inside (λ j e below as_k le.
+      let here : key_at keys p ≡ key = ap (key_at keys) at ∙ same p in (
+        within,
+        (
+          λ d. get_or_default keys p d no_key within ∙ here,
+          λ k d low less eq.
+              let inside : k < length keys = omega (arith, within, less) in
+              is.1.1 k inside (λ j e below as_k le.
               let as_one : get_or places j e ≡ get_or places i e = one keys places is.1.0 j i e below lt (as_k ∙ (there k d inside eq ∙ sym (same e))) in
               let as_p : get_or places i e ≡ p = get_or_default places i e p lt ∙ sym at in
-              absurd (omega (arith, less, le, as_one, as_p)))))
+              absurd (omega (arith, less, le, as_one, as_p))),
+        ),
+      )
 
   pub none_of : All (λ q. key_at keys q ≢ key) places → IsFirst (λ k. k ≡ key) keys None
   none_of none = λ k d lt same. is.1.1 k lt (λ i e below as_k le. none i e below (as_k ∙ there k d lt same))

@@ -21,12 +21,7 @@ fn key_of<T: Keyed>(items: &[T], by: By, place: u32) -> Key<'_>
 }
 
 /// Where the place of an item with this key stands among the places.
-fn search<T: Keyed>(
-    items: &[T],
-    by: By,
-    places: &[u32],
-    key: Key<'_>,
-) -> Result<usize, usize>
+fn search<T: Keyed>(items: &[T], by: By, places: &[u32], key: Key<'_>) -> Result<usize, usize>
     ensures in_range { IsSearchInRange result (length places.now) }
     ensures found { IfOk result (HoldsAt (λ p. key_at (map (T.key_of by) items.now) p ≡ key_view key.entry) places.now) }
     ensures missing { IsAscending (map (T.key_of by) items.now) places.now → IfErr result (λ at. All (λ p. key_at (map (T.key_of by) items.now) p ≢ key_view key.entry) places.now) }

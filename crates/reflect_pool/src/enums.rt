@@ -84,7 +84,9 @@ impl<'p> EnumDescriptor<'p> {
         ensures first { FindsValue (λ v. v.number ≡ number) self.now result }
     {
         let pool = self.pool;
-        let place = pool.tables.enums[self.index as usize].values.of_number(number)?;
+        let place = pool.tables.enums[self.index as usize]
+            .values
+            .of_number(number)?;
         Some(EnumValueDescriptor {
             enumeration: *self,
             index: place,
@@ -174,7 +176,9 @@ impl<'p> EnumValueDescriptor<'p> {
         ensures { result.now ≡ (type_of_value self.now.enumeration.pool.now self.now.enumeration.index self.now.index).name }
     {
         let pool = self.enumeration.pool;
-        pool.tables.enums[self.enumeration.index as usize].values.list[self.index as usize]
+        pool.tables.enums[self.enumeration.index as usize]
+            .values
+            .list[self.index as usize]
             .name
             .as_str()
     }
@@ -184,7 +188,9 @@ impl<'p> EnumValueDescriptor<'p> {
         ensures { result.now ≡ (type_of_value self.now.enumeration.pool.now self.now.enumeration.index self.now.index).full_name }
     {
         let pool = self.enumeration.pool;
-        pool.tables.enums[self.enumeration.index as usize].values.list[self.index as usize]
+        pool.tables.enums[self.enumeration.index as usize]
+            .values
+            .list[self.index as usize]
             .full_name
             .as_str()
     }
@@ -192,7 +198,9 @@ impl<'p> EnumValueDescriptor<'p> {
     /// Where the declaration stands in its file's record.
     pub fn path(&self) -> &'p [i32] {
         let pool = self.enumeration.pool;
-        pool.tables.enums[self.enumeration.index as usize].values.list[self.index as usize]
+        pool.tables.enums[self.enumeration.index as usize]
+            .values
+            .list[self.index as usize]
             .path
             .as_slice()
     }
@@ -201,6 +209,9 @@ impl<'p> EnumValueDescriptor<'p> {
         ensures { result ≡ (type_of_value self.now.enumeration.pool.now self.now.enumeration.index self.now.index).number }
     {
         let pool = self.enumeration.pool;
-        pool.tables.enums[self.enumeration.index as usize].values.list[self.index as usize].number
+        pool.tables.enums[self.enumeration.index as usize]
+            .values
+            .list[self.index as usize]
+            .number
     }
 }

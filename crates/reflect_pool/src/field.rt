@@ -37,7 +37,9 @@ impl<'p> FieldDescriptor<'p> {
         ensures { result.now ≡ (type_of_field self.now.message.pool.now self.now.message.index self.now.index).name }
     {
         let pool = self.message.pool;
-        pool.tables.messages[self.message.index as usize].fields.list[self.index as usize]
+        pool.tables.messages[self.message.index as usize]
+            .fields
+            .list[self.index as usize]
             .name
             .as_str()
     }
@@ -47,7 +49,9 @@ impl<'p> FieldDescriptor<'p> {
         ensures { result.now ≡ (type_of_field self.now.message.pool.now self.now.message.index self.now.index).full_name }
     {
         let pool = self.message.pool;
-        pool.tables.messages[self.message.index as usize].fields.list[self.index as usize]
+        pool.tables.messages[self.message.index as usize]
+            .fields
+            .list[self.index as usize]
             .full_name
             .as_str()
     }
@@ -55,9 +59,10 @@ impl<'p> FieldDescriptor<'p> {
     /// The JSON name that was written, if one was.
     pub fn json_name(&self) -> Option<&'p str> {
         let pool = self.message.pool;
-        match &pool.tables.messages[self
-            .message
-            .index as usize].fields.list[self.index as usize].json_name
+        match &pool.tables.messages[self.message.index as usize]
+            .fields
+            .list[self.index as usize]
+            .json_name
         {
             Some(name) => Some(name.as_str()),
             None => None,
@@ -67,7 +72,9 @@ impl<'p> FieldDescriptor<'p> {
     /// Where the declaration stands in its file's record.
     pub fn path(&self) -> &'p [i32] {
         let pool = self.message.pool;
-        pool.tables.messages[self.message.index as usize].fields.list[self.index as usize]
+        pool.tables.messages[self.message.index as usize]
+            .fields
+            .list[self.index as usize]
             .path
             .as_slice()
     }
@@ -76,14 +83,20 @@ impl<'p> FieldDescriptor<'p> {
         ensures { result ≡ (type_of_field self.now.message.pool.now self.now.message.index self.now.index).number }
     {
         let pool = self.message.pool;
-        pool.tables.messages[self.message.index as usize].fields.list[self.index as usize].number
+        pool.tables.messages[self.message.index as usize]
+            .fields
+            .list[self.index as usize]
+            .number
     }
 
     pub fn cardinality(&self) -> Cardinality
         ensures { result ≡ (type_of_field self.now.message.pool.now self.now.message.index self.now.index).cardinality }
     {
         let pool = self.message.pool;
-        pool.tables.messages[self.message.index as usize].fields.list[self.index as usize].cardinality
+        pool.tables.messages[self.message.index as usize]
+            .fields
+            .list[self.index as usize]
+            .cardinality
     }
 
     /// The field has to be set (proto2).
@@ -96,7 +109,10 @@ impl<'p> FieldDescriptor<'p> {
         ensures { result ≡ (type_of_field self.now.message.pool.now self.now.message.index self.now.index).group }
     {
         let pool = self.message.pool;
-        pool.tables.messages[self.message.index as usize].fields.list[self.index as usize].is_group
+        pool.tables.messages[self.message.index as usize]
+            .fields
+            .list[self.index as usize]
+            .is_group
     }
 
     /// The field holds any number of values, and is no map.
@@ -109,7 +125,9 @@ impl<'p> FieldDescriptor<'p> {
         let pool = self.message.pool;
         is_map(
             pool,
-            &pool.tables.messages[self.message.index as usize].fields.list[self.index as usize],
+            &pool.tables.messages[self.message.index as usize]
+                .fields
+                .list[self.index as usize],
         )
     }
 
@@ -118,7 +136,10 @@ impl<'p> FieldDescriptor<'p> {
         ensures { result ≡ (type_of_field self.now.message.pool.now self.now.message.index self.now.index).packed }
     {
         let pool = self.message.pool;
-        pool.tables.messages[self.message.index as usize].fields.list[self.index as usize].is_packed
+        pool.tables.messages[self.message.index as usize]
+            .fields
+            .list[self.index as usize]
+            .is_packed
     }
 
     /// A field that is not set differs from one that holds the default.
@@ -126,9 +147,10 @@ impl<'p> FieldDescriptor<'p> {
         ensures { result ≡ (type_of_field self.now.message.pool.now self.now.message.index self.now.index).presence }
     {
         let pool = self.message.pool;
-        pool.tables.messages[self
-            .message
-            .index as usize].fields.list[self.index as usize].supports_presence
+        pool.tables.messages[self.message.index as usize]
+            .fields
+            .list[self.index as usize]
+            .supports_presence
     }
 
     /// The oneof that the field is a member of, a synthetic one too; none where it is in none.
@@ -138,7 +160,9 @@ impl<'p> FieldDescriptor<'p> {
         ensures there { (k : ℕ) → (type_of_field self.now.message.pool.now self.now.message.index self.now.index).oneof ≡ Some k → k < length (type_at self.now.message.pool.now self.now.message.index).oneofs → IsSome result }
     {
         let pool = self.message.pool;
-        let field = &pool.tables.messages[self.message.index as usize].fields.list[self.index as usize];
+        let field = &pool.tables.messages[self.message.index as usize]
+            .fields
+            .list[self.index as usize];
         self.message.oneof_at(field.oneof?)
     }
 
@@ -148,7 +172,10 @@ impl<'p> FieldDescriptor<'p> {
         let pool = self.message.pool;
         kind_in(
             pool,
-            pool.tables.messages[self.message.index as usize].fields.list[self.index as usize].kind,
+            pool.tables.messages[self.message.index as usize]
+                .fields
+                .list[self.index as usize]
+                .kind,
         )
     }
 
@@ -157,7 +184,9 @@ impl<'p> FieldDescriptor<'p> {
         let pool = self.message.pool;
         default_value(
             pool,
-            &pool.tables.messages[self.message.index as usize].fields.list[self.index as usize],
+            &pool.tables.messages[self.message.index as usize]
+                .fields
+                .list[self.index as usize],
         )
     }
 }

@@ -87,7 +87,9 @@ impl<'p> MessageDescriptor<'p> {
         ensures first { FindsField (λ f. f.number ≡ number) self.now result }
     {
         let pool = self.pool;
-        let place = pool.tables.messages[self.index as usize].fields.of_number(number)?;
+        let place = pool.tables.messages[self.index as usize]
+            .fields
+            .of_number(number)?;
         Some(FieldDescriptor {
             message: *self,
             index: place,
@@ -100,7 +102,9 @@ impl<'p> MessageDescriptor<'p> {
         ensures first { FindsField (λ f. f.name ≡ name.now) self.now result }
     {
         let pool = self.pool;
-        let place = pool.tables.messages[self.index as usize].fields.of_name(name)?;
+        let place = pool.tables.messages[self.index as usize]
+            .fields
+            .of_name(name)?;
         Some(FieldDescriptor {
             message: *self,
             index: place,
@@ -114,7 +118,9 @@ impl<'p> MessageDescriptor<'p> {
         ensures first { FindsField (λ f. f.json_name ≡ Some name.now) self.now result }
     {
         let pool = self.pool;
-        let place = pool.tables.messages[self.index as usize].fields.of_json_name(name)?;
+        let place = pool.tables.messages[self.index as usize]
+            .fields
+            .of_json_name(name)?;
         Some(FieldDescriptor {
             message: *self,
             index: place,
