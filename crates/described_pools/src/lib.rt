@@ -1,7 +1,7 @@
 //! What the readers of a pool's descriptors answer, as text.
 #![tactic(auto)]
 
-mod described;
-mod described_fields;
+mod declarations;
+mod fields;
 
-pub use described::described;
+pub use declarations::described;

@@ -1,6 +1,6 @@
 //! What the readers of fields and extensions answer, as lines of text.
 
-use crate::described::{dotted, or_dash, record_name};
+use crate::declarations::{dotted, or_dash, record_name};
 use reflect_dynamic::{AnyField, FieldDescriptorLike};
 use reflect_link::{
     Cardinality, DefaultValue, ExtensionDescriptor, FieldDescriptor, FieldReaders, InFile, Kind,

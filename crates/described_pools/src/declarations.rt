@@ -2,7 +2,7 @@
 
 ghost use Rattle.std.specs.Iterator.{IsFinite};
 
-use crate::described_fields::{extension_line, field_line};
+use crate::fields::{extension_line, field_line};
 use reflect_link::{
     DescriptorPool, EnumDescriptor, EnumReaders, EnumValueDescriptor, EnumValueReaders,
     FileDescriptor, InFile, MessageDescriptor, MessageReaders, MethodDescriptor, OneofDescriptor,
