@@ -5,4 +5,3 @@ mod message_laws;
 mod random;
 
 pub use message_laws::run;
-pub use random::Random;
