@@ -1,5 +1,6 @@
 ghost use Rattle.std.specs.Prelude.{◌≡◌};
 ghost use Rattle.descriptor_records.specs.Content.{field_view, oneof_view};
+ghost use Rattle.descriptor_records.specs.FieldNumbers.{label_number, type_number, IsTypeOf};
 
 use crate::options::Options;
 use std::alloc::AllocError;
@@ -63,7 +64,9 @@ pub enum Label {
 
 impl Label {
     /// The number that stands for the label in a record.
-    pub fn number(self) -> i32 {
+    pub fn number(self) -> i32
+        ensures { result ≡ label_number self }
+    {
         self as i32
     }
 
@@ -103,12 +106,16 @@ pub enum FieldType {
 
 impl FieldType {
     /// The number that stands for the type in a record.
-    pub fn number(self) -> i32 {
+    pub fn number(self) -> i32
+        ensures { result ≡ type_number self }
+    {
         self as i32
     }
 
     /// The type of a number, if there is one.
-    pub fn from_number(number: i32) -> Option<FieldType> {
+    pub fn from_number(number: i32) -> Option<FieldType>
+        ensures { IsTypeOf number result }
+    {
         match number {
             1 => Some(FieldType::Double),
             2 => Some(FieldType::Float),

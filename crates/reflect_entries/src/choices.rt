@@ -1,10 +1,11 @@
 //! Which member of each oneof was set last.
 
-ghost use Rattle.std.specs.Prelude.{◌≡◌, ℕ, None, Some, IfOk, OnErr};
+ghost use Rattle.std.specs.Prelude.{◌≡◌, ◌≢◌, ℕ, None, Some, IfOk, OnOk, OnErr};
 ghost use Rattle.std.specs.Option.{IsSome};
 ghost use Rattle.std.proofs.Props.{props};
 ghost use Rattle.reflect_entries.specs.Entries.{IsAscending, Updates, value_at};
-ghost use Rattle.reflect_entries.specs.Members.{other_than};
+ghost use Rattle.reflect_entries.specs.Members.{other_than, first_member_of};
+ghost use Rattle.reflect_pool.specs.FieldsLeft.{field_type};
 
 use crate::entries;
 use reflect_link::FieldDescriptor;
@@ -20,7 +21,9 @@ pub struct Choices {
 }
 
 /// The number of the first member of the field's oneof.
-fn first_member(field: &FieldDescriptor<'_>) -> Option<u32> {
+fn first_member(field: &FieldDescriptor<'_>) -> Option<u32>
+    ensures { result ≡ first_member_of field.now }
+{
     Some(field.containing_oneof()?.fields().next()?.number())
 }
 
@@ -49,6 +52,8 @@ impl Choices {
 
     /// Makes room for the choice of the field, if it is a member of a oneof. What was noted stays.
     pub fn make_room(&mut self, field: &FieldDescriptor<'_>) -> Result<(), AllocError>
+        ensures room { OnOk result ((first : ℕ) → first_member_of field.now ≡ Some first → IsSome (choice self.new first)) }
+        ensures others { (other : ℕ) → first_member_of field.now ≢ Some other → choice self.new other ≡ choice self.old other }
         ensures stays { (first : ℕ) → IsSome (choice self.old first) → choice self.new first ≡ choice self.old first }
         ensures refused { OnErr result (self.new.members.items ≡ self.old.members.items) }
     {
@@ -60,7 +65,13 @@ impl Choices {
 
     /// Notes the field, for which there is room, as the member of its oneof that was set last, and gives the number of the
     /// one before, if it is another.
-    pub fn choose(&mut self, field: &FieldDescriptor<'_>) -> Option<u32> {
+    pub fn choose(&mut self, field: &FieldDescriptor<'_>) -> Option<u32>
+        ensures before { (first : ℕ) → first_member_of field.now ≡ Some first → result ≡ other_than (field_type field.now).number (choice self.old first) }
+        ensures alone { first_member_of field.now ≡ None → result ≡ None }
+        ensures noted { (first : ℕ) → first_member_of field.now ≡ Some first → IsSome (choice self.old first) → choice self.new first ≡ Some (field_type field.now).number }
+        ensures no_room { (first : ℕ) → choice self.old first ≡ None → choice self.new first ≡ None }
+        ensures others { (other : ℕ) → first_member_of field.now ≢ Some other → choice self.new other ≡ choice self.old other }
+    {
         note(&mut self.members, first_member(field)?, field.number())
     }
 

@@ -1,7 +1,7 @@
 -- What a pool holds: files, message types with their fields and oneofs, enum types with their values, extensions and services,
 -- each at its place.
 use Rattle.std.specs.Prelude.{◌^◌, ℕ, ℤ, ◌<◌, List, [], length, Bool, false, Option, None, Some, slice_index_or}
-use Rattle.std.specs.List.{AllByRecursion}
+use Rattle.std.specs.List.{All, AllByRecursion}
 use Rattle.reflect_index.specs.declared.kind.Cardinality.{Cardinality}
 use Rattle.reflect_index.specs.declared.kind.Cardinality.TheVariants.{Optional}
 use Rattle.reflect_index.specs.declared.stored.StoredEntry.{StoredEntry}
@@ -49,6 +49,7 @@ pub record MessageType : Type 0 where
   pub name : List ℕ
   pub full_name : List ℕ
   pub file : ℕ
+  pub parent : Option ℕ
   pub fields : List FieldType
   pub oneofs : List OneofType
   pub entry : Option StoredEntry
@@ -62,6 +63,7 @@ pub record EnumType : Type 0 where
   pub name : List ℕ
   pub full_name : List ℕ
   pub file : ℕ
+  pub parent : Option ℕ
   pub values : List ValueType
 
 pub record ExtensionType : Type 0 where
@@ -100,6 +102,15 @@ IsWithin c (message i) = i < c.messages
 IsWithin c (enumeration i) = i < c.enums
 IsWithin c _ = Unit {0}
 
+-- the place, if there is one, is one of so many
+abbrev pub IsAmong : ℕ → Option ℕ → Type 0
+IsAmong count None = Unit {0}
+IsAmong count (Some place) = place < count
+
+-- the members of each oneof are there, by their places among so many fields
+abbrev pub HaveMembers : ℕ → List OneofType → Type 0
+HaveMembers fields oneofs = AllByRecursion (λ o. All (λ place. place < fields) o.fields) oneofs
+
 -- the parts of a map's entry are there
 abbrev pub HasParts : ℕ → Option StoredEntry → Type 0
 HasParts fields None = Unit {0}
@@ -108,13 +119,19 @@ HasParts fields (Some e) = (e.key < fields) × (e.value < fields)
 -- what an entry names is there, and places fit a number of the program
 pub record MessageWithin (c : Counts) (m : MessageType) : Type 0 where
   pub file : m.file < c.files
+  pub parent : IsAmong c.messages m.parent
   pub fields : AllByRecursion (λ f. IsWithin c f.kind) m.fields
+  pub oneofs : AllByRecursion (λ f. IsAmong (length m.oneofs) f.oneof) m.fields
+  pub members : HaveMembers (length m.fields) m.oneofs
   pub parts : HasParts (length m.fields) m.entry
   pub few : length m.fields < 2 ^ 31
+  pub few_oneofs : length m.oneofs < 2 ^ 31
 
 pub record EnumWithin (c : Counts) (e : EnumType) : Type 0 where
   pub file : e.file < c.files
+  pub parent : IsAmong c.messages e.parent
   pub some : 0 < length e.values
+  pub few : length e.values < 2 ^ 31
 
 pub record ExtensionWithin (c : Counts) (x : ExtensionType) : Type 0 where
   pub file : x.file < c.files
@@ -137,7 +154,7 @@ pub record ArePooled (p : PoolType) : Type 0 where
 
 -- what stands for a place that is not there
 abbrev pub no_type : MessageType
-no_type = record { name = []; full_name = []; file = 0; fields = []; oneofs = []; entry = None }
+no_type = record { name = []; full_name = []; file = 0; parent = None; fields = []; oneofs = []; entry = None }
 
 abbrev pub no_field : FieldType
 no_field = record { name = []; full_name = []; json_name = None; number = 0; kind = int32; cardinality = Optional; group = false; packed = false; presence = false; oneof = None }
@@ -146,7 +163,7 @@ abbrev pub no_oneof : OneofType
 no_oneof = record { name = []; full_name = []; fields = []; synthetic = false }
 
 abbrev pub no_enum : EnumType
-no_enum = record { name = []; full_name = []; file = 0; values = [] }
+no_enum = record { name = []; full_name = []; file = 0; parent = None; values = [] }
 
 abbrev pub no_extension : ExtensionType
 no_extension = record { file = 0; extendee = 0; field = no_field }

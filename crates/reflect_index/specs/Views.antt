@@ -46,13 +46,13 @@ abbrev pub oneof_of : StoredOneof → OneofType
 oneof_of o = record { name = string_bytes o.name; full_name = string_bytes o.full_name; fields = o.fields.items; synthetic = o.is_synthetic }
 
 abbrev pub message_of : StoredMessage → MessageType
-message_of m = record { name = string_bytes m.name; full_name = string_bytes m.full_name; file = m.file; fields = map field_of m.fields.list.items; oneofs = map oneof_of m.oneofs.items; entry = m.entry }
+message_of m = record { name = string_bytes m.name; full_name = string_bytes m.full_name; file = m.file; parent = m.parent; fields = map field_of m.fields.list.items; oneofs = map oneof_of m.oneofs.items; entry = m.entry }
 
 abbrev pub value_of : StoredValue → ValueType
 value_of v = record { name = string_bytes v.name; full_name = string_bytes v.full_name; number = v.number }
 
 abbrev pub enum_of : StoredEnum → EnumType
-enum_of e = record { name = string_bytes e.name; full_name = string_bytes e.full_name; file = e.file; values = map value_of e.values.list.items }
+enum_of e = record { name = string_bytes e.name; full_name = string_bytes e.full_name; file = e.file; parent = e.parent; values = map value_of e.values.list.items }
 
 abbrev pub extension_of : StoredExtension → ExtensionType
 extension_of x = record { file = x.file; extendee = x.extendee; field = field_of x.field }

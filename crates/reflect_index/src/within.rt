@@ -1,13 +1,13 @@
 //! Whether what new entries name is there, among old and new ones.
 
 ghost use Rattle.std.specs.Prelude.{◌≡◌, ◌<◌, ◌^◌, IsTrue, map, length};
-ghost use Rattle.std.specs.List.{AllByRecursion};
-ghost use Rattle.reflect_index.specs.Types.{IsWithin, MessageWithin, EnumWithin, ExtensionWithin, MethodWithin, ServiceWithin, HasParts};
-ghost use Rattle.reflect_index.specs.Views.{message_of, enum_of, extension_of, service_of, method_of, field_of, kind_of};
+ghost use Rattle.std.specs.List.{All, AllByRecursion};
+ghost use Rattle.reflect_index.specs.Types.{IsWithin, MessageWithin, EnumWithin, ExtensionWithin, MethodWithin, ServiceWithin, IsAmong, HasParts, HaveMembers};
+ghost use Rattle.reflect_index.specs.Views.{message_of, enum_of, extension_of, service_of, method_of, field_of, oneof_of, kind_of};
 
 use crate::stored::{
     StoredEntry, StoredEnum, StoredExtension, StoredField, StoredKind, StoredMessage, StoredMethod,
-    StoredService,
+    StoredOneof, StoredService,
 };
 use crate::tables::{Counts, Tables};
 
@@ -33,6 +33,54 @@ fn fields_within(fields: &[StoredField], counts: Counts) -> bool
     true
 }
 
+/// The place, if there is one, is one of so many.
+fn is_among(place: Option<u32>, count: usize) -> bool
+    ensures { IsTrue result → IsAmong count place }
+{
+    match place {
+        Some(place) => (place as usize) < count,
+        None => true,
+    }
+}
+
+/// The oneof of each field, if it is in one, is one of so many.
+fn oneofs_within(fields: &[StoredField], count: usize) -> bool
+    ensures { IsTrue result → AllByRecursion (λ f. IsAmong count f.oneof) (map field_of fields.now) }
+{
+    for field in fields {
+        if !is_among(field.oneof, count) {
+            return false;
+        }
+    }
+    true
+}
+
+/// Each place is one of so many.
+fn are_below(places: &[u32], count: usize) -> bool
+    ensures { IsTrue result → All (λ place. place < count) places.now }
+{
+    places.iter().all(|place| (*place as usize) < count)
+}
+
+/// The members of each oneof are among so many fields.
+fn have_members(oneofs: &[StoredOneof], fields: usize) -> bool
+    ensures { IsTrue result → HaveMembers fields (map oneof_of oneofs.now) }
+{
+    for oneof in oneofs {
+        if !are_below(oneof.fields.as_slice(), fields) {
+            return false;
+        }
+    }
+    true
+}
+
+/// There are so few that each place, and the one behind the last, fits a number of the program.
+fn is_few(count: usize) -> bool
+    ensures { IsTrue result → count < 2 ^ 31 }
+{
+    count < 0x8000_0000
+}
+
 fn has_parts(entry: Option<StoredEntry>, fields: usize) -> bool
     ensures { IsTrue result → HasParts fields entry }
 {
@@ -46,9 +94,13 @@ fn message_within(message: &StoredMessage, counts: Counts) -> bool
     ensures { IsTrue result → MessageWithin counts (message_of message.now) }
 {
     message.file < counts.files
+        && is_among(message.parent, counts.messages as usize)
         && fields_within(message.fields.list.as_slice(), counts)
+        && oneofs_within(message.fields.list.as_slice(), message.oneofs.len())
+        && have_members(message.oneofs.as_slice(), message.fields.list.len())
         && has_parts(message.entry, message.fields.list.len())
-        && message.fields.list.len() < 0x8000_0000
+        && is_few(message.fields.list.len())
+        && is_few(message.oneofs.len())
 }
 
 fn messages_within(items: &[StoredMessage], counts: Counts) -> bool
@@ -65,7 +117,10 @@ fn messages_within(items: &[StoredMessage], counts: Counts) -> bool
 fn enum_within(enumeration: &StoredEnum, counts: Counts) -> bool
     ensures { IsTrue result → EnumWithin counts (enum_of enumeration.now) }
 {
-    enumeration.file < counts.files && !enumeration.values.list.is_empty()
+    enumeration.file < counts.files
+        && is_among(enumeration.parent, counts.messages as usize)
+        && !enumeration.values.list.is_empty()
+        && is_few(enumeration.values.list.len())
 }
 
 fn enums_within(items: &[StoredEnum], counts: Counts) -> bool

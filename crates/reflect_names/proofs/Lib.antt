@@ -4,3 +4,4 @@ pub mod Packages
 pub mod Found
 pub mod NameRuns
 pub mod ReferenceRuns
+pub mod FileRuns

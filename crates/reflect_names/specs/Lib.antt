@@ -6,3 +6,4 @@ pub mod References
 pub mod ReferenceSteps
 pub mod NamePass
 pub mod ReferencePass
+pub mod FileNames

@@ -1,7 +1,8 @@
-ghost use Rattle.std.specs.Prelude.{◌≡◌, OnOk, IfOk, pos, [], ◌++◌};
+ghost use Rattle.std.specs.Prelude.{◌≡◌, OnOk, IfOk, pos, [], ◌∷◌, ◌++◌};
 ghost use Rattle.std.specs.BTreeMap.{get_by_text};
 ghost use Rattle.reflect_walk.specs.Declarations.{each, entry};
-ghost use Rattle.reflect_names.specs.Faults.{Adds, place_at};
+ghost use Rattle.reflect_names.specs.Faults.{Adds, place_at, duplicate_file};
+ghost use Rattle.reflect_names.specs.FileNames.{indexes_of, file_faults, with_file, with_files, files_faults};
 ghost use Rattle.reflect_names.specs.Names.{import_fault, public_fault, import_faults, is_index as is_index_of};
 
 use crate::error::DescriptorErrorKind;
@@ -12,13 +13,31 @@ use reflect_walk::VisitError;
 use std::alloc::{AllocError, Global};
 use std::collections::BTreeMap;
 
+/// Lists that a file has the name of an earlier one.
+fn list_file(
+    alloc: Global,
+    index: u32,
+    name: &str,
+    faults: &mut Faults<'_>,
+) -> Result<(), AllocError>
+    ensures { OnOk result (Adds faults.old faults.new (duplicate_file name.now (place_at faults.old index (pos 1 ∷ [])) ∷ [])) }
+{
+    let found = faults.label_at(alloc, index, &[], tag::file::NAME)?;
+    let name = String::from_str(alloc, name)?;
+    faults.push(DescriptorErrorKind::DuplicateFileName { name, found })
+}
+
+/// Puts a file's name into the map, or lists that it has none or that of an earlier file.
 fn name_file(
     alloc: Global,
     file_names: &mut BTreeMap<String, u32>,
     index: u32,
     file: &FileDescriptorProto,
     faults: &mut Faults<'_>,
-) -> Result<(), AllocError> {
+) -> Result<(), AllocError>
+    ensures names { OnOk result (indexes_of file_names.new ≡ with_file (indexes_of file_names.old) index file.now.name) }
+    ensures faults { OnOk result (Adds faults.old faults.new (file_faults (place_at faults.old index) (indexes_of file_names.old) file.now.name)) }
+{
     let Some(name) = &file.name else {
         let found = faults.label_at(alloc, index, &[], tag::file::NAME)?;
         return faults.push(DescriptorErrorKind::MissingRequiredField {
@@ -26,11 +45,11 @@ fn name_file(
             found,
         });
     };
-    let name = String::from_str(alloc, name.as_str())?;
     if file_names.contains_key(name.as_str()) {
-        let found = faults.label_at(alloc, index, &[], tag::file::NAME)?;
-        return faults.push(DescriptorErrorKind::DuplicateFileName { name, found });
+        list_file(alloc, index, name.as_str(), faults)?;
+        return Ok(());
     }
+    let name = String::from_str(alloc, name.as_str())?;
     file_names.insert(name, index)?;
     Ok(())
 }
@@ -45,7 +64,10 @@ pub fn name_files(
     first: u32,
     files: &[FileDescriptorProto],
     faults: &mut Faults<'_>,
-) -> Result<(), VisitError> {
+) -> Result<(), VisitError>
+    ensures names { OnOk result (indexes_of file_names.new ≡ with_files (indexes_of file_names.old) first files.now) }
+    ensures faults { OnOk result (Adds faults.old faults.new (files_faults (place_at faults.old) (indexes_of file_names.old) first files.now)) }
+{
     let mut index = first;
     'turns: for file in files {
         if index > 0x7fff_ffff {

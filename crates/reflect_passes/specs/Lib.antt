@@ -1,2 +1,3 @@
-pub mod Linked
 pub mod Errors
+pub mod Extensions
+pub mod Linked

@@ -1,5 +1,9 @@
--- What is told of the message types of a pool, and behind them those of a batch.
-use Rattle.std.specs.Prelude.{ℕ, ◌-◌, [], false, cond, nat_lt, length, slice_get, Option, Some, None, string_bytes}
+-- What is told of the types of a pool, and behind them those of a batch.
+use Rattle.std.specs.Prelude.{◌≡◌, ℕ, ◌-◌, List, [], false, cond, nat_lt, length, slice_get, Option, Some, None, string_bytes}
+use Rattle.std.specs.Bool.{Decides}
+use Rattle.std.specs.List.{Any}
+use Rattle.reflect_index.specs.Views.{enum_of}
+use Rattle.reflect_index.specs.declared.stored.StoredEnum.{StoredEnum}
 use Rattle.reflect_index.specs.declared.stored.StoredMessage.{StoredMessage}
 use Rattle.reflect_rules.specs.Ranges.{TypesSay}
 use Rattle.reflect_rules.specs.Walks.{ranges_of}
@@ -17,6 +21,13 @@ linked_says t = record {
   name = λ i. elim (message_at t i) [ None ↦ [] | Some m ↦ string_bytes m.full_name ];
 }
 
--- of the names of enums' values nothing is told
-abbrev pub no_values : Values
-no_values i text suits = Unit {0}
+abbrev pub enum_at : LinkedTypes → ℕ → Option StoredEnum
+enum_at t i = cond (nat_lt i (length t.old.now.enums.items)) (slice_get t.old.now.enums.items i) (slice_get t.new.now.enums.items (i - length t.old.now.enums.items))
+
+-- one of the enum's values has the name
+abbrev pub HasValue : Option StoredEnum → List ℕ → Type 0
+HasValue None name = ⊥
+HasValue (Some e) name = Any (λ v. v.name ≡ name) (enum_of e).values
+
+abbrev pub linked_values : LinkedTypes → Values
+linked_values t i name has = Decides has (HasValue (enum_at t i) name)

@@ -1,5 +1,12 @@
 //! The pass over extensions: no two extensions of one message have one number.
 
+ghost use Rattle.std.specs.Prelude.{◌≡◌, ◌||◌, ◌++◌, ◌∷◌, [], pos, OnOk, IfErr};
+ghost use Rattle.std.specs.Int.{w32, cast_signed};
+ghost use Rattle.reflect_names.specs.Faults.{Adds, list_of, place_at, duplicate_extension};
+ghost use Rattle.reflect_passes.specs.Errors.{faults_of, Refuses};
+ghost use Rattle.reflect_passes.specs.Extensions.{KeyType, has_key, is_known, is_taken, double_faults, extension_faults};
+ghost use Rattle.reflect_passes.specs.Linked.{linked_says};
+
 use crate::error::DescriptorError;
 use crate::linked_types::LinkedTypes;
 use crate::passes::{walk_error, without_faults};
@@ -16,7 +23,9 @@ fn list_doubled(
     faults: &mut Faults<'_>,
     message: &str,
     extension: &StoredExtension,
-) -> Result<(), AllocError> {
+) -> Result<(), AllocError>
+    ensures { OnOk result (Adds faults.old faults.new (duplicate_extension (cast_signed w32 extension.now.field.number) message.now (place_at faults.old extension.now.file (extension.now.field.path.items ++ (pos 3 ∷ []))) ∷ [])) }
+{
     let path = extension.field.path.as_slice();
     let found = faults.label_at(alloc, extension.file, path, tag::field::NUMBER)?;
     faults.push(DescriptorErrorKind::DuplicateExtensionNumber {
@@ -26,34 +35,60 @@ fn list_doubled(
     })
 }
 
-/// Puts the new extensions' numbers beside those that are known, and lists a fault for each that is there already. A refusal
-/// may leave some of the new numbers.
-pub fn list_extensions(
+/// Puts an extension's number beside those that are known, with the extension's place, or lists it where it is there already.
+fn put_number(
     alloc: Global,
     types: &LinkedTypes<'_>,
-    mut faults: Faults<'_>,
+    faults: &mut Faults<'_>,
     numbers: &mut BTreeMap<(u32, u32), u32>,
-) -> Result<(), DescriptorError> {
-    put_numbers(alloc, types, &mut faults, numbers).map_err(|error| walk_error(alloc, error))?;
-    without_faults(faults)
+    place: u32,
+    extension: &StoredExtension,
+) -> Result<(), VisitError>
+    ensures faults { OnOk result (Adds faults.old faults.new (double_faults (is_known numbers.old) (linked_says types.now) (place_at faults.old) extension.now)) }
+    ensures numbers { OnOk result ((k : KeyType) → is_known numbers.new k ≡ (is_known numbers.old k || has_key k extension.now)) }
+{
+    let key = (extension.extendee, extension.field.number);
+    if numbers.contains_key(&key) {
+        let message = types.message_name(extension.extendee);
+        list_doubled(alloc, faults, message, extension)?;
+    } else {
+        numbers.insert(key, place)?;
+    }
+    Ok(())
 }
 
+/// Puts the numbers of all new extensions.
 fn put_numbers(
     alloc: Global,
     types: &LinkedTypes<'_>,
     faults: &mut Faults<'_>,
     numbers: &mut BTreeMap<(u32, u32), u32>,
-) -> Result<(), VisitError> {
-    for (at, extension) in types.new.extensions.iter().enumerate() {
+) -> Result<(), VisitError>
+    ensures faults { OnOk result (Adds faults.old faults.new (extension_faults (is_known numbers.old) (linked_says types.now) (place_at faults.old) types.now.new.now.extensions.items)) }
+    ensures numbers { OnOk result ((k : KeyType) → is_known numbers.new k ≡ is_taken (is_known numbers.old) types.now.new.now.extensions.items k) }
+{
+    let extensions = types.new.extensions.as_slice();
+    'turns: for (at, extension) in extensions.iter().enumerate() {
         let place = types.old.extensions.len().saturating_add(at);
         let place = u32::try_from(place).map_err(|_| VisitError::TooMany)?;
-        let key = (extension.extendee, extension.field.number);
-        if numbers.contains_key(&key) {
-            let message = types.message_name(extension.extendee);
-            list_doubled(alloc, faults, message, extension)?;
-        } else {
-            numbers.insert(key, place)?;
-        }
+        put_number(alloc, types, faults, numbers, place, extension)?;
     }
     Ok(())
+}
+
+/// Puts the new extensions' numbers beside those that are known. Ok where `faults` are none and each is new, else the error
+/// that lists `faults`, and behind them each extension whose message and number an earlier one has. Want of memory, or an
+/// index past the last, is alone. A refusal may leave some of the new numbers.
+pub fn list_extensions(
+    alloc: Global,
+    types: &LinkedTypes<'_>,
+    mut faults: Faults<'_>,
+    numbers: &mut BTreeMap<(u32, u32), u32>,
+) -> Result<(), DescriptorError>
+    ensures ok { OnOk result (list_of faults.entry ++ extension_faults (is_known numbers.old) (linked_says types.now) (place_at faults.entry) types.now.new.now.extensions.items ≡ []) }
+    ensures err { IfErr result (λ e. Refuses (λ xs. xs ≡ list_of faults.entry ++ extension_faults (is_known numbers.old) (linked_says types.now) (place_at faults.entry) types.now.new.now.extensions.items) e) }
+    ensures numbers { OnOk result ((k : KeyType) → is_known numbers.new k ≡ is_taken (is_known numbers.old) types.now.new.now.extensions.items k) }
+{
+    put_numbers(alloc, types, &mut faults, numbers).map_err(|error| walk_error(alloc, error))?;
+    without_faults(faults)
 }

@@ -14,7 +14,7 @@ pub struct LinkedTypes<'a> {
 }
 
 impl<'a> LinkedTypes<'a> {
-    ghost use Rattle.reflect_passes.specs.Linked.{message_at};
+    ghost use Rattle.reflect_passes.specs.Linked.{message_at, enum_at};
 
     fn message(&self, index: u32) -> Option<&'a StoredMessage>
         ensures { option_copied result ≡ message_at self.now index }
@@ -28,7 +28,9 @@ impl<'a> LinkedTypes<'a> {
         }
     }
 
-    fn enumeration(&self, index: u32) -> Option<&'a StoredEnum> {
+    fn enumeration(&self, index: u32) -> Option<&'a StoredEnum>
+        ensures { option_copied result ≡ enum_at self.now index }
+    {
         let index = index as usize;
         let count = self.old.enums.len();
         if index < count {
@@ -40,11 +42,11 @@ impl<'a> LinkedTypes<'a> {
 }
 
 impl<'a> Types for LinkedTypes<'a> {
-    ghost use Rattle.reflect_passes.specs.Linked.{linked_says, no_values};
+    ghost use Rattle.reflect_passes.specs.Linked.{linked_says, linked_values};
 
     ghost says = { linked_says };
 
-    ghost values = { λ _. no_values };
+    ghost values = { linked_values };
 
     fn reserved_numbers(&self, message: u32) -> Option<&NumberRanges> {
         Some(&self.message(message)?.reserved_numbers)

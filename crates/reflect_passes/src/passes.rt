@@ -3,7 +3,7 @@
 ghost use Rattle.std.specs.Prelude.{◌≡◌, ◌∷◌, [], map, OnOk, IfErr};
 ghost use Rattle.reflect_names.specs.Faults.{fault_view, list_of, another};
 ghost use Rattle.reflect_rules.specs.RulePass.{BatchFaults};
-ghost use Rattle.reflect_passes.specs.Linked.{linked_says, no_values};
+ghost use Rattle.reflect_passes.specs.Linked.{linked_says, linked_values};
 ghost use Rattle.reflect_passes.specs.Errors.{faults_of, Refuses};
 
 use crate::error::DescriptorError;
@@ -110,8 +110,8 @@ pub fn check_numbers(
     references: &[Reference],
     types: &LinkedTypes<'_>,
 ) -> Result<(), DescriptorError>
-    ensures ok { OnOk result (BatchFaults (linked_says types.now) no_values before first files.now references.now []) }
-    ensures err { IfErr result (λ e. Refuses (λ xs. BatchFaults (linked_says types.now) no_values before first files.now references.now xs) e) }
+    ensures ok { OnOk result (BatchFaults (linked_says types.now) (linked_values types.now) before first files.now references.now []) }
+    ensures err { IfErr result (λ e. Refuses (λ xs. BatchFaults (linked_says types.now) (linked_values types.now) before first files.now references.now xs) e) }
 {
     match check_rules(alloc, before, first, files, references, types) {
         Ok(faults) => refused(faults),

@@ -1,9 +1,9 @@
 -- A pool stays one as entries are put behind the others.
-use Rattle.std.proofs.Common.{◌≡◌, ℕ, ◌<◌, ◌≤◌, ◌+◌, ◌^◌, List, [], ◌∷◌, ◌++◌, map, length, arith, sym, ap, ◌∙◌, subst}
+use Rattle.std.proofs.Common.{◌≡◌, ℕ, ◌<◌, ◌≤◌, ◌+◌, ◌^◌, List, [], ◌∷◌, ◌++◌, Option, Some, None, map, length, arith, sym, ap, ◌∙◌, subst}
 use Rattle.std.proofs.Math.ListN.{length-map}
 use Rattle.std.proofs.lemmas.List.{length-append}
 use Rattle.std.specs.List.{AllByRecursion}
-use Rattle.reflect_index.specs.Types.{KindType, MessageType, FieldType, EnumType, ExtensionType, MethodType, ServiceType, message, enumeration, ArePooled, IsWithin, MessageWithin, EnumWithin, ExtensionWithin, MethodWithin, ServiceWithin, counts_of}
+use Rattle.reflect_index.specs.Types.{KindType, MessageType, FieldType, EnumType, ExtensionType, MethodType, ServiceType, message, enumeration, ArePooled, IsAmong, IsWithin, MessageWithin, EnumWithin, ExtensionWithin, MethodWithin, ServiceWithin, counts_of}
 use Rattle.reflect_index.specs.Views.{file_of, message_of, enum_of, extension_of, service_of, pool_of}
 use Rattle.reflect_index.specs.Growth.{Appended, Together}
 use Rattle.reflect_index.specs.declared.tables.Counts.{Counts}
@@ -21,18 +21,28 @@ within_more a b le (message i) h = let more = le.messages in omega (arith, h, mo
 within_more a b le (enumeration i) h = let more = le.enums in omega (arith, h, more)
 within_more a b le _ h = tt
 
+among_more : (m n : ℕ) → m ≤ n → (place : Option ℕ) → IsAmong m place → IsAmong n place
+among_more m n le None h = tt
+among_more m n le (Some i) h = omega (arith, h, le)
+
 message_more : (a b : Counts) → IsMore a b → (m : MessageType) → MessageWithin a m → MessageWithin b m
 message_more a b le m h = record {
   file = let was = h.file in let more = le.files in omega (arith, was, more);
+  parent = among_more a.messages b.messages le.messages m.parent h.parent;
   fields = all_through (λ (f : FieldType). IsWithin a f.kind) (λ (f : FieldType). IsWithin b f.kind) m.fields (λ f k. within_more a b le f.kind k) h.fields;
+  oneofs = h.oneofs;
+  members = h.members;
   parts = h.parts;
   few = h.few;
+  few_oneofs = h.few_oneofs;
 }
 
 enum_more : (a b : Counts) → IsMore a b → (e : EnumType) → EnumWithin a e → EnumWithin b e
 enum_more a b le e h = record {
   file = let was = h.file in let more = le.files in omega (arith, was, more);
+  parent = among_more a.messages b.messages le.messages e.parent h.parent;
   some = h.some;
+  few = h.few;
 }
 
 extension_more : (a b : Counts) → IsMore a b → (x : ExtensionType) → ExtensionWithin a x → ExtensionWithin b x

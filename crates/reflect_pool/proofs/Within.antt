@@ -1,11 +1,13 @@
 -- What the entries at places of a pool name is there.
-use Rattle.std.proofs.Common.{◌≡◌, ℕ, ◌<◌, ◌^◌, map, length, get_or, arith, subst}
+use Rattle.std.proofs.Common.{◌≡◌, ℕ, ◌<◌, ◌^◌, map, length, get_or, arith, sym, subst}
 use Rattle.std.proofs.Math.ListN.{length-map}
-use Rattle.reflect_index.specs.Types.{PoolType, MessageType, ServiceType, ArePooled, IsWithin, MessageWithin, EnumWithin, ExtensionWithin, MethodWithin, ServiceWithin, counts_of, no_type, no_enum, no_service}
-use Rattle.reflect_index.specs.Views.{pool_of, message_of, enum_of, extension_of, service_of, method_of, field_of, kind_of}
+use Rattle.std.specs.List.{All}
+use Rattle.reflect_index.specs.Types.{PoolType, MessageType, OneofType, ServiceType, ArePooled, IsWithin, MessageWithin, EnumWithin, ExtensionWithin, MethodWithin, ServiceWithin, counts_of, no_type, no_enum, no_service}
+use Rattle.reflect_index.specs.Views.{pool_of, message_of, enum_of, extension_of, service_of, method_of, field_of, oneof_of, kind_of}
 use Rattle.reflect_index.specs.declared.tables.Tables.{Tables}
 use Rattle.reflect_index.specs.declared.stored.StoredMessage.{StoredMessage}
 use Rattle.reflect_index.specs.declared.stored.StoredField.{StoredField}
+use Rattle.reflect_index.specs.declared.stored.StoredOneof.{StoredOneof}
 use Rattle.reflect_index.specs.declared.stored.StoredEnum.{StoredEnum}
 use Rattle.reflect_index.specs.declared.stored.StoredExtension.{StoredExtension}
 use Rattle.reflect_index.specs.declared.stored.StoredService.{StoredService}
@@ -75,3 +77,15 @@ few_fields t pool i k m e h lt is below =
     let few = (message_within t pool i m e h lt is).few in
     let long : length (map field_of m.fields.list.items) ≡ length m.fields.list.items = length-map m.fields.list.items field_of in
     omega (arith, few, long, below)
+
+-- the members of a oneof are there
+pub members_within : (t : Tables) (pool : PoolType) (i k : ℕ) (m : StoredMessage) (o : StoredOneof) → pool_of t ≡ pool → ArePooled (pool_of t)
+    → i < length pool.messages → m ≡ get_or t.messages.items i m
+    → k < length (get_or pool.messages i no_type).oneofs → o ≡ get_or m.oneofs.items k o
+    → All (λ place. place < length (get_or pool.messages i no_type).fields) o.fields.items
+members_within t pool i k m o e h lt is inner was =
+    let here = message_within t pool i m e h lt is in
+    let there = type_there t pool i m e lt is in
+    let inside : OneofType → Type 0 = λ p. All (λ place. place < length (message_of m).fields) p.fields in
+    subst (λ (n : MessageType). All (λ place. place < length n.fields) o.fields.items) (sym there)
+    (at_view oneof_of inside m.oneofs.items k o here.members (subst (λ (n : MessageType). k < length n.oneofs) there inner) was)

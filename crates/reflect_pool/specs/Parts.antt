@@ -1,6 +1,6 @@
 -- The parts of types at their places.
-use Rattle.std.specs.Prelude.{ℕ, pos, [], slice_index_or}
-use Rattle.reflect_index.specs.Types.{PoolType, OneofType, ValueType, type_at, enum_at, no_oneof}
+use Rattle.std.specs.Prelude.{ℕ, pos, List, [], map, slice_index_or}
+use Rattle.reflect_index.specs.Types.{PoolType, FieldType, OneofType, ValueType, type_at, type_of_field, enum_at, no_oneof}
 
 -- what stands for a value that is not there
 abbrev pub no_value : ValueType
@@ -9,6 +9,10 @@ no_value = record { name = []; full_name = []; number = pos 0 }
 -- the oneof at a place of a type
 abbrev pub type_of_oneof : PoolType → ℕ → ℕ → OneofType
 type_of_oneof pool i k = slice_index_or (type_at pool i).oneofs k no_oneof
+
+-- the members of the oneof at a place of a type: the fields at the places that it lists
+abbrev pub members_of : PoolType → ℕ → ℕ → List FieldType
+members_of pool i k = map (type_of_field pool i) (type_of_oneof pool i k).fields
 
 -- the value at a place of an enum
 abbrev pub type_of_value : PoolType → ℕ → ℕ → ValueType

@@ -1,8 +1,7 @@
-ghost use Rattle.std.specs.Prelude.{◌≡◌, ◌<◌, length, IfSome};
+ghost use Rattle.std.specs.Prelude.{◌≡◌, ◌<◌, ◌^◌, length, None, Some, IfSome, IsSome, MatchOption};
 ghost use Rattle.reflect_index.specs.Types.{enum_at};
 ghost use Rattle.reflect_pool.specs.Parts.{type_of_value};
 
-use crate::counting::end_of;
 use crate::message::MessageDescriptor;
 use crate::pool::DescriptorPool;
 
@@ -16,6 +15,7 @@ pub struct EnumDescriptor<'p> {
 
 impl<'p> EnumDescriptor<'p> {
     ghost use Rattle.reflect_pool.specs.Finds.{FindsValue};
+    ghost use Rattle.reflect_pool.specs.PartsLeft.{values_left};
 
     /// The pool that the type stands in.
     pub fn parent_pool(&self) -> &'p DescriptorPool
@@ -26,7 +26,8 @@ impl<'p> EnumDescriptor<'p> {
 
     /// The message that the type is declared in, if it is one.
     pub fn parent_message(&self) -> Option<MessageDescriptor<'p>>
-        ensures { IfSome result (λ d. d.pool.now ≡ self.now.pool.now) }
+        ensures pool { IfSome result (λ d. d.pool.now ≡ self.now.pool.now) }
+        ensures parent { MatchOption result ((enum_at self.now.pool.now self.now.index).parent ≡ None) (λ d. (enum_at self.now.pool.now self.now.index).parent ≡ Some d.index) }
     {
         let pool = self.pool;
         pool.message_at(pool.tables.enums[self.index as usize].parent?)
@@ -68,12 +69,12 @@ impl<'p> EnumDescriptor<'p> {
     }
 
     /// The values, as they were declared.
-    pub fn values(&self) -> EnumValues<'p> {
-        let pool = self.pool;
+    pub fn values(&self) -> EnumValues<'p>
+        ensures { values_left result ≡ (enum_at self.now.pool.now self.now.index).values }
+    {
         EnumValues {
             enumeration: *self,
             next: 0,
-            end: end_of(pool.tables.enums[self.index as usize].values.list.len()),
         }
     }
 
@@ -108,7 +109,10 @@ impl<'p> EnumDescriptor<'p> {
 
     /// The value at a place.
     fn value_at(&self, place: u32) -> Option<EnumValueDescriptor<'p>>
-        ensures { IfSome result (λ v. v.enumeration ≡ self.now) }
+        ensures enumeration { IfSome result (λ v. v.enumeration ≡ self.now) }
+        ensures place { IfSome result (λ v. v.index ≡ place) }
+        ensures there { place < length (enum_at self.now.pool.now self.now.index).values → IsSome result }
+        ensures few { IfSome result (λ v. v.index < 2 ^ 31) }
     {
         let pool = self.pool;
         if (place as usize) < pool.tables.enums[self.index as usize].values.list.len() {
@@ -127,25 +131,22 @@ impl<'p> EnumDescriptor<'p> {
 pub struct EnumValues<'p> {
     enumeration: EnumDescriptor<'p>,
     next: u32,
-    end: u32,
 }
 
 impl<'p> Iterator for EnumValues<'p> {
-    ghost use Rattle.std.specs.Prelude.{◌-◌};
-    ghost use Rattle.std.specs.Iterator.{at_most};
+    ghost use Rattle.std.specs.Iterator.{YieldsFirstBy, item_count};
+    ghost use Rattle.reflect_pool.specs.PartsLeft.{value_type, values_left};
 
     type Item = EnumValueDescriptor<'p>;
 
-    ghost remaining = { λ s. at_most (s.end - s.next) };
+    ghost next_gives = { YieldsFirstBy value_type values_left };
+
+    ghost remaining = { item_count values_left };
 
     fn next(&mut self) -> Option<EnumValueDescriptor<'p>> {
-        if self.next < self.end {
-            let place = self.next;
-            self.next += 1;
-            self.enumeration.value_at(place)
-        } else {
-            None
-        }
+        let value = self.enumeration.value_at(self.next)?;
+        self.next += 1;
+        Some(value)
     }
 }
 

@@ -1,4 +1,4 @@
-ghost use Rattle.std.specs.Prelude.{◌≡◌, ◌<◌, ℕ, length, Some, IfSome, IsSome};
+ghost use Rattle.std.specs.Prelude.{◌≡◌, ◌<◌, ℕ, length, None, Some, IfSome, IsSome, MatchOption};
 ghost use Rattle.reflect_index.specs.Types.{type_at, type_of_field};
 
 use crate::kind::{DefaultValue, Kind};
@@ -57,7 +57,9 @@ impl<'p> FieldDescriptor<'p> {
     }
 
     /// The JSON name that was written, if one was.
-    pub fn json_name(&self) -> Option<&'p str> {
+    pub fn json_name(&self) -> Option<&'p str>
+        ensures { MatchOption result ((type_of_field self.now.message.pool.now self.now.message.index self.now.index).json_name ≡ None) (λ name. (type_of_field self.now.message.pool.now self.now.message.index self.now.index).json_name ≡ Some name.now) }
+    {
         let pool = self.message.pool;
         match &pool.tables.messages[self.message.index as usize]
             .fields
@@ -157,7 +159,7 @@ impl<'p> FieldDescriptor<'p> {
     pub fn containing_oneof(&self) -> Option<OneofDescriptor<'p>>
         ensures message { IfSome result (λ o. o.message ≡ self.now.message) }
         ensures place { IfSome result (λ o. (type_of_field self.now.message.pool.now self.now.message.index self.now.index).oneof ≡ Some o.index) }
-        ensures there { (k : ℕ) → (type_of_field self.now.message.pool.now self.now.message.index self.now.index).oneof ≡ Some k → k < length (type_at self.now.message.pool.now self.now.message.index).oneofs → IsSome result }
+        ensures there { IsSome (type_of_field self.now.message.pool.now self.now.message.index self.now.index).oneof → IsSome result }
     {
         let pool = self.message.pool;
         let field = &pool.tables.messages[self.message.index as usize]

@@ -4,7 +4,6 @@
 mod access;
 mod blank;
 mod build;
-mod counting;
 mod enums;
 mod extension;
 mod field;

@@ -1,7 +1,6 @@
-ghost use Rattle.std.specs.Prelude.{◌≡◌, ◌<◌, ◌↔◌, length, Some, IfSome, IsSome, IsTrue};
+ghost use Rattle.std.specs.Prelude.{◌≡◌, ◌<◌, ◌^◌, ◌↔◌, length, None, Some, IfSome, IsSome, IsTrue, MatchOption};
 ghost use Rattle.reflect_index.specs.Types.{type_at, extension_at};
 
-use crate::counting::end_of;
 use crate::extension::{ExtensionDescriptor, MessageExtensions};
 use crate::field::FieldDescriptor;
 use crate::oneof::{OneofDescriptor, Oneofs};
@@ -18,6 +17,7 @@ pub struct MessageDescriptor<'p> {
 
 impl<'p> MessageDescriptor<'p> {
     ghost use Rattle.reflect_pool.specs.Finds.{FindsField};
+    ghost use Rattle.reflect_pool.specs.PartsLeft.{oneofs_left};
 
     /// The pool that the type stands in.
     pub fn parent_pool(&self) -> &'p DescriptorPool
@@ -28,7 +28,8 @@ impl<'p> MessageDescriptor<'p> {
 
     /// The message that the type is declared in, if it is one.
     pub fn parent_message(&self) -> Option<MessageDescriptor<'p>>
-        ensures { IfSome result (λ d. d.pool.now ≡ self.now.pool.now) }
+        ensures pool { IfSome result (λ d. d.pool.now ≡ self.now.pool.now) }
+        ensures parent { MatchOption result ((type_at self.now.pool.now self.now.index).parent ≡ None) (λ d. (type_at self.now.pool.now self.now.index).parent ≡ Some d.index) }
     {
         let pool = self.pool;
         pool.message_at(pool.tables.messages[self.index as usize].parent?)
@@ -72,12 +73,12 @@ impl<'p> MessageDescriptor<'p> {
     }
 
     /// The oneofs, as they were declared.
-    pub fn oneofs(&self) -> Oneofs<'p> {
-        let pool = self.pool;
+    pub fn oneofs(&self) -> Oneofs<'p>
+        ensures { oneofs_left result ≡ (type_at self.now.pool.now self.now.index).oneofs }
+    {
         Oneofs {
             message: *self,
             next: 0,
-            end: end_of(pool.tables.messages[self.index as usize].oneofs.len()),
         }
     }
 
@@ -130,6 +131,8 @@ impl<'p> MessageDescriptor<'p> {
     /// The field at a place.
     pub(crate) fn field_at(&self, place: u32) -> Option<FieldDescriptor<'p>>
         ensures message { IfSome result (λ f. f.message ≡ self.now) }
+        ensures place { IfSome result (λ f. f.index ≡ place) }
+        ensures there { place < length (type_at self.now.pool.now self.now.index).fields → IsSome result }
     {
         let pool = self.pool;
         if (place as usize) < pool.tables.messages[self.index as usize].fields.list.len() {
@@ -147,6 +150,7 @@ impl<'p> MessageDescriptor<'p> {
         ensures message { IfSome result (λ o. o.message ≡ self.now) }
         ensures place { IfSome result (λ o. o.index ≡ place) }
         ensures there { place < length (type_at self.now.pool.now self.now.index).oneofs → IsSome result }
+        ensures few { IfSome result (λ o. o.index < 2 ^ 31) }
     {
         let pool = self.pool;
         if (place as usize) < pool.tables.messages[self.index as usize].oneofs.len() {

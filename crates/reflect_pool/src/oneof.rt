@@ -1,6 +1,7 @@
-ghost use Rattle.std.specs.Prelude.{◌≡◌, ◌<◌, length, IfSome};
+ghost use Rattle.std.specs.Prelude.{◌≡◌, ◌<◌, All, length, IfSome};
+ghost use Rattle.std.proofs.Props.{props};
 ghost use Rattle.reflect_index.specs.Types.{type_at};
-ghost use Rattle.reflect_pool.specs.Parts.{type_of_oneof};
+ghost use Rattle.reflect_pool.specs.Parts.{type_of_oneof, members_of};
 
 use crate::field::FieldDescriptor;
 use crate::message::MessageDescriptor;
@@ -15,6 +16,8 @@ pub struct OneofDescriptor<'p> {
 }
 
 impl<'p> OneofDescriptor<'p> {
+    ghost use Rattle.reflect_pool.specs.PartsLeft.{members_left};
+
     /// The pool that the oneof's type stands in.
     pub fn parent_pool(&self) -> &'p DescriptorPool
         ensures { result.now ≡ self.now.message.pool.now }
@@ -65,7 +68,9 @@ impl<'p> OneofDescriptor<'p> {
     }
 
     /// The members, as they were declared.
-    pub fn fields(&self) -> OneofFields<'p> {
+    pub fn fields(&self) -> OneofFields<'p>
+        ensures { members_left result ≡ members_of self.now.message.pool.now self.now.message.index self.now.index }
+    {
         let pool = self.message.pool;
         OneofFields {
             message: self.message,
@@ -81,15 +86,19 @@ impl<'p> OneofDescriptor<'p> {
 pub struct OneofFields<'p> {
     message: MessageDescriptor<'p>,
     places: &'p [u32],
+    ghost inside: { All (λ place. place < length (type_at message.pool.now message.index).fields) places.now } by { Prim.hlevel props },
 }
 
 impl<'p> Iterator for OneofFields<'p> {
-    ghost use Rattle.std.specs.Prelude.{length};
-    ghost use Rattle.std.specs.Iterator.{at_most};
+    ghost use Rattle.std.specs.Iterator.{YieldsFirstBy, item_count};
+    ghost use Rattle.reflect_pool.specs.FieldsLeft.{field_type};
+    ghost use Rattle.reflect_pool.specs.PartsLeft.{members_left};
 
     type Item = FieldDescriptor<'p>;
 
-    ghost remaining = { λ s. at_most (length s.places.now) };
+    ghost next_gives = { YieldsFirstBy field_type members_left };
+
+    ghost remaining = { item_count members_left };
 
     fn next(&mut self) -> Option<FieldDescriptor<'p>> {
         let (place, others) = self.places.split_first()?;
@@ -103,24 +112,21 @@ impl<'p> Iterator for OneofFields<'p> {
 pub struct Oneofs<'p> {
     pub(crate) message: MessageDescriptor<'p>,
     pub(crate) next: u32,
-    pub(crate) end: u32,
 }
 
 impl<'p> Iterator for Oneofs<'p> {
-    ghost use Rattle.std.specs.Prelude.{◌-◌};
-    ghost use Rattle.std.specs.Iterator.{at_most};
+    ghost use Rattle.std.specs.Iterator.{YieldsFirstBy, item_count};
+    ghost use Rattle.reflect_pool.specs.PartsLeft.{oneof_type, oneofs_left};
 
     type Item = OneofDescriptor<'p>;
 
-    ghost remaining = { λ s. at_most (s.end - s.next) };
+    ghost next_gives = { YieldsFirstBy oneof_type oneofs_left };
+
+    ghost remaining = { item_count oneofs_left };
 
     fn next(&mut self) -> Option<OneofDescriptor<'p>> {
-        if self.next < self.end {
-            let place = self.next;
-            self.next += 1;
-            self.message.oneof_at(place)
-        } else {
-            None
-        }
+        let oneof = self.message.oneof_at(self.next)?;
+        self.next += 1;
+        Some(oneof)
     }
 }

@@ -1,4 +1,4 @@
-ghost use Rattle.std.specs.Prelude.{◌≡◌, [], length, IfSome};
+ghost use Rattle.std.specs.Prelude.{◌≡◌, ◌<◌, [], length, IfSome, IsSome};
 ghost use Rattle.reflect_index.specs.Types.{PoolType};
 
 use crate::blank::Blanks;
@@ -65,6 +65,7 @@ impl DescriptorPool {
     pub fn message_at(&self, index: u32) -> Option<MessageDescriptor<'_>>
         ensures pool { IfSome result (λ d. d.pool.now ≡ self.now) }
         ensures index { IfSome result (λ d. d.index ≡ index) }
+        ensures there { index < length self.now.messages → IsSome result }
     {
         if (index as usize) < self.tables.messages.len() {
             Some(MessageDescriptor { pool: self, index })

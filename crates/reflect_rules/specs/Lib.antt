@@ -1,3 +1,4 @@
+pub mod Defaults
 pub mod EnumRules
 pub mod Furthest
 pub mod MapEntries
@@ -8,4 +9,6 @@ pub mod Repeats
 pub mod RulePass
 pub mod RuleSteps
 pub mod Rules
+pub mod UseSteps
+pub mod Uses
 pub mod Walks

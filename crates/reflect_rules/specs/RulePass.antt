@@ -9,6 +9,7 @@ use Rattle.reflect_names.specs.declared.resolve_visitor.Reference.{Reference}
 use Rattle.reflect_rules.specs.Ranges.{TypesSay}
 use Rattle.reflect_rules.specs.Walks.{Facts, Place, place_behind}
 use Rattle.reflect_rules.specs.Rules.{Values, FaultsOf}
+use Rattle.reflect_rules.specs.Uses.{users, use_by}
 use Rattle.reflect_rules.specs.declared.uses.EntryUse.{EntryUse}
 
 abbrev pub past_files : Offsets → List FileDescriptorProto → Offsets
@@ -30,9 +31,12 @@ FaultsAlong g values at p (d ∷ ds) xs =
 abbrev pub batch_places : List FileDescriptorProto → ℕ → ℕ → Places
 batch_places files first i path = record { file = name_at files first i; path = path }
 
--- the faults of a batch of files, whose references mean this, for some uses of the types of maps' entries
+-- how the type of a map's entries of the index is used in a batch of files, whose references mean this
+abbrev pub batch_use : TypesSay → Offsets → ℕ → List FileDescriptorProto → List Reference → ℕ → Option EntryUse
+batch_use types before first files references i = use_by (users types i references (batch_declarations before first files))
+
+-- the faults of a batch of files, whose references mean this
 abbrev pub BatchFaults : TypesSay → Values → Offsets → ℕ → List FileDescriptorProto → List Reference → List Fault → Type 0
 BatchFaults types values before first files references xs =
-    (uses : ℕ → Option EntryUse)
-    × FaultsAlong (record { types = types; uses = uses; first = before.messages }) values (batch_places files first)
+    FaultsAlong (record { types = types; uses = batch_use types before first files references; first = before.messages }) values (batch_places files first)
     (record { rest = references; is_proto3 = false; oneofs = 0 }) (batch_declarations before first files) xs

@@ -14,6 +14,7 @@ use Rattle.reflect_rules.specs.Numbers.{number_faults, reserved_faults, kept_fau
 use Rattle.reflect_rules.specs.Repeats.{repeat_faults}
 use Rattle.reflect_rules.specs.MapEntries.{says_entry, has_entry_shape}
 use Rattle.reflect_rules.specs.EnumRules.{enum_faults}
+use Rattle.reflect_rules.specs.Defaults.{IsScalarSuited}
 use Rattle.reflect_rules.specs.Walks.{Facts, Place}
 use Rattle.reflect_rules.specs.declared.uses.EntryUse.{EntryUse}
 use Rattle.reflect_rules.specs.declared.uses.EntryUse.TheVariants as use_kind
@@ -48,15 +49,16 @@ default_faults at path (Some value) suits = cond suits [] (bad_default (string_b
 abbrev pub Values : Type 1
 Values = ℕ → List ℕ → Bool → Type 0
 
--- the default of an enum's field is the name of one of its values, and no field of a message type has one
-abbrev pub IsSuited : Values → Option DefinitionKind → List ℕ → Bool → Type 0
-IsSuited values None text suits = Unit {0}
-IsSuited values (Some (kind.Enum i)) text suits = values i text suits
-IsSuited values (Some _) text suits = suits ≡ false
+-- the default of a scalar field is one of the type that has the number, that of an enum's field is the name of one of its
+-- values, and no field of a message type has one
+abbrev pub IsSuited : Values → Option ℤ → Option DefinitionKind → List ℕ → Bool → Type 0
+IsSuited values number None text suits = IsScalarSuited number text suits
+IsSuited values number (Some (kind.Enum i)) text suits = values i text suits
+IsSuited values number (Some _) text suits = suits ≡ false
 
-abbrev pub IsDefaultOf : Values → Option DefinitionKind → Option (String Global) → Bool → Type 0
-IsDefaultOf values m None suits = suits ≡ true
-IsDefaultOf values m (Some text) suits = IsSuited values m (string_bytes text) suits
+abbrev pub IsDefaultOf : Values → Option ℤ → Option DefinitionKind → Option (String Global) → Bool → Type 0
+IsDefaultOf values number m None suits = suits ≡ true
+IsDefaultOf values number m (Some text) suits = IsSuited values number m (string_bytes text) suits
 
 -- what is found of a field: ranges with its number, and whether its default suits
 pub record FieldFindings (g : Facts) (values : Values) (m : Option DefinitionKind) (message : ℕ) (n : ℤ) (f : FieldDescriptorProto) : Type 0 where
@@ -65,7 +67,7 @@ pub record FieldFindings (g : Facts) (values : Values) (m : Option DefinitionKin
   pub suits : Bool
   pub is_reserved : IsRangeOf (g.types.reserved message) n reserved
   pub is_kept : IsRangeOf (g.types.extensions message) n kept
-  pub is_suited : IsDefaultOf values m f.default_value suits
+  pub is_suited : IsDefaultOf values f.field_type m f.default_value suits
 
 abbrev pub number_of : FieldDescriptorProto → ℤ
 number_of f = unwrap_or f.number (pos 0)
@@ -88,7 +90,7 @@ pub record ExtensionFindings (g : Facts) (values : Values) (at : Places) (path :
   pub numbers : List Fault
   pub suits : Bool
   pub is_number : ExtensionNumber g.types at path n (message_of extendee) numbers
-  pub is_suited : IsDefaultOf values m x.default_value suits
+  pub is_suited : IsDefaultOf values x.field_type m x.default_value suits
 
 abbrev pub ExtensionFaults : Facts → Values → Places → List ℤ → FieldDescriptorProto → ℤ → Option DefinitionKind → Option DefinitionKind → List Fault → Type 0
 ExtensionFaults g values at path x n extendee m xs =

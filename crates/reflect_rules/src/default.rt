@@ -1,3 +1,9 @@
+//! What the texts of defaults say.
+
+ghost use Rattle.std.specs.Prelude.{◌≡◌};
+ghost use Rattle.descriptor_records.specs.declared.field.FieldType.TheVariants as types;
+ghost use Rattle.reflect_rules.specs.Defaults.{is_decimal, is_integer, IsRead};
+
 use descriptor_records::FieldType;
 use protox_lex::is_escaped;
 
@@ -15,47 +21,86 @@ pub enum DefaultText {
     Float,
 }
 
-/// The digits of a decimal number of one or more digits.
-fn are_digits(text: &str) -> bool {
-    !text.is_empty() && text.as_bytes().iter().all(|b| b.is_ascii_digit())
+/// One or more decimal digits.
+fn are_digits(text: &[u8]) -> bool
+    ensures { result ≡ is_decimal text.now }
+{
+    for b in text {
+        if !b.is_ascii_digit() {
+            return false;
+        }
+    }
+    !text.is_empty()
 }
 
-/// A decimal number that may have a sign.
-fn signed(text: &str) -> Option<i64> {
-    let digits = text.strip_prefix('-').unwrap_or(text);
-    if are_digits(digits) {
-        text.parse().ok()
+/// Decimal digits, which may have a `-` in front.
+fn is_integer(text: &[u8]) -> bool
+    ensures { result ≡ is_integer text.now }
+{
+    if !text.is_empty() && text[0] == b'-' {
+        are_digits(&text[1..])
     } else {
-        None
+        are_digits(text)
     }
 }
 
-/// A decimal number without a sign.
-fn unsigned(text: &str) -> Option<u64> {
-    if are_digits(text) {
-        text.parse().ok()
-    } else {
-        None
+fn signed_32(text: &str) -> Option<DefaultText>
+    ensures { IsRead types.Int32 text.now result }
+{
+    if !is_integer(text.as_bytes()) {
+        return None;
+    }
+    match text.parse::<i32>() {
+        Ok(number) => Some(DefaultText::I64(i64::from(number))),
+        Err(_) => None,
     }
 }
 
-fn signed_32(text: &str) -> Option<DefaultText> {
-    let number = signed(text)?;
-    i32::try_from(number).ok()?;
-    Some(DefaultText::I64(number))
+fn signed_64(text: &str) -> Option<DefaultText>
+    ensures { IsRead types.Int64 text.now result }
+{
+    if !is_integer(text.as_bytes()) {
+        return None;
+    }
+    match text.parse::<i64>() {
+        Ok(number) => Some(DefaultText::I64(number)),
+        Err(_) => None,
+    }
 }
 
-fn unsigned_32(text: &str) -> Option<DefaultText> {
-    let number = unsigned(text)?;
-    u32::try_from(number).ok()?;
-    Some(DefaultText::U64(number))
+fn unsigned_32(text: &str) -> Option<DefaultText>
+    ensures { IsRead types.Uint32 text.now result }
+{
+    if !are_digits(text.as_bytes()) {
+        return None;
+    }
+    match text.parse::<u32>() {
+        Ok(number) => Some(DefaultText::U64(u64::from(number))),
+        Err(_) => None,
+    }
 }
 
-fn truth(text: &str) -> Option<DefaultText> {
-    match text {
-        "true" => Some(DefaultText::Bool(true)),
-        "false" => Some(DefaultText::Bool(false)),
-        _ => None,
+fn unsigned_64(text: &str) -> Option<DefaultText>
+    ensures { IsRead types.Uint64 text.now result }
+{
+    if !are_digits(text.as_bytes()) {
+        return None;
+    }
+    match text.parse::<u64>() {
+        Ok(number) => Some(DefaultText::U64(number)),
+        Err(_) => None,
+    }
+}
+
+fn truth(text: &str) -> Option<DefaultText>
+    ensures { IsRead types.Bool text.now result }
+{
+    if text == "true" {
+        Some(DefaultText::Bool(true))
+    } else if text == "false" {
+        Some(DefaultText::Bool(false))
+    } else {
+        None
     }
 }
 
@@ -64,14 +109,14 @@ fn truth(text: &str) -> Option<DefaultText> {
 ///
 /// Integers are decimal, with a `-` in front where the type has negative numbers; truth values are `true` and `false`; bytes
 /// are escaped as in C.
-pub fn read_default(field_type: FieldType, text: &str) -> Option<DefaultText> {
+pub fn read_default(field_type: FieldType, text: &str) -> Option<DefaultText>
+    ensures { IsRead field_type text.now result }
+{
     match field_type {
         FieldType::Int32 | FieldType::Sint32 | FieldType::Sfixed32 => signed_32(text),
-        FieldType::Int64 | FieldType::Sint64 | FieldType::Sfixed64 => {
-            Some(DefaultText::I64(signed(text)?))
-        }
+        FieldType::Int64 | FieldType::Sint64 | FieldType::Sfixed64 => signed_64(text),
         FieldType::Uint32 | FieldType::Fixed32 => unsigned_32(text),
-        FieldType::Uint64 | FieldType::Fixed64 => Some(DefaultText::U64(unsigned(text)?)),
+        FieldType::Uint64 | FieldType::Fixed64 => unsigned_64(text),
         FieldType::Bool => truth(text),
         FieldType::String => Some(DefaultText::Text),
         FieldType::Bytes if is_escaped(text.as_bytes()) => Some(DefaultText::Bytes),

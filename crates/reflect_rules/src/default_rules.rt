@@ -2,6 +2,7 @@
 
 ghost use Rattle.std.specs.Prelude.{◌≡◌, OnOk};
 ghost use Rattle.reflect_names.specs.Faults.{Adds, place_at};
+ghost use Rattle.reflect_rules.specs.Defaults.{IsScalarSuited};
 ghost use Rattle.reflect_rules.specs.Rules.{IsSuited, IsDefaultOf, default_faults};
 
 use crate::default::read_default;
@@ -10,6 +11,19 @@ use descriptor_records::{FieldDescriptorProto, FieldType, tag};
 use reflect_names::{DefinitionKind, DescriptorErrorKind, Faults};
 use std::alloc::{AllocError, Global};
 
+/// The text is a default of the scalar type that has the number.
+fn suits_scalar(number: Option<i32>, text: &str) -> bool
+    ensures { IsScalarSuited number text.now result }
+{
+    let Some(number) = number else {
+        return false;
+    };
+    match FieldType::from_number(number) {
+        Some(field_type) => read_default(field_type, text).is_some(),
+        None => false,
+    }
+}
+
 /// A default suits its field: it is a value of the scalar type or the name of a value of the enum. No message type has one.
 fn suits<T: Types>(
     types: &T,
@@ -17,15 +31,12 @@ fn suits<T: Types>(
     meaning: Option<DefinitionKind>,
     value: &str,
 ) -> bool
-    ensures { IsSuited (T.values types.now) meaning value.now result }
+    ensures { IsSuited (T.values types.now) field_type meaning value.now result }
 {
     match meaning {
         Some(DefinitionKind::Enum(index)) => types.has_value(index, value),
         Some(_) => false,
-        None => match field_type.and_then(FieldType::from_number) {
-            Some(field_type) => read_default(field_type, value).is_some(),
-            None => false,
-        },
+        None => suits_scalar(field_type, value),
     }
 }
 
@@ -35,7 +46,7 @@ pub fn has_right_default<T: Types>(
     field: &FieldDescriptorProto,
     meaning: Option<DefinitionKind>,
 ) -> bool
-    ensures { IsDefaultOf (T.values types.now) meaning field.now.default_value result }
+    ensures { IsDefaultOf (T.values types.now) field.now.field_type meaning field.now.default_value result }
 {
     match &field.default_value {
         Some(value) => suits(types, field.field_type, meaning, value.as_str()),

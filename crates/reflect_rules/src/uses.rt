@@ -1,5 +1,11 @@
 //! Which fields have the entry of a map as their type.
 
+ghost use Rattle.std.specs.Prelude.{◌≡◌, ℕ, None, OnOk};
+ghost use Rattle.std.specs.BTreeMap.{get};
+ghost use Rattle.std.specs.Ordering.{nat_cmp};
+ghost use Rattle.reflect_rules.specs.Meanings.{meaning, behind};
+ghost use Rattle.reflect_rules.specs.Uses.{user, use_of as use_made, use_behind};
+
 use crate::references::References;
 use crate::types::Types;
 use descriptor_records::{
@@ -29,7 +35,9 @@ pub struct UseVisitor<'a, T: Types> {
 }
 
 /// The use of an entry's type that a field makes alone.
-fn use_of(field: &FieldDescriptorProto) -> EntryUse {
+fn use_of(field: &FieldDescriptorProto) -> EntryUse
+    ensures { result ≡ use_made field.now }
+{
     let is_group = field.field_type == Some(FieldType::Group.number());
     if field.label == Some(Label::Repeated.number()) && !is_group {
         EntryUse::OneMap
@@ -40,7 +48,11 @@ fn use_of(field: &FieldDescriptorProto) -> EntryUse {
 
 impl<'a, T: Types> UseVisitor<'a, T> {
     /// No field was visited yet. Takes no memory.
-    pub fn new(alloc: Global, references: References<'a>, types: &'a T) -> UseVisitor<'a, T> {
+    pub fn new(alloc: Global, references: References<'a>, types: &'a T) -> UseVisitor<'a, T>
+        ensures uses { (i : ℕ) → get nat_cmp result.uses i ≡ None }
+        ensures references { result.references.rest.now ≡ references.entry.rest.now }
+        ensures types { result.types.now ≡ types.now }
+    {
         UseVisitor {
             uses: BTreeMap::new(alloc),
             references,
@@ -49,7 +61,9 @@ impl<'a, T: Types> UseVisitor<'a, T> {
     }
 
     /// The uses, by the index of the entry's type.
-    pub fn into_uses(self) -> BTreeMap<u32, EntryUse> {
+    pub fn into_uses(self) -> BTreeMap<u32, EntryUse>
+        ensures { result ≡ self.entry.uses }
+    {
         let UseVisitor {
             uses,
             references: _,
@@ -58,7 +72,12 @@ impl<'a, T: Types> UseVisitor<'a, T> {
         uses
     }
 
-    fn note(&mut self, field: &FieldDescriptorProto) -> Result<(), AllocError> {
+    /// Notes the use that a field makes of its type, if that is the type of a map's entries.
+    fn note(&mut self, field: &FieldDescriptorProto) -> Result<(), AllocError>
+        ensures uses { OnOk result ((i : ℕ) → get nat_cmp self.new.uses i ≡ use_behind (get nat_cmp self.old.uses i) (user (T.says self.old.types.now) i (meaning field.now.type_name self.old.references.rest.now) field.now)) }
+        ensures rest { OnOk result (self.new.references.rest.now ≡ behind field.now.type_name self.old.references.rest.now) }
+        ensures types { OnOk result (self.new.types.now ≡ self.old.types.now) }
+    {
         let Some(DefinitionKind::Message(index)) = self.references.meaning_of(&field.type_name)
         else {
             return Ok(());
@@ -76,7 +95,9 @@ impl<'a, T: Types> UseVisitor<'a, T> {
 }
 
 impl<'a, T: Types> Visitor for UseVisitor<'a, T> {
-    ghost steps = { λ _ _ _. Unit {0} };
+    ghost use Rattle.reflect_rules.specs.UseSteps.{Notes};
+
+    ghost steps = { Notes T.says };
 
     ghost kept = { λ _ _ _. Unit {0} };
 

@@ -1,0 +1,19 @@
+use Rattle.std.proofs.Common.{◌∙◌, arith}
+use Rattle.reflect_names.specs.FileNames.{indexes_of}
+use Rattle.reflect_names.proofs.FileRuns.{with_more, faults_more}
+use Rattle.reflect_names.proofs.imports.name_files.Goals as goal
+
+pub turns-preserved : goal.turns-preserved
+turns-preserved c =
+    let fs = c.args.files.now in
+    let k = c.turns.file-index in
+    let f = c.file-item.result in
+    let known = indexes_of c.args.file_names.now in
+    let now = indexes_of c.turns.file_names in
+    let before = c.turns.invariant in
+    let lt = c.turns-test.true in
+    record {
+      names = c.in_ok-name_file.ensures.names ∙ with_more known now c.args.first c.turns.index k fs f lt c.file-item.is before.index before.names;
+      faults = faults_more known now c.args.first c.turns.index k fs f lt c.file-item.is before.index before.names c.args.faults.now c.turns.faults c.name_file.new.faults before.faults c.in_ok-name_file.ensures.faults;
+      index = omega (arith, before.index);
+    }
