@@ -1,5 +1,9 @@
 -- What messages hold.
-use Rattle.std.specs.Prelude.{ℕ, List, []}
+use Rattle.std.specs.Prelude.{◌≡◌, ℕ, List, []}
+use Rattle.reflect_wire.specs.Records.{Payload}
+use Rattle.reflect_entries.specs.Entries.{Updates}
+use Rattle.reflect_entries.specs.Undeclared.{undeclared}
+use Rattle.std.specs.Prelude.{Option}
 use Rattle.reflect_dynamic.specs.declared.message.DynamicMessage.{DynamicMessage}
 use Rattle.reflect_dynamic.specs.declared.parts.Held.{out-Held}
 use Rattle.reflect_dynamic.specs.declared.parts.Held.TheOpen.{Held-F}
@@ -9,12 +13,33 @@ use Rattle.reflect_dynamic.specs.declared.value.Value.{Value}
 abbrev pub fields_of : DynamicMessage → List (ℕ × Value)
 fields_of m = elim (out-Held m.held) [
   | Held-F.Nothing ↦ []
-  | Held-F.Block b ↦ b.value.fields.items
+  | Held-F.Block b ↦ b.value.fields
 ]
 
 -- what the extensions hold, with their numbers
 abbrev pub extensions_of : DynamicMessage → List (ℕ × Value)
 extensions_of m = elim (out-Held m.held) [
   | Held-F.Nothing ↦ []
-  | Held-F.Block b ↦ b.value.extensions.items
+  | Held-F.Block b ↦ b.value.extensions
 ]
+
+-- the records of numbers that the type does not declare, with their numbers
+abbrev pub unknown_of : DynamicMessage → List (ℕ × Payload)
+unknown_of m = elim (out-Held m.held) [
+  | Held-F.Nothing ↦ []
+  | Held-F.Block b ↦ undeclared b.value.unknown
+]
+
+-- under the number of a declared field stands what is given, or nothing, and nothing else is changed
+pub record UpdatesField (old new : DynamicMessage) (number : ℕ) (given : Option Value) : Type 0 where
+  pub same_type : new.descriptor ≡ old.descriptor
+  pub field : Updates (fields_of old) (fields_of new) number given
+  pub extensions : extensions_of new ≡ extensions_of old
+  pub unknown : unknown_of new ≡ unknown_of old
+
+-- the same for the number of an extension
+pub record UpdatesExtension (old new : DynamicMessage) (number : ℕ) (given : Option Value) : Type 0 where
+  pub same_type : new.descriptor ≡ old.descriptor
+  pub fields : fields_of new ≡ fields_of old
+  pub extension : Updates (extensions_of old) (extensions_of new) number given
+  pub unknown : unknown_of new ≡ unknown_of old

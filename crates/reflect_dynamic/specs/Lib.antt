@@ -1,3 +1,4 @@
 pub mod Declares
 pub mod Held
 pub mod Left
+pub mod Shown

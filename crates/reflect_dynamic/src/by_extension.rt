@@ -1,7 +1,10 @@
 //! Extensions by their descriptors.
 
-ghost use Rattle.std.specs.Prelude.{◌≡◌, OnErr};
-ghost use Rattle.reflect_dynamic.specs.Held.{extensions_of};
+ghost use Rattle.std.specs.Prelude.{◌≡◌, true, None, Some, IsTrue, IsSome, IfOk, IfSome, OnOk, OnErr};
+ghost use Rattle.reflect_scalar.specs.FieldTypes.{extension_type};
+ghost use Rattle.reflect_entries.specs.Entries.{value_at};
+ghost use Rattle.reflect_dynamic.specs.Held.{extensions_of, UpdatesExtension};
+ghost use Rattle.reflect_dynamic.specs.Shown.{Shows};
 
 use crate::content;
 use crate::defaults::default_of;
@@ -9,22 +12,26 @@ use crate::field_ref::FieldRef;
 use crate::message::DynamicMessage;
 use crate::parts::Held;
 use crate::value::Value;
-use reflect_entries::entries;
 use reflect_link::ExtensionDescriptor;
 use std::alloc::AllocError;
 
 impl<'p> DynamicMessage<'p> {
     /// The extension, one of the message's type, is set. Takes no memory.
-    pub fn has_extension(&self, extension: &ExtensionDescriptor<'p>) -> bool {
-        content::has(self.extension_entries(), extension)
+    pub fn has_extension(&self, extension: &ExtensionDescriptor<'p>) -> bool
+        ensures held { IsTrue result → IsSome (value_at (extensions_of self.now) (extension_type extension.now).number) }
+        ensures presence { (extension_type extension.now).presence ≡ true → IsSome (value_at (extensions_of self.now) (extension_type extension.now).number) → IsTrue result }
+    {
+        content::is_set(self.extension_value(extension.number()), extension)
     }
 
     /// What the extension, one of the message's type, holds, or its default.
     pub fn get_extension(
         &self,
         extension: &ExtensionDescriptor<'p>,
-    ) -> Result<FieldRef<'_, 'p>, AllocError> {
-        content::lend(self.allocator(), self.extension_entries(), extension)
+    ) -> Result<FieldRef<'_, 'p>, AllocError>
+        ensures { IfOk result (Shows (value_at (extensions_of self.now) (extension_type extension.now).number)) }
+    {
+        content::lend(self.allocator(), self.extension_value(extension.number()), extension)
     }
 
     /// What the extension, one of the message's type, holds, to be changed. One that is not set gets its default. A refusal
@@ -35,7 +42,7 @@ impl<'p> DynamicMessage<'p> {
     ) -> Result<&mut Value<'p>, AllocError> {
         let default = default_of(self.allocator(), extension)?;
         let extensions = &mut self.parts_mut()?.extensions;
-        entries::slot(extensions, extension.number(), default)
+        extensions.slot(extension.number(), default)
     }
 
     /// Sets the extension, one of the message's type, to a value that suits it, over what it held. A refusal leaves the
@@ -46,26 +53,29 @@ impl<'p> DynamicMessage<'p> {
         value: Value<'p>,
     ) -> Result<(), AllocError>
         ensures type_stays { self.new.descriptor ≡ self.old.descriptor }
+        ensures ok { OnOk result (UpdatesExtension self.old self.new (extension_type extension.now).number (Some value)) }
         ensures err { OnErr result (extensions_of self.new ≡ extensions_of self.old) }
     {
         let mut parts = self.take_block()?;
-        let outcome = entries::set(&mut parts.extensions, extension.number(), value);
+        let outcome = parts.extensions.set(extension.number(), value);
         self.put_block(parts);
         outcome
     }
 
     /// Unsets the extension, one of the message's type. Takes no memory.
     pub fn clear_extension(&mut self, extension: &ExtensionDescriptor<'p>)
-        ensures type_stays { self.new.descriptor ≡ self.old.descriptor }
+        ensures { UpdatesExtension self.old self.new (extension_type extension.now).number None }
     {
         if let Held::Block(parts) = &mut self.held {
-            entries::take(&mut parts.extensions, extension.number());
+            parts.extensions.take(extension.number());
         }
     }
 
     /// Unsets the extension, one of the message's type, and gives what it held, if it was set. Takes no memory.
     pub fn take_extension(&mut self, extension: &ExtensionDescriptor<'p>) -> Option<Value<'p>>
-        ensures type_stays { self.new.descriptor ≡ self.old.descriptor }
+        ensures updates { UpdatesExtension self.old self.new (extension_type extension.now).number None }
+        ensures held { IfSome result (λ v. value_at (extensions_of self.old) (extension_type extension.now).number ≡ Some v) }
+        ensures presence { (extension_type extension.now).presence ≡ true → result ≡ value_at (extensions_of self.old) (extension_type extension.now).number }
     {
         match &mut self.held {
             Held::Block(parts) => content::take(&mut parts.extensions, extension),

@@ -1,8 +1,11 @@
 //! Fields by their descriptors.
 
-ghost use Rattle.std.specs.Prelude.{◌≡◌, OnErr};
+ghost use Rattle.std.specs.Prelude.{◌≡◌, true, None, Some, IsTrue, IsSome, IfOk, IfSome, OnOk, OnErr};
+ghost use Rattle.reflect_pool.specs.FieldsLeft.{field_type};
+ghost use Rattle.reflect_entries.specs.Entries.{value_at};
 ghost use Rattle.reflect_dynamic.specs.Declares.{Declares};
-ghost use Rattle.reflect_dynamic.specs.Held.{fields_of};
+ghost use Rattle.reflect_dynamic.specs.Held.{fields_of, UpdatesField};
+ghost use Rattle.reflect_dynamic.specs.Shown.{Shows};
 
 use crate::content;
 use crate::defaults::default_of;
@@ -12,7 +15,6 @@ use crate::parts::Held;
 use crate::set_field_error::SetFieldError;
 use crate::validity::is_valid_for;
 use crate::value::Value;
-use reflect_entries::entries;
 use reflect_link::FieldDescriptor;
 use std::alloc::AllocError;
 
@@ -21,15 +23,18 @@ impl<'p> DynamicMessage<'p> {
     /// default. Takes no memory.
     pub fn has_field(&self, field: &FieldDescriptor<'p>) -> bool
         requires { Declares self.now.descriptor field.now }
+        ensures held { IsTrue result → IsSome (value_at (fields_of self.now) (field_type field.now).number) }
+        ensures presence { (field_type field.now).presence ≡ true → IsSome (value_at (fields_of self.now) (field_type field.now).number) → IsTrue result }
     {
-        content::has(self.field_entries(), field)
+        content::is_set(self.field_value(field.number()), field)
     }
 
     /// What the field, one of the message's type, holds, or its default.
     pub fn get_field(&self, field: &FieldDescriptor<'p>) -> Result<FieldRef<'_, 'p>, AllocError>
         requires { Declares self.now.descriptor field.now }
+        ensures { IfOk result (Shows (value_at (fields_of self.now) (field_type field.now).number)) }
     {
-        content::lend(self.allocator(), self.field_entries(), field)
+        content::lend(self.allocator(), self.field_value(field.number()), field)
     }
 
     /// What the field, one of the message's type, holds, to be changed. A field that is not set gets its default, and the
@@ -87,17 +92,19 @@ impl<'p> DynamicMessage<'p> {
     /// Unsets the field, one of the message's type. Takes no memory.
     pub fn clear_field(&mut self, field: &FieldDescriptor<'p>)
         requires { Declares self.old.descriptor field.now }
-        ensures type_stays { self.new.descriptor ≡ self.old.descriptor }
+        ensures { UpdatesField self.old self.new (field_type field.now).number None }
     {
         if let Held::Block(parts) = &mut self.held {
-            entries::take(&mut parts.fields, field.number());
+            parts.fields.take(field.number());
         }
     }
 
     /// Unsets the field, one of the message's type, and gives what it held, if it was set. Takes no memory.
     pub fn take_field(&mut self, field: &FieldDescriptor<'p>) -> Option<Value<'p>>
         requires { Declares self.old.descriptor field.now }
-        ensures type_stays { self.new.descriptor ≡ self.old.descriptor }
+        ensures updates { UpdatesField self.old self.new (field_type field.now).number None }
+        ensures held { IfSome result (λ v. value_at (fields_of self.old) (field_type field.now).number ≡ Some v) }
+        ensures presence { (field_type field.now).presence ≡ true → result ≡ value_at (fields_of self.old) (field_type field.now).number }
     {
         match &mut self.held {
             Held::Block(parts) => content::take(&mut parts.fields, field),

@@ -1,13 +1,13 @@
 //! From wire bytes to a message, record by record.
 
-ghost use Rattle.std.specs.Prelude.{◌≡◌, ◌<◌, ◌≤◌, length, IfOk};
+ghost use Rattle.std.specs.Prelude.{◌≡◌, ◌<◌, ◌≤◌, length, IfOk, IfSome};
 
 use crate::declared::{declared_extension, declared_field};
 use crate::defaults::default_of;
 use crate::message::DynamicMessage;
 use crate::parts::Parts;
 use crate::value::Value;
-use reflect_entries::{UnknownRecords, entries};
+use reflect_entries::{Entries, UnknownRecords};
 use reflect_link::{FieldDescriptor, Kind, MessageDescriptor};
 use reflect_scalar::{AnyField, FieldDescriptorLike, MapKey, is_packable, scalar_at, wire_type};
 use reflect_wire::{UnknownField, WireError, WireKey, WireType, delimited_at, key_at};
@@ -32,6 +32,22 @@ impl<'b> RawRecord<'b> {
     /// How many levels may lie below a message or a group in this record; `TooDeep` where it may not lie there itself.
     fn levels_below(&self) -> Result<u32, WireError> {
         self.levels.checked_sub(1).ok_or(WireError::TooDeep)
+    }
+
+    /// The record behind, if it has the same key. The elements of a list, as the entries of a map, mostly stand together, and
+    /// what their field says of them is asked once.
+    fn another_at(&self, rest: &'b [u8]) -> Option<RawRecord<'b>>
+        ensures { IfSome result (λ next. length next.bytes.now < length rest.now) }
+    {
+        let (key, bytes) = key_at(rest).ok()?;
+        if key != self.key {
+            return None;
+        }
+        Some(RawRecord {
+            key,
+            bytes,
+            levels: self.levels,
+        })
     }
 }
 
@@ -145,7 +161,7 @@ fn keep_unknown<'b>(
 /// `BadWireType` where its wire type is not that of the field, or the message holds what does not suit the field.
 #[cycle(merge)]
 fn merge_field<'p, 'b>(
-    content: &mut Vec<(u32, Value<'p>)>,
+    content: &mut Entries<Value<'p>>,
     alloc: Global,
     field: AnyField<'p>,
     raw: RawRecord<'b>,
@@ -154,21 +170,24 @@ fn merge_field<'p, 'b>(
 {
     let number = raw.key.number;
     match field.kind() {
-        Kind::Message(entry) if field.is_map() => merge_entry(content, alloc, entry, raw),
-        _ if field.is_list() => {
-            let list = entries::slot(content, number, Value::List(Vec::new(alloc)))?;
-            merge_list(list, alloc, field, raw)
+        Kind::Message(entry) if field.is_map() => {
+            let map = content.slot(number, Value::Map(BTreeMap::new(alloc)))?;
+            merge_map(map, alloc, entry, raw)
+        }
+        kind if field.is_list() => {
+            let list = content.slot(number, Value::List(Vec::new(alloc)))?;
+            merge_list(list, alloc, &kind, field.is_group(), raw)
         }
         Kind::Message(inner) => {
             let empty = Value::Message(DynamicMessage::new(alloc, inner));
-            match entries::slot(content, number, empty)? {
+            match content.slot(number, empty)? {
                 Value::Message(message) => { merge_message(message, alloc, field.is_group(), raw) }
                 _ => Err(WireError::BadWireType),
             }
         }
         kind => {
             let (scalar, rest) = scalar_at(&kind, raw.key.wire, raw.bytes)?;
-            entries::set(content, number, Value::from_scalar(alloc, scalar)?)?;
+            content.set(number, Value::from_scalar(alloc, scalar)?)?;
             Ok(rest)
         }
     }
@@ -200,12 +219,14 @@ fn merge_message<'p, 'b>(
     }
 }
 
-/// Takes in an element of a list, or the elements of a packed record.
+/// Takes in an element of a list, or the elements of a packed record, and with them the records behind that have the same
+/// key.
 #[cycle(merge)]
 fn merge_list<'p, 'b>(
     list: &mut Value<'p>,
     alloc: Global,
-    field: AnyField<'p>,
+    kind: &Kind<'p>,
+    is_group: bool,
     raw: RawRecord<'b>,
 ) -> Result<&'b [u8], WireError>
     ensures shorter { IfOk result (λ rest. length rest.now ≤ length raw.entry.bytes.now) }
@@ -213,24 +234,41 @@ fn merge_list<'p, 'b>(
     let Value::List(values) = list else {
         return Err(WireError::BadWireType);
     };
-    match field.kind() {
-        Kind::Message(inner) => {
-            let mut message = DynamicMessage::new(alloc, inner);
-            let rest = merge_message(&mut message, alloc, field.is_group(), raw)?;
-            values.push(Value::Message(message))?;
-            Ok(rest)
-        }
-        kind if raw.key.wire == WireType::LengthDelimited && is_packable(&kind) => {
-            let (body, rest) = delimited_at(raw.bytes)?;
-            push_packed(values, alloc, &kind, body)?;
-            Ok(rest)
-        }
-        kind => {
-            let (scalar, rest) = scalar_at(&kind, raw.key.wire, raw.bytes)?;
-            values.push(Value::from_scalar(alloc, scalar)?)?;
-            Ok(rest)
+    let mut record = raw;
+    'records: loop {
+        let rest = merge_element(values, alloc, kind, is_group, record)?;
+        match record.another_at(rest) {
+            Some(next) => record = next,
+            None => return Ok(rest),
         }
     }
+}
+
+/// Takes in an element of a list of the kind, or the elements of a packed record.
+#[cycle(merge)]
+fn merge_element<'p, 'b>(
+    values: &mut Vec<Value<'p>>,
+    alloc: Global,
+    kind: &Kind<'p>,
+    is_group: bool,
+    raw: RawRecord<'b>,
+) -> Result<&'b [u8], WireError>
+    ensures shorter { IfOk result (λ rest. length rest.now ≤ length raw.entry.bytes.now) }
+{
+    if let Kind::Message(inner) = kind {
+        let mut message = DynamicMessage::new(alloc, *inner);
+        let rest = merge_message(&mut message, alloc, is_group, raw)?;
+        values.push(Value::Message(message))?;
+        return Ok(rest);
+    }
+    if raw.key.wire == WireType::LengthDelimited && is_packable(kind) {
+        let (body, rest) = delimited_at(raw.bytes)?;
+        push_packed(values, alloc, kind, body)?;
+        return Ok(rest);
+    }
+    let (scalar, rest) = scalar_at(kind, raw.key.wire, raw.bytes)?;
+    values.push(Value::from_scalar(alloc, scalar)?)?;
+    Ok(rest)
 }
 
 /// How many values a packed record of the kind holds, where it can be read.
@@ -260,27 +298,31 @@ fn push_packed(
     Ok(())
 }
 
-/// Takes in an entry of a map: over what stood under its key.
+/// Takes in an entry of a map, over what stood under its key, and with it the records behind that have the same key.
 #[cycle(merge)]
-fn merge_entry<'p, 'b>(
-    content: &mut Vec<(u32, Value<'p>)>,
+fn merge_map<'p, 'b>(
+    map: &mut Value<'p>,
     alloc: Global,
     entry: MessageDescriptor<'p>,
     raw: RawRecord<'b>,
 ) -> Result<&'b [u8], WireError>
     ensures shorter { IfOk result (λ rest. length rest.now ≤ length raw.entry.bytes.now) }
 {
-    let WireType::LengthDelimited = raw.key.wire else {
+    let (Value::Map(entries), WireType::LengthDelimited) = (map, raw.key.wire) else {
         return Err(WireError::BadWireType);
     };
-    let (body, rest) = delimited_at(raw.bytes)?;
-    let (key, value) = entry_of(alloc, entry, body, raw.levels)?;
-    match entries::slot(content, raw.key.number, Value::Map(BTreeMap::new(alloc)))? {
-        Value::Map(entries) => {
-            entries.insert(key, value)?;
-            Ok(rest)
+    let (Some(keys), Some(values)) = (entry.get_field(1), entry.get_field(2)) else {
+        return Err(WireError::BadWireType);
+    };
+    let mut record = raw;
+    'records: loop {
+        let (body, rest) = delimited_at(record.bytes)?;
+        let (key, value) = entry_of(alloc, keys, values, body, record.levels)?;
+        entries.insert(key, value)?;
+        match record.another_at(rest) {
+            Some(next) => record = next,
+            None => return Ok(rest),
         }
-        _ => Err(WireError::BadWireType),
     }
 }
 
@@ -291,13 +333,11 @@ fn merge_entry<'p, 'b>(
 #[cycle(merge)]
 fn entry_of<'p>(
     alloc: Global,
-    entry: MessageDescriptor<'p>,
+    keys: FieldDescriptor<'p>,
+    values: FieldDescriptor<'p>,
     body: &[u8],
     levels: u32,
 ) -> Result<(MapKey, Value<'p>), WireError> {
-    let (Some(keys), Some(values)) = (entry.get_field(1), entry.get_field(2)) else {
-        return Err(WireError::BadWireType);
-    };
     if levels == 0 && values.kind().as_message().is_some() {
         return Err(WireError::TooDeep);
     }

@@ -1,5 +1,7 @@
 //! Defaults: what stands for a field that is not set.
 
+ghost use Rattle.std.specs.Prelude.{◌≡◌, true, IsTrue};
+
 use crate::message::DynamicMessage;
 use crate::value::Value;
 use reflect_link::{ExtensionDescriptor, FieldDescriptor, Kind};
@@ -52,7 +54,9 @@ pub fn is_present_scalar<'p, F: FieldDescriptorLike<'p>>(value: Scalar<'_>, fiel
 
 /// A field or an extension that holds the value is set: it has presence, or the value is not its default. A message always
 /// is content.
-pub fn is_present<'p, F: FieldDescriptorLike<'p>>(value: &Value<'p>, field: &F) -> bool {
+pub fn is_present<'p, F: FieldDescriptorLike<'p>>(value: &Value<'p>, field: &F) -> bool
+    ensures { (F.says field.now).presence ≡ true → IsTrue result }
+{
     field.supports_presence()
         || match value {
             Value::Message(_) => true,

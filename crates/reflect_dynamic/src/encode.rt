@@ -43,9 +43,10 @@ fn put_fields<'p>(
     descriptor: MessageDescriptor<'p>,
     parts: &Parts<'p>,
 ) -> Result<(), AllocError> {
-    for entry in parts.fields.iter().rev() {
-        if let Some(field) = declared_field(descriptor, entry.0) {
-            put_content(out, AnyField::Field(field), &entry.1)?;
+    let numbers = parts.fields.numbers().iter().rev();
+    for (number, value) in numbers.zip(parts.fields.values().iter().rev()) {
+        if let Some(field) = declared_field(descriptor, *number) {
+            put_content(out, AnyField::Field(field), value)?;
         }
     }
     Ok(())
@@ -59,10 +60,11 @@ fn put_others<'p>(
     parts: &Parts<'p>,
 ) -> Result<(), AllocError> {
     let mut unknown = parts.unknown.descent();
-    for entry in parts.extensions.iter().rev() {
-        unknown.put_above(out, entry.0)?;
-        if let Some(extension) = declared_extension(descriptor, entry.0) {
-            put_content(out, AnyField::Extension(extension), &entry.1)?;
+    let numbers = parts.extensions.numbers().iter().rev();
+    for (number, value) in numbers.zip(parts.extensions.values().iter().rev()) {
+        unknown.put_above(out, *number)?;
+        if let Some(extension) = declared_extension(descriptor, *number) {
+            put_content(out, AnyField::Extension(extension), value)?;
         }
     }
     unknown.put_above(out, 0)

@@ -1,3 +1,5 @@
+ghost use Rattle.std.specs.Prelude.{◌≡◌};
+
 use crate::value::Value;
 
 /// What a field holds, or its default where it is not set.
@@ -10,8 +12,12 @@ pub enum FieldRef<'m, 'p> {
 }
 
 impl<'m, 'p> FieldRef<'m, 'p> {
+    ghost use Rattle.reflect_dynamic.specs.Shown.{shown};
+
     /// The value.
-    pub fn value(&self) -> &Value<'p> {
+    pub fn value(&self) -> &Value<'p>
+        ensures { result.now ≡ shown self.now }
+    {
         match self {
             FieldRef::Borrowed(value) => *value,
             FieldRef::Owned(value) => value,

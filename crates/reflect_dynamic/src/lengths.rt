@@ -40,9 +40,9 @@ fn parts_len<'p>(descriptor: MessageDescriptor<'p>, parts: &Parts<'p>) -> Option
 #[cycle(length)]
 fn fields_len<'p>(descriptor: MessageDescriptor<'p>, parts: &Parts<'p>) -> Option<usize> {
     let mut len = 0usize;
-    for entry in &parts.fields {
-        if let Some(field) = declared_field(descriptor, entry.0) {
-            len = len.checked_add(content_len(AnyField::Field(field), &entry.1)?)?;
+    for (number, value) in parts.fields.numbers().iter().zip(parts.fields.values()) {
+        if let Some(field) = declared_field(descriptor, *number) {
+            len = len.checked_add(content_len(AnyField::Field(field), value)?)?;
         }
     }
     Some(len)
@@ -52,9 +52,9 @@ fn fields_len<'p>(descriptor: MessageDescriptor<'p>, parts: &Parts<'p>) -> Optio
 #[cycle(length)]
 fn extensions_len<'p>(descriptor: MessageDescriptor<'p>, parts: &Parts<'p>) -> Option<usize> {
     let mut len = 0usize;
-    for entry in &parts.extensions {
-        if let Some(extension) = declared_extension(descriptor, entry.0) {
-            len = len.checked_add(content_len(AnyField::Extension(extension), &entry.1)?)?;
+    for (number, value) in parts.extensions.numbers().iter().zip(parts.extensions.values()) {
+        if let Some(extension) = declared_extension(descriptor, *number) {
+            len = len.checked_add(content_len(AnyField::Extension(extension), value)?)?;
         }
     }
     Some(len)

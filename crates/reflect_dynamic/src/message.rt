@@ -1,5 +1,9 @@
 ghost use Rattle.std.specs.Prelude.{◌≡◌, IfOk, OnErr};
-ghost use Rattle.reflect_dynamic.specs.Held.{fields_of, extensions_of};
+ghost use Rattle.std.specs.Option.{option_copied};
+ghost use Rattle.reflect_entries.specs.Entries.{value_at};
+ghost use Rattle.reflect_entries.specs.Ahead.{left};
+ghost use Rattle.reflect_entries.specs.Undeclared.{undeclared};
+ghost use Rattle.reflect_dynamic.specs.Held.{fields_of, extensions_of, unknown_of};
 
 use crate::decode::{MAX_LEVELS, merge_body};
 use crate::encode::put_message;
@@ -7,6 +11,7 @@ use crate::lengths::message_len;
 use crate::parts::{Held, Parts};
 use crate::value::Value;
 use reflect_codec::Backward;
+use reflect_entries::entries;
 use reflect_link::{ExtensionDescriptor, FieldDescriptor, MessageDescriptor};
 use reflect_scalar::holds_floats;
 use reflect_wire::WireError;
@@ -138,31 +143,52 @@ impl<'p> DynamicMessage<'p> {
         self.alloc
     }
 
-    /// What the declared fields hold, by ascending number.
-    pub(crate) fn field_entries(&self) -> &[(u32, Value<'p>)]
-        ensures { result.now ≡ fields_of self.now }
+    /// What stands under the number of a declared field.
+    pub(crate) fn field_value(&self, number: u32) -> Option<&Value<'p>>
+        ensures { option_copied result ≡ value_at (fields_of self.now) number }
     {
         match &self.held {
-            Held::Block(parts) => parts.fields.as_slice(),
-            Held::Nothing => &[],
+            Held::Block(parts) => parts.fields.get(number),
+            Held::Nothing => None,
+        }
+    }
+
+    /// What stands under the number of an extension.
+    pub(crate) fn extension_value(&self, number: u32) -> Option<&Value<'p>>
+        ensures { option_copied result ≡ value_at (extensions_of self.now) number }
+    {
+        match &self.held {
+            Held::Block(parts) => parts.extensions.get(number),
+            Held::Nothing => None,
+        }
+    }
+
+    /// What the declared fields hold, by ascending number.
+    pub(crate) fn field_entries(&self) -> entries::Iter<'_, Value<'p>>
+        ensures { left result ≡ fields_of self.now }
+    {
+        match &self.held {
+            Held::Block(parts) => parts.fields.iter(),
+            Held::Nothing => entries::Iter::empty(),
         }
     }
 
     /// What the extensions hold, by ascending number.
-    pub(crate) fn extension_entries(&self) -> &[(u32, Value<'p>)]
-        ensures { result.now ≡ extensions_of self.now }
+    pub(crate) fn extension_entries(&self) -> entries::Iter<'_, Value<'p>>
+        ensures { left result ≡ extensions_of self.now }
     {
         match &self.held {
-            Held::Block(parts) => parts.extensions.as_slice(),
-            Held::Nothing => &[],
+            Held::Block(parts) => parts.extensions.iter(),
+            Held::Nothing => entries::Iter::empty(),
         }
     }
 
     /// The block of what the message holds, taken out, or a new one. A refusal leaves the message.
     pub(crate) fn take_block(&mut self) -> Result<Box<Parts<'p>>, AllocError>
         ensures type_stays { self.new.descriptor ≡ self.old.descriptor }
-        ensures fields { IfOk result (λ block. block.value.fields.items ≡ fields_of self.old) }
-        ensures extensions { IfOk result (λ block. block.value.extensions.items ≡ extensions_of self.old) }
+        ensures fields { IfOk result (λ block. block.value.fields ≡ fields_of self.old) }
+        ensures extensions { IfOk result (λ block. block.value.extensions ≡ extensions_of self.old) }
+        ensures unknown { IfOk result (λ block. undeclared block.value.unknown ≡ unknown_of self.old) }
         ensures err { OnErr result (self.new ≡ self.old) }
     {
         match mem::replace(&mut self.held, Held::Nothing) {
@@ -174,8 +200,9 @@ impl<'p> DynamicMessage<'p> {
     /// Lets the message hold what the block does, and nothing else.
     pub(crate) fn put_block(&mut self, parts: Box<Parts<'p>>)
         ensures type_stays { self.new.descriptor ≡ self.old.descriptor }
-        ensures fields { fields_of self.new ≡ parts.entry.value.fields.items }
-        ensures extensions { extensions_of self.new ≡ parts.entry.value.extensions.items }
+        ensures fields { fields_of self.new ≡ parts.entry.value.fields }
+        ensures extensions { extensions_of self.new ≡ parts.entry.value.extensions }
+        ensures unknown { unknown_of self.new ≡ undeclared parts.entry.value.unknown }
     {
         self.held = Held::Block(parts);
     }

@@ -1,9 +1,10 @@
 //! What a message holds, apart from its type.
 
 ghost use Rattle.std.specs.Prelude.{◌≡◌, [], OnErr};
+ghost use Rattle.reflect_entries.specs.Undeclared.{undeclared};
 
 use crate::value::Value;
-use reflect_entries::{Choices, UnknownRecords, entries};
+use reflect_entries::{Choices, Entries, UnknownRecords};
 use reflect_link::FieldDescriptor;
 use std::alloc::{AllocError, Global};
 
@@ -22,7 +23,7 @@ impl<'p> Held<'p> {
     pub fn clone(&self, alloc: Global) -> Result<Held<'p>, AllocError> {
         match self {
             Held::Nothing => Ok(Held::Nothing),
-            Held::Block(parts) => Ok(Held::Block(Box::new(alloc, Parts::clone(parts)?)?)),
+            Held::Block(parts) => Ok(Held::Block(Box::new(alloc, Parts::clone(parts, alloc)?)?)),
         }
     }
 }
@@ -31,12 +32,12 @@ impl<'p> Held<'p> {
 #[derive(Drop)]
 #[cycle(value)]
 pub struct Parts<'p> {
-    /// What the declared fields hold, by ascending number.
-    pub fields: Vec<(u32, Value<'p>)>,
+    /// What the declared fields hold, by their numbers.
+    pub fields: Entries<Value<'p>>,
     /// Which members of oneofs may be among these.
     pub choices: Choices,
-    /// What the extensions hold, by ascending number.
-    pub extensions: Vec<(u32, Value<'p>)>,
+    /// What the extensions hold, by their numbers.
+    pub extensions: Entries<Value<'p>>,
     /// The records of numbers that the type does not declare.
     pub unknown: UnknownRecords,
 }
@@ -44,24 +45,25 @@ pub struct Parts<'p> {
 impl<'p> Parts<'p> {
     /// Nothing is held. Takes no memory.
     pub fn new(alloc: Global) -> Parts<'p>
-        ensures fields { result.fields.items ≡ [] }
-        ensures extensions { result.extensions.items ≡ [] }
+        ensures fields { result.fields ≡ [] }
+        ensures extensions { result.extensions ≡ [] }
+        ensures unknown { undeclared result.unknown ≡ [] }
     {
         Parts {
-            fields: Vec::new(alloc),
+            fields: Entries::new(alloc),
             choices: Choices::new(alloc),
-            extensions: Vec::new(alloc),
+            extensions: Entries::new(alloc),
             unknown: UnknownRecords::new(alloc),
         }
     }
 
     /// A copy.
     #[cycle(clone)]
-    pub fn clone(&self) -> Result<Parts<'p>, AllocError> {
+    pub fn clone(&self, alloc: Global) -> Result<Parts<'p>, AllocError> {
         Ok(Parts {
-            fields: entries_clone(&self.fields)?,
+            fields: entries_clone(alloc, &self.fields)?,
             choices: self.choices.clone()?,
-            extensions: entries_clone(&self.extensions)?,
+            extensions: entries_clone(alloc, &self.extensions)?,
             unknown: self.unknown.clone()?,
         })
     }
@@ -76,7 +78,7 @@ impl<'p> Parts<'p> {
         self.choices.make_room(field)?;
         self.fields.reserve(1)?;
         self.clear_siblings(field);
-        entries::slot(&mut self.fields, field.number(), default)
+        self.fields.slot(field.number(), default)
     }
 
     /// Sets the field over what it held, and unsets the other members of its oneof. A refusal leaves what is held.
@@ -85,10 +87,10 @@ impl<'p> Parts<'p> {
         field: &FieldDescriptor<'p>,
         value: Value<'p>,
     ) -> Result<(), AllocError>
-        ensures err { OnErr result (self.new.fields.items ≡ self.old.fields.items) }
+        ensures err { OnErr result (self.new.fields ≡ self.old.fields) }
     {
         self.choices.make_room(field)?;
-        entries::set(&mut self.fields, field.number(), value)?;
+        self.fields.set(field.number(), value)?;
         self.clear_siblings(field);
         Ok(())
     }
@@ -96,16 +98,20 @@ impl<'p> Parts<'p> {
     /// Unsets the other members of the oneof of a field, for whose choice there is room.
     pub fn clear_siblings(&mut self, field: &FieldDescriptor<'p>) {
         if let Some(sibling) = self.choices.choose(field) {
-            entries::take(&mut self.fields, sibling);
+            self.fields.take(sibling);
         }
     }
 }
 
 #[cycle(clone)]
-fn entries_clone<'p>(entries: &Vec<(u32, Value<'p>)>) -> Result<Vec<(u32, Value<'p>)>, AllocError> {
-    let mut copy = Vec::with_capacity(*entries.allocator(), entries.len())?;
-    for entry in entries {
-        copy.push((entry.0, entry.1.clone()?))?;
+fn entries_clone<'p>(
+    alloc: Global,
+    entries: &Entries<Value<'p>>,
+) -> Result<Entries<Value<'p>>, AllocError> {
+    let mut copy = Entries::new(alloc);
+    copy.reserve(entries.len())?;
+    for (number, value) in entries.numbers().iter().zip(entries.values()) {
+        copy.set(*number, value.clone()?)?;
     }
     Ok(copy)
 }

@@ -4,15 +4,16 @@ use crate::defaults::is_present;
 use crate::message::DynamicMessage;
 use crate::parts::Held;
 use crate::value::Value;
+use reflect_entries::{Entries, entries};
 use reflect_link::{ExtensionDescriptor, FieldDescriptor, MessageDescriptor};
 use reflect_wire::UnknownField;
 use std::alloc::AllocError;
-use std::{mem, vec};
+use std::mem;
 
 impl<'p> DynamicMessage<'p> {
     /// Unsets all fields, and gives those that were set with what they held, by ascending number. Takes no memory.
     pub fn take_fields(&mut self) -> TakenFields<'p> {
-        let mut taken = Vec::new(self.allocator());
+        let mut taken = Entries::new(self.allocator());
         if let Held::Block(parts) = &mut self.held {
             mem::swap(&mut taken, &mut parts.fields);
         }
@@ -24,7 +25,7 @@ impl<'p> DynamicMessage<'p> {
 
     /// Unsets all extensions, and gives those that were set with what they held, by ascending number. Takes no memory.
     pub fn take_extensions(&mut self) -> TakenExtensions<'p> {
-        let mut taken = Vec::new(self.allocator());
+        let mut taken = Entries::new(self.allocator());
         if let Held::Block(parts) = &mut self.held {
             mem::swap(&mut taken, &mut parts.extensions);
         }
@@ -52,16 +53,17 @@ impl<'p> DynamicMessage<'p> {
 #[derive(Drop)]
 pub struct TakenFields<'p> {
     descriptor: MessageDescriptor<'p>,
-    entries: vec::IntoIter<(u32, Value<'p>)>,
+    entries: entries::IntoIter<Value<'p>>,
 }
 
 impl<'p> Iterator for TakenFields<'p> {
     ghost use Rattle.std.specs.Iterator.{at_most};
-    ghost use Rattle.std.specs.Vec.Iter.{into_iter_len};
+    ghost use Rattle.std.specs.Prelude.{length};
+    ghost use Rattle.reflect_entries.specs.Ahead.{taken};
 
     type Item = (FieldDescriptor<'p>, Value<'p>);
 
-    ghost remaining = { λ s. at_most (into_iter_len s.entries) };
+    ghost remaining = { λ s. at_most (length (taken s.entries)) };
 
     fn next(&mut self) -> Option<(FieldDescriptor<'p>, Value<'p>)> {
         let descriptor = self.descriptor;
@@ -80,16 +82,17 @@ impl<'p> Iterator for TakenFields<'p> {
 #[derive(Drop)]
 pub struct TakenExtensions<'p> {
     descriptor: MessageDescriptor<'p>,
-    entries: vec::IntoIter<(u32, Value<'p>)>,
+    entries: entries::IntoIter<Value<'p>>,
 }
 
 impl<'p> Iterator for TakenExtensions<'p> {
     ghost use Rattle.std.specs.Iterator.{at_most};
-    ghost use Rattle.std.specs.Vec.Iter.{into_iter_len};
+    ghost use Rattle.std.specs.Prelude.{length};
+    ghost use Rattle.reflect_entries.specs.Ahead.{taken};
 
     type Item = (ExtensionDescriptor<'p>, Value<'p>);
 
-    ghost remaining = { λ s. at_most (into_iter_len s.entries) };
+    ghost remaining = { λ s. at_most (length (taken s.entries)) };
 
     fn next(&mut self) -> Option<(ExtensionDescriptor<'p>, Value<'p>)> {
         let descriptor = self.descriptor;

@@ -154,11 +154,11 @@ fn fields_suit<'p>(
     descriptor: MessageDescriptor<'p>,
     strictness: Strictness,
 ) -> bool {
-    for entry in &parts.fields {
-        let Some(field) = declared_field(descriptor, entry.0) else {
+    for (number, value) in parts.fields.numbers().iter().zip(parts.fields.values()) {
+        let Some(field) = declared_field(descriptor, *number) else {
             return false;
         };
-        if !content_suits(&entry.1, AnyField::Field(field), strictness) {
+        if !content_suits(value, AnyField::Field(field), strictness) {
             return false;
         }
     }
@@ -172,11 +172,11 @@ fn extensions_suit<'p>(
     descriptor: MessageDescriptor<'p>,
     strictness: Strictness,
 ) -> bool {
-    for entry in &parts.extensions {
-        let Some(extension) = declared_extension(descriptor, entry.0) else {
+    for (number, value) in parts.extensions.numbers().iter().zip(parts.extensions.values()) {
+        let Some(extension) = declared_extension(descriptor, *number) else {
             return false;
         };
-        if !content_suits(&entry.1, AnyField::Extension(extension), strictness) {
+        if !content_suits(value, AnyField::Extension(extension), strictness) {
             return false;
         }
     }

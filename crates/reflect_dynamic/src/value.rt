@@ -45,6 +45,7 @@ impl<'p> Value<'p> {
     }
 
     /// A value that owns its text or bytes.
+    #[inline]
     pub(crate) fn from_scalar(alloc: Global, scalar: Scalar<'_>) -> Result<Value<'p>, AllocError> {
         match scalar {
             Scalar::Bool(truth) => Ok(Value::Bool(truth)),

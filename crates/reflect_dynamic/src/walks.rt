@@ -4,16 +4,16 @@ use crate::defaults::is_present;
 use crate::message::DynamicMessage;
 use crate::parts::Held;
 use crate::value::Value;
+use reflect_entries::entries;
 use reflect_link::{ExtensionDescriptor, FieldDescriptor, MessageDescriptor};
 use reflect_wire::UnknownField;
-use std::slice;
 
 impl<'p> DynamicMessage<'p> {
     /// The fields that are set, with what they hold, by ascending number. Takes no memory.
     pub fn fields(&self) -> FieldValues<'_, 'p> {
         FieldValues {
             descriptor: self.descriptor,
-            entries: self.field_entries().iter(),
+            entries: self.field_entries(),
         }
     }
 
@@ -21,7 +21,7 @@ impl<'p> DynamicMessage<'p> {
     pub fn extensions(&self) -> ExtensionValues<'_, 'p> {
         ExtensionValues {
             descriptor: self.descriptor,
-            entries: self.extension_entries().iter(),
+            entries: self.extension_entries(),
         }
     }
 
@@ -40,22 +40,22 @@ impl<'p> DynamicMessage<'p> {
 #[derive(Drop)]
 pub struct FieldValues<'m, 'p> {
     descriptor: MessageDescriptor<'p>,
-    entries: slice::Iter<'m, (u32, Value<'p>)>,
+    entries: entries::Iter<'m, Value<'p>>,
 }
 
 impl<'m, 'p> Iterator for FieldValues<'m, 'p> {
     ghost use Rattle.std.specs.Prelude.{length};
     ghost use Rattle.std.specs.Iterator.{at_most};
-    ghost use Rattle.std.specs.Slice.Iter.{iter_rest};
+    ghost use Rattle.reflect_entries.specs.Ahead.{left};
 
     type Item = (FieldDescriptor<'p>, &'m Value<'p>);
 
-    ghost remaining = { λ s. at_most (length (iter_rest s.entries)) };
+    ghost remaining = { λ s. at_most (length (left s.entries)) };
 
     fn next(&mut self) -> Option<(FieldDescriptor<'p>, &'m Value<'p>)> {
         let descriptor = self.descriptor;
         'entries: while let Some((number, value)) = self.entries.next() {
-            if let Some(field) = descriptor.get_field(*number) {
+            if let Some(field) = descriptor.get_field(number) {
                 if is_present(value, &field) {
                     return Some((field, value));
                 }
@@ -69,22 +69,22 @@ impl<'m, 'p> Iterator for FieldValues<'m, 'p> {
 #[derive(Drop)]
 pub struct ExtensionValues<'m, 'p> {
     descriptor: MessageDescriptor<'p>,
-    entries: slice::Iter<'m, (u32, Value<'p>)>,
+    entries: entries::Iter<'m, Value<'p>>,
 }
 
 impl<'m, 'p> Iterator for ExtensionValues<'m, 'p> {
     ghost use Rattle.std.specs.Prelude.{length};
     ghost use Rattle.std.specs.Iterator.{at_most};
-    ghost use Rattle.std.specs.Slice.Iter.{iter_rest};
+    ghost use Rattle.reflect_entries.specs.Ahead.{left};
 
     type Item = (ExtensionDescriptor<'p>, &'m Value<'p>);
 
-    ghost remaining = { λ s. at_most (length (iter_rest s.entries)) };
+    ghost remaining = { λ s. at_most (length (left s.entries)) };
 
     fn next(&mut self) -> Option<(ExtensionDescriptor<'p>, &'m Value<'p>)> {
         let descriptor = self.descriptor;
         'entries: while let Some((number, value)) = self.entries.next() {
-            if let Some(extension) = descriptor.get_extension(*number) {
+            if let Some(extension) = descriptor.get_extension(number) {
                 if is_present(value, &extension) {
                     return Some((extension, value));
                 }

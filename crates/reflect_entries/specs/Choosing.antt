@@ -5,4 +5,4 @@ use Rattle.reflect_entries.specs.declared.choices.Choices.{Choices}
 
 -- the member that was set last, of the oneof whose first member has the number
 abbrev pub choice : Choices → ℕ → Option ℕ
-choice c first = value_at c.members.items first
+choice c first = value_at c.members first

@@ -17,3 +17,7 @@ module _ {V : Type 0} where
     pub here : value_at new number ≡ given
     pub others : (other : ℕ) → other ≢ number → value_at new other ≡ value_at old other
     pub ascending : IsAscending new
+
+-- each number is below those behind it
+abbrev pub Ascend : List ℕ → Type 0
+Ascend numbers = AllPairs (λ a b. a < b) numbers

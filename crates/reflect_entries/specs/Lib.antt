@@ -1,8 +1,11 @@
+pub mod Ahead
 pub mod Choosing
 pub mod Descends
 pub mod Entries
 pub mod Left
 pub mod Lent
 pub mod Members
+pub mod Pairs
 pub mod Sets
 pub mod Undeclared
+pub mod formers

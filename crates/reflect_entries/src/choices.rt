@@ -2,12 +2,11 @@
 
 ghost use Rattle.std.specs.Prelude.{◌≡◌, ◌≢◌, ℕ, None, Some, IfOk, OnOk, OnErr};
 ghost use Rattle.std.specs.Option.{IsSome};
-ghost use Rattle.std.proofs.Props.{props};
-ghost use Rattle.reflect_entries.specs.Entries.{IsAscending, Updates, value_at};
+ghost use Rattle.reflect_entries.specs.Entries.{Updates, value_at};
 ghost use Rattle.reflect_entries.specs.Members.{other_than, first_member_of};
 ghost use Rattle.reflect_pool.specs.FieldsLeft.{field_type};
 
-use crate::entries;
+use crate::entries::Entries;
 use reflect_link::FieldDescriptor;
 use std::alloc::{AllocError, Global};
 use std::mem;
@@ -15,9 +14,8 @@ use std::mem;
 /// The member of each oneof that was set last. No other member of it is set, so that none has to be looked for.
 #[derive(Drop)]
 pub struct Choices {
-    /// The members' numbers by those of the first members of their oneofs, which ascend.
-    members: Vec<(u32, u32)>,
-    ghost ascending: { IsAscending members.items } by { Prim.hlevel props },
+    /// The members' numbers by those of the first members of their oneofs.
+    members: Entries<u32>,
 }
 
 /// The number of the first member of the field's oneof.
@@ -29,12 +27,12 @@ fn first_member(field: &FieldDescriptor<'_>) -> Option<u32>
 
 /// Notes the member as the one that was set last of the oneof whose first member has the number, if there is room for it,
 /// and gives the number of the one before, if it is another.
-fn note(members: &mut Vec<(u32, u32)>, first: u32, member: u32) -> Option<u32>
-    ensures before { IsAscending members.old.items → result ≡ other_than member (value_at members.old.items first) }
-    ensures updates { IsAscending members.old.items → IsSome (value_at members.old.items first) → Updates members.old.items members.new.items first (Some member) }
-    ensures no_room { value_at members.old.items first ≡ None → IsAscending members.old.items → members.new.items ≡ members.old.items }
+fn note(members: &mut Entries<u32>, first: u32, member: u32) -> Option<u32>
+    ensures before { result ≡ other_than member (value_at members.old first) }
+    ensures updates { IsSome (value_at members.old first) → Updates members.old members.new first (Some member) }
+    ensures no_room { value_at members.old first ≡ None → members.new ≡ members.old }
 {
-    let before = mem::replace(entries::get_mut(members, first)?, member);
+    let before = mem::replace(members.get_mut(first)?, member);
     if before == member { None } else { Some(before) }
 }
 
@@ -46,7 +44,7 @@ impl Choices {
         ensures { (first : ℕ) → choice result first ≡ None }
     {
         Choices {
-            members: Vec::new(alloc),
+            members: Entries::new(alloc),
         }
     }
 
@@ -55,10 +53,10 @@ impl Choices {
         ensures room { OnOk result ((first : ℕ) → first_member_of field.now ≡ Some first → IsSome (choice self.new first)) }
         ensures others { (other : ℕ) → first_member_of field.now ≢ Some other → choice self.new other ≡ choice self.old other }
         ensures stays { (first : ℕ) → IsSome (choice self.old first) → choice self.new first ≡ choice self.old first }
-        ensures refused { OnErr result (self.new.members.items ≡ self.old.members.items) }
+        ensures refused { OnErr result (self.new.members ≡ self.old.members) }
     {
         if let Some(first) = first_member(field) {
-            entries::slot(&mut self.members, first, field.number())?;
+            self.members.slot(first, field.number())?;
         }
         Ok(())
     }
@@ -84,7 +82,7 @@ impl Choices {
 
     /// A copy.
     pub fn clone(&self) -> Result<Choices, AllocError>
-        ensures { IfOk result (λ copy. copy.members.items ≡ self.now.members.items) }
+        ensures { IfOk result (λ copy. copy.members ≡ self.now.members) }
     {
         Ok(Choices {
             members: self.members.clone()?,

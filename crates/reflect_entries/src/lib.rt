@@ -6,4 +6,5 @@ pub mod entries;
 mod unknown_records;
 
 pub use choices::Choices;
+pub use entries::Entries;
 pub use unknown_records::{Descent, UnknownFields, UnknownRecords};

@@ -1,3 +1,4 @@
+pub mod FieldTypes
 pub mod Kinds
 pub mod Meaning
 pub mod Singles

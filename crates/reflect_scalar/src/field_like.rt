@@ -1,17 +1,25 @@
 //! What fields and extensions have in common.
 
+ghost use Rattle.std.specs.Prelude.{◌≡◌};
+ghost use Rattle.reflect_index.specs.Types.{FieldType};
+
 use reflect_link::{DefaultValue, ExtensionDescriptor, FieldDescriptor, Kind, OneofDescriptor};
 
 /// A field of a message type, or an extension of one.
 pub trait FieldDescriptorLike<'p> {
+    /// What the pool holds of it.
+    ghost says: { Self → FieldType };
+
     /// The number that stands in the keys of its records.
-    fn number(&self) -> u32;
+    fn number(&self) -> u32
+        ensures { result ≡ (says self.now).number };
 
     /// What it holds; a map's is its entry type.
     fn kind(&self) -> Kind<'p>;
 
     /// Its messages are written between two tags.
-    fn is_group(&self) -> bool;
+    fn is_group(&self) -> bool
+        ensures { result ≡ (says self.now).group };
 
     /// It holds any number of values, and is no map.
     fn is_list(&self) -> bool;
@@ -20,10 +28,12 @@ pub trait FieldDescriptorLike<'p> {
     fn is_map(&self) -> bool;
 
     /// A list is written as one record.
-    fn is_packed(&self) -> bool;
+    fn is_packed(&self) -> bool
+        ensures { result ≡ (says self.now).packed };
 
     /// Unset differs from set to the default.
-    fn supports_presence(&self) -> bool;
+    fn supports_presence(&self) -> bool
+        ensures { result ≡ (says self.now).presence };
 
     /// The default that its declaration gives.
     fn default(&self) -> Option<DefaultValue<'p>>;
@@ -33,6 +43,10 @@ pub trait FieldDescriptorLike<'p> {
 }
 
 impl<'p> FieldDescriptorLike<'p> for FieldDescriptor<'p> {
+    ghost use Rattle.reflect_pool.specs.FieldsLeft.{field_type};
+
+    ghost says = { field_type };
+
     fn number(&self) -> u32 {
         FieldDescriptor::number(self)
     }
@@ -71,6 +85,10 @@ impl<'p> FieldDescriptorLike<'p> for FieldDescriptor<'p> {
 }
 
 impl<'p> FieldDescriptorLike<'p> for ExtensionDescriptor<'p> {
+    ghost use Rattle.reflect_scalar.specs.FieldTypes.{extension_type};
+
+    ghost says = { extension_type };
+
     fn number(&self) -> u32 {
         ExtensionDescriptor::number(self)
     }
@@ -116,6 +134,10 @@ pub enum AnyField<'p> {
 }
 
 impl<'p> FieldDescriptorLike<'p> for AnyField<'p> {
+    ghost use Rattle.reflect_scalar.specs.FieldTypes.{either_type};
+
+    ghost says = { either_type };
+
     fn number(&self) -> u32 {
         match self {
             AnyField::Field(field) => field.number(),

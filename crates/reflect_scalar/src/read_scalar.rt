@@ -11,6 +11,7 @@ use reflect_link::Kind;
 use reflect_wire::{WireError, WireType, delimited_at, fixed32_at, fixed64_at, varint_at};
 
 /// The wire type of one value of a kind: a message's is that of a length and its bytes.
+#[inline]
 pub fn wire_type(kind: &Kind<'_>) -> WireType
     ensures { result ≡ wire_type kind.now }
 {
@@ -62,6 +63,7 @@ fn unzigzag64(n: u64) -> i64
 ///
 /// `BadWireType` where the kind is written in another form or is none of a single value, `BadUtf8` where a string is no
 /// UTF-8.
+#[inline]
 fn value_of<'b>(kind: &Kind<'_>, written: WireScalar<'b>) -> Result<Scalar<'b>, WireError>
     ensures ok { IfOk result (λ s. Means kind.now (wire_view written.entry) (scalar_view s)) }
     ensures err { IfErr result (MeaningFault kind.now (wire_view written.entry)) }
@@ -89,6 +91,7 @@ fn value_of<'b>(kind: &Kind<'_>, written: WireScalar<'b>) -> Result<Scalar<'b>, 
 }
 
 /// What is written at the front behind a key of the wire type, and the bytes behind it. A group is no single value.
+#[inline]
 fn wire_scalar_at(wire: WireType, bytes: &[u8]) -> Result<(WireScalar<'_>, &[u8]), WireError>
     ensures read { ReadsBy wire_view (IsPlain wire) bytes.now result }
     ensures fault { IfErr result (PlainFault wire bytes.now) }
@@ -119,6 +122,7 @@ fn wire_scalar_at(wire: WireType, bytes: &[u8]) -> Result<(WireScalar<'_>, &[u8]
 ///
 /// `BadWireType` where the record has another wire type than the kind, `BadUtf8` where a string is no UTF-8, else as the
 /// reader of its form is refused. Takes no memory.
+#[inline]
 pub fn scalar_at<'b>(
     kind: &Kind<'_>,
     wire: WireType,

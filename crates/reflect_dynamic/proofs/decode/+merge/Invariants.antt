@@ -2,28 +2,43 @@ use Rattle.std.proofs.Common.{◌+◌, ◌*◌, ◌≤◌, length}
 use Rattle.reflect_dynamic.proofs.decode.+merge.Given as goal
 
 abbrev pub decreases-merge_body : goal.decreases-merge_body
-decreases-merge_body l = 8 * length l.bytes.now + 2
+decreases-merge_body l = 10 * length l.bytes.now + 2
 
 abbrev pub decreases-merge_records : goal.decreases-merge_records
-decreases-merge_records l = 8 * length l.bytes.now + 1
+decreases-merge_records l = 10 * length l.bytes.now + 1
 
 abbrev pub decreases-merge_record : goal.decreases-merge_record
-decreases-merge_record l = 8 * length l.raw.bytes.now + 8
+decreases-merge_record l = 10 * length l.raw.bytes.now + 10
 
 abbrev pub decreases-merge_field : goal.decreases-merge_field
-decreases-merge_field l = 8 * length l.raw.bytes.now + 7
+decreases-merge_field l = 10 * length l.raw.bytes.now + 9
 
 abbrev pub decreases-merge_list : goal.decreases-merge_list
-decreases-merge_list l = 8 * length l.raw.bytes.now + 6
+decreases-merge_list l = 10 * length l.raw.bytes.now + 8
 
 abbrev pub decreases-merge_message : goal.decreases-merge_message
-decreases-merge_message l = 8 * length l.raw.bytes.now + 5
+decreases-merge_message l = 10 * length l.raw.bytes.now + 6
 
-abbrev pub decreases-merge_entry : goal.decreases-merge_entry
-decreases-merge_entry l = 8 * length l.raw.bytes.now + 4
+abbrev pub decreases-merge_element : goal.decreases-merge_element
+decreases-merge_element l = 10 * length l.raw.bytes.now + 7
+
+abbrev pub decreases-merge_list-records : goal.decreases-merge_list-records
+decreases-merge_list-records l = length l.record.bytes.now
+
+abbrev pub invariant-merge_list-records : goal.invariant-merge_list-records
+invariant-merge_list-records l = length l.record.bytes.now ≤ length l.initial.record.bytes.now
+
+abbrev pub decreases-merge_map : goal.decreases-merge_map
+decreases-merge_map l = 10 * length l.raw.bytes.now + 8
+
+abbrev pub decreases-merge_map-records : goal.decreases-merge_map-records
+decreases-merge_map-records l = length l.record.bytes.now
+
+abbrev pub invariant-merge_map-records : goal.invariant-merge_map-records
+invariant-merge_map-records l = length l.record.bytes.now ≤ length l.initial.record.bytes.now
 
 abbrev pub decreases-entry_of : goal.decreases-entry_of
-decreases-entry_of l = 8 * length l.body.now + 2
+decreases-entry_of l = 10 * length l.body.now + 5
 
 abbrev pub decreases-merge_records-records : goal.decreases-merge_records-records
 decreases-merge_records-records l = length l.rest
@@ -32,7 +47,7 @@ abbrev pub invariant-merge_records-records : goal.invariant-merge_records-record
 invariant-merge_records-records l = length l.rest ≤ length l.initial.rest
 
 abbrev pub decreases-merge_part : goal.decreases-merge_part
-decreases-merge_part l = 8 * length l.raw.bytes.now + 6
+decreases-merge_part l = 10 * length l.raw.bytes.now + 7
 
 abbrev pub decreases-entry_of-records : goal.decreases-entry_of-records
 decreases-entry_of-records l = length l.rest

@@ -1,9 +1,9 @@
 use Rattle.std.proofs.Common.{length, ◌≤◌}
-use Rattle.std.specs.Slice.Iter.{iter_rest}
+use Rattle.reflect_entries.specs.Ahead.{left}
 use Rattle.reflect_dynamic.proofs.walks.ExtensionValuesIterator.next.Given as goal
 
 abbrev pub invariant-entries : goal.invariant-entries
-invariant-entries l = length (iter_rest l.self.entries) ≤ length (iter_rest l.initial.self.entries)
+invariant-entries l = length (left l.self.entries) ≤ length (left l.initial.self.entries)
 
 abbrev pub decreases-entries : goal.decreases-entries
-decreases-entries l = length (iter_rest l.self.entries)
+decreases-entries l = length (left l.self.entries)
