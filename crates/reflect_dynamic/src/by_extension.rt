@@ -53,7 +53,7 @@ impl<'p> DynamicMessage<'p> {
         value: Value<'p>,
     ) -> Result<(), AllocError>
         ensures type_stays { self.new.descriptor ≡ self.old.descriptor }
-        ensures ok { OnOk result (UpdatesExtension self.old self.new (extension_type extension.now).number (Some value)) }
+        ensures ok { OnOk result (UpdatesExtension self.old self.new (extension_type extension.now).number (Some value.entry)) }
         ensures err { OnErr result (extensions_of self.new ≡ extensions_of self.old) }
     {
         let mut parts = self.take_block()?;

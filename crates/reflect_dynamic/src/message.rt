@@ -1,7 +1,7 @@
 ghost use Rattle.std.specs.Prelude.{◌≡◌, IfOk, OnErr};
 ghost use Rattle.std.specs.Option.{option_copied};
 ghost use Rattle.reflect_entries.specs.Entries.{value_at};
-ghost use Rattle.reflect_entries.specs.Ahead.{left};
+ghost use Rattle.reflect_dynamic.specs.EntriesLeft.{entries_left};
 ghost use Rattle.reflect_entries.specs.Undeclared.{undeclared};
 ghost use Rattle.reflect_dynamic.specs.Held.{fields_of, extensions_of, unknown_of};
 
@@ -163,23 +163,23 @@ impl<'p> DynamicMessage<'p> {
         }
     }
 
-    /// What the declared fields hold, by ascending number.
-    pub(crate) fn field_entries(&self) -> entries::Iter<'_, Value<'p>>
-        ensures { left result ≡ fields_of self.now }
+    /// What the declared fields hold, by ascending number, if the message holds anything.
+    pub(crate) fn field_entries(&self) -> Option<entries::Iter<'_, Value<'p>>>
+        ensures { entries_left result ≡ fields_of self.now }
     {
         match &self.held {
-            Held::Block(parts) => parts.fields.iter(),
-            Held::Nothing => entries::Iter::empty(),
+            Held::Block(parts) => Some(parts.fields.iter()),
+            Held::Nothing => None,
         }
     }
 
-    /// What the extensions hold, by ascending number.
-    pub(crate) fn extension_entries(&self) -> entries::Iter<'_, Value<'p>>
-        ensures { left result ≡ extensions_of self.now }
+    /// What the extensions hold, by ascending number, if the message holds anything.
+    pub(crate) fn extension_entries(&self) -> Option<entries::Iter<'_, Value<'p>>>
+        ensures { entries_left result ≡ extensions_of self.now }
     {
         match &self.held {
-            Held::Block(parts) => parts.extensions.iter(),
-            Held::Nothing => entries::Iter::empty(),
+            Held::Block(parts) => Some(parts.extensions.iter()),
+            Held::Nothing => None,
         }
     }
 

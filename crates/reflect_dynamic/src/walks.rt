@@ -40,21 +40,23 @@ impl<'p> DynamicMessage<'p> {
 #[derive(Drop)]
 pub struct FieldValues<'m, 'p> {
     descriptor: MessageDescriptor<'p>,
-    entries: entries::Iter<'m, Value<'p>>,
+    /// `None` where the message holds nothing.
+    entries: Option<entries::Iter<'m, Value<'p>>>,
 }
 
 impl<'m, 'p> Iterator for FieldValues<'m, 'p> {
     ghost use Rattle.std.specs.Prelude.{length};
     ghost use Rattle.std.specs.Iterator.{at_most};
-    ghost use Rattle.reflect_entries.specs.Ahead.{left};
+    ghost use Rattle.reflect_dynamic.specs.EntriesLeft.{entries_left};
 
     type Item = (FieldDescriptor<'p>, &'m Value<'p>);
 
-    ghost remaining = { λ s. at_most (length (left s.entries)) };
+    ghost remaining = { λ s. at_most (length (entries_left s.entries)) };
 
     fn next(&mut self) -> Option<(FieldDescriptor<'p>, &'m Value<'p>)> {
         let descriptor = self.descriptor;
-        'entries: while let Some((number, value)) = self.entries.next() {
+        let entries = self.entries.as_mut()?;
+        'entries: while let Some((number, value)) = entries.next() {
             if let Some(field) = descriptor.get_field(number) {
                 if is_present(value, &field) {
                     return Some((field, value));
@@ -69,21 +71,23 @@ impl<'m, 'p> Iterator for FieldValues<'m, 'p> {
 #[derive(Drop)]
 pub struct ExtensionValues<'m, 'p> {
     descriptor: MessageDescriptor<'p>,
-    entries: entries::Iter<'m, Value<'p>>,
+    /// `None` where the message holds nothing.
+    entries: Option<entries::Iter<'m, Value<'p>>>,
 }
 
 impl<'m, 'p> Iterator for ExtensionValues<'m, 'p> {
     ghost use Rattle.std.specs.Prelude.{length};
     ghost use Rattle.std.specs.Iterator.{at_most};
-    ghost use Rattle.reflect_entries.specs.Ahead.{left};
+    ghost use Rattle.reflect_dynamic.specs.EntriesLeft.{entries_left};
 
     type Item = (ExtensionDescriptor<'p>, &'m Value<'p>);
 
-    ghost remaining = { λ s. at_most (length (left s.entries)) };
+    ghost remaining = { λ s. at_most (length (entries_left s.entries)) };
 
     fn next(&mut self) -> Option<(ExtensionDescriptor<'p>, &'m Value<'p>)> {
         let descriptor = self.descriptor;
-        'entries: while let Some((number, value)) = self.entries.next() {
+        let entries = self.entries.as_mut()?;
+        'entries: while let Some((number, value)) = entries.next() {
             if let Some(extension) = descriptor.get_extension(number) {
                 if is_present(value, &extension) {
                     return Some((extension, value));

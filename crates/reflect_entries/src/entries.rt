@@ -269,22 +269,6 @@ pub struct Iter<'e, V> {
     ghost each: { length (iter_rest values) ≡ length (iter_rest numbers) },
 }
 
-impl<'e, V> Iter<'e, V> {
-    ghost use Rattle.reflect_entries.specs.Ahead.{left};
-
-    /// Of no entries. Takes no memory.
-    pub fn empty() -> Iter<'e, V>
-        ensures { left result ≡ [] }
-    {
-        let numbers: &[u32] = &[];
-        let values: &[V] = &[];
-        Iter {
-            numbers: numbers.iter(),
-            values: values.iter(),
-        }
-    }
-}
-
 impl<'e, V> Iterator for Iter<'e, V> {
     ghost use Rattle.std.specs.Iterator.{YieldsFirstBy, item_count};
     ghost use Rattle.reflect_entries.specs.Ahead.{left, lent};
