@@ -10,7 +10,6 @@ use crate::content;
 use crate::defaults::default_of;
 use crate::field_ref::FieldRef;
 use crate::message::DynamicMessage;
-use crate::parts::Held;
 use crate::value::Value;
 use reflect_link::ExtensionDescriptor;
 use std::alloc::AllocError;
@@ -66,8 +65,9 @@ impl<'p> DynamicMessage<'p> {
     pub fn clear_extension(&mut self, extension: &ExtensionDescriptor<'p>)
         ensures { UpdatesExtension self.old self.new (extension_type extension.now).number None }
     {
-        if let Held::Block(parts) = &mut self.held {
+        if let Some(mut parts) = self.block() {
             parts.extensions.take(extension.number());
+            self.put_block(parts);
         }
     }
 
@@ -77,9 +77,9 @@ impl<'p> DynamicMessage<'p> {
         ensures held { IfSome result (λ v. value_at (extensions_of self.old) (extension_type extension.now).number ≡ Some v) }
         ensures presence { (extension_type extension.now).presence ≡ true → result ≡ value_at (extensions_of self.old) (extension_type extension.now).number }
     {
-        match &mut self.held {
-            Held::Block(parts) => content::take(&mut parts.extensions, extension),
-            Held::Nothing => None,
-        }
+        let mut parts = self.block()?;
+        let taken = content::take(&mut parts.extensions, extension);
+        self.put_block(parts);
+        taken
     }
 }

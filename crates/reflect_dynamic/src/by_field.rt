@@ -11,7 +11,6 @@ use crate::content;
 use crate::defaults::default_of;
 use crate::field_ref::FieldRef;
 use crate::message::DynamicMessage;
-use crate::parts::Held;
 use crate::set_field_error::SetFieldError;
 use crate::validity::is_valid_for;
 use crate::value::Value;
@@ -94,8 +93,9 @@ impl<'p> DynamicMessage<'p> {
         requires { Declares self.old.descriptor field.now }
         ensures { UpdatesField self.old self.new (field_type field.now).number None }
     {
-        if let Held::Block(parts) = &mut self.held {
+        if let Some(mut parts) = self.block() {
             parts.fields.take(field.number());
+            self.put_block(parts);
         }
     }
 
@@ -106,9 +106,9 @@ impl<'p> DynamicMessage<'p> {
         ensures held { IfSome result (λ v. value_at (fields_of self.old) (field_type field.now).number ≡ Some v) }
         ensures presence { (field_type field.now).presence ≡ true → result ≡ value_at (fields_of self.old) (field_type field.now).number }
     {
-        match &mut self.held {
-            Held::Block(parts) => content::take(&mut parts.fields, field),
-            Held::Nothing => None,
-        }
+        let mut parts = self.block()?;
+        let taken = content::take(&mut parts.fields, field);
+        self.put_block(parts);
+        taken
     }
 }

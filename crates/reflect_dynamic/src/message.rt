@@ -1,4 +1,4 @@
-ghost use Rattle.std.specs.Prelude.{◌≡◌, IfOk, OnErr};
+ghost use Rattle.std.specs.Prelude.{◌≡◌, [], IfOk, OnErr, IfSome, IfNone};
 ghost use Rattle.std.specs.Option.{option_copied};
 ghost use Rattle.reflect_entries.specs.Entries.{value_at};
 ghost use Rattle.reflect_dynamic.specs.EntriesLeft.{entries_left};
@@ -183,6 +183,21 @@ impl<'p> DynamicMessage<'p> {
         }
     }
 
+    /// The block of what the message holds, taken out, if it holds anything. Takes no memory.
+    pub(crate) fn block(&mut self) -> Option<Box<Parts<'p>>>
+        ensures type_stays { self.new.descriptor ≡ self.old.descriptor }
+        ensures fields { IfSome result (λ block. block.value.fields ≡ fields_of self.old) }
+        ensures extensions { IfSome result (λ block. block.value.extensions ≡ extensions_of self.old) }
+        ensures unknown { IfSome result (λ block. undeclared block.value.unknown ≡ unknown_of self.old) }
+        ensures nothing { IfNone result ((fields_of self.old ≡ []) × (extensions_of self.old ≡ [])) }
+        ensures none { IfNone result (self.new ≡ self.old) }
+    {
+        match mem::replace(&mut self.held, Held::Nothing) {
+            Held::Block(block) => Some(block),
+            Held::Nothing => None,
+        }
+    }
+
     /// The block of what the message holds, taken out, or a new one. A refusal leaves the message.
     pub(crate) fn take_block(&mut self) -> Result<Box<Parts<'p>>, AllocError>
         ensures type_stays { self.new.descriptor ≡ self.old.descriptor }
@@ -191,9 +206,9 @@ impl<'p> DynamicMessage<'p> {
         ensures unknown { IfOk result (λ block. undeclared block.value.unknown ≡ unknown_of self.old) }
         ensures err { OnErr result (self.new ≡ self.old) }
     {
-        match mem::replace(&mut self.held, Held::Nothing) {
-            Held::Block(block) => Ok(block),
-            Held::Nothing => Ok(Box::new(self.alloc, Parts::new(self.alloc))?),
+        match self.block() {
+            Some(block) => Ok(block),
+            None => Ok(Box::new(self.alloc, Parts::new(self.alloc))?),
         }
     }
 
