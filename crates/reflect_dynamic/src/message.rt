@@ -189,7 +189,7 @@ impl<'p> DynamicMessage<'p> {
         ensures fields { IfSome result (λ block. block.value.fields ≡ fields_of self.old) }
         ensures extensions { IfSome result (λ block. block.value.extensions ≡ extensions_of self.old) }
         ensures unknown { IfSome result (λ block. undeclared block.value.unknown ≡ unknown_of self.old) }
-        ensures nothing { IfNone result ((fields_of self.old ≡ []) × (extensions_of self.old ≡ [])) }
+        ensures nothing { IfNone result ((fields_of self.old ≡ []) × (extensions_of self.old ≡ []) × (unknown_of self.old ≡ [])) }
         ensures none { IfNone result (self.new ≡ self.old) }
     {
         match mem::replace(&mut self.held, Held::Nothing) {
