@@ -1,0 +1,3 @@
+pub mod Integers
+pub mod Signs
+pub mod SamePieces

@@ -1,1 +1,6 @@
+pub mod Token
+pub mod Longest
+pub mod Lex
+pub mod Shown
+pub mod Stream
 pub mod Unread
