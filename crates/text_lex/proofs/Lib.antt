@@ -2,3 +2,5 @@ pub mod Integers
 pub mod Signs
 pub mod SamePieces
 pub mod Fronts
+pub mod Streams
+pub mod Lexing
