@@ -220,3 +220,7 @@ front_right at b y = by (b == 47) refl (b == 35) refl where
   by true slash t2 _ = rw slash (subst (λ k. IsRight at (k ∷ y) (Ok (token (sign 47), 1))) (sym (eqb-true b 47 slash)) (slash_right at y))
   by false slash true hash = rw (slash, hash) (subst (λ k. IsRight at (k ∷ y) (Ok (gap, source_lex.past_line (k ∷ y)))) (sym (eqb-true b 35 hash)) (comment_right at y))
   by false slash false hash = rw (slash, hash) (source_right at b y slash (source_lex.front (b ∷ y)) hash (source_fronts.front_right b y))
+
+pub cut_within : (at : ℕ) (z : Text) (p : Piece) (n : ℕ) → 0 < length z → front at z ≡ Ok (p, n) → (1 ≤ n) × (n ≤ length z)
+cut_within at [] p n some e = absurd (omega arith)
+cut_within at (b ∷ y) p n some e = let r = subst (IsRight at (b ∷ y)) e (front_right at b y) in (r.0, r.1.within)

@@ -4,3 +4,5 @@ pub mod SamePieces
 pub mod Fronts
 pub mod Streams
 pub mod Lexing
+pub mod Boundaries
+pub mod Sources

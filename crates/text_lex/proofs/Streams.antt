@@ -1,6 +1,6 @@
 -- The turns of a lexer.
 use Rattle.std.proofs.Common.{◌≡◌, ℕ, zero, suc, ◌+◌, ◌-◌, ◌≤◌, ◌<◌, Bool, true, false, [], ◌∷◌, drop, length, Ok, Err, ap, sym, ◌∙◌, arith, refl, length-drop, drop-cons}
-use Rattle.std.specs.Prelude.{slice_index, ◌==◌, nat_lt}
+use Rattle.std.specs.Prelude.{IsCharBoundary, slice_index, ◌==◌, nat_lt}
 use Rattle.std.specs.List.{prefix_len}
 use Rattle.std.proofs.lemmas.Bool.{eqb-true, ltb-true, ltb-false}
 use Rattle.std.proofs.lemmas.List.{drop-drop}
@@ -9,6 +9,8 @@ use Rattle.protox_lex.specs.Class.{Text, is_in, past}
 use Rattle.protox_lex.specs.Lex as source_lex
 use Rattle.protox_lex.specs.declared.class.Class.TheVariants as class
 use Rattle.text_lex.specs.declared.lexer.LexError.{LexError}
+use Rattle.text_lex.specs.declared.lexer.LexError.TheVariants as errors
+use Rattle.text_lex.proofs.Boundaries.{no_boundary, invalid_front}
 use Rattle.text_lex.specs.Token.{Token, Piece, gap, token, token_at, fault}
 use Rattle.text_lex.specs.Lex.{front, emit, lexemes_from}
 
@@ -111,3 +113,36 @@ module _ (at : ℕ) (y : Text) where
         let n : source_lex.past_line (35 ∷ y) ≡ suc k = rw le (omega arith) in
         let f : at + suc k ≡ at + 1 + k = omega arith in
         rw f at (on_gap at (suc k) 35 y (hash_front at y ∙ ap (λ m. Ok (gap, m)) n) (omega arith) (omega (arith, prefix_len-le-length (is_in class.Line) y)))
+
+-- ---- the same of what is left of a text
+
+here : (at : ℕ) (s : Text) → at < length s → drop at s ≡ slice_index s at ∷ drop (at + 1) s
+here at s lt = let one : suc at ≡ at + 1 = omega arith in drop-cons s at 0 lt ∙ ap (λ k. slice_index s at ∷ drop k s) one
+
+pub blank_here : (at : ℕ) (s : Text) → at < length s → is_in class.Blank (slice_index s at) ≡ true → lexemes_from at 0 (drop at s) ≡ lexemes_from (at + 1) 0 (drop (at + 1) s)
+blank_here at s lt blank = ap (lexemes_from at 0) (here at s lt) ∙ on_blank at (slice_index s at) (drop (at + 1) s) blank
+
+pub comment_here : (at : ℕ) (s : Text) → at < length s → slice_index s at ≡ 35 → lexemes_from at 0 (drop at s) ≡ lexemes_from (past class.Line s (at + 1)) 0 (drop (past class.Line s (at + 1)) s)
+comment_here at s lt hash =
+    let k = prefix_len (is_in class.Line) (drop (at + 1) s) in
+    ap (lexemes_from at 0) (here at s lt) ∙ ap (λ b. lexemes_from at 0 (b ∷ drop (at + 1) s)) hash ∙ on_comment at (drop (at + 1) s) ∙ ap (lexemes_from (at + 1 + k) 0) (drop-drop k (at + 1) s)
+
+pub token_here : (at n : ℕ) (t : Token) (s : Text) → at < length s → front at (drop at s) ≡ Ok (token t, n) → 1 ≤ n → n ≤ length (drop at s)
+    → lexemes_from at 0 (drop at s) ≡ token_at at (at + n) t ∷ lexemes_from (at + n) 0 (drop (at + n) s)
+token_here at n t s lt e h le =
+    let w = here at s lt in
+    ap (lexemes_from at 0) w ∙ on_token at n (slice_index s at) t (drop (at + 1) s) (rw w at e) h (rw w at le) ∙ ap (λ v. token_at at (at + n) t ∷ lexemes_from (at + n) 0 (drop n v)) (sym w)
+    ∙ ap (λ v. token_at at (at + n) t ∷ lexemes_from (at + n) 0 v) (drop-drop n at s)
+
+pub fault_here : (at : ℕ) (f : LexError) (s : Text) → at < length s → front at (drop at s) ≡ Err f → lexemes_from at 0 (drop at s) ≡ fault f ∷ []
+fault_here at f s lt e = let w = here at s lt in ap (lexemes_from at 0) w ∙ on_fault at (slice_index s at) f (drop (at + 1) s) (rw w at e)
+
+pub end_here : (at : ℕ) (s : Text) → length s ≤ at → lexemes_from at 0 (drop at s) ≡ []
+end_here at s le = at_end at (drop at s) (omega (arith, length-drop at s))
+
+pub invalid_here : (at : ℕ) (s : Text) → at < length s → (IsCharBoundary s at → ⊥) → lexemes_from at 0 (drop at s) ≡ fault (errors.InvalidToken (record { start = at; end = at + 1 })) ∷ []
+invalid_here at s lt none =
+    let b = no_boundary s at lt none in
+    let w = here at s lt in
+    let start : at + 0 ≡ at = omega arith in
+    ap (lexemes_from at 0) w ∙ rw start at (on_fault at (slice_index s at) _ (drop (at + 1) s) (invalid_front at (slice_index s at) (drop (at + 1) s) b.0 b.1))
