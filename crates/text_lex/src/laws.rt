@@ -1,0 +1,14 @@
+//! Laws of a text's tokens, each the contract of a function that does nothing.
+//!
+//! `Lexes at z ts` says that the text `z`, which begins at the place `at`, is cut into `ts` by the longest match: each piece is spelled as "Lexical
+//! elements" of the text format specification has it, no longer front of what is left is a piece, and a fault is true where it stands.
+ghost use Rattle.protox_lex.specs.Class.{Text};
+ghost use Rattle.std.specs.Prelude.{◌≡◌, ℕ, List};
+ghost use Rattle.text_lex.specs.Lex.{lexemes};
+ghost use Rattle.text_lex.specs.Longest.{Lexes};
+ghost use Rattle.text_lex.specs.Token.{Lexeme};
+
+/// Each text is cut by the longest match, up to its first fault: `lexemes` finds the tokens.
+pub fn tokens_are_longest()
+    ensures { (z : Text) → Lexes 0 z (lexemes z) }
+{}
