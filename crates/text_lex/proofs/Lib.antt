@@ -6,3 +6,4 @@ pub mod Streams
 pub mod Lexing
 pub mod Boundaries
 pub mod Sources
+pub mod OneReading

@@ -12,3 +12,8 @@ ghost use Rattle.text_lex.specs.Token.{Lexeme};
 pub fn tokens_are_longest()
     ensures { (z : Text) → Lexes 0 z (lexemes z) }
 {}
+
+/// A text is cut by the longest match in one way, and has one first fault at most.
+pub fn one_reading()
+    ensures { (at : ℕ) (z : Text) (ts us : List Lexeme) → Lexes at z ts → Lexes at z us → ts ≡ us }
+{}
