@@ -1,6 +1,6 @@
 -- An integer ends where a text may be cut, and a fault is within the text.
-use Rattle.std.proofs.Common.{◌≡◌, ℕ, zero, suc, ◌+◌, ◌-◌, ◌≤◌, ◌<◌, Bool, true, false, eqb, ltb, ◌&&◌, ◌||◌, Option, Some, None, [], ◌∷◌, take, drop, length, get_or, Ok, Err, ap, sym, subst, ◌∙◌, arith, refl, min, inl, inr, length-take, length-drop}
-use Rattle.std.specs.Prelude.{slice_index, ◌==◌, nat_lt, nat_le, IsUtf8, IsCharBoundary}
+use Rattle.std.proofs.Common.{◌≡◌, ℕ, suc, ◌+◌, ◌-◌, ◌≤◌, ◌<◌, Bool, true, false, eqb, ltb, ◌||◌, Option, Some, None, [], ◌∷◌, take, drop, length, get_or, Err, ap, sym, subst, ◌∙◌, arith, refl, min, inl, inr, length-take, length-drop}
+use Rattle.std.specs.Prelude.{slice_index, ◌==◌, nat_lt, IsUtf8, IsCharBoundary}
 use Rattle.std.specs.List.{list_all, prefix_len}
 use Rattle.std.proofs.lemmas.Bool.{ltb-false, lt-ltb, ne_eqb, cases_lt, and_parts}
 use Rattle.std.proofs.lemmas.Bool.Decides.{nat_tests}
@@ -8,7 +8,7 @@ use Rattle.std.proofs.lemmas.List.{get_or-take, get_or_past}
 use Rattle.std.proofs.lemmas.List.Folds.{list_all_at}
 use Rattle.std.proofs.lemmas.List.Sums.{prefix_len-le-length}
 use Rattle.std.proofs.lemmas.Str.{IsCharBoundary-after_ascii, IsCharBoundary-before_ascii}
-use Rattle.protox_lex.specs.Class.{Text, is_in, past}
+use Rattle.protox_lex.specs.Class.{Text, is_in}
 use Rattle.protox_lex.specs.Lex as source_lex
 use Rattle.protox_lex.specs.Lex.{sign_of, char_len, Escaped, is_hex, value, short, scalar, byte_of, char_of, simple, simple_of, hex, octal_escape, unicode, escape, fault_len, contents_len, comment_len}
 use Rattle.protox_lex.specs.Longest as source
@@ -174,8 +174,23 @@ module _ (at b : ℕ) (y : Text) (high : 128 ≤ b) (less : b < 192) where
 
   no_sign : sign_of b ≡ None
   no_sign =
-      rw (other 46 (omega arith), other 45 (omega arith), other 40 (omega arith), other 41 (omega arith), other 123 (omega arith), other 125 (omega arith), other 91 (omega arith), other 93 (omega arith),
-      other 60 (omega arith), other 62 (omega arith), other 44 (omega arith), other 61 (omega arith), other 58 (omega arith), other 59 (omega arith), other 47 (omega arith)) refl
+      rw (
+        other 46 (omega arith),
+        other 45 (omega arith),
+        other 40 (omega arith),
+        other 41 (omega arith),
+        other 123 (omega arith),
+        other 125 (omega arith),
+        other 91 (omega arith),
+        other 93 (omega arith),
+        other 60 (omega arith),
+        other 62 (omega arith),
+        other 44 (omega arith),
+        other 61 (omega arith),
+        other 58 (omega arith),
+        other 59 (omega arith),
+        other 47 (omega arith),
+      ) refl
 
   blank : is_in class.Blank b ≡ false
   blank = grind (arith, nat_tests)

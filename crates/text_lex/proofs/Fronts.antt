@@ -1,8 +1,8 @@
 -- The piece at the front of a text is the longest that begins there, or there is a fault.
-use Rattle.std.proofs.Common.{◌≡◌, ℕ, zero, suc, ◌+◌, ◌≤◌, ◌<◌, Bool, true, false, eqb, ◌&&◌, ◌||◌, Option, Some, None, [], ◌∷◌, take, drop, length, Ok, Err, ap, sym, subst, ◌∙◌, arith, refl, min, inl, inr, length-take}
+use Rattle.std.proofs.Common.{◌≡◌, ℕ, zero, suc, ◌≤◌, ◌<◌, Bool, true, false, Some, None, [], ◌∷◌, take, drop, length, Ok, Err, ap, sym, subst, ◌∙◌, arith, refl, min, inl, inr, length-take}
 use Rattle.std.specs.List.{list_all}
 use Rattle.std.proofs.lemmas.List.{take_all}
-use Rattle.std.specs.Prelude.{slice_index, ◌==◌, option_map}
+use Rattle.std.specs.Prelude.{slice_index, ◌==◌}
 use Rattle.std.proofs.lemmas.Bool.{eqb-true, eqb-false, cases_lt}
 use Rattle.protox_lex.specs.Class.{Text, is_in}
 use Rattle.protox_lex.specs.Lex as source_lex
@@ -22,7 +22,7 @@ use Rattle.protox_lex.proofs.Fronts as source_fronts
 use Rattle.protox_lex.proofs.Pieces.{is_block, piece_of, IsCut, IsFlaw}
 use Rattle.protox_lex.proofs.PieceSpelling.{piece_text, longest_of}
 use Rattle.protox_lex.proofs.Faults as source_faults
-use Rattle.text_lex.specs.Token.{Token, int, sign, Piece, gap, token}
+use Rattle.text_lex.specs.Token.{sign, Piece, gap, token}
 use Rattle.text_lex.specs.Longest.{is_sign, IsPiece, white_space, comment, word, hexadecimal, octal, decimal, floating, quoted, one_sign, IsLongest, IsAlone, from_to, IsFault}
 use Rattle.text_lex.specs.Lex.{Cut, int_of, sign_byte, sign_at, token_in, taken, refused, as_text, front}
 use Rattle.text_lex.proofs.Integers.{an_int}

@@ -2,8 +2,8 @@
 use Rattle.std.proofs.Common.{◌≡◌, ℕ, zero, suc, ◌+◌, ◌≤◌, [], ◌∷◌, drop, length, Ok, Err, arith, refl, length-drop}
 use Rattle.protox_lex.specs.Class.{Text}
 use Rattle.text_lex.specs.Token.{gap, token}
-use Rattle.text_lex.specs.Lex.{Cut, front, lexemes_from, lexemes}
-use Rattle.text_lex.specs.Longest.{IsLongest, Lexes, ends, passes, takes, stops}
+use Rattle.text_lex.specs.Lex.{Cut, front, lexemes_from}
+use Rattle.text_lex.specs.Longest.{Lexes, ends, passes, takes, stops}
 use Rattle.text_lex.proofs.Fronts.{IsRight, front_right}
 use Rattle.text_lex.proofs.Streams.{on_gap, on_token, on_fault}
 

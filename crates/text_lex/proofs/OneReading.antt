@@ -1,6 +1,6 @@
 -- A text has one list of tokens.
-use Rattle.std.proofs.Common.{◌≡◌, ◌≢◌, ℕ, zero, suc, ◌+◌, ◌≤◌, ◌<◌, Bool, true, false, Option, Some, None, List, [], ◌∷◌, take, drop, length, Ok, Err, ap, sym, subst, ◌∙◌, arith, refl, inl, inr, min}
-use Rattle.std.specs.Prelude.{slice_index, ◌==◌, option_map}
+use Rattle.std.proofs.Common.{◌≡◌, ◌≢◌, ℕ, zero, suc, ◌+◌, ◌≤◌, ◌<◌, true, false, Option, Some, None, List, [], ◌∷◌, take, drop, length, Err, ap, sym, subst, ◌∙◌, arith, refl, inl, inr, min}
+use Rattle.std.specs.Prelude.{slice_index, option_map}
 use Rattle.std.proofs.lemmas.Bool.{cases_lt}
 use Rattle.protox_lex.specs.Class.{Text, is_in, past}
 use Rattle.protox_lex.specs.Lex.{char_len, contents_len}
@@ -66,11 +66,11 @@ module _ (q : ℕ) (y : Text) (quote : is_quote q ≡ true) where
       let i = in_source (q ∷ take n y) p l.is in
       let s = a_string (take n y) i.what i.is in
       (s.0, record { within = l.within; is = subst (source.IsPiece (q ∷ take n y)) s.1 i.is; longest = longer }) where
-    longer : (m : ℕ) (r : sources.Piece) → suc n < m → m ≤ length (q ∷ y) → source.IsPiece (take m (q ∷ y)) r → ⊥
-    longer zero r lt le h = omega arith
-    longer (suc m) r lt le h =
-        let t = a_string (take m y) r h in
-        l.longest (suc m) (token (str t.0)) lt le (from_source (q ∷ take m y) (sources.token (sources.str t.0)) (token (str t.0)) begins.slash (subst (source.IsPiece (q ∷ take m y)) t.1 h) refl)
+        longer : (m : ℕ) (r : sources.Piece) → suc n < m → m ≤ length (q ∷ y) → source.IsPiece (take m (q ∷ y)) r → ⊥
+        longer zero r lt le h = omega arith
+        longer (suc m) r lt le h =
+            let t = a_string (take m y) r h in
+            l.longest (suc m) (token (str t.0)) lt le (from_source (q ∷ take m y) (sources.token (sources.str t.0)) (token (str t.0)) begins.slash (subst (source.IsPiece (q ∷ take m y)) t.1 h) refl)
 
   -- a string that is closed nowhere is no piece
   no_string : slice_index y (contents_len q y) ≢ q → (p : Piece) (n : ℕ) → IsLongest (q ∷ y) p n → ⊥

@@ -1,21 +1,20 @@
 -- A piece of a text is one of a source too, and a piece of a source that begins with no `/` is one of a text, but for the signs ( ) =.
-use Rattle.std.proofs.Common.{◌≡◌, ℕ, zero, suc, ◌≤◌, ◌<◌, Bool, true, false, not, ◌||◌, Option, Some, None, [], ◌∷◌, take, length, ap, sym, subst, ◌∙◌, arith, refl}
+use Rattle.std.proofs.Common.{◌≡◌, ℕ, ◌<◌, Bool, true, false, Option, Some, None, [], ◌∷◌, take, length, ap, sym, subst, ◌∙◌, arith, refl}
 use Rattle.std.specs.Prelude.{slice_index, ◌==◌, option_map}
 use Rattle.std.specs.List.{list_all}
 use Rattle.std.proofs.lemmas.Bool.{eqb-true, and_parts}
 use Rattle.protox_lex.specs.Class.{Text, is_in}
-use Rattle.protox_lex.specs.Lex.{value, sign_of}
+use Rattle.protox_lex.specs.Lex.{value}
 use Rattle.protox_lex.specs.Longest as source
 use Rattle.protox_lex.specs.Spelled.{IsDecLit}
 use Rattle.protox_lex.specs.Token as sources
 use Rattle.protox_lex.specs.declared.class.Class.TheVariants as class
-use Rattle.protox_lex.specs.declared.token.Sign.{Sign}
 use Rattle.text_lex.specs.declared.token.Radix.TheVariants as radix
 use Rattle.text_lex.specs.Token.{Token, int, sign, Piece, gap, token}
 use Rattle.text_lex.specs.Longest.{is_sign, IsPiece, white_space, comment, word, hexadecimal, octal, decimal, floating, quoted, one_sign, IsLongest}
-use Rattle.text_lex.specs.Lex.{int_of, sign_byte, sign_at, token_in}
+use Rattle.text_lex.specs.Lex.{int_of, sign_at, token_in}
 use Rattle.text_lex.proofs.Integers.{int_hexadecimal, int_octal, int_decimal}
-use Rattle.text_lex.proofs.Signs.{IsSign, HasSign, sign_here, byte_is}
+use Rattle.text_lex.proofs.Signs.{sign_here, byte_is}
 
 -- what these bytes are in a text, where they are this piece of a source
 abbrev pub piece_in : Text → sources.Piece → Option Piece

@@ -2,7 +2,7 @@
 use Rattle.std.proofs.Common.{◌≡◌, ℕ, zero, suc, ◌+◌, ◌-◌, ◌≤◌, ◌<◌, Bool, true, false, [], ◌∷◌, drop, length, Ok, Err, ap, sym, ◌∙◌, arith, refl, length-drop, drop-cons}
 use Rattle.std.specs.Prelude.{IsCharBoundary, slice_index, ◌==◌, nat_lt}
 use Rattle.std.specs.List.{prefix_len}
-use Rattle.std.proofs.lemmas.Bool.{eqb-true, ltb-true, ltb-false}
+use Rattle.std.proofs.lemmas.Bool.{eqb-true, ltb-true}
 use Rattle.std.proofs.lemmas.List.{drop-drop}
 use Rattle.std.proofs.lemmas.List.Sums.{prefix_len-le-length}
 use Rattle.protox_lex.specs.Class.{Text, is_in, past}
@@ -11,7 +11,7 @@ use Rattle.protox_lex.specs.declared.class.Class.TheVariants as class
 use Rattle.text_lex.specs.declared.lexer.LexError.{LexError}
 use Rattle.text_lex.specs.declared.lexer.LexError.TheVariants as errors
 use Rattle.text_lex.proofs.Boundaries.{no_boundary, invalid_front}
-use Rattle.text_lex.specs.Token.{Token, Piece, gap, token, token_at, fault}
+use Rattle.text_lex.specs.Token.{Token, gap, token, token_at, fault}
 use Rattle.text_lex.specs.Lex.{front, emit, lexemes_from}
 
 -- what is left of a piece is passed over

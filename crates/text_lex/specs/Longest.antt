@@ -1,7 +1,7 @@
 -- The rule of the longest match, apart from how it is read. Digits, floats, strings and their escapes are those of a source.
 --
 -- Source: "Lexical elements" of the text format specification, on protobuf.dev.
-use Rattle.std.specs.Prelude.{◌≡◌, ℕ, ◌+◌, ◌-◌, ◌<◌, ◌≤◌, Bool, true, false, ◌||◌, ◌==◌, List, [], ◌∷◌, length, take, drop, slice_index, min}
+use Rattle.std.specs.Prelude.{◌≡◌, ℕ, ◌+◌, ◌<◌, ◌≤◌, Bool, true, false, ◌||◌, ◌==◌, List, [], ◌∷◌, length, take, drop, slice_index, min}
 use Rattle.std.specs.List.{list_all}
 use Rattle.protox_lex.specs.Class.{Text, is_in, past}
 use Rattle.protox_lex.specs.Lex.{char_len}

@@ -1,4 +1,4 @@
-use Rattle.std.proofs.Common.{◌≡◌, ◌==◌, ◌∙◌, ap, sym, subst, false, slice_index, IsCharBoundary, option_map, arith}
+use Rattle.std.proofs.Common.{◌≡◌, ◌==◌, ◌∙◌, ap, sym, subst, false, slice_index, IsCharBoundary, arith}
 use Rattle.protox_lex.specs.Shown as source
 use Rattle.protox_lex.specs.Token as sources
 use Rattle.protox_lex.proofs.PieceSpelling.{longest_of}

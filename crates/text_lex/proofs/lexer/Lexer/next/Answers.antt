@@ -1,4 +1,4 @@
-use Rattle.std.proofs.Common.{◌≡◌, ◌∙◌, [], length, drop, Ok, Err, ap, sym, subst, arith, refl, length-drop}
+use Rattle.std.proofs.Common.{◌≡◌, ◌∙◌, drop, Ok, Err, subst, arith, refl, length-drop}
 use Rattle.std.proofs.lemmas.List.{take_rest}
 use Rattle.std.proofs.lemmas.Str.{IsCharBoundary-end}
 use Rattle.text_lex.specs.Lex.{front, lexemes_from}
