@@ -7,3 +7,4 @@ pub mod Lexing
 pub mod Boundaries
 pub mod Sources
 pub mod OneReading
+pub mod Orders

@@ -40,7 +40,7 @@ one_longest z p q n m a b = elim (cases_lt n m) [
   ]
 ]
 
-nothing_no_piece : (p : Piece) → IsPiece [] p → ⊥
+pub nothing_no_piece : (p : Piece) → IsPiece [] p → ⊥
 unfolding piece_of
 nothing_no_piece p h = let i = in_source [] p h in let wrong : None ≡ Some i.what = piece_text [] i.what i.is in cc
 

@@ -1,5 +1,6 @@
 pub mod Token
 pub mod Longest
+pub mod Order
 pub mod Lex
 pub mod Shown
 pub mod Stream
