@@ -25,7 +25,7 @@ use Rattle.protox_lex.proofs.Faults as source_faults
 use Rattle.text_lex.specs.Token.{sign, Piece, gap, token}
 use Rattle.text_lex.specs.Longest.{is_sign, IsPiece, white_space, comment, word, hexadecimal, octal, decimal, floating, quoted, one_sign, IsLongest, IsAlone, from_to, IsFault}
 use Rattle.text_lex.specs.Lex.{Cut, int_of, sign_byte, sign_at, token_in, taken, refused, as_text, front}
-use Rattle.text_lex.proofs.Integers.{an_int}
+use Rattle.text_lex.proofs.Integers.{an_int, digits_begin}
 use Rattle.text_lex.proofs.Signs.{byte_is}
 use Rattle.text_lex.proofs.SamePieces.{InSource, piece_in, in_source, from_source, longest_in}
 
@@ -188,7 +188,7 @@ module _ (at b : ℕ) (y : Text) (none : (b == 47) ≡ false) where
       let n = h.1 in
       let i = an_int (take n (b ∷ y)) in
       let l : IsLongest (b ∷ y) (token (int_of (take n (b ∷ y)))) n = cut_in _ _ n h.2.moves (longest_of (b ∷ y) _ n h.2) refl in
-      (i.base, i.digits, n, subst (λ t. IsLongest (b ∷ y) (token t) n) i.is l, h.3, same_span at start end _ _ h.4 h.5)
+      (i.base, i.digits, n, subst (λ t. IsLongest (b ∷ y) (token t) n) i.is l, h.3, same_span at start end _ _ (h.4 ∙ digits_begin (b ∷ y) h.0 n (longest_of (b ∷ y) _ n h.2) i.base i.digits i.is) h.5)
   fault_right kinds.IntegerOutOfRange start end h = subst (λ n. IsRight at (b ∷ y) (Ok (token (int_of (take n (b ∷ y))), n))) (sym h.6) (int_right h.0 h.1 h.2 h.3)
   fault_right kinds.UnterminatedString start end h =
       let f = source_faults.fault_of (b ∷ y) kinds.UnterminatedString start end h in

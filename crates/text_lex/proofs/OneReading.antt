@@ -1,5 +1,5 @@
 -- A text has one list of tokens.
-use Rattle.std.proofs.Common.{◌≡◌, ◌≢◌, ℕ, zero, suc, ◌+◌, ◌≤◌, ◌<◌, true, false, Option, Some, None, List, [], ◌∷◌, take, drop, length, Err, ap, sym, subst, ◌∙◌, arith, refl, inl, inr, min}
+use Rattle.std.proofs.Common.{◌≡◌, ◌≢◌, ℕ, zero, suc, ◌+◌, ◌-◌, ◌≤◌, ◌<◌, true, false, Option, Some, None, List, [], ◌∷◌, take, drop, length, Err, ap, sym, subst, ◌∙◌, arith, refl, inl, inr, min}
 use Rattle.std.specs.Prelude.{slice_index, option_map}
 use Rattle.std.proofs.lemmas.Bool.{cases_lt}
 use Rattle.protox_lex.specs.Class.{Text, is_in, past}
@@ -19,6 +19,7 @@ use Rattle.text_lex.specs.declared.token.Radix.{Radix}
 use Rattle.text_lex.specs.Token.{Token, int, str, Piece, gap, token, Lexeme, token_at, fault}
 use Rattle.text_lex.specs.Lex.{Cut, refused, front}
 use Rattle.text_lex.specs.Longest.{IsPiece, IsLongest, IsAlone, from_to, IsFault, Lexes, ends, passes, takes, stops}
+use Rattle.text_lex.proofs.Integers.{same_digits}
 use Rattle.text_lex.proofs.SamePieces.{piece_in, in_source, from_source}
 use Rattle.text_lex.proofs.Sources.{BeginsToken, fault_found}
 
@@ -87,13 +88,13 @@ module _ (q : ℕ) (y : Text) (quote : is_quote q ≡ true) where
 abbrev no_token_fault : ℕ → Text → LexError
 no_token_fault at z = errors.InvalidToken (from_to at 0 (min (length z) (char_len (slice_index z 0))))
 
-abbrev number_fault : ℕ → Text → ℕ → LexError
-number_fault at z n = errors.NoSpaceBetweenIntAndIdent (from_to at (source.prefix_of z n) (past class.Alphabetic z (n + 1)))
+abbrev number_fault : ℕ → Text → Text → ℕ → LexError
+number_fault at z d n = errors.NoSpaceBetweenIntAndIdent (from_to at (n - length d) (past class.Alphabetic z (n + 1)))
 
 -- what a fault is a fault of, and that it is the one there
 data Blame (at : ℕ) (z : Text) (e : LexError) : Type 0 where
   of_nothing : ((m : ℕ) (p : Piece) → IsPiece (take m z) p → ⊥) → is_quote (slice_index z 0) ≡ false → e ≡ no_token_fault at z → Blame at z e
-  of_number : (r : Radix) (d : Text) (n : ℕ) → IsLongest z (token (int r d)) n → is_in class.Letter (slice_index z n) ≡ true → e ≡ number_fault at z n → Blame at z e
+  of_number : (r : Radix) (d : Text) (n : ℕ) → IsLongest z (token (int r d)) n → is_in class.Letter (slice_index z n) ≡ true → e ≡ number_fault at z d n → Blame at z e
   of_string : (q : ℕ) (y : Text) → z ≡ q ∷ y → is_quote q ≡ true → ((p : Piece) (n : ℕ) → IsLongest z p n → ⊥) → front at z ≡ Err e → Blame at z e
 
 string_blame : (at : ℕ) (z : Text) (e : LexError) (kind : LexErrorKind) (start end q : ℕ) (y : Text) → z ≡ q ∷ y → is_quote q ≡ true → source.IsFault z kind start end → refused at z kind start end ≡ Err e
@@ -135,12 +136,17 @@ fault_alone at z e p n (of_string q y is quote none f) l alone = none p n l
 no_quote : {P : Type 0} (z : Text) → is_quote (slice_index z 0) ≡ false → (q : ℕ) (y : Text) → z ≡ q ∷ y → is_quote q ≡ true → P
 no_quote z none q y e quote = absurd (let wrong : false ≡ true = sym none ∙ ap (λ w. is_quote (slice_index w 0)) e ∙ quote in cc)
 
+token_is : (t u : Token) → token t ≡ token u → t ≡ u
+token_is t u e = cc
+
 same_fault : (at : ℕ) (z : Text) (e f : LexError) → Blame at z e → Blame at z f → e ≡ f
 same_fault at z e f (of_nothing none quote is) (of_nothing none' quote' is') = is ∙ sym is'
 same_fault at z e f (of_nothing none quote is) (of_number r d n l letter is') = absurd (none n (token (int r d)) l.is)
 same_fault at z e f (of_nothing none quote is) (of_string q y s quote' never w) = no_quote z quote q y s quote'
 same_fault at z e f (of_number r d n l letter is) (of_nothing none quote is') = absurd (none n (token (int r d)) l.is)
-same_fault at z e f (of_number r d n l letter is) (of_number r' d' m k letter' is') = is ∙ ap (number_fault at z) (one_longest z (token (int r d)) (token (int r' d')) n m l k).0 ∙ sym is'
+same_fault at z e f (of_number r d n l letter is) (of_number r' d' m k letter' is') =
+    let s = one_longest z (token (int r d)) (token (int r' d')) n m l k in
+    is ∙ ap (number_fault at z d) s.0 ∙ ap (λ x. number_fault at z x m) (same_digits r r' d d' (token_is (int r d) (int r' d') s.1)) ∙ sym is'
 same_fault at z e f (of_number r d n l letter is) (of_string q y s quote never w) = absurd (never (token (int r d)) n l)
 same_fault at z e f (of_string q y s quote never w) (of_nothing none quote' is') = no_quote z quote' q y s quote
 same_fault at z e f (of_string q y s quote never w) (of_number r d n l letter is) = absurd (never (token (int r d)) n l)
@@ -160,9 +166,6 @@ at_same at z n m us e r = subst (λ k. Lexes (at + k) (drop k z) us) (sym e) r
 
 apart : {P : Type 0} (t : Token) → gap ≡ token t → P
 apart t e = absurd (cc)
-
-token_is : (t u : Token) → token t ≡ token u → t ≡ u
-token_is t u e = cc
 
 after_gap : (at : ℕ) (z : Text) (ts us : List Lexeme) (n : ℕ) → IsLongest z gap n → Later at z n ts → Lexes at z us → ts ≡ us
 after_gap at z ts us n l later ends = nothing gap n l

@@ -1,7 +1,7 @@
 -- The rule of the longest match, apart from how it is read. Digits, floats, strings and their escapes are those of a source.
 --
 -- Source: "Lexical elements" of the text format specification, on protobuf.dev.
-use Rattle.std.specs.Prelude.{◌≡◌, ℕ, ◌+◌, ◌<◌, ◌≤◌, Bool, true, false, ◌||◌, ◌==◌, List, [], ◌∷◌, length, take, drop, slice_index, min}
+use Rattle.std.specs.Prelude.{◌≡◌, ℕ, ◌+◌, ◌-◌, ◌<◌, ◌≤◌, Bool, true, false, ◌||◌, ◌==◌, List, [], ◌∷◌, length, take, drop, slice_index, min}
 use Rattle.std.specs.List.{list_all}
 use Rattle.protox_lex.specs.Class.{Text, is_in, past}
 use Rattle.protox_lex.specs.Lex.{char_len}
@@ -66,7 +66,7 @@ HasFault kind at z s = (start : ℕ) × (end : ℕ) × source.IsFault z kind sta
 abbrev pub IsFault : ℕ → Text → LexError → Type 0
 IsFault at z (errors.InvalidToken s) = (s ≡ from_to at 0 (min (length z) (char_len (slice_index z 0)))) × (is_quote (slice_index z 0) ≡ false) × ((m : ℕ) (p : Piece) → IsPiece (take m z) p → ⊥)
 IsFault at z (errors.NoSpaceBetweenIntAndIdent s) =
-    (r : Radix) × (d : Text) × (n : ℕ) × IsLongest z (token (int r d)) n × (is_in class.Letter (slice_index z n) ≡ true) × (s ≡ from_to at (source.prefix_of z n) (past class.Alphabetic z (n + 1)))
+    (r : Radix) × (d : Text) × (n : ℕ) × IsLongest z (token (int r d)) n × (is_in class.Letter (slice_index z n) ≡ true) × (s ≡ from_to at (n - length d) (past class.Alphabetic z (n + 1)))
 IsFault at z (errors.InvalidStringCharacters s) = HasFault kinds.InvalidStringCharacters at z s
 IsFault at z (errors.InvalidStringEscape s) = HasFault kinds.InvalidStringEscape at z s
 IsFault at z errors.UnterminatedString = source.Unclosed z (λ rest. rest ≡ [])
