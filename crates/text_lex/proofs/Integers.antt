@@ -1,5 +1,5 @@
 -- An integer by how it is written.
-use Rattle.std.proofs.Common.{◌≡◌, ℕ, zero, suc, ◌+◌, ◌-◌, ◌<◌, Bool, true, false, eqb, ◌&&◌, ◌||◌, [], ◌∷◌, take, drop, length, ap, sym, subst, ◌∙◌, refl, arith, min, length-take}
+use Rattle.std.proofs.Common.{◌≡◌, ℕ, suc, ◌-◌, ◌<◌, Bool, true, false, eqb, ◌&&◌, ◌||◌, [], ◌∷◌, take, drop, length, ap, sym, subst, ◌∙◌, refl, arith, min, length-take}
 use Rattle.std.specs.Prelude.{slice_index, ◌==◌, nat_lt}
 use Rattle.std.proofs.lemmas.Bool.{eqb-true, lt-ltb, and_parts}
 use Rattle.protox_lex.specs.Class.{Text, is_in}
