@@ -1,1 +1,7 @@
+pub mod Token
+pub mod Longest
+pub mod Order
+pub mod Lex
+pub mod Shown
+pub mod Stream
 pub mod Unread

@@ -2,7 +2,15 @@
 //!
 //! They are those of a source, but for comments, for some signs and for integers, which may have any length.
 
-ghost use Rattle.std.specs.Prelude.{◌≡◌, ◌<◌, ◌≤◌, length, IfOk, IfSome};
+ghost use Rattle.protox_lex.specs.Class.{is_in, past};
+ghost use Rattle.protox_lex.specs.Shown as source;
+ghost use Rattle.protox_lex.specs.Token.{int};
+ghost use Rattle.protox_lex.specs.declared.class.Class.TheVariants as class;
+ghost use Rattle.protox_lex.specs.declared.error.LexErrorKind.TheVariants as kinds;
+ghost use Rattle.std.specs.Prelude.{◌≡◌, ℕ, ◌<◌, ◌≤◌, ◌+◌, ◌^◌, ◌==◌, [], ◌∷◌, length, take, drop, slice_index, option_map, IfOk, IfErr, IfSome, MatchOption, IsCharBoundary, false};
+ghost use Rattle.text_lex.specs.Lex as spec;
+ghost use Rattle.text_lex.specs.Shown.{token_of};
+ghost use Rattle.text_lex.specs.Token.{token, token_at, fault};
 
 use crate::token::{Int, Token};
 use protox_lex::{LexError as SourceError, LexErrorKind, Span};
@@ -29,10 +37,11 @@ pub enum LexError {
     NoSpaceBetweenIntAndIdent(Span),
 }
 
-/// The place behind the line that a comment begins.
+/// The end of the line that a comment stands in.
 fn comment_end(text: &[u8], at: usize) -> usize
     requires { at ≤ length text.now }
-    ensures { (at ≤ result) × (result ≤ length text.now) }
+    ensures value { result ≡ past class.Line text.now at }
+    ensures within { (at ≤ result) × (result ≤ length text.now) }
 {
     let mut end = at;
     'run: while end < text.len() && text[end] != b'\n' {
@@ -41,38 +50,49 @@ fn comment_end(text: &[u8], at: usize) -> usize
     end
 }
 
+fn is_blank(b: u8) -> bool
+    ensures { result ≡ is_in class.Blank b }
+{
+    matches!(b, b' ' | b'\t'..=b'\r')
+}
+
 /// The end of the gap that begins at a place: blanks, and comments from `#` to the end of the line.
 fn gap_end(text: &[u8], at: usize) -> usize
     requires { at ≤ length text.now }
-    ensures { (at ≤ result) × (result ≤ length text.now) }
+    ensures within { (at ≤ result) × (result ≤ length text.now) }
+    ensures passed { spec.lexemes_from at 0 (drop at text.now) ≡ spec.lexemes_from result 0 (drop result text.now) }
+    ensures begins { (is_in class.Blank (slice_index text.now result) ≡ false) × ((slice_index text.now result == 35) ≡ false) }
 {
     let mut end = at;
     'gap: while end < text.len() {
-        match text[end] {
-            b'#' => end = comment_end(text, end + 1),
-            b' ' | b'\t'..=b'\r' => end += 1,
-            _ => return end,
+        let b = text[end];
+        if b == b'#' {
+            end = comment_end(text, end + 1);
+        } else if is_blank(b) {
+            end += 1;
+        } else {
+            return end;
         }
     }
     end
 }
 
-/// From a place to behind so many bytes, at least one, in the text.
-fn span_at(text: &str, at: usize, len: usize) -> Span
-    requires { at < length text.now }
-    ensures { (result.start ≡ at) × (at < result.end) × (result.end ≤ length text.now) }
+/// The integer that ends at a place.
+fn integer_to(rest: &str, end: usize) -> Token<'_>
+    requires { IsCharBoundary rest.now end }
+    ensures { token_of result ≡ spec.int_of (take end rest.now) }
 {
-    Span {
-        start: at,
-        end: at.saturating_add(len.max(1)).min(text.len()),
-    }
+    Token::IntLiteral(Int::from_literal(&rest[..end]))
 }
 
-/// The token that a source has in its front.
-fn token_of<'a>(rest: &'a str, lexeme: protox_lex::Lexeme<'a>) -> Option<Token<'a>> {
+/// What the token that a source has in its front is in a text.
+fn text_token<'a>(rest: &'a str, lexeme: protox_lex::Lexeme<'a>) -> Option<Token<'a>>
+    requires { (n : ℕ) → source.token_of lexeme.token ≡ int n → IsCharBoundary rest.now lexeme.span.end }
+    ensures { option_map token_of result ≡ spec.token_in (take lexeme.entry.span.end rest.now) (source.token_of lexeme.entry.token) }
+{
     match lexeme.token {
         protox_lex::Token::Ident(text) => Some(Token::Ident(text)),
-        protox_lex::Token::Int(_) => integer_to(rest, lexeme.span.end),
+        protox_lex::Token::Int(_) => Some(integer_to(rest, lexeme.span.end)),
         protox_lex::Token::Float(text) => Some(Token::FloatLiteral(text)),
         protox_lex::Token::String(raw) => Some(Token::StringLiteral(raw)),
         protox_lex::Token::Sign(sign) => Token::from_sign(sign),
@@ -80,49 +100,71 @@ fn token_of<'a>(rest: &'a str, lexeme: protox_lex::Lexeme<'a>) -> Option<Token<'
     }
 }
 
-/// The integer that ends at a place.
-fn integer_to(rest: &str, end: usize) -> Option<Token<'_>> {
-    Some(Token::IntLiteral(Int::from_literal(rest.get(..end)?)))
-}
-
-/// The fault at a place where a source has this one in its front. An integer of any length is a token here.
-fn fault_of(at: usize, error: SourceError) -> LexError {
-    let span = Span {
-        start: at.saturating_add(error.span.start),
-        end: at.saturating_add(error.span.end),
-    };
-    match error.kind {
-        LexErrorKind::InvalidStringCharacters => LexError::InvalidStringCharacters(span),
-        LexErrorKind::InvalidStringEscape => LexError::InvalidStringEscape(span),
-        LexErrorKind::UnterminatedString => LexError::UnterminatedString,
-        LexErrorKind::NoSpaceBetweenIntAndIdent => LexError::NoSpaceBetweenIntAndIdent(span),
-        _ => LexError::InvalidToken(span),
-    }
-}
-
-/// The token in the front of what is left of a text, and its length.
-fn front(rest: &str, at: usize) -> Result<(Token<'_>, usize), LexError> {
-    if rest.as_bytes().first() == Some(&b'/') {
-        return Ok((Token::ForwardSlash, 1));
-    }
-    let (token, len) = match protox_lex::Lexer::new(rest).next() {
-        Ok(Some(lexeme)) => (token_of(rest, lexeme), lexeme.span.end),
-        Ok(None) => (None, 1),
-        Err(error) if error.kind == LexErrorKind::IntegerOutOfRange => {
-            (integer_to(rest, error.span.end), error.span.end)
-        }
-        Err(error) => return Err(fault_of(at, error)),
-    };
-    match token {
+/// A token of so many bytes at a place, or the fault that none is there.
+fn taken(found: Option<Token<'_>>, at: usize, len: usize) -> Result<(Token<'_>, usize), LexError>
+    requires { at + len < 2 ^ 64 }
+    ensures { source.Gives (λ p. (token (token_of p.0), p.1)) result (spec.taken at (option_map token_of found.entry) len) }
+{
+    match found {
         Some(token) => Ok((token, len)),
         None => Err(LexError::InvalidToken(Span {
             start: at,
-            end: at.saturating_add(len),
+            end: at + len,
         })),
     }
 }
 
+/// The fault at a place where a source has this one in its front. An integer of any length is a token here.
+fn refused(rest: &str, at: usize, error: SourceError) -> Result<(Token<'_>, usize), LexError>
+    requires start { at + error.span.start < 2 ^ 64 }
+    requires end { at + error.span.end < 2 ^ 64 }
+    requires cut { error.kind ≡ kinds.IntegerOutOfRange → IsCharBoundary rest.now error.span.end }
+    ensures { source.Gives (λ p. (token (token_of p.0), p.1)) result (spec.refused at rest.now error.kind error.span.start error.span.end) }
+{
+    let span = Span {
+        start: at + error.span.start,
+        end: at + error.span.end,
+    };
+    match error.kind {
+        LexErrorKind::IntegerOutOfRange => {
+            Ok((integer_to(rest, error.span.end), error.span.end))
+        }
+        LexErrorKind::InvalidStringCharacters => Err(LexError::InvalidStringCharacters(span)),
+        LexErrorKind::InvalidStringEscape => Err(LexError::InvalidStringEscape(span)),
+        LexErrorKind::UnterminatedString => Err(LexError::UnterminatedString),
+        LexErrorKind::NoSpaceBetweenIntAndIdent => Err(LexError::NoSpaceBetweenIntAndIdent(span)),
+        LexErrorKind::InvalidToken
+        | LexErrorKind::NestedBlockComment
+        | LexErrorKind::UnterminatedComment
+        | LexErrorKind::HashCommentOutsideTextFormat
+        | LexErrorKind::FloatSuffixOutsideTextFormat => Err(LexError::InvalidToken(span)),
+    }
+}
+
+/// The token in the front of what is left of a text, and its length.
+#[tactic(auto, unfolding(crate::specs::Lex::front))]
+fn front(rest: &str, at: usize) -> Result<(Token<'_>, usize), LexError>
+    requires some { 0 < length rest.now }
+    requires fits { at + length rest.now < 2 ^ 64 }
+    requires begins { (is_in class.Blank (slice_index rest.now 0) ≡ false) × ((slice_index rest.now 0 == 35) ≡ false) }
+    ensures { source.Gives (λ p. (token (token_of p.0), p.1)) result (spec.front at rest.now) }
+{
+    if rest.as_bytes()[0] == b'/' {
+        return Ok((Token::ForwardSlash, 1));
+    }
+    let mut source = protox_lex::Lexer::new(rest);
+    match source.next() {
+        Ok(Some(lexeme)) => taken(text_token(rest, lexeme), at, lexeme.span.end),
+        Ok(None) => taken(None, at, 1),
+        Err(error) => refused(rest, at, error),
+    }
+}
+
 /// A text, and how far it is read.
+///
+/// In contracts `stream` is the list of what is left: the tokens with their places, and at the first fault that fault and no more. `new` says
+/// that the list of a whole text is one that the longest match cuts it into (`Lexes` of specs/Longest.antt), by `laws::one_reading` there is no
+/// other such list, and `next` takes the first of what is left.
 #[derive(Clone, Copy, Debug)]
 pub struct Lexer<'a> {
     text: &'a str,
@@ -131,14 +173,22 @@ pub struct Lexer<'a> {
 }
 
 impl<'a> Lexer<'a> {
+    ghost use Rattle.text_lex.specs.Longest.{Lexes};
+    ghost use Rattle.text_lex.specs.Stream.{stream};
     ghost use Rattle.text_lex.specs.Unread.{unread};
 
-    pub fn new(text: &'a str) -> Lexer<'a> {
+    /// A lexer at the front of a text, whose tokens are those that the longest match cuts it into (`laws`).
+    pub fn new(text: &'a str) -> Lexer<'a>
+        ensures { Lexes 0 text.now (stream result) }
+    {
         Lexer { text, at: 0 }
     }
 
     /// The next token, or nothing at the end of the text. After an `Err` each call gives it again.
     pub fn next(&mut self) -> Result<Option<Lexeme<'a>>, LexError>
+        ensures ok { IfOk result (λ o. MatchOption o ((stream self.old ≡ []) × (stream self.new ≡ []))
+            (λ t. stream self.old ≡ token_at t.span.start t.span.end (token_of t.token) ∷ stream self.new)) }
+        ensures err { IfErr result (λ e. (stream self.old ≡ fault e ∷ []) × (stream self.new ≡ stream self.old)) }
         ensures moves { IfOk result (λ o. IfSome o (λ _. unread self.new < unread self.old)) }
     {
         let text = self.text;
@@ -147,11 +197,21 @@ impl<'a> Lexer<'a> {
             return Ok(None);
         }
         let Some(rest) = text.get(at..) else {
-            return Err(LexError::InvalidToken(span_at(text, at, 1)));
+            return Err(LexError::InvalidToken(Span {
+                start: at,
+                end: at + 1,
+            }));
         };
-        let (token, len) = front(rest, at)?;
-        let span = span_at(text, at, len);
-        self.at = span.end;
-        Ok(Some(Lexeme { token, span }))
+        match front(rest, at) {
+            Err(error) => Err(error),
+            Ok((token, len)) => {
+                let span = Span {
+                    start: at,
+                    end: at + len,
+                };
+                self.at = span.end;
+                Ok(Some(Lexeme { token, span }))
+            }
+        }
     }
 }

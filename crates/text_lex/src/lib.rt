@@ -2,6 +2,7 @@
 #![tactic(auto)]
 
 mod escape;
+pub mod laws;
 mod lexer;
 mod token;
 

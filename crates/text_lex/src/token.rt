@@ -1,3 +1,5 @@
+ghost use Rattle.std.specs.Prelude.{◌≡◌, option_map};
+
 use crate::escape::write_contents;
 use protox_lex::Sign;
 use std::fmt;
@@ -19,26 +21,30 @@ pub struct Int<'a> {
 }
 
 impl<'a> Int<'a> {
+    ghost use Rattle.text_lex.specs.Lex.{int_of};
+    ghost use Rattle.text_lex.specs.Token.{int};
+
     /// The integer that is written so: `0x` before hexadecimal digits, `0` before octal ones.
-    pub(crate) fn from_literal(literal: &'a str) -> Int<'a> {
-        let hexadecimal = literal
-            .strip_prefix("0x")
-            .or_else(|| literal.strip_prefix("0X"));
-        if let Some(digits) = hexadecimal {
+    pub(crate) fn from_literal(literal: &'a str) -> Int<'a>
+        ensures { int result.radix result.digits.now ≡ int_of literal.now }
+    {
+        let bytes = literal.as_bytes();
+        if bytes.len() < 2 || bytes[0] != b'0' {
             return Int {
-                digits,
-                radix: Radix::Hexadecimal,
-            };
-        }
-        match literal.strip_prefix('0') {
-            Some(digits) if !digits.is_empty() => Int {
-                digits,
-                radix: Radix::Octal,
-            },
-            _ => Int {
                 digits: literal,
                 radix: Radix::Decimal,
-            },
+            };
+        }
+        if bytes[1] == b'x' || bytes[1] == b'X' {
+            Int {
+                digits: &literal[2..],
+                radix: Radix::Hexadecimal,
+            }
+        } else {
+            Int {
+                digits: &literal[1..],
+                radix: Radix::Octal,
+            }
         }
     }
 }
@@ -69,8 +75,13 @@ pub enum Token<'a> {
 }
 
 impl Token<'static> {
+    ghost use Rattle.text_lex.specs.Lex.{sign_at, sign_byte};
+    ghost use Rattle.text_lex.specs.Shown.{token_of};
+
     /// A sign of a source that is one of the text format too.
-    pub(crate) fn from_sign(sign: Sign) -> Option<Token<'static>> {
+    pub(crate) fn from_sign(sign: Sign) -> Option<Token<'static>>
+        ensures { option_map token_of result ≡ sign_at (sign_byte sign) }
+    {
         match sign {
             Sign::Dot => Some(Token::Dot),
             Sign::Minus => Some(Token::Minus),
