@@ -17,12 +17,19 @@ pub struct Batch {
 }
 
 impl Batch {
+    ghost use Rattle.std.specs.Prelude.{◌≡◌, IfOk};
+
     /// The entries with the records of their files, of which there is one for each file.
     pub fn with_records(
         self,
         alloc: Global,
         records: Vec<FileDescriptorProto>,
-    ) -> Result<Tables, VisitError> {
+    ) -> Result<Tables, VisitError>
+        ensures messages { IfOk result (λ t. t.messages.items ≡ self.messages.items) }
+        ensures enums { IfOk result (λ t. t.enums.items ≡ self.enums.items) }
+        ensures extensions { IfOk result (λ t. t.extensions.items ≡ self.extensions.items) }
+        ensures services { IfOk result (λ t. t.services.items ≡ self.services.items) }
+    {
         let Batch {
             files,
             messages,
