@@ -5,3 +5,4 @@ pub mod Found
 pub mod NameRuns
 pub mod ReferenceRuns
 pub mod FileRuns
+pub mod ImportRuns

@@ -1,13 +1,14 @@
 -- What a walk of the visitor of names leaves.
-use Rattle.std.proofs.Common.{◌≡◌, ℕ, List, [], ◌∷◌, ◌++◌, ap, sym, ◌∙◌, subst, refl}
+use Rattle.std.proofs.Common.{◌≡◌, ℕ, zero, suc, arith, List, [], ◌∷◌, ◌++◌, ap, sym, ◌∙◌, subst, refl}
 use Rattle.std.proofs.Math.Path.{fun_ext}
 use Rattle.std.specs.BTreeMap.{get_by_text}
 use Rattle.reflect_walk.specs.Declarations.{Declaration, Runs}
-use Rattle.reflect_names.specs.Known.{known_of}
+use Rattle.reflect_walk.specs.Batches.{KeptBy}
+use Rattle.reflect_names.specs.Known.{known_of, below, AllBelow}
 use Rattle.reflect_names.specs.Faults.{Adds, place_at}
 use Rattle.reflect_names.specs.Names.{Places, known_after, faults_at}
 use Rattle.reflect_names.specs.NamePass.{known_behind, faults_along}
-use Rattle.reflect_names.specs.NameSteps.{Declares}
+use Rattle.reflect_names.specs.NameSteps.{Declares, Keeps, KeepsFrom}
 use Rattle.reflect_names.specs.declared.name_visitor.NameVisitor.{NameVisitor}
 use Rattle.reflect_names.proofs.Added.{adds_on, adds_none, same_places}
 
@@ -31,3 +32,20 @@ ran s (d ∷ ds) t (m, (step, rest)) =
       known = r.known ∙ ap (λ k. known_behind k ds) step.known;
       faults = adds_on s.faults m.faults t.faults _ _ step.faults later;
     }
+
+-- the entries that a walk over files leaves
+pub kept : (i n : ℕ) (s t : NameVisitor) → KeptBy Keeps i n s t → KeepsFrom i n s.names.entries t.names.entries
+kept i zero s t e = record {
+  below = λ mark le. ap (λ x. below mark x.names.entries) e;
+  bound = λ top le all. subst (λ x. AllBelow top x.names.entries) (sym e) all;
+}
+kept i (suc n) s t (m, before, now) =
+    let r = kept i n s m before in
+    record {
+      below = λ mark le. now.entries.below mark (omega (arith, le)) ∙ r.below mark le;
+      bound = λ top le all. now.entries.bound top (omega (arith, le)) (r.bound top (omega (arith, le)) all);
+    }
+
+pub kept_files : (i n : ℕ) (s t : NameVisitor) → KeptBy Keeps i n s t → t.file_names.now ≡ s.file_names.now
+kept_files i zero s t e = ap (λ x. x.file_names.now) e
+kept_files i (suc n) s t (m, before, now) = now.file_names ∙ kept_files i n s m before

@@ -70,6 +70,10 @@ list_of f = map fault_view f.found.items
 abbrev pub name_at : List FileDescriptorProto → ℕ → ℕ → List ℕ
 name_at files first i = cond (nat_le first i) (elim (slice_get files (i - first)) [ None ↦ [] | Some f ↦ text_of f.name ]) []
 
+-- the places of their records
+abbrev pub batch_places : List FileDescriptorProto → ℕ → ℕ → List ℤ → Place
+batch_places files first i path = record { file = name_at files first i; path = path }
+
 abbrev pub file_name : Faults → ℕ → List ℕ
 file_name f i = name_at f.files.now f.first i
 

@@ -7,3 +7,4 @@ pub mod ReferenceSteps
 pub mod NamePass
 pub mod ReferencePass
 pub mod FileNames
+pub mod ImportedFiles

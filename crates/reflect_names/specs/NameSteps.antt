@@ -1,6 +1,6 @@
 -- What the visitor of names does at a declaration, and what each of its calls keeps.
 use Rattle.std.specs.declared.alloc.Global.{Global}
-use Rattle.std.specs.Prelude.{◌≡◌, ◌<◌, ◌≤◌, ℕ, List, refl, String}
+use Rattle.std.specs.Prelude.{◌≡◌, ◌<◌, ◌≤◌, ℕ, ◌+◌, List, refl, String}
 use Rattle.std.proofs.Common.{◌∙◌}
 use Rattle.std.specs.BTreeMap.{get_by_text}
 use Rattle.reflect_scope.specs.declared.definition.Definition.{Definition}
@@ -38,3 +38,8 @@ Keeps-on file s t u k l = record {
   file_names = l.file_names ∙ k.file_names;
   entries = entries-on file s.names.entries t.names.entries u.names.entries k.entries l.entries;
 }
+
+-- the entries of the files before are as they were, and new ones are of so many files, the first of which has this index
+pub record KeepsFrom (first count : ℕ) (old new : List (String Global × Definition)) : Type 0 where
+  pub below : (mark : ℕ) → mark ≤ first → below mark new ≡ below mark old
+  pub bound : (top : ℕ) → first + count ≤ top → AllBelow top old → AllBelow top new

@@ -1,25 +1,36 @@
--- The references and the faults of a list of declarations.
-use Rattle.std.specs.Prelude.{◌≡◌, ◌<◌, ◌↔◌, ℕ, List, [], ◌∷◌, ◌++◌, map, length, Bool, IsTrue}
-use Rattle.std.specs.BTreeMap.{get_by_text}
+-- The references and the faults of files.
+use Rattle.std.specs.Prelude.{◌≡◌, ◌<◌, ◌≤◌, ◌↔◌, ℕ, ◌+◌, List, [], ◌∷◌, ◌++◌, length, Bool, IsTrue}
+use Rattle.descriptor_records.specs.declared.file.FileDescriptorProto.{FileDescriptorProto}
 use Rattle.reflect_scope.specs.Sees.{Sees}
+use Rattle.reflect_scope.specs.declared.seen.Links.{Links}
+use Rattle.reflect_walk.specs.Batches.{batch_declarations}
 use Rattle.reflect_walk.specs.Declarations.{Declaration}
-use Rattle.reflect_names.specs.Faults.{Fault, Adds, place_at}
+use Rattle.reflect_walk.specs.declared.visit_parts.Offsets.{Offsets}
+use Rattle.reflect_names.specs.Faults.{Fault}
+use Rattle.reflect_names.specs.Known.{Known}
 use Rattle.reflect_names.specs.Names.{Places}
 use Rattle.reflect_names.specs.References.{View, Target, targets_of, reference_faults_at}
-use Rattle.reflect_names.specs.ReferenceSteps.{target_of}
-use Rattle.reflect_names.specs.declared.resolve_visitor.ResolveVisitor.{ResolveVisitor}
 
-abbrev pub targets_along : View → List Declaration → List Target
-targets_along v [] = []
-targets_along v (d ∷ ds) = targets_of v d ++ targets_along v ds
+-- what there is known, and what each file sees
+abbrev pub views_of : Known → (ℕ → ℕ → Bool) → ℕ → View
+views_of known sees file = record { known = known; sees = sees file }
 
-abbrev pub reference_faults_along : (ℕ → Places) → View → List Declaration → List Fault
-reference_faults_along at v [] = []
-reference_faults_along at v (d ∷ ds) = reference_faults_at (at d.file) v d ++ reference_faults_along at v ds
+-- each of so many files, the first of which has this index, sees what its links say
+abbrev pub AreSeen : List Links → ℕ → ℕ → (ℕ → ℕ → Bool) → Type 0
+AreSeen links first count sees = (f g : ℕ) → first ≤ f → f < first + count → g < length links → (IsTrue (sees f g) ↔ Sees links f g)
 
--- the references of a file are found, by what it sees
-pub record ResolvesFile (s t : ResolveVisitor) (file : ℕ) (ds : List Declaration) : Type 0 where
-  pub sees : ℕ → Bool
-  pub right : (g : ℕ) → g < length s.links.now → (IsTrue (sees g) ↔ Sees s.links.now file g)
-  pub references : map target_of t.references.items ≡ map target_of s.references.items ++ targets_along (record { known = λ n. get_by_text s.names.now n; sees = sees }) ds
-  pub faults : Adds s.faults t.faults (reference_faults_along (place_at s.faults) (record { known = λ n. get_by_text s.names.now n; sees = sees }) ds)
+-- what the references of declarations mean, by the view of each file
+abbrev pub targets_along : (ℕ → View) → List Declaration → List Target
+targets_along views [] = []
+targets_along views (d ∷ ds) = targets_of (views d.file) d ++ targets_along views ds
+
+abbrev pub reference_faults_along : (ℕ → Places) → (ℕ → View) → List Declaration → List Fault
+reference_faults_along at views [] = []
+reference_faults_along at views (d ∷ ds) = reference_faults_at (at d.file) (views d.file) d ++ reference_faults_along at views ds
+
+-- what the references of files mean, by what each of them sees, and the faults of those that mean nothing
+pub record BatchReferences (known : Known) (links : List Links) (at : ℕ → Places) (before : Offsets) (first : ℕ) (files : List FileDescriptorProto) (means : List Target) (wrong : List Fault) : Type 0 where
+  pub sees : ℕ → ℕ → Bool
+  pub right : AreSeen links first (length files) sees
+  pub targets : means ≡ targets_along (views_of known sees) (batch_declarations before first files)
+  pub faults : wrong ≡ reference_faults_along at (views_of known sees) (batch_declarations before first files)

@@ -2,11 +2,15 @@
 use Rattle.std.specs.Prelude.{◌≡◌, ◌<◌, ◌↔◌, ℕ, ℤ, List, ◌++◌, map, length, IsTrue, refl, string_bytes}
 use Rattle.std.proofs.Common.{◌∙◌}
 use Rattle.std.specs.BTreeMap.{get_by_text}
+use Rattle.descriptor_records.specs.declared.file.FileDescriptorProto.{FileDescriptorProto}
 use Rattle.reflect_scope.specs.Seen.{tells}
 use Rattle.reflect_scope.specs.Sees.{Sees}
+use Rattle.reflect_walk.specs.declared.visit_parts.Offsets.{Offsets}
 use Rattle.reflect_walk.specs.Declarations.{Declaration, Body, of_file, of_message, of_field, of_oneof, of_enum, of_enum_value, of_service, of_method, of_extension}
+use Rattle.reflect_names.specs.Known.{known_of}
 use Rattle.reflect_names.specs.Faults.{Fault, Adds, place_at}
 use Rattle.reflect_names.specs.References.{View, Target, targets_of, reference_faults_at}
+use Rattle.reflect_names.specs.ReferencePass.{BatchReferences}
 use Rattle.reflect_names.specs.declared.resolve_visitor.Reference.{Reference}
 use Rattle.reflect_names.specs.declared.resolve_visitor.ResolveVisitor.{ResolveVisitor}
 
@@ -28,6 +32,7 @@ pub record Refers (s : ResolveVisitor) (d : Declaration) (t : ResolveVisitor) : 
   pub faults : Adds s.faults t.faults (reference_faults_at (place_at s.faults d.file) (view_of s) d)
   pub looks : Looks s d t
   pub names : t.names.now ≡ s.names.now
+  pub links : t.links.now ≡ s.links.now
 
 -- references and faults are added, as given
 pub record Finds (s t : ResolveVisitor) (more : List Target) (wrong : List Fault) : Type 0 where
@@ -49,3 +54,10 @@ Stays-same file s = record { names = refl; links = refl }
 
 pub Stays-on : (file : ℕ) (s t u : ResolveVisitor) → Stays file s t → Stays file t u → Stays file s u
 Stays-on file s t u k l = record { names = l.names ∙ k.names; links = l.links ∙ k.links }
+
+-- the references of files are found, with their faults
+pub record ResolvesFiles (s : ResolveVisitor) (before : Offsets) (first : ℕ) (files : List FileDescriptorProto) (t : ResolveVisitor) : Type 0 where
+  pub means : List Target
+  pub wrong : List Fault
+  pub right : BatchReferences (known_of s.names.now) s.links.now (place_at s.faults) before first files means wrong
+  pub finds : Finds s t means wrong

@@ -1,8 +1,10 @@
 ghost use Rattle.std.specs.Prelude.{◌≡◌, OnOk, IfOk, pos, [], ◌∷◌, ◌++◌};
+ghost use Rattle.std.specs.List.{cons_option, filter_map};
 ghost use Rattle.std.specs.BTreeMap.{get_by_text};
 ghost use Rattle.reflect_walk.specs.Declarations.{each, entry};
 ghost use Rattle.reflect_names.specs.Faults.{Adds, place_at, duplicate_file};
 ghost use Rattle.reflect_names.specs.FileNames.{indexes_of, file_faults, with_file, with_files, files_faults};
+ghost use Rattle.reflect_names.specs.ImportedFiles.{file_of, import_at as import_file, link_view, links_to};
 ghost use Rattle.reflect_names.specs.Names.{import_fault, public_fault, import_faults, is_index as is_index_of};
 
 use crate::error::DescriptorErrorKind;
@@ -188,8 +190,51 @@ pub fn check_imports(
     Ok(())
 }
 
-fn import_at(file: &FileDescriptorProto, import: i32) -> Option<&String> {
-    file.dependency.get(usize::try_from(import).ok()?)
+/// The file that the import at an index names, if there is such an import and such a file.
+fn import_at(file_names: &BTreeMap<String, u32>, names: &Vec<String>, import: i32) -> Option<u32>
+    ensures { result ≡ import_file (indexes_of file_names.now) names.now.items import }
+{
+    let name = names.get(usize::try_from(import).ok()?)?;
+    file_names.get(name.as_str()).copied()
+}
+
+/// Adds what was found, if anything.
+fn push_found(files: &mut Vec<u32>, found: Option<u32>) -> Result<(), AllocError>
+    ensures { OnOk result (files.new.items ≡ files.old.items ++ cons_option found []) }
+{
+    if let Some(file) = found {
+        files.push(file)?;
+    }
+    Ok(())
+}
+
+fn imports_of(
+    alloc: Global,
+    file_names: &BTreeMap<String, u32>,
+    names: &Vec<String>,
+) -> Result<Vec<u32>, AllocError>
+    ensures { IfOk result (λ files. files.items ≡ filter_map (file_of (indexes_of file_names.now)) names.now.items) }
+{
+    let mut files = Vec::new(alloc);
+    'turns: for name in names.iter() {
+        push_found(&mut files, file_names.get(name.as_str()).copied())?;
+    }
+    Ok(files)
+}
+
+fn publics_of(
+    alloc: Global,
+    file_names: &BTreeMap<String, u32>,
+    names: &Vec<String>,
+    imports: &Vec<i32>,
+) -> Result<Vec<u32>, AllocError>
+    ensures { IfOk result (λ files. files.items ≡ filter_map (import_file (indexes_of file_names.now) names.now.items) imports.now.items) }
+{
+    let mut files = Vec::new(alloc);
+    'turns: for import in imports.iter() {
+        push_found(&mut files, import_at(file_names, names, *import))?;
+    }
+    Ok(files)
 }
 
 /// What a file imports, by the indexes that the map has for the names; imports that it does not have are left out.
@@ -197,20 +242,10 @@ pub fn links_of(
     alloc: Global,
     file_names: &BTreeMap<String, u32>,
     file: &FileDescriptorProto,
-) -> Result<Links, AllocError> {
-    let mut imports = Vec::new(alloc);
-    'imports: for name in &file.dependency {
-        if let Some(index) = file_names.get(name.as_str()).copied() {
-            imports.push(index)?;
-        }
-    }
-    let mut public = Vec::new(alloc);
-    'public: for import in &file.public_dependency {
-        if let Some(name) = import_at(file, *import) {
-            if let Some(index) = file_names.get(name.as_str()).copied() {
-                public.push(index)?;
-            }
-        }
-    }
+) -> Result<Links, AllocError>
+    ensures { IfOk result (λ links. link_view links ≡ links_to (indexes_of file_names.now) file.now) }
+{
+    let imports = imports_of(alloc, file_names, &file.dependency)?;
+    let public = publics_of(alloc, file_names, &file.dependency, &file.public_dependency)?;
     Ok(Links { imports, public })
 }

@@ -20,7 +20,7 @@ pub use reflect_scope::{
     Definition, DefinitionKind, Links, ResolveNameError, ResolveNameFilter, Resolved, SeenFiles,
     resolve_name,
 };
-pub use reflect_walk::{Offsets, VisitError, Visitor, visit};
+pub use reflect_walk::{Offsets, VisitError, Visitor, visit, visit_all};
 pub use resolve_visitor::{Reference, ResolveVisitor};
 
 #[cfg(test)]

@@ -1,4 +1,4 @@
-ghost use Rattle.std.specs.Prelude.{◌≡◌, OnOk, IfOk};
+ghost use Rattle.std.specs.Prelude.{◌≡◌, OnOk, IfOk, length};
 ghost use Rattle.std.specs.BTreeMap.{get_by_text};
 
 use crate::faults::{Faults, text_of};
@@ -12,7 +12,7 @@ use descriptor_records::{
     FileDescriptorProto, MethodDescriptorProto, OneofDescriptorProto, ServiceDescriptorProto, tag,
 };
 use reflect_scope::{Definition, DefinitionKind};
-use reflect_walk::{Offsets, VisitError, Visitor, visit};
+use reflect_walk::{Offsets, VisitError, Visitor, visit_all};
 use std::alloc::Global;
 use std::collections::BTreeMap;
 
@@ -29,11 +29,11 @@ pub struct NameVisitor<'a> {
 }
 
 impl<'a> NameVisitor<'a> {
-    ghost use Rattle.reflect_walk.specs.Declarations.{file_declarations, past_file};
+    ghost use Rattle.reflect_walk.specs.Batches.{batch_declarations, past_files};
     ghost use Rattle.reflect_names.specs.Known.{known_of};
     ghost use Rattle.reflect_names.specs.Faults.{Adds, place_at};
     ghost use Rattle.reflect_names.specs.NamePass.{known_behind, faults_along};
-    ghost use Rattle.reflect_names.specs.NameSteps.{Keeps};
+    ghost use Rattle.reflect_names.specs.NameSteps.{KeepsFrom};
 
     /// Adds to `names` and `faults`. `file_names` has the indexes of all files, old and new, by their names.
     pub fn new(
@@ -52,20 +52,22 @@ impl<'a> NameVisitor<'a> {
         }
     }
 
-    /// Declares what the file at index `index` declares; `offsets` are the counts before it, and the answer those behind it.
-    pub fn declare_file(
+    /// Declares what the files declare, the first of which has the index `first`; `before` are the counts of what stands before
+    /// them, and the answer those behind them.
+    pub fn declare_files(
         &mut self,
         alloc: Global,
-        offsets: Offsets,
-        index: u32,
-        file: &FileDescriptorProto,
+        before: Offsets,
+        first: u32,
+        files: &[FileDescriptorProto],
     ) -> Result<Offsets, VisitError>
-        ensures known { OnOk result (known_of self.new.names ≡ known_behind (known_of self.old.names) (file_declarations offsets index file.now)) }
-        ensures faults { OnOk result (Adds self.old.faults self.new.faults (faults_along (place_at self.old.faults) (λ n. get_by_text self.old.file_names.now n) (known_of self.old.names) (file_declarations offsets index file.now))) }
-        ensures keeps { Keeps index self.old self.new }
-        ensures counts { IfOk result (λ o. o ≡ past_file offsets file.now) }
+        ensures known { OnOk result (known_of self.new.names ≡ known_behind (known_of self.old.names) (batch_declarations before first files.now)) }
+        ensures faults { OnOk result (Adds self.old.faults self.new.faults (faults_along (place_at self.old.faults) (λ n. get_by_text self.old.file_names.now n) (known_of self.old.names) (batch_declarations before first files.now))) }
+        ensures keeps { KeepsFrom first (length files.now) self.old.names.entries self.new.names.entries }
+        ensures file_names { self.new.file_names.now ≡ self.old.file_names.now }
+        ensures counts { IfOk result (λ o. o ≡ past_files before files.now) }
     {
-        let behind = visit(alloc, offsets, index, file, self)?;
+        let behind = visit_all(alloc, before, first, files, self)?;
         Ok(behind)
     }
 

@@ -10,7 +10,7 @@ use descriptor_records::{
 use reflect_scope::{
     Definition, DefinitionKind, Links, ResolveNameError, ResolveNameFilter, SeenFiles, resolve_name,
 };
-use reflect_walk::{Offsets, VisitError, Visitor, visit};
+use reflect_walk::{Offsets, VisitError, Visitor, visit_all};
 use std::alloc::{AllocError, Global};
 use std::collections::BTreeMap;
 
@@ -96,9 +96,8 @@ impl<'a> ResolveVisitor<'a> {
     ghost use Rattle.reflect_scope.specs.Means.{Meaning, Answers};
     ghost use Rattle.reflect_names.specs.Faults.{place_at, invalid_type};
     ghost use Rattle.reflect_names.specs.References.{meaning_of, targets, unmet, kind_meant, name_targets, reference_faults, mismatch, label_faults, type_faults, type_name_faults, field_reference_faults};
-    ghost use Rattle.reflect_names.specs.ReferenceSteps.{Finds, IsSame, Stays, view_of, target_of};
-    ghost use Rattle.reflect_names.specs.ReferencePass.{ResolvesFile};
-    ghost use Rattle.reflect_walk.specs.Declarations.{file_declarations, past_file};
+    ghost use Rattle.reflect_names.specs.ReferenceSteps.{Finds, IsSame, ResolvesFiles, Stays, view_of, target_of};
+    ghost use Rattle.reflect_walk.specs.Batches.{past_files};
 
     /// Adds to `faults`. `names` has what all full names stand for, and `links` what all files import, by their indexes.
     pub fn new(
@@ -106,7 +105,12 @@ impl<'a> ResolveVisitor<'a> {
         faults: Faults<'a>,
         names: &'a BTreeMap<String, Definition>,
         links: &'a [Links],
-    ) -> ResolveVisitor<'a> {
+    ) -> ResolveVisitor<'a>
+        ensures references { result.references.items ≡ [] }
+        ensures faults { result.faults ≡ faults.entry }
+        ensures names { result.names.now ≡ names.now }
+        ensures links { result.links.now ≡ links.now }
+    {
         ResolveVisitor {
             references: Vec::new(alloc),
             faults,
@@ -116,24 +120,28 @@ impl<'a> ResolveVisitor<'a> {
         }
     }
 
-    /// Resolves the references of the file at index `index`; `offsets` are the counts before it, and the answer those behind it.
-    pub fn resolve_file(
+    /// Resolves the references of the files, the first of which has the index `first`; `before` are the counts of what stands
+    /// before them, and the answer those behind them.
+    pub fn resolve_files(
         &mut self,
         alloc: Global,
-        offsets: Offsets,
-        index: u32,
-        file: &FileDescriptorProto,
+        before: Offsets,
+        first: u32,
+        files: &[FileDescriptorProto],
     ) -> Result<Offsets, VisitError>
-        ensures resolves { OnOk result (ResolvesFile self.old self.new index (file_declarations offsets index file.now)) }
-        ensures keeps { Stays index self.old self.new }
-        ensures counts { IfOk result (λ o. o ≡ past_file offsets file.now) }
+        ensures resolves { OnOk result (ResolvesFiles self.old before first files.now self.new) }
+        ensures keeps { Stays first self.old self.new }
+        ensures counts { IfOk result (λ o. o ≡ past_files before files.now) }
     {
-        let behind = visit(alloc, offsets, index, file, self)?;
+        let behind = visit_all(alloc, before, first, files, self)?;
         Ok(behind)
     }
 
     /// What the references mean that were met, in the order of the visits, but for those that are faults; and the faults.
-    pub fn into_parts(self) -> (Vec<Reference>, Faults<'a>) {
+    pub fn into_parts(self) -> (Vec<Reference>, Faults<'a>)
+        ensures references { result.0.items ≡ self.entry.references.items }
+        ensures faults { result.1 ≡ self.entry.faults }
+    {
         let ResolveVisitor {
             references,
             faults,

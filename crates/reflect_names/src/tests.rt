@@ -75,10 +75,8 @@ fn link(
     name_files(alloc, &mut file_names, 0, files, &mut faults)?;
     let mut names = NameVisitor::new(BTreeMap::new(alloc), faults, &file_names);
     let mut links: Vec<Links> = Vec::new(alloc);
-    let mut offsets = NONE;
-    for (index, file) in files.iter().enumerate() {
-        let index = u32::try_from(index).unwrap_or(0);
-        offsets = names.declare_file(alloc, offsets, index, file)?;
+    names.declare_files(alloc, NONE, 0, files)?;
+    for file in files {
         links.push(links_of(alloc, &file_names, file)?)?;
     }
     let (names, faults) = names.into_parts();
@@ -88,11 +86,7 @@ fn link(
     }
     let faults = Faults::new(alloc, files, 0);
     let mut references = ResolveVisitor::new(alloc, faults, &names, links.as_slice());
-    let mut offsets = NONE;
-    for (index, file) in files.iter().enumerate() {
-        let index = u32::try_from(index).unwrap_or(0);
-        offsets = references.resolve_file(alloc, offsets, index, file)?;
-    }
+    references.resolve_files(alloc, NONE, 0, files)?;
     let (references, faults) = references.into_parts();
     for reference in &references {
         found.push_str(reference.name.as_str())?;

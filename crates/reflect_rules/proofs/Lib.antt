@@ -1,5 +1,4 @@
 pub mod Again
-pub mod Batches
 pub mod Decimals
 pub mod Furthest
 pub mod RuleRuns

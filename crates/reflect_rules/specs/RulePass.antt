@@ -1,9 +1,10 @@
 -- The faults of a batch of files.
-use Rattle.std.specs.Prelude.{◌≡◌, ℕ, ◌+◌, List, [], ◌∷◌, ◌++◌, false, Option}
+use Rattle.std.specs.Prelude.{◌≡◌, ℕ, List, [], ◌∷◌, ◌++◌, false, Option}
 use Rattle.descriptor_records.specs.declared.file.FileDescriptorProto.{FileDescriptorProto}
 use Rattle.reflect_walk.specs.declared.visit_parts.Offsets.{Offsets}
-use Rattle.reflect_walk.specs.Declarations.{Declaration, file_declarations, past_file}
-use Rattle.reflect_names.specs.Faults.{Fault, name_at}
+use Rattle.reflect_walk.specs.Batches.{batch_declarations}
+use Rattle.reflect_walk.specs.Declarations.{Declaration}
+use Rattle.reflect_names.specs.Faults.{Fault, batch_places}
 use Rattle.reflect_names.specs.Names.{Places}
 use Rattle.reflect_names.specs.declared.resolve_visitor.Reference.{Reference}
 use Rattle.reflect_rules.specs.Ranges.{TypesSay}
@@ -12,24 +13,11 @@ use Rattle.reflect_rules.specs.Rules.{Values, FaultsOf}
 use Rattle.reflect_rules.specs.Uses.{users, use_by}
 use Rattle.reflect_rules.specs.declared.uses.EntryUse.{EntryUse}
 
-abbrev pub past_files : Offsets → List FileDescriptorProto → Offsets
-past_files o [] = o
-past_files o (f ∷ fs) = past_files (past_file o f) fs
-
--- the declarations of files, the first of which has this index
-abbrev pub batch_declarations : Offsets → ℕ → List FileDescriptorProto → List Declaration
-batch_declarations o i [] = []
-batch_declarations o i (f ∷ fs) = file_declarations o i f ++ batch_declarations (past_file o f) (i + 1) fs
-
 -- the faults of declarations, one after another
 abbrev pub FaultsAlong : Facts → Values → (ℕ → Places) → Place → List Declaration → List Fault → Type 0
 FaultsAlong g values at p [] xs = xs ≡ []
 FaultsAlong g values at p (d ∷ ds) xs =
     (ys : List Fault) × (zs : List Fault) × FaultsOf g values p (at d.file) d ys × FaultsAlong g values at (place_behind p d) ds zs × (xs ≡ ys ++ zs)
-
--- the places of the files of a batch
-abbrev pub batch_places : List FileDescriptorProto → ℕ → ℕ → Places
-batch_places files first i path = record { file = name_at files first i; path = path }
 
 -- how the type of a map's entries of the index is used in a batch of files, whose references mean this
 abbrev pub batch_use : TypesSay → Offsets → ℕ → List FileDescriptorProto → List Reference → ℕ → Option EntryUse

@@ -1,34 +1,14 @@
-ghost use Rattle.std.specs.Prelude.{◌≡◌, OnOk, IfOk, map};
-ghost use Rattle.reflect_walk.specs.Declarations.{Runs};
+ghost use Rattle.std.specs.Prelude.{IfOk, map};
 ghost use Rattle.reflect_names.specs.Faults.{fault_view};
-ghost use Rattle.reflect_rules.specs.RulePass.{batch_declarations, BatchFaults};
+ghost use Rattle.reflect_rules.specs.RulePass.{BatchFaults};
 
 use crate::references::References;
 use crate::rule_visitor::RuleVisitor;
 use crate::types::Types;
 use crate::uses::UseVisitor;
 use descriptor_records::FileDescriptorProto;
-use reflect_names::{DescriptorErrorKind, Faults, Offsets, Reference, VisitError, Visitor, visit};
+use reflect_names::{DescriptorErrorKind, Faults, Offsets, Reference, VisitError, visit_all};
 use std::alloc::Global;
-
-/// Calls the visitor at each declaration of the files, the first of which has the index `first`.
-fn visit_all<V: Visitor>(
-    alloc: Global,
-    before: Offsets,
-    first: u32,
-    files: &[FileDescriptorProto],
-    visitor: &mut V,
-) -> Result<(), VisitError>
-    ensures { OnOk result (Runs V.steps visitor.old (batch_declarations before first files.now) visitor.new) }
-{
-    let mut offsets = before;
-    let mut index = first;
-    'turns: for file in files {
-        offsets = visit(alloc, offsets, index, file, visitor)?;
-        index = index.checked_add(1).ok_or(VisitError::TooMany)?;
-    }
-    Ok(())
-}
 
 /// All that is wrong with the numbers, defaults, oneof indexes and map entries of the files.
 ///

@@ -12,6 +12,10 @@ pub runs_append : {S D : Type 0} (R : S → D → S → Type 0) (a b : List D) (
 runs_append R [] b s m t p q = subst (λ x. Runs R x b t) p q
 runs_append R (d ∷ a) b s m t p q = (p.0, (p.1.0, runs_append R a b p.0 m t p.1.1 q))
 
+pub runs_split : {S D : Type 0} (R : S → D → S → Type 0) (a b : List D) (s t : S) → Runs R s (a ++ b) t → (m : S) × (Runs R s a m × Runs R m b t)
+runs_split R [] b s t p = (s, (refl, p))
+runs_split R (d ∷ a) b s t p = let rest = runs_split R a b p.0 t p.1.1 in (rest.0, ((p.0, (p.1.0, rest.1.0)), rest.1.1))
+
 each-push : {A B : Type 0} (one : ℕ → A → List B) (i : ℕ) (xs : List A) (x : A) → each one i (xs ++ x ∷ []) ≡ each one i xs ++ one (i + length xs) x
 each-push one i [] x = let e : i ≡ i + 0 = omega arith in append-nil (one i x) ∙ ap (λ n. one n x) e
 each-push one i (y ∷ xs) x =

@@ -1,10 +1,12 @@
-//! The declarations of a protobuf file as one list: a visitor is called at each of them, in the order of that list.
+//! The declarations of protobuf files as one list: a visitor is called at each of them, in the order of that list.
 #![tactic(auto)]
 
 mod visit_error;
+mod visit_files;
 mod visit_parts;
 mod visitor;
 
 pub use visit_error::VisitError;
+pub use visit_files::visit_all;
 pub use visit_parts::{Offsets, visit};
 pub use visitor::Visitor;

@@ -2,10 +2,11 @@ use Rattle.std.proofs.Common.{◌≡◌, ℕ, Option, ◌++◌, map, ap, sym, �
 use Rattle.std.proofs.Math.Path.{fun_ext}
 use Rattle.std.specs.BTreeMap.{get}
 use Rattle.std.specs.Ordering.{nat_cmp}
-use Rattle.reflect_names.specs.Faults.{fault_view, list_of, place_at}
+use Rattle.reflect_walk.specs.Batches.{batch_declarations}
+use Rattle.reflect_names.specs.Faults.{fault_view, list_of, place_at, batch_places}
 use Rattle.reflect_names.specs.Names.{Places}
 use Rattle.reflect_rules.specs.Walks.{Place}
-use Rattle.reflect_rules.specs.RulePass.{batch_declarations, batch_places, batch_use, FaultsAlong}
+use Rattle.reflect_rules.specs.RulePass.{batch_use, FaultsAlong}
 use Rattle.reflect_rules.specs.RuleSteps.{facts_of, place_of}
 use Rattle.reflect_rules.specs.Uses.{users, use_by, use_behind}
 use Rattle.reflect_rules.specs.declared.uses.EntryUse.{EntryUse}
@@ -21,14 +22,14 @@ returns g c =
     let ds = batch_declarations c.args.before c.args.first fs in
     let v = c.new-visitor-2.result in
     let made = c.new-visitor-2.ensures in
-    let r = ran says values v ds c.visit_all-2.new.visitor c.in_ok-visit_all-2.ensures in
+    let r = ran says values v ds c.visit_all-2.new.visitor c.in_ok-visit_all-2.ensures.runs in
     let w = c.new-visitor.result in
     let begun_by = c.new-visitor.ensures in
     let references : w.references.rest.now ≡ c.args.references.now = begun_by.references ∙ c.new-references.ensures in
     let uses : ℕ → Option EntryUse = batch_use (says c.args.types.now) c.args.before c.args.first fs c.args.references.now in
     let used : (facts_of says v).uses ≡ uses = fun_ext (λ i.
     ap (λ m. get nat_cmp m i) (made.uses ∙ c.into_uses-uses.ensures)
-    ∙ uses_found says w ds c.visit_all.new.visitor c.in_ok-visit_all.ensures i
+    ∙ uses_found says w ds c.visit_all.new.visitor c.in_ok-visit_all.ensures.runs i
     ∙ ap (λ u. use_behind u (users (says w.types.now) i w.references.rest.now ds)) (begun_by.uses i)
     ∙ use_of_none (users (says w.types.now) i w.references.rest.now ds)
     ∙ ap (λ y. use_by (users (says y) i w.references.rest.now ds)) begun_by.types

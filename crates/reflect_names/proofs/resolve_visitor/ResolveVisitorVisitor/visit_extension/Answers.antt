@@ -28,4 +28,5 @@ returns-clause-step c =
       faults = both.faults;
       looks = ap tells (c.in_ok-resolve_field.ensures.same.seen ∙ c.in_ok-resolve_message.ensures.same.seen);
       names = c.in_ok-resolve_field.ensures.same.names ∙ c.in_ok-resolve_message.ensures.same.names;
+      links = c.in_ok-resolve_field.ensures.same.links ∙ c.in_ok-resolve_message.ensures.same.links;
     }

@@ -1,11 +1,11 @@
 -- One more file of a batch.
-use Rattle.std.proofs.Common.{◌≡◌, ℕ, ◌<◌, ◌+◌, List, [], ◌∷◌, ◌++◌, take, length, get_or, ap, sym, subst, ◌∙◌, append_assoc, arith, refl}
+use Rattle.std.proofs.Common.{◌≡◌, ℕ, zero, suc, ◌<◌, ◌≤◌, ◌+◌, ◌-◌, List, [], ◌∷◌, ◌++◌, take, length, get_or, ap, sym, subst, ◌∙◌, append_assoc, arith, refl}
 use Rattle.std.proofs.lemmas.List.{take_more, append-nil, length-take-le}
 use Rattle.descriptor_records.specs.declared.file.FileDescriptorProto.{FileDescriptorProto}
 use Rattle.reflect_walk.specs.declared.visit_parts.Offsets.{Offsets}
 use Rattle.reflect_walk.specs.Declarations.{Declaration, Runs, file_declarations, past_file}
+use Rattle.reflect_walk.specs.Batches.{past_files, batch_declarations, KeptBy}
 use Rattle.reflect_walk.proofs.Walks.{runs_append}
-use Rattle.reflect_rules.specs.RulePass.{past_files, batch_declarations}
 
 past_push : (o : Offsets) (fs : List FileDescriptorProto) (f : FileDescriptorProto) → past_files o (fs ++ f ∷ []) ≡ past_file (past_files o fs) f
 past_push o [] f = refl
@@ -39,3 +39,20 @@ run_file R o now i at fs k f s m t lt is counts index before here =
     (subst (λ x. Runs R m (file_declarations (past_files o (take k fs)) (i + k) x) t) is
     (subst (λ n. Runs R m (file_declarations (past_files o (take k fs)) n f) t) index
     (subst (λ p. Runs R m (file_declarations p at f) t) counts here))))
+
+module _ {S : Type 0} (kept : ℕ → S → S → Type 0) (i : ℕ) where
+  pub kept_more : (n at : ℕ) (s m t : S) → at ≡ i + n → KeptBy kept i n s m → kept at m t → KeptBy kept i (n + 1) s t
+  kept_more n at s m t index before now =
+      let next : suc n ≡ n + 1 = omega arith in
+      let both : KeptBy kept i (suc n) s t = (m, before, subst (λ j. kept j m t) index now) in
+      subst (λ k. KeptBy kept i k s t) next both
+
+  -- nothing is done at further files
+  rest : ((j : ℕ) (s : S) → kept j s s) → (n k : ℕ) (s t : S) → KeptBy kept i n s t → KeptBy kept i (n + k) s t
+  rest same n zero s t by = let e : n ≡ n + 0 = omega arith in subst (λ k. KeptBy kept i k s t) e by
+  rest same n (suc k) s t by =
+      let e : n + k + 1 ≡ n + suc k = omega arith in
+      subst (λ j. KeptBy kept i j s t) e (kept_more (n + k) (i + (n + k)) s t t refl (rest same n k s t by) (same (i + (n + k)) t))
+
+  pub kept_rest : ((j : ℕ) (s : S) → kept j s s) → (n all : ℕ) (s t : S) → n ≤ all → KeptBy kept i n s t → KeptBy kept i all s t
+  kept_rest same n all s t le by = let e : n + (all - n) ≡ all = omega arith in subst (λ k. KeptBy kept i k s t) e (rest same n (all - n) s t by)
