@@ -19,11 +19,11 @@ use Rattle.reflect_index.specs.Names.{Sort, messages, enums, extensions, service
 use Rattle.reflect_index.proofs.Founds.{found_same, found_more}
 use Rattle.reflect_index.proofs.Counted.{past_one, IsNext, AreNext}
 
-none_left : {X : Type 0} (xs ys : List X) → xs ++ ys ≡ [] → xs ≡ []
+pub none_left : {X : Type 0} (xs ys : List X) → xs ++ ys ≡ [] → xs ≡ []
 none_left [] ys e = refl
 none_left (x ∷ xs) ys e = absurd (cc)
 
-none_right : {X : Type 0} (xs ys : List X) → xs ++ ys ≡ [] → ys ≡ []
+pub none_right : {X : Type 0} (xs ys : List X) → xs ++ ys ≡ [] → ys ≡ []
 none_right [] ys e = e
 none_right (x ∷ xs) ys e = absurd (cc)
 

@@ -5,3 +5,5 @@ pub mod Founds
 pub mod Counted
 pub mod Known
 pub mod Orders
+pub mod IndexRuns
+pub mod Batched

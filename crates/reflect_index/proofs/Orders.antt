@@ -25,7 +25,7 @@ all_get P (y ∷ ys) (suc i) x all e = all_get P ys i x all.1 e
 abbrev pub AreUpTo : ℕ → List FullName → Type 0
 AreUpTo file names = AllByRecursion (λ y. y.1 ≤ file) names
 
-up_to_more : (n m : ℕ) (names : List FullName) → n ≤ m → AreUpTo n names → AreUpTo m names
+pub up_to_more : (n m : ℕ) (names : List FullName) → n ≤ m → AreUpTo n names → AreUpTo m names
 up_to_more n m [] le all = tt
 up_to_more n m (x ∷ xs) le all = let first : x.1 ≤ n = all.0 in (omega (arith, first, le), up_to_more n m xs le all.1)
 
