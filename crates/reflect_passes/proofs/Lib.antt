@@ -1,2 +1,3 @@
 pub mod Doubled
 pub mod Named
+pub mod Listed

@@ -1,3 +1,4 @@
 pub mod Errors
 pub mod Extensions
 pub mod Linked
+pub mod NameFaults

@@ -1,7 +1,9 @@
 //! The entries of a batch of files, and what they import.
 
-ghost use Rattle.std.specs.Prelude.{◌≡◌, [], map, IfOk};
+ghost use Rattle.std.specs.Prelude.{◌≡◌, ◌++◌, [], map, OnOk, IfOk};
 ghost use Rattle.reflect_walk.specs.Batches.{batch_declarations};
+ghost use Rattle.reflect_names.specs.FileNames.{indexes_of};
+ghost use Rattle.reflect_names.specs.ImportedFiles.{link_view, links_to};
 ghost use Rattle.reflect_index.specs.Names.{messages, enums, extensions, services, with_names};
 ghost use Rattle.reflect_index.specs.DraftNames.{stored_message_name, stored_enum_name, stored_extension_name, stored_service_name};
 
@@ -30,14 +32,16 @@ pub fn index_files(
     visitor.into_batch(alloc)
 }
 
-/// Adds what the new files import.
+/// Adds what the new files import, by the indexes that the map has for the names. A refusal may leave some of it.
 pub fn add_links(
     alloc: Global,
     file_names: &BTreeMap<String, u32>,
     links: &mut Vec<Links>,
     files: &[FileDescriptorProto],
-) -> Result<(), VisitError> {
-    for file in files {
+) -> Result<(), VisitError>
+    ensures { OnOk result (map link_view links.new.items ≡ map link_view links.old.items ++ map (links_to (indexes_of file_names.now)) files.now) }
+{
+    'turns: for file in files {
         let link = links_of(alloc, file_names, file)?;
         links.push(link)?;
     }

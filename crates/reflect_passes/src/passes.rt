@@ -1,17 +1,25 @@
 //! The passes over a batch of files, each of which lists all faults that it finds.
 
-ghost use Rattle.std.specs.Prelude.{◌≡◌, ◌∷◌, [], map, OnOk, IfErr};
-ghost use Rattle.reflect_names.specs.Faults.{fault_view, list_of, another};
+ghost use Rattle.std.specs.Prelude.{◌≡◌, ◌∷◌, [], length, map, OnOk, IfOk, IfErr};
+ghost use Rattle.reflect_walk.specs.Batches.{batch_declarations};
+ghost use Rattle.reflect_names.specs.Faults.{fault_view, list_of, another, batch_places};
+ghost use Rattle.reflect_names.specs.FileNames.{indexes_of, with_files};
+ghost use Rattle.reflect_names.specs.Known.{known_of};
+ghost use Rattle.reflect_names.specs.NamePass.{known_behind};
+ghost use Rattle.reflect_names.specs.NameSteps.{KeepsFrom};
+ghost use Rattle.reflect_names.specs.ReferencePass.{BatchReferences};
+ghost use Rattle.reflect_names.specs.ReferenceSteps.{target_of};
 ghost use Rattle.reflect_rules.specs.RulePass.{BatchFaults};
 ghost use Rattle.reflect_passes.specs.Linked.{linked_says, linked_values};
 ghost use Rattle.reflect_passes.specs.Errors.{faults_of, Refuses};
+ghost use Rattle.reflect_passes.specs.NameFaults.{name_faults, ReferenceFaults};
 
 use crate::error::DescriptorError;
 use crate::linked_types::LinkedTypes;
 use descriptor_records::FileDescriptorProto;
 use reflect_names::{
     Definition, DescriptorErrorKind, Faults, Links, NameVisitor, Offsets, Reference,
-    ResolveVisitor, VisitError, Visitor, name_files, visit,
+    ResolveVisitor, VisitError, name_files,
 };
 use reflect_rules::check_rules;
 use std::alloc::Global;
@@ -44,24 +52,10 @@ pub fn without_faults(faults: Faults<'_>) -> Result<(), DescriptorError>
     refused(faults.into_list())
 }
 
-/// Calls the visitor at each declaration of the files, the first of which has the index `first`.
-pub fn visit_all<V: Visitor>(
-    alloc: Global,
-    before: Offsets,
-    first: u32,
-    files: &[FileDescriptorProto],
-    visitor: &mut V,
-) -> Result<Offsets, VisitError> {
-    let mut offsets = before;
-    let mut index = first;
-    for file in files {
-        offsets = visit(alloc, offsets, index, file, visitor)?;
-        index = index.checked_add(1).ok_or(VisitError::TooMany)?;
-    }
-    Ok(offsets)
-}
-
-/// Declares the names of the files. A refusal may leave some of them in both maps.
+/// Declares the names of the files, and puts their own names into the map of those. Refused where a name is missing or taken,
+/// or where a file lacks or misnames something that is found by its name or by its record alone, with all of these faults.
+///
+/// Want of memory, or an index past the last, is alone. After a refusal both maps may have some of the names of these files.
 pub fn declare_names(
     alloc: Global,
     before: Offsets,
@@ -69,21 +63,30 @@ pub fn declare_names(
     files: &[FileDescriptorProto],
     file_names: &mut BTreeMap<String, u32>,
     names: &mut BTreeMap<String, Definition>,
-) -> Result<(), DescriptorError> {
+) -> Result<(), DescriptorError>
+    ensures ok { OnOk result (name_faults (indexes_of file_names.old) (known_of names.old) before first files.now ≡ []) }
+    ensures files { OnOk result (indexes_of file_names.new ≡ with_files (indexes_of file_names.old) first files.now) }
+    ensures names { OnOk result (known_of names.new ≡ known_behind (known_of names.old) (batch_declarations before first files.now)) }
+    ensures err { IfErr result (λ e. Refuses (λ xs. xs ≡ name_faults (indexes_of file_names.old) (known_of names.old) before first files.now) e) }
+    ensures keeps { KeepsFrom first (length files.now) names.old.entries names.new.entries }
+{
     let mut faults = Faults::new(alloc, files, first);
-    name_files(alloc, file_names, first, files, &mut faults).map_err(|error| walk_error(
-        alloc, error,
-    ))?;
+    if let Err(error) = name_files(alloc, file_names, first, files, &mut faults) {
+        return Err(walk_error(alloc, error));
+    }
     let known = mem::replace(names, BTreeMap::new(alloc));
     let mut visitor = NameVisitor::new(known, faults, &*file_names);
-    let visited = visit_all(alloc, before, first, files, &mut visitor);
+    let declared = visitor.declare_files(alloc, before, first, files);
     let (all, faults) = visitor.into_parts();
     *names = all;
-    visited.map_err(|error| walk_error(alloc, error))?;
-    without_faults(faults)
+    match declared {
+        Ok(_) => without_faults(faults),
+        Err(error) => Err(walk_error(alloc, error)),
+    }
 }
 
-/// What the files' references mean, in the order in which a walk meets them.
+/// What the files' references mean, in the order in which a walk meets them, or the faults of those that mean nothing of the
+/// kind that they need. Want of memory, or an index past the last, is alone.
 pub fn resolve_references(
     alloc: Global,
     before: Offsets,
@@ -91,10 +94,15 @@ pub fn resolve_references(
     files: &[FileDescriptorProto],
     names: &BTreeMap<String, Definition>,
     links: &[Links],
-) -> Result<Vec<Reference>, DescriptorError> {
+) -> Result<Vec<Reference>, DescriptorError>
+    ensures ok { IfOk result (λ references. BatchReferences (known_of names.now) links.now (batch_places files.now first) before first files.now (map target_of references.items) []) }
+    ensures err { IfErr result (λ e. Refuses (λ xs. ReferenceFaults (known_of names.now) links.now before first files.now xs) e) }
+{
     let faults = Faults::new(alloc, files, first);
     let mut visitor = ResolveVisitor::new(alloc, faults, names, links);
-    visit_all(alloc, before, first, files, &mut visitor).map_err(|error| walk_error(alloc, error))?;
+    if let Err(error) = visitor.resolve_files(alloc, before, first, files) {
+        return Err(walk_error(alloc, error));
+    }
     let (references, faults) = visitor.into_parts();
     without_faults(faults)?;
     Ok(references)
