@@ -1,3 +1,9 @@
 pub mod Alike
 pub mod Filters
 pub mod Indexes
+pub mod Founds
+pub mod Counted
+pub mod Known
+pub mod Orders
+pub mod IndexRuns
+pub mod Batched

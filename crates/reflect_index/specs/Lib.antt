@@ -4,3 +4,6 @@ pub mod Growth
 pub mod Index
 pub mod Types
 pub mod Views
+pub mod DraftNames
+pub mod IndexSteps
+pub mod Names

@@ -1,3 +1,5 @@
+ghost use Rattle.std.specs.Prelude.{◌≡◌, length, IfOk};
+
 use crate::stored::{
     Declared, StoredEnum, StoredExtension, StoredFile, StoredMessage, StoredService,
 };
@@ -22,7 +24,13 @@ impl Batch {
         self,
         alloc: Global,
         records: Vec<FileDescriptorProto>,
-    ) -> Result<Tables, VisitError> {
+    ) -> Result<Tables, VisitError>
+        ensures files { IfOk result (λ t. length t.files.items ≡ length records.items) }
+        ensures messages { IfOk result (λ t. t.messages.items ≡ self.messages.items) }
+        ensures enums { IfOk result (λ t. t.enums.items ≡ self.enums.items) }
+        ensures extensions { IfOk result (λ t. t.extensions.items ≡ self.extensions.items) }
+        ensures services { IfOk result (λ t. t.services.items ≡ self.services.items) }
+    {
         let Batch {
             files,
             messages,
@@ -45,7 +53,9 @@ fn stored_files(
     alloc: Global,
     records: Vec<FileDescriptorProto>,
     declared: Vec<Declared>,
-) -> Result<Vec<StoredFile>, VisitError> {
+) -> Result<Vec<StoredFile>, VisitError>
+    ensures { IfOk result (λ v. length v.items ≡ length records.items) }
+{
     let mut stored = Vec::with_capacity(alloc, records.len())?;
     let mut rest = declared.into_iter();
     for record in records {

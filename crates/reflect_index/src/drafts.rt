@@ -53,8 +53,16 @@ pub struct Drafts {
 }
 
 impl Drafts {
+    ghost use Rattle.std.specs.Prelude.{◌≡◌, [], map, IfOk};
+    ghost use Rattle.reflect_index.specs.DraftNames.{draft_name, enum_draft_name, stored_message_name, stored_enum_name};
+
     /// No entries. Takes no memory.
-    pub fn new(alloc: Global) -> Drafts {
+    pub fn new(alloc: Global) -> Drafts
+        ensures messages { result.messages.items ≡ [] }
+        ensures enums { result.enums.items ≡ [] }
+        ensures extensions { result.extensions.items ≡ [] }
+        ensures services { result.services.items ≡ [] }
+    {
         Drafts {
             files: Vec::new(alloc),
             messages: Vec::new(alloc),
@@ -65,7 +73,12 @@ impl Drafts {
     }
 
     /// The entries with all that is known of a type once all of it was visited.
-    pub fn finished(self, alloc: Global) -> Result<Batch, VisitError> {
+    pub fn finished(self, alloc: Global) -> Result<Batch, VisitError>
+        ensures messages { IfOk result (λ b. map stored_message_name b.messages.items ≡ map draft_name self.messages.items) }
+        ensures enums { IfOk result (λ b. map stored_enum_name b.enums.items ≡ map enum_draft_name self.enums.items) }
+        ensures extensions { IfOk result (λ b. b.extensions.items ≡ self.extensions.items) }
+        ensures services { IfOk result (λ b. b.services.items ≡ self.services.items) }
+    {
         let Drafts {
             files,
             messages,

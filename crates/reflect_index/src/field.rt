@@ -1,5 +1,7 @@
 //! What a field's record says about it, in the words of the pool.
 
+ghost use Rattle.std.specs.Prelude.{◌≡◌, IfOk, string_bytes};
+
 use crate::default::default_of;
 use crate::kind::{Cardinality, Syntax};
 use crate::stored::{StoredField, StoredKind};
@@ -106,7 +108,9 @@ pub fn field_entry(
     full_name: &str,
     kind: StoredKind,
     field: &FieldDescriptorProto,
-) -> Result<StoredField, AllocError> {
+) -> Result<StoredField, AllocError>
+    ensures { IfOk result (λ f. string_bytes f.full_name ≡ full_name.now) }
+{
     let number = field.number.and_then(|number| u32::try_from(number).ok());
     let cardinality = cardinality_of(field);
     Ok(StoredField {

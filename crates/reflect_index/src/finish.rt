@@ -1,5 +1,8 @@
 //! What is known of a type once all of it was visited: what its parts are looked up by, members of oneofs, a map entry's parts.
 
+ghost use Rattle.std.specs.Prelude.{◌≡◌, map, IfOk};
+ghost use Rattle.reflect_index.specs.DraftNames.{draft_name, enum_draft_name, stored_message_name, stored_enum_name};
+
 use crate::drafts::{EnumDraft, MessageDraft};
 use crate::lists::{FieldList, ValueList};
 use crate::stored::{StoredEntry, StoredEnum, StoredField, StoredMessage, StoredOneof};
@@ -40,7 +43,9 @@ fn list_members(fields: &[StoredField], oneofs: &mut Vec<StoredOneof>) -> Result
     Ok(())
 }
 
-fn finished_message(alloc: Global, draft: MessageDraft) -> Result<StoredMessage, VisitError> {
+fn finished_message(alloc: Global, draft: MessageDraft) -> Result<StoredMessage, VisitError>
+    ensures { IfOk result (λ m. stored_message_name m ≡ draft_name draft) }
+{
     let MessageDraft {
         file,
         parent,
@@ -76,7 +81,9 @@ fn finished_message(alloc: Global, draft: MessageDraft) -> Result<StoredMessage,
     })
 }
 
-fn finished_enum(alloc: Global, draft: EnumDraft) -> Result<StoredEnum, VisitError> {
+fn finished_enum(alloc: Global, draft: EnumDraft) -> Result<StoredEnum, VisitError>
+    ensures { IfOk result (λ e. stored_enum_name e ≡ enum_draft_name draft) }
+{
     let EnumDraft {
         file,
         parent,
@@ -99,7 +106,9 @@ fn finished_enum(alloc: Global, draft: EnumDraft) -> Result<StoredEnum, VisitErr
 pub fn finished_messages(
     alloc: Global,
     drafts: Vec<MessageDraft>,
-) -> Result<Vec<StoredMessage>, VisitError> {
+) -> Result<Vec<StoredMessage>, VisitError>
+    ensures { IfOk result (λ v. map stored_message_name v.items ≡ map draft_name drafts.items) }
+{
     let mut messages = Vec::with_capacity(alloc, drafts.len())?;
     for draft in drafts {
         messages.push(finished_message(alloc, draft)?)?;
@@ -111,7 +120,9 @@ pub fn finished_messages(
 pub fn finished_enums(
     alloc: Global,
     drafts: Vec<EnumDraft>,
-) -> Result<Vec<StoredEnum>, VisitError> {
+) -> Result<Vec<StoredEnum>, VisitError>
+    ensures { IfOk result (λ v. map stored_enum_name v.items ≡ map enum_draft_name drafts.items) }
+{
     let mut enums = Vec::with_capacity(alloc, drafts.len())?;
     for draft in drafts {
         enums.push(finished_enum(alloc, draft)?)?;

@@ -1,5 +1,7 @@
 //! References written as full names behind a leading dot, and types filled in.
 
+ghost use Rattle.std.specs.Prelude.{◌≡◌, length};
+
 use descriptor_records::{
     DescriptorProto, FieldDescriptorProto, FieldType, FileDescriptorProto, MethodDescriptorProto,
     ServiceDescriptorProto,
@@ -86,10 +88,12 @@ fn rewrite_file(file: &mut FileDescriptorProto, rest: &mut Rest) {
 pub fn rewritten(
     mut files: Vec<FileDescriptorProto>,
     references: Vec<Reference>,
-) -> Vec<FileDescriptorProto> {
+) -> Vec<FileDescriptorProto>
+    ensures { length result.items ≡ length files.items }
+{
     let mut rest = references.into_iter();
-    for file in files.iter_mut() {
-        rewrite_file(file, &mut rest);
+    for place in 0..files.len() {
+        rewrite_file(&mut files[place], &mut rest);
     }
     files
 }

@@ -1,5 +1,8 @@
 //! From the records of a batch to what the pool keeps of them.
 
+ghost use Rattle.std.specs.Prelude.{◌≡◌, [], map, OnOk, IfOk, string_bytes};
+ghost use Rattle.reflect_index.specs.DraftNames.{draft_name, enum_draft_name, stored_message_name, stored_enum_name, stored_service_name};
+
 use crate::batch::Batch;
 use crate::drafts::{Drafts, EnumDraft, MessageDraft};
 use crate::field::{field_entry, scalar_kind, syntax_of, text_of};
@@ -29,8 +32,15 @@ pub struct IndexVisitor<'a> {
 }
 
 impl<'a> IndexVisitor<'a> {
+    ghost use Rattle.reflect_index.specs.IndexSteps.{IsSame};
+
     /// A visitor of files whose references mean this, in the order in which a walk meets them. Takes no memory.
-    pub fn new(alloc: Global, before: Offsets, references: &'a [Reference]) -> IndexVisitor<'a> {
+    pub fn new(alloc: Global, before: Offsets, references: &'a [Reference]) -> IndexVisitor<'a>
+        ensures messages { result.drafts.messages.items ≡ [] }
+        ensures enums { result.drafts.enums.items ≡ [] }
+        ensures extensions { result.drafts.extensions.items ≡ [] }
+        ensures services { result.drafts.services.items ≡ [] }
+    {
         IndexVisitor {
             drafts: Drafts::new(alloc),
             before,
@@ -40,7 +50,12 @@ impl<'a> IndexVisitor<'a> {
     }
 
     /// The entries that were made, with all that is known of a type once all of it was visited.
-    pub fn into_batch(self, alloc: Global) -> Result<Batch, VisitError> {
+    pub fn into_batch(self, alloc: Global) -> Result<Batch, VisitError>
+        ensures messages { IfOk result (λ b. map stored_message_name b.messages.items ≡ map draft_name self.entry.drafts.messages.items) }
+        ensures enums { IfOk result (λ b. map stored_enum_name b.enums.items ≡ map enum_draft_name self.entry.drafts.enums.items) }
+        ensures extensions { IfOk result (λ b. b.extensions.items ≡ self.entry.drafts.extensions.items) }
+        ensures services { IfOk result (λ b. b.services.items ≡ self.entry.drafts.services.items) }
+    {
         let IndexVisitor {
             drafts,
             before: _,
@@ -51,14 +66,18 @@ impl<'a> IndexVisitor<'a> {
     }
 
     /// What the next reference means.
-    fn next_reference(&mut self) -> Option<DefinitionKind> {
+    fn next_reference(&mut self) -> Option<DefinitionKind>
+        ensures { self.new.drafts ≡ self.old.drafts }
+    {
         let (first, others) = self.references.split_first()?;
         self.references = others;
         Some(first.definition.kind)
     }
 
     /// The message that the next reference means.
-    fn next_message(&mut self) -> Result<u32, VisitError> {
+    fn next_message(&mut self) -> Result<u32, VisitError>
+        ensures { self.new.drafts ≡ self.old.drafts }
+    {
         match self.next_reference() {
             Some(DefinitionKind::Message(index)) => Ok(index),
             _ => Err(VisitError::TooMany),
@@ -66,7 +85,9 @@ impl<'a> IndexVisitor<'a> {
     }
 
     /// What a field holds, by the definition that its type name means or else by its type.
-    fn kind_of(&mut self, field: &FieldDescriptorProto) -> Option<StoredKind> {
+    fn kind_of(&mut self, field: &FieldDescriptorProto) -> Option<StoredKind>
+        ensures { self.new.drafts ≡ self.old.drafts }
+    {
         if field.type_name.is_some() {
             return match self.next_reference()? {
                 DefinitionKind::Message(index) => Some(StoredKind::Message(index)),
@@ -78,7 +99,9 @@ impl<'a> IndexVisitor<'a> {
     }
 
     /// Adds a type or an extension to what the message at `parent` declares, or else the file.
-    fn declare_in(&mut self, parent: Option<u32>, child: Child) -> Result<(), VisitError> {
+    fn declare_in(&mut self, parent: Option<u32>, child: Child) -> Result<(), VisitError>
+        ensures { OnOk result (IsSame self.old self.new) }
+    {
         let Some(parent) = parent else {
             return match self.drafts.files.last_mut() {
                 Some(file) => Ok(file.children.push(child)?),
@@ -86,10 +109,87 @@ impl<'a> IndexVisitor<'a> {
             };
         };
         let place = local_place(parent, self.before.messages)?;
-        match self.drafts.messages.get_mut(place) {
-            Some(message) => Ok(message.children.push(child)?),
-            None => Err(VisitError::TooMany),
-        }
+        push_child(&mut self.drafts.messages, place, child)
+    }
+}
+
+/// Adds a type or an extension to what the message at a place declares.
+fn push_child(
+    messages: &mut Vec<MessageDraft>,
+    place: usize,
+    child: Child,
+) -> Result<(), VisitError>
+    ensures { OnOk result (map draft_name messages.new.items ≡ map draft_name messages.old.items) }
+{
+    if place < messages.len() {
+        messages[place].children.push(child)?;
+        Ok(())
+    } else {
+        Err(VisitError::TooMany)
+    }
+}
+
+/// Adds a field to the message at a place.
+fn push_field(
+    messages: &mut Vec<MessageDraft>,
+    place: usize,
+    field: StoredField,
+) -> Result<(), VisitError>
+    ensures { OnOk result (map draft_name messages.new.items ≡ map draft_name messages.old.items) }
+{
+    if place < messages.len() {
+        messages[place].fields.push(field)?;
+        Ok(())
+    } else {
+        Err(VisitError::TooMany)
+    }
+}
+
+/// Adds a oneof to the message at a place.
+fn push_oneof(
+    messages: &mut Vec<MessageDraft>,
+    place: usize,
+    oneof: StoredOneof,
+) -> Result<(), VisitError>
+    ensures { OnOk result (map draft_name messages.new.items ≡ map draft_name messages.old.items) }
+{
+    if place < messages.len() {
+        messages[place].oneofs.push(oneof)?;
+        Ok(())
+    } else {
+        Err(VisitError::TooMany)
+    }
+}
+
+/// Adds a value to the enum at a place.
+fn push_value(
+    enums: &mut Vec<EnumDraft>,
+    place: usize,
+    value: StoredValue,
+) -> Result<(), VisitError>
+    ensures { OnOk result (map enum_draft_name enums.new.items ≡ map enum_draft_name enums.old.items) }
+{
+    if place < enums.len() {
+        enums[place].values.push(value)?;
+        Ok(())
+    } else {
+        Err(VisitError::TooMany)
+    }
+}
+
+/// Adds a method to the service at a place.
+fn push_method(
+    services: &mut Vec<StoredService>,
+    place: usize,
+    method: StoredMethod,
+) -> Result<(), VisitError>
+    ensures { OnOk result (map stored_service_name services.new.items ≡ map stored_service_name services.old.items) }
+{
+    if place < services.len() {
+        services[place].methods.push(method)?;
+        Ok(())
+    } else {
+        Err(VisitError::TooMany)
     }
 }
 
@@ -109,7 +209,9 @@ fn is_map_entry(message: &DescriptorProto) -> bool {
 }
 
 impl<'a> Visitor for IndexVisitor<'a> {
-    ghost steps = { λ _ _ _. Unit {0} };
+    ghost use Rattle.reflect_index.specs.IndexSteps.{Lists};
+
+    ghost steps = { Lists };
 
     ghost kept = { λ _ _ _. Unit {0} };
 
@@ -173,13 +275,7 @@ impl<'a> Visitor for IndexVisitor<'a> {
         let kind = self.kind_of(field).ok_or(VisitError::TooMany)?;
         let entry = field_entry(alloc, self.syntax, path, full_name, kind, field)?;
         let place = local_place(message, self.before.messages)?;
-        match self.drafts.messages.get_mut(place) {
-            Some(message) => {
-                message.fields.push(entry)?;
-                Ok(())
-            }
-            None => Err(VisitError::TooMany),
-        }
+        push_field(&mut self.drafts.messages, place, entry)
     }
 
     fn visit_oneof(
@@ -200,13 +296,7 @@ impl<'a> Visitor for IndexVisitor<'a> {
             is_synthetic: false,
         };
         let place = local_place(message, self.before.messages)?;
-        match self.drafts.messages.get_mut(place) {
-            Some(message) => {
-                message.oneofs.push(entry)?;
-                Ok(())
-            }
-            None => Err(VisitError::TooMany),
-        }
+        push_oneof(&mut self.drafts.messages, place, entry)
     }
 
     fn visit_enum(
@@ -248,13 +338,7 @@ impl<'a> Visitor for IndexVisitor<'a> {
             number: value.number.unwrap_or(0),
         };
         let place = local_place(enumeration, self.before.enums)?;
-        match self.drafts.enums.get_mut(place) {
-            Some(enumeration) => {
-                enumeration.values.push(entry)?;
-                Ok(())
-            }
-            None => Err(VisitError::TooMany),
-        }
+        push_value(&mut self.drafts.enums, place, entry)
     }
 
     fn visit_service(
@@ -300,13 +384,7 @@ impl<'a> Visitor for IndexVisitor<'a> {
             is_server_streaming: method.server_streaming == Some(true),
         };
         let place = local_place(service, self.before.services)?;
-        match self.drafts.services.get_mut(place) {
-            Some(service) => {
-                service.methods.push(entry)?;
-                Ok(())
-            }
-            None => Err(VisitError::TooMany),
-        }
+        push_method(&mut self.drafts.services, place, entry)
     }
 
     fn visit_extension(
@@ -341,7 +419,9 @@ fn extension_field(
     full_name: &str,
     kind: StoredKind,
     extension: &FieldDescriptorProto,
-) -> Result<StoredField, VisitError> {
+) -> Result<StoredField, VisitError>
+    ensures { IfOk result (λ f. string_bytes f.full_name ≡ full_name.now) }
+{
     let mut field = field_entry(alloc, syntax, path, full_name, kind, extension)?;
     field.oneof = None;
     field.supports_presence = field.cardinality != Cardinality::Repeated;

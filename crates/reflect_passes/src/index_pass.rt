@@ -1,8 +1,11 @@
 //! The entries of a batch of files, and what they import.
 
-ghost use Rattle.std.specs.Prelude.{◌≡◌, ◌++◌, map, OnOk};
+ghost use Rattle.std.specs.Prelude.{◌≡◌, ◌++◌, [], map, OnOk, IfOk};
+ghost use Rattle.reflect_walk.specs.Batches.{batch_declarations};
 ghost use Rattle.reflect_names.specs.FileNames.{indexes_of};
 ghost use Rattle.reflect_names.specs.ImportedFiles.{link_view, links_to};
+ghost use Rattle.reflect_index.specs.Names.{messages, enums, extensions, services, with_names};
+ghost use Rattle.reflect_index.specs.DraftNames.{stored_message_name, stored_enum_name, stored_extension_name, stored_service_name};
 
 use descriptor_records::FileDescriptorProto;
 use reflect_index::{Batch, IndexVisitor};
@@ -10,14 +13,20 @@ use reflect_names::{Links, Offsets, Reference, VisitError, links_of, visit_all};
 use std::alloc::Global;
 use std::collections::BTreeMap;
 
-/// The entries of the files' declarations, whose references mean this.
+/// The entries of the files' declarations, whose references mean this. Each sort has the full names of the declarations of that
+/// sort, in their order.
 pub fn index_files(
     alloc: Global,
     before: Offsets,
     first: u32,
     files: &[FileDescriptorProto],
     references: &[Reference],
-) -> Result<Batch, VisitError> {
+) -> Result<Batch, VisitError>
+    ensures messages { IfOk result (λ b. map stored_message_name b.messages.items ≡ with_names messages [] (batch_declarations before first files.now)) }
+    ensures enums { IfOk result (λ b. map stored_enum_name b.enums.items ≡ with_names enums [] (batch_declarations before first files.now)) }
+    ensures extensions { IfOk result (λ b. map stored_extension_name b.extensions.items ≡ with_names extensions [] (batch_declarations before first files.now)) }
+    ensures services { IfOk result (λ b. map stored_service_name b.services.items ≡ with_names services [] (batch_declarations before first files.now)) }
+{
     let mut visitor = IndexVisitor::new(alloc, before, references);
     visit_all(alloc, before, first, files, &mut visitor)?;
     visitor.into_batch(alloc)

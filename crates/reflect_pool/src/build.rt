@@ -1,21 +1,29 @@
 //! Adds a batch of files to a pool, or refuses it and leaves the pool as it was.
 
-ghost use Rattle.std.specs.Prelude.{◌≡◌, ◌+◌, ◌<◌, ◌^◌, IfOk, OnOk, OnErr, length};
+ghost use Rattle.std.specs.Prelude.{◌≡◌, ◌+◌, ◌++◌, ◌<◌, ◌^◌, [], map, IfOk, OnOk, OnErr, length, string_cmp};
+ghost use Rattle.std.specs.BTreeMap.{IsOrdered};
+ghost use Rattle.reflect_walk.specs.Batches.{batch_declarations};
+ghost use Rattle.reflect_names.specs.Known.{below};
 ghost use Rattle.reflect_index.specs.Cut.{cut_to};
-ghost use Rattle.reflect_index.specs.Growth.{Together};
+ghost use Rattle.reflect_index.specs.Growth.{Together, Appended};
 ghost use Rattle.reflect_index.specs.Types.{ArePooled};
+ghost use Rattle.reflect_index.specs.Views.{pool_of};
+ghost use Rattle.reflect_index.specs.Names.{messages, enums, extensions, services, with_names};
+ghost use Rattle.reflect_index.specs.DraftNames.{stored_message_name, stored_enum_name, stored_extension_name, stored_service_name};
+ghost use Rattle.reflect_pool.specs.Linked.{IsLinked, CountsOf};
 
 use crate::pool::DescriptorPool;
 use descriptor_records::FileDescriptorProto;
 use reflect_index::{
     Counts, Edit, Tables, append, are_from, are_within, cut, rewritten, settle_all,
 };
-use reflect_names::{Faults, Offsets, VisitError};
+use reflect_names::{Definition, Faults, Links, Offsets, VisitError};
 use reflect_passes::{
     DescriptorError, LinkedTypes, add_links, check_numbers, declare_names, index_files,
     list_extensions, resolve_references, walk_error,
 };
 use std::alloc::Global;
+use std::collections::BTreeMap;
 
 /// A count as the number of the next place.
 fn next_place(count: usize) -> Result<u32, VisitError>
@@ -52,6 +60,144 @@ fn counts_with(tables: &Tables, more: &Tables) -> Result<Counts, VisitError>
     })
 }
 
+/// How many messages, enums, extensions and services there are.
+fn offsets(tables: &Tables) -> Result<Offsets, VisitError>
+    ensures { IfOk result (CountsOf (pool_of tables.now)) }
+{
+    Ok(Offsets {
+        messages: next_place(tables.messages.len())?,
+        enums: next_place(tables.enums.len())?,
+        extensions: next_place(tables.extensions.len())?,
+        services: next_place(tables.services.len())?,
+    })
+}
+
+/// The passes over files whose names are declared, and at last the files themselves. A refusal may leave some of the links and
+/// the numbers of extensions.
+fn link_declared(
+    alloc: Global,
+    before: Offsets,
+    first: u32,
+    files: Vec<FileDescriptorProto>,
+    tables: &mut Tables,
+    links: &mut Vec<Links>,
+    file_names: &BTreeMap<String, u32>,
+    names: &BTreeMap<String, Definition>,
+    extension_numbers: &mut BTreeMap<(u32, u32), u32>,
+) -> Result<(), DescriptorError>
+    requires { ArePooled (pool_of tables.old) }
+    ensures unchanged { OnErr result (pool_of tables.new ≡ pool_of tables.old) }
+    ensures grown { OnOk result (cut_to (pool_of tables.new) (length tables.old.files.items) ≡ pool_of tables.old) }
+    ensures pooled { OnOk result (ArePooled (pool_of tables.new)) }
+    ensures count { OnOk result (length tables.new.files.items ≡ length tables.old.files.items + length files.items) }
+    ensures messages { OnOk result (map stored_message_name tables.new.messages.items ≡ map stored_message_name tables.old.messages.items ++ with_names messages [] (batch_declarations before first files.items)) }
+    ensures enums { OnOk result (map stored_enum_name tables.new.enums.items ≡ map stored_enum_name tables.old.enums.items ++ with_names enums [] (batch_declarations before first files.items)) }
+    ensures extensions { OnOk result (map stored_extension_name tables.new.extensions.items ≡ map stored_extension_name tables.old.extensions.items ++ with_names extensions [] (batch_declarations before first files.items)) }
+    ensures services { OnOk result (map stored_service_name tables.new.services.items ≡ map stored_service_name tables.old.services.items ++ with_names services [] (batch_declarations before first files.items)) }
+{
+    add_links(alloc, file_names, links, files.as_slice()).map_err(|error| walk_error(alloc, error))?;
+    let references = resolve_references(
+        alloc,
+        before,
+        first,
+        files.as_slice(),
+        names,
+        links.as_slice(),
+    )?;
+    let batch = index_files(
+        alloc,
+        before,
+        first,
+        files.as_slice(),
+        references.as_slice(),
+    )
+    .map_err(|error| walk_error(alloc, error))?;
+    let types = LinkedTypes {
+        old: &*tables,
+        new: &batch,
+    };
+    check_numbers(
+        alloc,
+        before,
+        first,
+        files.as_slice(),
+        references.as_slice(),
+        &types,
+    )?;
+    list_extensions(
+        alloc,
+        &types,
+        Faults::new(alloc, files.as_slice(), first),
+        extension_numbers,
+    )?;
+    let more = batch
+        .with_records(alloc, rewritten(files, references))
+        .map_err(|error| walk_error(alloc, error))?;
+    add(tables, more).map_err(|error| walk_error(alloc, error))
+}
+
+/// Adds the entries.
+fn add(tables: &mut Tables, more: Tables) -> Result<(), VisitError>
+    requires { ArePooled (pool_of tables.old) }
+    ensures unchanged { OnErr result (pool_of tables.new ≡ pool_of tables.old) }
+    ensures grown { OnOk result (cut_to (pool_of tables.new) (length tables.old.files.items) ≡ pool_of tables.old) }
+    ensures pooled { OnOk result (ArePooled (pool_of tables.new)) }
+    ensures appended { OnOk result (Appended tables.old more tables.new) }
+{
+    let first = next_place(tables.files.len())?;
+    let counts = counts_with(tables, &more)?;
+    if !are_within(&more, counts) {
+        return Err(VisitError::TooMany);
+    }
+    if !are_from(&more, first) {
+        return Err(VisitError::TooMany);
+    }
+    append(tables, more)?;
+    Ok(())
+}
+
+/// Declares the names of the files, and adds these with what they declare. A refusal may leave some of the names.
+fn link(
+    alloc: Global,
+    before: Offsets,
+    first: u32,
+    files: Vec<FileDescriptorProto>,
+    tables: &mut Tables,
+    links: &mut Vec<Links>,
+    file_names: &mut BTreeMap<String, u32>,
+    names: &mut BTreeMap<String, Definition>,
+    extension_numbers: &mut BTreeMap<(u32, u32), u32>,
+) -> Result<(), DescriptorError>
+    requires linked { IsLinked (pool_of tables.old) names.old }
+    requires before { CountsOf (pool_of tables.old) before }
+    requires first { first ≡ length tables.old.files.items }
+    ensures unchanged { OnErr result (pool_of tables.new ≡ pool_of tables.old) }
+    ensures kept { below first names.new.entries ≡ below first names.old.entries }
+    ensures grown { OnOk result (cut_to (pool_of tables.new) (length tables.old.files.items) ≡ pool_of tables.old) }
+    ensures linked { OnOk result (IsLinked (pool_of tables.new) names.new) }
+{
+    declare_names(alloc, before, first, files.as_slice(), file_names, names)?;
+    link_declared(
+        alloc,
+        before,
+        first,
+        files,
+        tables,
+        links,
+        &*file_names,
+        &*names,
+        extension_numbers,
+    )
+}
+
+/// Leaves only the names of the first so many files.
+fn forget_names(names: &mut BTreeMap<String, Definition>, mark: u32)
+    ensures entries { names.new.entries ≡ below mark names.old.entries }
+    ensures was_ordered { IsOrdered string_cmp names.old }
+{
+    names.retain(|_, definition| definition.file < mark);
+}
+
 impl DescriptorPool {
     /// Adds files, linked with each other and with those that are there. Files whose names the pool has are passed over.
     ///
@@ -60,15 +206,33 @@ impl DescriptorPool {
     pub fn build_files(
         &mut self,
         alloc: Global,
-        files: Vec<FileDescriptorProto>,
+        mut files: Vec<FileDescriptorProto>,
     ) -> Result<(), DescriptorError>
         ensures unchanged { OnErr result (self.new ≡ self.old) }
         ensures grown { OnOk result (cut_to self.new (length self.old.files) ≡ self.old) }
         ensures can_cut { OnOk result (ArePooled (cut_to self.new (length self.old.files))) }
     {
-        let outcome = self.link(alloc, files);
+        let known = &self.file_names;
+        files.retain(|file| match &file.name {
+            Some(name) => !known.contains_key(name.as_str()),
+            None => true,
+        });
+        let before = offsets(&self.tables).map_err(|error| walk_error(alloc, error))?;
+        let first = next_place(self.tables.files.len()).map_err(|error| walk_error(alloc, error))?;
+        let outcome = link(
+            alloc,
+            before,
+            first,
+            files,
+            &mut self.tables,
+            &mut self.links,
+            &mut self.file_names,
+            &mut self.names,
+            &mut self.extension_numbers,
+        );
         if outcome.is_err() {
-            self.forget_names();
+            forget_names(&mut self.names, first);
+            self.forget_rest();
         }
         outcome
     }
@@ -89,7 +253,8 @@ impl DescriptorPool {
         ensures { self.new ≡ cut_to self.old mark }
     {
         cut(&mut self.tables, mark);
-        self.forget_names();
+        forget_names(&mut self.names, mark);
+        self.forget_rest();
     }
 
     /// Moves settled options, and the paths of locations that speak of them, into the files' records. One that names no
@@ -100,113 +265,15 @@ impl DescriptorPool {
         settle_all(&mut self.tables, edits);
     }
 
-    /// How many messages, enums, extensions and services there are.
-    fn offsets(&self) -> Result<Offsets, VisitError> {
-        Ok(Offsets {
-            messages: next_place(self.tables.messages.len())?,
-            enums: next_place(self.tables.enums.len())?,
-            extensions: next_place(self.tables.extensions.len())?,
-            services: next_place(self.tables.services.len())?,
-        })
-    }
-
-    /// Leaves only the names, the links and the extensions' numbers of the files that are there.
-    fn forget_names(&mut self)
+    /// Leaves only the files' names, the links and the extensions' numbers of the files that are there.
+    fn forget_rest(&mut self)
         ensures { self.new ≡ self.old }
     {
         let count = self.tables.files.len();
         let extensions = self.tables.extensions.len();
-        self.names
-            .retain(|_, definition| (definition.file as usize) < count);
         self.file_names.retain(|_, file| (*file as usize) < count);
         self.links.truncate(count);
         self.extension_numbers
             .retain(|_, place| (*place as usize) < extensions);
-    }
-
-    /// The passes over the files of new names, and at last the files themselves.
-    fn link(
-        &mut self,
-        alloc: Global,
-        mut files: Vec<FileDescriptorProto>,
-    ) -> Result<(), DescriptorError>
-        ensures unchanged { OnErr result (self.new ≡ self.old) }
-        ensures grown { OnOk result (cut_to self.new (length self.old.files) ≡ self.old) }
-        ensures can_cut { OnOk result (ArePooled (cut_to self.new (length self.old.files))) }
-    {
-        let known = &self.file_names;
-        files.retain(|file| match &file.name {
-            Some(name) => !known.contains_key(name.as_str()),
-            None => true,
-        });
-        let before = self.offsets().map_err(|error| walk_error(alloc, error))?;
-        let first = next_place(self.tables.files.len()).map_err(|error| walk_error(alloc, error))?;
-        declare_names(
-            alloc,
-            before,
-            first,
-            files.as_slice(),
-            &mut self.file_names,
-            &mut self.names,
-        )?;
-        add_links(alloc, &self.file_names, &mut self.links, files.as_slice()).map_err(
-            |error| walk_error(alloc, error),
-        )?;
-        let references = resolve_references(
-            alloc,
-            before,
-            first,
-            files.as_slice(),
-            &self.names,
-            self.links.as_slice(),
-        )?;
-        let batch = index_files(
-            alloc,
-            before,
-            first,
-            files.as_slice(),
-            references.as_slice(),
-        )
-        .map_err(|error| walk_error(alloc, error))?;
-        let types = LinkedTypes {
-            old: &self.tables,
-            new: &batch,
-        };
-        check_numbers(
-            alloc,
-            before,
-            first,
-            files.as_slice(),
-            references.as_slice(),
-            &types,
-        )?;
-        list_extensions(
-            alloc,
-            &types,
-            Faults::new(alloc, files.as_slice(), first),
-            &mut self.extension_numbers,
-        )?;
-        let more = batch
-            .with_records(alloc, rewritten(files, references))
-            .map_err(|error| walk_error(alloc, error))?;
-        self.add(more).map_err(|error| walk_error(alloc, error))
-    }
-
-    /// Adds the entries.
-    fn add(&mut self, more: Tables) -> Result<(), VisitError>
-        ensures unchanged { OnErr result (self.new ≡ self.old) }
-        ensures grown { OnOk result (cut_to self.new (length self.old.files) ≡ self.old) }
-        ensures can_cut { OnOk result (ArePooled (cut_to self.new (length self.old.files))) }
-    {
-        let first = next_place(self.tables.files.len())?;
-        let counts = counts_with(&self.tables, &more)?;
-        if !are_within(&more, counts) {
-            return Err(VisitError::TooMany);
-        }
-        if !are_from(&more, first) {
-            return Err(VisitError::TooMany);
-        }
-        append(&mut self.tables, more)?;
-        Ok(())
     }
 }

@@ -29,14 +29,15 @@ pub struct DescriptorPool {
 }
 
 impl Model for DescriptorPool {
-    ghost use Rattle.reflect_index.specs.Types.{PoolType, ArePooled};
+    ghost use Rattle.reflect_index.specs.Types.{PoolType};
     ghost use Rattle.reflect_index.specs.Views.{pool_of};
+    ghost use Rattle.reflect_pool.specs.Linked.{IsLinked};
 
     ghost Value = { PoolType };
 
     ghost view = { λ p. pool_of p.tables };
 
-    ghost invariant = { λ p. ArePooled (pool_of p.tables) };
+    ghost invariant = { λ p. IsLinked (pool_of p.tables) p.names };
 }
 
 impl DescriptorPool {

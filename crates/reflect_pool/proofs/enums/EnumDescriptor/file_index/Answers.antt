@@ -4,4 +4,4 @@ use Rattle.reflect_pool.proofs.enums.EnumDescriptor.file_index.Goals as goal
 pub returns : goal.returns
 returns c =
     let self = c.args.self.now in
-    (enum_within c.pool.inside.tables self.pool.now self.index c.index.result.now c.pool.view_is c.pool.invariant self.in_range c.index.ensures).file
+    (enum_within c.pool.inside.tables self.pool.now self.index c.index.result.now c.pool.view_is c.pool.invariant.pooled self.in_range c.index.ensures).file

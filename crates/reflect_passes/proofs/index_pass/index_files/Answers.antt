@@ -1,0 +1,34 @@
+use Rattle.std.proofs.Common.{◌≡◌, ◌∙◌, Result, Ok, Err, IfOk, ap, map}
+use Rattle.reflect_walk.specs.Batches.{batch_declarations}
+use Rattle.reflect_index.specs.Names.{messages, enums, extensions, services, with_names}
+use Rattle.reflect_index.specs.DraftNames.{draft_name, enum_draft_name, stored_extension_name, stored_service_name}
+use Rattle.reflect_index.proofs.IndexRuns.{ran}
+use Rattle.reflect_passes.proofs.index_pass.index_files.Goals as goal
+
+ok_with : {A E : Type 0} (P Q : A → Type 0) (r : Result A E) → ((x : A) → P x → Q x) → IfOk r P → IfOk r Q
+ok_with P Q (Ok x) f h = f x h
+ok_with P Q (Err e) f h = h
+
+pub returns-clause-messages : goal.returns-clause-messages
+returns-clause-messages c =
+    let ds = batch_declarations c.args.before c.args.first c.args.files.now in
+    let r = ran c.new-visitor.result ds c.visit_all.new.visitor c.in_ok-visit_all.ensures.runs in
+    ok_with _ _ c.into_batch.result (λ b e. e ∙ r.messages ∙ ap (λ ms. with_names messages (map draft_name ms) ds) c.new-visitor.ensures.messages) c.into_batch.ensures.messages
+
+pub returns-clause-enums : goal.returns-clause-enums
+returns-clause-enums c =
+    let ds = batch_declarations c.args.before c.args.first c.args.files.now in
+    let r = ran c.new-visitor.result ds c.visit_all.new.visitor c.in_ok-visit_all.ensures.runs in
+    ok_with _ _ c.into_batch.result (λ b e. e ∙ r.enums ∙ ap (λ es. with_names enums (map enum_draft_name es) ds) c.new-visitor.ensures.enums) c.into_batch.ensures.enums
+
+pub returns-clause-extensions : goal.returns-clause-extensions
+returns-clause-extensions c =
+    let ds = batch_declarations c.args.before c.args.first c.args.files.now in
+    let r = ran c.new-visitor.result ds c.visit_all.new.visitor c.in_ok-visit_all.ensures.runs in
+    ok_with _ _ c.into_batch.result (λ b e. ap (map stored_extension_name) e ∙ r.extensions ∙ ap (λ xs. with_names extensions (map stored_extension_name xs) ds) c.new-visitor.ensures.extensions) c.into_batch.ensures.extensions
+
+pub returns-clause-services : goal.returns-clause-services
+returns-clause-services c =
+    let ds = batch_declarations c.args.before c.args.first c.args.files.now in
+    let r = ran c.new-visitor.result ds c.visit_all.new.visitor c.in_ok-visit_all.ensures.runs in
+    ok_with _ _ c.into_batch.result (λ b e. ap (map stored_service_name) e ∙ r.services ∙ ap (λ xs. with_names services (map stored_service_name xs) ds) c.new-visitor.ensures.services) c.into_batch.ensures.services

@@ -1,0 +1,23 @@
+-- What holds of a pool with the names of its types.
+use Rattle.std.specs.Prelude.{◌≡◌, length, String}
+use Rattle.reflect_walk.specs.declared.visit_parts.Offsets.{Offsets}
+use Rattle.std.specs.declared.alloc.Global.{Global}
+use Rattle.std.specs.BTreeMap.{BTreeMap}
+use Rattle.reflect_scope.specs.declared.definition.Definition.{Definition}
+use Rattle.reflect_names.specs.Known.{known_of, AllBelow}
+use Rattle.reflect_index.specs.Types.{PoolType, ArePooled}
+use Rattle.reflect_index.specs.Names.{AreNamed, names_of}
+
+-- what entries name is there, a full name stands for a place exactly where it is the one at this place, and all names are of
+-- the pool's files
+pub record IsLinked (p : PoolType) (names : BTreeMap (String Global) Definition) : Type 0 where
+  pub pooled : ArePooled p
+  pub named : AreNamed (known_of names) (names_of p)
+  pub below : AllBelow (length p.files) names.entries
+
+-- how many of each sort there are
+pub record CountsOf (p : PoolType) (o : Offsets) : Type 0 where
+  pub messages : o.messages ≡ length p.messages
+  pub enums : o.enums ≡ length p.enums
+  pub extensions : o.extensions ≡ length p.extensions
+  pub services : o.services ≡ length p.services
