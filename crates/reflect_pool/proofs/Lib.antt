@@ -1,8 +1,10 @@
 pub mod Back
+pub mod Dotless
+pub mod FoundTypes
 pub mod Grown
+pub mod Lookups
+pub mod Named
 pub mod Places
 pub mod Pooled
-pub mod Within
-pub mod Named
 pub mod Stands
-pub mod Lookups
+pub mod Within

@@ -1,11 +1,10 @@
 -- The names of a pool as it grows and is cut back.
-use Rattle.std.proofs.Common.{◌≡◌, ◌<◌, ◌≤◌, ◌+◌, ℕ, zero, suc, take, List, [], ◌∷◌, ◌++◌, map, length, Bool, true, false, cond, nat_lt, Option, Some, None, String, Global, string_bytes, string_cmp, ap, sym, subst, ◌∙◌, arith, refl}
-use Rattle.std.specs.BTreeMap.{BTreeMap, keys, IsOrdered, get_by_text}
+use Rattle.std.proofs.Common.{◌≡◌, ◌<◌, ℕ, zero, suc, take, List, [], ◌∷◌, map, length, Bool, true, false, cond, nat_lt, Option, Some, None, String, Global, string_bytes, string_cmp, ap, sym, subst, ◌∙◌, arith, refl}
+use Rattle.std.specs.BTreeMap.{BTreeMap, keys, IsOrdered}
 use Rattle.std.specs.Map.{lookup, keys_of}
-use Rattle.std.specs.List.{filter, AllByRecursion}
+use Rattle.std.specs.List.{AllByRecursion}
 use Rattle.std.specs.List.Sorted.{IsStrictlySortedBy}
 use Rattle.std.specs.Ordering.{is_eq, nat_cmp, eq_by_cmp}
-use Rattle.std.specs.declared.cmp.Ordering.{Ordering}
 use Rattle.std.specs.declared.cmp.Ordering.TheVariants.{Less}
 use Rattle.std.specs.Cmp.{eq_by_cmp_equiv}
 use Rattle.std.specs.Cmp.Lexicographic.{slice_cmp}
@@ -21,10 +20,9 @@ use Rattle.reflect_names.proofs.Entries.{below_all}
 use Rattle.reflect_index.specs.Views.{file_of, pool_of}
 use Rattle.reflect_index.specs.declared.tables.Tables.{Tables}
 use Rattle.reflect_index.specs.Cut.{cut_to}
-use Rattle.reflect_index.specs.Names.{Sort, messages, enums, extensions, services, FullName, AreFound, AreInOrder, AreNamed, names_of, message_name, enum_name, extension_name, service_name, found, place_in}
+use Rattle.reflect_index.specs.Names.{Sort, messages, enums, extensions, services, AreFound, AreInOrder, AreNamed, names_of, message_name, enum_name, extension_name, service_name, found, place_in}
 use Rattle.reflect_index.proofs.Filters.{map-filter}
 use Rattle.reflect_index.proofs.Orders.{first_names, found_first, order_first, kept_first, found_kept}
-
 
 abbrev text_entry : String Global × Definition → List ℕ × Definition
 text_entry e = (string_bytes e.0, e.1)

@@ -1,5 +1,5 @@
 -- The names of a pool and of a batch behind it.
-use Rattle.std.proofs.Common.{◌≡◌, ◌<◌, ◌≤◌, ◌+◌, ℕ, List, [], ◌∷◌, ◌++◌, map, length, Option, String, Global, ap, sym, subst, ◌∙◌, arith, refl}
+use Rattle.std.proofs.Common.{◌≡◌, ◌<◌, ◌+◌, ℕ, List, [], ◌∷◌, ◌++◌, map, length, Option, String, Global, ap, sym, subst, ◌∙◌, arith, refl}
 use Rattle.std.proofs.Math.ListN.{length-map}
 use Rattle.std.proofs.lemmas.List.{append-nil}
 use Rattle.std.specs.List.{AllByRecursion}
@@ -9,7 +9,7 @@ use Rattle.reflect_scope.specs.declared.definition.Definition.{Definition}
 use Rattle.reflect_walk.specs.Declarations.{Declaration}
 use Rattle.reflect_walk.specs.declared.visit_parts.Offsets.{Offsets}
 use Rattle.reflect_walk.specs.Batches.{batch_declarations, past_files}
-use Rattle.reflect_names.specs.Known.{Known, known_of, AllBelow}
+use Rattle.reflect_names.specs.Known.{Known, known_of}
 use Rattle.reflect_names.specs.Names.{Places}
 use Rattle.reflect_names.specs.NameSteps.{KeepsFrom}
 use Rattle.reflect_names.proofs.Entries.{below_more}

@@ -3,12 +3,14 @@
 ghost use Rattle.std.specs.Prelude.{◌≡◌, ◌<◌, length};
 ghost use Rattle.reflect_index.specs.Types.{service_at};
 ghost use Rattle.reflect_index.specs.Views.{pool_of};
+ghost use Rattle.reflect_index.specs.Finding.{IsFirst};
+ghost use Rattle.reflect_pool.specs.Dots.{without_dot};
 
 use crate::blank::Blanks;
 use crate::enums::EnumDescriptor;
 use crate::extension::ExtensionDescriptor;
 use crate::message::MessageDescriptor;
-use crate::pool::DescriptorPool;
+use crate::pool::{DescriptorPool, kind_of};
 use reflect_index::{Children, Tables};
 use reflect_names::{Definition, DefinitionKind, Links};
 use std::collections::BTreeMap;
@@ -61,8 +63,10 @@ impl DescriptorPool {
     }
 
     /// The place of the service of a full name, which may have one leading dot.
-    pub fn service_place(&self, name: &str) -> Option<u32> {
-        match self.kind_of(name)? {
+    pub fn service_place(&self, name: &str) -> Option<u32>
+        ensures { IsFirst (λ s. s.full_name ≡ without_dot name.now) self.now.services result }
+    {
+        match kind_of(&self.names, name)? {
             DefinitionKind::Service(index) => Some(index),
             _ => None,
         }

@@ -95,7 +95,9 @@ fn link_declared(
     ensures extensions { OnOk result (map stored_extension_name tables.new.extensions.items ≡ map stored_extension_name tables.old.extensions.items ++ with_names extensions [] (batch_declarations before first files.items)) }
     ensures services { OnOk result (map stored_service_name tables.new.services.items ≡ map stored_service_name tables.old.services.items ++ with_names services [] (batch_declarations before first files.items)) }
 {
-    add_links(alloc, file_names, links, files.as_slice()).map_err(|error| walk_error(alloc, error))?;
+    add_links(alloc, file_names, links, files.as_slice()).map_err(|error| walk_error(
+        alloc, error,
+    ))?;
     let references = resolve_references(
         alloc,
         before,

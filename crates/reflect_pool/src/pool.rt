@@ -1,5 +1,8 @@
 ghost use Rattle.std.specs.Prelude.{◌≡◌, ◌<◌, [], length, IfSome, IsSome};
+ghost use Rattle.std.specs.Option.{option_map};
 ghost use Rattle.reflect_index.specs.Types.{PoolType};
+ghost use Rattle.reflect_names.specs.Known.{known_of};
+ghost use Rattle.reflect_pool.specs.Dots.{without_dot};
 
 use crate::blank::Blanks;
 use crate::enums::EnumDescriptor;
@@ -40,7 +43,26 @@ impl Model for DescriptorPool {
     ghost invariant = { λ p. IsLinked (pool_of p.tables) p.names };
 }
 
+/// A full name without its leading dot, if it has one.
+fn without_dot(name: &str) -> &str
+    ensures { result.now ≡ without_dot name.now }
+{
+    match name.strip_prefix('.') {
+        Some(rest) => rest,
+        None => name,
+    }
+}
+
+/// What a full name stands for, which may have one leading dot.
+pub(crate) fn kind_of(names: &BTreeMap<String, Definition>, name: &str) -> Option<DefinitionKind>
+    ensures { result ≡ option_map (λ d. d.kind) (known_of names.now (without_dot name.now)) }
+{
+    Some(names.get(without_dot(name))?.kind)
+}
+
 impl DescriptorPool {
+    ghost use Rattle.reflect_pool.specs.FindsNames.{FindsMessage, FindsEnum, FindsExtension};
+
     /// A pool without files. Takes no memory.
     pub fn new(alloc: Global) -> DescriptorPool
         ensures messages { result.messages ≡ [] }
@@ -54,12 +76,6 @@ impl DescriptorPool {
             extension_numbers: BTreeMap::new(alloc),
             blanks: Blanks::new(alloc),
         }
-    }
-
-    /// What a full name stands for, which may have one leading dot.
-    pub(crate) fn kind_of(&self, name: &str) -> Option<DefinitionKind> {
-        let name = name.strip_prefix('.').unwrap_or(name);
-        Some(self.names.get(name)?.kind)
     }
 
     /// The message type at a place, if there is one.
@@ -79,6 +95,7 @@ impl DescriptorPool {
     pub fn enum_at(&self, index: u32) -> Option<EnumDescriptor<'_>>
         ensures pool { IfSome result (λ d. d.pool.now ≡ self.now) }
         ensures index { IfSome result (λ d. d.index ≡ index) }
+        ensures there { index < length self.now.enums → IsSome result }
     {
         if (index as usize) < self.tables.enums.len() {
             Some(EnumDescriptor { pool: self, index })
@@ -91,6 +108,7 @@ impl DescriptorPool {
     pub fn extension_at(&self, index: u32) -> Option<ExtensionDescriptor<'_>>
         ensures pool { IfSome result (λ d. d.pool.now ≡ self.now) }
         ensures index { IfSome result (λ d. d.index ≡ index) }
+        ensures there { index < length self.now.extensions → IsSome result }
     {
         if (index as usize) < self.tables.extensions.len() {
             Some(ExtensionDescriptor { pool: self, index })
@@ -101,9 +119,10 @@ impl DescriptorPool {
 
     /// The message type of a full name, which may have one leading dot. Takes no memory.
     pub fn get_message_by_name(&self, name: &str) -> Option<MessageDescriptor<'_>>
-        ensures { IfSome result (λ d. d.pool.now ≡ self.now) }
+        ensures pool { IfSome result (λ d. d.pool.now ≡ self.now) }
+        ensures finds { FindsMessage self.now name.now result }
     {
-        match self.kind_of(name)? {
+        match kind_of(&self.names, name)? {
             DefinitionKind::Message(index) => self.message_at(index),
             _ => None,
         }
@@ -111,9 +130,10 @@ impl DescriptorPool {
 
     /// The enum type of a full name, which may have one leading dot. Takes no memory.
     pub fn get_enum_by_name(&self, name: &str) -> Option<EnumDescriptor<'_>>
-        ensures { IfSome result (λ d. d.pool.now ≡ self.now) }
+        ensures pool { IfSome result (λ d. d.pool.now ≡ self.now) }
+        ensures finds { FindsEnum self.now name.now result }
     {
-        match self.kind_of(name)? {
+        match kind_of(&self.names, name)? {
             DefinitionKind::Enum(index) => self.enum_at(index),
             _ => None,
         }
@@ -121,9 +141,10 @@ impl DescriptorPool {
 
     /// The extension of a full name, which may have one leading dot. Takes no memory.
     pub fn get_extension_by_name(&self, name: &str) -> Option<ExtensionDescriptor<'_>>
-        ensures { IfSome result (λ d. d.pool.now ≡ self.now) }
+        ensures pool { IfSome result (λ d. d.pool.now ≡ self.now) }
+        ensures finds { FindsExtension self.now name.now result }
     {
-        match self.kind_of(name)? {
+        match kind_of(&self.names, name)? {
             DefinitionKind::Extension(index) => self.extension_at(index),
             _ => None,
         }

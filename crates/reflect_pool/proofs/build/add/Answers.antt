@@ -1,7 +1,6 @@
-use Rattle.std.proofs.Common.{rules, arith, ◌≡◌, ◌∙◌, ◌<◌, ◌^◌, subst, sym, ap, length, map}
+use Rattle.std.proofs.Common.{rules, arith, ◌≡◌, ◌<◌, ◌^◌, subst, length, map}
 use Rattle.std.proofs.lemmas.Grind.{common_steps}
 use Rattle.std.proofs.Math.ListN.{length-map}
-use Rattle.reflect_index.specs.Types.{ArePooled}
 use Rattle.reflect_index.specs.Views.{file_of, pool_of}
 use Rattle.reflect_index.specs.Cut.{cut_to}
 use Rattle.reflect_pool.proofs.Pooled.{AreWithin, pooled_more}

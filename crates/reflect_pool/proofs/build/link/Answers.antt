@@ -10,7 +10,6 @@ use Rattle.reflect_index.proofs.Known.{none_right}
 use Rattle.reflect_pool.proofs.Stands.{linked_more}
 use Rattle.reflect_pool.proofs.build.link.Goals as goal
 
-
 pub returns-clause-linked : goal.returns-clause-linked
 returns-clause-linked c =
     let fs = c.args.files.items in
@@ -26,7 +25,7 @@ returns-clause-linked c =
     (λ pooled count ms es xs ss. linked_more c.args.tables.now c.link_declared.new.tables c.args.names.now c.declare_names.new.names at (with_files indexes c.args.first fs) c.args.before c.args.first fs
     c.requires.linked c.requires.before c.requires.first
     named (none_right (files_faults at indexes c.args.first fs) _ none) keeps pooled count (record { messages = ms; enums = es; extensions = xs; services = ss }))
-    where
+  where
     by : {A E P Q R S T U V : Type 0} (r : Result A E) → OnOk r P → OnOk r Q → OnOk r R → OnOk r S → OnOk r T → OnOk r U → (P → Q → R → S → T → U → V) → OnOk r V
     by (Ok x) p q r s t u f = f p q r s t u
     by (Err e) p q r s t u f = p

@@ -1,8 +1,6 @@
-use Rattle.std.proofs.Common.{rules, arith, ◌≡◌, ◌∙◌, sym, subst, length}
-use Rattle.std.proofs.Math.ListN.{length-map}
+use Rattle.std.proofs.Common.{rules, arith, ◌≡◌, ◌∙◌, length}
 use Rattle.std.proofs.lemmas.Grind.{common_steps}
-use Rattle.reflect_names.specs.Known.{below}
-use Rattle.reflect_names.proofs.Entries.{below_all, err_from}
+use Rattle.reflect_names.proofs.Entries.{err_from}
 use Rattle.reflect_index.specs.Views.{pool_of}
 use Rattle.reflect_pool.proofs.Named.{linked_same}
 use Rattle.reflect_pool.proofs.pool.DescriptorPool.build_files.Goals as goal
