@@ -30,7 +30,11 @@ impl<'p> DynamicMessage<'p> {
     ) -> Result<FieldRef<'_, 'p>, AllocError>
         ensures { IfOk result (Shows (value_at (extensions_of self.now) (extension_type extension.now).number)) }
     {
-        content::lend(self.allocator(), self.extension_value(extension.number()), extension)
+        content::lend(
+            self.allocator(),
+            self.extension_value(extension.number()),
+            extension,
+        )
     }
 
     /// What the extension, one of the message's type, holds, to be changed. One that is not set gets its default. A refusal

@@ -52,7 +52,12 @@ fn fields_len<'p>(descriptor: MessageDescriptor<'p>, parts: &Parts<'p>) -> Optio
 #[cycle(length)]
 fn extensions_len<'p>(descriptor: MessageDescriptor<'p>, parts: &Parts<'p>) -> Option<usize> {
     let mut len = 0usize;
-    for (number, value) in parts.extensions.numbers().iter().zip(parts.extensions.values()) {
+    for (number, value) in parts
+        .extensions
+        .numbers()
+        .iter()
+        .zip(parts.extensions.values())
+    {
         if let Some(extension) = declared_extension(descriptor, *number) {
             len = len.checked_add(content_len(AnyField::Extension(extension), value)?)?;
         }

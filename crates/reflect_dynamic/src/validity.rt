@@ -172,7 +172,12 @@ fn extensions_suit<'p>(
     descriptor: MessageDescriptor<'p>,
     strictness: Strictness,
 ) -> bool {
-    for (number, value) in parts.extensions.numbers().iter().zip(parts.extensions.values()) {
+    for (number, value) in parts
+        .extensions
+        .numbers()
+        .iter()
+        .zip(parts.extensions.values())
+    {
         let Some(extension) = declared_extension(descriptor, *number) else {
             return false;
         };

@@ -93,12 +93,17 @@ module _ (file : ℕ) where
         let p = past_message o in
         let q = past_trees p nested in
         let r = past_enums q (length own.enum_type) in
-        let s = past_extensions r (length own.extension) in
-        (refl, (refl, next_on file p _ p _ s (fields path name o.messages 0 p own.field)
-        (next_on file p _ q _ s (trees path (pos 3) name (Some o.messages) 0 p nested)
-        (next_on file q _ r _ s (enums path (pos 4) name (Some o.messages) q.enums 0 q own.enum_type (omega arith))
-        (next_on file r _ s _ s (extensions path (pos 6) name (Some o.messages) q.extensions 0 r own.extension (omega arith))
-        (oneofs path name o.messages 0 s own.oneof_decl))))))
+        let s = past_extensions r (length own.extension) in (
+          refl,
+          (
+            refl,
+            next_on file p _ p _ s (fields path name o.messages 0 p own.field)
+                (next_on file p _ q _ s (trees path (pos 3) name (Some o.messages) 0 p nested)
+                (next_on file q _ r _ s (enums path (pos 4) name (Some o.messages) q.enums 0 q own.enum_type (omega arith))
+                (next_on file r _ s _ s (extensions path (pos 6) name (Some o.messages) q.extensions 0 r own.extension (omega arith))
+                (oneofs path name o.messages 0 s own.oneof_decl)))),
+          ),
+        )
 
     trees : (path : List ℤ) (tag : ℤ) (scope : List ℕ) (parent : Option ℕ) (k : ℕ) (o : Offsets) (ms : Messages) → AreNext file o (trees_declarations path tag scope file parent k o ms) (past_trees o ms)
     trees path tag scope parent k o no_messages = refl
@@ -121,8 +126,13 @@ file_next file o f =
     let r = past_enums q (length f.enum_type.items) in
     let s = past_services r (length f.service.items) in
     let t = past_extensions s (length f.extension.items) in
-    let served : r.services ≡ o.services = trees_services o (trees_of f) in
-    (refl, (tt, next_on file o _ q _ t (trees file [] (pos 4) scope None 0 o (trees_of f))
-    (next_on file q _ r _ t (enums file [] (pos 5) scope None q.enums 0 q f.enum_type.items (omega arith))
-    (next_on file r _ s _ t (services file scope o.services 0 r f.service.items (omega (arith, served)))
-    (extensions file [] (pos 7) scope None q.extensions 0 s f.extension.items (omega arith))))))
+    let served : r.services ≡ o.services = trees_services o (trees_of f) in (
+      refl,
+      (
+        tt,
+        next_on file o _ q _ t (trees file [] (pos 4) scope None 0 o (trees_of f))
+            (next_on file q _ r _ t (enums file [] (pos 5) scope None q.enums 0 q f.enum_type.items (omega arith))
+            (next_on file r _ s _ t (services file scope o.services 0 r f.service.items (omega (arith, served)))
+            (extensions file [] (pos 7) scope None q.extensions 0 s f.extension.items (omega arith)))),
+      ),
+    )

@@ -40,6 +40,7 @@ module _ (g h : List ℕ → Option (ℕ × ℕ)) (names : List FullName) (name 
         let parts = some_pair_parts (length names) i file f (sym (here t e) ∙ q) in
         let pair : ◌≡◌ {A = FullName} (name, file) (t, f) = ap (λ n. (n, file)) e ∙ ap (λ m. (t, m)) parts.1 in
         subst (λ k. slice_get more k ≡ Some (t, f)) parts.0 (last names (name, file) ∙ ap Some pair)
+
     back : slice_get more i ≡ Some (t, f) → h t ≡ Some (i, f)
     back q = ⊎_elim
         (λ l. absurd (no_some (i, f) (sym new ∙ ap g e ∙ (found t i f).1 l)))
@@ -47,16 +48,16 @@ module _ (g h : List ℕ → Option (ℕ × ℕ)) (names : List FullName) (name 
         (either names (name, file) i (t, f) q)
 
   elsewhere : (t : List ℕ) (i f : ℕ) → (name ≡ t → ⊥) → (h t ≡ Some (i, f) → slice_get more i ≡ Some (t, f)) × (slice_get more i ≡ Some (t, f) → h t ≡ Some (i, f))
-  elsewhere t i f n =
-      (
-        λ q. front names ((name, file) ∷ []) i (t, f) ((found t i f).0 (sym (other t n) ∙ q)),
-        λ q. ⊎_elim (λ l. other t n ∙ (found t i f).1 l) (λ r. absurd (n (ap (λ (p : FullName). p.0) r.1))) (either names (name, file) i (t, f) q),
-      )
+  elsewhere t i f n = (
+    λ q. front names ((name, file) ∷ []) i (t, f) ((found t i f).0 (sym (other t n) ∙ q)),
+    λ q. ⊎_elim (λ l. other t n ∙ (found t i f).1 l) (λ r. absurd (n (ap (λ (p : FullName). p.0) r.1))) (either names (name, file) i (t, f) q),
+  )
 
   pub found_more : AreFound h more
   found_more = λ t i f. by t i f (bytes_eq name t) refl where
     differs : (t : List ℕ) → bytes_eq name t ≡ false → bytes_eq name t ≡ true → ⊥
     differs t a b = absurd (cc)
+
     by : (t : List ℕ) (i f : ℕ) (b : Bool) → bytes_eq name t ≡ b → (h t ≡ Some (i, f) → slice_get more i ≡ Some (t, f)) × (slice_get more i ≡ Some (t, f) → h t ≡ Some (i, f))
     by t i f true is = at_name t i f ((bytes_decides name t).0 is)
     by t i f false is = elsewhere t i f (λ e. differs t is ((bytes_decides name t).1 e))

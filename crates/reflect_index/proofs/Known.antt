@@ -46,6 +46,7 @@ module _ (s : Sort) (known : Known) (name : List ℕ) (d : Definition) where
   update_other names none kind are = found_same (found s known) (found s (update bytes_eq known name (Some d))) names same are where
     here : (t : List ℕ) → name ≡ t → found s (update bytes_eq known name (Some d)) t ≡ found s known t
     here t e = at_update t e ∙ ap (with_file d) kind ∙ sym (ap (found s known) (sym e) ∙ looked_none none)
+
     same : (t : List ℕ) → found s (update bytes_eq known name (Some d)) t ≡ found s known t
     same t = by (bytes_eq name t) refl where
       by : (b : Bool) → bytes_eq name t ≡ b → found s (update bytes_eq known name (Some d)) t ≡ found s known t

@@ -78,9 +78,9 @@ first_at mark (x ∷ xs) up i t f = by (nat_lt x.1 mark) refl i (first_at mark x
       let gone : slice_get (cond (nat_lt x.1 mark) (x ∷ first_names mark xs) (first_names mark xs)) k ≡ None = ap (λ b. slice_get (cond b (x ∷ first_names mark xs) (first_names mark xs)) k) is ∙ ap (λ ys. slice_get ys k) none in
       (λ e. absurd (no_some (t, f) (sym gone ∙ e)), λ e lt. absurd (beyond k high e lt))
     where
-    beyond : (k : ℕ) → mark ≤ x.1 → slice_get (x ∷ xs) k ≡ Some (t, f) → f < mark → ⊥
-    beyond zero high e lt = let same : x.1 ≡ f = ap (λ (q : FullName). q.1) (same_Some x (t, f) e) in absurd (omega (arith, same, high, lt))
-    beyond (suc k) high e lt = let later : x.1 ≤ f = all_get (λ y. x.1 ≤ y.1) xs k (t, f) up.0 e in absurd (omega (arith, later, high, lt))
+      beyond : (k : ℕ) → mark ≤ x.1 → slice_get (x ∷ xs) k ≡ Some (t, f) → f < mark → ⊥
+      beyond zero high e lt = let same : x.1 ≡ f = ap (λ (q : FullName). q.1) (same_Some x (t, f) e) in absurd (omega (arith, same, high, lt))
+      beyond (suc k) high e lt = let later : x.1 ≤ f = all_get (λ y. x.1 ≤ y.1) xs k (t, f) up.0 e in absurd (omega (arith, later, high, lt))
 
 -- what is left of a place where its file is below the mark
 abbrev pub only : ℕ → Option (ℕ × ℕ) → Option (ℕ × ℕ)
@@ -129,9 +129,11 @@ found_kept s mark (Some d) = by (nat_lt d.file mark) ∙ later (place_of s d.kin
   by : (b : Bool) → place_in s (cond b (Some d) None) ≡ cond b (place_in s (Some d)) None
   by true = refl
   by false = refl
+
   none : (b : Bool) → cond {A = Option (ℕ × ℕ)} b None None ≡ None
   none true = refl
   none false = refl
+
   later : (p : Option ℕ) → cond (nat_lt d.file mark) (with_file d p) None ≡ only mark (with_file d p)
   later None = none (nat_lt d.file mark)
   later (Some i) = refl

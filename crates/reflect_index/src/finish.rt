@@ -117,10 +117,7 @@ pub fn finished_messages(
 }
 
 /// The enums with all that is known of them.
-pub fn finished_enums(
-    alloc: Global,
-    drafts: Vec<EnumDraft>,
-) -> Result<Vec<StoredEnum>, VisitError>
+pub fn finished_enums(alloc: Global, drafts: Vec<EnumDraft>) -> Result<Vec<StoredEnum>, VisitError>
     ensures { IfOk result (λ v. map stored_enum_name v.items ≡ map enum_draft_name drafts.items) }
 {
     let mut enums = Vec::with_capacity(alloc, drafts.len())?;
