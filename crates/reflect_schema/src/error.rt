@@ -1,3 +1,5 @@
+ghost use Rattle.std.specs.Prelude.{◌≡◌, ◌⊎◌};
+
 use protox_parse::ParseError as SourceError;
 use reflect_link::DescriptorError;
 use reflect_text::{OptionError, OptionErrorKind, ParseError as TextError, ParseErrorKind};
@@ -90,18 +92,24 @@ impl fmt::Debug for SchemaError {
 impl Error for SchemaError {}
 
 impl From<AllocError> for SchemaError {
+    ghost from_gives = { λ _ e. e ≡ SchemaError.Memory };
+
     fn from(_error: AllocError) -> SchemaError {
         SchemaError::Memory
     }
 }
 
 impl<T: Drop> From<AllocFailed<T>> for SchemaError {
+    ghost from_gives = { λ _ e. e ≡ SchemaError.Memory };
+
     fn from(_error: AllocFailed<T>) -> SchemaError {
         SchemaError::Memory
     }
 }
 
 impl From<SourceError> for SchemaError {
+    ghost from_gives = { λ error e. (e ≡ SchemaError.Memory) ⊎ (e ≡ SchemaError.Parse error) };
+
     fn from(error: SourceError) -> SchemaError {
         match error {
             SourceError::Memory => SchemaError::Memory,
@@ -111,6 +119,8 @@ impl From<SourceError> for SchemaError {
 }
 
 impl From<DescriptorError> for SchemaError {
+    ghost from_gives = { λ error e. (e ≡ SchemaError.Memory) ⊎ (e ≡ SchemaError.Link error) };
+
     fn from(error: DescriptorError) -> SchemaError {
         if error.is_memory() {
             return SchemaError::Memory;
@@ -120,6 +130,8 @@ impl From<DescriptorError> for SchemaError {
 }
 
 impl From<OptionError> for SchemaError {
+    ghost from_gives = { λ error e. (e ≡ SchemaError.Memory) ⊎ (e ≡ SchemaError.Options error) };
+
     fn from(error: OptionError) -> SchemaError {
         if matches!(error.kind(), OptionErrorKind::Memory) {
             return SchemaError::Memory;
@@ -129,6 +141,10 @@ impl From<OptionError> for SchemaError {
 }
 
 impl From<WireError> for SchemaError {
+    ghost use Rattle.reflect_schema.specs.Refusals.{of_wire};
+
+    ghost from_gives = { λ error e. e ≡ of_wire error };
+
     fn from(error: WireError) -> SchemaError {
         match error {
             WireError::Memory => SchemaError::Memory,
@@ -139,6 +155,8 @@ impl From<WireError> for SchemaError {
 }
 
 impl From<TextError> for SchemaError {
+    ghost from_gives = { λ error e. (e ≡ SchemaError.Memory) ⊎ (e ≡ SchemaError.TooLong) ⊎ (e ≡ SchemaError.Text error) };
+
     fn from(error: TextError) -> SchemaError {
         match error.kind() {
             ParseErrorKind::Memory => SchemaError::Memory,
