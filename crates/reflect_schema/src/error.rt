@@ -92,7 +92,9 @@ impl fmt::Debug for SchemaError {
 impl Error for SchemaError {}
 
 impl From<AllocError> for SchemaError {
-    ghost from_gives = { λ _ e. e ≡ SchemaError.Memory };
+    ghost use Rattle.reflect_schema.specs.declared.error.SchemaError.TheVariants.{Memory};
+
+    ghost from_gives = { λ _ e. e ≡ Memory };
 
     fn from(_error: AllocError) -> SchemaError {
         SchemaError::Memory
@@ -100,7 +102,9 @@ impl From<AllocError> for SchemaError {
 }
 
 impl<T: Drop> From<AllocFailed<T>> for SchemaError {
-    ghost from_gives = { λ _ e. e ≡ SchemaError.Memory };
+    ghost use Rattle.reflect_schema.specs.declared.error.SchemaError.TheVariants.{Memory};
+
+    ghost from_gives = { λ _ e. e ≡ Memory };
 
     fn from(_error: AllocFailed<T>) -> SchemaError {
         SchemaError::Memory
@@ -108,7 +112,9 @@ impl<T: Drop> From<AllocFailed<T>> for SchemaError {
 }
 
 impl From<SourceError> for SchemaError {
-    ghost from_gives = { λ error e. (e ≡ SchemaError.Memory) ⊎ (e ≡ SchemaError.Parse error) };
+    ghost use Rattle.reflect_schema.specs.declared.error.SchemaError.TheVariants.{Memory, Parse};
+
+    ghost from_gives = { λ error e. (e ≡ Memory) ⊎ (e ≡ Parse error) };
 
     fn from(error: SourceError) -> SchemaError {
         match error {
@@ -119,7 +125,9 @@ impl From<SourceError> for SchemaError {
 }
 
 impl From<DescriptorError> for SchemaError {
-    ghost from_gives = { λ error e. (e ≡ SchemaError.Memory) ⊎ (e ≡ SchemaError.Link error) };
+    ghost use Rattle.reflect_schema.specs.declared.error.SchemaError.TheVariants.{Memory, Link};
+
+    ghost from_gives = { λ error e. (e ≡ Memory) ⊎ (e ≡ Link error) };
 
     fn from(error: DescriptorError) -> SchemaError {
         if error.is_memory() {
@@ -130,7 +138,9 @@ impl From<DescriptorError> for SchemaError {
 }
 
 impl From<OptionError> for SchemaError {
-    ghost from_gives = { λ error e. (e ≡ SchemaError.Memory) ⊎ (e ≡ SchemaError.Options error) };
+    ghost use Rattle.reflect_schema.specs.declared.error.SchemaError.TheVariants.{Memory, Options};
+
+    ghost from_gives = { λ error e. (e ≡ Memory) ⊎ (e ≡ Options error) };
 
     fn from(error: OptionError) -> SchemaError {
         if matches!(error.kind(), OptionErrorKind::Memory) {
@@ -155,7 +165,9 @@ impl From<WireError> for SchemaError {
 }
 
 impl From<TextError> for SchemaError {
-    ghost from_gives = { λ error e. (e ≡ SchemaError.Memory) ⊎ (e ≡ SchemaError.TooLong) ⊎ (e ≡ SchemaError.Text error) };
+    ghost use Rattle.reflect_schema.specs.declared.error.SchemaError.TheVariants.{Memory, TooLong, Text};
+
+    ghost from_gives = { λ error e. (e ≡ Memory) ⊎ (e ≡ TooLong) ⊎ (e ≡ Text error) };
 
     fn from(error: TextError) -> SchemaError {
         match error.kind() {
