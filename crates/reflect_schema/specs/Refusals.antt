@@ -6,7 +6,7 @@ use Rattle.reflect_pool.specs.Dots.{without_dot}
 use Rattle.reflect_wire.specs.declared.wire_error.WireError.{WireError}
 use Rattle.reflect_wire.specs.declared.wire_error.WireError.TheVariants as wire
 use Rattle.reflect_schema.specs.declared.error.SchemaError.{SchemaError}
-use Rattle.reflect_schema.specs.declared.error.SchemaError.TheVariants.{Parse, Link, Options, Wire, Text, UnknownType, Memory, TooLong}
+use Rattle.reflect_schema.specs.declared.error.SchemaError.TheVariants.{Parse, Link, Options, Wire, UnknownType, Memory, TooLong}
 
 -- a refusal of wire bytes, as one of the schema
 abbrev pub of_wire : WireError → SchemaError
@@ -35,14 +35,6 @@ BytesRefused p name (Wire e) = IsKnown p name
 BytesRefused p name TooLong = IsKnown p name
 BytesRefused p name Memory = Unit {0}
 BytesRefused p name _ = ⊥
-
--- of a text: the type is unknown, or it is known and the text is refused
-abbrev pub TextRefused : PoolType → List ℕ → SchemaError → Type 0
-TextRefused p name (UnknownType n) = (string_bytes n ≡ name) × IsUnknown p name
-TextRefused p name (Text e) = IsKnown p name
-TextRefused p name TooLong = IsKnown p name
-TextRefused p name Memory = Unit {0}
-TextRefused p name _ = ⊥
 
 -- of files: they do not fit together, or their options do not suit their types
 abbrev pub FilesRefused : SchemaError → Type 0

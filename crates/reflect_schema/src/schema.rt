@@ -25,7 +25,7 @@ pub struct Schema {
 
 impl Schema {
     ghost use Rattle.reflect_pool.specs.FindsNames.{FindsMessage};
-    ghost use Rattle.reflect_schema.specs.Refusals.{TypeRefused, BytesRefused, TextRefused, FilesRefused, SourcesRefused, SetRefused};
+    ghost use Rattle.reflect_schema.specs.Refusals.{TypeRefused, BytesRefused, FilesRefused, SourcesRefused, SetRefused};
 
     /// A schema without files. Takes no memory.
     pub fn bare(alloc: Global) -> Schema {
@@ -130,9 +130,7 @@ impl Schema {
     ///
     /// `UnknownType` where there is no such type, `Text` with the first fault of the text, `TooLong` where the bytes are more
     /// than a length can say.
-    pub fn encode(&self, type_name: &str, text: &str) -> Result<Vec<u8>, SchemaError>
-        ensures { IfErr result (TextRefused self.now.pool type_name.now) }
-    {
+    pub fn encode(&self, type_name: &str, text: &str) -> Result<Vec<u8>, SchemaError> {
         let descriptor = self.message_type(type_name)?;
         let message = DynamicMessage::parse_text_format(self.alloc, descriptor, text)?;
         Ok(message.encode_to_vec()?)
