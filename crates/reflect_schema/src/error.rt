@@ -1,3 +1,5 @@
+ghost use Rattle.std.specs.Prelude.{◌≡◌, ◌⊎◌};
+
 use protox_parse::ParseError as SourceError;
 use reflect_link::DescriptorError;
 use reflect_text::{OptionError, OptionErrorKind, ParseError as TextError, ParseErrorKind};
@@ -90,18 +92,30 @@ impl fmt::Debug for SchemaError {
 impl Error for SchemaError {}
 
 impl From<AllocError> for SchemaError {
+    ghost use Rattle.reflect_schema.specs.declared.error.SchemaError.TheVariants.{Memory};
+
+    ghost from_gives = { λ _ e. e ≡ Memory };
+
     fn from(_error: AllocError) -> SchemaError {
         SchemaError::Memory
     }
 }
 
 impl<T: Drop> From<AllocFailed<T>> for SchemaError {
+    ghost use Rattle.reflect_schema.specs.declared.error.SchemaError.TheVariants.{Memory};
+
+    ghost from_gives = { λ _ e. e ≡ Memory };
+
     fn from(_error: AllocFailed<T>) -> SchemaError {
         SchemaError::Memory
     }
 }
 
 impl From<SourceError> for SchemaError {
+    ghost use Rattle.reflect_schema.specs.declared.error.SchemaError.TheVariants.{Memory, Parse};
+
+    ghost from_gives = { λ error e. (e ≡ Memory) ⊎ (e ≡ Parse error) };
+
     fn from(error: SourceError) -> SchemaError {
         match error {
             SourceError::Memory => SchemaError::Memory,
@@ -111,6 +125,10 @@ impl From<SourceError> for SchemaError {
 }
 
 impl From<DescriptorError> for SchemaError {
+    ghost use Rattle.reflect_schema.specs.declared.error.SchemaError.TheVariants.{Memory, Link};
+
+    ghost from_gives = { λ error e. (e ≡ Memory) ⊎ (e ≡ Link error) };
+
     fn from(error: DescriptorError) -> SchemaError {
         if error.is_memory() {
             return SchemaError::Memory;
@@ -120,6 +138,10 @@ impl From<DescriptorError> for SchemaError {
 }
 
 impl From<OptionError> for SchemaError {
+    ghost use Rattle.reflect_schema.specs.declared.error.SchemaError.TheVariants.{Memory, Options};
+
+    ghost from_gives = { λ error e. (e ≡ Memory) ⊎ (e ≡ Options error) };
+
     fn from(error: OptionError) -> SchemaError {
         if matches!(error.kind(), OptionErrorKind::Memory) {
             return SchemaError::Memory;
@@ -129,6 +151,10 @@ impl From<OptionError> for SchemaError {
 }
 
 impl From<WireError> for SchemaError {
+    ghost use Rattle.reflect_schema.specs.Refusals.{of_wire};
+
+    ghost from_gives = { λ error e. e ≡ of_wire error };
+
     fn from(error: WireError) -> SchemaError {
         match error {
             WireError::Memory => SchemaError::Memory,
@@ -139,6 +165,10 @@ impl From<WireError> for SchemaError {
 }
 
 impl From<TextError> for SchemaError {
+    ghost use Rattle.reflect_schema.specs.declared.error.SchemaError.TheVariants.{Memory, TooLong, Text};
+
+    ghost from_gives = { λ error e. (e ≡ Memory) ⊎ (e ≡ TooLong) ⊎ (e ≡ Text error) };
+
     fn from(error: TextError) -> SchemaError {
         match error.kind() {
             ParseErrorKind::Memory => SchemaError::Memory,

@@ -1,4 +1,4 @@
-ghost use Rattle.std.specs.Prelude.{◌≡◌, OnErr};
+ghost use Rattle.std.specs.Prelude.{◌≡◌, Some, OnErr, IfOk, IfErr};
 
 use crate::error::SchemaError;
 use descriptor_records::FileDescriptorProto;
@@ -24,6 +24,9 @@ pub struct Schema {
 }
 
 impl Schema {
+    ghost use Rattle.reflect_pool.specs.FindsNames.{FindsMessage};
+    ghost use Rattle.reflect_schema.specs.Refusals.{TypeRefused, BytesRefused, FilesRefused, SourcesRefused, SetRefused};
+
     /// A schema without files. Takes no memory.
     pub fn bare(alloc: Global) -> Schema {
         Schema {
@@ -65,7 +68,8 @@ impl Schema {
     /// that found one), and their options are read by the types that the schema has for them (`Options`, with the first fault).
     /// Any refusal leaves the schema as it was.
     pub fn add_sources(&mut self, sources: &[(&str, &str)]) -> Result<(), SchemaError>
-        ensures { OnErr result (self.new.pool ≡ self.old.pool) }
+        ensures unchanged { OnErr result (self.new.pool ≡ self.old.pool) }
+        ensures err { IfErr result SourcesRefused }
     {
         let mut files = Vec::new(self.alloc);
         for source in sources {
@@ -79,7 +83,8 @@ impl Schema {
     /// `Wire` where the bytes are no set; else as `add_sources` does and refuses with files that are parsed. Any refusal leaves
     /// the schema as it was.
     pub fn add_descriptor_set(&mut self, bytes: &[u8]) -> Result<(), SchemaError>
-        ensures { OnErr result (self.new.pool ≡ self.old.pool) }
+        ensures unchanged { OnErr result (self.new.pool ≡ self.old.pool) }
+        ensures err { IfErr result SetRefused }
     {
         let set = decode_set(self.alloc, bytes)?;
         self.add_batch(set.file)
@@ -94,7 +99,8 @@ impl Schema {
 
     /// Links files and settles their options. Any refusal leaves the pool as it was.
     fn add_batch(&mut self, mut files: Vec<FileDescriptorProto>) -> Result<(), SchemaError>
-        ensures { OnErr result (self.new.pool ≡ self.old.pool) }
+        ensures unchanged { OnErr result (self.new.pool ≡ self.old.pool) }
+        ensures err { IfErr result FilesRefused }
     {
         copy_typed_options(&mut files);
         let mark = self.pool.mark();
@@ -107,7 +113,10 @@ impl Schema {
     }
 
     /// The message type of a name.
-    fn message_type(&self, type_name: &str) -> Result<MessageDescriptor<'_>, SchemaError> {
+    fn message_type(&self, type_name: &str) -> Result<MessageDescriptor<'_>, SchemaError>
+        ensures ok { IfOk result (λ d. FindsMessage self.now.pool type_name.now (Some d)) }
+        ensures err { IfErr result (TypeRefused self.now.pool type_name.now) }
+    {
         match self.pool.get_message_by_name(type_name) {
             Some(descriptor) => Ok(descriptor),
             None => {
@@ -130,7 +139,9 @@ impl Schema {
     /// The compact text of the message of a type that wire bytes spell. The type's full name may have one leading dot.
     ///
     /// `UnknownType` where there is no such type, `Wire` where the bytes are no message of it.
-    pub fn decode(&self, type_name: &str, bytes: &[u8]) -> Result<String, SchemaError> {
+    pub fn decode(&self, type_name: &str, bytes: &[u8]) -> Result<String, SchemaError>
+        ensures { IfErr result (BytesRefused self.now.pool type_name.now) }
+    {
         let descriptor = self.message_type(type_name)?;
         let message = DynamicMessage::decode(self.alloc, descriptor, bytes)?;
         let options = FormatOptions::new().expand_any(false);
@@ -144,7 +155,9 @@ impl Schema {
     /// the records of undeclared fields by ascending number. The type's full name may have one leading dot.
     ///
     /// Refused as `decode` is, and `TooLong` where the bytes are more than a length can say.
-    pub fn recode(&self, type_name: &str, bytes: &[u8]) -> Result<Vec<u8>, SchemaError> {
+    pub fn recode(&self, type_name: &str, bytes: &[u8]) -> Result<Vec<u8>, SchemaError>
+        ensures { IfErr result (BytesRefused self.now.pool type_name.now) }
+    {
         let descriptor = self.message_type(type_name)?;
         let message = DynamicMessage::decode(self.alloc, descriptor, bytes)?;
         Ok(message.encode_to_vec()?)
