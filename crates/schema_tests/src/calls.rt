@@ -98,10 +98,12 @@ fn messages_are_read_set_and_written(rt: HostRuntime) -> Result<(), Fail> {
     assert!(rt; message.has_field(&foo));
     assert_eq!(rt; message.get_field(&foo)?.value().as_i32(), Some(150));
     assert_eq!(rt; message.get_field(&z)?.value().as_i64(), Some(-2));
-    let mut set = message.fields();
-    assert!(rt; set.next().is_some());
-    assert!(rt; set.next().is_some());
-    assert!(rt; set.next().is_none());
+    {
+        let mut set = message.fields();
+        assert!(rt; set.next().is_some());
+        assert!(rt; set.next().is_some());
+        assert!(rt; set.next().is_none());
+    }
     message.try_set_field(&foo, Value::I32(1))?;
     assert!(rt; message.try_set_field(&foo, Value::U32(1)).is_err());
     // Declared fields by number, then the record that the type does not declare.

@@ -294,11 +294,13 @@ fn a_refused_merge_changes_nothing(rt: HostRuntime) -> Result<(), Fail> {
     ];
     assert_eq!(rt; message.encode_to_vec()?.as_slice(), wanted.as_slice());
     assert!(rt; message.is_typed());
-    let mut set = message.fields();
-    for _ in 0..3 {
+    {
+        let mut set = message.fields();
         assert!(rt; set.next().is_some());
+        assert!(rt; set.next().is_some());
+        assert!(rt; set.next().is_some());
+        assert!(rt; set.next().is_none());
     }
-    assert!(rt; set.next().is_none());
     let mut entries = BTreeMap::new(alloc);
     entries.insert(MapKey::I32(1), Value::I32(2))?;
     assert!(rt;
