@@ -11,3 +11,4 @@ pub mod Blocks
 pub mod Spelled
 pub mod TextFormat
 pub mod Longest
+pub mod Escapes

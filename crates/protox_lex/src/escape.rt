@@ -1,6 +1,6 @@
 //! The escapes of a string.
 
-ghost use Rattle.std.specs.Prelude.{◌≡◌, ◌≢◌, ◌<◌, ◌≤◌, ◌+◌, ◌++◌, length, slice_index, OnOk, IfOk, IfErr, IsSome, true, false};
+ghost use Rattle.std.specs.Prelude.{◌≡◌, ◌≢◌, ◌<◌, ◌≤◌, ◌+◌, ◌++◌, length, slice_index, Some, OnOk, IfOk, IfErr, IsSome, true, false};
 ghost use Rattle.protox_lex.specs.Class.{is_in};
 ghost use Rattle.protox_lex.specs.Lex as spec;
 ghost use Rattle.protox_lex.specs.Spelled.{IsEscaped};
@@ -185,24 +185,39 @@ pub fn unescape(alloc: Global, raw: &[u8]) -> Result<Vec<u8>, AllocError>
 pub struct Escaped<'a>(pub &'a [u8]);
 
 impl fmt::Display for Escaped<'_> {
+    ghost use Rattle.protox_lex.specs.Escapes.{escaped};
+
+    ghost output = { λ e. Some (escaped e.0.now) };
+
     fn fmt<W: fmt::Write>(&self, f: &mut fmt::Formatter<W>) -> fmt::Result {
         for b in self.0 {
-            write_byte(f, *b)?;
+            write!(f, "{}", EscapedByte(*b))?;
         }
         Ok(())
     }
 }
 
-fn write_byte<W: fmt::Write>(f: &mut fmt::Formatter<W>, b: u8) -> fmt::Result {
-    match b {
-        b'\t' => f.write_str("\\t"),
-        b'\r' => f.write_str("\\r"),
-        b'\n' => f.write_str("\\n"),
-        b'\'' => f.write_str("\\'"),
-        b'"' => f.write_str("\\\""),
-        b'\\' => f.write_str("\\\\"),
-        b' '..=b'~' => f.write_char(b as char),
-        _ => write!(f, "\\{b:03o}"),
+/// A byte as it stands in a string.
+#[derive(Clone, Copy)]
+struct EscapedByte(u8);
+
+impl fmt::Display for EscapedByte {
+    ghost use Rattle.protox_lex.specs.Escapes.{escaped_byte};
+
+    ghost output = { λ b. Some (escaped_byte b.0) };
+
+    fn fmt<W: fmt::Write>(&self, f: &mut fmt::Formatter<W>) -> fmt::Result {
+        let b = self.0;
+        match b {
+            b'\t' => f.write_str("\\t"),
+            b'\r' => f.write_str("\\r"),
+            b'\n' => f.write_str("\\n"),
+            b'\'' => f.write_str("\\'"),
+            b'"' => f.write_str("\\\""),
+            b'\\' => f.write_str("\\\\"),
+            b' '..=b'~' => f.write_char(b as char),
+            _ => write!(f, "\\{b:03o}"),
+        }
     }
 }
 
@@ -212,7 +227,7 @@ pub(crate) fn write_contents<W: fmt::Write>(f: &mut fmt::Formatter<W>, raw: &[u8
     while at < raw.len() {
         let (meaning, len) = unit(&raw[at..]);
         match meaning {
-            Meaning::Byte(b) => write_byte(f, b)?,
+            Meaning::Byte(b) => write!(f, "{}", EscapedByte(b))?,
             Meaning::Char(c) => {
                 write!(f, "{}", Escaped(c.encode_utf8(&mut [0; 4]).as_bytes()))?;
             }

@@ -5,7 +5,7 @@ use Rattle.reflect_entries.specs.Entries.{Updates}
 use Rattle.reflect_entries.specs.Undeclared.{undeclared}
 use Rattle.std.specs.Prelude.{Option}
 use Rattle.reflect_dynamic.specs.declared.message.DynamicMessage.{DynamicMessage}
-use Rattle.reflect_dynamic.specs.declared.parts.Held.{out-Held}
+use Rattle.reflect_dynamic.specs.declared.parts.Held.{Held, out-Held}
 use Rattle.reflect_dynamic.specs.declared.parts.Held.TheOpen.{Held-F}
 use Rattle.reflect_dynamic.specs.declared.value.Value.{Value}
 
@@ -24,11 +24,14 @@ extensions_of m = elim (out-Held m.held) [
 ]
 
 -- the records of numbers that the type does not declare, with their numbers
-abbrev pub unknown_of : DynamicMessage → List (ℕ × Payload)
-unknown_of m = elim (out-Held m.held) [
+abbrev pub unknown_in : Held → List (ℕ × Payload)
+unknown_in h = elim (out-Held h) [
   | Held-F.Nothing ↦ []
   | Held-F.Block b ↦ undeclared b.value.unknown
 ]
+
+abbrev pub unknown_of : DynamicMessage → List (ℕ × Payload)
+unknown_of m = unknown_in m.held
 
 -- under the number of a declared field stands what is given, or nothing, and nothing else is changed
 pub record UpdatesField (old new : DynamicMessage) (number : ℕ) (given : Option Value) : Type 0 where

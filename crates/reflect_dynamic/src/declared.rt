@@ -1,6 +1,9 @@
 //! The fields and extensions of a type that its messages hold: all but those of floating-point numbers and of maps of such.
 
 ghost use Rattle.std.specs.Prelude.{◌≡◌, IfSome};
+ghost use Rattle.reflect_pool.specs.FieldsLeft.{field_type};
+ghost use Rattle.reflect_scalar.specs.FieldTypes.{extension_type};
+ghost use Rattle.reflect_dynamic.specs.Declares.{Extends};
 
 use reflect_link::{ExtensionDescriptor, FieldDescriptor, MessageDescriptor};
 use reflect_scalar::holds_floats;
@@ -10,7 +13,8 @@ pub fn declared_field<'p>(
     descriptor: MessageDescriptor<'p>,
     number: u32,
 ) -> Option<FieldDescriptor<'p>>
-    ensures { IfSome result (λ f. f.message ≡ descriptor.entry) }
+    ensures message { IfSome result (λ f. f.message ≡ descriptor.entry) }
+    ensures number { IfSome result (λ f. (field_type f).number ≡ number) }
 {
     let field = descriptor.get_field(number)?;
     if holds_floats(&field) {
@@ -37,7 +41,10 @@ pub fn declared_field_by_name<'p>(
 pub fn declared_extension<'p>(
     descriptor: MessageDescriptor<'p>,
     number: u32,
-) -> Option<ExtensionDescriptor<'p>> {
+) -> Option<ExtensionDescriptor<'p>>
+    ensures extends { IfSome result (λ x. Extends descriptor.entry x) }
+    ensures number { IfSome result (λ x. (extension_type x).number ≡ number) }
+{
     let extension = descriptor.get_extension(number)?;
     if holds_floats(&extension) {
         return None;

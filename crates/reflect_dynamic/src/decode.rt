@@ -1,6 +1,21 @@
 //! From wire bytes to a message, record by record.
 
-ghost use Rattle.std.specs.Prelude.{◌≡◌, ◌<◌, ◌≤◌, length, IfOk, IfSome};
+ghost use Rattle.std.specs.Prelude.{◌≡◌, ◌≢◌, ℕ, ◌+◌, ◌<◌, ◌≤◌, List, [], ◌∷◌, ◌++◌, None, Some, length, IfOk, IfErr, OnOk, OnErr, IfSome};
+ghost use Rattle.reflect_wire.specs.Faults.{Tells, ValueFault};
+ghost use Rattle.reflect_wire.specs.Key.{IsKey};
+ghost use Rattle.reflect_wire.specs.Reads.{Fronts, Refuses, RefusesWhole};
+ghost use Rattle.reflect_wire.specs.Records.{Payload, IsValue};
+ghost use Rattle.reflect_wire.specs.Views.{field_view};
+ghost use Rattle.reflect_entries.specs.Entries.{value_at};
+ghost use Rattle.reflect_entries.specs.Sets.{with_record};
+ghost use Rattle.reflect_entries.specs.Undeclared.{undeclared};
+ghost use Rattle.reflect_scalar.specs.FieldTypes.{either_pool, either_type};
+ghost use Rattle.reflect_scalar.specs.Singles.{Single};
+ghost use Rattle.reflect_dynamic.specs.Elements.{Appends, ContinuesList};
+ghost use Rattle.reflect_dynamic.specs.Merging.{IsBody, IsRun, run_records};
+ghost use Rattle.reflect_dynamic.specs.Packed.{IsPacked, PackedFault, Continues};
+ghost use Rattle.reflect_dynamic.specs.Spares.{Same, Merges, content_of, content_in};
+ghost use Rattle.reflect_dynamic.specs.Taking.{Leaves};
 
 use crate::declared::{declared_extension, declared_field};
 use crate::defaults::default_of;
@@ -26,18 +41,24 @@ pub struct RawRecord<'b> {
     levels: u32,
     ghost positive: { 0 < key.number },
     ghost small: { key.number ≤ 536870911 },
+    ghost nested: { levels ≤ 100 },
 }
 
 impl<'b> RawRecord<'b> {
     /// How many levels may lie below a message or a group in this record; `TooDeep` where it may not lie there itself.
-    fn levels_below(&self) -> Result<u32, WireError> {
+    fn levels_below(&self) -> Result<u32, WireError>
+        ensures below { IfOk result (λ levels. levels + 1 ≡ self.now.levels) }
+    {
         self.levels.checked_sub(1).ok_or(WireError::TooDeep)
     }
 
     /// The record behind, if it has the same key. The elements of a list, as the entries of a map, mostly stand together, and
     /// what their field says of them is asked once.
     fn another_at(&self, rest: &'b [u8]) -> Option<RawRecord<'b>>
-        ensures { IfSome result (λ next. length next.bytes.now < length rest.now) }
+        ensures key { IfSome result (λ next. next.key ≡ self.now.key) }
+        ensures levels { IfSome result (λ next. next.levels ≡ self.now.levels) }
+        ensures read { IfSome result (λ next. Fronts IsKey rest.now self.now.key next.bytes.now) }
+        ensures shorter { IfSome result (λ next. length next.bytes.now < length rest.now) }
     {
         let (key, bytes) = key_at(rest).ok()?;
         if key != self.key {
@@ -63,7 +84,10 @@ pub fn merge_body<'p, 'b>(
     group: Option<u32>,
     levels: u32,
 ) -> Result<&'b [u8], WireError>
+    requires nested { levels ≤ 100 }
     ensures same_type { message.new.descriptor ≡ message.old.descriptor }
+    ensures read { IfOk result (λ rest. (rs : List (ℕ × Payload)) × Fronts (IsBody group levels) bytes.now rs rest.now × Merges message.old.descriptor (content_of message.old) (content_of message.new) rs) }
+    ensures whole { group ≡ None → IfOk result (λ rest. rest.now ≡ []) }
     ensures shorter { IfOk result (λ rest. length rest.now ≤ length bytes.now) }
 {
     if bytes.is_empty() && group.is_none() {
@@ -85,6 +109,9 @@ fn merge_records<'p, 'b>(
     group: Option<u32>,
     levels: u32,
 ) -> Result<&'b [u8], WireError>
+    requires nested { levels ≤ 100 }
+    ensures read { IfOk result (λ rest. (rs : List (ℕ × Payload)) × Fronts (IsBody group levels) bytes.now rs rest.now × Merges descriptor.entry (content_in parts.old) (content_in parts.new) rs) }
+    ensures whole { group ≡ None → IfOk result (λ rest. rest.now ≡ []) }
     ensures shorter { IfOk result (λ rest. length rest.now ≤ length bytes.now) }
 {
     let mut rest = bytes;
@@ -117,6 +144,7 @@ fn merge_record<'p, 'b>(
     descriptor: MessageDescriptor<'p>,
     raw: RawRecord<'b>,
 ) -> Result<&'b [u8], WireError>
+    ensures read { IfOk result (λ rest. (run : List Payload × Payload) × Fronts (IsRun raw.entry.levels raw.entry.key) raw.entry.bytes.now run rest.now × Merges descriptor.entry (content_in parts.old) (content_in parts.new) (run_records raw.entry.key.number run)) }
     ensures shorter { IfOk result (λ rest. length rest.now ≤ length raw.entry.bytes.now) }
 {
     let number = raw.key.number;
@@ -135,6 +163,10 @@ fn merge_record<'p, 'b>(
 
 /// The record of a number that the type does not declare, and what is behind it.
 fn unknown_at<'b>(alloc: Global, raw: RawRecord<'b>) -> Result<(UnknownField, &'b [u8]), WireError>
+    ensures number { IfOk result (λ found. (field_view found.0).0 ≡ raw.entry.key.number) }
+    ensures read { IfOk result (λ found. Fronts (IsValue raw.entry.levels raw.entry.key) raw.entry.bytes.now (field_view found.0).1 found.1.now) }
+    ensures err { IfErr result (Refuses (IsValue raw.entry.levels raw.entry.key) raw.entry.bytes.now) }
+    ensures fault { IfErr result (Tells (ValueFault raw.entry.levels raw.entry.key) raw.entry.bytes.now) }
     ensures shorter { IfOk result (λ found. length found.1.now ≤ length raw.entry.bytes.now) }
 {
     let mut rest = raw.bytes;
@@ -149,6 +181,10 @@ fn keep_unknown<'b>(
     alloc: Global,
     raw: RawRecord<'b>,
 ) -> Result<&'b [u8], WireError>
+    ensures kept { IfOk result (λ rest. (p : Payload) × Fronts (IsValue raw.entry.levels raw.entry.key) raw.entry.bytes.now p rest.now × (undeclared unknown.new ≡ with_record (undeclared unknown.old) (raw.entry.key.number, p))) }
+    ensures err { IfErr result (Refuses (IsValue raw.entry.levels raw.entry.key) raw.entry.bytes.now) }
+    ensures fault { IfErr result (Tells (ValueFault raw.entry.levels raw.entry.key) raw.entry.bytes.now) }
+    ensures left { OnErr result (undeclared unknown.new ≡ undeclared unknown.old) }
     ensures shorter { IfOk result (λ rest. length rest.now ≤ length raw.entry.bytes.now) }
 {
     let (field, rest) = unknown_at(alloc, raw)?;
@@ -166,17 +202,20 @@ fn merge_field<'p, 'b>(
     field: AnyField<'p>,
     raw: RawRecord<'b>,
 ) -> Result<&'b [u8], WireError>
+    ensures others { (n : ℕ) → n ≢ raw.entry.key.number → Same content.old content.new n }
+    ensures read { IfOk result (λ rest. (run : List Payload × Payload) × Fronts (IsRun raw.entry.levels raw.entry.key) raw.entry.bytes.now run rest.now × Leaves (either_pool field.entry) (either_type field.entry) (value_at content.old raw.entry.key.number) (value_at content.new raw.entry.key.number) run) }
     ensures shorter { IfOk result (λ rest. length rest.now ≤ length raw.entry.bytes.now) }
 {
     let number = raw.key.number;
-    match field.kind() {
+    let kind = field.kind();
+    if field.is_list() {
+        let list = content.slot(number, Value::List(Vec::new(alloc)))?;
+        return merge_list(list, alloc, &kind, field.is_group(), raw);
+    }
+    match kind {
         Kind::Message(entry) if field.is_map() => {
             let map = content.slot(number, Value::Map(BTreeMap::new(alloc)))?;
             merge_map(map, alloc, entry, raw)
-        }
-        kind if field.is_list() => {
-            let list = content.slot(number, Value::List(Vec::new(alloc)))?;
-            merge_list(list, alloc, &kind, field.is_group(), raw)
         }
         Kind::Message(inner) => {
             let empty = Value::Message(DynamicMessage::new(alloc, inner));
@@ -185,7 +224,7 @@ fn merge_field<'p, 'b>(
                 _ => Err(WireError::BadWireType),
             }
         }
-        kind => {
+        _ => {
             let (scalar, rest) = scalar_at(&kind, raw.key.wire, raw.bytes)?;
             content.set(number, Value::from_scalar(alloc, scalar)?)?;
             Ok(rest)
@@ -203,6 +242,7 @@ fn merge_message<'p, 'b>(
     is_group: bool,
     raw: RawRecord<'b>,
 ) -> Result<&'b [u8], WireError>
+    ensures read { IfOk result (λ rest. (p : Payload) × Fronts (IsValue raw.entry.levels raw.entry.key) raw.entry.bytes.now p rest.now) }
     ensures shorter { IfOk result (λ rest. length rest.now ≤ length raw.entry.bytes.now) }
 {
     match raw.key.wire {
@@ -229,6 +269,7 @@ fn merge_list<'p, 'b>(
     is_group: bool,
     raw: RawRecord<'b>,
 ) -> Result<&'b [u8], WireError>
+    ensures read { IfOk result (λ rest. (run : List Payload × Payload) × Fronts (IsRun raw.entry.levels raw.entry.key) raw.entry.bytes.now run rest.now × ContinuesList kind.now (Some list.old) (Some list.new) (run.0 ++ run.1 ∷ [])) }
     ensures shorter { IfOk result (λ rest. length rest.now ≤ length raw.entry.bytes.now) }
 {
     let Value::List(values) = list else {
@@ -253,6 +294,7 @@ fn merge_element<'p, 'b>(
     is_group: bool,
     raw: RawRecord<'b>,
 ) -> Result<&'b [u8], WireError>
+    ensures read { IfOk result (λ rest. (p : Payload) × Fronts (IsValue raw.entry.levels raw.entry.key) raw.entry.bytes.now p rest.now × Appends kind.now values.old.items values.new.items p) }
     ensures shorter { IfOk result (λ rest. length rest.now ≤ length raw.entry.bytes.now) }
 {
     if let Kind::Message(inner) = kind {
@@ -287,7 +329,11 @@ fn push_packed(
     alloc: Global,
     kind: &Kind<'_>,
     body: &[u8],
-) -> Result<(), WireError> {
+) -> Result<(), WireError>
+    ensures read { OnOk result ((vs : List Single) × IsPacked kind.now body.now vs × Continues values.old.items values.new.items vs) }
+    ensures err { IfErr result (RefusesWhole (IsPacked kind.now) body.now) }
+    ensures fault { IfErr result (Tells (PackedFault kind.now) body.now) }
+{
     values.reserve(packed_count(kind, body))?;
     let mut rest = body;
     'values: while !rest.is_empty() {
@@ -306,6 +352,7 @@ fn merge_map<'p, 'b>(
     entry: MessageDescriptor<'p>,
     raw: RawRecord<'b>,
 ) -> Result<&'b [u8], WireError>
+    ensures read { IfOk result (λ rest. (run : List Payload × Payload) × Fronts (IsRun raw.entry.levels raw.entry.key) raw.entry.bytes.now run rest.now) }
     ensures shorter { IfOk result (λ rest. length rest.now ≤ length raw.entry.bytes.now) }
 {
     let (Value::Map(entries), WireType::LengthDelimited) = (map, raw.key.wire) else {
@@ -337,7 +384,9 @@ fn entry_of<'p>(
     values: FieldDescriptor<'p>,
     body: &[u8],
     levels: u32,
-) -> Result<(MapKey, Value<'p>), WireError> {
+) -> Result<(MapKey, Value<'p>), WireError>
+    requires nested { levels ≤ 100 }
+{
     if levels == 0 && values.kind().as_message().is_some() {
         return Err(WireError::TooDeep);
     }

@@ -1,9 +1,14 @@
-ghost use Rattle.std.specs.Prelude.{◌≡◌, [], IfOk, OnErr, IfSome, IfNone};
+ghost use Rattle.std.specs.Prelude.{◌≡◌, ℕ, List, [], IfOk, IfErr, OnOk, OnErr, IfSome, IfNone};
+ghost use Rattle.reflect_wire.specs.Records.{Payload, SpellsRecords};
+ghost use Rattle.reflect_wire.specs.Views.{records_of};
+ghost use Rattle.reflect_wire.specs.declared.wire_error.WireError.TheVariants.{Memory};
 ghost use Rattle.std.specs.Option.{option_copied};
 ghost use Rattle.reflect_entries.specs.Entries.{value_at};
 ghost use Rattle.reflect_dynamic.specs.EntriesLeft.{entries_left};
 ghost use Rattle.reflect_entries.specs.Undeclared.{undeclared};
 ghost use Rattle.reflect_dynamic.specs.Held.{fields_of, extensions_of, unknown_of};
+ghost use Rattle.reflect_dynamic.specs.Keeps.{Keeps};
+ghost use Rattle.reflect_dynamic.specs.Spares.{HoldsRead};
 
 use crate::decode::{MAX_LEVELS, merge_body};
 use crate::encode::put_message;
@@ -30,7 +35,10 @@ pub struct DynamicMessage<'p> {
 impl<'p> DynamicMessage<'p> {
     /// A message in which no field is set. Takes no memory.
     pub fn new(alloc: Global, descriptor: MessageDescriptor<'p>) -> DynamicMessage<'p>
-        ensures { result.descriptor ≡ descriptor.entry }
+        ensures same_type { result.descriptor ≡ descriptor.entry }
+        ensures fields { fields_of result ≡ [] }
+        ensures extensions { extensions_of result ≡ [] }
+        ensures unknown { unknown_of result ≡ [] }
     {
         DynamicMessage {
             descriptor,
@@ -55,7 +63,8 @@ impl<'p> DynamicMessage<'p> {
         descriptor: MessageDescriptor<'p>,
         bytes: &[u8],
     ) -> Result<DynamicMessage<'p>, WireError>
-        ensures { IfOk result (λ m. m.descriptor ≡ descriptor.entry) }
+        ensures same_type { IfOk result (λ m. m.descriptor ≡ descriptor.entry) }
+        ensures read { IfOk result (λ m. (rs : List (ℕ × Payload)) × SpellsRecords 100 bytes.now (records_of rs) × Keeps descriptor.entry [] (unknown_of m) rs × HoldsRead (fields_of m) rs × HoldsRead (extensions_of m) rs) }
     {
         let mut message = DynamicMessage::new(alloc, descriptor);
         merge_body(&mut message, alloc, bytes, None, MAX_LEVELS)?;
@@ -68,6 +77,7 @@ impl<'p> DynamicMessage<'p> {
     /// Refused as `decode` is; the message is then unchanged.
     pub fn merge(&mut self, bytes: &[u8]) -> Result<(), WireError>
         ensures type_stays { self.new.descriptor ≡ self.old.descriptor }
+        ensures read { OnOk result ((rs : List (ℕ × Payload)) × SpellsRecords 100 bytes.now (records_of rs) × Keeps self.old.descriptor (unknown_of self.old) (unknown_of self.new) rs) }
         ensures err { OnErr result (self.new ≡ self.old) }
     {
         let mut merged = self.clone()?;
@@ -86,17 +96,22 @@ impl<'p> DynamicMessage<'p> {
     ///
     /// Refused for want of memory alone, which leaves `out`.
     pub fn encode(&self, out: &mut Vec<u8>) -> Result<(), WireError>
-        ensures { OnErr result (out.new.items ≡ out.old.items) }
+        ensures err { IfErr result (λ e. e ≡ Memory) }
+        ensures left { OnErr result (out.new.items ≡ out.old.items) }
     {
         self.written()?.append_to(out)
     }
 
     /// The message's wire bytes. Refused as `encode` is.
-    pub fn encode_to_vec(&self) -> Result<Vec<u8>, WireError> {
+    pub fn encode_to_vec(&self) -> Result<Vec<u8>, WireError>
+        ensures err { IfErr result (λ e. e ≡ Memory) }
+    {
         Ok(self.written()?.into_bytes())
     }
 
-    fn written(&self) -> Result<Backward, WireError> {
+    fn written(&self) -> Result<Backward, WireError>
+        ensures err { IfErr result (λ e. e ≡ Memory) }
+    {
         let mut written = Backward::new(self.allocator());
         put_message(&mut written, self)?;
         Ok(written)
@@ -112,7 +127,8 @@ impl<'p> DynamicMessage<'p> {
     /// A copy.
     #[cycle(clone)]
     pub fn clone(&self) -> Result<DynamicMessage<'p>, AllocError>
-        ensures { IfOk result (λ m. m.descriptor ≡ self.now.descriptor) }
+        ensures same_type { IfOk result (λ m. m.descriptor ≡ self.now.descriptor) }
+        ensures unknown { IfOk result (λ m. unknown_of m ≡ unknown_of self.now) }
     {
         Ok(DynamicMessage {
             descriptor: self.descriptor,

@@ -1,7 +1,12 @@
 //! What a message holds, apart from its type.
 
-ghost use Rattle.std.specs.Prelude.{◌≡◌, [], OnErr};
+ghost use Rattle.std.specs.Prelude.{◌≡◌, ◌⊎◌, ℕ, [], None, IfOk, OnErr};
+ghost use Rattle.std.specs.Option.{IsSome};
+ghost use Rattle.reflect_entries.specs.Entries.{value_at};
 ghost use Rattle.reflect_entries.specs.Undeclared.{undeclared};
+ghost use Rattle.reflect_pool.specs.FieldsLeft.{field_type};
+ghost use Rattle.reflect_dynamic.specs.Held.{unknown_in};
+ghost use Rattle.reflect_dynamic.specs.Spares.{Same};
 
 use crate::value::Value;
 use reflect_entries::{Choices, Entries, UnknownRecords};
@@ -20,7 +25,9 @@ pub enum Held<'p> {
 impl<'p> Held<'p> {
     /// A copy.
     #[cycle(clone)]
-    pub fn clone(&self, alloc: Global) -> Result<Held<'p>, AllocError> {
+    pub fn clone(&self, alloc: Global) -> Result<Held<'p>, AllocError>
+        ensures unknown { IfOk result (λ copy. unknown_in copy ≡ unknown_in self.now) }
+    {
         match self {
             Held::Nothing => Ok(Held::Nothing),
             Held::Block(parts) => Ok(Held::Block(Box::new(alloc, Parts::clone(parts, alloc)?)?)),
@@ -59,7 +66,9 @@ impl<'p> Parts<'p> {
 
     /// A copy.
     #[cycle(clone)]
-    pub fn clone(&self, alloc: Global) -> Result<Parts<'p>, AllocError> {
+    pub fn clone(&self, alloc: Global) -> Result<Parts<'p>, AllocError>
+        ensures unknown { IfOk result (λ copy. undeclared copy.unknown ≡ undeclared self.now.unknown) }
+    {
         Ok(Parts {
             fields: entries_clone(alloc, &self.fields)?,
             choices: self.choices.clone()?,
@@ -96,7 +105,11 @@ impl<'p> Parts<'p> {
     }
 
     /// Unsets the other members of the oneof of a field, for whose choice there is room.
-    pub fn clear_siblings(&mut self, field: &FieldDescriptor<'p>) {
+    pub fn clear_siblings(&mut self, field: &FieldDescriptor<'p>)
+        ensures fields { (n : ℕ) → Same self.old.fields self.new.fields n ⊎ ((value_at self.new.fields n ≡ None) × IsSome (field_type field.now).oneof) }
+        ensures extensions { self.new.extensions ≡ self.old.extensions }
+        ensures unknown { self.new.unknown ≡ self.old.unknown }
+    {
         if let Some(sibling) = self.choices.choose(field) {
             self.fields.take(sibling);
         }

@@ -1,3 +1,7 @@
+ghost use Rattle.std.specs.Prelude.{◌≡◌, Some, IfOk, option_map};
+ghost use Rattle.reflect_scalar.specs.Singles.{scalar_view};
+ghost use Rattle.reflect_dynamic.specs.Singles.{single};
+
 use crate::message::DynamicMessage;
 use reflect_scalar::{MapKey, Scalar};
 use std::alloc::{AllocError, Global};
@@ -30,7 +34,9 @@ pub enum Value<'p> {
 
 impl<'p> Value<'p> {
     /// The value as a single one, `None` of a message, a list or a map.
-    pub(crate) fn as_scalar(&self) -> Option<Scalar<'_>> {
+    pub(crate) fn as_scalar(&self) -> Option<Scalar<'_>>
+        ensures { option_map scalar_view result ≡ single self.now }
+    {
         match self {
             Value::Bool(truth) => Some(Scalar::Bool(*truth)),
             Value::I32(n) => Some(Scalar::I32(*n)),
@@ -46,7 +52,9 @@ impl<'p> Value<'p> {
 
     /// A value that owns its text or bytes.
     #[inline]
-    pub(crate) fn from_scalar(alloc: Global, scalar: Scalar<'_>) -> Result<Value<'p>, AllocError> {
+    pub(crate) fn from_scalar(alloc: Global, scalar: Scalar<'_>) -> Result<Value<'p>, AllocError>
+        ensures { IfOk result (λ v. single v ≡ Some (scalar_view scalar.entry)) }
+    {
         match scalar {
             Scalar::Bool(truth) => Ok(Value::Bool(truth)),
             Scalar::I32(n) => Ok(Value::I32(n)),

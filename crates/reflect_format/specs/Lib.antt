@@ -1,4 +1,5 @@
 pub mod Left
 pub mod Number
 pub mod Radix
+pub mod Refusals
 pub mod Takes

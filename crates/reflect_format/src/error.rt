@@ -1,3 +1,5 @@
+ghost use Rattle.std.specs.Prelude.{◌≡◌};
+
 use std::alloc::{AllocError, AllocFailed, Global};
 use std::error::Error;
 use std::fmt;
@@ -247,12 +249,20 @@ impl fmt::Display for ParseErrorKind {
 }
 
 impl From<AllocError> for ParseErrorKind {
+    ghost use Rattle.reflect_format.specs.declared.error.ParseErrorKind.TheVariants.{Memory};
+
+    ghost from_gives = { λ _ e. e ≡ Memory };
+
     fn from(_error: AllocError) -> ParseErrorKind {
         ParseErrorKind::Memory
     }
 }
 
 impl<T: Drop> From<AllocFailed<T>> for ParseErrorKind {
+    ghost use Rattle.reflect_format.specs.declared.error.ParseErrorKind.TheVariants.{Memory};
+
+    ghost from_gives = { λ _ e. e ≡ Memory };
+
     fn from(_error: AllocFailed<T>) -> ParseErrorKind {
         ParseErrorKind::Memory
     }

@@ -1,5 +1,8 @@
 //! Faults with the names and numbers that they tell.
 
+ghost use Rattle.std.specs.Prelude.{◌≡◌, IfOk, true};
+ghost use Rattle.reflect_format.specs.Refusals.{is_of_text, TellsField, TellsFloatField, TellsOneof, TellsSet, TellsValue};
+
 use crate::error::ParseErrorKind;
 use crate::number::{IntegerRange, Literal};
 use reflect_link::{EnumDescriptor, MessageDescriptor, OneofDescriptor};
@@ -12,7 +15,9 @@ pub fn unknown_field(
     name: &str,
     descriptor: MessageDescriptor<'_>,
     span: Span,
-) -> Result<ParseErrorKind, AllocError> {
+) -> Result<ParseErrorKind, AllocError>
+    ensures { IfOk result (TellsField descriptor.entry name.now) }
+{
     Ok(ParseErrorKind::FieldNotFound {
         field_name: String::from_str(alloc, name)?,
         message_name: String::from_str(alloc, descriptor.full_name())?,
@@ -48,7 +53,9 @@ pub fn float_field(
     name: &str,
     descriptor: MessageDescriptor<'_>,
     span: Span,
-) -> Result<ParseErrorKind, AllocError> {
+) -> Result<ParseErrorKind, AllocError>
+    ensures { IfOk result (TellsFloatField descriptor.entry name.now) }
+{
     Ok(ParseErrorKind::FloatField {
         field_name: String::from_str(alloc, name)?,
         message_name: String::from_str(alloc, descriptor.full_name())?,
@@ -57,7 +64,9 @@ pub fn float_field(
 }
 
 /// The field holds a value.
-pub fn already_set(alloc: Global, name: &str, span: Span) -> Result<ParseErrorKind, AllocError> {
+pub fn already_set(alloc: Global, name: &str, span: Span) -> Result<ParseErrorKind, AllocError>
+    ensures { IfOk result (TellsSet name.now) }
+{
     Ok(ParseErrorKind::FieldAlreadySet {
         field_name: String::from_str(alloc, name)?,
         span,
@@ -69,7 +78,9 @@ pub fn oneof_already_set(
     alloc: Global,
     oneof: OneofDescriptor<'_>,
     span: Span,
-) -> Result<ParseErrorKind, AllocError> {
+) -> Result<ParseErrorKind, AllocError>
+    ensures { IfOk result (TellsOneof oneof.entry) }
+{
     Ok(ParseErrorKind::OneofAlreadySet {
         oneof_name: String::from_str(alloc, oneof.name())?,
         span,
@@ -82,7 +93,9 @@ pub fn unknown_enum_value(
     name: &str,
     descriptor: EnumDescriptor<'_>,
     span: Span,
-) -> Result<ParseErrorKind, AllocError> {
+) -> Result<ParseErrorKind, AllocError>
+    ensures { IfOk result (TellsValue descriptor.entry name.now) }
+{
     Ok(ParseErrorKind::EnumValueNotFound {
         value_name: String::from_str(alloc, name)?,
         enum_name: String::from_str(alloc, descriptor.full_name())?,
@@ -95,7 +108,9 @@ pub fn out_of_range(
     alloc: Global,
     range: IntegerRange,
     literal: Literal<'_>,
-) -> Result<ParseErrorKind, AllocError> {
+) -> Result<ParseErrorKind, AllocError>
+    ensures { IfOk result (λ kind. is_of_text kind ≡ true) }
+{
     let sign = if literal.is_negative { "-" } else { "" };
     let digits = literal.int.digits;
     Ok(ParseErrorKind::IntegerValueOutOfRange {

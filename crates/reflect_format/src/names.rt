@@ -1,6 +1,7 @@
 //! How a text names fields.
 
-ghost use Rattle.std.specs.Prelude.{◌<◌, ◌≤◌, IfOk};
+ghost use Rattle.std.specs.Prelude.{◌≡◌, ◌<◌, ◌≤◌, IfErr, IfOk, true};
+ghost use Rattle.reflect_format.specs.Refusals.{is_of_text};
 
 use crate::error::ParseErrorKind;
 use crate::tokens::{Tokens, through};
@@ -28,7 +29,8 @@ impl<'a> Tokens<'a> {
 
     /// A name, and where it stands with its brackets.
     pub fn name(&mut self) -> Result<(Name<'a>, Span), ParseErrorKind>
-        ensures { IfOk result (λ _. left self.new < left self.old) }
+        ensures taken { IfOk result (λ _. left self.new < left self.old) }
+        ensures refused { IfErr result (λ kind. is_of_text kind ≡ true) }
     {
         if let Some((name, span)) = self.ident() {
             return Ok((Name::Field(name), span));
@@ -56,7 +58,8 @@ impl<'a> Tokens<'a> {
 
     /// Words with dots between them.
     fn full_name(&mut self) -> Result<String, ParseErrorKind>
-        ensures { IfOk result (λ _. left self.new < left self.old) }
+        ensures taken { IfOk result (λ _. left self.new < left self.old) }
+        ensures refused { IfErr result (λ kind. is_of_text kind ≡ true) }
     {
         let Some((first, _)) = self.ident() else {
             return Err(self.refuse("an identifier"));
@@ -74,7 +77,8 @@ impl<'a> Tokens<'a> {
 
     /// A colon, which a brace may stand without.
     pub fn separator(&mut self) -> Result<(), ParseErrorKind>
-        ensures { left self.new ≤ left self.old }
+        ensures more { left self.new ≤ left self.old }
+        ensures refused { IfErr result (λ kind. is_of_text kind ≡ true) }
     {
         let is_brace = self.is_at(Token::LeftBrace) || self.is_at(Token::LeftAngleBracket);
         if is_brace || self.eat(Token::Colon).is_some() {

@@ -2,7 +2,8 @@
 
 ghost use Rattle.reflect_format.specs.Left.{left};
 ghost use Rattle.reflect_format.specs.Takes.{Takes};
-ghost use Rattle.std.specs.Prelude.{◌<◌, IfOk, OnOk};
+ghost use Rattle.reflect_format.specs.Refusals.{RefusesScalar, RefusesSecond};
+ghost use Rattle.std.specs.Prelude.{◌<◌, IfErr, IfOk, OnOk};
 
 use crate::error::{ParseError, ParseErrorKind};
 use crate::fault::{already_set, oneof_already_set, unknown_message};
@@ -97,13 +98,27 @@ fn assignment<'p>(
         return Ok(target.add(tokens.alloc, message, values)?);
     }
     let (value, span) = value(tokens, target.kind(), braces)?;
-    if target.is_set(message) {
-        return Err(already_set(tokens.alloc, target.text_name(), span)?);
-    }
-    if let Some(oneof) = target.rival(message) {
-        return Err(oneof_already_set(tokens.alloc, oneof, span)?);
-    }
+    refuse_second(tokens.alloc, message, target, span)?;
     Ok(target.set(message, value)?)
+}
+
+/// Refused where the message holds a value of the target already, or of another field of its oneof.
+fn refuse_second<'p>(
+    alloc: Global,
+    message: &DynamicMessage<'p>,
+    target: Target<'p>,
+    span: Span,
+) -> Result<(), ParseErrorKind>
+    requires { Takes message.now.descriptor target }
+    ensures { IfErr result (RefusesSecond message.now target.entry) }
+{
+    if target.is_set(message) {
+        return Err(already_set(alloc, target.text_name(), span)?);
+    }
+    match target.rival(message) {
+        Some(oneof) => Err(oneof_already_set(alloc, oneof, span)?),
+        None => Ok(()),
+    }
 }
 
 /// The values of a list or a map: a list in brackets, or one value.
@@ -200,7 +215,8 @@ fn scalar_value<'p>(
     tokens: &mut Tokens<'_>,
     kind: Kind<'p>,
 ) -> Result<(Value<'p>, Span), ParseErrorKind>
-    ensures { IfOk result (λ _. left tokens.new < left tokens.old) }
+    ensures taken { IfOk result (λ _. left tokens.new < left tokens.old) }
+    ensures refused { IfErr result (RefusesScalar kind.entry) }
 {
     match kind {
         Kind::Int32 | Kind::Sint32 | Kind::Sfixed32 => {

@@ -1,6 +1,7 @@
 //! Values that are no messages.
 
-ghost use Rattle.std.specs.Prelude.{◌<◌, IfOk};
+ghost use Rattle.std.specs.Prelude.{◌≡◌, ◌<◌, IfOk, IfErr, true};
+ghost use Rattle.reflect_format.specs.Refusals.{is_of_text, RefusesValue};
 
 use crate::error::ParseErrorKind;
 use crate::fault::{out_of_range, unknown_enum_value};
@@ -16,7 +17,8 @@ impl<'a> Tokens<'a> {
 
     /// An integer with its sign.
     fn integer(&mut self) -> Result<Literal<'a>, ParseErrorKind>
-        ensures { IfOk result (λ _. left self.new < left self.old) }
+        ensures taken { IfOk result (λ _. left self.new < left self.old) }
+        ensures refused { IfErr result (λ kind. is_of_text kind ≡ true) }
     {
         let minus = self.eat(Token::Minus);
         let Some(lexeme) = self.peek() else {
@@ -38,7 +40,8 @@ impl<'a> Tokens<'a> {
     }
 
     pub fn signed_32(&mut self) -> Result<(i32, Span), ParseErrorKind>
-        ensures { IfOk result (λ _. left self.new < left self.old) }
+        ensures taken { IfOk result (λ _. left self.new < left self.old) }
+        ensures refused { IfErr result (λ kind. is_of_text kind ≡ true) }
     {
         let literal = self.integer()?;
         match literal.number().and_then(|number| number.as_i32()) {
@@ -48,7 +51,8 @@ impl<'a> Tokens<'a> {
     }
 
     pub fn signed_64(&mut self) -> Result<(i64, Span), ParseErrorKind>
-        ensures { IfOk result (λ _. left self.new < left self.old) }
+        ensures taken { IfOk result (λ _. left self.new < left self.old) }
+        ensures refused { IfErr result (λ kind. is_of_text kind ≡ true) }
     {
         let literal = self.integer()?;
         match literal.number().and_then(|number| number.as_i64()) {
@@ -58,7 +62,8 @@ impl<'a> Tokens<'a> {
     }
 
     pub fn unsigned_32(&mut self) -> Result<(u32, Span), ParseErrorKind>
-        ensures { IfOk result (λ _. left self.new < left self.old) }
+        ensures taken { IfOk result (λ _. left self.new < left self.old) }
+        ensures refused { IfErr result (λ kind. is_of_text kind ≡ true) }
     {
         let literal = self.integer()?;
         match literal.number().and_then(|number| number.as_u32()) {
@@ -68,7 +73,8 @@ impl<'a> Tokens<'a> {
     }
 
     pub fn unsigned_64(&mut self) -> Result<(u64, Span), ParseErrorKind>
-        ensures { IfOk result (λ _. left self.new < left self.old) }
+        ensures taken { IfOk result (λ _. left self.new < left self.old) }
+        ensures refused { IfErr result (λ kind. is_of_text kind ≡ true) }
     {
         let literal = self.integer()?;
         match literal.number().and_then(|number| number.as_u64()) {
@@ -79,7 +85,8 @@ impl<'a> Tokens<'a> {
 
     /// A truth value: a word for it, or 0 or 1.
     pub fn truth(&mut self) -> Result<(bool, Span), ParseErrorKind>
-        ensures { IfOk result (λ _. left self.new < left self.old) }
+        ensures taken { IfOk result (λ _. left self.new < left self.old) }
+        ensures refused { IfErr result (λ kind. is_of_text kind ≡ true) }
     {
         let Some(lexeme) = self.peek() else {
             return Err(self.refuse("'true' or 'false'"));
@@ -103,7 +110,8 @@ impl<'a> Tokens<'a> {
         &mut self,
         descriptor: EnumDescriptor<'_>,
     ) -> Result<(i32, Span), ParseErrorKind>
-        ensures { IfOk result (λ _. left self.new < left self.old) }
+        ensures taken { IfOk result (λ _. left self.new < left self.old) }
+        ensures refused { IfErr result (RefusesValue descriptor.entry) }
     {
         if let Some((name, span)) = self.ident() {
             return match descriptor.get_value_by_name(name) {
@@ -121,7 +129,8 @@ impl<'a> Tokens<'a> {
 
     /// The bytes of adjacent string literals. The token behind them is then known to be one.
     pub fn bytes(&mut self) -> Result<(Vec<u8>, Span), ParseErrorKind>
-        ensures { IfOk result (λ _. left self.new < left self.old) }
+        ensures taken { IfOk result (λ _. left self.new < left self.old) }
+        ensures refused { IfErr result (λ kind. is_of_text kind ≡ true) }
     {
         let Some((raw, first)) = self.string() else {
             return Err(self.refuse("a string"));
@@ -138,7 +147,8 @@ impl<'a> Tokens<'a> {
 
     /// The text of adjacent string literals.
     pub fn text(&mut self) -> Result<(String, Span), ParseErrorKind>
-        ensures { IfOk result (λ _. left self.new < left self.old) }
+        ensures taken { IfOk result (λ _. left self.new < left self.old) }
+        ensures refused { IfErr result (λ kind. is_of_text kind ≡ true) }
     {
         let (bytes, span) = self.bytes()?;
         match String::from_utf8(bytes) {

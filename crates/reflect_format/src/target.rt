@@ -1,7 +1,8 @@
 //! Fields and extensions alike, as a text sets them.
 
-ghost use Rattle.std.specs.Prelude.{◌≡◌, IfOk, IfSome};
+ghost use Rattle.std.specs.Prelude.{◌≡◌, IfErr, IfNone, IfOk, IfSome, IsTrue};
 ghost use Rattle.reflect_dynamic.specs.Declares.{Declares};
+ghost use Rattle.reflect_format.specs.Refusals.{Holds, LacksField, RefusesField};
 ghost use Rattle.reflect_format.specs.Takes.{Takes};
 
 use crate::error::ParseErrorKind;
@@ -29,7 +30,8 @@ impl<'p> Target<'p> {
         name: &str,
         span: Span,
     ) -> Result<Target<'p>, ParseErrorKind>
-        ensures { IfOk result (Takes descriptor.entry) }
+        ensures takes { IfOk result (Takes descriptor.entry) }
+        ensures refused { IfErr result (RefusesField descriptor.entry name.now) }
     {
         let Some(field) = field_by_text_name(alloc, descriptor, name)? else {
             return Err(unknown_field(alloc, name, descriptor, span)?);
@@ -106,6 +108,7 @@ impl<'p> Target<'p> {
     /// The message holds a value of it.
     pub fn is_set(&self, message: &DynamicMessage<'p>) -> bool
         requires { Takes message.now.descriptor self.now }
+        ensures { IsTrue result → Holds message.now self.now }
     {
         match self {
             Target::Field(field) => message.has_field(field),
@@ -221,13 +224,35 @@ fn field_by_text_name<'p>(
     descriptor: MessageDescriptor<'p>,
     name: &str,
 ) -> Result<Option<FieldDescriptor<'p>>, AllocError>
+    ensures message { IfOk result (λ found. IfSome found (λ f. f.message ≡ descriptor.entry)) }
+    ensures lacks { IfOk result (λ found. IfNone found (LacksField descriptor.entry name.now)) }
+{
+    match plain_field(descriptor, name) {
+        Some(field) => Ok(Some(field)),
+        None => group_field(alloc, descriptor, name),
+    }
+}
+
+/// The field of a name that is no group.
+fn plain_field<'p>(descriptor: MessageDescriptor<'p>, name: &str) -> Option<FieldDescriptor<'p>>
+    ensures message { IfSome result (λ f. f.message ≡ descriptor.entry) }
+    ensures lacks { IfNone result (LacksField descriptor.entry name.now) }
+{
+    let field = descriptor.get_field_by_name(name)?;
+    if field.is_group() {
+        return None;
+    }
+    Some(field)
+}
+
+/// The group whose type has the name.
+fn group_field<'p>(
+    alloc: Global,
+    descriptor: MessageDescriptor<'p>,
+    name: &str,
+) -> Result<Option<FieldDescriptor<'p>>, AllocError>
     ensures { IfOk result (λ found. IfSome found (λ f. f.message ≡ descriptor.entry)) }
 {
-    if let Some(field) = descriptor.get_field_by_name(name) {
-        if !field.is_group() {
-            return Ok(Some(field));
-        }
-    }
     let lower = name.to_ascii_lowercase(alloc)?;
     let Some(field) = descriptor.get_field_by_name(lower.as_str()) else {
         return Ok(None);

@@ -1,6 +1,7 @@
 //! A text, one token ahead.
 
-ghost use Rattle.std.specs.Prelude.{◌≡◌, ◌<◌, ◌≤◌, ◌-◌, IfSome, Some, Ok};
+ghost use Rattle.std.specs.Prelude.{◌≡◌, ◌<◌, ◌≤◌, ◌-◌, IfErr, IfSome, Some, Ok, true};
+ghost use Rattle.reflect_format.specs.Refusals.{is_of_text};
 
 use crate::error::ParseErrorKind;
 use std::alloc::Global;
@@ -144,7 +145,9 @@ impl<'a> Tokens<'a> {
     }
 
     /// Refused where no token can be read next.
-    pub fn no_fault(&self) -> Result<(), ParseErrorKind> {
+    pub fn no_fault(&self) -> Result<(), ParseErrorKind>
+        ensures { IfErr result (λ kind. is_of_text kind ≡ true) }
+    {
         match self.ahead {
             Ok(_) => Ok(()),
             Err(error) => Err(lexical_fault(error)),
@@ -152,7 +155,9 @@ impl<'a> Tokens<'a> {
     }
 
     /// Why the next token is refused.
-    pub fn refuse(&self, expected: &'static str) -> ParseErrorKind {
+    pub fn refuse(&self, expected: &'static str) -> ParseErrorKind
+        ensures { is_of_text result ≡ true }
+    {
         match self.ahead {
             Ok(None) => ParseErrorKind::UnexpectedEof { expected },
             Ok(Some(lexeme)) => {
@@ -171,7 +176,9 @@ impl<'a> Tokens<'a> {
     }
 }
 
-fn lexical_fault(error: LexError) -> ParseErrorKind {
+fn lexical_fault(error: LexError) -> ParseErrorKind
+    ensures { is_of_text result ≡ true }
+{
     match error {
         LexError::InvalidToken(span) => ParseErrorKind::InvalidToken { span },
         LexError::InvalidStringCharacters(span) => ParseErrorKind::InvalidStringCharacters { span },

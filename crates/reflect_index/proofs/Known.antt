@@ -1,19 +1,17 @@
 -- The names that a walk without faults makes known, and the places that they stand for.
-use Rattle.std.proofs.Common.{◌≡◌, ℕ, ℤ, ◌+◌, ◌≤◌, List, [], ◌∷◌, ◌++◌, length, map, Bool, true, false, cond, ◌&&◌, Option, Some, None, is_some, ◌⊎◌, inl, inr, ⊎_elim, ap, sym, subst, ◌∙◌, arith, refl, bytes_eq, Decides}
+use Rattle.std.proofs.Common.{◌≡◌, ℕ, ℤ, ◌+◌, List, [], ◌∷◌, ◌++◌, length, Bool, true, false, cond, Option, Some, None, ap, sym, subst, ◌∙◌, arith, refl, bytes_eq}
 use Rattle.std.proofs.lemmas.List.{append-nil}
 use Rattle.std.proofs.Math.ListN.{length-append}
 use Rattle.std.specs.Map.{update}
-use Rattle.std.specs.List.{AllByRecursion}
 use Rattle.std.specs.Cmp.Lexicographic.{bytes_decides}
 use Rattle.reflect_scope.specs.Means.{scopes}
 use Rattle.reflect_scope.specs.declared.definition.Definition.{Definition}
-use Rattle.reflect_scope.specs.declared.definition.DefinitionKind.{DefinitionKind}
 use Rattle.reflect_walk.specs.Tree.{text_of}
 use Rattle.reflect_walk.specs.declared.visit_parts.Offsets.{Offsets}
 use Rattle.reflect_walk.specs.Declarations.{Declaration, Body, of_file, of_message, of_field, of_oneof, of_enum, of_enum_value, of_service, of_method, of_extension}
 use Rattle.reflect_names.specs.Known.{Known, declared, is_taken, is_package, may_repeat}
 use Rattle.reflect_names.specs.Faults.{Fault}
-use Rattle.reflect_names.specs.Names.{Places, name_faults, named, packages, package_of, definition_of, faults_at, known_after}
+use Rattle.reflect_names.specs.Names.{Places, name_faults, named, packages, package_of, faults_at, known_after}
 use Rattle.reflect_names.specs.NamePass.{known_behind, faults_along}
 use Rattle.reflect_index.specs.Names.{Sort, messages, enums, extensions, services, FullName, AreFound, found, is_of, with_file, place_in, place_of, with_name, with_names}
 use Rattle.reflect_index.proofs.Founds.{found_same, found_more}

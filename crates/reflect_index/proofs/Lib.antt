@@ -7,3 +7,5 @@ pub mod Known
 pub mod Orders
 pub mod IndexRuns
 pub mod Batched
+pub mod Members
+pub mod Valued

@@ -1,11 +1,10 @@
 -- Full names whose files ascend, and those of the first files.
 use Rattle.std.proofs.Common.{◌≡◌, ℕ, zero, suc, ◌<◌, ◌≤◌, List, [], ◌∷◌, ◌++◌, Bool, true, false, cond, nat_lt, Option, Some, None, slice_get, ap, sym, subst, ◌∙◌, arith, refl}
 use Rattle.std.specs.List.{filter, AllByRecursion}
-use Rattle.std.proofs.lemmas.Option.{same_Some, some_pair_parts}
+use Rattle.std.proofs.lemmas.Option.{same_Some}
 use Rattle.reflect_walk.specs.Declarations.{Declaration}
 use Rattle.reflect_walk.specs.declared.visit_parts.Offsets.{Offsets}
 use Rattle.reflect_scope.specs.declared.definition.Definition.{Definition}
-use Rattle.reflect_scope.specs.declared.definition.DefinitionKind.{DefinitionKind}
 use Rattle.reflect_index.specs.Names.{Sort, with_file, FullName, AreFound, AreInOrder, place_in, place_of, is_of, with_name, with_names}
 use Rattle.reflect_index.proofs.Counted.{AreNext, past_one}
 

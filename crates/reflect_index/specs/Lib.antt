@@ -1,4 +1,5 @@
 pub mod Cut
+pub mod OfDeclarations
 pub mod Finding
 pub mod Growth
 pub mod Index
@@ -7,3 +8,4 @@ pub mod Views
 pub mod DraftNames
 pub mod IndexSteps
 pub mod Names
+pub mod Members

@@ -1,6 +1,6 @@
 -- What a pool holds: files, message types with their fields and oneofs, enum types with their values, extensions and services,
 -- each at its place.
-use Rattle.std.specs.Prelude.{◌^◌, ℕ, ℤ, ◌<◌, List, [], length, Bool, false, Option, None, Some, slice_index_or}
+use Rattle.std.specs.Prelude.{◌≡◌, ◌==◌, ◌+◌, ◌^◌, ℕ, ℤ, ◌<◌, List, [], ◌∷◌, length, Bool, false, cond, Option, None, Some, slice_index_or}
 use Rattle.std.specs.List.{All, AllByRecursion}
 use Rattle.reflect_index.specs.declared.kind.Cardinality.{Cardinality}
 use Rattle.reflect_index.specs.declared.kind.Cardinality.TheVariants.{Optional}
@@ -111,6 +111,26 @@ IsAmong count (Some place) = place < count
 abbrev pub HaveMembers : ℕ → List OneofType → Type 0
 HaveMembers fields oneofs = AllByRecursion (λ o. All (λ place. place < fields) o.fields) oneofs
 
+-- the field is a member of the oneof
+abbrev pub is_member : ℕ → FieldType → Bool
+is_member oneof f = elim f.oneof [ None ↦ false | Some k ↦ oneof == k ]
+
+-- the places of the oneof's members among fields, the first of which has this place
+abbrev pub members_from : ℕ → ℕ → List FieldType → List ℕ
+members_from place oneof [] = []
+members_from place oneof (f ∷ fs) = cond (is_member oneof f) (place ∷ members_from (place + 1) oneof fs) (members_from (place + 1) oneof fs)
+
+-- what stands for a oneof that is not there
+abbrev pub no_oneof : OneofType
+no_oneof = record { name = []; full_name = []; fields = []; synthetic = false }
+
+-- each oneof lists its members
+abbrev pub AreListed : List OneofType → List FieldType → Type 0
+AreListed oneofs fields = (k : ℕ) → k < length oneofs → (slice_index_or oneofs k no_oneof).fields ≡ members_from 0 k fields
+
+abbrev pub ListsMembers : MessageType → Type 0
+ListsMembers m = AreListed m.oneofs m.fields
+
 -- the parts of a map's entry are there
 abbrev pub HasParts : ℕ → Option StoredEntry → Type 0
 HasParts fields None = Unit {0}
@@ -147,6 +167,7 @@ pub record ServiceWithin (c : Counts) (s : ServiceType) : Type 0 where
 
 pub record ArePooled (p : PoolType) : Type 0 where
   pub messages : AllByRecursion (MessageWithin (counts_of p)) p.messages
+  pub listed : AllByRecursion ListsMembers p.messages
   pub enums : AllByRecursion (EnumWithin (counts_of p)) p.enums
   pub extensions : AllByRecursion (ExtensionWithin (counts_of p)) p.extensions
   pub services : AllByRecursion (ServiceWithin (counts_of p)) p.services
@@ -158,9 +179,6 @@ no_type = record { name = []; full_name = []; file = 0; parent = None; fields = 
 
 abbrev pub no_field : FieldType
 no_field = record { name = []; full_name = []; json_name = None; number = 0; kind = int32; cardinality = Optional; group = false; packed = false; presence = false; oneof = None }
-
-abbrev pub no_oneof : OneofType
-no_oneof = record { name = []; full_name = []; fields = []; synthetic = false }
 
 abbrev pub no_enum : EnumType
 no_enum = record { name = []; full_name = []; file = 0; parent = None; values = [] }

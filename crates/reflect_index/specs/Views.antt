@@ -2,6 +2,7 @@
 use Rattle.std.specs.Prelude.{List, ℕ, [], map, String, string_bytes, Option, Some, None}
 use Rattle.std.specs.declared.alloc.Global.{Global}
 use Rattle.reflect_index.specs.Types.{FieldType, OneofType, FileType, MessageType, EnumType, ValueType, ExtensionType, MethodType, ServiceType, PoolType, KindType, double, float, int32, int64, uint32, uint64, sint32, sint64, fixed32, fixed64, sfixed32, sfixed64, bool, string, bytes, message, enumeration}
+use Rattle.descriptor_records.specs.declared.file.FileDescriptorProto.{FileDescriptorProto}
 use Rattle.reflect_index.specs.declared.stored.StoredKind.{StoredKind}
 use Rattle.reflect_index.specs.declared.stored.StoredKind.TheVariants as kinds
 use Rattle.reflect_index.specs.declared.stored.StoredField.{StoredField}
@@ -68,8 +69,11 @@ abbrev pub text_of : Option (String Global) → List ℕ
 text_of None = []
 text_of (Some s) = string_bytes s
 
+abbrev pub record_file : FileDescriptorProto → FileType
+record_file f = record { name = text_of f.name }
+
 abbrev pub file_of : StoredFile → FileType
-file_of f = record { name = text_of f.record.name }
+file_of f = record_file f.record
 
 abbrev pub pool_of : Tables → PoolType
 pool_of t = record { files = map file_of t.files.items; messages = map message_of t.messages.items; enums = map enum_of t.enums.items; extensions = map extension_of t.extensions.items; services = map service_of t.services.items }

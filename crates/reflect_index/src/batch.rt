@@ -1,4 +1,5 @@
-ghost use Rattle.std.specs.Prelude.{◌≡◌, length, IfOk};
+ghost use Rattle.std.specs.Prelude.{◌≡◌, map, IfOk};
+ghost use Rattle.reflect_index.specs.Views.{file_of, record_file};
 
 use crate::stored::{
     Declared, StoredEnum, StoredExtension, StoredFile, StoredMessage, StoredService,
@@ -25,7 +26,7 @@ impl Batch {
         alloc: Global,
         records: Vec<FileDescriptorProto>,
     ) -> Result<Tables, VisitError>
-        ensures files { IfOk result (λ t. length t.files.items ≡ length records.items) }
+        ensures files { IfOk result (λ t. map file_of t.files.items ≡ map record_file records.items) }
         ensures messages { IfOk result (λ t. t.messages.items ≡ self.messages.items) }
         ensures enums { IfOk result (λ t. t.enums.items ≡ self.enums.items) }
         ensures extensions { IfOk result (λ t. t.extensions.items ≡ self.extensions.items) }
@@ -54,7 +55,7 @@ fn stored_files(
     records: Vec<FileDescriptorProto>,
     declared: Vec<Declared>,
 ) -> Result<Vec<StoredFile>, VisitError>
-    ensures { IfOk result (λ v. length v.items ≡ length records.items) }
+    ensures { IfOk result (λ v. map file_of v.items ≡ map record_file records.items) }
 {
     let mut stored = Vec::with_capacity(alloc, records.len())?;
     let mut rest = declared.into_iter();

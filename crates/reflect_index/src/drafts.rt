@@ -54,6 +54,10 @@ pub struct Drafts {
 
 impl Drafts {
     ghost use Rattle.std.specs.Prelude.{◌≡◌, [], map, IfOk};
+    ghost use Rattle.std.specs.List.{AllByRecursion};
+    ghost use Rattle.reflect_index.specs.Types.{ListsMembers};
+    ghost use Rattle.reflect_index.specs.Views.{message_of};
+    ghost use Rattle.reflect_index.specs.OfDeclarations.{draft_ranges, draft_values, stored_ranges, stored_values};
     ghost use Rattle.reflect_index.specs.DraftNames.{draft_name, enum_draft_name, stored_message_name, stored_enum_name};
 
     /// No entries. Takes no memory.
@@ -76,8 +80,11 @@ impl Drafts {
     pub fn finished(self, alloc: Global) -> Result<Batch, VisitError>
         ensures messages { IfOk result (λ b. map stored_message_name b.messages.items ≡ map draft_name self.messages.items) }
         ensures enums { IfOk result (λ b. map stored_enum_name b.enums.items ≡ map enum_draft_name self.enums.items) }
+        ensures listed { IfOk result (λ b. AllByRecursion ListsMembers (map message_of b.messages.items)) }
         ensures extensions { IfOk result (λ b. b.extensions.items ≡ self.extensions.items) }
         ensures services { IfOk result (λ b. b.services.items ≡ self.services.items) }
+        ensures ranges { IfOk result (λ b. map stored_ranges b.messages.items ≡ map draft_ranges self.messages.items) }
+        ensures values { IfOk result (λ b. map stored_values b.enums.items ≡ map draft_values self.enums.items) }
     {
         let Drafts {
             files,

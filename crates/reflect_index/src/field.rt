@@ -1,6 +1,7 @@
 //! What a field's record says about it, in the words of the pool.
 
 ghost use Rattle.std.specs.Prelude.{◌≡◌, IfOk, string_bytes};
+ghost use Rattle.reflect_walk.specs.Tree.{text_of as as_text};
 
 use crate::default::default_of;
 use crate::kind::{Cardinality, Syntax};
@@ -86,7 +87,9 @@ fn supports_presence(
 }
 
 /// A copy of the text, empty where it is missing.
-pub fn text_of(alloc: Global, text: &Option<String>) -> Result<String, AllocError> {
+pub fn text_of(alloc: Global, text: &Option<String>) -> Result<String, AllocError>
+    ensures { IfOk result (λ s. string_bytes s ≡ as_text text.now) }
+{
     match text {
         Some(text) => text.clone(),
         None => Ok(String::new(alloc)),

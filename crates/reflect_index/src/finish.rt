@@ -1,13 +1,18 @@
 //! What is known of a type once all of it was visited: what its parts are looked up by, members of oneofs, a map entry's parts.
 
-ghost use Rattle.std.specs.Prelude.{◌≡◌, map, IfOk};
+ghost use Rattle.std.specs.Prelude.{◌≡◌, [], map, OnOk, IfOk};
+ghost use Rattle.std.specs.List.{AllByRecursion};
+ghost use Rattle.reflect_index.specs.Members.{Joins};
+ghost use Rattle.reflect_index.specs.Types.{AreListed, ListsMembers};
+ghost use Rattle.reflect_index.specs.Views.{field_of, message_of, oneof_of};
+ghost use Rattle.reflect_index.specs.OfDeclarations.{draft_ranges, draft_values, stored_ranges, stored_values};
 ghost use Rattle.reflect_index.specs.DraftNames.{draft_name, enum_draft_name, stored_message_name, stored_enum_name};
 
 use crate::drafts::{EnumDraft, MessageDraft};
 use crate::lists::{FieldList, ValueList};
 use crate::stored::{StoredEntry, StoredEnum, StoredField, StoredMessage, StoredOneof};
 use reflect_names::VisitError;
-use std::alloc::Global;
+use std::alloc::{AllocError, Global};
 
 /// The key and the value of a map's entry: its fields of the numbers 1 and 2.
 fn entry_of(fields: &[StoredField]) -> Option<StoredEntry> {
@@ -28,23 +33,52 @@ fn entry_of(fields: &[StoredField]) -> Option<StoredEntry> {
     })
 }
 
+/// Leaves the oneofs without members.
+fn forget_members(oneofs: &mut Vec<StoredOneof>)
+    ensures { AreListed (map oneof_of oneofs.new.items) [] }
+{
+    'turns: for place in 0..oneofs.len() {
+        oneofs[place].fields.clear();
+    }
+}
+
+/// Lists the field at a place in its oneof, if it is in one.
+fn add_member(
+    oneofs: &mut Vec<StoredOneof>,
+    field: &StoredField,
+    place: u32,
+) -> Result<(), AllocError>
+    ensures { OnOk result (Joins (field_of field.now) place (map oneof_of oneofs.old.items) (map oneof_of oneofs.new.items)) }
+{
+    let Some(index) = field.oneof else {
+        return Ok(());
+    };
+    let index = index as usize;
+    if index < oneofs.len() {
+        let oneof = &mut oneofs[index];
+        oneof.is_synthetic = field.is_proto3_optional && oneof.fields.is_empty();
+        oneof.fields.push(place)?;
+    }
+    Ok(())
+}
+
 /// Lists the members of each oneof.
-fn list_members(fields: &[StoredField], oneofs: &mut Vec<StoredOneof>) -> Result<(), VisitError> {
+fn list_members(fields: &[StoredField], oneofs: &mut Vec<StoredOneof>) -> Result<(), VisitError>
+    ensures { OnOk result (AreListed (map oneof_of oneofs.new.items) (map field_of fields.now)) }
+{
+    forget_members(oneofs);
     let mut place: u32 = 0;
-    for field in fields {
-        if let Some(oneof) = field.oneof {
-            if let Some(oneof) = oneofs.get_mut(oneof as usize) {
-                oneof.is_synthetic = field.is_proto3_optional && oneof.fields.is_empty();
-                oneof.fields.push(place)?;
-            }
-        }
+    'turns: for field in fields {
+        add_member(oneofs, field, place)?;
         place = place.checked_add(1).ok_or(VisitError::TooMany)?;
     }
     Ok(())
 }
 
 fn finished_message(alloc: Global, draft: MessageDraft) -> Result<StoredMessage, VisitError>
-    ensures { IfOk result (λ m. stored_message_name m ≡ draft_name draft) }
+    ensures name { IfOk result (λ m. stored_message_name m ≡ draft_name draft) }
+    ensures listed { IfOk result (λ m. ListsMembers (message_of m)) }
+    ensures ranges { IfOk result (λ m. stored_ranges m ≡ draft_ranges draft) }
 {
     let MessageDraft {
         file,
@@ -82,7 +116,8 @@ fn finished_message(alloc: Global, draft: MessageDraft) -> Result<StoredMessage,
 }
 
 fn finished_enum(alloc: Global, draft: EnumDraft) -> Result<StoredEnum, VisitError>
-    ensures { IfOk result (λ e. stored_enum_name e ≡ enum_draft_name draft) }
+    ensures name { IfOk result (λ e. stored_enum_name e ≡ enum_draft_name draft) }
+    ensures values { IfOk result (λ e. stored_values e ≡ draft_values draft) }
 {
     let EnumDraft {
         file,
@@ -107,7 +142,9 @@ pub fn finished_messages(
     alloc: Global,
     drafts: Vec<MessageDraft>,
 ) -> Result<Vec<StoredMessage>, VisitError>
-    ensures { IfOk result (λ v. map stored_message_name v.items ≡ map draft_name drafts.items) }
+    ensures names { IfOk result (λ v. map stored_message_name v.items ≡ map draft_name drafts.items) }
+    ensures listed { IfOk result (λ v. AllByRecursion ListsMembers (map message_of v.items)) }
+    ensures ranges { IfOk result (λ v. map stored_ranges v.items ≡ map draft_ranges drafts.items) }
 {
     let mut messages = Vec::with_capacity(alloc, drafts.len())?;
     for draft in drafts {
@@ -118,7 +155,8 @@ pub fn finished_messages(
 
 /// The enums with all that is known of them.
 pub fn finished_enums(alloc: Global, drafts: Vec<EnumDraft>) -> Result<Vec<StoredEnum>, VisitError>
-    ensures { IfOk result (λ v. map stored_enum_name v.items ≡ map enum_draft_name drafts.items) }
+    ensures names { IfOk result (λ v. map stored_enum_name v.items ≡ map enum_draft_name drafts.items) }
+    ensures values { IfOk result (λ v. map stored_values v.items ≡ map draft_values drafts.items) }
 {
     let mut enums = Vec::with_capacity(alloc, drafts.len())?;
     for draft in drafts {

@@ -1,6 +1,7 @@
 //! References written as full names behind a leading dot, and types filled in.
 
-ghost use Rattle.std.specs.Prelude.{◌≡◌, length};
+ghost use Rattle.std.specs.Prelude.{◌≡◌, map};
+ghost use Rattle.reflect_index.specs.Views.{record_file};
 
 use descriptor_records::{
     DescriptorProto, FieldDescriptorProto, FieldType, FileDescriptorProto, MethodDescriptorProto,
@@ -73,7 +74,9 @@ fn rewrite_service(service: &mut ServiceDescriptorProto, rest: &mut Rest) {
     }
 }
 
-fn rewrite_file(file: &mut FileDescriptorProto, rest: &mut Rest) {
+fn rewrite_file(file: &mut FileDescriptorProto, rest: &mut Rest)
+    ensures { file.new.name ≡ file.old.name }
+{
     for message in file.message_type.iter_mut() {
         rewrite_message(message, rest);
     }
@@ -84,12 +87,12 @@ fn rewrite_file(file: &mut FileDescriptorProto, rest: &mut Rest) {
 }
 
 /// The files with each reference written as its full name behind a leading dot, and with each missing type of a field that has
-/// a type name filled in. The references are those of the files in the order in which a walk meets them.
+/// a type name filled in. The references are those of the files in the order in which a walk meets them. The files' names stay.
 pub fn rewritten(
     mut files: Vec<FileDescriptorProto>,
     references: Vec<Reference>,
 ) -> Vec<FileDescriptorProto>
-    ensures { length result.items ≡ length files.items }
+    ensures { map record_file result.items ≡ map record_file files.items }
 {
     let mut rest = references.into_iter();
     for place in 0..files.len() {

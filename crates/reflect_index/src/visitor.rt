@@ -1,6 +1,12 @@
 //! From the records of a batch to what the pool keeps of them.
 
-ghost use Rattle.std.specs.Prelude.{◌≡◌, [], map, OnOk, IfOk, string_bytes};
+ghost use Rattle.std.specs.Prelude.{◌≡◌, ◌-◌, [], map, OnOk, IfOk, string_bytes};
+ghost use Rattle.std.specs.List.{AllByRecursion};
+ghost use Rattle.reflect_index.specs.Types.{ListsMembers};
+ghost use Rattle.reflect_index.specs.Views.{message_of};
+ghost use Rattle.reflect_rules.specs.MapEntries.{says_entry};
+ghost use Rattle.reflect_walk.specs.Tree.{parts_of};
+ghost use Rattle.reflect_index.specs.OfDeclarations.{draft_ranges, draft_values, stored_ranges, stored_value, stored_values, add_value};
 ghost use Rattle.reflect_index.specs.DraftNames.{draft_name, enum_draft_name, stored_message_name, stored_enum_name, stored_service_name};
 
 use crate::batch::Batch;
@@ -40,6 +46,7 @@ impl<'a> IndexVisitor<'a> {
         ensures enums { result.drafts.enums.items ≡ [] }
         ensures extensions { result.drafts.extensions.items ≡ [] }
         ensures services { result.drafts.services.items ≡ [] }
+        ensures before { result.before ≡ before }
     {
         IndexVisitor {
             drafts: Drafts::new(alloc),
@@ -52,9 +59,12 @@ impl<'a> IndexVisitor<'a> {
     /// The entries that were made, with all that is known of a type once all of it was visited.
     pub fn into_batch(self, alloc: Global) -> Result<Batch, VisitError>
         ensures messages { IfOk result (λ b. map stored_message_name b.messages.items ≡ map draft_name self.entry.drafts.messages.items) }
+        ensures listed { IfOk result (λ b. AllByRecursion ListsMembers (map message_of b.messages.items)) }
         ensures enums { IfOk result (λ b. map stored_enum_name b.enums.items ≡ map enum_draft_name self.entry.drafts.enums.items) }
         ensures extensions { IfOk result (λ b. b.extensions.items ≡ self.entry.drafts.extensions.items) }
         ensures services { IfOk result (λ b. b.services.items ≡ self.entry.drafts.services.items) }
+        ensures ranges { IfOk result (λ b. map stored_ranges b.messages.items ≡ map draft_ranges self.entry.drafts.messages.items) }
+        ensures values { IfOk result (λ b. map stored_values b.enums.items ≡ map draft_values self.entry.drafts.enums.items) }
     {
         let IndexVisitor {
             drafts,
@@ -67,7 +77,8 @@ impl<'a> IndexVisitor<'a> {
 
     /// What the next reference means.
     fn next_reference(&mut self) -> Option<DefinitionKind>
-        ensures { self.new.drafts ≡ self.old.drafts }
+        ensures drafts { self.new.drafts ≡ self.old.drafts }
+        ensures before { self.new.before ≡ self.old.before }
     {
         let (first, others) = self.references.split_first()?;
         self.references = others;
@@ -76,7 +87,8 @@ impl<'a> IndexVisitor<'a> {
 
     /// The message that the next reference means.
     fn next_message(&mut self) -> Result<u32, VisitError>
-        ensures { self.new.drafts ≡ self.old.drafts }
+        ensures drafts { self.new.drafts ≡ self.old.drafts }
+        ensures before { self.new.before ≡ self.old.before }
     {
         match self.next_reference() {
             Some(DefinitionKind::Message(index)) => Ok(index),
@@ -86,7 +98,8 @@ impl<'a> IndexVisitor<'a> {
 
     /// What a field holds, by the definition that its type name means or else by its type.
     fn kind_of(&mut self, field: &FieldDescriptorProto) -> Option<StoredKind>
-        ensures { self.new.drafts ≡ self.old.drafts }
+        ensures drafts { self.new.drafts ≡ self.old.drafts }
+        ensures before { self.new.before ≡ self.old.before }
     {
         if field.type_name.is_some() {
             return match self.next_reference()? {
@@ -119,7 +132,8 @@ fn push_child(
     place: usize,
     child: Child,
 ) -> Result<(), VisitError>
-    ensures { OnOk result (map draft_name messages.new.items ≡ map draft_name messages.old.items) }
+    ensures names { OnOk result (map draft_name messages.new.items ≡ map draft_name messages.old.items) }
+    ensures ranges { OnOk result (map draft_ranges messages.new.items ≡ map draft_ranges messages.old.items) }
 {
     if place < messages.len() {
         messages[place].children.push(child)?;
@@ -135,7 +149,8 @@ fn push_field(
     place: usize,
     field: StoredField,
 ) -> Result<(), VisitError>
-    ensures { OnOk result (map draft_name messages.new.items ≡ map draft_name messages.old.items) }
+    ensures names { OnOk result (map draft_name messages.new.items ≡ map draft_name messages.old.items) }
+    ensures ranges { OnOk result (map draft_ranges messages.new.items ≡ map draft_ranges messages.old.items) }
 {
     if place < messages.len() {
         messages[place].fields.push(field)?;
@@ -151,7 +166,8 @@ fn push_oneof(
     place: usize,
     oneof: StoredOneof,
 ) -> Result<(), VisitError>
-    ensures { OnOk result (map draft_name messages.new.items ≡ map draft_name messages.old.items) }
+    ensures names { OnOk result (map draft_name messages.new.items ≡ map draft_name messages.old.items) }
+    ensures ranges { OnOk result (map draft_ranges messages.new.items ≡ map draft_ranges messages.old.items) }
 {
     if place < messages.len() {
         messages[place].oneofs.push(oneof)?;
@@ -167,7 +183,8 @@ fn push_value(
     place: usize,
     value: StoredValue,
 ) -> Result<(), VisitError>
-    ensures { OnOk result (map enum_draft_name enums.new.items ≡ map enum_draft_name enums.old.items) }
+    ensures names { OnOk result (map enum_draft_name enums.new.items ≡ map enum_draft_name enums.old.items) }
+    ensures values { OnOk result (map draft_values enums.new.items ≡ add_value (map draft_values enums.old.items) place (stored_value value)) }
 {
     if place < enums.len() {
         enums[place].values.push(value)?;
@@ -194,14 +211,18 @@ fn push_method(
 }
 
 /// The place in the batch's list of what has an index in the pool, where there were so many before.
-fn local_place(index: u32, before: u32) -> Result<usize, VisitError> {
+fn local_place(index: u32, before: u32) -> Result<usize, VisitError>
+    ensures { IfOk result (λ place. place ≡ index - before) }
+{
     match index.checked_sub(before) {
         Some(place) => Ok(place as usize),
         None => Err(VisitError::TooMany),
     }
 }
 
-fn is_map_entry(message: &DescriptorProto) -> bool {
+fn is_map_entry(message: &DescriptorProto) -> bool
+    ensures { result ≡ says_entry (parts_of message.now).options }
+{
     match &message.options {
         Some(options) => options.map_entry == Some(true),
         None => false,

@@ -1,0 +1,3 @@
+pub mod FileTypes
+pub mod FilesLeft
+pub mod FindsDeclared

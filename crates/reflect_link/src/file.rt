@@ -1,4 +1,6 @@
-ghost use Rattle.std.specs.Prelude.{◌≡◌, ◌<◌, length};
+ghost use Rattle.std.specs.Prelude.{◌≡◌, ◌<◌, length, IfSome, IsSome};
+ghost use Rattle.reflect_index.specs.Views.{file_of, record_file, text_of};
+ghost use Rattle.reflect_link.specs.FileTypes.{file_type_at};
 
 use crate::lists::{Enums, Extensions, Messages};
 use crate::service::Services;
@@ -38,13 +40,17 @@ impl<'p> FileDescriptor<'p> {
         self.index
     }
 
-    fn stored(&self) -> &'p StoredFile {
+    fn stored(&self) -> &'p StoredFile
+        ensures { file_of result.now ≡ file_type_at self.now.pool.now self.now.index }
+    {
         let tables = self.pool.tables();
         &tables.files[self.index as usize]
     }
 
     /// The name, relative to the root of the sources.
-    pub fn name(&self) -> &'p str {
+    pub fn name(&self) -> &'p str
+        ensures { result.now ≡ (file_type_at self.now.pool.now self.now.index).name }
+    {
         text(&self.stored().record.name)
     }
 
@@ -59,7 +65,9 @@ impl<'p> FileDescriptor<'p> {
     }
 
     /// The record of the file, with full names in place of references.
-    pub fn file_descriptor_proto(&self) -> &'p FileDescriptorProto {
+    pub fn file_descriptor_proto(&self) -> &'p FileDescriptorProto
+        ensures { record_file result.now ≡ file_type_at self.now.pool.now self.now.index }
+    {
         &self.stored().record
     }
 
@@ -112,7 +120,9 @@ impl<'p> FileDescriptor<'p> {
     }
 }
 
-fn text(text: &Option<String>) -> &str {
+fn text(text: &Option<String>) -> &str
+    ensures { result.now ≡ text_of text.now }
+{
     match text {
         Some(text) => text.as_str(),
         None => "",
@@ -141,7 +151,11 @@ impl<'p> Iterator for Files<'p> {
 }
 
 /// The file at a place, if there is one.
-pub fn file_at<'p>(pool: &'p DescriptorPool, index: u32) -> Option<FileDescriptor<'p>> {
+pub fn file_at<'p>(pool: &'p DescriptorPool, index: u32) -> Option<FileDescriptor<'p>>
+    ensures pool { IfSome result (λ f. f.pool.now ≡ pool.now) }
+    ensures index { IfSome result (λ f. f.index ≡ index) }
+    ensures there { index < length pool.now.files → IsSome result }
+{
     if (index as usize) < pool.tables().files.len() {
         Some(FileDescriptor { pool, index })
     } else {

@@ -1,4 +1,6 @@
-ghost use Rattle.std.specs.Prelude.{◌-◌, length};
+ghost use Rattle.std.specs.Prelude.{◌≡◌, ◌-◌, length, IfSome};
+ghost use Rattle.reflect_index.specs.Types.{PoolType};
+ghost use Rattle.reflect_link.specs.FindsDeclared.{FindsFile, FindsService};
 
 use crate::file::{FileDescriptor, file_at};
 use crate::service::{ServiceDescriptor, service_in};
@@ -12,11 +14,18 @@ fn end_of(count: usize) -> u32 {
 
 /// Further readers of a pool.
 pub trait PoolReaders {
+    ghost use Rattle.reflect_link.specs.FilesLeft.{files_left, records_left};
+
+    /// What the pool holds.
+    ghost holds: { Self → PoolType };
+
     /// The files, in the order in which they were added.
-    fn files(&self) -> AllFiles<'_>;
+    fn files(&self) -> AllFiles<'_>
+        ensures { files_left result ≡ (holds self.now).files };
 
     /// The records of the files, with full names in place of references.
-    fn file_descriptor_protos(&self) -> FileRecords<'_>;
+    fn file_descriptor_protos(&self) -> FileRecords<'_>
+        ensures { records_left result ≡ (holds self.now).files };
 
     /// All message types, of each file with those that stand in others, each before what stands in it.
     fn all_messages(&self) -> AllMessages<'_>;
@@ -31,18 +40,24 @@ pub trait PoolReaders {
     fn services(&self) -> AllServices<'_>;
 
     /// The file of a name.
-    fn get_file_by_name(&self, name: &str) -> Option<FileDescriptor<'_>>;
+    fn get_file_by_name(&self, name: &str) -> Option<FileDescriptor<'_>>
+        ensures pool { IfSome result (λ d. d.pool.now ≡ holds self.now) }
+        ensures finds { FindsFile (holds self.now) name.now result };
 
     /// The service of a full name, which may have one leading dot.
-    fn get_service_by_name(&self, name: &str) -> Option<ServiceDescriptor<'_>>;
+    fn get_service_by_name(&self, name: &str) -> Option<ServiceDescriptor<'_>>
+        ensures pool { IfSome result (λ d. d.pool.now ≡ holds self.now) }
+        ensures finds { FindsService (holds self.now) name.now result };
 }
 
 impl PoolReaders for DescriptorPool {
+    ghost holds = { λ p. p };
+
     fn files(&self) -> AllFiles<'_> {
         AllFiles {
             pool: self,
             next: 0,
-            end: end_of(self.tables().files.len()),
+            end: self.mark(),
         }
     }
 
@@ -99,14 +114,18 @@ pub struct AllFiles<'p> {
     pool: &'p DescriptorPool,
     next: u32,
     end: u32,
+    ghost whole: { end ≡ length pool.now.files },
 }
 
 impl<'p> Iterator for AllFiles<'p> {
-    ghost use Rattle.std.specs.Iterator.{at_most};
+    ghost use Rattle.std.specs.Iterator.{YieldsFirstBy, item_count};
+    ghost use Rattle.reflect_link.specs.FilesLeft.{file_type, files_left};
 
     type Item = FileDescriptor<'p>;
 
-    ghost remaining = { λ s. at_most (s.end - s.next) };
+    ghost next_gives = { YieldsFirstBy file_type files_left };
+
+    ghost remaining = { item_count files_left };
 
     fn next(&mut self) -> Option<FileDescriptor<'p>> {
         if self.next < self.end {
@@ -230,11 +249,15 @@ pub struct FileRecords<'p> {
 }
 
 impl<'p> Iterator for FileRecords<'p> {
-    ghost use Rattle.std.specs.Iterator.{at_most};
+    ghost use Rattle.std.specs.Iterator.{YieldsFirstBy, item_count};
+    ghost use Rattle.reflect_index.specs.Views.{record_file};
+    ghost use Rattle.reflect_link.specs.FilesLeft.{records_left};
 
     type Item = &'p FileDescriptorProto;
 
-    ghost remaining = { λ s. at_most (length s.rest.now) };
+    ghost next_gives = { YieldsFirstBy (λ r. record_file r.now) records_left };
+
+    ghost remaining = { item_count records_left };
 
     fn next(&mut self) -> Option<&'p FileDescriptorProto> {
         let (file, others) = self.rest.split_first()?;

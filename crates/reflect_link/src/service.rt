@@ -1,5 +1,8 @@
-ghost use Rattle.std.specs.Prelude.{◌≡◌, ◌<◌, ◌-◌, length};
+ghost use Rattle.std.specs.Prelude.{◌≡◌, ◌<◌, ◌-◌, length, IfSome, IsSome};
 ghost use Rattle.reflect_index.specs.Types.{service_at};
+ghost use Rattle.reflect_index.specs.Views.{service_of, method_of, record_file};
+ghost use Rattle.reflect_link.specs.FileTypes.{file_type_at};
+ghost use Rattle.reflect_pool.specs.Parts.{type_of_method};
 
 use crate::file::FileDescriptor;
 use crate::records::{method_record, service_record};
@@ -41,7 +44,8 @@ impl<'p> ServiceDescriptor<'p> {
 
     /// The file that the service is declared in.
     pub fn parent_file(&self) -> FileDescriptor<'p>
-        ensures { result.pool.now ≡ self.now.pool.now }
+        ensures pool { result.pool.now ≡ self.now.pool.now }
+        ensures file { result.index ≡ (service_at self.now.pool.now self.now.index).file }
     {
         FileDescriptor {
             pool: self.pool,
@@ -50,7 +54,9 @@ impl<'p> ServiceDescriptor<'p> {
     }
 
     /// The record of the file that the service is declared in.
-    pub fn parent_file_descriptor_proto(&self) -> &'p FileDescriptorProto {
+    pub fn parent_file_descriptor_proto(&self) -> &'p FileDescriptorProto
+        ensures { record_file result.now ≡ file_type_at self.now.pool.now (service_at self.now.pool.now self.now.index).file }
+    {
         self.parent_file().file_descriptor_proto()
     }
 
@@ -59,17 +65,23 @@ impl<'p> ServiceDescriptor<'p> {
         self.parent_file().package_name()
     }
 
-    fn stored(&self) -> &'p StoredService {
+    fn stored(&self) -> &'p StoredService
+        ensures { service_of result.now ≡ service_at self.now.pool.now self.now.index }
+    {
         let tables = self.pool.tables();
         &tables.services[self.index as usize]
     }
 
-    pub fn name(&self) -> &'p str {
+    pub fn name(&self) -> &'p str
+        ensures { result.now ≡ (service_at self.now.pool.now self.now.index).name }
+    {
         self.stored().name.as_str()
     }
 
     /// The file's package, a dot and the service's name.
-    pub fn full_name(&self) -> &'p str {
+    pub fn full_name(&self) -> &'p str
+        ensures { result.now ≡ (service_at self.now.pool.now self.now.index).full_name }
+    {
         self.stored().full_name.as_str()
     }
 
@@ -129,7 +141,11 @@ impl<'p> Iterator for Services<'p> {
 }
 
 /// The service at a place, if there is one.
-pub fn service_in<'p>(pool: &'p DescriptorPool, index: u32) -> Option<ServiceDescriptor<'p>> {
+pub fn service_in<'p>(pool: &'p DescriptorPool, index: u32) -> Option<ServiceDescriptor<'p>>
+    ensures pool { IfSome result (λ s. s.pool.now ≡ pool.now) }
+    ensures index { IfSome result (λ s. s.index ≡ index) }
+    ensures there { index < length pool.now.services → IsSome result }
+{
     if (index as usize) < pool.tables().services.len() {
         Some(ServiceDescriptor { pool, index })
     } else {
@@ -203,26 +219,37 @@ impl<'p> MethodDescriptor<'p> {
     }
 
     /// The file that the method is declared in.
-    pub fn parent_file(&self) -> FileDescriptor<'p> {
+    pub fn parent_file(&self) -> FileDescriptor<'p>
+        ensures pool { result.pool.now ≡ self.now.service.pool.now }
+        ensures file { result.index ≡ (service_at self.now.service.pool.now self.now.service.index).file }
+    {
         self.service.parent_file()
     }
 
     /// The record of the file that the method is declared in.
-    pub fn parent_file_descriptor_proto(&self) -> &'p FileDescriptorProto {
+    pub fn parent_file_descriptor_proto(&self) -> &'p FileDescriptorProto
+        ensures { record_file result.now ≡ file_type_at self.now.service.pool.now (service_at self.now.service.pool.now self.now.service.index).file }
+    {
         self.service.parent_file_descriptor_proto()
     }
 
-    fn stored(&self) -> &'p StoredMethod {
+    fn stored(&self) -> &'p StoredMethod
+        ensures { method_of result.now ≡ type_of_method self.now.service.pool.now self.now.service.index self.now.index }
+    {
         let tables = self.service.pool.tables();
         &tables.services[self.service.index as usize].methods[self.index as usize]
     }
 
-    pub fn name(&self) -> &'p str {
+    pub fn name(&self) -> &'p str
+        ensures { result.now ≡ (type_of_method self.now.service.pool.now self.now.service.index self.now.index).name }
+    {
         self.stored().name.as_str()
     }
 
     /// The service's full name, a dot and the method's name.
-    pub fn full_name(&self) -> &'p str {
+    pub fn full_name(&self) -> &'p str
+        ensures { result.now ≡ (type_of_method self.now.service.pool.now self.now.service.index self.now.index).full_name }
+    {
         self.stored().full_name.as_str()
     }
 
@@ -239,14 +266,16 @@ impl<'p> MethodDescriptor<'p> {
 
     /// The message type that the method takes.
     pub fn input(&self) -> MessageDescriptor<'p>
-        ensures { result.pool.now ≡ self.now.service.pool.now }
+        ensures pool { result.pool.now ≡ self.now.service.pool.now }
+        ensures input { result.index ≡ (type_of_method self.now.service.pool.now self.now.service.index self.now.index).input }
     {
         self.service.pool.input_of(self.service.index, self.index)
     }
 
     /// The message type that the method answers.
     pub fn output(&self) -> MessageDescriptor<'p>
-        ensures { result.pool.now ≡ self.now.service.pool.now }
+        ensures pool { result.pool.now ≡ self.now.service.pool.now }
+        ensures output { result.index ≡ (type_of_method self.now.service.pool.now self.now.service.index self.now.index).output }
     {
         self.service.pool.output_of(self.service.index, self.index)
     }

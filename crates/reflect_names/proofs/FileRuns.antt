@@ -1,13 +1,14 @@
 -- One more file of a batch.
-use Rattle.std.proofs.Common.{Some, is_some, false, string_bytes, Global, String, ◌≡◌, ℕ, ◌+◌, ◌<◌, List, [], ◌∷◌, ◌++◌, take, length, get_or, ap, sym, subst, ◌∙◌, append_assoc, arith, refl}
+use Rattle.std.proofs.Common.{Some, Option, None, is_some, Bool, true, false, cond, bytes_eq, string_bytes, Global, String, ◌≡◌, ℕ, ◌+◌, ◌<◌, ◌≤◌, List, [], ◌∷◌, ◌++◌, take, length, get_or, ap, sym, subst, ◌∙◌, append_assoc, arith, refl}
 use Rattle.std.proofs.lemmas.List.{take_more, append-nil, length-take-le}
 use Rattle.std.specs.Map.{update}
-use Rattle.std.specs.Str.{bytes_eq}
+use Rattle.std.specs.Cmp.Lexicographic.{bytes_decides}
+use Rattle.std.proofs.lemmas.Option.{same_Some}
 use Rattle.descriptor_records.specs.declared.file.FileDescriptorProto.{FileDescriptorProto}
 use Rattle.reflect_names.specs.Faults.{Adds, place_at}
 use Rattle.reflect_names.specs.declared.faults.Faults.{Faults}
 use Rattle.reflect_names.specs.Names.{Places}
-use Rattle.reflect_names.specs.FileNames.{Indexes, file_faults, with_file, with_files, files_faults}
+use Rattle.reflect_names.specs.FileNames.{Indexes, file_faults, with_file, with_files, files_faults, KeepsIndexes}
 use Rattle.reflect_names.proofs.Added.{adds_on, same_places}
 
 pub with_new : (known : Indexes) (i : ℕ) (s : String Global) → is_some (known (string_bytes s)) ≡ false → with_file known i (Some s) ≡ update bytes_eq known (string_bytes s) (Some i)
@@ -53,3 +54,20 @@ module _ (known now : Indexes) (i at k : ℕ) (fs : List FileDescriptorProto) (f
       let last = subst (λ g. Adds t u (file_faults (place_at s (i + length (take k fs))) (with_files known i (take k fs)) g.name)) is set in
       let pushed = ap (files_faults (place_at s) known i) (take_more fs k f lt) ∙ faults_push (place_at s) known i (take k fs) (get_or fs k f) in
       subst (Adds s u) (sym pushed) (adds_on s t u _ _ before last)
+
+pub keeps_on : (low high : ℕ) (a b c : Indexes) → low ≤ high → KeepsIndexes low a b → KeepsIndexes high b c → KeepsIndexes low a c
+keeps_on low high a b c le k l = λ t i lt. let more : i < high = omega (arith, lt, le) in (λ e. (l t i more).0 ((k t i lt).0 e), λ e. (k t i lt).1 ((l t i more).1 e))
+
+-- a new name has an index that is not below
+pub keeps_new : (known now : Indexes) (i : ℕ) (name : List ℕ) → is_some (known name) ≡ false → now ≡ update bytes_eq known name (Some i) → KeepsIndexes i known now
+keeps_new known now i name new e = subst (KeepsIndexes i known) (sym e) (λ t k lt. by t k lt (bytes_eq name t) refl) where
+  no : (o : Option ℕ) (k : ℕ) → is_some o ≡ false → o ≡ Some k → ⊥
+  no None k is h = absurd (cc)
+  no (Some x) k is h = absurd (cc)
+
+  by : (t : List ℕ) (k : ℕ) → k < i → (b : Bool) → bytes_eq name t ≡ b → (known t ≡ Some k → cond (bytes_eq name t) (Some i) (known t) ≡ Some k) × (cond (bytes_eq name t) (Some i) (known t) ≡ Some k → known t ≡ Some k)
+  by t k lt true is = rw is (
+    λ h. absurd (no (known t) k (ap (λ n. is_some (known n)) (sym ((bytes_decides name t).0 is)) ∙ new) h),
+    λ h. let same : i ≡ k = same_Some i k h in absurd (omega (arith, same, lt)),
+  )
+  by t k lt false is = rw is (λ h. h, λ h. h)

@@ -1,6 +1,6 @@
 -- The names of files, and what is wrong with them.
 use Rattle.std.specs.declared.alloc.Global.{Global}
-use Rattle.std.specs.Prelude.{ℕ, pos, ◌+◌, List, [], ◌∷◌, ◌++◌, cond, Option, Some, None, is_some, string_bytes, String}
+use Rattle.std.specs.Prelude.{◌≡◌, ◌<◌, ℕ, pos, ◌+◌, List, [], ◌∷◌, ◌++◌, cond, Option, Some, None, is_some, string_bytes, String}
 use Rattle.std.specs.Map.{update}
 use Rattle.std.specs.Str.{bytes_eq}
 use Rattle.std.specs.BTreeMap.{BTreeMap, get_by_text}
@@ -34,3 +34,7 @@ with_files known i (f ∷ fs) = with_files (with_file known i f.name) (i + 1) fs
 abbrev pub files_faults : (ℕ → Places) → Indexes → ℕ → List FileDescriptorProto → List Fault
 files_faults at known i [] = []
 files_faults at known i (f ∷ fs) = file_faults (at i) known f.name ++ files_faults at (with_file known i f.name) (i + 1) fs
+
+-- an index below the mark is that of a name in both or in neither
+abbrev pub KeepsIndexes : ℕ → Indexes → Indexes → Type 0
+KeepsIndexes mark old new = (t : List ℕ) (i : ℕ) → i < mark → (old t ≡ Some i → new t ≡ Some i) × (new t ≡ Some i → old t ≡ Some i)

@@ -3,7 +3,7 @@ ghost use Rattle.std.specs.List.{cons_option, filter_map};
 ghost use Rattle.std.specs.BTreeMap.{get_by_text};
 ghost use Rattle.reflect_walk.specs.Declarations.{each, entry};
 ghost use Rattle.reflect_names.specs.Faults.{Adds, place_at, duplicate_file};
-ghost use Rattle.reflect_names.specs.FileNames.{indexes_of, file_faults, with_file, with_files, files_faults};
+ghost use Rattle.reflect_names.specs.FileNames.{indexes_of, file_faults, with_file, with_files, files_faults, KeepsIndexes};
 ghost use Rattle.reflect_names.specs.ImportedFiles.{file_of, import_at as import_file, link_view, links_to};
 ghost use Rattle.reflect_names.specs.Names.{import_fault, public_fault, import_faults, is_index as is_index_of};
 
@@ -39,6 +39,7 @@ fn name_file(
 ) -> Result<(), AllocError>
     ensures names { OnOk result (indexes_of file_names.new ≡ with_file (indexes_of file_names.old) index file.now.name) }
     ensures faults { OnOk result (Adds faults.old faults.new (file_faults (place_at faults.old index) (indexes_of file_names.old) file.now.name)) }
+    ensures keeps { KeepsIndexes index (indexes_of file_names.old) (indexes_of file_names.new) }
 {
     let Some(name) = &file.name else {
         let found = faults.label_at(alloc, index, &[], tag::file::NAME)?;
@@ -69,6 +70,7 @@ pub fn name_files(
 ) -> Result<(), VisitError>
     ensures names { OnOk result (indexes_of file_names.new ≡ with_files (indexes_of file_names.old) first files.now) }
     ensures faults { OnOk result (Adds faults.old faults.new (files_faults (place_at faults.old) (indexes_of file_names.old) first files.now)) }
+    ensures keeps { KeepsIndexes first (indexes_of file_names.old) (indexes_of file_names.new) }
 {
     let mut index = first;
     'turns: for file in files {

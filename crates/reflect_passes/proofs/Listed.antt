@@ -38,7 +38,7 @@ pub same_known : (a b : BTreeMap (String Global) Definition) → a.entries ≡ b
 same_known a b same = ap {B = Known} (λ es. λ t. lookup (is_at (λ k. slice_cmp nat_cmp t (string_bytes k))) es) same
 
 -- the places of the faults of these files
-places : (f : Faults) (files : List FileDescriptorProto) (first : ℕ) → f.files.now ≡ files → f.first ≡ first → place_at f ≡ batch_places files first
+pub places : (f : Faults) (files : List FileDescriptorProto) (first : ℕ) → f.files.now ≡ files → f.first ≡ first → place_at f ≡ batch_places files first
 places f files first same index = ap {B = ℕ → Places} (λ xs. batch_places xs f.first) same ∙ ap {B = ℕ → Places} (batch_places files) index
 
 module _ (f : Faults) (files : List FileDescriptorProto) (first : ℕ) (before : Offsets) (none : list_of f ≡ []) (same : f.files.now ≡ files) (index : f.first ≡ first) where

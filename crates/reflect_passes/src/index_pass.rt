@@ -4,7 +4,11 @@ ghost use Rattle.std.specs.Prelude.{◌≡◌, ◌++◌, [], map, OnOk, IfOk};
 ghost use Rattle.reflect_walk.specs.Batches.{batch_declarations};
 ghost use Rattle.reflect_names.specs.FileNames.{indexes_of};
 ghost use Rattle.reflect_names.specs.ImportedFiles.{link_view, links_to};
+ghost use Rattle.std.specs.List.{AllByRecursion};
+ghost use Rattle.reflect_index.specs.Types.{ListsMembers};
+ghost use Rattle.reflect_index.specs.Views.{message_of};
 ghost use Rattle.reflect_index.specs.Names.{messages, enums, extensions, services, with_names};
+ghost use Rattle.reflect_index.specs.OfDeclarations.{AllDeclared, messages_in, enums_in, stored_ranges, stored_values, declared_values};
 ghost use Rattle.reflect_index.specs.DraftNames.{stored_message_name, stored_enum_name, stored_extension_name, stored_service_name};
 
 use descriptor_records::FileDescriptorProto;
@@ -14,7 +18,7 @@ use std::alloc::Global;
 use std::collections::BTreeMap;
 
 /// The entries of the files' declarations, whose references mean this. Each sort has the full names of the declarations of that
-/// sort, in their order.
+/// sort, in their order; message types have the ranges of theirs, and enums the values.
 pub fn index_files(
     alloc: Global,
     before: Offsets,
@@ -23,9 +27,12 @@ pub fn index_files(
     references: &[Reference],
 ) -> Result<Batch, VisitError>
     ensures messages { IfOk result (λ b. map stored_message_name b.messages.items ≡ with_names messages [] (batch_declarations before first files.now)) }
+    ensures listed { IfOk result (λ b. AllByRecursion ListsMembers (map message_of b.messages.items)) }
     ensures enums { IfOk result (λ b. map stored_enum_name b.enums.items ≡ with_names enums [] (batch_declarations before first files.now)) }
     ensures extensions { IfOk result (λ b. map stored_extension_name b.extensions.items ≡ with_names extensions [] (batch_declarations before first files.now)) }
     ensures services { IfOk result (λ b. map stored_service_name b.services.items ≡ with_names services [] (batch_declarations before first files.now)) }
+    ensures ranges { IfOk result (λ b. AllDeclared (messages_in (batch_declarations before first files.now)) (map stored_ranges b.messages.items)) }
+    ensures values { IfOk result (λ b. map stored_values b.enums.items ≡ map declared_values (enums_in (batch_declarations before first files.now))) }
 {
     let mut visitor = IndexVisitor::new(alloc, before, references);
     visit_all(alloc, before, first, files, &mut visitor)?;

@@ -3,7 +3,7 @@
 ghost use Rattle.std.specs.Prelude.{◌≡◌, ◌∷◌, [], length, map, OnOk, IfOk, IfErr};
 ghost use Rattle.reflect_walk.specs.Batches.{batch_declarations};
 ghost use Rattle.reflect_names.specs.Faults.{fault_view, list_of, another, batch_places};
-ghost use Rattle.reflect_names.specs.FileNames.{indexes_of, with_files};
+ghost use Rattle.reflect_names.specs.FileNames.{indexes_of, with_files, KeepsIndexes};
 ghost use Rattle.reflect_names.specs.Known.{known_of};
 ghost use Rattle.reflect_names.specs.NamePass.{known_behind};
 ghost use Rattle.reflect_names.specs.NameSteps.{KeepsFrom};
@@ -69,6 +69,7 @@ pub fn declare_names(
     ensures names { OnOk result (known_of names.new ≡ known_behind (known_of names.old) (batch_declarations before first files.now)) }
     ensures err { IfErr result (λ e. Refuses (λ xs. xs ≡ name_faults (indexes_of file_names.old) (known_of names.old) before first files.now) e) }
     ensures keeps { KeepsFrom first (length files.now) names.old.entries names.new.entries }
+    ensures keeps_files { KeepsIndexes first (indexes_of file_names.old) (indexes_of file_names.new) }
 {
     let mut faults = Faults::new(alloc, files, first);
     if let Err(error) = name_files(alloc, file_names, first, files, &mut faults) {

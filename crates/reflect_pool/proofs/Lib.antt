@@ -1,10 +1,14 @@
+pub mod Accepting
 pub mod Back
 pub mod Dotless
 pub mod FoundTypes
 pub mod Grown
+pub mod Indexed
 pub mod Lookups
 pub mod Named
+pub mod OneofMembers
 pub mod Places
 pub mod Pooled
 pub mod Stands
 pub mod Within
+pub mod Refused

@@ -1,8 +1,8 @@
 -- The names of a pool as it grows and is cut back.
 use Rattle.std.proofs.Common.{◌≡◌, ◌<◌, ℕ, zero, suc, take, List, [], ◌∷◌, map, length, Bool, true, false, cond, nat_lt, Option, Some, None, String, Global, string_bytes, string_cmp, ap, sym, subst, ◌∙◌, arith, refl}
-use Rattle.std.specs.BTreeMap.{BTreeMap, keys, IsOrdered}
+use Rattle.std.specs.BTreeMap.{BTreeMap, keys, IsOrdered, get_by_text}
 use Rattle.std.specs.Map.{lookup, keys_of}
-use Rattle.std.specs.List.{AllByRecursion}
+use Rattle.std.specs.List.{AllByRecursion, filter}
 use Rattle.std.specs.List.Sorted.{IsStrictlySortedBy}
 use Rattle.std.specs.Ordering.{is_eq, nat_cmp, eq_by_cmp}
 use Rattle.std.specs.declared.cmp.Ordering.TheVariants.{Less}
@@ -12,9 +12,11 @@ use Rattle.std.proofs.lemmas.Cmp.{nat_list_cmp_total}
 use Rattle.std.proofs.lemmas.Map.Entries.{lookup-filter-values, option_filter}
 use Rattle.std.proofs.lemmas.Map.Keys.{IsDistinct-from_sorted}
 use Rattle.reflect_scope.specs.declared.definition.Definition.{Definition}
+use Rattle.reflect_names.specs.FileNames.{indexes_of, KeepsIndexes}
 use Rattle.reflect_names.specs.Known.{Known, known_of, below, AllBelow}
 use Rattle.reflect_index.specs.Types.{PoolType, ArePooled}
 use Rattle.reflect_pool.specs.Linked.{IsLinked}
+use Rattle.reflect_pool.proofs.Indexed.{indexed_cut, indexed_back}
 use Rattle.std.proofs.Math.ListN.{length-map}
 use Rattle.reflect_names.proofs.Entries.{below_all}
 use Rattle.reflect_index.specs.Views.{file_of, pool_of}
@@ -24,7 +26,7 @@ use Rattle.reflect_index.specs.Names.{Sort, messages, enums, extensions, service
 use Rattle.reflect_index.proofs.Filters.{map-filter}
 use Rattle.reflect_index.proofs.Orders.{first_names, found_first, order_first, kept_first, found_kept}
 
-abbrev text_entry : String Global × Definition → List ℕ × Definition
+abbrev text_entry : {V : Type 0} → String Global × V → List ℕ × V
 text_entry e = (string_bytes e.0, e.1)
 
 above : (x : String Global) (ks : List (String Global)) → AllByRecursion (λ y. string_cmp x y ≡ Less) ks → AllByRecursion (λ t. slice_cmp nat_cmp (string_bytes x) t ≡ Less) (map string_bytes ks)
@@ -36,13 +38,27 @@ unfolding IsStrictlySortedBy
 texts_sorted [] s = tt
 texts_sorted (k ∷ ks) s = (above k ks s.0, texts_sorted ks s.1)
 
-keys_text : (es : List (String Global × Definition)) → keys_of (map text_entry es) ≡ map string_bytes (keys_of es)
+keys_text : {V : Type 0} (es : List (String Global × V)) → keys_of (map text_entry es) ≡ map string_bytes (keys_of es)
 keys_text [] = refl
 keys_text (e ∷ es) = ap (λ ks. string_bytes e.0 ∷ ks) (keys_text es)
 
-at_text : (t : List ℕ) (es : List (String Global × Definition)) → lookup (λ k. is_eq (slice_cmp nat_cmp t (string_bytes k))) es ≡ lookup (eq_by_cmp (slice_cmp nat_cmp) t) (map text_entry es)
+at_text : {V : Type 0} (t : List ℕ) (es : List (String Global × V)) → lookup (λ k. is_eq (slice_cmp nat_cmp t (string_bytes k))) es ≡ lookup (eq_by_cmp (slice_cmp nat_cmp) t) (map text_entry es)
 at_text t [] = refl
 at_text t (e ∷ es) = ap (λ o. cond (is_eq (slice_cmp nat_cmp t (string_bytes e.0))) (Some e.1) o) (at_text t es)
+
+-- what the texts stand for where only values that pass are left
+pub text_kept : {V : Type 0} (test : V → Bool) (m n : BTreeMap (String Global) V) → IsOrdered string_cmp m → n.entries ≡ filter (λ e. test e.1) m.entries
+    → (t : List ℕ) → get_by_text n t ≡ option_filter test (get_by_text m t)
+text_kept test m n up e t =
+    let total = nat_list_cmp_total in
+    let es = m.entries in
+    let sorted = subst (IsStrictlySortedBy (slice_cmp nat_cmp)) (sym (keys_text es)) (texts_sorted (keys m) up) in
+    let distinct = IsDistinct-from_sorted (slice_cmp nat_cmp) (keys_of (map text_entry es)) sorted in
+    at_text t n.entries
+    ∙ ap (λ l. lookup (eq_by_cmp (slice_cmp nat_cmp) t) (map text_entry l)) e
+    ∙ ap (lookup (eq_by_cmp (slice_cmp nat_cmp) t)) (map-filter text_entry (λ p. test p.1) es)
+    ∙ lookup-filter-values (eq_by_cmp_equiv total) test t (map text_entry es) distinct
+    ∙ ap (option_filter test) (sym (at_text t es))
 
 kept : (mark : ℕ) (o : Option Definition) → option_filter (λ d. nat_lt d.file mark) o ≡ kept_first mark o
 kept mark None = refl
@@ -50,17 +66,7 @@ kept mark (Some d) = refl
 
 -- what the names of the files below the mark stand for
 pub known_below : (mark : ℕ) (m n : BTreeMap (String Global) Definition) → IsOrdered string_cmp m → n.entries ≡ below mark m.entries → (t : List ℕ) → known_of n t ≡ kept_first mark (known_of m t)
-known_below mark m n up e t =
-    let total = nat_list_cmp_total in
-    let es = m.entries in
-    let sorted = subst (IsStrictlySortedBy (slice_cmp nat_cmp)) (sym (keys_text es)) (texts_sorted (keys m) up) in
-    let distinct = IsDistinct-from_sorted (slice_cmp nat_cmp) (keys_of (map text_entry es)) sorted in
-    at_text t n.entries
-    ∙ ap (λ l. lookup (eq_by_cmp (slice_cmp nat_cmp) t) (map text_entry l)) e
-    ∙ ap (lookup (eq_by_cmp (slice_cmp nat_cmp) t)) (map-filter text_entry (λ p. nat_lt p.1.file mark) es)
-    ∙ lookup-filter-values (eq_by_cmp_equiv total) (λ d. nat_lt d.file mark) t (map text_entry es) distinct
-    ∙ ap (option_filter (λ d. nat_lt d.file mark)) (sym (at_text t es))
-    ∙ kept mark (known_of m t)
+known_below mark m n up e t = text_kept (λ d. nat_lt d.file mark) m n up e t ∙ kept mark (known_of m t)
 
 -- the names of a pool that is cut back
 names_cut : (p : PoolType) (mark : ℕ) (s : Sort) → names_of (cut_to p mark) s ≡ first_names mark (names_of p s)
@@ -90,21 +96,29 @@ below_cut mark top least (e ∷ es) step all = by (nat_lt e.1.file mark) refl (b
   by true is inner = let low : e.1.file < mark = grind (arith, is) in rw is (step e.1.file low all.0, inner)
   by false is inner = rw is inner
 
-pub linked_cut : (p q : PoolType) (mark : ℕ) (m n : BTreeMap (String Global) Definition) → q ≡ cut_to p mark → IsOrdered string_cmp m → n.entries ≡ below mark m.entries → IsLinked p m → ArePooled (cut_to p mark) → IsLinked q n
-linked_cut p q mark m n e up entries linked pooled =
-    subst (λ r. IsLinked r n) (sym e) (record {
+-- of the names of files, those of the first ones are left
+abbrev pub FirstFiles : ℕ → BTreeMap (String Global) ℕ → BTreeMap (String Global) ℕ → Type 0
+FirstFiles mark m n = IsOrdered string_cmp m × (n.entries ≡ filter (λ e. nat_lt e.1 mark) m.entries)
+
+pub linked_cut : (p q : PoolType) (mark : ℕ) (m n : BTreeMap (String Global) Definition) (f g : BTreeMap (String Global) ℕ) → q ≡ cut_to p mark → IsOrdered string_cmp m → n.entries ≡ below mark m.entries → FirstFiles mark f g
+    → IsLinked p m f → ArePooled (cut_to p mark) → IsLinked q n g
+linked_cut p q mark m n f g e up entries first linked pooled =
+    subst (λ r. IsLinked r n g) (sym e) (record {
       pooled = pooled;
       named = named_cut p mark (known_of m) (known_of n) (known_below mark m n up entries) linked.named;
       below = subst (AllBelow (length (take mark p.files))) (sym entries) (below_cut mark (length p.files) (length (take mark p.files)) m.entries (take_long mark p.files) linked.below);
+      files = indexed_cut mark (indexes_of f) (indexes_of g) p.files (text_kept (λ i. nat_lt i mark) f g first.0 first.1) linked.files;
     })
 
 -- a refusal, behind which the names of the files that are there are left
-pub linked_same : (t : Tables) (q : PoolType) (m n : BTreeMap (String Global) Definition) (mark : ℕ) → mark ≡ length t.files.items → q ≡ pool_of t → n.entries ≡ below mark m.entries → IsLinked (pool_of t) m → IsLinked q n
-linked_same t q m n mark start e entries linked =
+pub linked_same : (t : Tables) (q : PoolType) (m n : BTreeMap (String Global) Definition) (f g h : BTreeMap (String Global) ℕ) (mark : ℕ) → mark ≡ length t.files.items → q ≡ pool_of t → n.entries ≡ below mark m.entries
+    → KeepsIndexes mark (indexes_of f) (indexes_of g) → FirstFiles mark g h → IsLinked (pool_of t) m f → IsLinked q n h
+linked_same t q m n f g h mark start e entries keeps first linked =
     let count : length (pool_of t).files ≡ length t.files.items = length-map t.files.items file_of in
     let same : n.entries ≡ m.entries = entries ∙ ap (λ k. below k m.entries) (start ∙ sym count) ∙ below_all (length (pool_of t).files) m.entries linked.below in
-    subst (λ r. IsLinked r n) (sym e) (record {
+    subst (λ r. IsLinked r n h) (sym e) (record {
       pooled = linked.pooled;
       named = subst (λ k. AreNamed k (names_of (pool_of t))) (ap {B = Known} (λ es. λ t. lookup (λ k. is_eq (slice_cmp nat_cmp t (string_bytes k))) es) (sym same)) linked.named;
       below = subst (AllBelow (length (pool_of t).files)) (sym same) linked.below;
+      files = indexed_back mark (indexes_of f) (indexes_of g) (indexes_of h) (pool_of t).files (start ∙ sym count) keeps (text_kept (λ i. nat_lt i mark) g h first.0 first.1) linked.files;
     })

@@ -3,7 +3,7 @@ use Rattle.std.proofs.Common.{◌≡◌, ℕ, ◌<◌, ◌≤◌, ◌+◌, ◌^�
 use Rattle.std.proofs.Math.ListN.{length-map}
 use Rattle.std.proofs.lemmas.List.{length-append}
 use Rattle.std.specs.List.{AllByRecursion}
-use Rattle.reflect_index.specs.Types.{KindType, MessageType, FieldType, EnumType, ExtensionType, MethodType, ServiceType, message, enumeration, ArePooled, IsAmong, IsWithin, MessageWithin, EnumWithin, ExtensionWithin, MethodWithin, ServiceWithin, counts_of}
+use Rattle.reflect_index.specs.Types.{KindType, MessageType, FieldType, EnumType, ExtensionType, MethodType, ServiceType, message, enumeration, ArePooled, ListsMembers, IsAmong, IsWithin, MessageWithin, EnumWithin, ExtensionWithin, MethodWithin, ServiceWithin, counts_of}
 use Rattle.reflect_index.specs.Views.{file_of, message_of, enum_of, extension_of, service_of, pool_of}
 use Rattle.reflect_index.specs.Growth.{Appended, Together}
 use Rattle.reflect_index.specs.declared.tables.Counts.{Counts}
@@ -81,6 +81,7 @@ joined f P Q olds mores news e step old more =
 
 pub record AreWithin (c : Counts) (t : Tables) : Type 0 where
   pub messages : AllByRecursion (MessageWithin c) (map message_of t.messages.items)
+  pub listed : AllByRecursion ListsMembers (map message_of t.messages.items)
   pub enums : AllByRecursion (EnumWithin c) (map enum_of t.enums.items)
   pub extensions : AllByRecursion (ExtensionWithin c) (map extension_of t.extensions.items)
   pub services : AllByRecursion (ServiceWithin c) (map service_of t.services.items)
@@ -106,6 +107,7 @@ pooled_more old more new c e t small h w =
     record {
       messages = subst (λ d. AllByRecursion (MessageWithin d) (map message_of new.messages.items)) same
           (joined message_of (MessageWithin a) (MessageWithin c) old.messages.items more.messages.items new.messages.items e.messages (message_more a c le) h.messages w.messages);
+      listed = joined message_of ListsMembers ListsMembers old.messages.items more.messages.items new.messages.items e.messages (λ m l. l) h.listed w.listed;
       enums = subst (λ d. AllByRecursion (EnumWithin d) (map enum_of new.enums.items)) same
           (joined enum_of (EnumWithin a) (EnumWithin c) old.enums.items more.enums.items new.enums.items e.enums (enum_more a c le) h.enums w.enums);
       extensions = subst (λ d. AllByRecursion (ExtensionWithin d) (map extension_of new.extensions.items)) same

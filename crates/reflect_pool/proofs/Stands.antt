@@ -1,6 +1,6 @@
 -- The names of a pool and of a batch behind it.
 use Rattle.std.proofs.Common.{◌≡◌, ◌<◌, ◌+◌, ℕ, List, [], ◌∷◌, ◌++◌, map, length, Option, String, Global, ap, sym, subst, ◌∙◌, arith, refl}
-use Rattle.std.proofs.Math.ListN.{length-map}
+use Rattle.std.proofs.Math.ListN.{length-map, length-append}
 use Rattle.std.proofs.lemmas.List.{append-nil}
 use Rattle.std.specs.List.{AllByRecursion}
 use Rattle.std.specs.BTreeMap.{BTreeMap}
@@ -10,19 +10,22 @@ use Rattle.reflect_walk.specs.Declarations.{Declaration}
 use Rattle.reflect_walk.specs.declared.visit_parts.Offsets.{Offsets}
 use Rattle.reflect_walk.specs.Batches.{batch_declarations, past_files}
 use Rattle.reflect_names.specs.Known.{Known, known_of}
+use Rattle.reflect_names.specs.FileNames.{indexes_of, with_files, files_faults}
 use Rattle.reflect_names.specs.Names.{Places}
 use Rattle.reflect_names.specs.NameSteps.{KeepsFrom}
 use Rattle.reflect_names.proofs.Entries.{below_more}
 use Rattle.reflect_names.specs.NamePass.{known_behind, faults_along}
-use Rattle.reflect_index.specs.Types.{PoolType, ArePooled, MessageWithin, EnumWithin, ExtensionWithin, ServiceWithin, counts_of}
+use Rattle.reflect_index.specs.Types.{PoolType, FileType, ArePooled, MessageWithin, EnumWithin, ExtensionWithin, ServiceWithin, counts_of}
 use Rattle.reflect_index.specs.Names.{Sort, messages, enums, extensions, services, FullName, AreFound, AreInOrder, AreNamed, names_of, message_name, enum_name, extension_name, service_name, found, with_names}
-use Rattle.reflect_index.specs.Views.{file_of, message_of, enum_of, extension_of, service_of, pool_of}
+use Rattle.reflect_index.specs.Views.{file_of, record_file, message_of, enum_of, extension_of, service_of, pool_of}
 use Rattle.reflect_index.specs.DraftNames.{stored_message_name, stored_enum_name, stored_extension_name, stored_service_name}
 use Rattle.reflect_index.specs.declared.tables.Tables.{Tables}
 use Rattle.reflect_index.proofs.Known.{offset}
 use Rattle.reflect_index.proofs.Orders.{AreUpTo}
 use Rattle.reflect_index.proofs.Batched.{Stand, batch_stands, names_behind}
-use Rattle.reflect_pool.specs.Linked.{IsLinked, CountsOf}
+use Rattle.reflect_pool.specs.Linked.{IsLinked, AreIndexed, CountsOf}
+use Rattle.reflect_pool.proofs.Indexed.{indexed_more}
+use Rattle.reflect_pool.proofs.Pooled.{map-append}
 
 up_to : {Y : Type 0} (name : Y → FullName) (P : Y → Type 0) (n : ℕ) → ((y : Y) → P y → (name y).1 < n) → (ys : List Y) → AllByRecursion P ys → AreUpTo n (map name ys)
 up_to name P n step [] all = tt
@@ -72,28 +75,35 @@ pub record GoesOn (old new : Tables) (ds : List Declaration) : Type 0 where
   pub extensions : map stored_extension_name new.extensions.items ≡ map stored_extension_name old.extensions.items ++ with_names extensions [] ds
   pub services : map stored_service_name new.services.items ≡ map stored_service_name old.services.items ++ with_names services [] ds
 
-all_go_on : (old new : Tables) (ds : List Declaration) → GoesOn old new ds → (s : Sort) → names_of (pool_of new) s ≡ names_of (pool_of old) s ++ with_names s [] ds
+pub all_go_on : (old new : Tables) (ds : List Declaration) → GoesOn old new ds → (s : Sort) → names_of (pool_of new) s ≡ names_of (pool_of old) s ++ with_names s [] ds
 all_go_on old new ds g messages = named_as message_name message_of new.messages.items old.messages.items _ g.messages
 all_go_on old new ds g enums = named_as enum_name enum_of new.enums.items old.enums.items _ g.enums
 all_go_on old new ds g extensions = named_as extension_name extension_of new.extensions.items old.extensions.items _ g.extensions
 all_go_on old new ds g services = named_as service_name service_of new.services.items old.services.items _ g.services
 
-pub linked_more : (old new : Tables) (were are : BTreeMap (String Global) Definition) (at : ℕ → Places) (files : List ℕ → Option ℕ) (o : Offsets) (first : ℕ) (fs : List FileDescriptorProto)
-    → IsLinked (pool_of old) were → CountsOf (pool_of old) o → first ≡ length old.files.items
-    → known_of are ≡ known_behind (known_of were) (batch_declarations o first fs) → faults_along at files (known_of were) (batch_declarations o first fs) ≡ []
+pub linked_more : (old new : Tables) (were are : BTreeMap (String Global) Definition) (had has : BTreeMap (String Global) ℕ) (at : ℕ → Places) (o : Offsets) (first : ℕ) (fs : List FileDescriptorProto)
+    → IsLinked (pool_of old) were had → CountsOf (pool_of old) o → first ≡ length old.files.items
+    → indexes_of has ≡ with_files (indexes_of had) first fs → files_faults at (indexes_of had) first fs ≡ []
+    → known_of are ≡ known_behind (known_of were) (batch_declarations o first fs) → faults_along at (with_files (indexes_of had) first fs) (known_of were) (batch_declarations o first fs) ≡ []
     → KeepsFrom first (length fs) were.entries are.entries
-    → ArePooled (pool_of new) → length new.files.items ≡ length old.files.items + length fs → GoesOn old new (batch_declarations o first fs)
-    → IsLinked (pool_of new) are
-linked_more old new were are at files o first fs linked counts start is none keeps pooled count goes =
+    → ArePooled (pool_of new) → map file_of new.files.items ≡ map file_of old.files.items ++ map record_file fs → GoesOn old new (batch_declarations o first fs)
+    → IsLinked (pool_of new) are has
+linked_more old new were are had has at o first fs linked counts start indexes single is none keeps pooled files goes =
     let olds : length (pool_of old).files ≡ length old.files.items = length-map old.files.items file_of in
-    let news : length (pool_of new).files ≡ length new.files.items = length-map new.files.items file_of in
+    let count : length (pool_of new).files ≡ length (pool_of old).files + length fs = ap length files ∙ length-append (map file_of old.files.items) (map record_file fs) ∙ ap (λ n. length (pool_of old).files + n) (length-map fs record_file) in
     let from : first ≡ length (pool_of old).files = start ∙ sym olds in
+    let name = λ (x : FileType). x.name in
+    let place : length (map name (pool_of old).files) ≡ first = length-map (pool_of old).files name ∙ sym from in
     record {
       pooled = pooled;
-      named = named_more (pool_of old) (pool_of new) (known_of were) at files o fs (known_of are) linked.pooled linked.named counts
+      named = named_more (pool_of old) (pool_of new) (known_of were) at (with_files (indexes_of had) first fs) o fs (known_of are) linked.pooled linked.named counts
           (subst (λ n. known_of are ≡ known_behind (known_of were) (batch_declarations o n fs)) from is)
-          (subst (λ n. faults_along at files (known_of were) (batch_declarations o n fs) ≡ []) from none)
+          (subst (λ n. faults_along at (with_files (indexes_of had) first fs) (known_of were) (batch_declarations o n fs) ≡ []) from none)
           (λ s. subst (λ n. names_of (pool_of new) s ≡ names_of (pool_of old) s ++ with_names s [] (batch_declarations o n fs)) from (all_go_on old new (batch_declarations o first fs) goes s));
-      below = keeps.bound (length (pool_of new).files) (omega (arith, news, count, start))
-          (below_more (length (pool_of old).files) (length (pool_of new).files) were.entries (omega (arith, olds, news, count)) linked.below);
+      below = keeps.bound (length (pool_of new).files) (omega (arith, count, from))
+          (below_more (length (pool_of old).files) (length (pool_of new).files) were.entries (omega (arith, count)) linked.below);
+      files = subst (λ ns. AreIndexed (indexes_of has) ns) (sym (ap (map name) files ∙ map-append name (pool_of old).files (map record_file fs)))
+          (subst (λ g. AreIndexed g (map name (pool_of old).files ++ map name (map record_file fs))) (sym indexes)
+          (subst (λ n. AreIndexed (with_files (indexes_of had) n fs) (map name (pool_of old).files ++ map name (map record_file fs))) place
+          (indexed_more at (indexes_of had) (map name (pool_of old).files) fs (subst (λ n. files_faults at (indexes_of had) n fs ≡ []) (sym place) single) linked.files)));
     }

@@ -1,8 +1,8 @@
 -- What the entries at places of a pool name is there.
-use Rattle.std.proofs.Common.{◌≡◌, ℕ, ◌<◌, ◌^◌, map, length, get_or, arith, sym, subst}
+use Rattle.std.proofs.Common.{◌≡◌, ℕ, ◌<◌, ◌^◌, map, length, get_or, arith, ap, ◌∙◌, sym, subst}
 use Rattle.std.proofs.Math.ListN.{length-map}
 use Rattle.std.specs.List.{All}
-use Rattle.reflect_index.specs.Types.{PoolType, MessageType, OneofType, ServiceType, ArePooled, IsWithin, MessageWithin, EnumWithin, ExtensionWithin, MethodWithin, ServiceWithin, counts_of, no_type, no_enum, no_service}
+use Rattle.reflect_index.specs.Types.{PoolType, MessageType, OneofType, ServiceType, ArePooled, IsWithin, MessageWithin, EnumWithin, ExtensionWithin, MethodWithin, ServiceWithin, counts_of, no_type, no_oneof, no_enum, no_service}
 use Rattle.reflect_index.specs.Views.{pool_of, message_of, enum_of, extension_of, service_of, method_of, field_of, oneof_of, kind_of}
 use Rattle.reflect_index.specs.declared.tables.Tables.{Tables}
 use Rattle.reflect_index.specs.declared.stored.StoredMessage.{StoredMessage}
@@ -42,6 +42,13 @@ service_within t pool i m e h lt is =
 pub type_there : (t : Tables) (pool : PoolType) (i : ℕ) (m : StoredMessage) → pool_of t ≡ pool → i < length pool.messages → m ≡ get_or t.messages.items i m → get_or pool.messages i no_type ≡ message_of m
 type_there t pool i m e lt is =
     subst (λ (p : PoolType). i < length p.messages → get_or p.messages i no_type ≡ message_of m) e (λ below. view_there message_of t.messages.items i m no_type below is) lt
+
+-- so is the oneof at a place of it
+pub oneof_there : (t : Tables) (pool : PoolType) (i k : ℕ) (m : StoredMessage) (o : StoredOneof) → pool_of t ≡ pool → i < length pool.messages → m ≡ get_or t.messages.items i m
+    → k < length (get_or pool.messages i no_type).oneofs → o ≡ get_or m.oneofs.items k o → get_or (get_or pool.messages i no_type).oneofs k no_oneof ≡ oneof_of o
+oneof_there t pool i k m o e lt is inner was =
+    let there = type_there t pool i m e lt is in
+    ap (λ (n : MessageType). get_or n.oneofs k no_oneof) there ∙ view_there oneof_of m.oneofs.items k o no_oneof (subst (λ (n : MessageType). k < length n.oneofs) there inner) was
 
 -- the type that a field names is there
 pub kind_within : (t : Tables) (pool : PoolType) (i k : ℕ) (m : StoredMessage) (f : StoredField) → pool_of t ≡ pool → ArePooled (pool_of t)

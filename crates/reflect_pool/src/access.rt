@@ -1,10 +1,11 @@
 //! What the readers of the crate above take from a pool.
 
 ghost use Rattle.std.specs.Prelude.{◌≡◌, ◌<◌, length};
-ghost use Rattle.reflect_index.specs.Types.{service_at};
+ghost use Rattle.reflect_index.specs.Types.{type_at, enum_at, extension_at, service_at};
 ghost use Rattle.reflect_index.specs.Views.{pool_of};
 ghost use Rattle.reflect_index.specs.Finding.{IsFirst};
 ghost use Rattle.reflect_pool.specs.Dots.{without_dot};
+ghost use Rattle.reflect_pool.specs.Parts.{type_of_method};
 
 use crate::blank::Blanks;
 use crate::enums::EnumDescriptor;
@@ -36,7 +37,8 @@ impl DescriptorPool {
     /// The place of the file that a service is declared in.
     pub fn file_of_service(&self, index: u32) -> u32
         requires { index < length self.now.services }
-        ensures { result < length self.now.files }
+        ensures inside { result < length self.now.files }
+        ensures file { result ≡ (service_at self.now index).file }
     {
         self.tables.services[index as usize].file
     }
@@ -58,7 +60,9 @@ impl DescriptorPool {
     }
 
     /// The place of the file of a name.
-    pub fn file_place(&self, name: &str) -> Option<u32> {
+    pub fn file_place(&self, name: &str) -> Option<u32>
+        ensures { IsFirst (λ f. f.name ≡ name.now) self.now.files result }
+    {
         self.file_names.get(name).copied()
     }
 
@@ -81,7 +85,8 @@ impl DescriptorPool {
     pub fn input_of(&self, service: u32, method: u32) -> MessageDescriptor<'_>
         requires service { service < length self.now.services }
         requires method { method < length (service_at self.now service).methods }
-        ensures { result.pool.now ≡ self.now }
+        ensures pool { result.pool.now ≡ self.now }
+        ensures input { result.index ≡ (type_of_method self.now service method).input }
     {
         MessageDescriptor {
             pool: self,
@@ -93,7 +98,8 @@ impl DescriptorPool {
     pub fn output_of(&self, service: u32, method: u32) -> MessageDescriptor<'_>
         requires service { service < length self.now.services }
         requires method { method < length (service_at self.now service).methods }
-        ensures { result.pool.now ≡ self.now }
+        ensures pool { result.pool.now ≡ self.now }
+        ensures output { result.index ≡ (type_of_method self.now service method).output }
     {
         MessageDescriptor {
             pool: self,
@@ -105,7 +111,8 @@ impl DescriptorPool {
 impl<'p> MessageDescriptor<'p> {
     /// The place of the file that the type is declared in.
     pub fn file_index(&self) -> u32
-        ensures { result < length self.now.pool.now.files }
+        ensures inside { result < length self.now.pool.now.files }
+        ensures file { result ≡ (type_at self.now.pool.now self.now.index).file }
     {
         let pool = self.pool;
         pool.tables.messages[self.index as usize].file
@@ -121,7 +128,8 @@ impl<'p> MessageDescriptor<'p> {
 impl<'p> EnumDescriptor<'p> {
     /// The place of the file that the type is declared in.
     pub fn file_index(&self) -> u32
-        ensures { result < length self.now.pool.now.files }
+        ensures inside { result < length self.now.pool.now.files }
+        ensures file { result ≡ (enum_at self.now.pool.now self.now.index).file }
     {
         let pool = self.pool;
         pool.tables.enums[self.index as usize].file
@@ -131,7 +139,8 @@ impl<'p> EnumDescriptor<'p> {
 impl<'p> ExtensionDescriptor<'p> {
     /// The place of the file that the extension is declared in.
     pub fn file_index(&self) -> u32
-        ensures { result < length self.now.pool.now.files }
+        ensures inside { result < length self.now.pool.now.files }
+        ensures file { result ≡ (extension_at self.now.pool.now self.now.index).file }
     {
         let pool = self.pool;
         pool.tables.extensions[self.index as usize].file

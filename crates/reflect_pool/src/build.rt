@@ -1,16 +1,21 @@
 //! Adds a batch of files to a pool, or refuses it and leaves the pool as it was.
 
-ghost use Rattle.std.specs.Prelude.{◌≡◌, ◌+◌, ◌++◌, ◌<◌, ◌^◌, [], map, IfOk, OnOk, OnErr, length, string_cmp};
+ghost use Rattle.std.specs.Prelude.{◌≡◌, ◌+◌, ◌++◌, ◌<◌, ◌^◌, [], map, IfOk, IfErr, OnOk, OnErr, length, nat_lt, string_cmp};
+ghost use Rattle.std.specs.List.{AllByRecursion, filter};
 ghost use Rattle.std.specs.BTreeMap.{IsOrdered};
 ghost use Rattle.reflect_walk.specs.Batches.{batch_declarations};
+ghost use Rattle.reflect_names.specs.FileNames.{indexes_of, KeepsIndexes};
 ghost use Rattle.reflect_names.specs.Known.{below};
 ghost use Rattle.reflect_index.specs.Cut.{cut_to};
 ghost use Rattle.reflect_index.specs.Growth.{Together, Appended};
-ghost use Rattle.reflect_index.specs.Types.{ArePooled};
-ghost use Rattle.reflect_index.specs.Views.{pool_of};
+ghost use Rattle.reflect_index.specs.Types.{ArePooled, ListsMembers};
+ghost use Rattle.reflect_index.specs.Views.{file_of, record_file, message_of, pool_of};
 ghost use Rattle.reflect_index.specs.Names.{messages, enums, extensions, services, with_names};
 ghost use Rattle.reflect_index.specs.DraftNames.{stored_message_name, stored_enum_name, stored_extension_name, stored_service_name};
+ghost use Rattle.reflect_passes.specs.Errors.{Refuses};
 ghost use Rattle.reflect_pool.specs.Linked.{IsLinked, CountsOf};
+ghost use Rattle.reflect_pool.specs.Accepted.{FaultlessBatch, Faultless, FaultlessFiles, AddsNames, AddsFiles};
+ghost use Rattle.reflect_pool.specs.Refusals.{linking, is_unknown, FaultyBatch, Faulty, FaultyFiles};
 
 use crate::pool::DescriptorPool;
 use descriptor_records::FileDescriptorProto;
@@ -89,11 +94,13 @@ fn link_declared(
     ensures unchanged { OnErr result (pool_of tables.new ≡ pool_of tables.old) }
     ensures grown { OnOk result (cut_to (pool_of tables.new) (length tables.old.files.items) ≡ pool_of tables.old) }
     ensures pooled { OnOk result (ArePooled (pool_of tables.new)) }
-    ensures count { OnOk result (length tables.new.files.items ≡ length tables.old.files.items + length files.items) }
+    ensures files { OnOk result (map file_of tables.new.files.items ≡ map file_of tables.old.files.items ++ map record_file files.items) }
     ensures messages { OnOk result (map stored_message_name tables.new.messages.items ≡ map stored_message_name tables.old.messages.items ++ with_names messages [] (batch_declarations before first files.items)) }
     ensures enums { OnOk result (map stored_enum_name tables.new.enums.items ≡ map stored_enum_name tables.old.enums.items ++ with_names enums [] (batch_declarations before first files.items)) }
     ensures extensions { OnOk result (map stored_extension_name tables.new.extensions.items ≡ map stored_extension_name tables.old.extensions.items ++ with_names extensions [] (batch_declarations before first files.items)) }
     ensures services { OnOk result (map stored_service_name tables.new.services.items ≡ map stored_service_name tables.old.services.items ++ with_names services [] (batch_declarations before first files.items)) }
+    ensures accepted { OnOk result (FaultlessBatch (linking file_names.now names.now links.old.items tables.old extension_numbers.old before first) files.items (pool_of tables.new)) }
+    ensures refused { IfErr result (λ e. Refuses (FaultyBatch (linking file_names.now names.now links.old.items tables.old extension_numbers.old before first) files.items) e) }
 {
     add_links(alloc, file_names, links, files.as_slice()).map_err(|error| walk_error(
         alloc, error,
@@ -140,7 +147,8 @@ fn link_declared(
 
 /// Adds the entries.
 fn add(tables: &mut Tables, more: Tables) -> Result<(), VisitError>
-    requires { ArePooled (pool_of tables.old) }
+    requires pooled { ArePooled (pool_of tables.old) }
+    requires listed { AllByRecursion ListsMembers (map message_of more.messages.items) }
     ensures unchanged { OnErr result (pool_of tables.new ≡ pool_of tables.old) }
     ensures grown { OnOk result (cut_to (pool_of tables.new) (length tables.old.files.items) ≡ pool_of tables.old) }
     ensures pooled { OnOk result (ArePooled (pool_of tables.new)) }
@@ -170,13 +178,17 @@ fn link(
     names: &mut BTreeMap<String, Definition>,
     extension_numbers: &mut BTreeMap<(u32, u32), u32>,
 ) -> Result<(), DescriptorError>
-    requires linked { IsLinked (pool_of tables.old) names.old }
+    requires linked { IsLinked (pool_of tables.old) names.old file_names.old }
     requires before { CountsOf (pool_of tables.old) before }
     requires first { first ≡ length tables.old.files.items }
     ensures unchanged { OnErr result (pool_of tables.new ≡ pool_of tables.old) }
     ensures kept { below first names.new.entries ≡ below first names.old.entries }
+    ensures kept_files { KeepsIndexes first (indexes_of file_names.old) (indexes_of file_names.new) }
     ensures grown { OnOk result (cut_to (pool_of tables.new) (length tables.old.files.items) ≡ pool_of tables.old) }
-    ensures linked { OnOk result (IsLinked (pool_of tables.new) names.new) }
+    ensures linked { OnOk result (IsLinked (pool_of tables.new) names.new file_names.new) }
+    ensures added { OnOk result (AddsNames (linking file_names.old names.old links.old.items tables.old extension_numbers.old before first) files.items (pool_of tables.new)) }
+    ensures accepted { OnOk result (Faultless (linking file_names.old names.old links.old.items tables.old extension_numbers.old before first) files.items (pool_of tables.new)) }
+    ensures refused { IfErr result (λ e. Refuses (Faulty (linking file_names.old names.old links.old.items tables.old extension_numbers.old before first) files.items) e) }
 {
     declare_names(alloc, before, first, files.as_slice(), file_names, names)?;
     link_declared(
@@ -200,11 +212,29 @@ fn forget_names(names: &mut BTreeMap<String, Definition>, mark: u32)
     names.retain(|_, definition| definition.file < mark);
 }
 
+/// Leaves only the names of the first so many files, as names of files.
+fn forget_files(file_names: &mut BTreeMap<String, u32>, mark: u32)
+    ensures entries { file_names.new.entries ≡ filter (λ e. nat_lt e.1 mark) file_names.old.entries }
+    ensures was_ordered { IsOrdered string_cmp file_names.old }
+{
+    file_names.retain(|_, file| *file < mark);
+}
+
+/// No known file has the file's name.
+fn is_new(known: &BTreeMap<String, u32>, file: &FileDescriptorProto) -> bool
+    ensures { result ≡ is_unknown (indexes_of known.now) file.now }
+{
+    match &file.name {
+        Some(name) => !known.contains_key(name.as_str()),
+        None => true,
+    }
+}
+
 impl DescriptorPool {
     /// Adds files, linked with each other and with those that are there. Files whose names the pool has are passed over.
     ///
-    /// The error lists all faults of the first faulty pass; `Memory` and `TooMany` may come in any pass. After a refusal the
-    /// pool is as it was.
+    /// Files are accepted only where no pass finds a fault. The error lists exactly the faults of the first faulty pass; `Memory`
+    /// and `TooMany` may come in any pass. After a refusal the pool is as it was.
     pub fn build_files(
         &mut self,
         alloc: Global,
@@ -213,12 +243,12 @@ impl DescriptorPool {
         ensures unchanged { OnErr result (self.new ≡ self.old) }
         ensures grown { OnOk result (cut_to self.new (length self.old.files) ≡ self.old) }
         ensures can_cut { OnOk result (ArePooled (cut_to self.new (length self.old.files))) }
+        ensures added { OnOk result (AddsFiles self.old files.items self.new) }
+        ensures accepted { OnOk result (FaultlessFiles self.old files.items self.new) }
+        ensures refused { IfErr result (λ e. Refuses (FaultyFiles self.old files.items) e) }
     {
         let known = &self.file_names;
-        files.retain(|file| match &file.name {
-            Some(name) => !known.contains_key(name.as_str()),
-            None => true,
-        });
+        files.retain(|file| is_new(known, file));
         let before = offsets(&self.tables).map_err(|error| walk_error(alloc, error))?;
         let first = next_place(self.tables.files.len()).map_err(|error| walk_error(alloc, error))?;
         let outcome = link(
@@ -234,6 +264,7 @@ impl DescriptorPool {
         );
         if outcome.is_err() {
             forget_names(&mut self.names, first);
+            forget_files(&mut self.file_names, first);
             self.forget_rest();
         }
         outcome
@@ -256,6 +287,7 @@ impl DescriptorPool {
     {
         cut(&mut self.tables, mark);
         forget_names(&mut self.names, mark);
+        forget_files(&mut self.file_names, mark);
         self.forget_rest();
     }
 
@@ -267,13 +299,12 @@ impl DescriptorPool {
         settle_all(&mut self.tables, edits);
     }
 
-    /// Leaves only the files' names, the links and the extensions' numbers of the files that are there.
+    /// Leaves only the links and the extensions' numbers of the files that are there.
     fn forget_rest(&mut self)
         ensures { self.new ≡ self.old }
     {
         let count = self.tables.files.len();
         let extensions = self.tables.extensions.len();
-        self.file_names.retain(|_, file| (*file as usize) < count);
         self.links.truncate(count);
         self.extension_numbers
             .retain(|_, place| (*place as usize) < extensions);

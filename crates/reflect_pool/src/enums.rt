@@ -126,6 +126,28 @@ impl<'p> EnumDescriptor<'p> {
     }
 }
 
+/// Both have one place and one full name in their pools.
+impl<'p> PartialEq for EnumDescriptor<'p> {
+    ghost use Rattle.std.specs.Cmp.Rules.{comparing};
+    ghost use Rattle.std.proofs.Common.{rules};
+    ghost use Rattle.reflect_pool.specs.Same.{same_enum};
+
+    ghost eq = { same_enum };
+
+    ghost laws = { Prim.search (comparing, rules) };
+
+    fn eq(&self, other: &EnumDescriptor<'p>) -> bool {
+        self.index == other.index && self.full_name() == other.full_name()
+    }
+}
+
+impl<'p> Eq for EnumDescriptor<'p> {
+    ghost use Rattle.std.specs.Cmp.Rules.{comparing};
+    ghost use Rattle.std.proofs.Common.{rules};
+
+    ghost laws = { Prim.search (comparing, rules) };
+}
+
 /// The values of an enum type, as they were declared.
 #[derive(Drop)]
 pub struct EnumValues<'p> {
@@ -215,4 +237,26 @@ impl<'p> EnumValueDescriptor<'p> {
             .list[self.index as usize]
             .number
     }
+}
+
+/// Both have one place in one type.
+impl<'p> PartialEq for EnumValueDescriptor<'p> {
+    ghost use Rattle.std.specs.Cmp.Rules.{comparing};
+    ghost use Rattle.std.proofs.Common.{rules};
+    ghost use Rattle.reflect_pool.specs.Same.{same_value};
+
+    ghost eq = { same_value };
+
+    ghost laws = { Prim.search (comparing, rules) };
+
+    fn eq(&self, other: &EnumValueDescriptor<'p>) -> bool {
+        self.index == other.index && self.enumeration == other.enumeration
+    }
+}
+
+impl<'p> Eq for EnumValueDescriptor<'p> {
+    ghost use Rattle.std.specs.Cmp.Rules.{comparing};
+    ghost use Rattle.std.proofs.Common.{rules};
+
+    ghost laws = { Prim.search (comparing, rules) };
 }

@@ -18,6 +18,7 @@ pub struct ExtensionDescriptor<'p> {
 
 impl<'p> ExtensionDescriptor<'p> {
     ghost use Rattle.reflect_pool.specs.Kinds.{IsKind};
+    ghost use Rattle.reflect_pool.specs.Shapes.{holds_list, holds_map};
 
     /// The pool that the extension stands in.
     pub fn parent_pool(&self) -> &'p DescriptorPool
@@ -109,12 +110,16 @@ impl<'p> ExtensionDescriptor<'p> {
     }
 
     /// It holds any number of values, and is no map.
-    pub fn is_list(&self) -> bool {
+    pub fn is_list(&self) -> bool
+        ensures { result ≡ holds_list self.now.pool.now (extension_at self.now.pool.now self.now.index).field }
+    {
         self.cardinality() == Cardinality::Repeated && !self.is_map()
     }
 
     /// Its values are the entries of a map.
-    pub fn is_map(&self) -> bool {
+    pub fn is_map(&self) -> bool
+        ensures { result ≡ holds_map self.now.pool.now (extension_at self.now.pool.now self.now.index).field }
+    {
         let pool = self.pool;
         is_map(pool, &pool.tables.extensions[self.index as usize].field)
     }
@@ -149,6 +154,28 @@ impl<'p> ExtensionDescriptor<'p> {
         let pool = self.pool;
         default_value(pool, &pool.tables.extensions[self.index as usize].field)
     }
+}
+
+/// Both have one place and one full name in their pools.
+impl<'p> PartialEq for ExtensionDescriptor<'p> {
+    ghost use Rattle.std.specs.Cmp.Rules.{comparing};
+    ghost use Rattle.std.proofs.Common.{rules};
+    ghost use Rattle.reflect_pool.specs.Same.{same_extension};
+
+    ghost eq = { same_extension };
+
+    ghost laws = { Prim.search (comparing, rules) };
+
+    fn eq(&self, other: &ExtensionDescriptor<'p>) -> bool {
+        self.index == other.index && self.full_name() == other.full_name()
+    }
+}
+
+impl<'p> Eq for ExtensionDescriptor<'p> {
+    ghost use Rattle.std.specs.Cmp.Rules.{comparing};
+    ghost use Rattle.std.proofs.Common.{rules};
+
+    ghost laws = { Prim.search (comparing, rules) };
 }
 
 /// The extensions of a message type, by ascending number.

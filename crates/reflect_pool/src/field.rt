@@ -18,6 +18,7 @@ pub struct FieldDescriptor<'p> {
 
 impl<'p> FieldDescriptor<'p> {
     ghost use Rattle.reflect_pool.specs.Kinds.{IsKind};
+    ghost use Rattle.reflect_pool.specs.Shapes.{holds_list, holds_map};
 
     /// The pool that the field's type stands in.
     pub fn parent_pool(&self) -> &'p DescriptorPool
@@ -118,12 +119,16 @@ impl<'p> FieldDescriptor<'p> {
     }
 
     /// The field holds any number of values, and is no map.
-    pub fn is_list(&self) -> bool {
+    pub fn is_list(&self) -> bool
+        ensures { result ≡ holds_list self.now.message.pool.now (type_of_field self.now.message.pool.now self.now.message.index self.now.index) }
+    {
         self.cardinality() == Cardinality::Repeated && !self.is_map()
     }
 
     /// The field's values are the entries of a map.
-    pub fn is_map(&self) -> bool {
+    pub fn is_map(&self) -> bool
+        ensures { result ≡ holds_map self.now.message.pool.now (type_of_field self.now.message.pool.now self.now.message.index self.now.index) }
+    {
         let pool = self.message.pool;
         is_map(
             pool,
@@ -191,4 +196,26 @@ impl<'p> FieldDescriptor<'p> {
                 .list[self.index as usize],
         )
     }
+}
+
+/// Both have one place in one type.
+impl<'p> PartialEq for FieldDescriptor<'p> {
+    ghost use Rattle.std.specs.Cmp.Rules.{comparing};
+    ghost use Rattle.std.proofs.Common.{rules};
+    ghost use Rattle.reflect_pool.specs.Same.{same_field};
+
+    ghost eq = { same_field };
+
+    ghost laws = { Prim.search (comparing, rules) };
+
+    fn eq(&self, other: &FieldDescriptor<'p>) -> bool {
+        self.index == other.index && self.message == other.message
+    }
+}
+
+impl<'p> Eq for FieldDescriptor<'p> {
+    ghost use Rattle.std.specs.Cmp.Rules.{comparing};
+    ghost use Rattle.std.proofs.Common.{rules};
+
+    ghost laws = { Prim.search (comparing, rules) };
 }

@@ -18,6 +18,7 @@ pub struct MessageDescriptor<'p> {
 impl<'p> MessageDescriptor<'p> {
     ghost use Rattle.reflect_pool.specs.Finds.{FindsField};
     ghost use Rattle.reflect_pool.specs.PartsLeft.{oneofs_left};
+    ghost use Rattle.reflect_pool.specs.Same.{same_message};
 
     /// The pool that the type stands in.
     pub fn parent_pool(&self) -> &'p DescriptorPool
@@ -58,7 +59,9 @@ impl<'p> MessageDescriptor<'p> {
     }
 
     /// Both have one place and one full name in their pools.
-    pub fn is_same(&self, other: &MessageDescriptor<'p>) -> bool {
+    pub fn is_same(&self, other: &MessageDescriptor<'p>) -> bool
+        ensures { result ≡ same_message self.now other.now }
+    {
         self.index == other.index && self.full_name() == other.full_name()
     }
 
@@ -257,6 +260,28 @@ impl<'p> MessageDescriptor<'p> {
             None
         }
     }
+}
+
+/// Both have one place and one full name in their pools.
+impl<'p> PartialEq for MessageDescriptor<'p> {
+    ghost use Rattle.std.specs.Cmp.Rules.{comparing};
+    ghost use Rattle.std.proofs.Common.{rules};
+    ghost use Rattle.reflect_pool.specs.Same.{same_message};
+
+    ghost eq = { same_message };
+
+    ghost laws = { Prim.search (comparing, rules) };
+
+    fn eq(&self, other: &MessageDescriptor<'p>) -> bool {
+        self.is_same(other)
+    }
+}
+
+impl<'p> Eq for MessageDescriptor<'p> {
+    ghost use Rattle.std.specs.Cmp.Rules.{comparing};
+    ghost use Rattle.std.proofs.Common.{rules};
+
+    ghost laws = { Prim.search (comparing, rules) };
 }
 
 /// The fields of a message type, as they were declared.

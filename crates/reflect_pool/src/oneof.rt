@@ -81,6 +81,28 @@ impl<'p> OneofDescriptor<'p> {
     }
 }
 
+/// Both have one place in one type.
+impl<'p> PartialEq for OneofDescriptor<'p> {
+    ghost use Rattle.std.specs.Cmp.Rules.{comparing};
+    ghost use Rattle.std.proofs.Common.{rules};
+    ghost use Rattle.reflect_pool.specs.Same.{same_oneof};
+
+    ghost eq = { same_oneof };
+
+    ghost laws = { Prim.search (comparing, rules) };
+
+    fn eq(&self, other: &OneofDescriptor<'p>) -> bool {
+        self.index == other.index && self.message == other.message
+    }
+}
+
+impl<'p> Eq for OneofDescriptor<'p> {
+    ghost use Rattle.std.specs.Cmp.Rules.{comparing};
+    ghost use Rattle.std.proofs.Common.{rules};
+
+    ghost laws = { Prim.search (comparing, rules) };
+}
+
 /// The members of a oneof, as they were declared.
 #[derive(Drop)]
 pub struct OneofFields<'p> {

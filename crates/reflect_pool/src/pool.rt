@@ -1,4 +1,5 @@
-ghost use Rattle.std.specs.Prelude.{◌≡◌, ◌<◌, [], length, IfSome, IsSome};
+ghost use Rattle.std.specs.Prelude.{◌≡◌, ◌<◌, [], map, length, Contains, IfSome, IsSome};
+ghost use Rattle.std.specs.Bool.{Decides};
 ghost use Rattle.std.specs.Option.{option_map};
 ghost use Rattle.reflect_index.specs.Types.{PoolType};
 ghost use Rattle.reflect_names.specs.Known.{known_of};
@@ -40,7 +41,7 @@ impl Model for DescriptorPool {
 
     ghost view = { λ p. pool_of p.tables };
 
-    ghost invariant = { λ p. IsLinked (pool_of p.tables) p.names };
+    ghost invariant = { λ p. IsLinked (pool_of p.tables) p.names p.file_names };
 }
 
 /// A full name without its leading dot, if it has one.
@@ -151,7 +152,9 @@ impl DescriptorPool {
     }
 
     /// The pool has a file of this name.
-    pub fn has_file(&self, name: &str) -> bool {
+    pub fn has_file(&self, name: &str) -> bool
+        ensures { Decides result (Contains (map (λ f. f.name) self.now.files) name.now) }
+    {
         self.file_names.contains_key(name)
     }
 }

@@ -2,8 +2,9 @@
 
 ghost use Rattle.std.specs.Prelude.{◌≡◌, length};
 ghost use Rattle.reflect_index.specs.Types.{IsWithin, counts_of};
-ghost use Rattle.reflect_index.specs.Views.{kind_of};
+ghost use Rattle.reflect_index.specs.Views.{field_of, kind_of};
 ghost use Rattle.reflect_pool.specs.Kinds.{IsKind};
+ghost use Rattle.reflect_pool.specs.Shapes.{holds_map};
 
 use crate::enums::EnumDescriptor;
 use crate::kind::{DefaultValue, Kind};
@@ -38,7 +39,9 @@ pub fn kind_in<'p>(pool: &'p DescriptorPool, kind: StoredKind) -> Kind<'p>
 }
 
 /// The field's values are the entries of a map.
-pub fn is_map(pool: &DescriptorPool, field: &StoredField) -> bool {
+pub fn is_map(pool: &DescriptorPool, field: &StoredField) -> bool
+    ensures { result ≡ holds_map pool.now (field_of field.now) }
+{
     let StoredKind::Message(index) = field.kind else {
         return false;
     };

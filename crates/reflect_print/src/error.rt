@@ -1,3 +1,5 @@
+ghost use Rattle.std.specs.Prelude.{◌≡◌};
+
 use std::alloc::{AllocError, AllocFailed};
 use std::error::Error;
 use std::fmt;
@@ -23,6 +25,10 @@ impl fmt::Display for WriteError {
 impl Error for WriteError {}
 
 impl From<fmt::Error> for WriteError {
+    ghost use Rattle.reflect_print.specs.declared.error.WriteError.TheVariants.{Format};
+
+    ghost from_gives = { λ _ e. e ≡ Format };
+
     fn from(_error: fmt::Error) -> WriteError {
         WriteError::Format
     }

@@ -5,6 +5,7 @@ mod any;
 mod entries;
 mod error;
 mod options;
+mod output;
 mod place;
 mod unknown;
 mod writer;

@@ -1,6 +1,9 @@
 //! Records of fields that no type declares, as text.
 
+ghost use Rattle.reflect_print.specs.Appends.{KeepsOutput};
+
 use crate::error::WriteError;
+use crate::output::{put, put_hex_32, put_hex_64, put_shown};
 use crate::place::Place;
 use crate::writer::{Items, Writer};
 use reflect_wire::{UnknownField, UnknownFieldSet, UnknownFieldValue, WireError};
@@ -26,48 +29,84 @@ impl<'a, W: fmt::Write> Writer<'a, W> {
         &mut self,
         record: &UnknownField,
         at: Place,
-    ) -> Result<(), WriteError> {
-        let number = record.number();
-        write!(self.output, "{number}")?;
-        match record.value() {
-            UnknownFieldValue::Varint(value) => {
-                self.colon()?;
-                write!(self.output, "{value}")?;
-            }
-            UnknownFieldValue::ThirtyTwoBit(value) => {
-                self.colon()?;
-                write!(self.output, "0x{value:08x}")?;
-            }
-            UnknownFieldValue::SixtyFourBit(value) => {
-                self.colon()?;
-                write!(self.output, "0x{value:016x}")?;
-            }
-            UnknownFieldValue::LengthDelimited(payload) => self.payload(payload.as_slice(), at)?,
-            UnknownFieldValue::Group(records) => {
-                self.padding()?;
-                self.braced_records(records, at)?;
-            }
+    ) -> Result<(), WriteError>
+        ensures { KeepsOutput W.write_str_gives self.old.output.now result self.new.output.now }
+    {
+        put_shown(self.output, record.number())?;
+        self.unknown_value(record.value(), at)
+    }
+
+    /// What stands behind a record's number.
+    #[cycle(unknown)]
+    fn unknown_value(&mut self, value: &UnknownFieldValue, at: Place) -> Result<(), WriteError>
+        ensures { KeepsOutput W.write_str_gives self.old.output.now result self.new.output.now }
+    {
+        match value {
+            UnknownFieldValue::Varint(value) => self.varint(*value),
+            UnknownFieldValue::ThirtyTwoBit(value) => self.fixed_32(*value),
+            UnknownFieldValue::SixtyFourBit(value) => self.fixed_64(*value),
+            UnknownFieldValue::LengthDelimited(payload) => self.payload(payload.as_slice(), at),
+            UnknownFieldValue::Group(records) => self.group(records, at),
         }
-        Ok(())
+    }
+
+    fn varint(&mut self, value: u64) -> Result<(), WriteError>
+        ensures { KeepsOutput W.write_str_gives self.old.output.now result self.new.output.now }
+    {
+        self.colon()?;
+        put_shown(self.output, value)
+    }
+
+    fn fixed_32(&mut self, value: u32) -> Result<(), WriteError>
+        ensures { KeepsOutput W.write_str_gives self.old.output.now result self.new.output.now }
+    {
+        self.colon()?;
+        put_hex_32(self.output, value)
+    }
+
+    fn fixed_64(&mut self, value: u64) -> Result<(), WriteError>
+        ensures { KeepsOutput W.write_str_gives self.old.output.now result self.new.output.now }
+    {
+        self.colon()?;
+        put_hex_64(self.output, value)
     }
 
     /// A payload: as records where it spells some, else as a string.
     #[cycle(unknown)]
-    fn payload(&mut self, payload: &[u8], at: Place) -> Result<(), WriteError> {
+    fn payload(&mut self, payload: &[u8], at: Place) -> Result<(), WriteError>
+        ensures { KeepsOutput W.write_str_gives self.old.output.now result self.new.output.now }
+    {
         if let Some(payloads) = at.payloads.checked_sub(1) {
             if let Some(records) = inferred(self.alloc, payload)? {
-                self.padding()?;
-                return self.braced_records(&records, Place { payloads, ..at });
+                return self.group(&records, Place { payloads, ..at });
             }
         }
+        self.bytes(payload)
+    }
+
+    /// Bytes behind a number.
+    fn bytes(&mut self, bytes: &[u8]) -> Result<(), WriteError>
+        ensures { KeepsOutput W.write_str_gives self.old.output.now result self.new.output.now }
+    {
         self.colon()?;
-        self.string(payload)
+        self.string(bytes)
+    }
+
+    /// Records in braces behind a number.
+    #[cycle(unknown)]
+    fn group(&mut self, records: &UnknownFieldSet, at: Place) -> Result<(), WriteError>
+        ensures { KeepsOutput W.write_str_gives self.old.output.now result self.new.output.now }
+    {
+        self.padding()?;
+        self.braced_records(records, at)
     }
 
     /// Records in braces.
     #[cycle(unknown)]
-    fn braced_records(&mut self, records: &UnknownFieldSet, at: Place) -> Result<(), WriteError> {
-        self.output.write_str("{")?;
+    fn braced_records(&mut self, records: &UnknownFieldSet, at: Place) -> Result<(), WriteError>
+        ensures { KeepsOutput W.write_str_gives self.old.output.now result self.new.output.now }
+    {
+        put(self.output, "{")?;
         let inner = at.in_braces()?;
         let mut items = Items::new(true);
         for record in records.iter() {

@@ -1,11 +1,15 @@
 //! From a message to text.
 
+ghost use Rattle.reflect_print.specs.Appends.{KeepsOutput, Writes};
+ghost use Rattle.reflect_print.specs.Pieces.{colon, new_line, padding, quoted};
+ghost use Rattle.std.specs.Prelude.{◌≡◌};
+
 use crate::any::{Held, held_message};
 use crate::entries::{Other, declared_fields, other_entries};
 use crate::error::WriteError;
 use crate::options::FormatOptions;
+use crate::output::{put, put_bracketed, put_quoted, put_shown};
 use crate::place::Place;
-use protox_lex::Escaped;
 use reflect_dynamic::{DynamicMessage, MapKey, Value};
 use reflect_link::{ExtensionDescriptor, FieldDescriptor, Kind};
 use reflect_wire::UnknownField;
@@ -39,6 +43,14 @@ impl Items {
     }
 }
 
+/// The name of a field of a kind: a group bears its type's.
+fn text_name<'p>(field: &FieldDescriptor<'p>, kind: &Kind<'p>) -> &'p str {
+    match kind {
+        Kind::Message(group) if field.is_group() => group.name(),
+        _ => field.name(),
+    }
+}
+
 impl<'a, W: fmt::Write> Writer<'a, W> {
     /// A writer in the form of the options to an output.
     pub fn new(alloc: Global, options: FormatOptions, output: &'a mut W) -> Writer<'a, W> {
@@ -50,7 +62,9 @@ impl<'a, W: fmt::Write> Writer<'a, W> {
     }
 
     /// Writes a message, without braces around it.
-    pub fn fmt_message(&mut self, message: &DynamicMessage<'_>) -> Result<(), WriteError> {
+    pub fn fmt_message(&mut self, message: &DynamicMessage<'_>) -> Result<(), WriteError>
+        ensures { KeepsOutput W.write_str_gives self.old.output.now result self.new.output.now }
+    {
         self.items(message, false, Place::TOP)?;
         Ok(())
     }
@@ -60,75 +74,98 @@ impl<'a, W: fmt::Write> Writer<'a, W> {
         &mut self,
         value: &Value<'_>,
         kind: Option<&Kind<'_>>,
-    ) -> Result<(), WriteError> {
+    ) -> Result<(), WriteError>
+        ensures { KeepsOutput W.write_str_gives self.old.output.now result self.new.output.now }
+    {
         self.value(value, kind, Place::TOP)
     }
 
     /// Writes a record with its number. A payload that is a list of records is written as such.
-    pub fn fmt_unknown_field(&mut self, record: &UnknownField) -> Result<(), WriteError> {
+    pub fn fmt_unknown_field(&mut self, record: &UnknownField) -> Result<(), WriteError>
+        ensures { KeepsOutput W.write_str_gives self.old.output.now result self.new.output.now }
+    {
         self.unknown_field(record, Place::TOP)
     }
 
     /// What stands before an item.
-    pub(crate) fn next_item(&mut self, items: &mut Items, at: Place) -> Result<(), WriteError> {
+    pub(crate) fn next_item(&mut self, items: &mut Items, at: Place) -> Result<(), WriteError>
+        ensures { KeepsOutput W.write_str_gives self.old.output.now result self.new.output.now }
+    {
         if self.options.pretty {
             if items.any || items.in_braces {
                 self.line(at)?;
             }
         } else if items.any {
-            self.output.write_str(",")?;
+            put(self.output, ",")?;
         }
         items.any = true;
         Ok(())
     }
 
     /// The brace behind items that stand in braces at a place.
-    pub(crate) fn close(&mut self, any: bool, at: Place) -> Result<(), WriteError> {
+    pub(crate) fn close(&mut self, any: bool, at: Place) -> Result<(), WriteError>
+        ensures { KeepsOutput W.write_str_gives self.old.output.now result self.new.output.now }
+    {
+        self.last_line(any, at)?;
+        put(self.output, "}")
+    }
+
+    /// The line that the brace behind items stands in.
+    fn last_line(&mut self, any: bool, at: Place) -> Result<(), WriteError>
+        ensures { KeepsOutput W.write_str_gives self.old.output.now result self.new.output.now }
+    {
         if any && self.options.pretty {
             self.line(at)?;
         }
-        self.output.write_str("}")?;
         Ok(())
     }
 
     /// The end of a line, and the spaces that the next one begins with.
-    fn line(&mut self, at: Place) -> Result<(), WriteError> {
-        self.output.write_str("\n")?;
+    fn line(&mut self, at: Place) -> Result<(), WriteError>
+        ensures text { Writes W.write_str_gives self.old.output.now result (new_line at.indent) self.new.output.now }
+        ensures form { self.new.options ≡ self.old.options }
+    {
+        put(self.output, "\n")?;
         for _ in 0..at.indent {
-            self.output.write_str(" ")?;
+            put(self.output, " ")?;
         }
         Ok(())
     }
 
     /// A space where the form has one.
-    pub(crate) fn padding(&mut self) -> Result<(), WriteError> {
+    pub(crate) fn padding(&mut self) -> Result<(), WriteError>
+        ensures text { Writes W.write_str_gives self.old.output.now result (padding self.old.options.pretty) self.new.output.now }
+        ensures form { self.new.options ≡ self.old.options }
+    {
         if self.options.pretty {
-            self.output.write_str(" ")?;
+            put(self.output, " ")?;
         }
         Ok(())
     }
 
     /// A colon and the space behind it.
-    pub(crate) fn colon(&mut self) -> Result<(), WriteError> {
-        self.output.write_str(":")?;
+    pub(crate) fn colon(&mut self) -> Result<(), WriteError>
+        ensures text { Writes W.write_str_gives self.old.output.now result (colon self.old.options.pretty) self.new.output.now }
+        ensures form { self.new.options ≡ self.old.options }
+    {
+        put(self.output, ":")?;
         self.padding()
     }
 
     /// Bytes as a string literal.
-    pub(crate) fn string(&mut self, bytes: &[u8]) -> Result<(), WriteError> {
-        let contents = Escaped(bytes);
-        write!(self.output, "\"{contents}\"")?;
-        Ok(())
+    pub(crate) fn string(&mut self, bytes: &[u8]) -> Result<(), WriteError>
+        ensures text { Writes W.write_str_gives self.old.output.now result (quoted bytes.now) self.new.output.now }
+        ensures form { self.new.options ≡ self.old.options }
+    {
+        put_quoted(self.output, bytes)
     }
 
     /// A message in braces.
     #[cycle(message)]
-    fn braced_message(
-        &mut self,
-        message: &DynamicMessage<'_>,
-        at: Place,
-    ) -> Result<(), WriteError> {
-        self.output.write_str("{")?;
+    fn braced_message(&mut self, message: &DynamicMessage<'_>, at: Place) -> Result<(), WriteError>
+        ensures { KeepsOutput W.write_str_gives self.old.output.now result self.new.output.now }
+    {
+        put(self.output, "{")?;
         let any = self.items(message, true, at.in_braces()?)?;
         self.close(any, at)
     }
@@ -140,32 +177,55 @@ impl<'a, W: fmt::Write> Writer<'a, W> {
         message: &DynamicMessage<'_>,
         in_braces: bool,
         at: Place,
-    ) -> Result<bool, WriteError> {
+    ) -> Result<bool, WriteError>
+        ensures { KeepsOutput W.write_str_gives self.old.output.now result self.new.output.now }
+    {
         let mut items = Items::new(in_braces);
-        if self.options.expand_any && at.expansions > 0 {
-            if let Some(held) = held_message(self.alloc, message)? {
-                self.next_item(&mut items, at)?;
-                self.expansion(&held, at)?;
-                return Ok(true);
-            }
+        if let Some(held) = self.expanded(message, at)? {
+            self.next_item(&mut items, at)?;
+            self.expansion(&held, at)?;
+            return Ok(true);
         }
         self.declared(message, &mut items, at)?;
         self.others(message, &mut items, at)?;
         Ok(items.any)
     }
 
+    /// What is printed in place of a `google.protobuf.Any`, if the form expands it.
+    fn expanded<'m, 'p>(
+        &self,
+        message: &'m DynamicMessage<'p>,
+        at: Place,
+    ) -> Result<Option<Held<'m, 'p>>, WriteError> {
+        if self.options.expand_any && at.expansions > 0 {
+            held_message(self.alloc, message)
+        } else {
+            Ok(None)
+        }
+    }
+
     /// The message that a `google.protobuf.Any` holds, under its type's URL.
     #[cycle(message)]
-    fn expansion(&mut self, held: &Held<'_, '_>, at: Place) -> Result<(), WriteError> {
-        if let Some(type_url) = held.type_url.value().as_str() {
-            write!(self.output, "[{type_url}]")?;
-        }
+    fn expansion(&mut self, held: &Held<'_, '_>, at: Place) -> Result<(), WriteError>
+        ensures { KeepsOutput W.write_str_gives self.old.output.now result self.new.output.now }
+    {
+        self.type_url(held)?;
         self.padding()?;
         let inner = Place {
             expansions: at.expansions.saturating_sub(1),
             ..at
         };
         self.braced_message(&held.body, inner)
+    }
+
+    /// The URL of the type that a `google.protobuf.Any` holds a message of.
+    fn type_url(&mut self, held: &Held<'_, '_>) -> Result<(), WriteError>
+        ensures { KeepsOutput W.write_str_gives self.old.output.now result self.new.output.now }
+    {
+        if let Some(type_url) = held.type_url.value().as_str() {
+            put_bracketed(self.output, type_url)?;
+        }
+        Ok(())
     }
 
     /// The declared fields.
@@ -175,7 +235,9 @@ impl<'a, W: fmt::Write> Writer<'a, W> {
         message: &DynamicMessage<'_>,
         items: &mut Items,
         at: Place,
-    ) -> Result<(), WriteError> {
+    ) -> Result<(), WriteError>
+        ensures { KeepsOutput W.write_str_gives self.old.output.now result self.new.output.now }
+    {
         if self.options.skip_default_fields && !self.options.in_index_order {
             for (field, value) in message.fields() {
                 self.next_item(items, at)?;
@@ -197,30 +259,38 @@ impl<'a, W: fmt::Write> Writer<'a, W> {
         message: &DynamicMessage<'_>,
         items: &mut Items,
         at: Place,
-    ) -> Result<(), WriteError> {
+    ) -> Result<(), WriteError>
+        ensures { KeepsOutput W.write_str_gives self.old.output.now result self.new.output.now }
+    {
         for other in &other_entries(self.alloc, message, self.options)? {
             self.next_item(items, at)?;
-            match other {
-                Other::Extension(extension, value) => self.extension(*extension, value, at)?,
-                Other::Unknown(record) => self.unknown_field(record, at)?,
-            }
+            self.other(other, at)?;
         }
         Ok(())
     }
 
-    /// A field with its value. A group bears its type's name.
+    #[cycle(message)]
+    fn other(&mut self, other: &Other<'_, '_>, at: Place) -> Result<(), WriteError>
+        ensures { KeepsOutput W.write_str_gives self.old.output.now result self.new.output.now }
+    {
+        match other {
+            Other::Extension(extension, value) => self.extension(*extension, value, at),
+            Other::Unknown(record) => self.unknown_field(record, at),
+        }
+    }
+
+    /// A field with its value.
     #[cycle(message)]
     fn field(
         &mut self,
         field: FieldDescriptor<'_>,
         value: &Value<'_>,
         at: Place,
-    ) -> Result<(), WriteError> {
+    ) -> Result<(), WriteError>
+        ensures { KeepsOutput W.write_str_gives self.old.output.now result self.new.output.now }
+    {
         let kind = field.kind();
-        match kind {
-            Kind::Message(group) if field.is_group() => self.output.write_str(group.name())?,
-            _ => self.output.write_str(field.name())?,
-        }
+        put(self.output, text_name(&field, &kind))?;
         self.named_value(value, Some(&kind), at)
     }
 
@@ -230,9 +300,11 @@ impl<'a, W: fmt::Write> Writer<'a, W> {
         extension: ExtensionDescriptor<'_>,
         value: &Value<'_>,
         at: Place,
-    ) -> Result<(), WriteError> {
+    ) -> Result<(), WriteError>
+        ensures { KeepsOutput W.write_str_gives self.old.output.now result self.new.output.now }
+    {
         let name = extension.full_name();
-        write!(self.output, "[{name}]")?;
+        put_bracketed(self.output, name)?;
         self.named_value(value, Some(&extension.kind()), at)
     }
 
@@ -243,12 +315,21 @@ impl<'a, W: fmt::Write> Writer<'a, W> {
         value: &Value<'_>,
         kind: Option<&Kind<'_>>,
         at: Place,
-    ) -> Result<(), WriteError> {
-        if !matches!(value, Value::Message(_)) {
-            self.output.write_str(":")?;
-        }
-        self.padding()?;
+    ) -> Result<(), WriteError>
+        ensures { KeepsOutput W.write_str_gives self.old.output.now result self.new.output.now }
+    {
+        self.before_value(value)?;
         self.value(value, kind, at)
+    }
+
+    /// What stands between a name and its value.
+    fn before_value(&mut self, value: &Value<'_>) -> Result<(), WriteError>
+        ensures { KeepsOutput W.write_str_gives self.old.output.now result self.new.output.now }
+    {
+        match value {
+            Value::Message(_) => self.padding(),
+            _ => self.colon(),
+        }
     }
 
     #[cycle(message)]
@@ -257,13 +338,15 @@ impl<'a, W: fmt::Write> Writer<'a, W> {
         value: &Value<'_>,
         kind: Option<&Kind<'_>>,
         at: Place,
-    ) -> Result<(), WriteError> {
+    ) -> Result<(), WriteError>
+        ensures { KeepsOutput W.write_str_gives self.old.output.now result self.new.output.now }
+    {
         match value {
-            Value::Bool(value) => write!(self.output, "{value}")?,
-            Value::I32(value) => write!(self.output, "{value}")?,
-            Value::I64(value) => write!(self.output, "{value}")?,
-            Value::U32(value) => write!(self.output, "{value}")?,
-            Value::U64(value) => write!(self.output, "{value}")?,
+            Value::Bool(value) => put_shown(self.output, value)?,
+            Value::I32(value) => put_shown(self.output, value)?,
+            Value::I64(value) => put_shown(self.output, value)?,
+            Value::U32(value) => put_shown(self.output, value)?,
+            Value::U64(value) => put_shown(self.output, value)?,
             Value::EnumNumber(number) => self.enum_value(*number, kind)?,
             Value::String(text) => self.string(text.as_str().as_bytes())?,
             Value::Bytes(bytes) => self.string(bytes.as_slice())?,
@@ -275,14 +358,16 @@ impl<'a, W: fmt::Write> Writer<'a, W> {
     }
 
     /// The name of an enum's value, or its number where it has none.
-    fn enum_value(&mut self, number: i32, kind: Option<&Kind<'_>>) -> Result<(), WriteError> {
+    fn enum_value(&mut self, number: i32, kind: Option<&Kind<'_>>) -> Result<(), WriteError>
+        ensures { KeepsOutput W.write_str_gives self.old.output.now result self.new.output.now }
+    {
         let value = match kind {
             Some(Kind::Enum(descriptor)) => descriptor.get_value(number),
             _ => None,
         };
         match value {
-            Some(value) => self.output.write_str(value.name())?,
-            None => write!(self.output, "{number}")?,
+            Some(value) => put(self.output, value.name())?,
+            None => put_shown(self.output, number)?,
         }
         Ok(())
     }
@@ -294,21 +379,25 @@ impl<'a, W: fmt::Write> Writer<'a, W> {
         values: &[Value<'_>],
         kind: Option<&Kind<'_>>,
         at: Place,
-    ) -> Result<(), WriteError> {
-        self.output.write_str("[")?;
+    ) -> Result<(), WriteError>
+        ensures { KeepsOutput W.write_str_gives self.old.output.now result self.new.output.now }
+    {
+        put(self.output, "[")?;
         let mut is_first = true;
         for value in values {
             self.next_element(&mut is_first)?;
             self.value(value, kind, at)?;
         }
-        self.output.write_str("]")?;
+        put(self.output, "]")?;
         Ok(())
     }
 
     /// What stands before an element of a list.
-    fn next_element(&mut self, is_first: &mut bool) -> Result<(), WriteError> {
+    fn next_element(&mut self, is_first: &mut bool) -> Result<(), WriteError>
+        ensures { KeepsOutput W.write_str_gives self.old.output.now result self.new.output.now }
+    {
         if !*is_first {
-            self.output.write_str(",")?;
+            put(self.output, ",")?;
             self.padding()?;
         }
         *is_first = false;
@@ -322,20 +411,22 @@ impl<'a, W: fmt::Write> Writer<'a, W> {
         entries: &BTreeMap<MapKey, Value<'_>>,
         kind: Option<&Kind<'_>>,
         at: Place,
-    ) -> Result<(), WriteError> {
+    ) -> Result<(), WriteError>
+        ensures { KeepsOutput W.write_str_gives self.old.output.now result self.new.output.now }
+    {
         let value_kind = match kind {
             Some(Kind::Message(entry)) if entry.is_map_entry() => {
                 Some(entry.map_entry_value_field().kind())
             }
             _ => None,
         };
-        self.output.write_str("[")?;
+        put(self.output, "[")?;
         let mut is_first = true;
         for (key, value) in entries {
             self.next_element(&mut is_first)?;
             self.entry(key, value, value_kind.as_ref(), at)?;
         }
-        self.output.write_str("]")?;
+        put(self.output, "]")?;
         Ok(())
     }
 
@@ -347,27 +438,52 @@ impl<'a, W: fmt::Write> Writer<'a, W> {
         value: &Value<'_>,
         value_kind: Option<&Kind<'_>>,
         at: Place,
-    ) -> Result<(), WriteError> {
-        self.output.write_str("{")?;
+    ) -> Result<(), WriteError>
+        ensures { KeepsOutput W.write_str_gives self.old.output.now result self.new.output.now }
+    {
+        put(self.output, "{")?;
         let inner = at.in_braces()?;
         let mut items = Items::new(true);
-        self.next_item(&mut items, inner)?;
-        self.output.write_str("key")?;
-        self.colon()?;
-        self.map_key(key)?;
-        self.next_item(&mut items, inner)?;
-        self.output.write_str("value")?;
-        self.named_value(value, value_kind, inner)?;
+        self.entry_key(key, &mut items, inner)?;
+        self.entry_value(value, value_kind, &mut items, inner)?;
         self.close(true, at)
     }
 
-    fn map_key(&mut self, key: &MapKey) -> Result<(), WriteError> {
+    /// The value of an entry, under its name.
+    #[cycle(message)]
+    fn entry_value(
+        &mut self,
+        value: &Value<'_>,
+        kind: Option<&Kind<'_>>,
+        items: &mut Items,
+        at: Place,
+    ) -> Result<(), WriteError>
+        ensures { KeepsOutput W.write_str_gives self.old.output.now result self.new.output.now }
+    {
+        self.next_item(items, at)?;
+        put(self.output, "value")?;
+        self.named_value(value, kind, at)
+    }
+
+    /// The key of an entry, under its name.
+    fn entry_key(&mut self, key: &MapKey, items: &mut Items, at: Place) -> Result<(), WriteError>
+        ensures { KeepsOutput W.write_str_gives self.old.output.now result self.new.output.now }
+    {
+        self.next_item(items, at)?;
+        put(self.output, "key")?;
+        self.colon()?;
+        self.map_key(key)
+    }
+
+    fn map_key(&mut self, key: &MapKey) -> Result<(), WriteError>
+        ensures { KeepsOutput W.write_str_gives self.old.output.now result self.new.output.now }
+    {
         match key {
-            MapKey::Bool(key) => write!(self.output, "{key}")?,
-            MapKey::I32(key) => write!(self.output, "{key}")?,
-            MapKey::I64(key) => write!(self.output, "{key}")?,
-            MapKey::U32(key) => write!(self.output, "{key}")?,
-            MapKey::U64(key) => write!(self.output, "{key}")?,
+            MapKey::Bool(key) => put_shown(self.output, key)?,
+            MapKey::I32(key) => put_shown(self.output, key)?,
+            MapKey::I64(key) => put_shown(self.output, key)?,
+            MapKey::U32(key) => put_shown(self.output, key)?,
+            MapKey::U64(key) => put_shown(self.output, key)?,
             MapKey::String(text) => self.string(text.as_str().as_bytes())?,
         }
         Ok(())

@@ -1,8 +1,10 @@
 -- Ranges by ascending start: which have a number.
-use Rattle.std.proofs.Common.{◌≡◌, ◌⊎◌, ℕ, ℤ, zero, suc, false, [], ◌∷◌, ◌++◌, ◌+◌, ◌-◌, ◌<◌, ◌≤◌, ◌≤ℤ◌, ◌<ℤ◌, List, length, map, slice_index_or, refl, sym, ap, ◌∙◌, subst, arith, ⊎_elim, true, int_le}
+use Rattle.std.proofs.Common.{◌≡◌, ◌⊎◌, ℕ, ℤ, zero, suc, false, [], ◌∷◌, ◌++◌, ◌+◌, ◌-◌, ◌<◌, ◌≤◌, ◌≤ℤ◌, ◌<ℤ◌, List, IsPermutation, length, map, take, slice_index_or, refl, sym, ap, ◌∙◌, subst, arith, ⊎_elim, true, int_le}
 use Rattle.std.proofs.lemmas.Bool.Decides.{leb_tells}
 use Rattle.std.proofs.lemmas.Int.{ints, by_lt_z}
 use Rattle.std.proofs.lemmas.List.{get_or-map, length-map, get_or_append_left, get_or-append-add}
+use Rattle.std.proofs.lemmas.List.{take_all}
+use Rattle.std.proofs.lemmas.List.Sorted.{IsPermutation-map}
 use Rattle.std.specs.List.Sorted.{IsSortedByKey, IsPartitionPoint}
 use Rattle.std.specs.Ordering.{int_cmp, is_lt}
 use Rattle.std.specs.List.{All}
@@ -99,3 +101,8 @@ begins_before rs n behind p k d lt = let e = p.0 k d (omega arith) lt in upto (s
   where
     upto : (a : ℤ) → int_le a n ≡ true → a ≤ℤ n
     upto a e = by_lt_z n a (λ h. absurd (grind (arith, ints, h, e))) (λ h. h)
+
+-- sorted ranges are those of the records in some order
+pub from_records : {X : Type 0} (f : X → Range) (rs : List X) (n : ℕ) (made sorted : List NumberRange) → length rs ≤ n → map pair_of made ≡ map f (take n rs) → IsPermutation made sorted → IsPermutation (map f rs) (map pair_of sorted)
+from_records f rs n made sorted all each moved =
+    subst (λ xs. IsPermutation xs (map pair_of sorted)) (each ∙ ap (map f) (take_all n rs all)) (IsPermutation-map pair_of made sorted moved)

@@ -1,9 +1,18 @@
 -- Ranges of numbers, and what is asked of the types that messages and fields mean.
-use Rattle.std.specs.Prelude.{ℕ, ℤ, ◌≤ℤ◌, ◌<ℤ◌, List, Bool, Option, Some, None, All, Contains}
+use Rattle.std.specs.Prelude.{ℕ, ℤ, pos, ◌≤ℤ◌, ◌<ℤ◌, List, Bool, Option, Some, None, All, Contains, unwrap_or}
+use Rattle.descriptor_records.specs.declared.message.ExtensionRange.{ExtensionRange}
+use Rattle.descriptor_records.specs.declared.message.ReservedRange.{ReservedRange}
 
 -- the numbers from the first, below the second
 abbrev pub Range : Type 0
 Range = ℤ × ℤ
+
+-- the range that a record declares
+abbrev pub reserved_range : ReservedRange → Range
+reserved_range r = (unwrap_or r.start (pos 0), unwrap_or r.end (pos 0))
+
+abbrev pub extension_range : ExtensionRange → Range
+extension_range r = (unwrap_or r.start (pos 0), unwrap_or r.end (pos 0))
 
 abbrev pub IsIn : ℤ → Range → Type 0
 IsIn n r = (r.0 ≤ℤ n) × (n <ℤ r.1)

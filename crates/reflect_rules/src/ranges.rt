@@ -1,6 +1,6 @@
-ghost use Rattle.std.specs.Prelude.{◌≡◌, ◌<◌, ◌≤ℤ◌, ◌⊎◌, IfOk, length, slice_index_or};
+ghost use Rattle.std.specs.Prelude.{◌≡◌, ◌<◌, ◌≤ℤ◌, ◌⊎◌, pos, IfOk, IsPermutation, length, map, slice_index_or, unwrap_or};
 ghost use Rattle.reflect_rules.specs.Furthest.{RiseByStart, EndLast, no_range};
-ghost use Rattle.reflect_rules.specs.Ranges.{IsRangeOf};
+ghost use Rattle.reflect_rules.specs.Ranges.{IsRangeOf, reserved_range, extension_range};
 
 use descriptor_records::{ExtensionRange, ReservedRange};
 use std::alloc::{AllocError, Global};
@@ -56,27 +56,30 @@ impl NumberRanges {
     ghost use Rattle.reflect_rules.specs.Walks.{ranges_of};
 
     /// The ranges of numbers that no field may take.
-    pub fn reserved(alloc: Global, records: &[ReservedRange]) -> Result<NumberRanges, AllocError> {
+    pub fn reserved(alloc: Global, records: &[ReservedRange]) -> Result<NumberRanges, AllocError>
+        ensures { IfOk result (λ r. IsPermutation (map reserved_range records.now) (ranges_of r)) }
+    {
         let mut ranges = Vec::with_capacity(alloc, records.len())?;
-        for record in records {
+        'turns: for record in records {
             ranges.push(range_of(record.start, record.end))?;
         }
         NumberRanges::sorted(alloc, ranges)
     }
 
     /// The ranges of numbers that extensions may take.
-    pub fn extensions(
-        alloc: Global,
-        records: &[ExtensionRange],
-    ) -> Result<NumberRanges, AllocError> {
+    pub fn extensions(alloc: Global, records: &[ExtensionRange]) -> Result<NumberRanges, AllocError>
+        ensures { IfOk result (λ r. IsPermutation (map extension_range records.now) (ranges_of r)) }
+    {
         let mut ranges = Vec::with_capacity(alloc, records.len())?;
-        for record in records {
+        'turns: for record in records {
             ranges.push(range_of(record.start, record.end))?;
         }
         NumberRanges::sorted(alloc, ranges)
     }
 
-    fn sorted(alloc: Global, mut ranges: Vec<NumberRange>) -> Result<NumberRanges, AllocError> {
+    fn sorted(alloc: Global, mut ranges: Vec<NumberRange>) -> Result<NumberRanges, AllocError>
+        ensures { IfOk result (λ r. IsPermutation ranges.items r.ranges.items) }
+    {
         ranges.sort_unstable_by_key(|range| range.start);
         let furthest = furthest_places(alloc, ranges.as_slice())?;
         Ok(NumberRanges { ranges, furthest })
@@ -103,7 +106,10 @@ impl NumberRanges {
     }
 }
 
-fn range_of(start: Option<i32>, end: Option<i32>) -> NumberRange {
+fn range_of(start: Option<i32>, end: Option<i32>) -> NumberRange
+    ensures start { result.start ≡ unwrap_or start (pos 0) }
+    ensures end { result.end ≡ unwrap_or end (pos 0) }
+{
     NumberRange {
         start: start.unwrap_or(0),
         end: end.unwrap_or(0),

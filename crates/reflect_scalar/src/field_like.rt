@@ -1,12 +1,17 @@
 //! What fields and extensions have in common.
 
 ghost use Rattle.std.specs.Prelude.{◌≡◌};
-ghost use Rattle.reflect_index.specs.Types.{FieldType};
+ghost use Rattle.reflect_index.specs.Types.{FieldType, PoolType};
+ghost use Rattle.reflect_pool.specs.Kinds.{IsKind};
+ghost use Rattle.reflect_pool.specs.Shapes.{holds_list, holds_map};
 
 use reflect_link::{DefaultValue, ExtensionDescriptor, FieldDescriptor, Kind, OneofDescriptor};
 
 /// A field of a message type, or an extension of one.
 pub trait FieldDescriptorLike<'p> {
+    /// The pool that it stands in.
+    ghost pool: { Self → PoolType };
+
     /// What the pool holds of it.
     ghost says: { Self → FieldType };
 
@@ -15,17 +20,20 @@ pub trait FieldDescriptorLike<'p> {
         ensures { result ≡ (says self.now).number };
 
     /// What it holds; a map's is its entry type.
-    fn kind(&self) -> Kind<'p>;
+    fn kind(&self) -> Kind<'p>
+        ensures { IsKind (pool self.now) result (says self.now).kind };
 
     /// Its messages are written between two tags.
     fn is_group(&self) -> bool
         ensures { result ≡ (says self.now).group };
 
     /// It holds any number of values, and is no map.
-    fn is_list(&self) -> bool;
+    fn is_list(&self) -> bool
+        ensures { result ≡ holds_list (pool self.now) (says self.now) };
 
     /// It holds values under keys.
-    fn is_map(&self) -> bool;
+    fn is_map(&self) -> bool
+        ensures { result ≡ holds_map (pool self.now) (says self.now) };
 
     /// A list is written as one record.
     fn is_packed(&self) -> bool
@@ -44,6 +52,9 @@ pub trait FieldDescriptorLike<'p> {
 
 impl<'p> FieldDescriptorLike<'p> for FieldDescriptor<'p> {
     ghost use Rattle.reflect_pool.specs.FieldsLeft.{field_type};
+    ghost use Rattle.reflect_scalar.specs.FieldTypes.{field_pool};
+
+    ghost pool = { field_pool };
 
     ghost says = { field_type };
 
@@ -85,7 +96,9 @@ impl<'p> FieldDescriptorLike<'p> for FieldDescriptor<'p> {
 }
 
 impl<'p> FieldDescriptorLike<'p> for ExtensionDescriptor<'p> {
-    ghost use Rattle.reflect_scalar.specs.FieldTypes.{extension_type};
+    ghost use Rattle.reflect_scalar.specs.FieldTypes.{extension_pool, extension_type};
+
+    ghost pool = { extension_pool };
 
     ghost says = { extension_type };
 
@@ -134,7 +147,9 @@ pub enum AnyField<'p> {
 }
 
 impl<'p> FieldDescriptorLike<'p> for AnyField<'p> {
-    ghost use Rattle.reflect_scalar.specs.FieldTypes.{either_type};
+    ghost use Rattle.reflect_scalar.specs.FieldTypes.{either_pool, either_type};
+
+    ghost pool = { either_pool };
 
     ghost says = { either_type };
 

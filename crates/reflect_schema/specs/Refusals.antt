@@ -5,8 +5,9 @@ use Rattle.reflect_index.specs.Types.{PoolType}
 use Rattle.reflect_pool.specs.Dots.{without_dot}
 use Rattle.reflect_wire.specs.declared.wire_error.WireError.{WireError}
 use Rattle.reflect_wire.specs.declared.wire_error.WireError.TheVariants as wire
+use Rattle.reflect_bytes.specs.Spelled.{SpellsSet}
 use Rattle.reflect_schema.specs.declared.error.SchemaError.{SchemaError}
-use Rattle.reflect_schema.specs.declared.error.SchemaError.TheVariants.{Parse, Link, Options, Wire, UnknownType, Memory, TooLong}
+use Rattle.reflect_schema.specs.declared.error.SchemaError.TheVariants.{Parse, Link, Options, Wire, Text, UnknownType, Memory, TooLong}
 
 -- a refusal of wire bytes, as one of the schema
 abbrev pub of_wire : WireError → SchemaError
@@ -36,6 +37,14 @@ BytesRefused p name TooLong = IsKnown p name
 BytesRefused p name Memory = Unit {0}
 BytesRefused p name _ = ⊥
 
+-- of a text: the type is unknown, or it is known and the text is refused
+abbrev pub TextRefused : PoolType → List ℕ → SchemaError → Type 0
+TextRefused p name (UnknownType n) = (string_bytes n ≡ name) × IsUnknown p name
+TextRefused p name (Text e) = IsKnown p name
+TextRefused p name TooLong = IsKnown p name
+TextRefused p name Memory = Unit {0}
+TextRefused p name _ = ⊥
+
 -- of files: they do not fit together, or their options do not suit their types
 abbrev pub FilesRefused : SchemaError → Type 0
 FilesRefused (Link e) = Unit {0}
@@ -51,11 +60,11 @@ SourcesRefused (Options e) = Unit {0}
 SourcesRefused Memory = Unit {0}
 SourcesRefused _ = ⊥
 
--- of a descriptor set: the bytes are none, or the files are refused
-abbrev pub SetRefused : SchemaError → Type 0
-SetRefused (Wire e) = Unit {0}
-SetRefused (Link e) = Unit {0}
-SetRefused (Options e) = Unit {0}
-SetRefused TooLong = Unit {0}
-SetRefused Memory = Unit {0}
-SetRefused _ = ⊥
+-- of a descriptor set: the bytes are none, or they are one whose files are refused
+abbrev pub SetRefused : List ℕ → SchemaError → Type 0
+SetRefused bytes (Wire e) = SpellsSet bytes → ⊥
+SetRefused bytes TooLong = SpellsSet bytes → ⊥
+SetRefused bytes (Link e) = SpellsSet bytes
+SetRefused bytes (Options e) = SpellsSet bytes
+SetRefused bytes Memory = Unit {0}
+SetRefused bytes _ = ⊥

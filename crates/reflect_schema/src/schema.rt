@@ -1,4 +1,4 @@
-ghost use Rattle.std.specs.Prelude.{◌≡◌, Some, OnErr, IfOk, IfErr};
+ghost use Rattle.std.specs.Prelude.{◌≡◌, Some, OnOk, OnErr, IfOk, IfErr};
 
 use crate::error::SchemaError;
 use descriptor_records::FileDescriptorProto;
@@ -25,7 +25,8 @@ pub struct Schema {
 
 impl Schema {
     ghost use Rattle.reflect_pool.specs.FindsNames.{FindsMessage};
-    ghost use Rattle.reflect_schema.specs.Refusals.{TypeRefused, BytesRefused, FilesRefused, SourcesRefused, SetRefused};
+    ghost use Rattle.reflect_bytes.specs.Spelled.{SpellsSet};
+    ghost use Rattle.reflect_schema.specs.Refusals.{TypeRefused, BytesRefused, TextRefused, FilesRefused, SourcesRefused, SetRefused};
 
     /// A schema without files. Takes no memory.
     pub fn bare(alloc: Global) -> Schema {
@@ -38,7 +39,9 @@ impl Schema {
     /// A schema of one source, which declares the types of options under the name `google/protobuf/descriptor.proto`.
     ///
     /// Refused as `add_sources` is, and as `Options` where not all of the nine types are there and can be read by.
-    pub fn new(alloc: Global, descriptor_source: &str) -> Result<Schema, SchemaError> {
+    pub fn new(alloc: Global, descriptor_source: &str) -> Result<Schema, SchemaError>
+        ensures { IfErr result SourcesRefused }
+    {
         let mut schema = Schema::bare(alloc);
         schema.add_sources(&[(DESCRIPTOR_NAME, descriptor_source)])?;
         match require_option_types(alloc, &schema.pool)? {
@@ -48,7 +51,10 @@ impl Schema {
     }
 
     /// The schema of a descriptor set's files. Refused as `add_descriptor_set` is.
-    pub fn from_descriptor_set(alloc: Global, bytes: &[u8]) -> Result<Schema, SchemaError> {
+    pub fn from_descriptor_set(alloc: Global, bytes: &[u8]) -> Result<Schema, SchemaError>
+        ensures read { OnOk result (SpellsSet bytes.now) }
+        ensures err { IfErr result (SetRefused bytes.now) }
+    {
         let mut schema = Schema::bare(alloc);
         schema.add_descriptor_set(bytes)?;
         Ok(schema)
@@ -84,7 +90,8 @@ impl Schema {
     /// the schema as it was.
     pub fn add_descriptor_set(&mut self, bytes: &[u8]) -> Result<(), SchemaError>
         ensures unchanged { OnErr result (self.new.pool ≡ self.old.pool) }
-        ensures err { IfErr result SetRefused }
+        ensures read { OnOk result (SpellsSet bytes.now) }
+        ensures err { IfErr result (SetRefused bytes.now) }
     {
         let set = decode_set(self.alloc, bytes)?;
         self.add_batch(set.file)
@@ -130,7 +137,9 @@ impl Schema {
     ///
     /// `UnknownType` where there is no such type, `Text` with the first fault of the text, `TooLong` where the bytes are more
     /// than a length can say.
-    pub fn encode(&self, type_name: &str, text: &str) -> Result<Vec<u8>, SchemaError> {
+    pub fn encode(&self, type_name: &str, text: &str) -> Result<Vec<u8>, SchemaError>
+        ensures { IfErr result (TextRefused self.now.pool type_name.now) }
+    {
         let descriptor = self.message_type(type_name)?;
         let message = DynamicMessage::parse_text_format(self.alloc, descriptor, text)?;
         Ok(message.encode_to_vec()?)

@@ -1,5 +1,5 @@
 //! Readers: each takes bytes and gives the value at their front and the bytes behind it.
-ghost use Rattle.std.specs.Prelude.{◌≡◌, ◌<◌, ◌≤◌, ◌+◌, IfErr, IfSome};
+ghost use Rattle.std.specs.Prelude.{◌≡◌, ◌<◌, ◌≤◌, ◌+◌, ◌*◌, IfErr, IfSome};
 ghost use Rattle.reflect_wire.specs.Faults.{VarintFault, KeyFault, DelimitedFault, FixedFault};
 ghost use Rattle.reflect_wire.specs.Reads.{Fronts, Reads, ReadsBy};
 ghost use Rattle.reflect_wire.specs.Varint.{IsVarintWithin, IsVarint};
@@ -30,7 +30,7 @@ fn varint_within(bytes: &[u8], left: u32) -> Result<(u64, &[u8]), WireError>
     Ok((high * 128 + u64::from(low - 128), rest))
 }
 
-/// The number at the front, where it is spelled in one or two bytes. Most are, and this reads them fast.
+/// The number at the front, where it is spelled in at most four bytes. Most are, and this reads them fast.
 #[inline]
 fn short_varint_at(bytes: &[u8]) -> Option<(u64, &[u8])>
     ensures { IfSome result (λ x. Fronts IsVarint bytes.now x.0 x.1.now) }
@@ -40,12 +40,32 @@ fn short_varint_at(bytes: &[u8]) -> Option<(u64, &[u8])>
     if low < 128 {
         return Some((u64::from(low), rest));
     }
-    let (second, behind) = rest.split_first()?;
-    let high = *second;
+    let (high, behind) = three_bytes_at(rest)?;
+    Some((high * 128 + u64::from(low - 128), behind))
+}
+
+/// The number at the front, where it is spelled in at most three bytes.
+#[inline]
+fn three_bytes_at(bytes: &[u8]) -> Option<(u64, &[u8])>
+    ensures { IfSome result (λ x. Fronts (IsVarintWithin 9) bytes.now x.0 x.1.now × (x.0 < 128 * 128 * 128)) }
+{
+    let (first, rest) = bytes.split_first()?;
+    let low = *first;
+    if low < 128 {
+        return Some((u64::from(low), rest));
+    }
+    let (second, rest) = rest.split_first()?;
+    let middle = *second;
+    if middle < 128 {
+        return Some((u64::from(middle) * 128 + u64::from(low - 128), rest));
+    }
+    let (third, behind) = rest.split_first()?;
+    let high = *third;
     if high >= 128 {
         return None;
     }
-    Some((u64::from(high) * 128 + u64::from(low - 128), behind))
+    let upper = u64::from(high) * 128 + u64::from(middle - 128);
+    Some((upper * 128 + u64::from(low - 128), behind))
 }
 
 /// The base-128 varint at the front, in at most ten bytes ("Encoding", Base 128 Varints).

@@ -3,7 +3,8 @@
 
 use descriptor_records::{FileDescriptorProto, Options};
 use protox_parse::parse;
-use reflect_dynamic::{DynamicMessage, MapKey, PoolExt, ReadOptions, SetFieldError, Value};
+use reflect_bytes::PoolExt;
+use reflect_dynamic::{DynamicMessage, MapKey, ReadOptions, SetFieldError, Value};
 use reflect_link::{DescriptorPool, MessageDescriptor};
 use reflect_wire::{WireError, push_delimited};
 use std::alloc::Global;

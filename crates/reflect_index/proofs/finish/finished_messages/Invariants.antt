@@ -1,6 +1,14 @@
 use Rattle.std.proofs.Common.{◌≡◌, map}
+use Rattle.std.specs.List.{AllByRecursion}
+use Rattle.reflect_index.specs.OfDeclarations.{stored_ranges, draft_ranges}
 use Rattle.reflect_index.specs.DraftNames.{stored_message_name, draft_name}
+use Rattle.reflect_index.specs.Types.{ListsMembers}
+use Rattle.reflect_index.specs.Views.{message_of}
 use Rattle.reflect_index.proofs.finish.finished_messages.Given as goal
 
 abbrev pub invariant-loop-draft : goal.invariant-loop-draft
-invariant-loop-draft l = map stored_message_name l.messages.items ≡ map draft_name l.yielded
+invariant-loop-draft l = record {
+  names : map stored_message_name l.messages.items ≡ map draft_name l.yielded;
+  listed : AllByRecursion ListsMembers (map message_of l.messages.items);
+  ranges : map stored_ranges l.messages.items ≡ map draft_ranges l.yielded;
+}

@@ -1,7 +1,25 @@
-use Rattle.std.proofs.Common.{ap}
+use Rattle.std.proofs.Common.{◌≡◌, ◌∙◌, ◌<◌, ◌++◌, ◌∷◌, [], map, get_or, length, ap, sym, rules}
+use Rattle.std.proofs.Math.ListN.{set}
 use Rattle.std.proofs.Math.Seq.{map-set_same}
+use Rattle.std.proofs.lemmas.List.{map-append, map-set}
+use Rattle.std.proofs.lemmas.List as lists
 use Rattle.reflect_index.specs.DraftNames.{enum_draft_name}
+use Rattle.reflect_index.specs.OfDeclarations.{draft_values, stored_value}
+use Rattle.reflect_index.specs.declared.drafts.EnumDraft.{EnumDraft}
 use Rattle.reflect_index.proofs.visitor.push_value.Goals as goal
 
-pub returns-in_ok-push : goal.returns-in_ok-push
-returns-in_ok-push c = map-set_same enum_draft_name c.args.enums.now.items c.args.place _ c.index_mut.result.now (ap enum_draft_name c.index_mut.ensures.value)
+pub returns-in_ok-push-clause-names : goal.returns-in_ok-push-clause-names
+returns-in_ok-push-clause-names c = map-set_same enum_draft_name c.args.enums.now.items c.args.place _ c.index_mut.result.now (ap enum_draft_name c.index_mut.ensures.value)
+
+pub returns-in_ok-push-clause-values : goal.returns-in_ok-push-clause-values
+returns-in_ok-push-clause-values c =
+    let items = c.args.enums.now.items in
+    let place = c.args.place in
+    let was = c.index_mut.result.now in
+    let now : EnumDraft = record { file = was.file; parent = was.parent; path = was.path; name = was.name; full_name = was.full_name; values = c.push.new.self } in
+    let v = stored_value c.args.value in
+    let inside : place < length items = search rules in
+    let pushed : c.push.new.self.items ≡ was.values.items ++ c.args.value ∷ [] = search rules in
+    let here : draft_values was ≡ get_or (map draft_values items) place [] = ap draft_values c.index_mut.ensures.value ∙ sym (lists.get_or-map draft_values items place was [] inside) in
+    let more : draft_values now ≡ get_or (map draft_values items) place [] ++ v ∷ [] = ap (map stored_value) pushed ∙ map-append stored_value was.values.items (c.args.value ∷ []) ∙ ap (λ l. l ++ v ∷ []) here in
+    map-set draft_values items place now ∙ ap (set (map draft_values items) place) more

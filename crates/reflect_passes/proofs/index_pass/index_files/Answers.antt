@@ -1,8 +1,11 @@
-use Rattle.std.proofs.Common.{◌≡◌, ◌∙◌, Result, Ok, Err, IfOk, ap, map}
+use Rattle.std.proofs.Common.{◌≡◌, ◌∙◌, ◌++◌, List, [], Result, Ok, Err, IfOk, ap, map, subst, sym}
+use Rattle.reflect_walk.specs.Tree.{MessageParts}
 use Rattle.reflect_walk.specs.Batches.{batch_declarations}
 use Rattle.reflect_index.specs.Names.{messages, enums, extensions, services, with_names}
 use Rattle.reflect_index.specs.DraftNames.{draft_name, enum_draft_name, stored_extension_name, stored_service_name}
-use Rattle.reflect_index.proofs.IndexRuns.{ran}
+use Rattle.reflect_index.specs.OfDeclarations.{RangesType, AllDeclared, messages_in, draft_ranges, stored_ranges, draft_values}
+use Rattle.reflect_index.proofs.IndexRuns.{Behind, ran}
+use Rattle.reflect_index.proofs.Valued.{with_values, all_values}
 use Rattle.reflect_passes.proofs.index_pass.index_files.Goals as goal
 
 ok_with : {A E : Type 0} (P Q : A → Type 0) (r : Result A E) → ((x : A) → P x → Q x) → IfOk r P → IfOk r Q
@@ -32,3 +35,27 @@ returns-clause-services c =
     let ds = batch_declarations c.args.before c.args.first c.args.files.now in
     let r = ran c.new-visitor.result ds c.visit_all.new.visitor c.in_ok-visit_all.ensures.runs in
     ok_with _ _ c.into_batch.result (λ b e. ap (map stored_service_name) e ∙ r.services ∙ ap (λ xs. with_names services (map stored_service_name xs) ds) c.new-visitor.ensures.services) c.into_batch.ensures.services
+
+-- what stands behind nothing
+all_there : (ms : List MessageParts) (old new made : List RangesType) → old ≡ [] → Behind old ms new → made ≡ new → AllDeclared ms made
+all_there ms old new made none h same = subst (AllDeclared ms) (sym (same ∙ h.2 ∙ ap (λ l. l ++ h.0) none)) h.1
+
+pub returns-clause-ranges : goal.returns-clause-ranges
+returns-clause-ranges c =
+    let ds = batch_declarations c.args.before c.args.first c.args.files.now in
+    let r = ran c.new-visitor.result ds c.visit_all.new.visitor c.in_ok-visit_all.ensures.runs in
+    let old = map draft_ranges c.new-visitor.result.drafts.messages.items in
+    let new = map draft_ranges c.visit_all.new.visitor.drafts.messages.items in
+    ok_with _ _ c.into_batch.result (λ b e. all_there (messages_in ds) old new (map stored_ranges b.messages.items) (ap (map draft_ranges) c.new-visitor.ensures.messages) r.ranges e) c.into_batch.ensures.ranges
+
+pub returns-clause-values : goal.returns-clause-values
+returns-clause-values c =
+    let before = c.args.before in
+    let fs = c.args.files.now in
+    let ds = batch_declarations before c.args.first fs in
+    let v = c.new-visitor.result in
+    let r = ran v ds c.visit_all.new.visitor c.in_ok-visit_all.ensures.runs in
+    let begun : with_values v.before.enums (map draft_values v.drafts.enums.items) ds ≡ with_values before.enums [] ds =
+    ap (λ o. with_values o.enums (map draft_values v.drafts.enums.items) ds) c.new-visitor.ensures.before
+    ∙ ap (λ es. with_values before.enums (map draft_values es) ds) c.new-visitor.ensures.enums in
+    ok_with _ _ c.into_batch.result (λ b e. e ∙ r.values ∙ begun ∙ all_values before c.args.first fs) c.into_batch.ensures.values

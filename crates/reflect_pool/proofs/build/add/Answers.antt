@@ -13,11 +13,12 @@ returns-clause-pooled c =
     let counts = c.in_ok-counts.counts in
     let within : AreWithin counts more = record {
       messages = c.if-not-are_within.ensures.messages (search rules);
+      listed = c.requires.listed;
       enums = c.if-not-are_within.ensures.enums (search rules);
       extensions = c.if-not-are_within.ensures.extensions (search rules);
       services = c.if-not-are_within.ensures.services (search rules);
     } in
-    pooled_more c.args.tables.now more c.append.new.tables counts c.in_ok-append.ensures.appended c.in_ok-counts.ensures.together c.in_ok-counts.ensures.few c.requires within
+    pooled_more c.args.tables.now more c.append.new.tables counts c.in_ok-append.ensures.appended c.in_ok-counts.ensures.together c.in_ok-counts.ensures.few c.requires.pooled within
 
 pub returns-clause-grown : goal.returns-clause-grown
 returns-clause-grown c =
@@ -33,4 +34,4 @@ returns-clause-grown c =
       services = c.if-not-are_from.ensures.services (search rules);
     } in
     subst (λ n. cut_to (pool_of c.append.new.tables) n ≡ pool_of old) (length-map old.files.items file_of)
-    (cut_back old more c.append.new.tables c.in_ok-append.ensures.appended (subst (λ n. AreFrom n more) same from) c.requires)
+    (cut_back old more c.append.new.tables c.in_ok-append.ensures.appended (subst (λ n. AreFrom n more) same from) c.requires.pooled)

@@ -1,15 +1,18 @@
-use Rattle.std.proofs.Common.{◌≡◌, ◌∙◌, ◌+◌, ◌++◌, [], List, Result, Ok, Err, IfOk, OnOk, IsErrAnd, MatchResult, is_ok, map, length, ap, sym, subst, rules}
-use Rattle.std.proofs.Math.ListN.{length-append}
+use Rattle.std.proofs.Common.{◌≡◌, ◌∙◌, ◌++◌, [], List, inl, Result, Ok, Err, IfErr, OnOk, is_ok, map, ap, sym, subst, rules, of_calls}
+use Rattle.std.proofs.lemmas.Result.{err_from_is_err_and}
+use Rattle.reflect_names.specs.Faults.{list_of, place_at}
+use Rattle.reflect_passes.specs.Errors.{Refuses, faults_of}
+use Rattle.reflect_passes.specs.NumberFaults.{NumberFaults, doubled}
+use Rattle.reflect_passes.proofs.Listed.{places}
+use Rattle.reflect_pool.specs.Refusals.{linking, FaultyBatch}
+use Rattle.reflect_pool.proofs.Accepting.{added_behind, faultless}
+use Rattle.reflect_pool.proofs.Refused.{mapped, before_mapped, mapped_error, types_with, types_of, means_of, refused_numbers, refused_extensions}
 use Rattle.reflect_walk.specs.Batches.{batch_declarations}
 use Rattle.reflect_index.specs.Names.{FullName, messages, enums, extensions, services, with_names}
+use Rattle.reflect_index.specs.Views.{file_of}
 use Rattle.reflect_index.specs.DraftNames.{stored_message_name, stored_enum_name, stored_extension_name, stored_service_name}
 use Rattle.reflect_pool.proofs.Pooled.{map-append}
 use Rattle.reflect_pool.proofs.build.link_declared.Goals as goal
-
--- what holds of a result holds where its error was mapped
-mapped : {A E D : Type 0} (P : A → Type 0) (Q : E → D → Type 0) (r : Result A E) (s : Result A D) → MatchResult r (λ x. s ≡ Ok x) (λ e. IsErrAnd s (Q e)) → IfOk r P → (y : A) → s ≡ Ok y → P y
-mapped P Q (Ok x) s same h y is = let e : Ok x ≡ Ok y = sym same ∙ is in let f : x ≡ y = cc in subst P f h
-mapped P Q (Err e) s other h y is = absurd (subst (λ t. IsErrAnd t (Q e)) is other)
 
 on_mapped : {A E D : Type 0} (P Q : Type 0) (r : Result A E) (s : Result A D) → is_ok s ≡ is_ok r → (P → Q) → OnOk r P → OnOk s Q
 on_mapped P Q (Ok x) (Ok y) e f h = f h
@@ -20,11 +23,11 @@ on_mapped P Q (Err x) (Err y) e f h = tt
 goes_on : {X : Type 0} (f : X → FullName) (olds mores news batch : List X) (names : List FullName) → news ≡ olds ++ mores → mores ≡ batch → map f batch ≡ names → map f news ≡ map f olds ++ names
 goes_on f olds mores news batch names a b c = ap (map f) a ∙ map-append f olds mores ∙ ap (λ l. map f olds ++ l) (ap (map f) b ∙ c)
 
-pub returns-clause-count : goal.returns-clause-count
-returns-clause-count c =
+pub returns-clause-files : goal.returns-clause-files
+returns-clause-files c =
     let files = mapped _ _ c.with_records.result c.map_err-3.result c.map_err-3.ensures.cases c.with_records.ensures.files c.in_ok-more.more c.in_ok-more.was in
     on_mapped _ _ c.add.result c.map_err-4.result c.map_err-4.ensures.variant
-    (λ a. ap length a.files ∙ length-append c.args.tables.now.files.items c.in_ok-more.more.files.items ∙ ap (λ n. length c.args.tables.now.files.items + n) (files ∙ c.rewritten.ensures)) c.add.ensures.appended
+    (λ a. ap (map file_of) a.files ∙ map-append file_of c.args.tables.now.files.items c.in_ok-more.more.files.items ∙ ap (λ l. map file_of c.args.tables.now.files.items ++ l) (files ∙ c.rewritten.ensures)) c.add.ensures.appended
 
 pub returns-clause-messages : goal.returns-clause-messages
 returns-clause-messages c =
@@ -57,3 +60,72 @@ returns-clause-services c =
     let more = mapped _ _ c.with_records.result c.map_err-3.result c.map_err-3.ensures.cases c.with_records.ensures.services c.in_ok-more.more c.in_ok-more.was in
     on_mapped _ _ c.add.result c.map_err-4.result c.map_err-4.ensures.variant
     (λ a. goes_on stored_service_name c.args.tables.now.services.items c.in_ok-more.more.services.items c.add.new.tables.services.items c.in_ok-batch.batch.services.items _ a.services more (batch ∙ ap (λ l. with_names services [] (batch_declarations c.args.before c.args.first l)) same)) c.add.ensures.appended
+
+pub returns-in_err-check_numbers-clause-refused : goal.returns-in_err-check_numbers-clause-refused
+returns-in_err-check_numbers-clause-refused c =
+    let w = linking c.args.file_names.now c.args.names.now c.args.links.now.items c.args.tables.now c.args.extension_numbers.now c.args.before c.args.first in
+    let fs = c.args.files.items in
+    let rs = c.in_ok-references.references.items in
+    let batch = c.in_ok-batch.batch in
+    let made = c.index_files.ensures in
+    let types = types_of w fs c.as_slice-4.result.now _ c.index_files.result c.map_err-2.result c.as_slice-4.ensures.value c.map_err-2.ensures.cases made.messages made.ranges made.enums made.values made.extensions batch c.in_ok-batch.was in
+    let added = before_mapped _ c.add_links.result c.map_err.result c.in_ok-map_err.field-0 c.map_err.ensures.variant c.in_ok-map_err.was c.add_links.ensures in
+    let means = means_of w fs rs c.as_slice.result.now c.as_slice-2.result.now c.add_links.new.links.items c.as_slice-3.result.now c.as_slice.ensures.value c.as_slice-2.ensures.value c.as_slice-3.ensures.value added c.in_ok-references.ensures.ok in
+    let t = types_with w batch in
+    let r = c.from_residual-in_err-check_numbers in
+    let p = err_from_is_err_and r.result r.ensures.1 in
+    let says = subst (λ e. Refuses (NumberFaults t w.before w.first c.as_slice-6.result.now c.as_slice-7.result.now) e) (sym p.2) c.in_err-check_numbers.ensures.err in
+    refused_numbers w fs t types r.result p.0 p.1 rs means
+    (subst (λ l. Refuses (NumberFaults t w.before w.first l rs) p.0) c.as_slice-6.ensures.value
+    (subst (λ l. Refuses (NumberFaults t w.before w.first c.as_slice-6.result.now l) p.0) c.as_slice-7.ensures.value says))
+
+pub returns-in_err-list_extensions-clause-refused : goal.returns-in_err-list_extensions-clause-refused
+returns-in_err-list_extensions-clause-refused c =
+    let w = linking c.args.file_names.now c.args.names.now c.args.links.now.items c.args.tables.now c.args.extension_numbers.now c.args.before c.args.first in
+    let fs = c.args.files.items in
+    let rs = c.in_ok-references.references.items in
+    let batch = c.in_ok-batch.batch in
+    let made = c.index_files.ensures in
+    let types = types_of w fs c.as_slice-4.result.now _ c.index_files.result c.map_err-2.result c.as_slice-4.ensures.value c.map_err-2.ensures.cases made.messages made.ranges made.enums made.values made.extensions batch c.in_ok-batch.was in
+    let added = before_mapped _ c.add_links.result c.map_err.result c.in_ok-map_err.field-0 c.map_err.ensures.variant c.in_ok-map_err.was c.add_links.ensures in
+    let means = means_of w fs rs c.as_slice.result.now c.as_slice-2.result.now c.add_links.new.links.items c.as_slice-3.result.now c.as_slice.ensures.value c.as_slice-2.ensures.value c.as_slice-3.ensures.value added c.in_ok-references.ensures.ok in
+    let t = types_with w batch in
+    let r = c.from_residual-in_err-list_extensions in
+    let p = err_from_is_err_and r.result r.ensures.1 in
+    let f = c.new.result in
+    let none = subst (λ l. NumberFaults t w.before w.first l rs []) c.as_slice-6.ensures.value
+    (subst (λ l. NumberFaults t w.before w.first c.as_slice-6.result.now l []) c.as_slice-7.ensures.value c.in_ok-check_numbers.ensures.ok) in
+    let says = subst (λ e. Refuses (λ xs. xs ≡ list_of f ++ doubled w.numbers t (place_at f)) e) (sym p.2) c.in_err-list_extensions.ensures.err in
+    refused_extensions w fs t types r.result p.0 p.1 f (rs, t, means, types, none) c.new.ensures.none
+    (places f fs w.first (c.new.ensures.files ∙ c.as_slice-8.ensures.value) c.new.ensures.first) says
+
+pub returns-clause-accepted : goal.returns-clause-accepted
+returns-clause-accepted c =
+    let w = linking c.args.file_names.now c.args.names.now c.args.links.now.items c.args.tables.now c.args.extension_numbers.now c.args.before c.args.first in
+    let fs = c.args.files.items in
+    let rs = c.in_ok-references.references.items in
+    let batch = c.in_ok-batch.batch in
+    let made = c.index_files.ensures in
+    let types = types_of w fs c.as_slice-4.result.now _ c.index_files.result c.map_err-2.result c.as_slice-4.ensures.value c.map_err-2.ensures.cases made.messages made.ranges made.enums made.values made.extensions batch c.in_ok-batch.was in
+    let added = before_mapped _ c.add_links.result c.map_err.result c.in_ok-map_err.field-0 c.map_err.ensures.variant c.in_ok-map_err.was c.add_links.ensures in
+    let means = means_of w fs rs c.as_slice.result.now c.as_slice-2.result.now c.add_links.new.links.items c.as_slice-3.result.now c.as_slice.ensures.value c.as_slice-2.ensures.value c.as_slice-3.ensures.value added c.in_ok-references.ensures.ok in
+    let t = types_with w batch in
+    let none = subst (λ l. NumberFaults t w.before w.first l rs []) c.as_slice-6.ensures.value
+    (subst (λ l. NumberFaults t w.before w.first c.as_slice-6.result.now l []) c.as_slice-7.ensures.value c.in_ok-check_numbers.ensures.ok) in
+    let f = c.new.result in
+    let at = places f fs w.first (c.new.ensures.files ∙ c.as_slice-8.ensures.value) c.new.ensures.first in
+    on_mapped _ _ c.add.result c.map_err-4.result c.map_err-4.ensures.variant
+    (λ a. faultless w fs _ rs t means types
+    (added_behind c.args.tables.now c.in_ok-more.more c.add.new.tables batch fs w a (mapped _ _ c.with_records.result c.map_err-3.result c.map_err-3.ensures.cases c.with_records.ensures.files c.in_ok-more.more c.in_ok-more.was ∙ c.rewritten.ensures)
+    (mapped _ _ c.with_records.result c.map_err-3.result c.map_err-3.ensures.cases c.with_records.ensures.messages c.in_ok-more.more c.in_ok-more.was)
+    (mapped _ _ c.with_records.result c.map_err-3.result c.map_err-3.ensures.cases c.with_records.ensures.enums c.in_ok-more.more c.in_ok-more.was)
+    (mapped _ _ c.with_records.result c.map_err-3.result c.map_err-3.ensures.cases c.with_records.ensures.extensions c.in_ok-more.more c.in_ok-more.was))
+    none f at c.in_ok-list_extensions.ensures.ok) c.add.ensures.appended
+
+pub returns-in_err-more-clause-refused : goal.returns-in_err-more-clause-refused
+returns-in_err-more-clause-refused c =
+    let w = linking c.args.file_names.now c.args.names.now c.args.links.now.items c.args.tables.now c.args.extension_numbers.now c.args.before c.args.first in
+    let r = c.from_residual-in_err-more in
+    let p = err_from_is_err_and r.result r.ensures.1 in
+    let says = mapped_error _ c.with_records.result c.map_err-3.result c.map_err-3.ensures.cases (λ e y h. search (rules, of_calls)) c.in_err-more.field-0.0 c.in_err-more.was in
+    subst (λ x. IfErr x (λ e. Refuses (FaultyBatch w c.args.files.items) e)) (sym p.1) (inl (ap faults_of p.2 ∙ says))

@@ -1,5 +1,5 @@
 -- The later of the last place and the next ends last of all up to there.
-use Rattle.std.proofs.Common.{◌≡◌, ◌∷◌, [], length, ap, ◌∙◌, arith}
+use Rattle.std.proofs.Common.{◌∷◌, [], length, ap, ◌∙◌, arith}
 use Rattle.std.proofs.lemmas.List.{length-append}
 use Rattle.reflect_rules.proofs.Furthest.{one_more, still_last}
 use Rattle.reflect_rules.proofs.ranges.furthest_places.Goals as goal

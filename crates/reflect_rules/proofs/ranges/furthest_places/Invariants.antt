@@ -1,5 +1,5 @@
 -- The places so far, and the one that ends last of all so far.
-use Rattle.std.proofs.Common.{◌≡◌, ℕ, ◌<◌, ◌≤◌, ◌≤ℤ◌, List, length, slice_index_or}
+use Rattle.std.proofs.Common.{◌≡◌, ℕ, ◌<◌, ◌≤◌, ◌≤ℤ◌, length, slice_index_or}
 use Rattle.reflect_rules.specs.Furthest.{EndsLast, no_range}
 use Rattle.reflect_rules.proofs.ranges.furthest_places.Given as goal
 

@@ -1,7 +1,7 @@
 use Rattle.reflect_pool.proofs.Within.{enum_within}
 use Rattle.reflect_pool.proofs.enums.EnumDescriptor.file_index.Goals as goal
 
-pub returns : goal.returns
-returns c =
+pub returns-clause-inside : goal.returns-clause-inside
+returns-clause-inside c =
     let self = c.args.self.now in
     (enum_within c.pool.inside.tables self.pool.now self.index c.index.result.now c.pool.view_is c.pool.invariant.pooled self.in_range c.index.ensures).file

@@ -1,7 +1,12 @@
-use Rattle.std.proofs.Common.{rules, arith, ◌≡◌, ◌∙◌, length}
+use Rattle.std.proofs.Common.{rules, of_calls, arith, ◌≡◌, ◌∙◌, length}
+use Rattle.std.proofs.lemmas.Fn.{filter_same}
 use Rattle.std.proofs.lemmas.Grind.{common_steps}
 use Rattle.reflect_names.proofs.Entries.{err_from}
 use Rattle.reflect_index.specs.Views.{pool_of}
+use Rattle.reflect_pool.specs.Linked.{CountsOf}
+use Rattle.reflect_pool.specs.Refusals.{linking, is_unknown}
+use Rattle.reflect_pool.proofs.Refused.{mapped, is_of, refused_files}
+use Rattle.reflect_pool.proofs.Accepting.{faultless_files, adds_files}
 use Rattle.reflect_pool.proofs.Named.{linked_same}
 use Rattle.reflect_pool.proofs.pool.DescriptorPool.build_files.Goals as goal
 
@@ -11,4 +16,41 @@ invariant_of-self c =
     let first = c.in_ok-first.first in
     let start : first ≡ length tables.files.items = grind (arith, common_steps, c.in_ok-first.ensures.cases, c.len.ensures) in
     let same : pool_of c.link-outcome.new.tables ≡ pool_of tables = err_from _ c.link-outcome.result (search rules) c.link-outcome.ensures.unchanged in
-    linked_same tables (pool_of c.link-outcome.new.tables) c.self.inside.names c.forget_names.new.names first start same (c.forget_names.ensures.entries ∙ c.link-outcome.ensures.kept) c.self.invariant
+    linked_same tables (pool_of c.link-outcome.new.tables) c.self.inside.names c.forget_names.new.names c.self.inside.file_names c.link-outcome.new.file_names c.forget_files.new.file_names
+    first start same (c.forget_names.ensures.entries ∙ c.link-outcome.ensures.kept) c.link-outcome.ensures.kept_files (c.forget_files.ensures.was_ordered, c.forget_files.ensures.entries) c.self.invariant
+
+pub returns-then-is_err-clause-refused : goal.returns-then-is_err-clause-refused
+returns-then-is_err-clause-refused c =
+    let self = c.self.inside in
+    let first = c.in_ok-first.first in
+    let w = linking self.file_names self.names self.links.items self.tables self.extension_numbers c.in_ok-before.before first in
+    let seen : pool_of self.tables ≡ c.args.self.now = search rules in
+    let start : first ≡ length self.tables.files.items = grind (arith, common_steps, c.in_ok-first.ensures.cases, c.len.ensures) in
+    let counts = mapped (CountsOf (pool_of self.tables)) _ c.offsets.result c.map_err.result c.map_err.ensures.cases c.offsets.ensures c.in_ok-before.before c.in_ok-before.was in
+    let of = is_of self.tables self.names self.file_names self.links.items self.extension_numbers c.in_ok-before.before first c.args.self.now c.self.invariant counts start seen in
+    let news = filter_same _ (is_unknown w.indexes) _ (λ x b g h. search (rules, of_calls)) _ _ c.retain.ensures.filtered in
+    refused_files c.args.self.now w c.args.files.items c.retain.new.self.items c.link-outcome.result of news c.link-outcome.ensures.refused
+
+pub returns-else-is_err-clause-accepted : goal.returns-else-is_err-clause-accepted
+returns-else-is_err-clause-accepted c =
+    let self = c.self.inside in
+    let first = c.in_ok-first.first in
+    let w = linking self.file_names self.names self.links.items self.tables self.extension_numbers c.in_ok-before.before first in
+    let seen : pool_of self.tables ≡ c.args.self.now = search rules in
+    let start : first ≡ length self.tables.files.items = grind (arith, common_steps, c.in_ok-first.ensures.cases, c.len.ensures) in
+    let counts = mapped (CountsOf (pool_of self.tables)) _ c.offsets.result c.map_err.result c.map_err.ensures.cases c.offsets.ensures c.in_ok-before.before c.in_ok-before.was in
+    let of = is_of self.tables self.names self.file_names self.links.items self.extension_numbers c.in_ok-before.before first c.args.self.now c.self.invariant counts start seen in
+    let news = filter_same _ (is_unknown w.indexes) _ (λ x b g h. search (rules, of_calls)) _ _ c.retain.ensures.filtered in
+    faultless_files c.args.self.now w c.args.files.items c.retain.new.self.items (pool_of c.link-outcome.new.tables) c.link-outcome.result of news c.link-outcome.ensures.accepted
+
+pub returns-else-is_err-clause-added : goal.returns-else-is_err-clause-added
+returns-else-is_err-clause-added c =
+    let self = c.self.inside in
+    let first = c.in_ok-first.first in
+    let w = linking self.file_names self.names self.links.items self.tables self.extension_numbers c.in_ok-before.before first in
+    let seen : pool_of self.tables ≡ c.args.self.now = search rules in
+    let start : first ≡ length self.tables.files.items = grind (arith, common_steps, c.in_ok-first.ensures.cases, c.len.ensures) in
+    let counts = mapped (CountsOf (pool_of self.tables)) _ c.offsets.result c.map_err.result c.map_err.ensures.cases c.offsets.ensures c.in_ok-before.before c.in_ok-before.was in
+    let of = is_of self.tables self.names self.file_names self.links.items self.extension_numbers c.in_ok-before.before first c.args.self.now c.self.invariant counts start seen in
+    let news = filter_same _ (is_unknown w.indexes) _ (λ x b g h. search (rules, of_calls)) _ _ c.retain.ensures.filtered in
+    adds_files c.args.self.now w c.args.files.items c.retain.new.self.items (pool_of c.link-outcome.new.tables) c.link-outcome.result of news c.link-outcome.ensures.added

@@ -7,5 +7,6 @@ use Rattle.reflect_pool.proofs.pool.DescriptorPool.cut.Goals as goal
 
 pub invariant_of-self : goal.invariant_of-self
 invariant_of-self c =
-    linked_cut (pool_of c.self.inside.tables) (pool_of c.cut.new.tables) c.args.mark c.self.inside.names c.forget_names.new.names c.cut.ensures c.forget_names.ensures.was_ordered c.forget_names.ensures.entries c.self.invariant
+    linked_cut (pool_of c.self.inside.tables) (pool_of c.cut.new.tables) c.args.mark c.self.inside.names c.forget_names.new.names c.self.inside.file_names c.forget_files.new.file_names
+    c.cut.ensures c.forget_names.ensures.was_ordered c.forget_names.ensures.entries (c.forget_files.ensures.was_ordered, c.forget_files.ensures.entries) c.self.invariant
     (subst (λ (p : PoolType). ArePooled (cut_to p c.args.mark)) (sym c.self.view_is) c.requires)

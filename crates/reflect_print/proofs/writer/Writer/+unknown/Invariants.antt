@@ -1,15 +1,22 @@
 use Rattle.std.proofs.Common.{◌+◌, ◌*◌}
+use Rattle.reflect_print.specs.Appends.{Appends}
 use Rattle.reflect_print.proofs.writer.Writer.+unknown.Given as goal
 
 abbrev pub decreases-braced_records : goal.decreases-braced_records
-decreases-braced_records g l = 3 * l.at.levels
+decreases-braced_records g l = 5 * l.at.levels
+
+abbrev pub decreases-group : goal.decreases-group
+decreases-group g l = 5 * l.at.levels + 1
 
 abbrev pub decreases-payload : goal.decreases-payload
-decreases-payload g l = 3 * l.at.levels + 1
+decreases-payload g l = 5 * l.at.levels + 2
+
+abbrev pub decreases-unknown_value : goal.decreases-unknown_value
+decreases-unknown_value g l = 5 * l.at.levels + 3
 
 abbrev pub decreases-unknown_field : goal.decreases-unknown_field
-decreases-unknown_field g l = 3 * l.at.levels + 2
+decreases-unknown_field g l = 5 * l.at.levels + 4
 
 abbrev pub invariant-braced_records-loop-record : goal.invariant-braced_records-loop-record
 invariant-braced_records-loop-record g l =
-    (goal.iterator-braced_records-loop-record g).can_next l.record-iterator × (goal.iterator-braced_records-loop-record g).is_finite l.record-iterator
+    (goal.iterator-braced_records-loop-record g).can_next l.record-iterator × (goal.iterator-braced_records-loop-record g).is_finite l.record-iterator × Appends g.W.Write.write_str_gives l.fn.self.output.now l.self.output.now

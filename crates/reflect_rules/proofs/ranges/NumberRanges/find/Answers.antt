@@ -1,10 +1,9 @@
 -- The range that ends last of those that begin up to the number has it, if any does.
-use Rattle.std.proofs.Common.{rules, of_calls, ◌≡◌, ℕ, ℤ, true, false, ◌+◌, ◌-◌, ◌<◌, ◌≤◌, ◌≤ℤ◌, ◌<ℤ◌, length, slice_index_or, arith, sym, ap, ◌∙◌, to_z, of_z, w32, int_le}
+use Rattle.std.proofs.Common.{rules, of_calls, ◌≡◌, ◌-◌, ◌<◌, ◌≤◌, ◌≤ℤ◌, length, slice_index_or, arith, sym, ap, to_z, of_z, w32, int_le}
 use Rattle.std.proofs.lemmas.Int.{ints}
 use Rattle.std.proofs.lemmas.List.Sorted.{IsPartitionPoint-from_clause}
 use Rattle.std.specs.List.Sorted.{IsPartitionedBy}
 use Rattle.reflect_rules.specs.Furthest.{EndsLast, no_range}
-use Rattle.reflect_rules.specs.declared.ranges.NumberRange.{NumberRange}
 use Rattle.reflect_rules.proofs.Furthest.{none_of, none_here, among, any_default, up_to_rises, begins_behind, begins_before, pair_of}
 use Rattle.reflect_rules.proofs.ranges.NumberRanges.find.Goals as goal
 

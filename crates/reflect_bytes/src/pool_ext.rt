@@ -1,6 +1,7 @@
 //! Files for a pool, from descriptor records and from the bytes of descriptor sets.
 
-ghost use Rattle.std.specs.Prelude.{◌≡◌, OnErr};
+ghost use Rattle.std.specs.Prelude.{◌≡◌, ◌⊎◌, OnOk, OnErr, IfErr};
+ghost use Rattle.reflect_bytes.specs.Spelled.{SpellsSet, SpellsFile, of_wire, RecordsRefused, BytesRefused};
 
 use descriptor_records::{FileDescriptorProto, FileDescriptorSet};
 use reflect_codec::{decode_file, decode_set};
@@ -23,6 +24,8 @@ pub enum PoolError {
 }
 
 impl From<WireError> for PoolError {
+    ghost from_gives = { λ error e. e ≡ of_wire error };
+
     fn from(error: WireError) -> PoolError {
         match error {
             WireError::Memory => PoolError::Memory,
@@ -32,6 +35,10 @@ impl From<WireError> for PoolError {
 }
 
 impl From<DescriptorError> for PoolError {
+    ghost use Rattle.reflect_bytes.specs.declared.pool_ext.PoolError.TheVariants.{Memory, Link};
+
+    ghost from_gives = { λ error e. (e ≡ Memory) ⊎ (e ≡ Link error) };
+
     fn from(error: DescriptorError) -> PoolError {
         if error.is_memory() {
             PoolError::Memory
@@ -42,6 +49,10 @@ impl From<DescriptorError> for PoolError {
 }
 
 impl<T: Drop> From<AllocFailed<T>> for PoolError {
+    ghost use Rattle.reflect_bytes.specs.declared.pool_ext.PoolError.TheVariants.{Memory};
+
+    ghost from_gives = { λ _ e. e ≡ Memory };
+
     fn from(_error: AllocFailed<T>) -> PoolError {
         PoolError::Memory
     }
@@ -51,10 +62,13 @@ impl<T: Drop> From<AllocFailed<T>> for PoolError {
 /// leaves the pool as it was.
 pub trait PoolExt: Sized {
     /// A pool of the set's files.
-    fn from_file_descriptor_set(alloc: Global, set: FileDescriptorSet) -> Result<Self, PoolError>;
+    fn from_file_descriptor_set(alloc: Global, set: FileDescriptorSet) -> Result<Self, PoolError>
+        ensures { IfErr result RecordsRefused };
 
     /// A pool of the files of a set, from the set's bytes.
-    fn decode(alloc: Global, bytes: &[u8]) -> Result<Self, PoolError>;
+    fn decode(alloc: Global, bytes: &[u8]) -> Result<Self, PoolError>
+        ensures read { OnOk result (SpellsSet bytes.now) }
+        ensures err { IfErr result (BytesRefused (SpellsSet bytes.now)) };
 
     /// Adds the set's files as one batch.
     fn add_file_descriptor_set(
@@ -62,7 +76,8 @@ pub trait PoolExt: Sized {
         alloc: Global,
         set: FileDescriptorSet,
     ) -> Result<(), PoolError>
-        ensures { OnErr result (self.new ≡ self.old) };
+        ensures unchanged { OnErr result (self.new ≡ self.old) }
+        ensures err { IfErr result RecordsRefused };
 
     /// Adds files as one batch.
     fn add_file_descriptor_protos(
@@ -70,7 +85,8 @@ pub trait PoolExt: Sized {
         alloc: Global,
         files: Vec<FileDescriptorProto>,
     ) -> Result<(), PoolError>
-        ensures { OnErr result (self.new ≡ self.old) };
+        ensures unchanged { OnErr result (self.new ≡ self.old) }
+        ensures err { IfErr result RecordsRefused };
 
     /// Adds one file.
     fn add_file_descriptor_proto(
@@ -78,15 +94,20 @@ pub trait PoolExt: Sized {
         alloc: Global,
         file: FileDescriptorProto,
     ) -> Result<(), PoolError>
-        ensures { OnErr result (self.new ≡ self.old) };
+        ensures unchanged { OnErr result (self.new ≡ self.old) }
+        ensures err { IfErr result RecordsRefused };
 
     /// Adds one file, from the bytes of its record.
     fn decode_file_descriptor_proto(&mut self, alloc: Global, bytes: &[u8]) -> Result<(), PoolError>
-        ensures { OnErr result (self.new ≡ self.old) };
+        ensures unchanged { OnErr result (self.new ≡ self.old) }
+        ensures read { OnOk result (SpellsFile bytes.now) }
+        ensures err { IfErr result (BytesRefused (SpellsFile bytes.now)) };
 
     /// Adds the files of a set as one batch, from the set's bytes.
     fn decode_file_descriptor_set(&mut self, alloc: Global, bytes: &[u8]) -> Result<(), PoolError>
-        ensures { OnErr result (self.new ≡ self.old) };
+        ensures unchanged { OnErr result (self.new ≡ self.old) }
+        ensures read { OnOk result (SpellsSet bytes.now) }
+        ensures err { IfErr result (BytesRefused (SpellsSet bytes.now)) };
 }
 
 impl PoolExt for DescriptorPool {
@@ -100,10 +121,7 @@ impl PoolExt for DescriptorPool {
     }
 
     fn decode(alloc: Global, bytes: &[u8]) -> Result<DescriptorPool, PoolError> {
-        let set = decode_set(alloc, bytes)?;
-        let mut pool = DescriptorPool::new(alloc);
-        pool.build_files(alloc, set.file)?;
-        Ok(pool)
+        DescriptorPool::from_file_descriptor_set(alloc, decode_set(alloc, bytes)?)
     }
 
     fn add_file_descriptor_set(
@@ -140,15 +158,10 @@ impl PoolExt for DescriptorPool {
         alloc: Global,
         bytes: &[u8],
     ) -> Result<(), PoolError> {
-        let mut files = Vec::new(alloc);
-        files.push(decode_file(alloc, bytes)?)?;
-        self.build_files(alloc, files)?;
-        Ok(())
+        self.add_file_descriptor_proto(alloc, decode_file(alloc, bytes)?)
     }
 
     fn decode_file_descriptor_set(&mut self, alloc: Global, bytes: &[u8]) -> Result<(), PoolError> {
-        let set = decode_set(alloc, bytes)?;
-        self.build_files(alloc, set.file)?;
-        Ok(())
+        self.add_file_descriptor_set(alloc, decode_set(alloc, bytes)?)
     }
 }

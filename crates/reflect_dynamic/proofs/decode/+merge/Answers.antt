@@ -1,0 +1,206 @@
+use Rattle.std.proofs.Common.{rules, ◌≡◌, inr, [], true, Some, None, refl, sym, ap, ◌∙◌, subst, arith}
+use Rattle.reflect_wire.specs.Reads.{Fronts}
+use Rattle.reflect_wire.specs.Key.{IsKey, IsDelimited}
+use Rattle.reflect_wire.specs.declared.wire_key.WireType.TheVariants.{LengthDelimited, EndGroup}
+use Rattle.reflect_entries.specs.Undeclared.{undeclared}
+use Rattle.reflect_pool.specs.Kinds.{IsKind}
+use Rattle.reflect_scalar.specs.FieldTypes.{either_pool, either_type}
+use Rattle.reflect_scalar.specs.Kinds.{packs, wire_type}
+use Rattle.reflect_scalar.specs.Singles.{scalar_view}
+use Rattle.reflect_dynamic.specs.Merging.{IsBody, run_records}
+use Rattle.reflect_dynamic.specs.declared.value.Value.{the_lemmas}
+use Rattle.reflect_dynamic.proofs.Appending.{appends_value, appends_row, appends_more, list_done}
+use Rattle.reflect_dynamic.proofs.Keeping.{keeps_declared, field_declared, kept_if_read, left_if_declared}
+use Rattle.reflect_dynamic.proofs.Kept.{no_longer}
+use Rattle.reflect_dynamic.proofs.Running.{delimited_value, same_value, run_if_read, group_if_read, run_more, run_done, run_behind, group_ends}
+use Rattle.reflect_dynamic.proofs.Sparing.{fields_run, extensions_same, merges_more, merges_kept, merges_extension}
+use Rattle.reflect_dynamic.proofs.Taking.{items_of_slot, message_leaves, list_leaves, single_leaves}
+use Rattle.reflect_dynamic.proofs.decode.+merge.Goals as goal
+
+pub merge_element-returns-then-is_packable : goal.merge_element-returns-then-is_packable
+merge_element-returns-then-is_packable t c =
+    let raw = c.args.raw in
+    let wire : raw.key.wire ≡ LengthDelimited = search rules in
+    let packed : packs (wire_type c.args.kind.now) ≡ true = search rules in
+    let read = c.in_ok-body.ensures.read in
+    let row = c.in_ok-push_packed.ensures.read in
+    record {
+      read = appends_row raw.levels raw.key c.args.kind.now raw.bytes.now c.in_ok-body.rest.now _ _ c.in_ok-body.body.now row.0 wire packed read row.1 row.2;
+      shorter = no_longer IsDelimited raw.bytes.now c.in_ok-body.rest.now c.in_ok-body.body.now read;
+    }
+
+pub merge_element-returns : goal.merge_element-returns
+merge_element-returns t c =
+    let raw = c.args.raw in
+    let found = c.in_ok-scalar in
+    let lt = found.ensures.shorter in
+    let value = c.in_ok-from_scalar in
+    record {
+      read = appends_value raw.levels raw.key c.args.kind.now raw.bytes.now found.rest.now _ _ (scalar_view found.scalar) value.field-0 found.ensures.read c.in_ok-push-2.ensures.items value.ensures;
+      shorter = omega (arith, lt);
+    }
+
+pub merge_field-returns-in-Message-3-clause-read : goal.merge_field-returns-in-Message-3-clause-read
+merge_field-returns-in-Message-3-clause-read t c =
+    let raw = c.args.raw in
+    let kind = c.in-Message-2 in
+    message_leaves raw.levels raw.key raw.bytes.now (either_pool c.args.field) (either_type c.args.field) _ _ kind.inner c.merge_message.result (subst (λ k. IsKind (either_pool c.args.field) k (either_type c.args.field).kind) kind.is c.kind-kind.ensures)
+    (run_if_read raw.levels raw.key raw.bytes.now c.merge_message.result c.merge_message.ensures.read)
+
+pub merge_field-returns-in_ok-map-in-Message-clause-read : goal.merge_field-returns-in_ok-map-in-Message-clause-read
+merge_field-returns-in_ok-map-in-Message-clause-read t c =
+    let raw = c.args.raw in
+    let kind = c.in-Message in
+    message_leaves raw.levels raw.key raw.bytes.now (either_pool c.args.field) (either_type c.args.field) _ _ kind.entry c.merge_map.result (subst (λ k. IsKind (either_pool c.args.field) k (either_type c.args.field).kind) kind.is c.kind-kind.ensures) c.merge_map.ensures.read
+
+pub merge_field-returns-then-is_list-clause-read : goal.merge_field-returns-then-is_list-clause-read
+merge_field-returns-then-is_list-clause-read t c =
+    let raw = c.args.raw in
+    list_leaves raw.levels raw.key raw.bytes.now (either_pool c.args.field) (either_type c.args.field) _ _ c.kind-kind.result _ _ c.merge_list.result c.kind-kind.ensures (search rules) (items_of_slot _ _ _ c.in_ok-list.ensures.value (search (rules, the_lemmas))) (search rules) c.merge_list.ensures.read
+
+pub merge_field-returns-in_ok-set-in_default-clause-read : goal.merge_field-returns-in_ok-set-in_default-clause-read
+merge_field-returns-in_ok-set-in_default-clause-read t c =
+    let raw = c.args.raw in
+    let found = c.in_ok-scalar-in_default in
+    let value = c.in_ok-from_scalar-in_default in
+    let put = c.in_ok-set-in_default.ensures.updates in
+    single_leaves raw.levels raw.key raw.bytes.now (either_pool c.args.field) (either_type c.args.field) _ _ c.kind-kind.result found.rest.now _ (scalar_view found.scalar) c.kind-kind.ensures (search rules) found.ensures.read put.here value.ensures
+
+pub merge_list-returns-in-None-clause-read : goal.merge_list-returns-in-None-clause-read
+merge_list-returns-in-None-clause-read t c =
+    let raw = c.args.raw in
+    let here = c.records.record in
+    let inv = c.records.invariant in
+    let rest = c.in_ok-rest.rest.now in
+    let read = c.in_ok-rest.ensures.read in
+    list_done raw.levels raw.key c.args.kind.now raw.bytes.now here.bytes.now rest _ _ _ _ _ inv.0 read.0 (search (rules, the_lemmas)) (search (rules, the_lemmas)) inv.1 (same_value raw.levels raw.key here.levels here.key here.bytes.now rest read.0 inv.4 inv.3 read.1) inv.2 read.2
+
+pub merge_map-returns-in-None-clause-read : goal.merge_map-returns-in-None-clause-read
+merge_map-returns-in-None-clause-read t c =
+    let raw = c.args.raw in
+    let here = c.records.record.bytes.now in
+    let inv = c.records.invariant in
+    let rest = c.in_ok-body.rest.now in
+    let wire : raw.key.wire ≡ LengthDelimited = search rules in
+    run_done raw.levels raw.key raw.bytes.now here rest inv.0 inv.1 (delimited_value raw.levels raw.key here rest c.in_ok-body.body.now wire c.in_ok-body.ensures.read)
+
+pub merge_message-returns-in_ok-merge_body-in-LengthDelimited-clause-read : goal.merge_message-returns-in_ok-merge_body-in-LengthDelimited-clause-read
+merge_message-returns-in_ok-merge_body-in-LengthDelimited-clause-read t c =
+    let raw = c.args.raw in
+    let found = c.in_ok-body-in-LengthDelimited in
+    delimited_value raw.levels raw.key raw.bytes.now found.rest.now found.body.now c.in-LengthDelimited.is found.ensures.read
+
+pub merge_message-returns-in_ok-levels-in-StartGroup-clause-read : goal.merge_message-returns-in_ok-levels-in-StartGroup-clause-read
+merge_message-returns-in_ok-levels-in-StartGroup-clause-read t c =
+    let raw = c.args.raw in
+    let below = c.in_ok-levels-in-StartGroup in
+    let merged = c.merge_body-in-StartGroup in
+    group_if_read raw.levels raw.key below.levels raw.bytes.now _ merged.result c.in-StartGroup.is below.ensures.below merged.ensures.read
+
+pub merge_records-returns-in-Some-clause-read : goal.merge_records-returns-in-Some-clause-read
+merge_records-returns-in-Some-clause-read t c =
+    let inv = c.records.invariant in
+    let next = c.in_ok-key in
+    let wire : next.key.wire ≡ EndGroup = search rules in
+    let is : Some c.in-Some.number ≡ c.args.group = sym c.in-Some.is ∙ inv.3 in
+    let ends = group_ends c.args.levels c.args.bytes.now c.records.rest.now inv.0 inv.1 c.in-Some.number next.key next.behind.now next.ensures.read wire (sym c.if-number-key.true) in
+    (inv.0, subst (λ g. Fronts (IsBody g c.args.levels) c.args.bytes.now inv.0 next.behind.now) is ends, inv.2)
+
+pub merge_records-returns-in-Some-clause-whole : goal.merge_records-returns-in-Some-clause-whole
+merge_records-returns-in-Some-clause-whole t c = λ none. absurd (cc (c.in-Some.is, c.records.invariant.3, none))
+
+pub merge_records-returns-in-None-clause-read : goal.merge_records-returns-in-None-clause-read
+merge_records-returns-in-None-clause-read t c =
+    let inv = c.records.invariant in
+    let is : None ≡ c.args.group = sym c.in-None.is ∙ inv.3 in
+    (inv.0, subst (λ g. Fronts (IsBody g c.args.levels) c.args.bytes.now inv.0 c.records.rest.now) is inv.1, inv.2)
+
+pub merge_list-records-init : goal.merge_list-records-init
+merge_list-records-init t c = ([], ([], refl, refl), refl, refl, refl, omega arith)
+
+pub merge_list-records-preserved : goal.merge_list-records-preserved
+merge_list-records-preserved t c =
+    let raw = c.args.raw in
+    let here = c.records.record in
+    let inv = c.records.invariant in
+    let rest = c.in_ok-rest.rest.now in
+    let next = c.in-Some.next in
+    let read = c.in_ok-rest.ensures.read in
+    let value = same_value raw.levels raw.key here.levels here.key here.bytes.now rest read.0 inv.4 inv.3 read.1 in
+    let key = subst (λ k. Fronts IsKey rest k next.bytes.now) inv.3 c.in-Some.ensures.read in
+    let before = c.in_ok-rest.ensures.shorter in
+    let behind = c.in-Some.ensures.shorter in
+    let so_far = inv.5 in (
+      _,
+      run_more raw.levels raw.key raw.bytes.now here.bytes.now rest next.bytes.now inv.0 read.0 inv.1 value key,
+      appends_more c.args.kind.now _ _ _ inv.0 read.0 inv.2 read.2,
+      c.in-Some.ensures.key ∙ inv.3,
+      c.in-Some.ensures.levels ∙ inv.4,
+      omega (arith, before, behind, so_far),
+    )
+
+pub merge_map-records-init : goal.merge_map-records-init
+merge_map-records-init t c = ([], ([], refl, refl), refl, refl, omega arith)
+
+pub merge_map-records-preserved : goal.merge_map-records-preserved
+merge_map-records-preserved t c =
+    let raw = c.args.raw in
+    let here = c.records.record.bytes.now in
+    let inv = c.records.invariant in
+    let rest = c.in_ok-body.rest.now in
+    let next = c.in-Some.next in
+    let wire : raw.key.wire ≡ LengthDelimited = search rules in
+    let read = c.in_ok-body.ensures.read in
+    let value = delimited_value raw.levels raw.key here rest c.in_ok-body.body.now wire read in
+    let key = subst (λ k. Fronts IsKey rest k next.bytes.now) inv.2 c.in-Some.ensures.read in
+    let before = no_longer IsDelimited here rest c.in_ok-body.body.now read in
+    let behind = c.in-Some.ensures.shorter in
+    let so_far = inv.4 in
+    (_, run_more raw.levels raw.key raw.bytes.now here rest next.bytes.now inv.0 value.0 inv.1 value.1 key, c.in-Some.ensures.key ∙ inv.2, c.in-Some.ensures.levels ∙ inv.3, omega (arith, before, behind, so_far))
+
+pub merge_record-returns-in-Some-clause-read : goal.merge_record-returns-in-Some-clause-read
+merge_record-returns-in-Some-clause-read t c =
+    let raw = c.args.raw in
+    let type = c.args.descriptor in
+    let run = c.in_ok-rest.ensures.read in
+    let field = c.in-Some.field in
+    let is = field_declared type field raw.key.number c.in-Some.ensures.message c.in-Some.ensures.number in (
+      run.0,
+      run.1,
+      record {
+        fields = fields_run type field _ _ _ raw.key.number run.0 c.in-Some.ensures.message c.in-Some.ensures.number c.in_ok-rest.ensures.others c.clear_siblings.ensures.fields;
+        extensions = extensions_same _ _ (run_records raw.key.number run.0) c.clear_siblings.ensures.extensions;
+        unknown = keeps_declared type _ _ raw.key.number run.0 (ap undeclared c.clear_siblings.ensures.unknown) is;
+      },
+    )
+
+pub merge_record-returns-in-Some-declared_extension-clause-read : goal.merge_record-returns-in-Some-declared_extension-clause-read
+merge_record-returns-in-Some-declared_extension-clause-read t c =
+    let raw = c.args.raw in
+    let found = c.in-Some-declared_extension in
+    let merged = c.merge_field-in-Some-declared_extension in
+    let kept = left_if_declared c.args.descriptor raw.levels raw.key raw.bytes.now _ _ _ merged.result refl (inr (found.extension, found.ensures.extends, found.ensures.number)) merged.ensures.read in
+    merges_extension c.args.descriptor raw.levels raw.key raw.bytes.now _ _ merged.result refl merged.ensures.others kept
+
+pub merge_record-returns-clause-read : goal.merge_record-returns-clause-read
+merge_record-returns-clause-read t c =
+    let raw = c.args.raw in
+    let kept = kept_if_read c.args.descriptor raw.levels raw.key raw.bytes.now _ _ c.keep_unknown.result c.keep_unknown.ensures.kept in
+    merges_kept c.args.descriptor raw.levels raw.key raw.bytes.now _ _ c.keep_unknown.result refl refl kept
+
+pub merge_records-records-preserved : goal.merge_records-records-preserved
+merge_records-records-preserved t c =
+    let inv = c.records.invariant in
+    let here = c.records.rest.now in
+    let next = c.in_ok-key in
+    let rest = c.in_ok-rest.rest.now in
+    let merged = c.in_ok-rest.ensures.read in
+    let key = no_longer IsKey here next.behind.now next.key next.ensures.read in
+    let behind = c.in_ok-rest.ensures.shorter in
+    let so_far = inv.4 in (
+      _,
+      run_behind c.args.levels c.args.bytes.now here inv.0 inv.1 next.key next.behind.now rest merged.0 next.ensures.read merged.1,
+      merges_more c.args.descriptor _ _ _ inv.0 (run_records next.key.number merged.0) inv.2 merged.2,
+      inv.3,
+      omega (arith, key, behind, so_far),
+    )

@@ -1,0 +1,58 @@
+-- What records add to lists (protobuf.dev, "Encoding", Repeated Elements).
+use Rattle.std.specs.Prelude.{◌≡◌, ◌⊎◌, ℕ, true, List, [], ◌∷◌, ◌++◌, Option, None, Some}
+use Rattle.reflect_wire.specs.Records.{Payload, delimited}
+use Rattle.reflect_pool.specs.declared.kind.Kind.{Kind}
+use Rattle.reflect_pool.specs.declared.kind.Kind.TheVariants as kinds
+use Rattle.reflect_scalar.specs.Kinds.{wire_type, packs}
+use Rattle.reflect_scalar.specs.Meaning.{Means}
+use Rattle.reflect_scalar.specs.Singles.{Single}
+use Rattle.reflect_dynamic.specs.Packed.{IsPacked, Continues}
+use Rattle.reflect_dynamic.specs.declared.value.Value.{Value}
+use Rattle.reflect_dynamic.specs.declared.parts.Held.TheOpen.{Value-F}
+use Rattle.reflect_dynamic.specs.declared.parts.Held.TheViews.{out-Value}
+
+abbrev pub IsMessage : Kind → Type 0
+IsMessage (kinds.Message m) = Unit {0}
+IsMessage _ = ⊥
+
+-- the record is packed, and spells these values of the kind
+abbrev pub IsRow : Kind → Payload → List Single → Type 0
+IsRow kind p vs = (body : List ℕ) × (p ≡ delimited body) × (packs (wire_type kind) ≡ true) × IsPacked kind body vs
+
+-- one value of the kind, or, of a kind that may be packed, any number of them
+abbrev pub AreElements : Kind → Payload → List Single → Type 0
+AreElements kind p vs = ((v : Single) × (vs ≡ v ∷ []) × Means kind p v) ⊎ IsRow kind p vs
+
+-- behind the old values stand those of the record, or, of a message kind, one value more
+abbrev pub Appends : Kind → List Value → List Value → Payload → Type 0
+Appends kind old new p = (IsMessage kind × ((v : Value) × (new ≡ old ++ v ∷ []))) ⊎ ((vs : List Single) × AreElements kind p vs × Continues old new vs)
+
+-- the same for records one behind the other
+abbrev pub AppendsAll : Kind → List Value → List Value → List Payload → Type 0
+AppendsAll kind old new [] = new ≡ old
+AppendsAll kind old new (p ∷ ps) = (between : List Value) × Appends kind old between p × AppendsAll kind between new ps
+
+-- the values of a list
+abbrev pub list_items : Value → Option (List Value)
+list_items v = elim (out-Value v) [
+  | Value-F.Bool b ↦ None
+  | Value-F.I32 z ↦ None
+  | Value-F.I64 z ↦ None
+  | Value-F.U32 n ↦ None
+  | Value-F.U64 n ↦ None
+  | Value-F.String t ↦ None
+  | Value-F.Bytes b ↦ None
+  | Value-F.EnumNumber z ↦ None
+  | Value-F.Message m ↦ None
+  | Value-F.List vs ↦ Some vs.items
+  | Value-F.Map es ↦ None
+]
+
+-- the values of a list; where nothing stands there are none
+abbrev pub items_held : Option Value → Option (List Value)
+items_held None = Some []
+items_held (Some v) = list_items v
+
+-- a list is continued by the values of the records
+abbrev pub ContinuesList : Kind → Option Value → Option Value → List Payload → Type 0
+ContinuesList kind old new ps = (before after : List Value) × (items_held old ≡ Some before) × (items_held new ≡ Some after) × AppendsAll kind before after ps

@@ -1,0 +1,53 @@
+-- What merging leaves of fields of which no record is read.
+use Rattle.std.specs.Prelude.{◌≡◌, ◌≢◌, ◌⊎◌, ℕ, List, [], None}
+use Rattle.std.specs.Option.{IsSome}
+use Rattle.reflect_entries.specs.Entries.{value_at}
+use Rattle.reflect_pool.specs.FieldsLeft.{field_type}
+use Rattle.reflect_pool.specs.declared.message.MessageDescriptor.{MessageDescriptor}
+use Rattle.reflect_pool.specs.declared.field.FieldDescriptor.{FieldDescriptor}
+use Rattle.reflect_wire.specs.Records.{Payload}
+use Rattle.reflect_entries.specs.Undeclared.{undeclared}
+use Rattle.reflect_dynamic.specs.Declares.{Declares}
+use Rattle.reflect_dynamic.specs.Held.{fields_of, extensions_of, unknown_of}
+use Rattle.reflect_dynamic.specs.Keeps.{numbered, Keeps}
+use Rattle.reflect_dynamic.specs.declared.message.DynamicMessage.{DynamicMessage}
+use Rattle.reflect_dynamic.specs.declared.parts.Parts.{Parts}
+use Rattle.reflect_dynamic.specs.declared.value.Value.{Value}
+
+-- under the number stands what stood there
+abbrev pub Same : List (ℕ × Value) → List (ℕ × Value) → ℕ → Type 0
+Same old new n = value_at new n ≡ value_at old n
+
+-- a record of a member of a oneof is read
+abbrev pub ReadsMember : MessageDescriptor → List (ℕ × Payload) → Type 0
+ReadsMember m read = (f : FieldDescriptor) × Declares m f × IsSome (field_type f).oneof × (numbered (field_type f).number read ≢ [])
+
+-- of a number that is not read, what a field holds stays, but that a member of a oneof may unset it
+pub record SparesFields (m : MessageDescriptor) (old new : List (ℕ × Value)) (read : List (ℕ × Payload)) : Type 0 where
+  pub unread : (n : ℕ) → numbered n read ≡ [] → Same old new n ⊎ ((value_at new n ≡ None) × ReadsMember m read)
+
+-- what an extension holds stays
+pub record SparesExtensions (old new : List (ℕ × Value)) (read : List (ℕ × Payload)) : Type 0 where
+  pub unread : (n : ℕ) → numbered n read ≡ [] → Same old new n
+
+-- nothing stands under a number that is not read
+abbrev pub HoldsRead : List (ℕ × Value) → List (ℕ × Payload) → Type 0
+HoldsRead held read = (n : ℕ) → numbered n read ≡ [] → value_at held n ≡ None
+
+-- what a message holds, apart from its type
+pub record Content : Type 0 where
+  pub fields : List (ℕ × Value)
+  pub extensions : List (ℕ × Value)
+  pub unknown : List (ℕ × Payload)
+
+abbrev pub content_of : DynamicMessage → Content
+content_of m = record { fields = fields_of m; extensions = extensions_of m; unknown = unknown_of m }
+
+abbrev pub content_in : Parts → Content
+content_in p = record { fields = p.fields; extensions = p.extensions; unknown = undeclared p.unknown }
+
+-- the records are taken in: what they do not name stays, and those of undeclared numbers are kept
+pub record Merges (m : MessageDescriptor) (old new : Content) (read : List (ℕ × Payload)) : Type 0 where
+  pub fields : SparesFields m old.fields new.fields read
+  pub extensions : SparesExtensions old.extensions new.extensions read
+  pub unknown : Keeps m old.unknown new.unknown read

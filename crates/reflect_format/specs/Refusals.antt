@@ -1,0 +1,100 @@
+-- What the refusals of names tell of the types.
+use Rattle.std.specs.Prelude.{◌≡◌, Bool, true, false, ℕ, List, Option, None, IfSome, IsSome, string_bytes}
+use Rattle.reflect_index.specs.Finding.{IsFirst}
+use Rattle.reflect_index.specs.Types.{type_at, enum_at}
+use Rattle.reflect_pool.specs.Finds.{FindsField}
+use Rattle.reflect_pool.specs.FieldsLeft.{field_type}
+use Rattle.reflect_pool.specs.declared.enums.EnumDescriptor.{EnumDescriptor}
+use Rattle.reflect_pool.specs.declared.field.FieldDescriptor.{FieldDescriptor}
+use Rattle.reflect_pool.specs.declared.message.MessageDescriptor.{MessageDescriptor}
+use Rattle.reflect_pool.specs.declared.kind.Kind.{Kind}
+use Rattle.reflect_pool.specs.declared.kind.Kind.TheVariants as values
+use Rattle.reflect_pool.specs.declared.oneof.OneofDescriptor.{OneofDescriptor}
+use Rattle.reflect_pool.specs.Parts.{type_of_oneof}
+use Rattle.reflect_scalar.specs.FieldTypes.{extension_type}
+use Rattle.reflect_entries.specs.Entries.{value_at}
+use Rattle.reflect_dynamic.specs.Held.{fields_of, extensions_of}
+use Rattle.reflect_dynamic.specs.declared.message.DynamicMessage.{DynamicMessage}
+use Rattle.reflect_format.specs.declared.target.Target.{Target}
+use Rattle.reflect_format.specs.declared.target.Target.TheVariants as targets
+use Rattle.reflect_format.specs.declared.error.ParseErrorKind.{ParseErrorKind}
+use Rattle.reflect_format.specs.declared.error.ParseErrorKind.TheVariants as kinds
+
+-- It is a fault of the text alone, or want of memory, and tells of no type.
+abbrev pub is_of_text : ParseErrorKind → Bool
+is_of_text (kinds.InvalidToken span) = true
+is_of_text (kinds.InvalidStringCharacters span) = true
+is_of_text (kinds.InvalidStringEscape span) = true
+is_of_text (kinds.InvalidUtf8String span) = true
+is_of_text (kinds.NoSpaceBetweenIntAndIdent span) = true
+is_of_text (kinds.UnexpectedToken expected found span) = true
+is_of_text (kinds.UnexpectedEof expected) = true
+is_of_text (kinds.IntegerValueOutOfRange expected actual min max span) = true
+is_of_text kinds.Memory = true
+is_of_text _ = false
+
+-- It tells this enum by its full name and this name of a value.
+abbrev pub TellsValue : EnumDescriptor → List ℕ → ParseErrorKind → Type 0
+TellsValue e name (kinds.EnumValueNotFound value enumeration span) =
+    (string_bytes value ≡ name) × (string_bytes enumeration ≡ (enum_at e.pool.now e.index).full_name)
+TellsValue e name _ = ⊥
+
+-- A refusal of an enum's value: the enum that it tells has no value of the name that it tells; the others are of the text alone.
+abbrev pub RefusesValue : EnumDescriptor → ParseErrorKind → Type 0
+RefusesValue e (kinds.EnumValueNotFound value enumeration span) =
+    (string_bytes enumeration ≡ (enum_at e.pool.now e.index).full_name)
+    × IsFirst (λ v. v.name ≡ string_bytes value) (enum_at e.pool.now e.index).values None
+RefusesValue e kind = is_of_text kind ≡ true
+
+-- It tells this message type by its full name and this name of a field.
+abbrev pub TellsField : MessageDescriptor → List ℕ → ParseErrorKind → Type 0
+TellsField m name (kinds.FieldNotFound field message span) =
+    (string_bytes field ≡ name) × (string_bytes message ≡ (type_at m.pool.now m.index).full_name)
+TellsField m name _ = ⊥
+
+-- It tells this message type by its full name and this name of a field that holds floating-point numbers.
+abbrev pub TellsFloatField : MessageDescriptor → List ℕ → ParseErrorKind → Type 0
+TellsFloatField m name (kinds.FloatField field message span) =
+    (string_bytes field ≡ name) × (string_bytes message ≡ (type_at m.pool.now m.index).full_name)
+TellsFloatField m name _ = ⊥
+
+-- no field of the type has the name, or the first that has it is a group
+abbrev pub LacksField : MessageDescriptor → List ℕ → Type 0
+LacksField m name = (found : Option FieldDescriptor) × FindsField (λ f. f.name ≡ name) m found × IfSome found (λ f. (field_type f).group ≡ true)
+
+-- A refusal of a field's name: it is called unknown only where the type that it tells has no field of the name but a group. One of
+-- floating-point numbers is told with its type, or memory ran out.
+abbrev pub RefusesField : MessageDescriptor → List ℕ → ParseErrorKind → Type 0
+RefusesField m name (kinds.FieldNotFound field message span) =
+    (string_bytes field ≡ name) × (string_bytes message ≡ (type_at m.pool.now m.index).full_name) × LacksField m name
+RefusesField m name (kinds.FloatField field message span) =
+    (string_bytes field ≡ name) × (string_bytes message ≡ (type_at m.pool.now m.index).full_name)
+RefusesField m name kinds.Memory = Unit {0}
+RefusesField m name _ = ⊥
+
+-- It tells this name of a field that is set.
+abbrev pub TellsSet : List ℕ → ParseErrorKind → Type 0
+TellsSet name (kinds.FieldAlreadySet field span) = string_bytes field ≡ name
+TellsSet name _ = ⊥
+
+-- It tells this oneof by its name.
+abbrev pub TellsOneof : OneofDescriptor → ParseErrorKind → Type 0
+TellsOneof o (kinds.OneofAlreadySet oneof span) = string_bytes oneof ≡ (type_of_oneof o.message.pool.now o.message.index o.index).name
+TellsOneof o _ = ⊥
+
+-- the message holds something under the number
+abbrev pub Holds : DynamicMessage → Target → Type 0
+Holds m (targets.Field f) = IsSome (value_at (fields_of m) (field_type f).number)
+Holds m (targets.Extension x) = IsSome (value_at (extensions_of m) (extension_type x).number)
+
+-- A refusal of a second value: the message holds one; or a oneof has another field that is set, or memory ran out.
+abbrev pub RefusesSecond : DynamicMessage → Target → ParseErrorKind → Type 0
+RefusesSecond m t (kinds.FieldAlreadySet field span) = Holds m t
+RefusesSecond m t (kinds.OneofAlreadySet oneof span) = Unit {0}
+RefusesSecond m t kinds.Memory = Unit {0}
+RefusesSecond m t _ = ⊥
+
+-- A refusal of a value that is no message: of an enum's, its name; else one of the text alone.
+abbrev pub RefusesScalar : Kind → ParseErrorKind → Type 0
+RefusesScalar (values.Enum e) kind = RefusesValue e kind
+RefusesScalar _ kind = is_of_text kind ≡ true

@@ -1,0 +1,11 @@
+-- A file of a pool at its place.
+use Rattle.std.specs.Prelude.{ℕ, [], slice_index_or}
+use Rattle.reflect_index.specs.Types.{FileType, PoolType}
+
+-- what stands for a place that is not there
+abbrev pub no_file : FileType
+no_file = record { name = [] }
+
+-- the file at a place
+abbrev pub file_type_at : PoolType → ℕ → FileType
+file_type_at pool i = slice_index_or pool.files i no_file
