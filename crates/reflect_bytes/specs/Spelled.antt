@@ -1,33 +1,46 @@
--- What bytes spell that files are linked from, and how such files are refused.
-use Rattle.std.specs.Prelude.{ℕ, List}
+-- What bytes spell that files are linked from, and how such files are added or refused.
+use Rattle.std.specs.Prelude.{◌≡◌, ℕ, List, [], ◌∷◌}
 use Rattle.descriptor_records.specs.declared.file.FileDescriptorProto.{FileDescriptorProto}
 use Rattle.descriptor_records.specs.declared.file.FileDescriptorSet.{FileDescriptorSet}
 use Rattle.reflect_wire.specs.declared.wire_error.WireError.{WireError}
 use Rattle.reflect_wire.specs.declared.wire_error.WireError.TheVariants as wire
 use Rattle.reflect_codec.specs.Meaning.{IsFileBytes, IsSetBytes}
+use Rattle.reflect_index.specs.Types.{PoolType}
+use Rattle.reflect_passes.specs.Errors.{Refuses}
+use Rattle.reflect_pool.specs.Accepted.{AddsFiles, FaultlessFiles}
+use Rattle.reflect_pool.specs.Refusals.{FaultyFiles}
 use Rattle.reflect_bytes.specs.declared.pool_ext.PoolError.{PoolError}
 use Rattle.reflect_bytes.specs.declared.pool_ext.PoolError.TheVariants.{Wire, Link, Memory}
 
--- the bytes are those of a descriptor set
-abbrev pub SpellsSet : List ℕ → Type 0
-SpellsSet bytes = (s : FileDescriptorSet) × IsSetBytes bytes s
+-- the bytes are those of a descriptor set of these files
+abbrev pub SpellsSet : List ℕ → List FileDescriptorProto → Type 0
+SpellsSet bytes files = (s : FileDescriptorSet) × IsSetBytes bytes s × (s.file.items ≡ files)
 
--- the bytes are those of a file's record
-abbrev pub SpellsFile : List ℕ → Type 0
-SpellsFile bytes = (f : FileDescriptorProto) × IsFileBytes bytes f
+-- the bytes are those of the record of this file alone
+abbrev pub SpellsFile : List ℕ → List FileDescriptorProto → Type 0
+SpellsFile bytes files = (f : FileDescriptorProto) × IsFileBytes bytes f × (f ∷ [] ≡ files)
 
 -- a refusal of bytes, as one of files
 abbrev pub of_wire : WireError → PoolError
 of_wire wire.Memory = Memory
 of_wire e = Wire e
 
--- records are refused where they do not fit together
-abbrev pub RecordsRefused : PoolError → Type 0
-RecordsRefused (Wire e) = ⊥
-RecordsRefused _ = Unit {0}
+-- records fit together and with a pool, which becomes the new one
+abbrev pub RecordsLinked : PoolType → List FileDescriptorProto → PoolType → Type 0
+RecordsLinked p files new = AddsFiles p files new × FaultlessFiles p files new
 
--- bytes are refused where they do not spell what they should, or where they do and the files do not fit together
-abbrev pub BytesRefused : Type 0 → PoolError → Type 0
-BytesRefused Spelled (Wire e) = Spelled → ⊥
-BytesRefused Spelled (Link e) = Spelled
-BytesRefused Spelled Memory = Unit {0}
+-- records are refused where they do not fit together, with the faults of the first faulty pass
+abbrev pub RecordsRefused : PoolType → List FileDescriptorProto → PoolError → Type 0
+RecordsRefused p files (Wire e) = ⊥
+RecordsRefused p files (Link e) = Refuses (FaultyFiles p files) e
+RecordsRefused p files Memory = Unit {0}
+
+-- bytes spell files that fit together
+abbrev pub BytesLinked : (List FileDescriptorProto → Type 0) → PoolType → PoolType → Type 0
+BytesLinked Spelled p new = (files : List FileDescriptorProto) × Spelled files × RecordsLinked p files new
+
+-- bytes are refused where they spell no files, or where the files that they spell do not fit together
+abbrev pub BytesRefused : (List FileDescriptorProto → Type 0) → PoolType → PoolError → Type 0
+BytesRefused Spelled p (Wire e) = (files : List FileDescriptorProto) → Spelled files → ⊥
+BytesRefused Spelled p (Link e) = (files : List FileDescriptorProto) × Spelled files × Refuses (FaultyFiles p files) e
+BytesRefused Spelled p Memory = Unit {0}

@@ -1,7 +1,9 @@
 //! Files for a pool, from descriptor records and from the bytes of descriptor sets.
 
-ghost use Rattle.std.specs.Prelude.{◌≡◌, ◌⊎◌, OnOk, OnErr, IfErr};
-ghost use Rattle.reflect_bytes.specs.Spelled.{SpellsSet, SpellsFile, of_wire, RecordsRefused, BytesRefused};
+ghost use Rattle.std.specs.Prelude.{◌≡◌, ◌⊎◌, ◌∷◌, [], IfOk, OnOk, OnErr, IfErr};
+ghost use Rattle.reflect_index.specs.Types.{PoolType};
+ghost use Rattle.reflect_pool.specs.Linked.{empty_pool};
+ghost use Rattle.reflect_bytes.specs.Spelled.{SpellsSet, SpellsFile, of_wire, RecordsLinked, RecordsRefused, BytesLinked, BytesRefused};
 
 use descriptor_records::{FileDescriptorProto, FileDescriptorSet};
 use reflect_codec::{decode_file, decode_set};
@@ -59,16 +61,21 @@ impl<T: Drop> From<AllocFailed<T>> for PoolError {
 }
 
 /// Calls that link files into a pool. They read no options. Files whose names the pool has are passed over, and a refusal
-/// leaves the pool as it was.
+/// leaves the pool as it was: `Wire` where bytes spell no such files, `Link` with exactly the faults of the first pass that
+/// finds any.
 pub trait PoolExt: Sized {
+    /// What the pool holds.
+    ghost holds: { Self → PoolType };
+
     /// A pool of the set's files.
     fn from_file_descriptor_set(alloc: Global, set: FileDescriptorSet) -> Result<Self, PoolError>
-        ensures { IfErr result RecordsRefused };
+        ensures linked { IfOk result (λ p. RecordsLinked empty_pool set.file.items (holds p)) }
+        ensures err { IfErr result (RecordsRefused empty_pool set.file.items) };
 
     /// A pool of the files of a set, from the set's bytes.
     fn decode(alloc: Global, bytes: &[u8]) -> Result<Self, PoolError>
-        ensures read { OnOk result (SpellsSet bytes.now) }
-        ensures err { IfErr result (BytesRefused (SpellsSet bytes.now)) };
+        ensures linked { IfOk result (λ p. BytesLinked (SpellsSet bytes.now) empty_pool (holds p)) }
+        ensures err { IfErr result (BytesRefused (SpellsSet bytes.now) empty_pool) };
 
     /// Adds the set's files as one batch.
     fn add_file_descriptor_set(
@@ -77,7 +84,8 @@ pub trait PoolExt: Sized {
         set: FileDescriptorSet,
     ) -> Result<(), PoolError>
         ensures unchanged { OnErr result (self.new ≡ self.old) }
-        ensures err { IfErr result RecordsRefused };
+        ensures linked { OnOk result (RecordsLinked (holds self.old) set.file.items (holds self.new)) }
+        ensures err { IfErr result (RecordsRefused (holds self.old) set.file.items) };
 
     /// Adds files as one batch.
     fn add_file_descriptor_protos(
@@ -86,7 +94,8 @@ pub trait PoolExt: Sized {
         files: Vec<FileDescriptorProto>,
     ) -> Result<(), PoolError>
         ensures unchanged { OnErr result (self.new ≡ self.old) }
-        ensures err { IfErr result RecordsRefused };
+        ensures linked { OnOk result (RecordsLinked (holds self.old) files.items (holds self.new)) }
+        ensures err { IfErr result (RecordsRefused (holds self.old) files.items) };
 
     /// Adds one file.
     fn add_file_descriptor_proto(
@@ -95,22 +104,25 @@ pub trait PoolExt: Sized {
         file: FileDescriptorProto,
     ) -> Result<(), PoolError>
         ensures unchanged { OnErr result (self.new ≡ self.old) }
-        ensures err { IfErr result RecordsRefused };
+        ensures linked { OnOk result (RecordsLinked (holds self.old) (file ∷ []) (holds self.new)) }
+        ensures err { IfErr result (RecordsRefused (holds self.old) (file ∷ [])) };
 
     /// Adds one file, from the bytes of its record.
     fn decode_file_descriptor_proto(&mut self, alloc: Global, bytes: &[u8]) -> Result<(), PoolError>
         ensures unchanged { OnErr result (self.new ≡ self.old) }
-        ensures read { OnOk result (SpellsFile bytes.now) }
-        ensures err { IfErr result (BytesRefused (SpellsFile bytes.now)) };
+        ensures linked { OnOk result (BytesLinked (SpellsFile bytes.now) (holds self.old) (holds self.new)) }
+        ensures err { IfErr result (BytesRefused (SpellsFile bytes.now) (holds self.old)) };
 
     /// Adds the files of a set as one batch, from the set's bytes.
     fn decode_file_descriptor_set(&mut self, alloc: Global, bytes: &[u8]) -> Result<(), PoolError>
         ensures unchanged { OnErr result (self.new ≡ self.old) }
-        ensures read { OnOk result (SpellsSet bytes.now) }
-        ensures err { IfErr result (BytesRefused (SpellsSet bytes.now)) };
+        ensures linked { OnOk result (BytesLinked (SpellsSet bytes.now) (holds self.old) (holds self.new)) }
+        ensures err { IfErr result (BytesRefused (SpellsSet bytes.now) (holds self.old)) };
 }
 
 impl PoolExt for DescriptorPool {
+    ghost holds = { λ p. p };
+
     fn from_file_descriptor_set(
         alloc: Global,
         set: FileDescriptorSet,

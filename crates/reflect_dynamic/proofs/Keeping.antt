@@ -11,7 +11,7 @@ use Rattle.reflect_wire.specs.Records.{Payload, IsValue}
 use Rattle.reflect_wire.specs.declared.wire_error.WireError.{WireError}
 use Rattle.reflect_wire.specs.declared.wire_key.WireKey.{WireKey}
 use Rattle.reflect_entries.specs.Sets.{up_to, above, with_record}
-use Rattle.reflect_dynamic.specs.Declares.{IsDeclared}
+use Rattle.reflect_dynamic.specs.Declares.{Owns, IsDeclared}
 use Rattle.reflect_dynamic.specs.Keeps.{numbered, Keeps}
 use Rattle.reflect_dynamic.specs.Merging.{IsRun, run_records}
 
@@ -54,7 +54,7 @@ placed m n p old = filter-append (λ r. r.0 == m) (up_to n old) ((n, p) ∷ abov
       ∙ high
       ∙ sym (ap (λ b. numbered m old ++ cond b ((n, p) ∷ []) []) other ∙ append-nil (numbered m old))
 
-not_numbered : (m n : ℕ) (ps : List Payload) → n ≢ m → numbered m (map (λ p. (n, p)) ps) ≡ []
+pub not_numbered : (m n : ℕ) (ps : List Payload) → n ≢ m → numbered m (map (λ p. (n, p)) ps) ≡ []
 not_numbered m n [] other = refl
 not_numbered m n (p ∷ ps) other =
     let is : (n == m) ≡ false = grind (arith, other) in
@@ -85,8 +85,8 @@ module _ (m : MessageDescriptor) where
     others = λ k none. ap (numbered k) e;
   }
 
-  pub field_declared : (f : FieldDescriptor) (n : ℕ) → f.message ≡ m → (field_type f).number ≡ n → IsDeclared m n
-  field_declared f n same is = inl (f, (ap (λ (m : MessageDescriptor). m.index) same, ap (λ (m : MessageDescriptor). m.pool.now) same), is)
+  pub field_declared : (f : FieldDescriptor) (n : ℕ) → Owns m f → (field_type f).number ≡ n → IsDeclared m n
+  field_declared f n owns is = inl (f, owns, is)
 
   module _ (levels : ℕ) (key : WireKey) (bytes : List ℕ) where
     pub kept_if_read : (old new : List (ℕ × Payload)) (r : Result (Bor (List ℕ)) WireError)

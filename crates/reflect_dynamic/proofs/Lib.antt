@@ -1,7 +1,11 @@
 pub mod Appending
+pub mod Choosing
+pub mod Filling
 pub mod Keeping
 pub mod Kept
+pub mod Owning
 pub mod Packing
 pub mod Running
+pub mod Setting
 pub mod Sparing
 pub mod Taking

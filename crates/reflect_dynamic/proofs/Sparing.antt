@@ -1,5 +1,5 @@
 -- What stays under numbers that are not read, record by record.
-use Rattle.std.proofs.Common.{◌≡◌, ◌≢◌, ◌⊎◌, inl, inr, Result, Ok, Err, IfOk, ℕ, ◌==◌, true, cond, List, [], ◌∷◌, ◌++◌, None, sym, ap, ◌∙◌, subst, arith}
+use Rattle.std.proofs.Common.{◌≡◌, ◌≢◌, ◌⊎◌, inl, inr, Result, Ok, Err, IfOk, ℕ, ◌==◌, true, cond, List, [], ◌∷◌, ◌++◌, None, Some, refl, sym, ap, ◌∙◌, subst, arith}
 use Rattle.std.specs.Option.{IsSome}
 use Rattle.std.specs.Borrow.{Bor}
 use Rattle.std.proofs.lemmas.List.Elements.{filter-append}
@@ -7,15 +7,24 @@ use Rattle.reflect_pool.specs.FieldsLeft.{field_type}
 use Rattle.reflect_pool.specs.declared.message.MessageDescriptor.{MessageDescriptor}
 use Rattle.reflect_pool.specs.declared.field.FieldDescriptor.{FieldDescriptor}
 use Rattle.reflect_wire.specs.Reads.{Fronts}
-use Rattle.reflect_wire.specs.Records.{Payload}
+use Rattle.reflect_wire.specs.Records.{Payload, SpellsRecords}
+use Rattle.reflect_wire.specs.Views.{records_of}
 use Rattle.reflect_wire.specs.declared.wire_key.WireKey.{WireKey}
 use Rattle.reflect_wire.specs.declared.wire_error.WireError.{WireError}
 use Rattle.reflect_entries.specs.Entries.{value_at}
+use Rattle.reflect_scalar.specs.FieldTypes.{field_pool}
+use Rattle.reflect_dynamic.specs.Fields.{HoldFields}
 use Rattle.reflect_dynamic.specs.Keeps.{numbered, Keeps}
-use Rattle.reflect_dynamic.specs.Merging.{IsRun, run_records}
-use Rattle.reflect_dynamic.specs.Spares.{Same, ReadsMember, SparesFields, SparesExtensions, Content, Merges}
+use Rattle.reflect_dynamic.specs.Merging.{IsBody, IsRun, run_records}
+use Rattle.reflect_dynamic.specs.Declares.{Owns}
+use Rattle.reflect_dynamic.specs.Oneofs.{AreChosen, MakesRoom, Chooses, Unsets, sibling}
+use Rattle.reflect_dynamic.specs.Spares.{Same, ReadsMember, SparesFields, SparesExtensions, HoldsRead, FillsFields, Content, Merges}
+use Rattle.reflect_dynamic.specs.Taking.{Leaves}
 use Rattle.reflect_dynamic.specs.declared.value.Value.{Value}
-use Rattle.reflect_dynamic.proofs.Keeping.{two_empty, keeps_more}
+use Rattle.reflect_dynamic.proofs.Choosing.{is_or_not, in_oneof, room_keeps, room_chosen}
+use Rattle.reflect_dynamic.proofs.Filling.{filled_none, filled_both, filled_apart, filled_run, filled_empty}
+use Rattle.reflect_dynamic.proofs.Keeping.{two_empty, keeps_none, keeps_more, keeps_declared, field_declared}
+use Rattle.reflect_dynamic.proofs.Running.{whole_body}
 
 run_read : (n : ℕ) (run : List Payload × Payload) → numbered n (run_records n run) ≢ []
 run_read n ([], p) e = let is : (n == n) ≡ true = grind (arith) in absurd (cc (e, ap (λ b. cond {A = List (ℕ × Payload)} b ((n, p) ∷ []) []) is))
@@ -59,47 +68,94 @@ module _ (m : MessageDescriptor) where
     fields_more = record { unread = λ n e. let both = both_unread n rs ts e in one_more n (h.unread n both.0) (k.unread n both.1) }
 
   -- a record of a field that unsets at most one sibling
-  pub fields_run : (f : FieldDescriptor) (a b c : List (ℕ × Value)) (n : ℕ) (run : List Payload × Payload) → f.message ≡ m → (field_type f).number ≡ n
-      → ((k : ℕ) → k ≢ n → Same a b k) → ((k : ℕ) → Same b c k ⊎ ((value_at c k ≡ None) × IsSome (field_type f).oneof)) → SparesFields m a c (run_records n run)
-  fields_run f a b c n run same is h cleared = record { unread = λ k e. by k (h k (other_run k n run e)) (cleared k) } where
-    by : (k : ℕ) → Same a b k → Same b c k ⊎ ((value_at c k ≡ None) × IsSome (field_type f).oneof) → Same a c k ⊎ ((value_at c k ≡ None) × ReadsMember m (run_records n run))
-    by k x (inl y) = inl (y ∙ x)
-    by k x (inr y) = inr (y.0, (f, (ap (λ (m : MessageDescriptor). m.index) same, ap (λ (m : MessageDescriptor). m.pool.now) same), y.1, λ e. run_read n run (subst (λ i. numbered i (run_records n run) ≡ []) is e)))
+  pub fields_run : (f : FieldDescriptor) (choices : List (ℕ × ℕ)) (a b c : List (ℕ × Value)) (run : List Payload × Payload) → Owns m f
+      → ((k : ℕ) → k ≢ (field_type f).number → Same a b k) → Unsets f choices b c → SparesFields m a c (run_records (field_type f).number run)
+  fields_run f choices a b c run owns h unsets = record { unread = λ k e. by k (h k (other_run k (field_type f).number run e)) (is_or_not (sibling f choices) k) } where
+    by : (k : ℕ) → Same a b k → (sibling f choices ≡ Some k) ⊎ (sibling f choices ≢ Some k) → Same a c k ⊎ ((value_at c k ≡ None) × ReadsMember m (run_records (field_type f).number run))
+    by k x (inl is) = inr (unsets.unset k is, (f, owns.0, in_oneof f choices k is, run_read (field_type f).number run))
+    by k x (inr not) = inl (unsets.others k not ∙ x)
+
+  pub merges_none : (a : Content) → Merges m a a []
+  merges_none a = record {
+    fields = fields_same a.fields a.fields [] refl;
+    filled = filled_none m a;
+    extensions = extensions_same a.extensions a.extensions [] refl;
+    unknown = keeps_none m a.unknown;
+  }
 
   pub merges_more : (a b c : Content) (rs ts : List (ℕ × Payload)) → Merges m a b rs → Merges m b c ts → Merges m a c (rs ++ ts)
   merges_more a b c rs ts h k = record {
     fields = fields_more a.fields b.fields c.fields rs ts h.fields k.fields;
+    filled = λ chosen. let first = h.filled chosen in filled_both m a b c rs ts first (k.filled first.chosen);
     extensions = extensions_more a.extensions b.extensions c.extensions rs ts h.extensions k.extensions;
     unknown = keeps_more m a.unknown b.unknown c.unknown rs ts h.unknown k.unknown;
   }
 
+  -- records of a field, for whose choice room is made, and which is then noted
+  pub merges_field : (g : FieldDescriptor) → Owns m g → (n : ℕ) → (field_type g).number ≡ n → (old new : Content) (room : List (ℕ × ℕ)) (between : List (ℕ × Value)) (run : List Payload × Payload)
+      → MakesRoom g old.choices room → ((k : ℕ) → k ≢ n → Same old.fields between k) → Leaves (field_pool g) (field_type g) (value_at old.fields n) (value_at between n) (run.0 ++ run.1 ∷ [])
+      → Unsets g room between new.fields → Chooses g room new.choices → new.extensions ≡ old.extensions → new.unknown ≡ old.unknown → Merges m old new (run_records n run)
+  merges_field g owns n is old new room between run made put leaves unsets chooses extensions unknown =
+      let number = (field_type g).number in
+      let there : (k : ℕ) → k ≢ number → Same old.fields between k = λ k e. put k (λ s. e (s ∙ sym is)) in
+      let left = subst (λ n. Leaves (field_pool g) (field_type g) (value_at old.fields n) (value_at between n) (run.0 ++ run.1 ∷ [])) (sym is) leaves in
+      let kept = room_keeps g old.choices room made in
+      let clears : Unsets g old.choices between new.fields = record { unset = λ k e. unsets.unset k (kept ∙ e); others = λ k e. unsets.others k (λ s. e (sym kept ∙ s)) } in
+      let notes = room_chosen g old.choices room new.choices made chooses in
+      let merged : Merges m old new (run_records number run) = record {
+        fields = fields_run g old.choices old.fields between new.fields run owns there clears;
+        filled = λ chosen. filled_run m g owns old new between chosen notes there clears run left;
+        extensions = extensions_same old.extensions new.extensions (run_records number run) extensions;
+        unknown = keeps_declared m old.unknown new.unknown number run unknown (field_declared m g number owns refl);
+      } in
+      subst (λ n. Merges m old new (run_records n run)) is merged
+
   module _ (levels : ℕ) (key : WireKey) (bytes : List ℕ) (old new : Content) where
     -- where records are kept, nothing else changes
-    pub merges_kept : (r : Result (Bor (List ℕ)) WireError) → new.fields ≡ old.fields → new.extensions ≡ old.extensions
+    pub merges_kept : (r : Result (Bor (List ℕ)) WireError) → ((f : FieldDescriptor) → Owns m f → (field_type f).number ≢ key.number) → new.fields ≡ old.fields → new.choices ≡ old.choices → new.extensions ≡ old.extensions
         → IfOk r (λ rest. (run : List Payload × Payload) × Fronts (IsRun levels key) bytes run rest.now × Keeps m old.unknown new.unknown (run_records key.number run))
         → IfOk r (λ rest. (run : List Payload × Payload) × Fronts (IsRun levels key) bytes run rest.now × Merges m old new (run_records key.number run))
-    merges_kept (Ok rest) fields extensions h = (
+    merges_kept (Ok rest) none fields choices extensions h = (
       h.0,
       h.1,
       record {
         fields = fields_same old.fields new.fields (run_records key.number h.0) fields;
+        filled = filled_apart m old new key.number h.0 none fields choices;
         extensions = extensions_same old.extensions new.extensions (run_records key.number h.0) extensions;
         unknown = h.2;
       },
     )
-    merges_kept (Err e) fields extensions h = tt
+    merges_kept (Err e) none fields choices extensions h = tt
 
     -- records of an extension
-    pub merges_extension : (r : Result (Bor (List ℕ)) WireError) → new.fields ≡ old.fields → ((k : ℕ) → k ≢ key.number → Same old.extensions new.extensions k)
+    pub merges_extension : (r : Result (Bor (List ℕ)) WireError) → ((f : FieldDescriptor) → Owns m f → (field_type f).number ≢ key.number) → new.fields ≡ old.fields → new.choices ≡ old.choices → ((k : ℕ) → k ≢ key.number → Same old.extensions new.extensions k)
         → IfOk r (λ rest. (run : List Payload × Payload) × Fronts (IsRun levels key) bytes run rest.now × Keeps m old.unknown new.unknown (run_records key.number run))
         → IfOk r (λ rest. (run : List Payload × Payload) × Fronts (IsRun levels key) bytes run rest.now × Merges m old new (run_records key.number run))
-    merges_extension (Ok rest) fields others h = (
+    merges_extension (Ok rest) none fields choices others h = (
       h.0,
       h.1,
       record {
         fields = fields_same old.fields new.fields (run_records key.number h.0) fields;
+        filled = filled_apart m old new key.number h.0 none fields choices;
         extensions = extensions_run old.extensions new.extensions key.number h.0 others;
         unknown = h.2;
       },
     )
-    merges_extension (Err e) fields others h = tt
+    merges_extension (Err e) none fields choices others h = tt
+
+-- what a message that held nothing holds of the records
+pub decoded : (m type : MessageDescriptor) (levels : ℕ) (bytes rest : List ℕ) (a b : Content) (rs : List (ℕ × Payload)) → type ≡ m → Fronts (IsBody None levels) bytes rs rest → rest ≡ [] → Merges type a b rs
+    → a.fields ≡ [] → a.extensions ≡ [] → a.unknown ≡ [] → AreChosen type a.choices a.fields
+    → (rs : List (ℕ × Payload)) × SpellsRecords levels bytes (records_of rs) × Keeps m [] b.unknown rs × HoldsRead b.fields rs × HoldsRead b.extensions rs × HoldFields m b.fields rs
+decoded m type levels bytes rest a b rs same read whole h fields extensions unknown chosen =
+    let merged = subst (λ m. Merges m a b rs) same h in (
+      rs,
+      whole_body levels bytes rest rs read whole,
+      subst (λ l. Keeps m l b.unknown rs) unknown merged.unknown,
+      λ n e. by n (merged.fields.unread n e),
+      λ n e. merged.extensions.unread n e ∙ ap (λ l. value_at l n) extensions,
+      filled_empty m a b rs fields (merged.filled (subst (λ m. AreChosen m a.choices a.fields) same chosen)),
+    ) where
+      by : (n : ℕ) → Same a.fields b.fields n ⊎ ((value_at b.fields n ≡ None) × ReadsMember m rs) → value_at b.fields n ≡ None
+      by n (inl is) = is ∙ ap (λ l. value_at l n) fields
+      by n (inr none) = none.0

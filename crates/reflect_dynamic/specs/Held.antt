@@ -33,10 +33,18 @@ unknown_in h = elim (out-Held h) [
 abbrev pub unknown_of : DynamicMessage → List (ℕ × Payload)
 unknown_of m = unknown_in m.held
 
+-- the member of each oneof that is noted as set last, by the number of the oneof's first member
+abbrev pub choices_of : DynamicMessage → List (ℕ × ℕ)
+choices_of m = elim (out-Held m.held) [
+  | Held-F.Nothing ↦ []
+  | Held-F.Block b ↦ b.value.choices.members
+]
+
 -- under the number of a declared field stands what is given, or nothing, and nothing else is changed
 pub record UpdatesField (old new : DynamicMessage) (number : ℕ) (given : Option Value) : Type 0 where
   pub same_type : new.descriptor ≡ old.descriptor
   pub field : Updates (fields_of old) (fields_of new) number given
+  pub choices : choices_of new ≡ choices_of old
   pub extensions : extensions_of new ≡ extensions_of old
   pub unknown : unknown_of new ≡ unknown_of old
 
@@ -44,5 +52,6 @@ pub record UpdatesField (old new : DynamicMessage) (number : ℕ) (given : Optio
 pub record UpdatesExtension (old new : DynamicMessage) (number : ℕ) (given : Option Value) : Type 0 where
   pub same_type : new.descriptor ≡ old.descriptor
   pub fields : fields_of new ≡ fields_of old
+  pub choices : choices_of new ≡ choices_of old
   pub extension : Updates (extensions_of old) (extensions_of new) number given
   pub unknown : unknown_of new ≡ unknown_of old

@@ -1,10 +1,12 @@
 pub mod Declares
 pub mod Elements
 pub mod EntriesLeft
+pub mod Fields
 pub mod Held
 pub mod Keeps
 pub mod Left
 pub mod Merging
+pub mod Oneofs
 pub mod Packed
 pub mod Shown
 pub mod Singles

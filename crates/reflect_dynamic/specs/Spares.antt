@@ -7,9 +7,11 @@ use Rattle.reflect_pool.specs.declared.message.MessageDescriptor.{MessageDescrip
 use Rattle.reflect_pool.specs.declared.field.FieldDescriptor.{FieldDescriptor}
 use Rattle.reflect_wire.specs.Records.{Payload}
 use Rattle.reflect_entries.specs.Undeclared.{undeclared}
-use Rattle.reflect_dynamic.specs.Declares.{Declares}
-use Rattle.reflect_dynamic.specs.Held.{fields_of, extensions_of, unknown_of}
+use Rattle.reflect_dynamic.specs.Declares.{Declares, Owns}
+use Rattle.reflect_dynamic.specs.Fields.{LeavesField}
+use Rattle.reflect_dynamic.specs.Held.{fields_of, choices_of, extensions_of, unknown_of}
 use Rattle.reflect_dynamic.specs.Keeps.{numbered, Keeps}
+use Rattle.reflect_dynamic.specs.Oneofs.{AreChosen}
 use Rattle.reflect_dynamic.specs.declared.message.DynamicMessage.{DynamicMessage}
 use Rattle.reflect_dynamic.specs.declared.parts.Parts.{Parts}
 use Rattle.reflect_dynamic.specs.declared.value.Value.{Value}
@@ -37,17 +39,24 @@ HoldsRead held read = (n : ℕ) → numbered n read ≡ [] → value_at held n �
 -- what a message holds, apart from its type
 pub record Content : Type 0 where
   pub fields : List (ℕ × Value)
+  pub choices : List (ℕ × ℕ)
   pub extensions : List (ℕ × Value)
   pub unknown : List (ℕ × Payload)
 
 abbrev pub content_of : DynamicMessage → Content
-content_of m = record { fields = fields_of m; extensions = extensions_of m; unknown = unknown_of m }
+content_of m = record { fields = fields_of m; choices = choices_of m; extensions = extensions_of m; unknown = unknown_of m }
 
 abbrev pub content_in : Parts → Content
-content_in p = record { fields = p.fields; extensions = p.extensions; unknown = undeclared p.unknown }
+content_in p = record { fields = p.fields; choices = p.choices.members; extensions = p.extensions; unknown = undeclared p.unknown }
+
+-- where one member of each oneof at most holds anything, and it is noted, the records leave their values, and it stays so
+pub record FillsFields (m : MessageDescriptor) (old new : Content) (read : List (ℕ × Payload)) : Type 0 where
+  pub each : (f : FieldDescriptor) → Owns m f → LeavesField m f (value_at old.fields (field_type f).number) (value_at new.fields (field_type f).number) read
+  pub chosen : AreChosen m new.choices new.fields
 
 -- the records are taken in: what they do not name stays, and those of undeclared numbers are kept
 pub record Merges (m : MessageDescriptor) (old new : Content) (read : List (ℕ × Payload)) : Type 0 where
   pub fields : SparesFields m old.fields new.fields read
+  pub filled : AreChosen m old.choices old.fields → FillsFields m old new read
   pub extensions : SparesExtensions old.extensions new.extensions read
   pub unknown : Keeps m old.unknown new.unknown read

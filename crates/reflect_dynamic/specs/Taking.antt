@@ -7,7 +7,8 @@ use Rattle.reflect_pool.specs.declared.kind.Kind.{Kind}
 use Rattle.reflect_wire.specs.Records.{Payload}
 use Rattle.reflect_scalar.specs.Meaning.{Means}
 use Rattle.reflect_scalar.specs.Singles.{Single}
-use Rattle.reflect_dynamic.specs.Elements.{ContinuesList}
+use Rattle.reflect_dynamic.specs.Elements.{AreElements, items_held}
+use Rattle.reflect_dynamic.specs.Packed.{Continues}
 use Rattle.reflect_dynamic.specs.Singles.{single}
 use Rattle.reflect_dynamic.specs.declared.value.Value.{Value}
 
@@ -18,15 +19,25 @@ IsScalarType float = ⊥
 IsScalarType (message i) = ⊥
 IsScalarType _ = Unit {0}
 
--- what is held is the value that the record means
-abbrev pub HoldsSingle : Kind → Option Value → Payload → Type 0
-HoldsSingle kind held p = (v : Value) × (w : Single) × (held ≡ Some v) × (single v ≡ Some w) × Means kind p w
+-- the values of the kind that records of a list spell, one record behind the other
+abbrev pub AreValues : PoolType → KindType → List Payload → List Single → Type 0
+AreValues pool t [] vs = vs ≡ []
+AreValues pool t (p ∷ ps) vs = (kind : Kind) × (here behind : List Single) × IsKind pool kind t × AreElements kind p here × AreValues pool t ps behind × (vs ≡ here ++ behind)
+
+-- behind the values of a list stand those of the records
+abbrev pub ContinuesWith : PoolType → KindType → Option Value → Option Value → List Payload → Type 0
+ContinuesWith pool t old new ps = (before after : List Value) × (vs : List Single) × (items_held old ≡ Some before) × (items_held new ≡ Some after) × AreValues pool t ps vs × Continues before after vs
+
+-- the value that the last record means is held
+abbrev pub HoldsLast : PoolType → KindType → Option Value → List Payload → Type 0
+HoldsLast pool t held ps = (kind : Kind) × (lead : List Payload) × (p : Payload) × (v : Value) × (w : Single) × IsKind pool kind t × (ps ≡ lead ++ p ∷ []) × (held ≡ Some v) × (single v ≡ Some w) × Means kind p w
 
 -- a list is continued by the values of the records; else the value of the last one is held
-abbrev pub LeavesAs : Bool → Kind → Option Value → Option Value → List Payload × Payload → Type 0
-LeavesAs true kind old new run = ContinuesList kind old new (run.0 ++ run.1 ∷ [])
-LeavesAs false kind old new run = HoldsSingle kind new run.1
+abbrev pub LeavesAs : Bool → PoolType → KindType → Option Value → Option Value → List Payload → Type 0
+LeavesAs true pool t old new ps = ContinuesWith pool t old new ps
+LeavesAs false pool t old new ps = HoldsLast pool t new ps
 
--- the records of a field, if its kind is a scalar one, change what is held as its kind and its label say
-abbrev pub Leaves : PoolType → FieldType → Option Value → Option Value → List Payload × Payload → Type 0
-Leaves pool f old new run = (kind : Kind) × IsKind pool kind f.kind × (IsScalarType f.kind → LeavesAs (holds_list pool f) kind old new run)
+-- without records what is held stays; those of a field of a scalar kind change it as the kind and the label say
+abbrev pub Leaves : PoolType → FieldType → Option Value → Option Value → List Payload → Type 0
+Leaves pool f old new [] = new ≡ old
+Leaves pool f old new (p ∷ ps) = IsScalarType f.kind → LeavesAs (holds_list pool f) pool f.kind old new (p ∷ ps)

@@ -3,8 +3,9 @@
 ghost use Rattle.std.specs.Prelude.{◌≡◌, true, None, Some, IsTrue, IsSome, IfOk, IfSome, OnOk, OnErr};
 ghost use Rattle.reflect_pool.specs.FieldsLeft.{field_type};
 ghost use Rattle.reflect_entries.specs.Entries.{value_at};
-ghost use Rattle.reflect_dynamic.specs.Declares.{Declares};
+ghost use Rattle.reflect_dynamic.specs.Declares.{Declares, Owns};
 ghost use Rattle.reflect_dynamic.specs.Held.{fields_of, UpdatesField};
+ghost use Rattle.reflect_dynamic.specs.Oneofs.{IsExclusive, SetsField};
 ghost use Rattle.reflect_dynamic.specs.Shown.{Shows};
 
 use crate::content;
@@ -57,6 +58,8 @@ impl<'p> DynamicMessage<'p> {
     ) -> Result<(), AllocError>
         requires { Declares self.old.descriptor field.now }
         ensures type_stays { self.new.descriptor ≡ self.old.descriptor }
+        ensures ok { OnOk result (SetsField self.old self.new field.now value.entry) }
+        ensures exclusive { Owns self.old.descriptor field.now → IsExclusive self.old → IsExclusive self.new }
         ensures err { OnErr result (fields_of self.new ≡ fields_of self.old) }
     {
         let mut parts = self.take_block()?;
@@ -76,6 +79,8 @@ impl<'p> DynamicMessage<'p> {
     ) -> Result<(), SetFieldError<'p>>
         requires { Declares self.old.descriptor field.now }
         ensures type_stays { self.new.descriptor ≡ self.old.descriptor }
+        ensures ok { OnOk result (SetsField self.old self.new field.now value.entry) }
+        ensures exclusive { Owns self.old.descriptor field.now → IsExclusive self.old → IsExclusive self.new }
         ensures err { OnErr result (fields_of self.new ≡ fields_of self.old) }
     {
         if !is_valid_for(&value, field) {
@@ -91,7 +96,8 @@ impl<'p> DynamicMessage<'p> {
     /// Unsets the field, one of the message's type. Takes no memory.
     pub fn clear_field(&mut self, field: &FieldDescriptor<'p>)
         requires { Declares self.old.descriptor field.now }
-        ensures { UpdatesField self.old self.new (field_type field.now).number None }
+        ensures updates { UpdatesField self.old self.new (field_type field.now).number None }
+        ensures exclusive { IsExclusive self.old → IsExclusive self.new }
     {
         if let Some(mut parts) = self.block() {
             parts.fields.take(field.number());
@@ -103,6 +109,7 @@ impl<'p> DynamicMessage<'p> {
     pub fn take_field(&mut self, field: &FieldDescriptor<'p>) -> Option<Value<'p>>
         requires { Declares self.old.descriptor field.now }
         ensures updates { UpdatesField self.old self.new (field_type field.now).number None }
+        ensures exclusive { IsExclusive self.old → IsExclusive self.new }
         ensures held { IfSome result (λ v. value_at (fields_of self.old) (field_type field.now).number ≡ Some v) }
         ensures presence { (field_type field.now).presence ≡ true → result ≡ value_at (fields_of self.old) (field_type field.now).number }
     {

@@ -1,9 +1,9 @@
 //! The fields and extensions of a type that its messages hold: all but those of floating-point numbers and of maps of such.
 
-ghost use Rattle.std.specs.Prelude.{◌≡◌, IfSome};
+ghost use Rattle.std.specs.Prelude.{◌≡◌, ◌≢◌, IfSome, IfNone};
 ghost use Rattle.reflect_pool.specs.FieldsLeft.{field_type};
 ghost use Rattle.reflect_scalar.specs.FieldTypes.{extension_type};
-ghost use Rattle.reflect_dynamic.specs.Declares.{Extends};
+ghost use Rattle.reflect_dynamic.specs.Declares.{Owns, OwnsExtension};
 
 use reflect_link::{ExtensionDescriptor, FieldDescriptor, MessageDescriptor};
 use reflect_scalar::holds_floats;
@@ -15,6 +15,8 @@ pub fn declared_field<'p>(
 ) -> Option<FieldDescriptor<'p>>
     ensures message { IfSome result (λ f. f.message ≡ descriptor.entry) }
     ensures number { IfSome result (λ f. (field_type f).number ≡ number) }
+    ensures owns { IfSome result (λ f. Owns descriptor.entry f) }
+    ensures none { IfNone result ((f : FieldDescriptor) → Owns descriptor.entry f → (field_type f).number ≢ number) }
 {
     let field = descriptor.get_field(number)?;
     if holds_floats(&field) {
@@ -42,7 +44,7 @@ pub fn declared_extension<'p>(
     descriptor: MessageDescriptor<'p>,
     number: u32,
 ) -> Option<ExtensionDescriptor<'p>>
-    ensures extends { IfSome result (λ x. Extends descriptor.entry x) }
+    ensures owns { IfSome result (λ x. OwnsExtension descriptor.entry x) }
     ensures number { IfSome result (λ x. (extension_type x).number ≡ number) }
 {
     let extension = descriptor.get_extension(number)?;

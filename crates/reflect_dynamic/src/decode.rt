@@ -203,7 +203,7 @@ fn merge_field<'p, 'b>(
     raw: RawRecord<'b>,
 ) -> Result<&'b [u8], WireError>
     ensures others { (n : ℕ) → n ≢ raw.entry.key.number → Same content.old content.new n }
-    ensures read { IfOk result (λ rest. (run : List Payload × Payload) × Fronts (IsRun raw.entry.levels raw.entry.key) raw.entry.bytes.now run rest.now × Leaves (either_pool field.entry) (either_type field.entry) (value_at content.old raw.entry.key.number) (value_at content.new raw.entry.key.number) run) }
+    ensures read { IfOk result (λ rest. (run : List Payload × Payload) × Fronts (IsRun raw.entry.levels raw.entry.key) raw.entry.bytes.now run rest.now × Leaves (either_pool field.entry) (either_type field.entry) (value_at content.old raw.entry.key.number) (value_at content.new raw.entry.key.number) (run.0 ++ run.1 ∷ [])) }
     ensures shorter { IfOk result (λ rest. length rest.now ≤ length raw.entry.bytes.now) }
 {
     let number = raw.key.number;

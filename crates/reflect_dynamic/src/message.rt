@@ -6,8 +6,10 @@ ghost use Rattle.std.specs.Option.{option_copied};
 ghost use Rattle.reflect_entries.specs.Entries.{value_at};
 ghost use Rattle.reflect_dynamic.specs.EntriesLeft.{entries_left};
 ghost use Rattle.reflect_entries.specs.Undeclared.{undeclared};
-ghost use Rattle.reflect_dynamic.specs.Held.{fields_of, extensions_of, unknown_of};
+ghost use Rattle.reflect_dynamic.specs.Fields.{HoldFields};
+ghost use Rattle.reflect_dynamic.specs.Held.{fields_of, choices_of, extensions_of, unknown_of};
 ghost use Rattle.reflect_dynamic.specs.Keeps.{Keeps};
+ghost use Rattle.reflect_dynamic.specs.Oneofs.{IsExclusive};
 ghost use Rattle.reflect_dynamic.specs.Spares.{HoldsRead};
 
 use crate::decode::{MAX_LEVELS, merge_body};
@@ -37,6 +39,7 @@ impl<'p> DynamicMessage<'p> {
     pub fn new(alloc: Global, descriptor: MessageDescriptor<'p>) -> DynamicMessage<'p>
         ensures same_type { result.descriptor ≡ descriptor.entry }
         ensures fields { fields_of result ≡ [] }
+        ensures exclusive { IsExclusive result }
         ensures extensions { extensions_of result ≡ [] }
         ensures unknown { unknown_of result ≡ [] }
     {
@@ -64,7 +67,8 @@ impl<'p> DynamicMessage<'p> {
         bytes: &[u8],
     ) -> Result<DynamicMessage<'p>, WireError>
         ensures same_type { IfOk result (λ m. m.descriptor ≡ descriptor.entry) }
-        ensures read { IfOk result (λ m. (rs : List (ℕ × Payload)) × SpellsRecords 100 bytes.now (records_of rs) × Keeps descriptor.entry [] (unknown_of m) rs × HoldsRead (fields_of m) rs × HoldsRead (extensions_of m) rs) }
+        ensures read { IfOk result (λ m. (rs : List (ℕ × Payload)) × SpellsRecords 100 bytes.now (records_of rs) × Keeps descriptor.entry [] (unknown_of m) rs × HoldsRead (fields_of m) rs × HoldsRead (extensions_of m) rs × HoldFields descriptor.entry (fields_of m) rs) }
+        ensures exclusive { IfOk result IsExclusive }
     {
         let mut message = DynamicMessage::new(alloc, descriptor);
         merge_body(&mut message, alloc, bytes, None, MAX_LEVELS)?;
@@ -203,9 +207,10 @@ impl<'p> DynamicMessage<'p> {
     pub(crate) fn block(&mut self) -> Option<Box<Parts<'p>>>
         ensures type_stays { self.new.descriptor ≡ self.old.descriptor }
         ensures fields { IfSome result (λ block. block.value.fields ≡ fields_of self.old) }
+        ensures choices { IfSome result (λ block. block.value.choices.members ≡ choices_of self.old) }
         ensures extensions { IfSome result (λ block. block.value.extensions ≡ extensions_of self.old) }
         ensures unknown { IfSome result (λ block. undeclared block.value.unknown ≡ unknown_of self.old) }
-        ensures nothing { IfNone result ((fields_of self.old ≡ []) × (extensions_of self.old ≡ []) × (unknown_of self.old ≡ [])) }
+        ensures nothing { IfNone result ((fields_of self.old ≡ []) × (choices_of self.old ≡ []) × (extensions_of self.old ≡ []) × (unknown_of self.old ≡ [])) }
         ensures none { IfNone result (self.new ≡ self.old) }
     {
         match mem::replace(&mut self.held, Held::Nothing) {
@@ -218,6 +223,7 @@ impl<'p> DynamicMessage<'p> {
     pub(crate) fn take_block(&mut self) -> Result<Box<Parts<'p>>, AllocError>
         ensures type_stays { self.new.descriptor ≡ self.old.descriptor }
         ensures fields { IfOk result (λ block. block.value.fields ≡ fields_of self.old) }
+        ensures choices { IfOk result (λ block. block.value.choices.members ≡ choices_of self.old) }
         ensures extensions { IfOk result (λ block. block.value.extensions ≡ extensions_of self.old) }
         ensures unknown { IfOk result (λ block. undeclared block.value.unknown ≡ unknown_of self.old) }
         ensures err { OnErr result (self.new ≡ self.old) }
@@ -232,6 +238,7 @@ impl<'p> DynamicMessage<'p> {
     pub(crate) fn put_block(&mut self, parts: Box<Parts<'p>>)
         ensures type_stays { self.new.descriptor ≡ self.old.descriptor }
         ensures fields { fields_of self.new ≡ parts.entry.value.fields }
+        ensures choices { choices_of self.new ≡ parts.entry.value.choices.members }
         ensures extensions { extensions_of self.new ≡ parts.entry.value.extensions }
         ensures unknown { unknown_of self.new ≡ undeclared parts.entry.value.unknown }
     {

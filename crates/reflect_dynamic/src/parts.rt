@@ -1,12 +1,13 @@
 //! What a message holds, apart from its type.
 
-ghost use Rattle.std.specs.Prelude.{◌≡◌, ◌⊎◌, ℕ, [], None, IfOk, OnErr};
+ghost use Rattle.std.specs.Prelude.{◌≡◌, ℕ, [], Some, IfOk, OnOk, OnErr};
 ghost use Rattle.std.specs.Option.{IsSome};
 ghost use Rattle.reflect_entries.specs.Entries.{value_at};
+ghost use Rattle.reflect_entries.specs.Members.{first_member_of};
 ghost use Rattle.reflect_entries.specs.Undeclared.{undeclared};
-ghost use Rattle.reflect_pool.specs.FieldsLeft.{field_type};
 ghost use Rattle.reflect_dynamic.specs.Held.{unknown_in};
-ghost use Rattle.reflect_dynamic.specs.Spares.{Same};
+ghost use Rattle.reflect_pool.specs.FieldsLeft.{field_type};
+ghost use Rattle.reflect_dynamic.specs.Oneofs.{MakesRoom, Changes, Chooses, Unsets};
 
 use crate::value::Value;
 use reflect_entries::{Choices, Entries, UnknownRecords};
@@ -53,6 +54,7 @@ impl<'p> Parts<'p> {
     /// Nothing is held. Takes no memory.
     pub fn new(alloc: Global) -> Parts<'p>
         ensures fields { result.fields ≡ [] }
+        ensures choices { result.choices.members ≡ [] }
         ensures extensions { result.extensions ≡ [] }
         ensures unknown { undeclared result.unknown ≡ [] }
     {
@@ -96,7 +98,13 @@ impl<'p> Parts<'p> {
         field: &FieldDescriptor<'p>,
         value: Value<'p>,
     ) -> Result<(), AllocError>
+        ensures here { OnOk result (value_at self.new.fields (field_type field.now).number ≡ Some value.entry) }
+        ensures changes { OnOk result (Changes field.now self.old.choices.members self.old.fields self.new.fields) }
+        ensures chooses { OnOk result (Chooses field.now self.old.choices.members self.new.choices.members) }
         ensures err { OnErr result (self.new.fields ≡ self.old.fields) }
+        ensures room { OnErr result (MakesRoom field.now self.old.choices.members self.new.choices.members) }
+        ensures extensions { self.new.extensions ≡ self.old.extensions }
+        ensures unknown { self.new.unknown ≡ self.old.unknown }
     {
         self.choices.make_room(field)?;
         self.fields.set(field.number(), value)?;
@@ -106,7 +114,8 @@ impl<'p> Parts<'p> {
 
     /// Unsets the other members of the oneof of a field, for whose choice there is room.
     pub fn clear_siblings(&mut self, field: &FieldDescriptor<'p>)
-        ensures fields { (n : ℕ) → Same self.old.fields self.new.fields n ⊎ ((value_at self.new.fields n ≡ None) × IsSome (field_type field.now).oneof) }
+        ensures unsets { Unsets field.now self.old.choices.members self.old.fields self.new.fields }
+        ensures chooses { ((first : ℕ) → first_member_of field.now ≡ Some first → IsSome (value_at self.old.choices.members first)) → Chooses field.now self.old.choices.members self.new.choices.members }
         ensures extensions { self.new.extensions ≡ self.old.extensions }
         ensures unknown { self.new.unknown ≡ self.old.unknown }
     {

@@ -1,6 +1,6 @@
 //! Which member of each oneof was set last.
 
-ghost use Rattle.std.specs.Prelude.{◌≡◌, ◌≢◌, ℕ, None, Some, IfOk, OnOk, OnErr};
+ghost use Rattle.std.specs.Prelude.{◌≡◌, ◌≢◌, ℕ, [], None, Some, IfOk, OnOk, OnErr};
 ghost use Rattle.std.specs.Option.{IsSome};
 ghost use Rattle.reflect_entries.specs.Entries.{Updates, value_at};
 ghost use Rattle.reflect_entries.specs.Members.{other_than, first_member_of};
@@ -41,16 +41,18 @@ impl Choices {
 
     /// No member was set. Takes no memory.
     pub fn new(alloc: Global) -> Choices
-        ensures { (first : ℕ) → choice result first ≡ None }
+        ensures { result.members ≡ [] }
     {
         Choices {
             members: Entries::new(alloc),
         }
     }
 
-    /// Makes room for the choice of the field, if it is a member of a oneof. What was noted stays.
+    /// Makes room for the choice of the field, if it is a member of a oneof. What was noted stays; where nothing was, the field
+    /// is noted.
     pub fn make_room(&mut self, field: &FieldDescriptor<'_>) -> Result<(), AllocError>
         ensures room { OnOk result ((first : ℕ) → first_member_of field.now ≡ Some first → IsSome (choice self.new first)) }
+        ensures first { OnOk result ((first : ℕ) → first_member_of field.now ≡ Some first → choice self.old first ≡ None → choice self.new first ≡ Some (field_type field.now).number) }
         ensures others { (other : ℕ) → first_member_of field.now ≢ Some other → choice self.new other ≡ choice self.old other }
         ensures stays { (first : ℕ) → IsSome (choice self.old first) → choice self.new first ≡ choice self.old first }
         ensures refused { OnErr result (self.new.members ≡ self.old.members) }

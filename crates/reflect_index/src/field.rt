@@ -2,6 +2,7 @@
 
 ghost use Rattle.std.specs.Prelude.{◌≡◌, IfOk, string_bytes};
 ghost use Rattle.reflect_walk.specs.Tree.{text_of as as_text};
+ghost use Rattle.reflect_index.specs.Views.{syntax_type};
 
 use crate::default::default_of;
 use crate::kind::{Cardinality, Syntax};
@@ -10,7 +11,9 @@ use descriptor_records::{FieldDescriptorProto, FieldType, FileDescriptorProto, L
 use std::alloc::{AllocError, Global};
 
 /// The syntax that a file's record says.
-pub fn syntax_of(file: &FileDescriptorProto) -> Syntax {
+pub fn syntax_of(file: &FileDescriptorProto) -> Syntax
+    ensures { result ≡ syntax_type file.now.syntax }
+{
     match &file.syntax {
         Some(syntax) if syntax.as_str() == "proto3" => Syntax::Proto3,
         _ => Syntax::Proto2,

@@ -22,6 +22,7 @@ mod within;
 
 pub use batch::Batch;
 pub use cutting::cut;
+pub use field::syntax_of;
 pub use from::are_from;
 pub use kind::{Cardinality, Syntax};
 pub use lists::{FieldList, ValueList};

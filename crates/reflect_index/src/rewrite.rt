@@ -75,7 +75,7 @@ fn rewrite_service(service: &mut ServiceDescriptorProto, rest: &mut Rest) {
 }
 
 fn rewrite_file(file: &mut FileDescriptorProto, rest: &mut Rest)
-    ensures { file.new.name ≡ file.old.name }
+    ensures { record_file file.new ≡ record_file file.old }
 {
     for message in file.message_type.iter_mut() {
         rewrite_message(message, rest);
@@ -87,7 +87,7 @@ fn rewrite_file(file: &mut FileDescriptorProto, rest: &mut Rest)
 }
 
 /// The files with each reference written as its full name behind a leading dot, and with each missing type of a field that has
-/// a type name filled in. The references are those of the files in the order in which a walk meets them. The files' names stay.
+/// a type name filled in. The references are those of the files in the order in which a walk meets them. What a file's record says of the file itself stays.
 pub fn rewritten(
     mut files: Vec<FileDescriptorProto>,
     references: Vec<Reference>,

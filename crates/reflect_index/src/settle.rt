@@ -1,7 +1,7 @@
 //! Moves settled options, and the paths of locations that speak of them, into the files' records.
 
 ghost use Rattle.std.specs.Prelude.{◌≡◌, map};
-ghost use Rattle.reflect_index.specs.Views.{file_of, pool_of};
+ghost use Rattle.reflect_index.specs.Views.{file_of, places_of, pool_of, record_file};
 
 use crate::stored::StoredFile;
 use crate::tables::Tables;
@@ -104,7 +104,7 @@ fn settle_message(message: &mut DescriptorProto, path: &[i32], options: Options)
 }
 
 fn settle_file(file: &mut FileDescriptorProto, path: &[i32], options: Options)
-    ensures { file.new.name ≡ file.old.name }
+    ensures { record_file file.new ≡ record_file file.old }
 {
     let Some((number, place, rest)) = first_step(path) else {
         file.options = Some(options);
@@ -124,7 +124,7 @@ fn settle_file(file: &mut FileDescriptorProto, path: &[i32], options: Options)
 }
 
 fn move_location(file: &mut FileDescriptorProto, place: usize, path: Vec<i32>)
-    ensures { file.new.name ≡ file.old.name }
+    ensures { record_file file.new ≡ record_file file.old }
 {
     if let Some(info) = &mut file.source_code_info {
         if let Some(location) = info.location.get_mut(place) {
@@ -134,7 +134,8 @@ fn move_location(file: &mut FileDescriptorProto, place: usize, path: Vec<i32>)
 }
 
 fn settle_options(files: &mut Vec<StoredFile>, file: usize, path: &[i32], options: Options)
-    ensures { map file_of files.new.items ≡ map file_of files.old.items }
+    ensures files { map file_of files.new.items ≡ map file_of files.old.items }
+    ensures declared { map places_of files.new.items ≡ map places_of files.old.items }
 {
     if file < files.len() {
         settle_file(&mut files[file].record, path, options);
@@ -142,7 +143,8 @@ fn settle_options(files: &mut Vec<StoredFile>, file: usize, path: &[i32], option
 }
 
 fn settle_location(files: &mut Vec<StoredFile>, file: usize, place: usize, path: Vec<i32>)
-    ensures { map file_of files.new.items ≡ map file_of files.old.items }
+    ensures files { map file_of files.new.items ≡ map file_of files.old.items }
+    ensures declared { map places_of files.new.items ≡ map places_of files.old.items }
 {
     if file < files.len() {
         move_location(&mut files[file].record, place, path);
@@ -150,7 +152,8 @@ fn settle_location(files: &mut Vec<StoredFile>, file: usize, place: usize, path:
 }
 
 fn settle_edit(files: &mut Vec<StoredFile>, edit: Edit)
-    ensures { map file_of files.new.items ≡ map file_of files.old.items }
+    ensures files { map file_of files.new.items ≡ map file_of files.old.items }
+    ensures declared { map places_of files.new.items ≡ map places_of files.old.items }
 {
     match edit {
         Edit::Options {
@@ -172,7 +175,8 @@ pub fn settle_all(tables: &mut Tables, edits: Vec<Edit>)
 }
 
 fn settle_edits(files: &mut Vec<StoredFile>, edits: Vec<Edit>)
-    ensures { map file_of files.new.items ≡ map file_of files.old.items }
+    ensures files { map file_of files.new.items ≡ map file_of files.old.items }
+    ensures declared { map places_of files.new.items ≡ map places_of files.old.items }
 {
     for edit in edits {
         settle_edit(files, edit);

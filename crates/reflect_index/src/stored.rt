@@ -1,6 +1,6 @@
 //! What is kept of each declaration: places in place of names.
 
-use crate::kind::{Cardinality, Syntax};
+use crate::kind::Cardinality;
 use crate::lists::{FieldList, ValueList};
 use descriptor_records::FileDescriptorProto;
 use reflect_rules::NumberRanges;
@@ -89,7 +89,6 @@ pub struct StoredFile {
 /// What a file declares.
 #[derive(Drop)]
 pub struct Declared {
-    pub syntax: Syntax,
     pub children: Children,
     /// The places of the services, as they were declared.
     pub services: Vec<u32>,

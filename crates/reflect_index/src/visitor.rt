@@ -249,7 +249,6 @@ impl<'a> Visitor for IndexVisitor<'a> {
     ) -> Result<(), VisitError> {
         self.syntax = syntax_of(descriptor);
         self.drafts.files.push(Declared {
-            syntax: self.syntax,
             children: Children::new(alloc),
             services: Vec::new(alloc),
         })?;

@@ -2,12 +2,12 @@
 
 ghost use Rattle.std.specs.Prelude.{◌≡◌, ◌<◌, ◌^◌, IsTrue, map, length};
 ghost use Rattle.std.specs.List.{All, AllByRecursion};
-ghost use Rattle.reflect_index.specs.Types.{IsWithin, MessageWithin, EnumWithin, ExtensionWithin, MethodWithin, ServiceWithin, IsAmong, HasParts, HaveMembers};
-ghost use Rattle.reflect_index.specs.Views.{message_of, enum_of, extension_of, service_of, method_of, field_of, oneof_of, kind_of};
+ghost use Rattle.reflect_index.specs.Types.{IsWithin, MessageWithin, EnumWithin, ExtensionWithin, MethodWithin, ServiceWithin, IsAmong, HasParts, HaveMembers, ChildrenWithin, HoldsWithin, FileWithin};
+ghost use Rattle.reflect_index.specs.Views.{message_of, enum_of, extension_of, service_of, method_of, field_of, oneof_of, kind_of, children_of, places_of};
 
 use crate::stored::{
-    StoredEntry, StoredEnum, StoredExtension, StoredField, StoredKind, StoredMessage, StoredMethod,
-    StoredOneof, StoredService,
+    Children, StoredEntry, StoredEnum, StoredExtension, StoredField, StoredFile, StoredKind,
+    StoredMessage, StoredMethod, StoredOneof, StoredService,
 };
 use crate::tables::{Counts, Tables};
 
@@ -90,6 +90,33 @@ fn has_parts(entry: Option<StoredEntry>, fields: usize) -> bool
     }
 }
 
+/// What a file or a message declares is one of so many.
+fn children_within(children: &Children, counts: Counts) -> bool
+    ensures { IsTrue result → ChildrenWithin counts (children_of children.now) }
+{
+    are_below(children.messages.as_slice(), counts.messages as usize)
+        && are_below(children.enums.as_slice(), counts.enums as usize)
+        && are_below(children.extensions.as_slice(), counts.extensions as usize)
+}
+
+fn file_within(file: &StoredFile, counts: Counts) -> bool
+    ensures { IsTrue result → FileWithin counts (places_of file.now) }
+{
+    children_within(&file.declared.children, counts)
+        && are_below(file.declared.services.as_slice(), counts.services as usize)
+}
+
+fn files_within(items: &[StoredFile], counts: Counts) -> bool
+    ensures { IsTrue result → AllByRecursion (FileWithin counts) (map places_of items.now) }
+{
+    for file in items {
+        if !file_within(file, counts) {
+            return false;
+        }
+    }
+    true
+}
+
 fn message_within(message: &StoredMessage, counts: Counts) -> bool
     ensures { IsTrue result → MessageWithin counts (message_of message.now) }
 {
@@ -108,6 +135,18 @@ fn messages_within(items: &[StoredMessage], counts: Counts) -> bool
 {
     for message in items {
         if !message_within(message, counts) {
+            return false;
+        }
+    }
+    true
+}
+
+/// What the messages declare is one of so many.
+fn hold_within(items: &[StoredMessage], counts: Counts) -> bool
+    ensures { IsTrue result → AllByRecursion (HoldsWithin counts) (map message_of items.now) }
+{
+    for message in items {
+        if !children_within(&message.children, counts) {
             return false;
         }
     }
@@ -138,6 +177,7 @@ fn extension_within(extension: &StoredExtension, counts: Counts) -> bool
     ensures { IsTrue result → ExtensionWithin counts (extension_of extension.now) }
 {
     extension.file < counts.files
+        && is_among(extension.parent, counts.messages as usize)
         && extension.extendee < counts.messages
         && is_within(extension.field.kind, counts)
 }
@@ -167,7 +207,9 @@ fn methods_within(items: &[StoredMethod], counts: Counts) -> bool
 fn service_within(service: &StoredService, counts: Counts) -> bool
     ensures { IsTrue result → ServiceWithin counts (service_of service.now) }
 {
-    service.file < counts.files && methods_within(service.methods.as_slice(), counts)
+    service.file < counts.files
+        && methods_within(service.methods.as_slice(), counts)
+        && is_few(service.methods.len())
 }
 
 fn services_within(items: &[StoredService], counts: Counts) -> bool
@@ -183,12 +225,16 @@ fn services_within(items: &[StoredService], counts: Counts) -> bool
 
 /// All that the entries name is among so many.
 pub fn are_within(tables: &Tables, counts: Counts) -> bool
+    ensures files { IsTrue result → AllByRecursion (FileWithin counts) (map places_of tables.now.files.items) }
     ensures messages { IsTrue result → AllByRecursion (MessageWithin counts) (map message_of tables.now.messages.items) }
+    ensures children { IsTrue result → AllByRecursion (HoldsWithin counts) (map message_of tables.now.messages.items) }
     ensures enums { IsTrue result → AllByRecursion (EnumWithin counts) (map enum_of tables.now.enums.items) }
     ensures extensions { IsTrue result → AllByRecursion (ExtensionWithin counts) (map extension_of tables.now.extensions.items) }
     ensures services { IsTrue result → AllByRecursion (ServiceWithin counts) (map service_of tables.now.services.items) }
 {
-    messages_within(tables.messages.as_slice(), counts)
+    files_within(tables.files.as_slice(), counts)
+        && messages_within(tables.messages.as_slice(), counts)
+        && hold_within(tables.messages.as_slice(), counts)
         && enums_within(tables.enums.as_slice(), counts)
         && extensions_within(tables.extensions.as_slice(), counts)
         && services_within(tables.services.as_slice(), counts)

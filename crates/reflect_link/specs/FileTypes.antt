@@ -1,10 +1,17 @@
 -- A file of a pool at its place.
 use Rattle.std.specs.Prelude.{ℕ, [], slice_index_or}
 use Rattle.reflect_index.specs.Types.{FileType, PoolType}
+use Rattle.reflect_index.specs.declared.kind.Syntax.TheVariants.{Proto2}
 
 -- what stands for a place that is not there
 abbrev pub no_file : FileType
-no_file = record { name = [] }
+no_file = record {
+  name = [];
+  package_name = [];
+  syntax = Proto2;
+  imports = [];
+  public_imports = [];
+}
 
 -- the file at a place
 abbrev pub file_type_at : PoolType → ℕ → FileType

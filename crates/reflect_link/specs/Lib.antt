@@ -1,3 +1,9 @@
 pub mod FileTypes
 pub mod FilesLeft
 pub mod FindsDeclared
+pub mod Lent
+pub mod ListsLeft
+pub mod MethodsLeft
+pub mod Records
+pub mod Reserved
+pub mod TypesLeft

@@ -1,11 +1,12 @@
-ghost use Rattle.std.specs.Prelude.{◌≡◌, ◌<◌, length, IfSome, IsSome};
+ghost use Rattle.std.specs.Prelude.{◌≡◌, ◌<◌, length, map, IfSome, IsSome};
+ghost use Rattle.reflect_index.specs.Types.{declared_at, type_at, enum_at, extension_at, service_at};
 ghost use Rattle.reflect_index.specs.Views.{file_of, record_file, text_of};
 ghost use Rattle.reflect_link.specs.FileTypes.{file_type_at};
 
 use crate::lists::{Enums, Extensions, Messages};
 use crate::service::Services;
 use descriptor_records::FileDescriptorProto;
-use reflect_index::StoredFile;
+use reflect_index::{StoredFile, syntax_of};
 use reflect_pool::{DescriptorPool, Syntax};
 
 /// A file of a pool.
@@ -17,6 +18,8 @@ pub struct FileDescriptor<'p> {
 }
 
 impl<'p> FileDescriptor<'p> {
+    ghost use Rattle.reflect_link.specs.ListsLeft.{messages_left, enums_left, extensions_left, services_left};
+
     /// The file at a place of a pool.
     pub fn new(pool: &'p DescriptorPool, index: u32) -> FileDescriptor<'p>
         requires { index < length pool.now.files }
@@ -55,13 +58,17 @@ impl<'p> FileDescriptor<'p> {
     }
 
     /// The package, empty where there is none.
-    pub fn package_name(&self) -> &'p str {
+    pub fn package_name(&self) -> &'p str
+        ensures { result.now ≡ (file_type_at self.now.pool.now self.now.index).package_name }
+    {
         text(&self.stored().record.package)
     }
 
     /// The syntax that the file is written in.
-    pub fn syntax(&self) -> Syntax {
-        self.stored().declared.syntax
+    pub fn syntax(&self) -> Syntax
+        ensures { result ≡ (file_type_at self.now.pool.now self.now.index).syntax }
+    {
+        syntax_of(&self.stored().record)
     }
 
     /// The record of the file, with full names in place of references.
@@ -88,34 +95,52 @@ impl<'p> FileDescriptor<'p> {
     }
 
     /// The message types that stand in no message, as they were declared.
-    pub fn messages(&self) -> Messages<'p> {
+    pub fn messages(&self) -> Messages<'p>
+        ensures { messages_left result ≡ map (type_at self.now.pool.now) (declared_at self.now.pool.now self.now.index).children.messages }
+    {
         Messages {
             pool: self.pool,
-            places: self.stored().declared.children.messages.as_slice(),
+            places: self
+                .pool
+                .declared_in(self.index)
+                .children
+                .messages
+                .as_slice(),
         }
     }
 
     /// The enum types that stand in no message, as they were declared.
-    pub fn enums(&self) -> Enums<'p> {
+    pub fn enums(&self) -> Enums<'p>
+        ensures { enums_left result ≡ map (enum_at self.now.pool.now) (declared_at self.now.pool.now self.now.index).children.enums }
+    {
         Enums {
             pool: self.pool,
-            places: self.stored().declared.children.enums.as_slice(),
+            places: self.pool.declared_in(self.index).children.enums.as_slice(),
         }
     }
 
     /// The extensions that stand in no message, as they were declared.
-    pub fn extensions(&self) -> Extensions<'p> {
+    pub fn extensions(&self) -> Extensions<'p>
+        ensures { extensions_left result ≡ map (extension_at self.now.pool.now) (declared_at self.now.pool.now self.now.index).children.extensions }
+    {
         Extensions {
             pool: self.pool,
-            places: self.stored().declared.children.extensions.as_slice(),
+            places: self
+                .pool
+                .declared_in(self.index)
+                .children
+                .extensions
+                .as_slice(),
         }
     }
 
     /// The services, as they were declared.
-    pub fn services(&self) -> Services<'p> {
+    pub fn services(&self) -> Services<'p>
+        ensures { services_left result ≡ map (service_at self.now.pool.now) (declared_at self.now.pool.now self.now.index).services }
+    {
         Services {
             pool: self.pool,
-            places: self.stored().declared.services.as_slice(),
+            places: self.pool.declared_in(self.index).services.as_slice(),
         }
     }
 }

@@ -28,7 +28,8 @@ pub trait InFile<'p> {
         ensures { record_file result.now ≡ file_type_at (stands_in self.now) (file_of self.now) };
 
     /// The package of the file that the declaration stands in, empty where there is none.
-    fn package_name(&self) -> &'p str;
+    fn package_name(&self) -> &'p str
+        ensures { result.now ≡ (file_type_at (stands_in self.now) (file_of self.now)).package_name };
 }
 
 impl<'p> InFile<'p> for MessageDescriptor<'p> {

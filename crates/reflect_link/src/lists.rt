@@ -1,6 +1,7 @@
 //! Iterators over types and extensions by their places.
 
-ghost use Rattle.std.specs.Prelude.{length};
+ghost use Rattle.std.specs.Prelude.{◌<◌, All, length};
+ghost use Rattle.std.proofs.Props.{props};
 
 use reflect_pool::{DescriptorPool, EnumDescriptor, ExtensionDescriptor, MessageDescriptor};
 
@@ -9,14 +10,19 @@ use reflect_pool::{DescriptorPool, EnumDescriptor, ExtensionDescriptor, MessageD
 pub struct Messages<'p> {
     pub(crate) pool: &'p DescriptorPool,
     pub(crate) places: &'p [u32],
+    ghost inside: { All (λ place. place < length pool.now.messages) places.now } by { Prim.hlevel props },
 }
 
 impl<'p> Iterator for Messages<'p> {
-    ghost use Rattle.std.specs.Iterator.{at_most};
+    ghost use Rattle.std.specs.Iterator.{YieldsFirstBy, item_count};
+    ghost use Rattle.reflect_link.specs.ListsLeft.{messages_left};
+    ghost use Rattle.reflect_link.specs.TypesLeft.{message_type};
 
     type Item = MessageDescriptor<'p>;
 
-    ghost remaining = { λ s. at_most (length s.places.now) };
+    ghost next_gives = { YieldsFirstBy message_type messages_left };
+
+    ghost remaining = { item_count messages_left };
 
     fn next(&mut self) -> Option<MessageDescriptor<'p>> {
         let (place, others) = self.places.split_first()?;
@@ -30,14 +36,19 @@ impl<'p> Iterator for Messages<'p> {
 pub struct Enums<'p> {
     pub(crate) pool: &'p DescriptorPool,
     pub(crate) places: &'p [u32],
+    ghost inside: { All (λ place. place < length pool.now.enums) places.now } by { Prim.hlevel props },
 }
 
 impl<'p> Iterator for Enums<'p> {
-    ghost use Rattle.std.specs.Iterator.{at_most};
+    ghost use Rattle.std.specs.Iterator.{YieldsFirstBy, item_count};
+    ghost use Rattle.reflect_link.specs.ListsLeft.{enums_left};
+    ghost use Rattle.reflect_link.specs.TypesLeft.{enum_type};
 
     type Item = EnumDescriptor<'p>;
 
-    ghost remaining = { λ s. at_most (length s.places.now) };
+    ghost next_gives = { YieldsFirstBy enum_type enums_left };
+
+    ghost remaining = { item_count enums_left };
 
     fn next(&mut self) -> Option<EnumDescriptor<'p>> {
         let (place, others) = self.places.split_first()?;
@@ -51,14 +62,19 @@ impl<'p> Iterator for Enums<'p> {
 pub struct Extensions<'p> {
     pub(crate) pool: &'p DescriptorPool,
     pub(crate) places: &'p [u32],
+    ghost inside: { All (λ place. place < length pool.now.extensions) places.now } by { Prim.hlevel props },
 }
 
 impl<'p> Iterator for Extensions<'p> {
-    ghost use Rattle.std.specs.Iterator.{at_most};
+    ghost use Rattle.std.specs.Iterator.{YieldsFirstBy, item_count};
+    ghost use Rattle.reflect_link.specs.ListsLeft.{extensions_left};
+    ghost use Rattle.reflect_link.specs.TypesLeft.{extension_type};
 
     type Item = ExtensionDescriptor<'p>;
 
-    ghost remaining = { λ s. at_most (length s.places.now) };
+    ghost next_gives = { YieldsFirstBy extension_type extensions_left };
+
+    ghost remaining = { item_count extensions_left };
 
     fn next(&mut self) -> Option<ExtensionDescriptor<'p>> {
         let (place, others) = self.places.split_first()?;

@@ -1,4 +1,4 @@
-ghost use Rattle.std.specs.Prelude.{◌≡◌, ◌-◌, length, IfSome};
+ghost use Rattle.std.specs.Prelude.{◌≡◌, length, IfSome};
 ghost use Rattle.reflect_index.specs.Types.{PoolType};
 ghost use Rattle.reflect_link.specs.FindsDeclared.{FindsFile, FindsService};
 
@@ -8,13 +8,10 @@ use descriptor_records::FileDescriptorProto;
 use reflect_index::StoredFile;
 use reflect_pool::{DescriptorPool, EnumDescriptor, ExtensionDescriptor, MessageDescriptor};
 
-fn end_of(count: usize) -> u32 {
-    u32::try_from(count).unwrap_or(u32::MAX)
-}
-
 /// Further readers of a pool.
 pub trait PoolReaders {
     ghost use Rattle.reflect_link.specs.FilesLeft.{files_left, records_left};
+    ghost use Rattle.reflect_link.specs.TypesLeft.{messages_left, enums_left, extensions_left, services_left};
 
     /// What the pool holds.
     ghost holds: { Self → PoolType };
@@ -28,16 +25,20 @@ pub trait PoolReaders {
         ensures { records_left result ≡ (holds self.now).files };
 
     /// All message types, of each file with those that stand in others, each before what stands in it.
-    fn all_messages(&self) -> AllMessages<'_>;
+    fn all_messages(&self) -> AllMessages<'_>
+        ensures { messages_left result ≡ (holds self.now).messages };
 
     /// All enum types, of each file.
-    fn all_enums(&self) -> AllEnums<'_>;
+    fn all_enums(&self) -> AllEnums<'_>
+        ensures { enums_left result ≡ (holds self.now).enums };
 
     /// All extensions, of each file.
-    fn all_extensions(&self) -> AllExtensions<'_>;
+    fn all_extensions(&self) -> AllExtensions<'_>
+        ensures { extensions_left result ≡ (holds self.now).extensions };
 
     /// All services, of each file.
-    fn services(&self) -> AllServices<'_>;
+    fn services(&self) -> AllServices<'_>
+        ensures { services_left result ≡ (holds self.now).services };
 
     /// The file of a name.
     fn get_file_by_name(&self, name: &str) -> Option<FileDescriptor<'_>>
@@ -71,7 +72,7 @@ impl PoolReaders for DescriptorPool {
         AllMessages {
             pool: self,
             next: 0,
-            end: end_of(self.tables().messages.len()),
+            end: self.counts().messages,
         }
     }
 
@@ -79,7 +80,7 @@ impl PoolReaders for DescriptorPool {
         AllEnums {
             pool: self,
             next: 0,
-            end: end_of(self.tables().enums.len()),
+            end: self.counts().enums,
         }
     }
 
@@ -87,7 +88,7 @@ impl PoolReaders for DescriptorPool {
         AllExtensions {
             pool: self,
             next: 0,
-            end: end_of(self.tables().extensions.len()),
+            end: self.counts().extensions,
         }
     }
 
@@ -95,7 +96,7 @@ impl PoolReaders for DescriptorPool {
         AllServices {
             pool: self,
             next: 0,
-            end: end_of(self.tables().services.len()),
+            end: self.counts().services,
         }
     }
 
@@ -144,14 +145,18 @@ pub struct AllMessages<'p> {
     pool: &'p DescriptorPool,
     next: u32,
     end: u32,
+    ghost whole: { end ≡ length pool.now.messages },
 }
 
 impl<'p> Iterator for AllMessages<'p> {
-    ghost use Rattle.std.specs.Iterator.{at_most};
+    ghost use Rattle.std.specs.Iterator.{YieldsFirstBy, item_count};
+    ghost use Rattle.reflect_link.specs.TypesLeft.{message_type, messages_left};
 
     type Item = MessageDescriptor<'p>;
 
-    ghost remaining = { λ s. at_most (s.end - s.next) };
+    ghost next_gives = { YieldsFirstBy message_type messages_left };
+
+    ghost remaining = { item_count messages_left };
 
     fn next(&mut self) -> Option<MessageDescriptor<'p>> {
         if self.next < self.end {
@@ -170,14 +175,18 @@ pub struct AllEnums<'p> {
     pool: &'p DescriptorPool,
     next: u32,
     end: u32,
+    ghost whole: { end ≡ length pool.now.enums },
 }
 
 impl<'p> Iterator for AllEnums<'p> {
-    ghost use Rattle.std.specs.Iterator.{at_most};
+    ghost use Rattle.std.specs.Iterator.{YieldsFirstBy, item_count};
+    ghost use Rattle.reflect_link.specs.TypesLeft.{enum_type, enums_left};
 
     type Item = EnumDescriptor<'p>;
 
-    ghost remaining = { λ s. at_most (s.end - s.next) };
+    ghost next_gives = { YieldsFirstBy enum_type enums_left };
+
+    ghost remaining = { item_count enums_left };
 
     fn next(&mut self) -> Option<EnumDescriptor<'p>> {
         if self.next < self.end {
@@ -196,14 +205,18 @@ pub struct AllExtensions<'p> {
     pool: &'p DescriptorPool,
     next: u32,
     end: u32,
+    ghost whole: { end ≡ length pool.now.extensions },
 }
 
 impl<'p> Iterator for AllExtensions<'p> {
-    ghost use Rattle.std.specs.Iterator.{at_most};
+    ghost use Rattle.std.specs.Iterator.{YieldsFirstBy, item_count};
+    ghost use Rattle.reflect_link.specs.TypesLeft.{extension_type, extensions_left};
 
     type Item = ExtensionDescriptor<'p>;
 
-    ghost remaining = { λ s. at_most (s.end - s.next) };
+    ghost next_gives = { YieldsFirstBy extension_type extensions_left };
+
+    ghost remaining = { item_count extensions_left };
 
     fn next(&mut self) -> Option<ExtensionDescriptor<'p>> {
         if self.next < self.end {
@@ -222,14 +235,18 @@ pub struct AllServices<'p> {
     pool: &'p DescriptorPool,
     next: u32,
     end: u32,
+    ghost whole: { end ≡ length pool.now.services },
 }
 
 impl<'p> Iterator for AllServices<'p> {
-    ghost use Rattle.std.specs.Iterator.{at_most};
+    ghost use Rattle.std.specs.Iterator.{YieldsFirstBy, item_count};
+    ghost use Rattle.reflect_link.specs.TypesLeft.{service_type, services_left};
 
     type Item = ServiceDescriptor<'p>;
 
-    ghost remaining = { λ s. at_most (s.end - s.next) };
+    ghost next_gives = { YieldsFirstBy service_type services_left };
+
+    ghost remaining = { item_count services_left };
 
     fn next(&mut self) -> Option<ServiceDescriptor<'p>> {
         if self.next < self.end {

@@ -1,12 +1,15 @@
 //! The ranges and names that a type reserves.
 
-ghost use Rattle.std.specs.Prelude.{length};
+ghost use Rattle.std.specs.Prelude.{◌≡◌};
+ghost use Rattle.reflect_link.specs.Reserved.{bound_of};
 
 use descriptor_records::{EnumReservedRange, ExtensionRange, ReservedRange};
 use std::ops::{Range, RangeInclusive};
 
 /// A bound of a record, 0 where it has none that a field number may be.
-fn bound(number: Option<i32>) -> u32 {
+fn bound(number: Option<i32>) -> u32
+    ensures { result ≡ bound_of number }
+{
     match number {
         Some(number) => u32::try_from(number).unwrap_or(0),
         None => 0,
@@ -20,11 +23,14 @@ pub struct ReservedRanges<'p> {
 }
 
 impl<'p> Iterator for ReservedRanges<'p> {
-    ghost use Rattle.std.specs.Iterator.{at_most};
+    ghost use Rattle.std.specs.Iterator.{YieldsFirstBy, item_count};
+    ghost use Rattle.reflect_link.specs.Reserved.{reserved_left};
 
     type Item = Range<u32>;
 
-    ghost remaining = { λ s. at_most (length s.rest.now) };
+    ghost next_gives = { YieldsFirstBy (λ r. (r.start, r.end)) reserved_left };
+
+    ghost remaining = { item_count reserved_left };
 
     fn next(&mut self) -> Option<Range<u32>> {
         let (range, others) = self.rest.split_first()?;
@@ -40,11 +46,14 @@ pub struct ExtensionRanges<'p> {
 }
 
 impl<'p> Iterator for ExtensionRanges<'p> {
-    ghost use Rattle.std.specs.Iterator.{at_most};
+    ghost use Rattle.std.specs.Iterator.{YieldsFirstBy, item_count};
+    ghost use Rattle.reflect_link.specs.Reserved.{ranges_left};
 
     type Item = Range<u32>;
 
-    ghost remaining = { λ s. at_most (length s.rest.now) };
+    ghost next_gives = { YieldsFirstBy (λ r. (r.start, r.end)) ranges_left };
+
+    ghost remaining = { item_count ranges_left };
 
     fn next(&mut self) -> Option<Range<u32>> {
         let (range, others) = self.rest.split_first()?;
@@ -60,11 +69,15 @@ pub struct EnumReservedRanges<'p> {
 }
 
 impl<'p> Iterator for EnumReservedRanges<'p> {
-    ghost use Rattle.std.specs.Iterator.{at_most};
+    ghost use Rattle.std.specs.Iterator.{YieldsFirstBy, item_count};
+    ghost use Rattle.std.specs.Range.{range_inclusive_start, range_inclusive_end};
+    ghost use Rattle.reflect_link.specs.Reserved.{enum_left};
 
     type Item = RangeInclusive<i32>;
 
-    ghost remaining = { λ s. at_most (length s.rest.now) };
+    ghost next_gives = { YieldsFirstBy (λ r. (range_inclusive_start r, range_inclusive_end r)) enum_left };
+
+    ghost remaining = { item_count enum_left };
 
     fn next(&mut self) -> Option<RangeInclusive<i32>> {
         let (range, others) = self.rest.split_first()?;
@@ -80,11 +93,14 @@ pub struct ReservedNames<'p> {
 }
 
 impl<'p> Iterator for ReservedNames<'p> {
-    ghost use Rattle.std.specs.Iterator.{at_most};
+    ghost use Rattle.std.specs.Iterator.{YieldsFirstBy, item_count};
+    ghost use Rattle.reflect_link.specs.Reserved.{names_left};
 
     type Item = &'p str;
 
-    ghost remaining = { λ s. at_most (length s.rest.now) };
+    ghost next_gives = { YieldsFirstBy (λ n. n.now) names_left };
+
+    ghost remaining = { item_count names_left };
 
     fn next(&mut self) -> Option<&'p str> {
         let (name, others) = self.rest.split_first()?;

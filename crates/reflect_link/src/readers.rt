@@ -1,5 +1,15 @@
 //! What the records say, and what stands in a type.
 
+ghost use Rattle.std.specs.Prelude.{◌≡◌, ℕ, map, string_bytes};
+ghost use Rattle.reflect_index.specs.Types.{PoolType, type_at, enum_at, extension_at};
+ghost use Rattle.descriptor_records.specs.declared.message.DescriptorProto.TheViews.{out-DescriptorProto};
+ghost use Rattle.descriptor_records.specs.declared.enums.EnumDescriptorProto.{EnumDescriptorProto};
+ghost use Rattle.descriptor_records.specs.declared.enums.EnumValueDescriptorProto.{EnumValueDescriptorProto};
+ghost use Rattle.descriptor_records.specs.declared.field.FieldDescriptorProto.{FieldDescriptorProto};
+ghost use Rattle.descriptor_records.specs.declared.field.OneofDescriptorProto.{OneofDescriptorProto};
+ghost use Rattle.descriptor_records.specs.declared.message.DescriptorProto.{DescriptorProto};
+ghost use Rattle.reflect_link.specs.Lent.{IsMessageOf, IsFieldOf, IsOneofOf, IsEnumOf, IsValueOf, IsExtensionOf};
+
 use crate::in_file::InFile;
 use crate::lists::{Enums, Extensions, Messages};
 use crate::ranges::{EnumReservedRanges, ExtensionRanges, ReservedNames, ReservedRanges};
@@ -17,29 +27,49 @@ use reflect_pool::{
 
 /// Further readers of a message type.
 pub trait MessageReaders<'p> {
+    ghost use Rattle.reflect_link.specs.ListsLeft.{messages_left, enums_left, extensions_left};
+    ghost use Rattle.reflect_link.specs.Reserved.{reserved_bounds, extension_bounds, reserved_left, ranges_left, names_left};
+
+    /// The pool that the type stands in.
+    ghost in_pool: { Self → PoolType };
+
+    /// Its place there.
+    ghost place: { Self → ℕ };
+
     /// The record of the type, with full names in place of references.
-    fn descriptor_proto(&self) -> &'p DescriptorProto;
+    fn descriptor_proto(&self) -> &'p DescriptorProto
+        ensures { IsMessageOf (in_pool self.now) (place self.now) result.now };
 
     /// The message types that are declared in the type, as they were declared.
-    fn child_messages(&self) -> Messages<'p>;
+    fn child_messages(&self) -> Messages<'p>
+        ensures { messages_left result ≡ map (type_at (in_pool self.now)) (type_at (in_pool self.now) (place self.now)).children.messages };
 
     /// The enum types that are declared in the type, as they were declared.
-    fn child_enums(&self) -> Enums<'p>;
+    fn child_enums(&self) -> Enums<'p>
+        ensures { enums_left result ≡ map (enum_at (in_pool self.now)) (type_at (in_pool self.now) (place self.now)).children.enums };
 
     /// The extensions that are declared in the type, whatever they extend, as they were declared.
-    fn child_extensions(&self) -> Extensions<'p>;
+    fn child_extensions(&self) -> Extensions<'p>
+        ensures { extensions_left result ≡ map (extension_at (in_pool self.now)) (type_at (in_pool self.now) (place self.now)).children.extensions };
 
     /// The numbers that no field may have.
-    fn reserved_ranges(&self) -> ReservedRanges<'p>;
+    fn reserved_ranges(&self) -> ReservedRanges<'p>
+        ensures { (m : DescriptorProto) × IsMessageOf (in_pool self.now) (place self.now) m × (reserved_left result ≡ map reserved_bounds (out-DescriptorProto m).reserved_range.items) };
 
     /// The names that no field may have.
-    fn reserved_names(&self) -> ReservedNames<'p>;
+    fn reserved_names(&self) -> ReservedNames<'p>
+        ensures { (m : DescriptorProto) × IsMessageOf (in_pool self.now) (place self.now) m × (names_left result ≡ map string_bytes (out-DescriptorProto m).reserved_name.items) };
 
     /// The numbers that are kept for extensions.
-    fn extension_ranges(&self) -> ExtensionRanges<'p>;
+    fn extension_ranges(&self) -> ExtensionRanges<'p>
+        ensures { (m : DescriptorProto) × IsMessageOf (in_pool self.now) (place self.now) m × (ranges_left result ≡ map extension_bounds (out-DescriptorProto m).extension_range.items) };
 }
 
 impl<'p> MessageReaders<'p> for MessageDescriptor<'p> {
+    ghost in_pool = { λ d. d.pool.now };
+
+    ghost place = { λ d. d.index };
+
     fn descriptor_proto(&self) -> &'p DescriptorProto {
         let found = message_record(self.parent_file_descriptor_proto(), self.path());
         found.unwrap_or(&self.parent_pool().blanks().message)
@@ -87,11 +117,17 @@ impl<'p> MessageReaders<'p> for MessageDescriptor<'p> {
 
 /// Further readers of a field or an extension.
 pub trait FieldReaders<'p> {
+    /// It is the record of the field in its file's record, where that has one.
+    ghost is_record: { Self → FieldDescriptorProto → Type 0 };
+
     /// The record of the field, with full names in place of references.
-    fn field_descriptor_proto(&self) -> &'p FieldDescriptorProto;
+    fn field_descriptor_proto(&self) -> &'p FieldDescriptorProto
+        ensures { is_record self.now result.now };
 }
 
 impl<'p> FieldReaders<'p> for FieldDescriptor<'p> {
+    ghost is_record = { λ d f. IsFieldOf d.message.pool.now d.message.index d.index f };
+
     fn field_descriptor_proto(&self) -> &'p FieldDescriptorProto {
         let found = field_record(self.parent_file_descriptor_proto(), self.path());
         found.unwrap_or(&self.parent_pool().blanks().field)
@@ -99,6 +135,8 @@ impl<'p> FieldReaders<'p> for FieldDescriptor<'p> {
 }
 
 impl<'p> FieldReaders<'p> for ExtensionDescriptor<'p> {
+    ghost is_record = { λ d f. IsExtensionOf d.pool.now d.index f };
+
     fn field_descriptor_proto(&self) -> &'p FieldDescriptorProto {
         let found = extension_record(self.parent_file_descriptor_proto(), self.path());
         found.unwrap_or(&self.parent_pool().blanks().field)
@@ -107,11 +145,17 @@ impl<'p> FieldReaders<'p> for ExtensionDescriptor<'p> {
 
 /// Further readers of a oneof.
 pub trait OneofReaders<'p> {
+    /// It is the record of the oneof in its file's record, where that has one.
+    ghost is_record: { Self → OneofDescriptorProto → Type 0 };
+
     /// The record of the oneof.
-    fn oneof_descriptor_proto(&self) -> &'p OneofDescriptorProto;
+    fn oneof_descriptor_proto(&self) -> &'p OneofDescriptorProto
+        ensures { is_record self.now result.now };
 }
 
 impl<'p> OneofReaders<'p> for OneofDescriptor<'p> {
+    ghost is_record = { λ d o. IsOneofOf d.message.pool.now d.message.index d.index o };
+
     fn oneof_descriptor_proto(&self) -> &'p OneofDescriptorProto {
         let found = oneof_record(self.parent_file_descriptor_proto(), self.path());
         found.unwrap_or(&self.parent_pool().blanks().oneof)
@@ -120,17 +164,27 @@ impl<'p> OneofReaders<'p> for OneofDescriptor<'p> {
 
 /// Further readers of an enum type.
 pub trait EnumReaders<'p> {
+    ghost use Rattle.reflect_link.specs.Reserved.{enum_bounds, enum_left, names_left};
+
+    /// It is the record of the type in its file's record, where that has one.
+    ghost is_record: { Self → EnumDescriptorProto → Type 0 };
+
     /// The record of the type.
-    fn enum_descriptor_proto(&self) -> &'p EnumDescriptorProto;
+    fn enum_descriptor_proto(&self) -> &'p EnumDescriptorProto
+        ensures { is_record self.now result.now };
 
     /// The numbers that no value may have.
-    fn reserved_ranges(&self) -> EnumReservedRanges<'p>;
+    fn reserved_ranges(&self) -> EnumReservedRanges<'p>
+        ensures { (e : EnumDescriptorProto) × is_record self.now e × (enum_left result ≡ map enum_bounds e.reserved_range.items) };
 
     /// The names that no value may have.
-    fn reserved_names(&self) -> ReservedNames<'p>;
+    fn reserved_names(&self) -> ReservedNames<'p>
+        ensures { (e : EnumDescriptorProto) × is_record self.now e × (names_left result ≡ map string_bytes e.reserved_name.items) };
 }
 
 impl<'p> EnumReaders<'p> for EnumDescriptor<'p> {
+    ghost is_record = { λ d e. IsEnumOf d.pool.now d.index e };
+
     fn enum_descriptor_proto(&self) -> &'p EnumDescriptorProto {
         let found = enum_record(self.parent_file_descriptor_proto(), self.path());
         found.unwrap_or(&self.parent_pool().blanks().enumeration)
@@ -151,11 +205,17 @@ impl<'p> EnumReaders<'p> for EnumDescriptor<'p> {
 
 /// Further readers of an enum's value.
 pub trait EnumValueReaders<'p> {
+    /// It is the record of the value in its file's record, where that has one.
+    ghost is_record: { Self → EnumValueDescriptorProto → Type 0 };
+
     /// The record of the value.
-    fn enum_value_descriptor_proto(&self) -> &'p EnumValueDescriptorProto;
+    fn enum_value_descriptor_proto(&self) -> &'p EnumValueDescriptorProto
+        ensures { is_record self.now result.now };
 }
 
 impl<'p> EnumValueReaders<'p> for EnumValueDescriptor<'p> {
+    ghost is_record = { λ d v. IsValueOf d.enumeration.pool.now d.enumeration.index d.index v };
+
     fn enum_value_descriptor_proto(&self) -> &'p EnumValueDescriptorProto {
         let found = value_record(self.parent_file_descriptor_proto(), self.path());
         found.unwrap_or(&self.parent_pool().blanks().value)

@@ -1,90 +1,176 @@
 //! The records of declarations, found along their paths.
 
+ghost use Rattle.std.specs.Prelude.{◌≡◌, ◌<◌, ◌∷◌, [], length, MatchOption};
+ghost use Rattle.std.specs.Option.{option_copied};
+ghost use Rattle.reflect_link.specs.Records.{entry_of, message_below, message_along, field_along, oneof_along, enum_along, value_along, extension_along, service_along, method_along, before_last, last_step};
+
 use descriptor_records::{
     DescriptorProto, EnumDescriptorProto, EnumValueDescriptorProto, FieldDescriptorProto,
-    FileDescriptorProto, MethodDescriptorProto, OneofDescriptorProto, ServiceDescriptorProto,
+    FileDescriptorProto, MethodDescriptorProto, OneofDescriptorProto, ServiceDescriptorProto, tag,
 };
 
-/// The path of what holds a declaration, and the declaration's place in the list there.
-fn split_path(path: &[i32]) -> Option<(&[i32], usize)> {
-    let (place, before) = path.split_last()?;
-    let (_, parent) = before.split_last()?;
-    Some((parent, usize::try_from(*place).ok()?))
+/// A step of a path: the number of a list, and a place in it.
+#[derive(Clone, Copy)]
+struct Step {
+    number: i32,
+    place: i32,
 }
 
-/// The message at a path, which goes through messages alone.
+/// The first step of a path, and what is left.
+fn first_step(path: &[i32]) -> Option<(Step, &[i32])>
+    ensures { MatchOption result (length path.now < 2) (λ s. path.now ≡ s.0.number ∷ s.0.place ∷ s.1.now) }
+{
+    let (number, behind) = path.split_first()?;
+    let (place, rest) = behind.split_first()?;
+    Some((
+        Step {
+            number: *number,
+            place: *place,
+        },
+        rest,
+    ))
+}
+
+/// What comes before the last step of a path, and this step.
+fn split_last(path: &[i32]) -> Option<(&[i32], Step)>
+    ensures { MatchOption result (length path.now < 2) (λ s. (s.0.now ≡ before_last path.now) × (s.1.number ∷ s.1.place ∷ [] ≡ last_step path.now)) }
+{
+    let (place, before) = path.split_last()?;
+    let (number, parent) = before.split_last()?;
+    Some((
+        parent,
+        Step {
+            number: *number,
+            place: *place,
+        },
+    ))
+}
+
+/// What the step leads to in the list of a number.
+fn entry<T>(list: &[T], number: i32, step: Step) -> Option<&T>
+    ensures { option_copied result ≡ entry_of number list.now step.number step.place }
+{
+    if step.number == number {
+        list.get(usize::try_from(step.place).ok()?)
+    } else {
+        None
+    }
+}
+
+/// The message at a path that goes on from a message.
+fn message_from<'a>(message: &'a DescriptorProto, path: &[i32]) -> Option<&'a DescriptorProto>
+    ensures { option_copied result ≡ message_below (Some message.now) path.now }
+{
+    if path.is_empty() {
+        return Some(message);
+    }
+    let (step, rest) = first_step(path)?;
+    let nested = entry(
+        message.nested_type.as_slice(),
+        tag::message::NESTED_TYPE,
+        step,
+    )?;
+    message_from(nested, rest)
+}
+
+/// The message at a path.
 pub fn message_record<'a>(
     file: &'a FileDescriptorProto,
     path: &[i32],
-) -> Option<&'a DescriptorProto> {
-    let mut messages = file.message_type.as_slice();
-    let mut found = None;
-    for step in path.chunks(2) {
-        let message = messages.get(usize::try_from(*step.get(1)?).ok()?)?;
-        messages = message.nested_type.as_slice();
-        found = Some(message);
-    }
-    found
+) -> Option<&'a DescriptorProto>
+    ensures { option_copied result ≡ message_along file.now path.now }
+{
+    let (step, rest) = first_step(path)?;
+    let message = entry(file.message_type.as_slice(), tag::file::MESSAGE_TYPE, step)?;
+    message_from(message, rest)
 }
 
 pub fn field_record<'a>(
     file: &'a FileDescriptorProto,
     path: &[i32],
-) -> Option<&'a FieldDescriptorProto> {
-    let (parent, place) = split_path(path)?;
-    message_record(file, parent)?.field.get(place)
+) -> Option<&'a FieldDescriptorProto>
+    ensures { option_copied result ≡ field_along file.now path.now }
+{
+    let (parent, step) = split_last(path)?;
+    let message = message_record(file, parent)?;
+    entry(message.field.as_slice(), tag::message::FIELD, step)
 }
 
 pub fn oneof_record<'a>(
     file: &'a FileDescriptorProto,
     path: &[i32],
-) -> Option<&'a OneofDescriptorProto> {
-    let (parent, place) = split_path(path)?;
-    message_record(file, parent)?.oneof_decl.get(place)
+) -> Option<&'a OneofDescriptorProto>
+    ensures { option_copied result ≡ oneof_along file.now path.now }
+{
+    let (parent, step) = split_last(path)?;
+    let message = message_record(file, parent)?;
+    entry(
+        message.oneof_decl.as_slice(),
+        tag::message::ONEOF_DECL,
+        step,
+    )
 }
 
 pub fn enum_record<'a>(
     file: &'a FileDescriptorProto,
     path: &[i32],
-) -> Option<&'a EnumDescriptorProto> {
-    let (parent, place) = split_path(path)?;
+) -> Option<&'a EnumDescriptorProto>
+    ensures { option_copied result ≡ enum_along file.now path.now }
+{
+    let (parent, step) = split_last(path)?;
     if parent.is_empty() {
-        return file.enum_type.get(place);
+        return entry(file.enum_type.as_slice(), tag::file::ENUM_TYPE, step);
     }
-    message_record(file, parent)?.enum_type.get(place)
+    let message = message_record(file, parent)?;
+    entry(message.enum_type.as_slice(), tag::message::ENUM_TYPE, step)
 }
 
 pub fn value_record<'a>(
     file: &'a FileDescriptorProto,
     path: &[i32],
-) -> Option<&'a EnumValueDescriptorProto> {
-    let (parent, place) = split_path(path)?;
-    enum_record(file, parent)?.value.get(place)
+) -> Option<&'a EnumValueDescriptorProto>
+    ensures { option_copied result ≡ value_along file.now path.now }
+{
+    let (parent, step) = split_last(path)?;
+    let enumeration = enum_record(file, parent)?;
+    entry(enumeration.value.as_slice(), tag::enumeration::VALUE, step)
 }
 
 pub fn extension_record<'a>(
     file: &'a FileDescriptorProto,
     path: &[i32],
-) -> Option<&'a FieldDescriptorProto> {
-    let (parent, place) = split_path(path)?;
+) -> Option<&'a FieldDescriptorProto>
+    ensures { option_copied result ≡ extension_along file.now path.now }
+{
+    let (parent, step) = split_last(path)?;
     if parent.is_empty() {
-        return file.extension.get(place);
+        return entry(file.extension.as_slice(), tag::file::EXTENSION, step);
     }
-    message_record(file, parent)?.extension.get(place)
+    let message = message_record(file, parent)?;
+    entry(message.extension.as_slice(), tag::message::EXTENSION, step)
 }
 
 pub fn service_record<'a>(
     file: &'a FileDescriptorProto,
     path: &[i32],
-) -> Option<&'a ServiceDescriptorProto> {
-    let (_, place) = split_path(path)?;
-    file.service.get(place)
+) -> Option<&'a ServiceDescriptorProto>
+    ensures { option_copied result ≡ service_along file.now path.now }
+{
+    let (step, rest) = first_step(path)?;
+    if rest.is_empty() {
+        entry(file.service.as_slice(), tag::file::SERVICE, step)
+    } else {
+        None
+    }
 }
 
 pub fn method_record<'a>(
     file: &'a FileDescriptorProto,
     path: &[i32],
-) -> Option<&'a MethodDescriptorProto> {
-    let (parent, place) = split_path(path)?;
-    service_record(file, parent)?.method.get(place)
+) -> Option<&'a MethodDescriptorProto>
+    ensures { option_copied result ≡ method_along file.now path.now }
+{
+    let (parent, step) = split_last(path)?;
+    let service = service_record(file, parent)?;
+    entry(service.method.as_slice(), tag::service::METHOD, step)
 }

@@ -1,7 +1,9 @@
-ghost use Rattle.std.specs.Prelude.{◌≡◌, ◌<◌, ◌-◌, length, IfSome, IsSome};
+ghost use Rattle.std.specs.Prelude.{◌≡◌, ◌<◌, ◌-◌, All, length, IfSome, IsSome};
+ghost use Rattle.std.proofs.Props.{props};
 ghost use Rattle.reflect_index.specs.Types.{service_at};
 ghost use Rattle.reflect_index.specs.Views.{service_of, method_of, record_file};
 ghost use Rattle.reflect_link.specs.FileTypes.{file_type_at};
+ghost use Rattle.reflect_link.specs.Lent.{IsServiceOf, IsMethodOf};
 ghost use Rattle.reflect_pool.specs.Parts.{type_of_method};
 
 use crate::file::FileDescriptor;
@@ -19,6 +21,8 @@ pub struct ServiceDescriptor<'p> {
 }
 
 impl<'p> ServiceDescriptor<'p> {
+    ghost use Rattle.reflect_link.specs.MethodsLeft.{methods_left};
+
     /// The service at a place of a pool.
     pub fn new(pool: &'p DescriptorPool, index: u32) -> ServiceDescriptor<'p>
         requires { index < length pool.now.services }
@@ -61,7 +65,9 @@ impl<'p> ServiceDescriptor<'p> {
     }
 
     /// The package of the file that the service is declared in.
-    pub fn package_name(&self) -> &'p str {
+    pub fn package_name(&self) -> &'p str
+        ensures { result.now ≡ (file_type_at self.now.pool.now (service_at self.now.pool.now self.now.index).file).package_name }
+    {
         self.parent_file().package_name()
     }
 
@@ -86,27 +92,37 @@ impl<'p> ServiceDescriptor<'p> {
     }
 
     /// Where the declaration stands in its file's record.
-    pub fn path(&self) -> &'p [i32] {
+    pub fn path(&self) -> &'p [i32]
+        ensures { result.now ≡ (service_at self.now.pool.now self.now.index).path }
+    {
         self.stored().path.as_slice()
     }
 
     /// The record of the service.
-    pub fn service_descriptor_proto(&self) -> &'p ServiceDescriptorProto {
+    pub fn service_descriptor_proto(&self) -> &'p ServiceDescriptorProto
+        ensures { IsServiceOf self.now.pool.now self.now.index result.now }
+    {
         let found = service_record(self.parent_file_descriptor_proto(), self.path());
         found.unwrap_or(&self.pool.blanks().service)
     }
 
     /// The methods, as they were declared.
-    pub fn methods(&self) -> Methods<'p> {
+    pub fn methods(&self) -> Methods<'p>
+        ensures { methods_left result ≡ (service_at self.now.pool.now self.now.index).methods }
+    {
         Methods {
             service: *self,
             next: 0,
-            end: u32::try_from(self.stored().methods.len()).unwrap_or(u32::MAX),
+            end: self.pool.method_count(self.index),
         }
     }
 
     /// The method at a place.
-    fn method_at(&self, index: u32) -> Option<MethodDescriptor<'p>> {
+    fn method_at(&self, index: u32) -> Option<MethodDescriptor<'p>>
+        ensures service { IfSome result (λ m. m.service ≡ self.now) }
+        ensures index { IfSome result (λ m. m.index ≡ index) }
+        ensures there { index < length (service_at self.now.pool.now self.now.index).methods → IsSome result }
+    {
         let tables = self.pool.tables();
         if (index as usize) < tables.services[self.index as usize].methods.len() {
             Some(MethodDescriptor {
@@ -124,14 +140,19 @@ impl<'p> ServiceDescriptor<'p> {
 pub struct Services<'p> {
     pub(crate) pool: &'p DescriptorPool,
     pub(crate) places: &'p [u32],
+    ghost inside: { All (λ place. place < length pool.now.services) places.now } by { Prim.hlevel props },
 }
 
 impl<'p> Iterator for Services<'p> {
-    ghost use Rattle.std.specs.Iterator.{at_most};
+    ghost use Rattle.std.specs.Iterator.{YieldsFirstBy, item_count};
+    ghost use Rattle.reflect_link.specs.ListsLeft.{services_left};
+    ghost use Rattle.reflect_link.specs.TypesLeft.{service_type};
 
     type Item = ServiceDescriptor<'p>;
 
-    ghost remaining = { λ s. at_most (length s.places.now) };
+    ghost next_gives = { YieldsFirstBy service_type services_left };
+
+    ghost remaining = { item_count services_left };
 
     fn next(&mut self) -> Option<ServiceDescriptor<'p>> {
         let (place, others) = self.places.split_first()?;
@@ -159,14 +180,18 @@ pub struct Methods<'p> {
     service: ServiceDescriptor<'p>,
     next: u32,
     end: u32,
+    ghost whole: { end ≡ length (service_at service.pool.now service.index).methods },
 }
 
 impl<'p> Iterator for Methods<'p> {
-    ghost use Rattle.std.specs.Iterator.{at_most};
+    ghost use Rattle.std.specs.Iterator.{YieldsFirstBy, item_count};
+    ghost use Rattle.reflect_link.specs.MethodsLeft.{method_type, methods_left};
 
     type Item = MethodDescriptor<'p>;
 
-    ghost remaining = { λ s. at_most (s.end - s.next) };
+    ghost next_gives = { YieldsFirstBy method_type methods_left };
+
+    ghost remaining = { item_count methods_left };
 
     fn next(&mut self) -> Option<MethodDescriptor<'p>> {
         if self.next < self.end {
@@ -254,12 +279,16 @@ impl<'p> MethodDescriptor<'p> {
     }
 
     /// Where the declaration stands in its file's record.
-    pub fn path(&self) -> &'p [i32] {
+    pub fn path(&self) -> &'p [i32]
+        ensures { result.now ≡ (type_of_method self.now.service.pool.now self.now.service.index self.now.index).path }
+    {
         self.stored().path.as_slice()
     }
 
     /// The record of the method.
-    pub fn method_descriptor_proto(&self) -> &'p MethodDescriptorProto {
+    pub fn method_descriptor_proto(&self) -> &'p MethodDescriptorProto
+        ensures { IsMethodOf self.now.service.pool.now self.now.service.index self.now.index result.now }
+    {
         let found = method_record(self.parent_file_descriptor_proto(), self.path());
         found.unwrap_or(&self.service.pool.blanks().method)
     }
@@ -281,12 +310,16 @@ impl<'p> MethodDescriptor<'p> {
     }
 
     /// The caller sends any number of messages.
-    pub fn is_client_streaming(&self) -> bool {
+    pub fn is_client_streaming(&self) -> bool
+        ensures { result ≡ (type_of_method self.now.service.pool.now self.now.service.index self.now.index).client_streaming }
+    {
         self.stored().is_client_streaming
     }
 
     /// The service answers with any number of messages.
-    pub fn is_server_streaming(&self) -> bool {
+    pub fn is_server_streaming(&self) -> bool
+        ensures { result ≡ (type_of_method self.now.service.pool.now self.now.service.index self.now.index).server_streaming }
+    {
         self.stored().is_server_streaming
     }
 }

@@ -1,3 +1,4 @@
 pub mod Doubled
 pub mod Named
+pub mod Numbered
 pub mod Listed

@@ -1,5 +1,5 @@
 -- Extensions of one message that have one number.
-use Rattle.std.specs.Prelude.{ℕ, ℤ, pos, List, [], ◌∷◌, ◌++◌, Bool, ◌||◌, ◌&&◌, ◌==◌, cond, is_some}
+use Rattle.std.specs.Prelude.{◌≡◌, ◌<◌, ◌+◌, ℕ, ℤ, pos, List, [], ◌∷◌, ◌++◌, Bool, ◌||◌, ◌&&◌, ◌==◌, cond, Option, Some, is_some}
 use Rattle.std.specs.declared.cmp.Ordering.{Ordering}
 use Rattle.std.specs.Ordering.{nat_cmp, ordering_then}
 use Rattle.std.specs.BTreeMap.{BTreeMap, get}
@@ -22,6 +22,26 @@ key_cmp a b = ordering_then (nat_cmp a.0 b.0) (nat_cmp a.1 b.1)
 -- an extension has the message and the number
 abbrev pub is_known : BTreeMap KeyType ℕ → KeyType → Bool
 is_known numbers k = is_some (get key_cmp numbers k)
+
+-- the places of extensions, by their messages and numbers
+abbrev pub Numbers : Type 0
+Numbers = KeyType → Option ℕ
+
+abbrev pub numbers_of : BTreeMap KeyType ℕ → Numbers
+numbers_of m = λ k. get key_cmp m k
+
+-- the first extension of a message and a number stays
+abbrev pub with_number : Numbers → ℕ → StoredExtension → Numbers
+with_number known i x = cond (is_some (known (x.extendee, x.field.number))) known (λ k. cond (has_key k x) (Some i) (known k))
+
+-- the places behind extensions, the first of which has this one
+abbrev pub with_numbers : Numbers → ℕ → List StoredExtension → Numbers
+with_numbers known i [] = known
+with_numbers known i (x ∷ xs) = with_numbers (with_number known i x) (i + 1) xs
+
+-- a place below the mark is that of a message and a number in both or in neither
+abbrev pub KeepsNumbers : ℕ → Numbers → Numbers → Type 0
+KeepsNumbers mark old new = (k : KeyType) (i : ℕ) → i < mark → (old k ≡ Some i → new k ≡ Some i) × (new k ≡ Some i → old k ≡ Some i)
 
 -- a known extension has them, or one of these
 abbrev pub is_taken : (KeyType → Bool) → List StoredExtension → KeyType → Bool

@@ -1,10 +1,10 @@
 //! The pass over extensions: no two extensions of one message have one number.
 
-ghost use Rattle.std.specs.Prelude.{◌≡◌, ◌||◌, ◌++◌, ◌∷◌, [], pos, OnOk, IfErr};
+ghost use Rattle.std.specs.Prelude.{◌≡◌, ◌||◌, ◌++◌, ◌∷◌, [], pos, length, OnOk, IfErr};
 ghost use Rattle.std.specs.Int.{w32, cast_signed};
 ghost use Rattle.reflect_names.specs.Faults.{Adds, list_of, place_at, duplicate_extension};
 ghost use Rattle.reflect_passes.specs.Errors.{faults_of, Refuses};
-ghost use Rattle.reflect_passes.specs.Extensions.{KeyType, has_key, is_known, is_taken, double_faults, extension_faults};
+ghost use Rattle.reflect_passes.specs.Extensions.{KeyType, KeepsNumbers, has_key, is_known, is_taken, numbers_of, with_number, with_numbers, double_faults, extension_faults};
 ghost use Rattle.reflect_passes.specs.Linked.{linked_says};
 
 use crate::error::DescriptorError;
@@ -46,6 +46,8 @@ fn put_number(
 ) -> Result<(), VisitError>
     ensures faults { OnOk result (Adds faults.old faults.new (double_faults (is_known numbers.old) (linked_says types.now) (place_at faults.old) extension.now)) }
     ensures numbers { OnOk result ((k : KeyType) → is_known numbers.new k ≡ (is_known numbers.old k || has_key k extension.now)) }
+    ensures places { OnOk result (numbers_of numbers.new ≡ with_number (numbers_of numbers.old) place extension.now) }
+    ensures keeps { KeepsNumbers place (numbers_of numbers.old) (numbers_of numbers.new) }
 {
     let key = (extension.extendee, extension.field.number);
     if numbers.contains_key(&key) {
@@ -66,6 +68,8 @@ fn put_numbers(
 ) -> Result<(), VisitError>
     ensures faults { OnOk result (Adds faults.old faults.new (extension_faults (is_known numbers.old) (linked_says types.now) (place_at faults.old) types.now.new.now.extensions.items)) }
     ensures numbers { OnOk result ((k : KeyType) → is_known numbers.new k ≡ is_taken (is_known numbers.old) types.now.new.now.extensions.items k) }
+    ensures places { OnOk result (numbers_of numbers.new ≡ with_numbers (numbers_of numbers.old) (length types.now.old.now.extensions.items) types.now.new.now.extensions.items) }
+    ensures keeps { KeepsNumbers (length types.now.old.now.extensions.items) (numbers_of numbers.old) (numbers_of numbers.new) }
 {
     let extensions = types.new.extensions.as_slice();
     'turns: for (at, extension) in extensions.iter().enumerate() {
@@ -88,6 +92,8 @@ pub fn list_extensions(
     ensures ok { OnOk result (list_of faults.entry ++ extension_faults (is_known numbers.old) (linked_says types.now) (place_at faults.entry) types.now.new.now.extensions.items ≡ []) }
     ensures err { IfErr result (λ e. Refuses (λ xs. xs ≡ list_of faults.entry ++ extension_faults (is_known numbers.old) (linked_says types.now) (place_at faults.entry) types.now.new.now.extensions.items) e) }
     ensures numbers { OnOk result ((k : KeyType) → is_known numbers.new k ≡ is_taken (is_known numbers.old) types.now.new.now.extensions.items k) }
+    ensures places { OnOk result (numbers_of numbers.new ≡ with_numbers (numbers_of numbers.old) (length types.now.old.now.extensions.items) types.now.new.now.extensions.items) }
+    ensures keeps { KeepsNumbers (length types.now.old.now.extensions.items) (numbers_of numbers.old) (numbers_of numbers.new) }
 {
     put_numbers(alloc, types, &mut faults, numbers).map_err(|error| walk_error(alloc, error))?;
     without_faults(faults)

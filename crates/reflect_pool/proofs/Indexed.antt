@@ -2,7 +2,7 @@
 use Rattle.std.proofs.Common.{◌≡◌, ℕ, zero, suc, ◌<◌, ◌+◌, List, [], ◌∷◌, ◌++◌, Bool, true, false, cond, nat_lt, Option, Some, None, is_some, String, Global, string_bytes, bytes_eq, map, take, length, slice_get, get_or, append_assoc, ⊎_elim, ap, sym, subst, ◌∙◌, arith, refl}
 use Rattle.std.proofs.Math.ListN.{length-map, length-append}
 use Rattle.std.proofs.lemmas.List as lists
-use Rattle.std.proofs.lemmas.List.{append-nil}
+use Rattle.std.proofs.lemmas.List.{append-nil, take-map}
 use Rattle.std.proofs.lemmas.Map.Entries.{option_filter}
 use Rattle.std.proofs.lemmas.Option.{same_Some, slice_get_within, slice_get-get_or, get_or_from_slice_get}
 use Rattle.std.specs.Bool.{Decides}
@@ -25,7 +25,7 @@ abbrev names : List FileType → List (List ℕ)
 names xs = map (λ x. x.name) xs
 
 -- what is left of an index where it is below the mark
-low_some : (mark : ℕ) (o : Option ℕ) (i : ℕ) → (option_filter (λ k. nat_lt k mark) o ≡ Some i → (o ≡ Some i) × (i < mark)) × (o ≡ Some i → i < mark → option_filter (λ k. nat_lt k mark) o ≡ Some i)
+pub low_some : (mark : ℕ) (o : Option ℕ) (i : ℕ) → (option_filter (λ k. nat_lt k mark) o ≡ Some i → (o ≡ Some i) × (i < mark)) × (o ≡ Some i → i < mark → option_filter (λ k. nat_lt k mark) o ≡ Some i)
 low_some mark None i = (λ e. absurd (no_some i e), λ e lt. e)
 low_some mark (Some q) i = by (nat_lt q mark) refl where
   by : (b : Bool) → nat_lt q mark ≡ b → (cond (nat_lt q mark) (Some q) None ≡ Some i → (Some q ≡ Some i) × (i < mark)) × (Some q ≡ Some i → i < mark → cond (nat_lt q mark) (Some q) None ≡ Some i)
@@ -34,20 +34,22 @@ low_some mark (Some q) i = by (nat_lt q mark) refl where
       rw is (λ e. (e, subst (λ n. n < mark) (same_Some q i e) low), λ e lt. e)
   by false is = rw is (λ e. absurd (no_some i e), λ e lt. let same : q ≡ i = same_Some q i e in absurd (grind (arith, is, same, lt)))
 
-taken : (mark : ℕ) (xs : List FileType) (i : ℕ) (t : List ℕ)
-    → (slice_get (names (take mark xs)) i ≡ Some t → (slice_get (names xs) i ≡ Some t) × (i < mark)) × (slice_get (names xs) i ≡ Some t → i < mark → slice_get (names (take mark xs)) i ≡ Some t)
-taken zero xs i t = (λ e. absurd (no_some t e), λ e lt. absurd (omega (arith, lt)))
-taken (suc m) [] i t = (λ e. absurd (no_some t e), λ e lt. e)
-taken (suc m) (x ∷ xs) zero t = (λ e. (e, omega arith), λ e lt. e)
-taken (suc m) (x ∷ xs) (suc k) t =
-    let inner = taken m xs k t in
+-- what stands at a place among the first so many
+pub taken : {X : Type 0} (mark : ℕ) (xs : List X) (i : ℕ) (x : X)
+    → (slice_get (take mark xs) i ≡ Some x → (slice_get xs i ≡ Some x) × (i < mark)) × (slice_get xs i ≡ Some x → i < mark → slice_get (take mark xs) i ≡ Some x)
+taken zero xs i x = (λ e. absurd (no_some x e), λ e lt. absurd (omega (arith, lt)))
+taken (suc m) [] i x = (λ e. absurd (no_some x e), λ e lt. e)
+taken (suc m) (y ∷ ys) zero x = (λ e. (e, omega arith), λ e lt. e)
+taken (suc m) (y ∷ ys) (suc k) x =
+    let inner = taken m ys k x in
     (λ e. ((inner.0 e).0, let lt = (inner.0 e).1 in omega (arith, lt)), λ e lt. inner.1 e (omega (arith, lt)))
 
 pub indexed_cut : (mark : ℕ) (old new : Indexes) (xs : List FileType) → ((t : List ℕ) → new t ≡ option_filter (λ k. nat_lt k mark) (old t)) → AreIndexed old (names xs) → AreIndexed new (names (take mark xs))
-indexed_cut mark old new xs same are = λ t i. (
-  λ e. let low = (low_some mark (old t) i).0 (sym (same t) ∙ e) in (taken mark xs i t).1 ((are t i).0 low.0) low.1,
-  λ e. let at = (taken mark xs i t).0 e in same t ∙ (low_some mark (old t) i).1 ((are t i).1 at.0) at.1,
-)
+indexed_cut mark old new xs same are =
+    subst (AreIndexed new) (take-map (λ (x : FileType). x.name) mark xs) (λ t i. (
+      λ e. let low = (low_some mark (old t) i).0 (sym (same t) ∙ e) in (taken mark (names xs) i t).1 ((are t i).0 low.0) low.1,
+      λ e. let at = (taken mark (names xs) i t).0 e in same t ∙ (low_some mark (old t) i).1 ((are t i).1 at.0) at.1,
+    ))
 
 -- behind a refusal, which may have put in names of further files
 pub indexed_back : (mark : ℕ) (old mid new : Indexes) (xs : List FileType) → mark ≡ length xs → KeepsIndexes mark old mid → ((t : List ℕ) → new t ≡ option_filter (λ k. nat_lt k mark) (mid t)) → AreIndexed old (names xs) → AreIndexed new (names xs)

@@ -1,14 +1,17 @@
 pub mod Accepting
 pub mod Back
+pub mod Bracketed
 pub mod Dotless
 pub mod FoundTypes
 pub mod Grown
 pub mod Indexed
 pub mod Lookups
 pub mod Named
+pub mod Numbered
 pub mod OneofMembers
 pub mod Places
 pub mod Pooled
+pub mod Ranged
 pub mod Stands
 pub mod Within
 pub mod Refused

@@ -4,6 +4,7 @@ use Rattle.std.proofs.Math.ListN.{length-map}
 use Rattle.std.proofs.lemmas.List as lists
 use Rattle.std.proofs.lemmas.Option.{some_pair_parts, slice_get-get_or, get_or_from_slice_get}
 use Rattle.reflect_index.specs.Finding.{IsFirst}
+use Rattle.reflect_pool.specs.Finds.{IsOnly}
 use Rattle.reflect_index.specs.Names.{FullName, AreFound, Sort, messages, enums, extensions, services, place_of, place_in, found, with_file}
 use Rattle.reflect_names.specs.Known.{Known}
 use Rattle.reflect_scope.specs.declared.definition.Definition.{Definition}
@@ -39,6 +40,11 @@ module _ {Y : Type 0} (name : Y → FullName) (ys : List Y) (g : List ℕ → Op
         ),
       )
 
+  pub finds_only : (i f : ℕ) → g t ≡ Some (i, f) → IsOnly (λ y. (name y).0 ≡ t) ys (Some i)
+  finds_only i f e =
+      let first = finds i f e in
+      (first.0, (first.1.0, λ k d lt same. (some_pair_parts k i (name (get_or ys k d)).1 f (sym (here k d lt same) ∙ e)).0))
+
   pub finds_none : ((i f : ℕ) → g t ≡ Some (i, f) → ⊥) → IsFirst (λ y. (name y).0 ≡ t) ys None
   finds_none none = λ k d lt same. none k (name (get_or ys k d)).1 (here k d lt same)
 
@@ -51,6 +57,14 @@ module _ {Y : Type 0} (sort : Sort) (name : Y → FullName) (ys : List Y) (known
     by (Some d) is e =
         let same : d.kind ≡ k = cc in
         finds name ys (found sort known) are t i d.file (ap (place_in sort) is ∙ ap (with_file d) (ap (place_of sort) same ∙ place))
+
+  pub stands_only : (k : DefinitionKind) (i : ℕ) → place_of sort k ≡ Some i → option_map (λ d. d.kind) (known t) ≡ Some k → IsOnly (λ y. (name y).0 ≡ t) ys (Some i)
+  stands_only k i place kind = by (known t) refl kind where
+    by : (o : Option Definition) → known t ≡ o → option_map (λ d. d.kind) o ≡ Some k → IsOnly (λ y. (name y).0 ≡ t) ys (Some i)
+    by None is e = absurd (cc)
+    by (Some d) is e =
+        let same : d.kind ≡ k = cc in
+        finds_only name ys (found sort known) are t i d.file (ap (place_in sort) is ∙ ap (with_file d) (ap (place_of sort) same ∙ place))
 
   pub stands_not : (o : Option DefinitionKind) → option_and_then (place_of sort) o ≡ None → option_map (λ d. d.kind) (known t) ≡ o → IsFirst (λ y. (name y).0 ≡ t) ys None
   stands_not o place kind = by (known t) refl kind where

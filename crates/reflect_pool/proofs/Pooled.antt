@@ -2,9 +2,9 @@
 use Rattle.std.proofs.Common.{◌≡◌, ℕ, ◌<◌, ◌≤◌, ◌+◌, ◌^◌, List, [], ◌∷◌, ◌++◌, Option, Some, None, map, length, arith, sym, ap, ◌∙◌, subst}
 use Rattle.std.proofs.Math.ListN.{length-map}
 use Rattle.std.proofs.lemmas.List.{length-append}
-use Rattle.std.specs.List.{AllByRecursion}
-use Rattle.reflect_index.specs.Types.{KindType, MessageType, FieldType, EnumType, ExtensionType, MethodType, ServiceType, message, enumeration, ArePooled, ListsMembers, IsAmong, IsWithin, MessageWithin, EnumWithin, ExtensionWithin, MethodWithin, ServiceWithin, counts_of}
-use Rattle.reflect_index.specs.Views.{file_of, message_of, enum_of, extension_of, service_of, pool_of}
+use Rattle.std.specs.List.{All, AllByRecursion}
+use Rattle.reflect_index.specs.Types.{KindType, MessageType, FieldType, EnumType, ExtensionType, MethodType, ServiceType, message, enumeration, ArePooled, AreFew, ListsMembers, IsAmong, IsWithin, ChildPlaces, FilePlaces, ChildrenWithin, HoldsWithin, FileWithin, MessageWithin, EnumWithin, ExtensionWithin, MethodWithin, ServiceWithin, counts_of}
+use Rattle.reflect_index.specs.Views.{file_of, places_of, message_of, enum_of, extension_of, service_of, pool_of}
 use Rattle.reflect_index.specs.Growth.{Appended, Together}
 use Rattle.reflect_index.specs.declared.tables.Counts.{Counts}
 use Rattle.reflect_index.specs.declared.tables.Tables.{Tables}
@@ -15,6 +15,8 @@ pub record IsMore (a b : Counts) : Type 0 where
   pub files : a.files ≤ b.files
   pub messages : a.messages ≤ b.messages
   pub enums : a.enums ≤ b.enums
+  pub extensions : a.extensions ≤ b.extensions
+  pub services : a.services ≤ b.services
 
 within_more : (a b : Counts) → IsMore a b → (k : KindType) → IsWithin a k → IsWithin b k
 within_more a b le (message i) h = let more = le.messages in omega (arith, h, more)
@@ -24,6 +26,22 @@ within_more a b le _ h = tt
 among_more : (m n : ℕ) → m ≤ n → (place : Option ℕ) → IsAmong m place → IsAmong n place
 among_more m n le None h = tt
 among_more m n le (Some i) h = omega (arith, h, le)
+
+below_more : (m n : ℕ) → m ≤ n → (places : List ℕ) → All (λ place. place < m) places → All (λ place. place < n) places
+below_more m n le places h = λ k d lt. let was = h k d lt in omega (arith, was, le)
+
+children_more : (a b : Counts) → IsMore a b → (p : ChildPlaces) → ChildrenWithin a p → ChildrenWithin b p
+children_more a b le p h = record {
+  messages = below_more a.messages b.messages le.messages p.messages h.messages;
+  enums = below_more a.enums b.enums le.enums p.enums h.enums;
+  extensions = below_more a.extensions b.extensions le.extensions p.extensions h.extensions;
+}
+
+file_more : (a b : Counts) → IsMore a b → (f : FilePlaces) → FileWithin a f → FileWithin b f
+file_more a b le f h = record {
+  children = children_more a b le f.children h.children;
+  services = below_more a.services b.services le.services f.services h.services;
+}
 
 message_more : (a b : Counts) → IsMore a b → (m : MessageType) → MessageWithin a m → MessageWithin b m
 message_more a b le m h = record {
@@ -48,6 +66,7 @@ enum_more a b le e h = record {
 extension_more : (a b : Counts) → IsMore a b → (x : ExtensionType) → ExtensionWithin a x → ExtensionWithin b x
 extension_more a b le x h = record {
   file = let was = h.file in let more = le.files in omega (arith, was, more);
+  parent = among_more a.messages b.messages le.messages x.parent h.parent;
   extendee = let was = h.extendee in let more = le.messages in omega (arith, was, more);
   kind = within_more a b le x.field.kind h.kind;
 }
@@ -59,6 +78,7 @@ service_more : (a b : Counts) → IsMore a b → (s : ServiceType) → ServiceWi
 service_more a b le s h = record {
   file = let was = h.file in let more = le.files in omega (arith, was, more);
   methods = all_through (MethodWithin a) (MethodWithin b) s.methods (method_more a b le) h.methods;
+  few = h.few;
 }
 
 pub map-append : {X Y : Type 0} (f : X → Y) (xs ys : List X) → map f (xs ++ ys) ≡ map f xs ++ map f ys
@@ -80,7 +100,9 @@ joined f P Q olds mores news e step old more =
     subst (λ ys. AllByRecursion Q ys) (sym split) (all_behind Q (map f olds) (map f mores) (all_through P Q (map f olds) step old) more)
 
 pub record AreWithin (c : Counts) (t : Tables) : Type 0 where
+  pub declared : AllByRecursion (FileWithin c) (map places_of t.files.items)
   pub messages : AllByRecursion (MessageWithin c) (map message_of t.messages.items)
+  pub children : AllByRecursion (HoldsWithin c) (map message_of t.messages.items)
   pub listed : AllByRecursion ListsMembers (map message_of t.messages.items)
   pub enums : AllByRecursion (EnumWithin c) (map enum_of t.enums.items)
   pub extensions : AllByRecursion (ExtensionWithin c) (map extension_of t.extensions.items)
@@ -95,16 +117,22 @@ counted old more new c e t =
     let services : length (map service_of new.services.items) ≡ c.services = long service_of old.services.items more.services.items new.services.items c.services e.services t.services in
     λ i. record { files = files i; messages = messages i; enums = enums i; extensions = extensions i; services = services i }
 
-pub pooled_more : (old more new : Tables) (c : Counts) → Appended old more new → Together old more c → c.files < 2 ^ 31 → ArePooled (pool_of old) → AreWithin c more → ArePooled (pool_of new)
+pub pooled_more : (old more new : Tables) (c : Counts) → Appended old more new → Together old more c → AreFew c → ArePooled (pool_of old) → AreWithin c more → ArePooled (pool_of new)
 pooled_more old more new c e t small h w =
     let a = counts_of (pool_of old) in
     let le : IsMore a c = record {
       files = fits file_of old.files.items more.files.items c.files t.files;
       messages = fits message_of old.messages.items more.messages.items c.messages t.messages;
       enums = fits enum_of old.enums.items more.enums.items c.enums t.enums;
+      extensions = fits extension_of old.extensions.items more.extensions.items c.extensions t.extensions;
+      services = fits service_of old.services.items more.services.items c.services t.services;
     } in
     let same : c ≡ counts_of (pool_of new) = sym (counted old more new c e t) in
     record {
+      declared = subst (λ d. AllByRecursion (FileWithin d) (map places_of new.files.items)) same
+          (joined places_of (FileWithin a) (FileWithin c) old.files.items more.files.items new.files.items e.files (file_more a c le) h.declared w.declared);
+      children = subst (λ d. AllByRecursion (HoldsWithin d) (map message_of new.messages.items)) same
+          (joined message_of (HoldsWithin a) (HoldsWithin c) old.messages.items more.messages.items new.messages.items e.messages (λ m k. children_more a c le m.children k) h.children w.children);
       messages = subst (λ d. AllByRecursion (MessageWithin d) (map message_of new.messages.items)) same
           (joined message_of (MessageWithin a) (MessageWithin c) old.messages.items more.messages.items new.messages.items e.messages (message_more a c le) h.messages w.messages);
       listed = joined message_of ListsMembers ListsMembers old.messages.items more.messages.items new.messages.items e.messages (λ m l. l) h.listed w.listed;
@@ -114,5 +142,5 @@ pooled_more old more new c e t small h w =
           (joined extension_of (ExtensionWithin a) (ExtensionWithin c) old.extensions.items more.extensions.items new.extensions.items e.extensions (extension_more a c le) h.extensions w.extensions);
       services = subst (λ d. AllByRecursion (ServiceWithin d) (map service_of new.services.items)) same
           (joined service_of (ServiceWithin a) (ServiceWithin c) old.services.items more.services.items new.services.items e.services (service_more a c le) h.services w.services);
-      few = subst (λ d. d.files < 2 ^ 31) same small;
+      few = subst AreFew same small;
     }

@@ -7,8 +7,9 @@ use Rattle.reflect_scope.specs.declared.definition.Definition.{Definition}
 use Rattle.reflect_walk.specs.declared.visit_parts.Offsets.{Offsets}
 use Rattle.reflect_index.specs.Views.{file_of, pool_of}
 use Rattle.reflect_index.specs.declared.tables.Tables.{Tables}
-use Rattle.reflect_passes.specs.Extensions.{KeyType}
+use Rattle.reflect_passes.specs.Extensions.{KeyType, is_known, numbers_of}
 use Rattle.reflect_pool.specs.Linked.{IsLinked, CountsOf}
+use Rattle.reflect_pool.proofs.Numbered.{has_number}
 use Rattle.std.proofs.lemmas.Result.{err_from_is_err_and, IfErr-weaker}
 use Rattle.descriptor_records.specs.declared.file.FileDescriptorProto.{FileDescriptorProto}
 use Rattle.reflect_scope.specs.declared.seen.Links.{Links}
@@ -114,13 +115,14 @@ module _ {T : Type 0} (w : Linking) (fs : List FileDescriptorProto) (r : Result 
 
 -- what the parts of a pool are linked with
 pub is_of : (tables : Tables) (names : BTreeMap (String Global) Definition) (file_names : BTreeMap (String Global) ℕ) (links : List Links) (numbers : BTreeMap KeyType ℕ) (before : Offsets) (first : ℕ) (p : PoolType)
-    → IsLinked (pool_of tables) names file_names → CountsOf (pool_of tables) before → first ≡ length tables.files.items → pool_of tables ≡ p
+    → IsLinked (pool_of tables) names file_names numbers → CountsOf (pool_of tables) before → first ≡ length tables.files.items → pool_of tables ≡ p
     → IsOf p (linking file_names names links tables numbers before first)
 is_of tables names file_names links numbers before first p linked counts start same =
     subst (λ q. IsOf q (linking file_names names links tables numbers before first)) same (record {
       tables = refl;
       named = linked.named;
       files = linked.files;
+      numbers = λ k. has_number (numbers_of numbers) (pool_of tables).extensions linked.numbers k (is_known numbers k) refl;
       before = counts;
       first = start ∙ sym (length-map tables.files.items file_of);
     })

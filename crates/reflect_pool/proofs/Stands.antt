@@ -23,7 +23,8 @@ use Rattle.reflect_index.specs.declared.tables.Tables.{Tables}
 use Rattle.reflect_index.proofs.Known.{offset}
 use Rattle.reflect_index.proofs.Orders.{AreUpTo}
 use Rattle.reflect_index.proofs.Batched.{Stand, batch_stands, names_behind}
-use Rattle.reflect_pool.specs.Linked.{IsLinked, AreIndexed, CountsOf}
+use Rattle.reflect_passes.specs.Extensions.{KeyType, numbers_of}
+use Rattle.reflect_pool.specs.Linked.{IsLinked, AreIndexed, AreNumbered, CountsOf, key_of}
 use Rattle.reflect_pool.proofs.Indexed.{indexed_more}
 use Rattle.reflect_pool.proofs.Pooled.{map-append}
 
@@ -60,7 +61,7 @@ named_more old new known at files o fs now pooled named counts is none more =
       in_order = λ s. subst AreInOrder (same s) (stands s).in_order;
     }
 
-map_map : {X Y Z : Type 0} (f : Y → Z) (g : X → Y) (xs : List X) → map f (map g xs) ≡ map (λ x. f (g x)) xs
+pub map_map : {X Y Z : Type 0} (f : Y → Z) (g : X → Y) (xs : List X) → map f (map g xs) ≡ map (λ x. f (g x)) xs
 map_map f g [] = refl
 map_map f g (x ∷ xs) = ap (λ zs. f (g x) ∷ zs) (map_map f g xs)
 
@@ -81,14 +82,14 @@ all_go_on old new ds g enums = named_as enum_name enum_of new.enums.items old.en
 all_go_on old new ds g extensions = named_as extension_name extension_of new.extensions.items old.extensions.items _ g.extensions
 all_go_on old new ds g services = named_as service_name service_of new.services.items old.services.items _ g.services
 
-pub linked_more : (old new : Tables) (were are : BTreeMap (String Global) Definition) (had has : BTreeMap (String Global) ℕ) (at : ℕ → Places) (o : Offsets) (first : ℕ) (fs : List FileDescriptorProto)
-    → IsLinked (pool_of old) were had → CountsOf (pool_of old) o → first ≡ length old.files.items
+pub linked_more : (old new : Tables) (were are : BTreeMap (String Global) Definition) (had has : BTreeMap (String Global) ℕ) (marked marks : BTreeMap KeyType ℕ) (at : ℕ → Places) (o : Offsets) (first : ℕ) (fs : List FileDescriptorProto)
+    → IsLinked (pool_of old) were had marked → CountsOf (pool_of old) o → first ≡ length old.files.items
     → indexes_of has ≡ with_files (indexes_of had) first fs → files_faults at (indexes_of had) first fs ≡ []
     → known_of are ≡ known_behind (known_of were) (batch_declarations o first fs) → faults_along at (with_files (indexes_of had) first fs) (known_of were) (batch_declarations o first fs) ≡ []
     → KeepsFrom first (length fs) were.entries are.entries
     → ArePooled (pool_of new) → map file_of new.files.items ≡ map file_of old.files.items ++ map record_file fs → GoesOn old new (batch_declarations o first fs)
-    → IsLinked (pool_of new) are has
-linked_more old new were are had has at o first fs linked counts start indexes single is none keeps pooled files goes =
+    → AreNumbered (numbers_of marks) (map key_of (pool_of new).extensions) → IsLinked (pool_of new) are has marks
+linked_more old new were are had has marked marks at o first fs linked counts start indexes single is none keeps pooled files goes numbered =
     let olds : length (pool_of old).files ≡ length old.files.items = length-map old.files.items file_of in
     let count : length (pool_of new).files ≡ length (pool_of old).files + length fs = ap length files ∙ length-append (map file_of old.files.items) (map record_file fs) ∙ ap (λ n. length (pool_of old).files + n) (length-map fs record_file) in
     let from : first ≡ length (pool_of old).files = start ∙ sym olds in
@@ -106,4 +107,5 @@ linked_more old new were are had has at o first fs linked counts start indexes s
           (subst (λ g. AreIndexed g (map name (pool_of old).files ++ map name (map record_file fs))) (sym indexes)
           (subst (λ n. AreIndexed (with_files (indexes_of had) n fs) (map name (pool_of old).files ++ map name (map record_file fs))) place
           (indexed_more at (indexes_of had) (map name (pool_of old).files) fs (subst (λ n. files_faults at (indexes_of had) n fs ≡ []) (sym place) single) linked.files)));
+      numbers = numbered;
     }

@@ -2,9 +2,10 @@
 use Rattle.std.proofs.Common.{◌≡◌, ℕ, ◌<◌, ◌^◌, map, length, get_or, arith, ap, ◌∙◌, sym, subst}
 use Rattle.std.proofs.Math.ListN.{length-map}
 use Rattle.std.specs.List.{All}
-use Rattle.reflect_index.specs.Types.{PoolType, MessageType, OneofType, ServiceType, ArePooled, IsWithin, MessageWithin, EnumWithin, ExtensionWithin, MethodWithin, ServiceWithin, counts_of, no_type, no_oneof, no_enum, no_service}
-use Rattle.reflect_index.specs.Views.{pool_of, message_of, enum_of, extension_of, service_of, method_of, field_of, oneof_of, kind_of}
+use Rattle.reflect_index.specs.Types.{PoolType, MessageType, OneofType, ServiceType, ArePooled, IsWithin, ChildrenWithin, HoldsWithin, FileWithin, MessageWithin, EnumWithin, ExtensionWithin, MethodWithin, ServiceWithin, counts_of, no_type, no_oneof, no_enum, no_service}
+use Rattle.reflect_index.specs.Views.{pool_of, file_of, places_of, children_of, message_of, enum_of, extension_of, service_of, method_of, field_of, oneof_of, kind_of}
 use Rattle.reflect_index.specs.declared.tables.Tables.{Tables}
+use Rattle.reflect_index.specs.declared.stored.StoredFile.{StoredFile}
 use Rattle.reflect_index.specs.declared.stored.StoredMessage.{StoredMessage}
 use Rattle.reflect_index.specs.declared.stored.StoredField.{StoredField}
 use Rattle.reflect_index.specs.declared.stored.StoredOneof.{StoredOneof}
@@ -84,6 +85,21 @@ few_fields t pool i k m e h lt is below =
     let few = (message_within t pool i m e h lt is).few in
     let long : length (map field_of m.fields.list.items) ≡ length m.fields.list.items = length-map m.fields.list.items field_of in
     omega (arith, few, long, below)
+
+-- what a message declares is there
+pub children_within : (t : Tables) (pool : PoolType) (i : ℕ) (m : StoredMessage) → pool_of t ≡ pool → ArePooled (pool_of t)
+    → i < length pool.messages → m ≡ get_or t.messages.items i m → ChildrenWithin (counts_of pool) (children_of m.children)
+children_within t pool i m e h lt is =
+    subst (λ p. i < length p.messages → ChildrenWithin (counts_of p) (children_of m.children)) e
+    (λ below. at_view message_of (HoldsWithin (counts_of (pool_of t))) t.messages.items i m h.children below is) lt
+
+-- so is what a file declares
+pub declared_within : (t : Tables) (pool : PoolType) (i : ℕ) (f : StoredFile) → pool_of t ≡ pool → ArePooled (pool_of t)
+    → i < length pool.files → f ≡ get_or t.files.items i f → FileWithin (counts_of pool) (places_of f)
+declared_within t pool i f e h lt is =
+    subst (λ p. i < length p.files → FileWithin (counts_of p) (places_of f)) e
+    (λ below. let one = length-map t.files.items file_of in let other = length-map t.files.items places_of in
+    at_view places_of (FileWithin (counts_of (pool_of t))) t.files.items i f h.declared (omega (arith, below, one, other)) is) lt
 
 -- the members of a oneof are there
 pub members_within : (t : Tables) (pool : PoolType) (i k : ℕ) (m : StoredMessage) (o : StoredOneof) → pool_of t ≡ pool → ArePooled (pool_of t)

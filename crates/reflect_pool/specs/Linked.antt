@@ -1,25 +1,39 @@
 -- What holds of a pool with the names of its types.
-use Rattle.std.specs.Prelude.{◌≡◌, ℕ, List, Some, map, length, slice_get, String}
+use Rattle.std.specs.Prelude.{◌≡◌, ℕ, List, [], Some, map, length, slice_get, String}
 use Rattle.reflect_walk.specs.declared.visit_parts.Offsets.{Offsets}
 use Rattle.std.specs.declared.alloc.Global.{Global}
 use Rattle.std.specs.BTreeMap.{BTreeMap}
 use Rattle.reflect_scope.specs.declared.definition.Definition.{Definition}
 use Rattle.reflect_names.specs.FileNames.{Indexes, indexes_of}
 use Rattle.reflect_names.specs.Known.{known_of, AllBelow}
-use Rattle.reflect_index.specs.Types.{PoolType, ArePooled}
+use Rattle.reflect_index.specs.Types.{PoolType, ExtensionType, ArePooled}
 use Rattle.reflect_index.specs.Names.{AreNamed, names_of}
+use Rattle.reflect_passes.specs.Extensions.{KeyType, Numbers, numbers_of}
+
+-- a pool that holds nothing
+abbrev pub empty_pool : PoolType
+empty_pool = record { files = []; declared = []; messages = []; enums = []; extensions = []; services = [] }
 
 -- a name has an index exactly where it is the one at this place
 abbrev pub AreIndexed : Indexes → List (List ℕ) → Type 0
 AreIndexed indexes names = (t : List ℕ) (i : ℕ) → (indexes t ≡ Some i → slice_get names i ≡ Some t) × (slice_get names i ≡ Some t → indexes t ≡ Some i)
 
+-- the message that an extension extends, and its number there
+abbrev pub key_of : ExtensionType → KeyType
+key_of x = (x.extendee, x.field.number)
+
+-- a message and a number stand for a place exactly where the extension at this place has them
+abbrev pub AreNumbered : Numbers → List KeyType → Type 0
+AreNumbered numbers keys = (k : KeyType) (i : ℕ) → (numbers k ≡ Some i → slice_get keys i ≡ Some k) × (slice_get keys i ≡ Some k → numbers k ≡ Some i)
+
 -- what entries name is there, a full name stands for a place exactly where it is the one at this place, all names are of the
--- pool's files, and each file's name stands for the file
-pub record IsLinked (p : PoolType) (names : BTreeMap (String Global) Definition) (file_names : BTreeMap (String Global) ℕ) : Type 0 where
+-- pool's files, each file's name stands for the file, and each extension's message and number for the extension
+pub record IsLinked (p : PoolType) (names : BTreeMap (String Global) Definition) (file_names : BTreeMap (String Global) ℕ) (places : BTreeMap KeyType ℕ) : Type 0 where
   pub pooled : ArePooled p
   pub named : AreNamed (known_of names) (names_of p)
   pub below : AllBelow (length p.files) names.entries
   pub files : AreIndexed (indexes_of file_names) (map (λ f. f.name) p.files)
+  pub numbers : AreNumbered (numbers_of places) (map key_of p.extensions)
 
 -- how many of each sort there are
 pub record CountsOf (p : PoolType) (o : Offsets) : Type 0 where

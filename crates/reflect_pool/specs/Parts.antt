@@ -1,10 +1,15 @@
 -- The parts of types at their places.
-use Rattle.std.specs.Prelude.{ℕ, pos, List, [], filter, slice_index_or}
+use Rattle.std.specs.Prelude.{ℕ, pos, false, List, [], filter, slice_index_or}
 use Rattle.reflect_index.specs.Types.{PoolType, FieldType, OneofType, ValueType, type_at, enum_at, is_member, no_oneof, MethodType, service_at}
 
 -- what stands for a value that is not there
 abbrev pub no_value : ValueType
-no_value = record { name = []; full_name = []; number = pos 0 }
+no_value = record {
+  path = [];
+  name = [];
+  full_name = [];
+  number = pos 0;
+}
 
 -- the oneof at a place of a type
 abbrev pub type_of_oneof : PoolType → ℕ → ℕ → OneofType
@@ -20,7 +25,15 @@ type_of_value pool i k = slice_index_or (enum_at pool i).values k no_value
 
 -- what stands for a method that is not there
 abbrev pub no_method : MethodType
-no_method = record { name = []; full_name = []; input = 0; output = 0 }
+no_method = record {
+  path = [];
+  name = [];
+  full_name = [];
+  input = 0;
+  output = 0;
+  client_streaming = false;
+  server_streaming = false;
+}
 
 -- the method at a place of a service
 abbrev pub type_of_method : PoolType → ℕ → ℕ → MethodType

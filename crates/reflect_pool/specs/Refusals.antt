@@ -2,6 +2,8 @@
 use Rattle.std.specs.Prelude.{◌≡◌, ◌⊎◌, ◌++◌, ℕ, List, [], Bool, true, not, Some, None, is_some, map, length, filter, string_bytes, String}
 use Rattle.std.specs.declared.alloc.Global.{Global}
 use Rattle.std.specs.BTreeMap.{BTreeMap}
+use Rattle.std.specs.Bool.{Decides}
+use Rattle.std.specs.List.{Contains}
 use Rattle.descriptor_records.specs.declared.file.FileDescriptorProto.{FileDescriptorProto}
 use Rattle.reflect_scope.specs.declared.definition.Definition.{Definition}
 use Rattle.reflect_scope.specs.declared.seen.Links.{Links}
@@ -25,7 +27,7 @@ use Rattle.reflect_passes.specs.Extensions.{KeyType, is_known}
 use Rattle.reflect_passes.specs.NameFaults.{name_faults, ReferenceFaults}
 use Rattle.reflect_passes.specs.NumberFaults.{NumberFaults, doubled}
 use Rattle.reflect_passes.specs.declared.linked_types.LinkedTypes.{LinkedTypes}
-use Rattle.reflect_pool.specs.Linked.{AreIndexed, CountsOf}
+use Rattle.reflect_pool.specs.Linked.{AreIndexed, CountsOf, key_of}
 
 -- what files are linked with: known files and names, what files import, entries, numbers of extensions, and how much there is
 pub record Linking : Type 0 where
@@ -83,11 +85,12 @@ FaultyBatch w fs xs = FaultyReferences w fs xs ⊎ (FaultyNumbers w fs xs ⊎ Fa
 abbrev pub Faulty : Linking → List FileDescriptorProto → List Fault → Type 0
 Faulty w fs xs = (xs ≡ name_faults w.indexes w.known w.before w.first fs) ⊎ ((name_faults w.indexes w.known w.before w.first fs ≡ []) × FaultyBatch (with_declared w fs) fs xs)
 
--- what a pool is linked with: its entries, their names and those of its files
+-- what a pool is linked with: its entries, their names and those of its files, and the numbers of its extensions
 pub record IsOf (p : PoolType) (w : Linking) : Type 0 where
   pub tables : pool_of w.tables ≡ p
   pub named : AreNamed w.known (names_of p)
   pub files : AreIndexed w.indexes (map (λ f. f.name) p.files)
+  pub numbers : (k : KeyType) → Decides (w.numbers k) (Contains (map key_of p.extensions) k)
   pub before : CountsOf p w.before
   pub first : w.first ≡ length p.files
 

@@ -2,7 +2,12 @@
 use Rattle.std.specs.Prelude.{Bool, true, false, not, ◌&&◌, is_some}
 use Rattle.reflect_index.specs.Types.{PoolType, FieldType, KindType, message, type_at}
 use Rattle.reflect_index.specs.declared.kind.Cardinality.{Cardinality}
-use Rattle.reflect_index.specs.declared.kind.Cardinality.TheVariants.{Repeated}
+use Rattle.reflect_index.specs.declared.kind.Cardinality.TheVariants.{Repeated, Required}
+
+-- the field has to be set
+abbrev pub is_required : Cardinality → Bool
+is_required Required = true
+is_required _ = false
 
 abbrev pub is_repeated : Cardinality → Bool
 is_repeated Repeated = true

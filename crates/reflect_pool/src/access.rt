@@ -1,8 +1,8 @@
 //! What the readers of the crate above take from a pool.
 
 ghost use Rattle.std.specs.Prelude.{◌≡◌, ◌<◌, length};
-ghost use Rattle.reflect_index.specs.Types.{type_at, enum_at, extension_at, service_at};
-ghost use Rattle.reflect_index.specs.Views.{pool_of};
+ghost use Rattle.reflect_index.specs.Types.{FileWithin, ChildrenWithin, counts_of, declared_at, type_at, enum_at, extension_at, service_at};
+ghost use Rattle.reflect_index.specs.Views.{children_of, declared_of, pool_of};
 ghost use Rattle.reflect_index.specs.Finding.{IsFirst};
 ghost use Rattle.reflect_pool.specs.Dots.{without_dot};
 ghost use Rattle.reflect_pool.specs.Parts.{type_of_method};
@@ -12,7 +12,7 @@ use crate::enums::EnumDescriptor;
 use crate::extension::ExtensionDescriptor;
 use crate::message::MessageDescriptor;
 use crate::pool::{DescriptorPool, kind_of};
-use reflect_index::{Children, Tables};
+use reflect_index::{Children, Counts, Declared, Tables};
 use reflect_names::{Definition, DefinitionKind, Links};
 use std::collections::BTreeMap;
 
@@ -24,6 +24,28 @@ impl DescriptorPool {
         &self.tables
     }
 
+    /// How many entries of each sort there are.
+    pub fn counts(&self) -> Counts
+        ensures { result ≡ counts_of self.now }
+    {
+        let tables = &self.tables;
+        Counts {
+            files: tables.files.len() as u32,
+            messages: tables.messages.len() as u32,
+            enums: tables.enums.len() as u32,
+            extensions: tables.extensions.len() as u32,
+            services: tables.services.len() as u32,
+        }
+    }
+
+    /// How many methods a service has.
+    pub fn method_count(&self, service: u32) -> u32
+        requires { service < length self.now.services }
+        ensures { result ≡ length (service_at self.now service).methods }
+    {
+        self.tables.services[service as usize].methods.len() as u32
+    }
+
     /// What the full names stand for.
     pub fn names(&self) -> &BTreeMap<String, Definition> {
         &self.names
@@ -32,6 +54,15 @@ impl DescriptorPool {
     /// What each file imports, by its place.
     pub fn links(&self) -> &[Links] {
         self.links.as_slice()
+    }
+
+    /// What a file declares.
+    pub fn declared_in(&self, file: u32) -> &Declared
+        requires { file < length self.now.files }
+        ensures inside { FileWithin (counts_of self.now) (declared_of result.now) }
+        ensures places { declared_of result.now ≡ declared_at self.now file }
+    {
+        &self.tables.files[file as usize].declared
     }
 
     /// The place of the file that a service is declared in.
@@ -119,7 +150,10 @@ impl<'p> MessageDescriptor<'p> {
     }
 
     /// The places of what is declared in the type.
-    pub fn children(&self) -> &'p Children {
+    pub fn children(&self) -> &'p Children
+        ensures inside { ChildrenWithin (counts_of self.now.pool.now) (children_of result.now) }
+        ensures places { children_of result.now ≡ (type_at self.now.pool.now self.now.index).children }
+    {
         let pool = self.pool;
         &pool.tables.messages[self.index as usize].children
     }

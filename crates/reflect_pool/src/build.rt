@@ -8,12 +8,13 @@ ghost use Rattle.reflect_names.specs.FileNames.{indexes_of, KeepsIndexes};
 ghost use Rattle.reflect_names.specs.Known.{below};
 ghost use Rattle.reflect_index.specs.Cut.{cut_to};
 ghost use Rattle.reflect_index.specs.Growth.{Together, Appended};
-ghost use Rattle.reflect_index.specs.Types.{ArePooled, ListsMembers};
+ghost use Rattle.reflect_index.specs.Types.{ArePooled, AreFew, ListsMembers};
 ghost use Rattle.reflect_index.specs.Views.{file_of, record_file, message_of, pool_of};
 ghost use Rattle.reflect_index.specs.Names.{messages, enums, extensions, services, with_names};
 ghost use Rattle.reflect_index.specs.DraftNames.{stored_message_name, stored_enum_name, stored_extension_name, stored_service_name};
 ghost use Rattle.reflect_passes.specs.Errors.{Refuses};
-ghost use Rattle.reflect_pool.specs.Linked.{IsLinked, CountsOf};
+ghost use Rattle.reflect_passes.specs.Extensions.{KeepsNumbers, key_cmp, numbers_of};
+ghost use Rattle.reflect_pool.specs.Linked.{IsLinked, CountsOf, AreNumbered, key_of};
 ghost use Rattle.reflect_pool.specs.Accepted.{FaultlessBatch, Faultless, FaultlessFiles, AddsNames, AddsFiles};
 ghost use Rattle.reflect_pool.specs.Refusals.{linking, is_unknown, FaultyBatch, Faulty, FaultyFiles};
 
@@ -54,7 +55,7 @@ fn total(count: usize, more: usize) -> Result<u32, VisitError>
 /// How many entries there are with further ones.
 fn counts_with(tables: &Tables, more: &Tables) -> Result<Counts, VisitError>
     ensures together { IfOk result (Together tables.now more.now) }
-    ensures few { IfOk result (λ counts. counts.files < 2 ^ 31) }
+    ensures few { IfOk result AreFew }
 {
     Ok(Counts {
         files: total(tables.files.len(), more.files.len())?,
@@ -90,7 +91,8 @@ fn link_declared(
     names: &BTreeMap<String, Definition>,
     extension_numbers: &mut BTreeMap<(u32, u32), u32>,
 ) -> Result<(), DescriptorError>
-    requires { ArePooled (pool_of tables.old) }
+    requires pooled { ArePooled (pool_of tables.old) }
+    requires numbered { AreNumbered (numbers_of extension_numbers.old) (map key_of (pool_of tables.old).extensions) }
     ensures unchanged { OnErr result (pool_of tables.new ≡ pool_of tables.old) }
     ensures grown { OnOk result (cut_to (pool_of tables.new) (length tables.old.files.items) ≡ pool_of tables.old) }
     ensures pooled { OnOk result (ArePooled (pool_of tables.new)) }
@@ -99,6 +101,8 @@ fn link_declared(
     ensures enums { OnOk result (map stored_enum_name tables.new.enums.items ≡ map stored_enum_name tables.old.enums.items ++ with_names enums [] (batch_declarations before first files.items)) }
     ensures extensions { OnOk result (map stored_extension_name tables.new.extensions.items ≡ map stored_extension_name tables.old.extensions.items ++ with_names extensions [] (batch_declarations before first files.items)) }
     ensures services { OnOk result (map stored_service_name tables.new.services.items ≡ map stored_service_name tables.old.services.items ++ with_names services [] (batch_declarations before first files.items)) }
+    ensures kept_numbers { KeepsNumbers (length tables.old.extensions.items) (numbers_of extension_numbers.old) (numbers_of extension_numbers.new) }
+    ensures numbered { OnOk result (AreNumbered (numbers_of extension_numbers.new) (map key_of (pool_of tables.new).extensions)) }
     ensures accepted { OnOk result (FaultlessBatch (linking file_names.now names.now links.old.items tables.old extension_numbers.old before first) files.items (pool_of tables.new)) }
     ensures refused { IfErr result (λ e. Refuses (FaultyBatch (linking file_names.now names.now links.old.items tables.old extension_numbers.old before first) files.items) e) }
 {
@@ -178,14 +182,15 @@ fn link(
     names: &mut BTreeMap<String, Definition>,
     extension_numbers: &mut BTreeMap<(u32, u32), u32>,
 ) -> Result<(), DescriptorError>
-    requires linked { IsLinked (pool_of tables.old) names.old file_names.old }
+    requires linked { IsLinked (pool_of tables.old) names.old file_names.old extension_numbers.old }
     requires before { CountsOf (pool_of tables.old) before }
     requires first { first ≡ length tables.old.files.items }
     ensures unchanged { OnErr result (pool_of tables.new ≡ pool_of tables.old) }
     ensures kept { below first names.new.entries ≡ below first names.old.entries }
     ensures kept_files { KeepsIndexes first (indexes_of file_names.old) (indexes_of file_names.new) }
     ensures grown { OnOk result (cut_to (pool_of tables.new) (length tables.old.files.items) ≡ pool_of tables.old) }
-    ensures linked { OnOk result (IsLinked (pool_of tables.new) names.new file_names.new) }
+    ensures kept_numbers { KeepsNumbers (length tables.old.extensions.items) (numbers_of extension_numbers.old) (numbers_of extension_numbers.new) }
+    ensures linked { OnOk result (IsLinked (pool_of tables.new) names.new file_names.new extension_numbers.new) }
     ensures added { OnOk result (AddsNames (linking file_names.old names.old links.old.items tables.old extension_numbers.old before first) files.items (pool_of tables.new)) }
     ensures accepted { OnOk result (Faultless (linking file_names.old names.old links.old.items tables.old extension_numbers.old before first) files.items (pool_of tables.new)) }
     ensures refused { IfErr result (λ e. Refuses (Faulty (linking file_names.old names.old links.old.items tables.old extension_numbers.old before first) files.items) e) }
@@ -218,6 +223,14 @@ fn forget_files(file_names: &mut BTreeMap<String, u32>, mark: u32)
     ensures was_ordered { IsOrdered string_cmp file_names.old }
 {
     file_names.retain(|_, file| *file < mark);
+}
+
+/// Leaves only the messages and numbers of the first so many extensions.
+fn forget_numbers(numbers: &mut BTreeMap<(u32, u32), u32>, count: usize)
+    ensures entries { numbers.new.entries ≡ filter (λ e. nat_lt e.1 count) numbers.old.entries }
+    ensures was_ordered { IsOrdered key_cmp numbers.old }
+{
+    numbers.retain(|_, place| (*place as usize) < count);
 }
 
 /// No known file has the file's name.
@@ -265,7 +278,9 @@ impl DescriptorPool {
         if outcome.is_err() {
             forget_names(&mut self.names, first);
             forget_files(&mut self.file_names, first);
-            self.forget_rest();
+            let extensions = self.tables.extensions.len();
+            forget_numbers(&mut self.extension_numbers, extensions);
+            self.links.truncate(first as usize);
         }
         outcome
     }
@@ -288,7 +303,9 @@ impl DescriptorPool {
         cut(&mut self.tables, mark);
         forget_names(&mut self.names, mark);
         forget_files(&mut self.file_names, mark);
-        self.forget_rest();
+        let extensions = self.tables.extensions.len();
+        forget_numbers(&mut self.extension_numbers, extensions);
+        self.links.truncate(mark as usize);
     }
 
     /// Moves settled options, and the paths of locations that speak of them, into the files' records. One that names no
@@ -297,16 +314,5 @@ impl DescriptorPool {
         ensures { self.new ≡ self.old }
     {
         settle_all(&mut self.tables, edits);
-    }
-
-    /// Leaves only the links and the extensions' numbers of the files that are there.
-    fn forget_rest(&mut self)
-        ensures { self.new ≡ self.old }
-    {
-        let count = self.tables.files.len();
-        let extensions = self.tables.extensions.len();
-        self.links.truncate(count);
-        self.extension_numbers
-            .retain(|_, place| (*place as usize) < extensions);
     }
 }

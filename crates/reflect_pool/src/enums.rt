@@ -50,7 +50,9 @@ impl<'p> EnumDescriptor<'p> {
     }
 
     /// Where the declaration stands in its file's record.
-    pub fn path(&self) -> &'p [i32] {
+    pub fn path(&self) -> &'p [i32]
+        ensures { result.now ≡ (enum_at self.now.pool.now self.now.index).path }
+    {
         let pool = self.pool;
         pool.tables.enums[self.index as usize].path.as_slice()
     }
@@ -219,7 +221,9 @@ impl<'p> EnumValueDescriptor<'p> {
     }
 
     /// Where the declaration stands in its file's record.
-    pub fn path(&self) -> &'p [i32] {
+    pub fn path(&self) -> &'p [i32]
+        ensures { result.now ≡ (type_of_value self.now.enumeration.pool.now self.now.enumeration.index self.now.index).path }
+    {
         let pool = self.enumeration.pool;
         pool.tables.enums[self.enumeration.index as usize]
             .values

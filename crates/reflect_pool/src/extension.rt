@@ -1,4 +1,5 @@
-ghost use Rattle.std.specs.Prelude.{◌≡◌, ◌<◌, length, IfSome};
+ghost use Rattle.std.specs.Prelude.{◌≡◌, ◌<◌, All, length, None, Some, IfSome, MatchOption};
+ghost use Rattle.std.proofs.Props.{props};
 ghost use Rattle.reflect_index.specs.Types.{extension_at};
 
 use crate::kind::{DefaultValue, Kind};
@@ -17,6 +18,7 @@ pub struct ExtensionDescriptor<'p> {
 }
 
 impl<'p> ExtensionDescriptor<'p> {
+    ghost use Rattle.reflect_pool.specs.Defaults.{IsDefault};
     ghost use Rattle.reflect_pool.specs.Kinds.{IsKind};
     ghost use Rattle.reflect_pool.specs.Shapes.{holds_list, holds_map};
 
@@ -29,7 +31,8 @@ impl<'p> ExtensionDescriptor<'p> {
 
     /// The message that the extension is declared in, if it is one, whatever it extends.
     pub fn parent_message(&self) -> Option<MessageDescriptor<'p>>
-        ensures { IfSome result (λ d. d.pool.now ≡ self.now.pool.now) }
+        ensures pool { IfSome result (λ d. d.pool.now ≡ self.now.pool.now) }
+        ensures parent { MatchOption result ((extension_at self.now.pool.now self.now.index).parent ≡ None) (λ d. (extension_at self.now.pool.now self.now.index).parent ≡ Some d.index) }
     {
         let pool = self.pool;
         pool.message_at(pool.tables.extensions[self.index as usize].parent?)
@@ -69,7 +72,9 @@ impl<'p> ExtensionDescriptor<'p> {
     }
 
     /// The full name in brackets.
-    pub fn json_name(&self) -> &'p str {
+    pub fn json_name(&self) -> &'p str
+        ensures { result.now ≡ (extension_at self.now.pool.now self.now.index).json_name }
+    {
         let pool = self.pool;
         pool.tables.extensions[self.index as usize]
             .json_name
@@ -77,7 +82,9 @@ impl<'p> ExtensionDescriptor<'p> {
     }
 
     /// Where the declaration stands in its file's record.
-    pub fn path(&self) -> &'p [i32] {
+    pub fn path(&self) -> &'p [i32]
+        ensures { result.now ≡ (extension_at self.now.pool.now self.now.index).field.path }
+    {
         let pool = self.pool;
         pool.tables.extensions[self.index as usize]
             .field
@@ -150,7 +157,9 @@ impl<'p> ExtensionDescriptor<'p> {
     }
 
     /// The default that the declaration gives, if it gives one.
-    pub fn default(&self) -> Option<DefaultValue<'p>> {
+    pub fn default(&self) -> Option<DefaultValue<'p>>
+        ensures { IsDefault self.now.pool.now (extension_at self.now.pool.now self.now.index).field result }
+    {
         let pool = self.pool;
         default_value(pool, &pool.tables.extensions[self.index as usize].field)
     }
@@ -183,15 +192,18 @@ impl<'p> Eq for ExtensionDescriptor<'p> {
 pub struct MessageExtensions<'p> {
     pub(crate) pool: &'p DescriptorPool,
     pub(crate) found: btree_map::Range<'p, (u32, u32), u32>,
+    ghost inside: { All (λ e. e.1 < length pool.now.extensions) found } by { Prim.hlevel props },
 }
 
 impl<'p> Iterator for MessageExtensions<'p> {
-    ghost use Rattle.std.specs.Prelude.{length};
-    ghost use Rattle.std.specs.Iterator.{at_most};
+    ghost use Rattle.std.specs.Iterator.{YieldsFirstBy, item_count};
+    ghost use Rattle.reflect_pool.specs.ExtensionsLeft.{extension_type, extensions_left};
 
     type Item = ExtensionDescriptor<'p>;
 
-    ghost remaining = { λ s. at_most (length s.found) };
+    ghost next_gives = { YieldsFirstBy extension_type extensions_left };
+
+    ghost remaining = { item_count extensions_left };
 
     fn next(&mut self) -> Option<ExtensionDescriptor<'p>> {
         let (_, place) = self.found.next()?;

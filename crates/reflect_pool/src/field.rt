@@ -17,8 +17,9 @@ pub struct FieldDescriptor<'p> {
 }
 
 impl<'p> FieldDescriptor<'p> {
+    ghost use Rattle.reflect_pool.specs.Defaults.{IsDefault};
     ghost use Rattle.reflect_pool.specs.Kinds.{IsKind};
-    ghost use Rattle.reflect_pool.specs.Shapes.{holds_list, holds_map};
+    ghost use Rattle.reflect_pool.specs.Shapes.{holds_list, holds_map, is_required};
 
     /// The pool that the field's type stands in.
     pub fn parent_pool(&self) -> &'p DescriptorPool
@@ -73,7 +74,9 @@ impl<'p> FieldDescriptor<'p> {
     }
 
     /// Where the declaration stands in its file's record.
-    pub fn path(&self) -> &'p [i32] {
+    pub fn path(&self) -> &'p [i32]
+        ensures { result.now ≡ (type_of_field self.now.message.pool.now self.now.message.index self.now.index).path }
+    {
         let pool = self.message.pool;
         pool.tables.messages[self.message.index as usize]
             .fields
@@ -103,7 +106,9 @@ impl<'p> FieldDescriptor<'p> {
     }
 
     /// The field has to be set (proto2).
-    pub fn is_required(&self) -> bool {
+    pub fn is_required(&self) -> bool
+        ensures { result ≡ is_required (type_of_field self.now.message.pool.now self.now.message.index self.now.index).cardinality }
+    {
         self.cardinality() == Cardinality::Required
     }
 
@@ -187,7 +192,9 @@ impl<'p> FieldDescriptor<'p> {
     }
 
     /// The default that the declaration gives, if it gives one.
-    pub fn default(&self) -> Option<DefaultValue<'p>> {
+    pub fn default(&self) -> Option<DefaultValue<'p>>
+        ensures { IsDefault self.now.message.pool.now (type_of_field self.now.message.pool.now self.now.message.index self.now.index) result }
+    {
         let pool = self.message.pool;
         default_value(
             pool,

@@ -5,7 +5,6 @@ use crate::extension::{ExtensionDescriptor, MessageExtensions};
 use crate::field::FieldDescriptor;
 use crate::oneof::{OneofDescriptor, Oneofs};
 use crate::pool::DescriptorPool;
-use reflect_names::DefinitionKind;
 
 /// A message type of a pool.
 #[derive(Clone, Copy)]
@@ -16,7 +15,9 @@ pub struct MessageDescriptor<'p> {
 }
 
 impl<'p> MessageDescriptor<'p> {
-    ghost use Rattle.reflect_pool.specs.Finds.{FindsField};
+    ghost use Rattle.reflect_pool.specs.Brackets.{in_brackets};
+    ghost use Rattle.reflect_pool.specs.ExtensionsLeft.{AreExtensions, extensions_left};
+    ghost use Rattle.reflect_pool.specs.Finds.{FindsAny, FindsField};
     ghost use Rattle.reflect_pool.specs.PartsLeft.{oneofs_left};
     ghost use Rattle.reflect_pool.specs.Same.{same_message};
 
@@ -53,7 +54,9 @@ impl<'p> MessageDescriptor<'p> {
     }
 
     /// Where the declaration stands in its file's record.
-    pub fn path(&self) -> &'p [i32] {
+    pub fn path(&self) -> &'p [i32]
+        ensures { result.now ≡ (type_at self.now.pool.now self.now.index).path }
+    {
         let pool = self.pool;
         pool.tables.messages[self.index as usize].path.as_slice()
     }
@@ -204,13 +207,15 @@ impl<'p> MessageDescriptor<'p> {
     }
 
     /// The extensions of the type, by ascending number.
-    pub fn extensions(&self) -> MessageExtensions<'p> {
+    pub fn extensions(&self) -> MessageExtensions<'p>
+        ensures { AreExtensions self.now.pool.now self.now.index (extensions_left result) }
+    {
         let pool = self.pool;
         MessageExtensions {
             pool,
             found: pool
                 .extension_numbers
-                .range((self.index, 0)..=(self.index, u32::MAX)),
+                .range((self.index, 0)..(self.index + 1, 0)),
         }
     }
 
@@ -218,32 +223,25 @@ impl<'p> MessageDescriptor<'p> {
     pub fn get_extension(&self, number: u32) -> Option<ExtensionDescriptor<'p>>
         ensures extendee { IfSome result (λ x. (x.pool.now ≡ self.now.pool.now) × ((extension_at self.now.pool.now x.index).extendee ≡ self.now.index)) }
         ensures number { IfSome result (λ x. (extension_at x.pool.now x.index).field.number ≡ number) }
+        ensures finds { FindsAny (λ x. (x.extendee ≡ self.now.index) × (x.field.number ≡ number)) self.now.pool.now result }
     {
         let pool = self.pool;
-        let place = *pool.extension_numbers.get(&(self.index, number))?;
-        let extension = self.extension_of(place)?;
-        if extension.number() == number {
-            Some(extension)
-        } else {
-            None
-        }
+        pool.extension_at(pool.extension_place(self.index, number)?)
     }
 
     /// The extension of the type with a full name. Takes no memory.
     pub fn get_extension_by_full_name(&self, name: &str) -> Option<ExtensionDescriptor<'p>>
-        ensures { IfSome result (λ x. (x.pool.now ≡ self.now.pool.now) × ((extension_at self.now.pool.now x.index).extendee ≡ self.now.index)) }
+        ensures extendee { IfSome result (λ x. (x.pool.now ≡ self.now.pool.now) × ((extension_at self.now.pool.now x.index).extendee ≡ self.now.index)) }
+        ensures finds { FindsAny (λ x. (x.extendee ≡ self.now.index) × (x.field.full_name ≡ name.now)) self.now.pool.now result }
     {
         let pool = self.pool;
-        let definition = pool.names.get(name)?;
-        match definition.kind {
-            DefinitionKind::Extension(place) => self.extension_of(place),
-            _ => None,
-        }
+        self.extension_of(pool.extension_named(name)?)
     }
 
     /// The extension of the type whose full name stands in these brackets. Takes no memory.
     pub fn get_extension_by_json_name(&self, name: &str) -> Option<ExtensionDescriptor<'p>>
-        ensures { IfSome result (λ x. (x.pool.now ≡ self.now.pool.now) × ((extension_at self.now.pool.now x.index).extendee ≡ self.now.index)) }
+        ensures extendee { IfSome result (λ x. (x.pool.now ≡ self.now.pool.now) × ((extension_at self.now.pool.now x.index).extendee ≡ self.now.index)) }
+        ensures finds { FindsAny (λ x. (x.extendee ≡ self.now.index) × (in_brackets x.field.full_name ≡ name.now)) self.now.pool.now result }
     {
         let name = name.strip_prefix('[')?.strip_suffix(']')?;
         self.get_extension_by_full_name(name)
@@ -251,7 +249,9 @@ impl<'p> MessageDescriptor<'p> {
 
     /// The extension at a place, if it is one of the type.
     fn extension_of(&self, place: u32) -> Option<ExtensionDescriptor<'p>>
-        ensures { IfSome result (λ x. (x.pool.now ≡ self.now.pool.now) × ((extension_at self.now.pool.now x.index).extendee ≡ self.now.index)) }
+        ensures extendee { IfSome result (λ x. (x.pool.now ≡ self.now.pool.now) × ((extension_at self.now.pool.now x.index).extendee ≡ self.now.index)) }
+        ensures index { IfSome result (λ x. x.index ≡ place) }
+        ensures there { place < length self.now.pool.now.extensions → (extension_at self.now.pool.now place).extendee ≡ self.now.index → IsSome result }
     {
         let pool = self.pool;
         if pool.tables.extensions.get(place as usize)?.extendee == self.index {

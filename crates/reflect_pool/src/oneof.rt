@@ -52,7 +52,9 @@ impl<'p> OneofDescriptor<'p> {
     }
 
     /// Where the declaration stands in its file's record.
-    pub fn path(&self) -> &'p [i32] {
+    pub fn path(&self) -> &'p [i32]
+        ensures { result.now ≡ (type_of_oneof self.now.message.pool.now self.now.message.index self.now.index).path }
+    {
         let pool = self.message.pool;
         pool.tables.messages[self.message.index as usize].oneofs[self.index as usize]
             .path

@@ -1,9 +1,11 @@
-ghost use Rattle.std.specs.Prelude.{◌≡◌, ◌<◌, [], map, length, Contains, IfSome, IsSome};
+ghost use Rattle.std.specs.Prelude.{◌≡◌, ◌<◌, map, length, Contains, IfSome, IsSome};
 ghost use Rattle.std.specs.Bool.{Decides};
 ghost use Rattle.std.specs.Option.{option_map};
+ghost use Rattle.reflect_index.specs.Finding.{IsFirst};
 ghost use Rattle.reflect_index.specs.Types.{PoolType};
 ghost use Rattle.reflect_names.specs.Known.{known_of};
 ghost use Rattle.reflect_pool.specs.Dots.{without_dot};
+ghost use Rattle.reflect_pool.specs.Linked.{empty_pool};
 
 use crate::blank::Blanks;
 use crate::enums::EnumDescriptor;
@@ -41,7 +43,7 @@ impl Model for DescriptorPool {
 
     ghost view = { λ p. pool_of p.tables };
 
-    ghost invariant = { λ p. IsLinked (pool_of p.tables) p.names p.file_names };
+    ghost invariant = { λ p. IsLinked (pool_of p.tables) p.names p.file_names p.extension_numbers };
 }
 
 /// A full name without its leading dot, if it has one.
@@ -58,16 +60,23 @@ fn without_dot(name: &str) -> &str
 pub(crate) fn kind_of(names: &BTreeMap<String, Definition>, name: &str) -> Option<DefinitionKind>
     ensures { result ≡ option_map (λ d. d.kind) (known_of names.now (without_dot name.now)) }
 {
-    Some(names.get(without_dot(name))?.kind)
+    kind_named(names, without_dot(name))
+}
+
+/// What a full name without a leading dot stands for.
+fn kind_named(names: &BTreeMap<String, Definition>, name: &str) -> Option<DefinitionKind>
+    ensures { result ≡ option_map (λ d. d.kind) (known_of names.now name.now) }
+{
+    Some(names.get(name)?.kind)
 }
 
 impl DescriptorPool {
+    ghost use Rattle.reflect_pool.specs.Finds.{IsOnly};
     ghost use Rattle.reflect_pool.specs.FindsNames.{FindsMessage, FindsEnum, FindsExtension};
 
     /// A pool without files. Takes no memory.
     pub fn new(alloc: Global) -> DescriptorPool
-        ensures messages { result.messages ≡ [] }
-        ensures enums { result.enums ≡ [] }
+        ensures { result ≡ empty_pool }
     {
         DescriptorPool {
             tables: Tables::new(alloc),
@@ -147,6 +156,23 @@ impl DescriptorPool {
     {
         match kind_of(&self.names, name)? {
             DefinitionKind::Extension(index) => self.extension_at(index),
+            _ => None,
+        }
+    }
+
+    /// The place of the extension of a message with a number.
+    pub(crate) fn extension_place(&self, message: u32, number: u32) -> Option<u32>
+        ensures { IsFirst (λ x. (x.extendee ≡ message) × (x.field.number ≡ number)) self.now.extensions result }
+    {
+        self.extension_numbers.get(&(message, number)).copied()
+    }
+
+    /// The place of the extension of a full name without a leading dot.
+    pub(crate) fn extension_named(&self, name: &str) -> Option<u32>
+        ensures { IsOnly (λ x. x.field.full_name ≡ name.now) self.now.extensions result }
+    {
+        match kind_named(&self.names, name)? {
+            DefinitionKind::Extension(index) => Some(index),
             _ => None,
         }
     }

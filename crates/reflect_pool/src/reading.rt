@@ -3,6 +3,7 @@
 ghost use Rattle.std.specs.Prelude.{◌≡◌, length};
 ghost use Rattle.reflect_index.specs.Types.{IsWithin, counts_of};
 ghost use Rattle.reflect_index.specs.Views.{field_of, kind_of};
+ghost use Rattle.reflect_pool.specs.Defaults.{HasNumber, IsDefault};
 ghost use Rattle.reflect_pool.specs.Kinds.{IsKind};
 ghost use Rattle.reflect_pool.specs.Shapes.{holds_map};
 
@@ -54,7 +55,9 @@ pub fn is_map(pool: &DescriptorPool, field: &StoredField) -> bool
 }
 
 /// The number of an enum's value by its name.
-fn value_number(pool: &DescriptorPool, kind: StoredKind, name: &str) -> Option<i32> {
+fn value_number(pool: &DescriptorPool, kind: StoredKind, name: &str) -> Option<i32>
+    ensures { HasNumber pool.now (kind_of kind) name.now result }
+{
     let StoredKind::Enum(index) = kind else {
         return None;
     };
@@ -65,7 +68,9 @@ fn value_number(pool: &DescriptorPool, kind: StoredKind, name: &str) -> Option<i
 pub fn default_value<'p>(
     pool: &'p DescriptorPool,
     field: &'p StoredField,
-) -> Option<DefaultValue<'p>> {
+) -> Option<DefaultValue<'p>>
+    ensures { IsDefault pool.now (field_of field.now) result }
+{
     match &field.default {
         None => None,
         Some(StoredDefault::I64(value)) => Some(DefaultValue::I64(*value)),

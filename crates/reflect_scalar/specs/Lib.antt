@@ -1,4 +1,5 @@
 pub mod FieldTypes
+pub mod Floats
 pub mod Kinds
 pub mod Meaning
 pub mod Singles

@@ -1,9 +1,10 @@
 //! What fields and extensions have in common.
 
-ghost use Rattle.std.specs.Prelude.{◌≡◌};
+ghost use Rattle.std.specs.Prelude.{◌≡◌, ◌↔◌, IsTrue};
 ghost use Rattle.reflect_index.specs.Types.{FieldType, PoolType};
 ghost use Rattle.reflect_pool.specs.Kinds.{IsKind};
 ghost use Rattle.reflect_pool.specs.Shapes.{holds_list, holds_map};
+ghost use Rattle.reflect_scalar.specs.Floats.{is_float_kind, HoldsFloats};
 
 use reflect_link::{DefaultValue, ExtensionDescriptor, FieldDescriptor, Kind, OneofDescriptor};
 
@@ -217,13 +218,17 @@ impl<'p> FieldDescriptorLike<'p> for AnyField<'p> {
     }
 }
 
-fn is_float(kind: &Kind<'_>) -> bool {
+fn is_float(kind: &Kind<'_>) -> bool
+    ensures { result ≡ is_float_kind kind.now }
+{
     matches!(kind, Kind::Float | Kind::Double)
 }
 
 /// Its values, or those of its map, are floating-point numbers. Messages do not hold such fields: their records are kept
 /// unread.
-pub fn holds_floats<'p, F: FieldDescriptorLike<'p>>(field: &F) -> bool {
+pub fn holds_floats<'p, F: FieldDescriptorLike<'p>>(field: &F) -> bool
+    ensures { IsTrue result ↔ HoldsFloats (F.pool field.now) (F.says field.now) }
+{
     match field.kind() {
         Kind::Message(entry) if field.is_map() => match entry.get_field(2) {
             Some(value) => is_float(&value.kind()),

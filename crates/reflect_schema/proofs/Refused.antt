@@ -1,34 +1,65 @@
--- How descriptor sets are refused.
-use Rattle.std.proofs.Common.{ℕ, List}
-use Rattle.descriptor_records.specs.declared.file.FileDescriptorSet.{FileDescriptorSet}
+-- How files, sources and descriptor sets are refused.
+use Rattle.std.proofs.Common.{◌≡◌, ◌⊎◌, inl, inr, ℕ, List}
+use Rattle.descriptor_records.specs.declared.file.FileDescriptorProto.{FileDescriptorProto}
 use Rattle.reflect_wire.specs.declared.wire_error.WireError.{WireError}
 use Rattle.reflect_wire.specs.declared.wire_error.WireError.TheVariants as wire
 use Rattle.reflect_codec.specs.Reading.{Rejects}
 use Rattle.reflect_codec.specs.Meaning.{IsSetBytes}
+use Rattle.reflect_index.specs.Types.{PoolType}
+use Rattle.reflect_passes.specs.Errors.{Refuses}
+use Rattle.reflect_passes.specs.declared.error.DescriptorError.{DescriptorError}
+use Rattle.reflect_pool.specs.Refusals.{FaultyFiles}
 use Rattle.reflect_bytes.specs.Spelled.{SpellsSet}
+use Rattle.reflect_text.specs.TypedOptions.{TypedFiles}
+use Rattle.reflect_text.specs.declared.option_error.OptionError.{OptionError}
 use Rattle.reflect_schema.specs.declared.error.SchemaError.{SchemaError}
 use Rattle.reflect_schema.specs.declared.error.SchemaError.TheVariants.{Parse, Link, Options, Wire, Text, UnknownType, Memory, TooLong}
-use Rattle.reflect_schema.specs.Refusals.{of_wire, FilesRefused, SetRefused}
+use Rattle.reflect_schema.specs.Refusals.{of_wire, FilesLinked, FilesRefused, SourcesLinked, SourcesRefused, SetRefused}
+
+-- a linker's refusal is one of files
+pub of_link : (p : PoolType) (files typed : List FileDescriptorProto) (d : DescriptorError) (e : SchemaError) → TypedFiles files typed → Refuses (FaultyFiles p typed) d → (e ≡ Memory) ⊎ (e ≡ Link d) → FilesRefused p files e
+of_link p files typed d e t r (inl m) = rw m tt
+of_link p files typed d e t r (inr l) = rw l (typed, t, r)
+
+-- files that fit together are refused for their options
+pub of_options : (p : PoolType) (files : List FileDescriptorProto) (new : PoolType) (o : OptionError) (e : SchemaError) → FilesLinked p files new → (e ≡ Memory) ⊎ (e ≡ Options o) → FilesRefused p files e
+of_options p files new o e l (inl m) = rw m tt
+of_options p files new o e l (inr x) = rw x (new, l)
 
 -- files that are refused are refused as the set that they stand in
-pub of_files : (bytes : List ℕ) (e : SchemaError) → SpellsSet bytes → FilesRefused e → SetRefused bytes e
-of_files bytes (Link e) s r = s
-of_files bytes (Options e) s r = s
-of_files bytes Memory s r = tt
-of_files bytes (Parse e) s r = absurd r
-of_files bytes (Wire e) s r = absurd r
-of_files bytes (Text e) s r = absurd r
-of_files bytes (UnknownType n) s r = absurd r
-of_files bytes TooLong s r = absurd r
+pub of_set : (p : PoolType) (bytes : List ℕ) (files : List FileDescriptorProto) (e : SchemaError) → SpellsSet bytes files → FilesRefused p files e → SetRefused p bytes e
+of_set p bytes files (Link e) s r = (files, s, r)
+of_set p bytes files (Options e) s r = (files, s, r)
+of_set p bytes files Memory s r = tt
+of_set p bytes files (Parse e) s r = absurd r
+of_set p bytes files (Wire e) s r = absurd r
+of_set p bytes files (Text e) s r = absurd r
+of_set p bytes files (UnknownType n) s r = absurd r
+of_set p bytes files TooLong s r = absurd r
+
+-- files that are refused are refused as the sources that they are read from
+pub of_sources : (p : PoolType) (files : List FileDescriptorProto) (e : SchemaError) → FilesRefused p files e → SourcesRefused p e
+of_sources p files (Link e) r = (files, r)
+of_sources p files (Options e) r = (files, r)
+of_sources p files Memory r = tt
+of_sources p files (Parse e) r = absurd r
+of_sources p files (Wire e) r = absurd r
+of_sources p files (Text e) r = absurd r
+of_sources p files (UnknownType n) r = absurd r
+of_sources p files TooLong r = absurd r
+
+-- sources that fit together are refused for their options
+pub sources_options : (p new : PoolType) (o : OptionError) (e : SchemaError) → SourcesLinked p new → (e ≡ Memory) ⊎ (e ≡ Options o) → SourcesRefused p e
+sources_options p new o e (files, linked) x = of_sources p files e (of_options p files new o e linked x)
 
 -- bytes that are read as no set spell none
-pub of_bytes : (bytes : List ℕ) (e : WireError) → Rejects IsSetBytes bytes e → SetRefused bytes (of_wire e)
-of_bytes bytes wire.Memory h = tt
-of_bytes bytes wire.Truncated h = λ s. h.none (λ q. cc q) s.0 s.1
-of_bytes bytes wire.BadVarint h = λ s. h.none (λ q. cc q) s.0 s.1
-of_bytes bytes wire.BadKey h = λ s. h.none (λ q. cc q) s.0 s.1
-of_bytes bytes wire.BadWireType h = λ s. h.none (λ q. cc q) s.0 s.1
-of_bytes bytes wire.EndGroupMismatch h = λ s. h.none (λ q. cc q) s.0 s.1
-of_bytes bytes wire.TooDeep h = λ s. h.none (λ q. cc q) s.0 s.1
-of_bytes bytes wire.BadUtf8 h = λ s. h.none (λ q. cc q) s.0 s.1
-of_bytes bytes wire.TooLong h = λ s. h.none (λ q. cc q) s.0 s.1
+pub of_bytes : (p : PoolType) (bytes : List ℕ) (e : WireError) → Rejects IsSetBytes bytes e → SetRefused p bytes (of_wire e)
+of_bytes p bytes wire.Memory h = tt
+of_bytes p bytes wire.Truncated h = λ files s. h.none (λ q. cc q) s.0 s.1
+of_bytes p bytes wire.BadVarint h = λ files s. h.none (λ q. cc q) s.0 s.1
+of_bytes p bytes wire.BadKey h = λ files s. h.none (λ q. cc q) s.0 s.1
+of_bytes p bytes wire.BadWireType h = λ files s. h.none (λ q. cc q) s.0 s.1
+of_bytes p bytes wire.EndGroupMismatch h = λ files s. h.none (λ q. cc q) s.0 s.1
+of_bytes p bytes wire.TooDeep h = λ files s. h.none (λ q. cc q) s.0 s.1
+of_bytes p bytes wire.BadUtf8 h = λ files s. h.none (λ q. cc q) s.0 s.1
+of_bytes p bytes wire.TooLong h = λ files s. h.none (λ q. cc q) s.0 s.1

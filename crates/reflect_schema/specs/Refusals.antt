@@ -2,10 +2,14 @@
 use Rattle.std.specs.Prelude.{◌≡◌, ℕ, List, None, Some, string_bytes}
 use Rattle.reflect_index.specs.Finding.{IsFirst}
 use Rattle.reflect_index.specs.Types.{PoolType}
+use Rattle.descriptor_records.specs.declared.file.FileDescriptorProto.{FileDescriptorProto}
+use Rattle.reflect_passes.specs.Errors.{Refuses}
 use Rattle.reflect_pool.specs.Dots.{without_dot}
+use Rattle.reflect_pool.specs.Refusals.{FaultyFiles}
 use Rattle.reflect_wire.specs.declared.wire_error.WireError.{WireError}
 use Rattle.reflect_wire.specs.declared.wire_error.WireError.TheVariants as wire
-use Rattle.reflect_bytes.specs.Spelled.{SpellsSet}
+use Rattle.reflect_bytes.specs.Spelled.{SpellsSet, RecordsLinked}
+use Rattle.reflect_text.specs.TypedOptions.{TypedFiles}
 use Rattle.reflect_schema.specs.declared.error.SchemaError.{SchemaError}
 use Rattle.reflect_schema.specs.declared.error.SchemaError.TheVariants.{Parse, Link, Options, Wire, Text, UnknownType, Memory, TooLong}
 
@@ -45,26 +49,38 @@ TextRefused p name TooLong = IsKnown p name
 TextRefused p name Memory = Unit {0}
 TextRefused p name _ = ⊥
 
--- of files: they do not fit together, or their options do not suit their types
-abbrev pub FilesRefused : SchemaError → Type 0
-FilesRefused (Link e) = Unit {0}
-FilesRefused (Options e) = Unit {0}
-FilesRefused Memory = Unit {0}
-FilesRefused _ = ⊥
+-- files are added to a pool, which becomes the new one, with the options that linking reads where it reads them
+abbrev pub FilesLinked : PoolType → List FileDescriptorProto → PoolType → Type 0
+FilesLinked p files new = (typed : List FileDescriptorProto) × TypedFiles files typed × RecordsLinked p typed new
+
+-- of files: they do not fit together, or they do and their options do not suit their types
+abbrev pub FilesRefused : PoolType → List FileDescriptorProto → SchemaError → Type 0
+FilesRefused p files (Link e) = (typed : List FileDescriptorProto) × TypedFiles files typed × Refuses (FaultyFiles p typed) e
+FilesRefused p files (Options e) = (new : PoolType) × FilesLinked p files new
+FilesRefused p files Memory = Unit {0}
+FilesRefused p files _ = ⊥
+
+-- sources are added as some files
+abbrev pub SourcesLinked : PoolType → PoolType → Type 0
+SourcesLinked p new = (files : List FileDescriptorProto) × FilesLinked p files new
 
 -- of sources: one is no file, or the files are refused
-abbrev pub SourcesRefused : SchemaError → Type 0
-SourcesRefused (Parse e) = Unit {0}
-SourcesRefused (Link e) = Unit {0}
-SourcesRefused (Options e) = Unit {0}
-SourcesRefused Memory = Unit {0}
-SourcesRefused _ = ⊥
+abbrev pub SourcesRefused : PoolType → SchemaError → Type 0
+SourcesRefused p (Parse e) = Unit {0}
+SourcesRefused p (Link e) = (files : List FileDescriptorProto) × FilesRefused p files (Link e)
+SourcesRefused p (Options e) = (files : List FileDescriptorProto) × FilesRefused p files (Options e)
+SourcesRefused p Memory = Unit {0}
+SourcesRefused p _ = ⊥
+
+-- bytes are those of a descriptor set whose files are added
+abbrev pub SetLinked : PoolType → List ℕ → PoolType → Type 0
+SetLinked p bytes new = (files : List FileDescriptorProto) × SpellsSet bytes files × FilesLinked p files new
 
 -- of a descriptor set: the bytes are none, or they are one whose files are refused
-abbrev pub SetRefused : List ℕ → SchemaError → Type 0
-SetRefused bytes (Wire e) = SpellsSet bytes → ⊥
-SetRefused bytes TooLong = SpellsSet bytes → ⊥
-SetRefused bytes (Link e) = SpellsSet bytes
-SetRefused bytes (Options e) = SpellsSet bytes
-SetRefused bytes Memory = Unit {0}
-SetRefused bytes _ = ⊥
+abbrev pub SetRefused : PoolType → List ℕ → SchemaError → Type 0
+SetRefused p bytes (Wire e) = (files : List FileDescriptorProto) → SpellsSet bytes files → ⊥
+SetRefused p bytes TooLong = (files : List FileDescriptorProto) → SpellsSet bytes files → ⊥
+SetRefused p bytes (Link e) = (files : List FileDescriptorProto) × SpellsSet bytes files × FilesRefused p files (Link e)
+SetRefused p bytes (Options e) = (files : List FileDescriptorProto) × SpellsSet bytes files × FilesRefused p files (Options e)
+SetRefused p bytes Memory = Unit {0}
+SetRefused p bytes _ = ⊥

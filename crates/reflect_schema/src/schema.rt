@@ -25,11 +25,13 @@ pub struct Schema {
 
 impl Schema {
     ghost use Rattle.reflect_pool.specs.FindsNames.{FindsMessage};
-    ghost use Rattle.reflect_bytes.specs.Spelled.{SpellsSet};
-    ghost use Rattle.reflect_schema.specs.Refusals.{TypeRefused, BytesRefused, TextRefused, FilesRefused, SourcesRefused, SetRefused};
+    ghost use Rattle.reflect_pool.specs.Linked.{empty_pool};
+    ghost use Rattle.reflect_schema.specs.Refusals.{TypeRefused, BytesRefused, TextRefused, FilesLinked, FilesRefused, SourcesLinked, SourcesRefused, SetLinked, SetRefused};
 
     /// A schema without files. Takes no memory.
-    pub fn bare(alloc: Global) -> Schema {
+    pub fn bare(alloc: Global) -> Schema
+        ensures { result.pool ≡ empty_pool }
+    {
         Schema {
             alloc,
             pool: DescriptorPool::new(alloc),
@@ -40,7 +42,8 @@ impl Schema {
     ///
     /// Refused as `add_sources` is, and as `Options` where not all of the nine types are there and can be read by.
     pub fn new(alloc: Global, descriptor_source: &str) -> Result<Schema, SchemaError>
-        ensures { IfErr result SourcesRefused }
+        ensures linked { IfOk result (λ s. SourcesLinked empty_pool s.pool) }
+        ensures err { IfErr result (SourcesRefused empty_pool) }
     {
         let mut schema = Schema::bare(alloc);
         schema.add_sources(&[(DESCRIPTOR_NAME, descriptor_source)])?;
@@ -52,8 +55,8 @@ impl Schema {
 
     /// The schema of a descriptor set's files. Refused as `add_descriptor_set` is.
     pub fn from_descriptor_set(alloc: Global, bytes: &[u8]) -> Result<Schema, SchemaError>
-        ensures read { OnOk result (SpellsSet bytes.now) }
-        ensures err { IfErr result (SetRefused bytes.now) }
+        ensures linked { IfOk result (λ s. SetLinked empty_pool bytes.now s.pool) }
+        ensures err { IfErr result (SetRefused empty_pool bytes.now) }
     {
         let mut schema = Schema::bare(alloc);
         schema.add_descriptor_set(bytes)?;
@@ -75,7 +78,8 @@ impl Schema {
     /// Any refusal leaves the schema as it was.
     pub fn add_sources(&mut self, sources: &[(&str, &str)]) -> Result<(), SchemaError>
         ensures unchanged { OnErr result (self.new.pool ≡ self.old.pool) }
-        ensures err { IfErr result SourcesRefused }
+        ensures linked { OnOk result (SourcesLinked self.old.pool self.new.pool) }
+        ensures err { IfErr result (SourcesRefused self.old.pool) }
     {
         let mut files = Vec::new(self.alloc);
         for source in sources {
@@ -90,8 +94,8 @@ impl Schema {
     /// the schema as it was.
     pub fn add_descriptor_set(&mut self, bytes: &[u8]) -> Result<(), SchemaError>
         ensures unchanged { OnErr result (self.new.pool ≡ self.old.pool) }
-        ensures read { OnOk result (SpellsSet bytes.now) }
-        ensures err { IfErr result (SetRefused bytes.now) }
+        ensures linked { OnOk result (SetLinked self.old.pool bytes.now self.new.pool) }
+        ensures err { IfErr result (SetRefused self.old.pool bytes.now) }
     {
         let set = decode_set(self.alloc, bytes)?;
         self.add_batch(set.file)
@@ -107,7 +111,8 @@ impl Schema {
     /// Links files and settles their options. Any refusal leaves the pool as it was.
     fn add_batch(&mut self, mut files: Vec<FileDescriptorProto>) -> Result<(), SchemaError>
         ensures unchanged { OnErr result (self.new.pool ≡ self.old.pool) }
-        ensures err { IfErr result FilesRefused }
+        ensures linked { OnOk result (FilesLinked self.old.pool files.items self.new.pool) }
+        ensures err { IfErr result (FilesRefused self.old.pool files.items) }
     {
         copy_typed_options(&mut files);
         let mark = self.pool.mark();

@@ -1,4 +1,4 @@
-ghost use Rattle.std.specs.Prelude.{◌≡◌, OnErr};
+ghost use Rattle.std.specs.Prelude.{◌≡◌};
 
 use crate::option_error::{OptionError, OptionErrorKind};
 use crate::option_types::check_option_types;
@@ -14,9 +14,9 @@ pub trait ResolveOptions {
     /// bytes of the pool's type for them, what linking reads of them follows the bytes, and the locations of options move to
     /// where these were set (protobuf.dev, "Custom Options").
     ///
-    /// The error is the first fault that was met. After a refusal the pool is as it was.
+    /// The error is the first fault that was met. After a refusal the pool is as it was; the types stay in any case.
     fn resolve_options(&mut self, alloc: Global, first: u32) -> Result<(), OptionError>
-        ensures { OnErr result (self.new ≡ self.old) };
+        ensures { self.new ≡ self.old };
 }
 
 impl ResolveOptions for DescriptorPool {

@@ -10,10 +10,11 @@ use Rattle.reflect_scalar.specs.Singles.{scalar_view}
 use Rattle.reflect_dynamic.specs.Merging.{IsBody, run_records}
 use Rattle.reflect_dynamic.specs.declared.value.Value.{the_lemmas}
 use Rattle.reflect_dynamic.proofs.Appending.{appends_value, appends_row, appends_more, list_done}
-use Rattle.reflect_dynamic.proofs.Keeping.{keeps_declared, field_declared, kept_if_read, left_if_declared}
+use Rattle.reflect_dynamic.proofs.Choosing.{makes_room}
+use Rattle.reflect_dynamic.proofs.Keeping.{kept_if_read, left_if_declared}
 use Rattle.reflect_dynamic.proofs.Kept.{no_longer}
 use Rattle.reflect_dynamic.proofs.Running.{delimited_value, same_value, run_if_read, group_if_read, run_more, run_done, run_behind, group_ends}
-use Rattle.reflect_dynamic.proofs.Sparing.{fields_run, extensions_same, merges_more, merges_kept, merges_extension}
+use Rattle.reflect_dynamic.proofs.Sparing.{merges_none, merges_more, merges_field, merges_kept, merges_extension}
 use Rattle.reflect_dynamic.proofs.Taking.{items_of_slot, message_leaves, list_leaves, single_leaves}
 use Rattle.reflect_dynamic.proofs.decode.+merge.Goals as goal
 
@@ -163,15 +164,13 @@ merge_record-returns-in-Some-clause-read t c =
     let raw = c.args.raw in
     let type = c.args.descriptor in
     let run = c.in_ok-rest.ensures.read in
-    let field = c.in-Some.field in
-    let is = field_declared type field raw.key.number c.in-Some.ensures.message c.in-Some.ensures.number in (
+    let found = c.in-Some in
+    let room = c.in_ok-make_room.ensures in
+    let cleared = c.clear_siblings.ensures in
+    let made = makes_room found.field _ _ room.first room.stays room.others in (
       run.0,
       run.1,
-      record {
-        fields = fields_run type field _ _ _ raw.key.number run.0 c.in-Some.ensures.message c.in-Some.ensures.number c.in_ok-rest.ensures.others c.clear_siblings.ensures.fields;
-        extensions = extensions_same _ _ (run_records raw.key.number run.0) c.clear_siblings.ensures.extensions;
-        unknown = keeps_declared type _ _ raw.key.number run.0 (ap undeclared c.clear_siblings.ensures.unknown) is;
-      },
+      merges_field type found.field found.ensures.owns raw.key.number found.ensures.number _ _ _ _ run.0 made c.in_ok-rest.ensures.others run.2 cleared.unsets (cleared.chooses room.room) cleared.extensions (ap undeclared cleared.unknown),
     )
 
 pub merge_record-returns-in-Some-declared_extension-clause-read : goal.merge_record-returns-in-Some-declared_extension-clause-read
@@ -179,14 +178,14 @@ merge_record-returns-in-Some-declared_extension-clause-read t c =
     let raw = c.args.raw in
     let found = c.in-Some-declared_extension in
     let merged = c.merge_field-in-Some-declared_extension in
-    let kept = left_if_declared c.args.descriptor raw.levels raw.key raw.bytes.now _ _ _ merged.result refl (inr (found.extension, found.ensures.extends, found.ensures.number)) merged.ensures.read in
-    merges_extension c.args.descriptor raw.levels raw.key raw.bytes.now _ _ merged.result refl merged.ensures.others kept
+    let kept = left_if_declared c.args.descriptor raw.levels raw.key raw.bytes.now _ _ _ merged.result refl (inr (found.extension, found.ensures.owns, found.ensures.number)) merged.ensures.read in
+    merges_extension c.args.descriptor raw.levels raw.key raw.bytes.now _ _ merged.result c.in_default.ensures.none refl refl merged.ensures.others kept
 
 pub merge_record-returns-clause-read : goal.merge_record-returns-clause-read
 merge_record-returns-clause-read t c =
     let raw = c.args.raw in
     let kept = kept_if_read c.args.descriptor raw.levels raw.key raw.bytes.now _ _ c.keep_unknown.result c.keep_unknown.ensures.kept in
-    merges_kept c.args.descriptor raw.levels raw.key raw.bytes.now _ _ c.keep_unknown.result refl refl kept
+    merges_kept c.args.descriptor raw.levels raw.key raw.bytes.now _ _ c.keep_unknown.result c.in_default.ensures.none refl refl refl kept
 
 pub merge_records-records-preserved : goal.merge_records-records-preserved
 merge_records-records-preserved t c =
@@ -204,3 +203,11 @@ merge_records-records-preserved t c =
       inv.3,
       omega (arith, key, behind, so_far),
     )
+
+pub merge_records-records-init : goal.merge_records-records-init
+merge_records-records-init t c = ([], ([], refl, refl), merges_none c.args.descriptor _, refl, omega arith)
+
+pub merge_body-returns-then-is_none-clause-read : goal.merge_body-returns-then-is_none-clause-read
+merge_body-returns-then-is_none-clause-read t c =
+    let none : c.args.group ≡ None = search rules in
+    ([], ([], subst (λ g. IsBody g c.args.levels [] []) (sym none) refl, refl), merges_none _ _)

@@ -1,10 +1,14 @@
 use Rattle.std.proofs.Common.{◌≡◌, ◌∙◌, ap}
 use Rattle.std.proofs.Math.Seq.{map-set_same}
-use Rattle.reflect_index.specs.Views.{file_of, text_of}
+use Rattle.reflect_index.specs.Views.{file_of, places_of}
 use Rattle.reflect_index.proofs.settle.settle_location.Goals as goal
 
-pub returns-then-file-len : goal.returns-then-file-len
-returns-then-file-len c =
+pub returns-then-file-len-clause-files : goal.returns-then-file-len-clause-files
+returns-then-file-len-clause-files c =
     let was = c.index_mut.result.now in
-    let named : file_of (record { «record» = c.move_location.new.file; declared = was.declared }) ≡ file_of was = λ i. record { name = text_of (c.move_location.ensures i) } in
-    map-set_same file_of c.args.files.now.items c.args.file (record { «record» = c.move_location.new.file; declared = was.declared }) was (named ∙ ap file_of c.index_mut.ensures.value)
+    map-set_same file_of c.args.files.now.items c.args.file (record { «record» = c.move_location.new.file; declared = was.declared }) was (c.move_location.ensures ∙ ap file_of c.index_mut.ensures.value)
+
+pub returns-then-file-len-clause-declared : goal.returns-then-file-len-clause-declared
+returns-then-file-len-clause-declared c =
+    let was = c.index_mut.result.now in
+    map-set_same places_of c.args.files.now.items c.args.file (record { «record» = c.move_location.new.file; declared = was.declared }) was (ap places_of c.index_mut.ensures.value)

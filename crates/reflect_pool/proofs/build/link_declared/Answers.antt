@@ -1,5 +1,10 @@
-use Rattle.std.proofs.Common.{◌≡◌, ◌∙◌, ◌++◌, [], List, inl, Result, Ok, Err, IfErr, OnOk, is_ok, map, ap, sym, subst, rules, of_calls}
+use Rattle.std.proofs.Common.{refl, length, ◌≡◌, ◌∙◌, ◌++◌, [], List, inl, Result, Ok, Err, IfErr, OnOk, is_ok, map, ap, sym, subst, rules, of_calls}
+use Rattle.std.proofs.Math.ListN.{length-map}
 use Rattle.std.proofs.lemmas.Result.{err_from_is_err_and}
+use Rattle.reflect_index.proofs.Known.{none_right}
+use Rattle.reflect_passes.specs.Extensions.{numbers_of, with_numbers}
+use Rattle.reflect_pool.specs.Linked.{AreNumbered, key_of}
+use Rattle.reflect_pool.proofs.Numbered.{keys_behind, numbered_more, stored_key}
 use Rattle.reflect_names.specs.Faults.{list_of, place_at}
 use Rattle.reflect_passes.specs.Errors.{Refuses, faults_of}
 use Rattle.reflect_passes.specs.NumberFaults.{NumberFaults, doubled}
@@ -9,7 +14,7 @@ use Rattle.reflect_pool.proofs.Accepting.{added_behind, faultless}
 use Rattle.reflect_pool.proofs.Refused.{mapped, before_mapped, mapped_error, types_with, types_of, means_of, refused_numbers, refused_extensions}
 use Rattle.reflect_walk.specs.Batches.{batch_declarations}
 use Rattle.reflect_index.specs.Names.{FullName, messages, enums, extensions, services, with_names}
-use Rattle.reflect_index.specs.Views.{file_of}
+use Rattle.reflect_index.specs.Views.{file_of, extension_of}
 use Rattle.reflect_index.specs.DraftNames.{stored_message_name, stored_enum_name, stored_extension_name, stored_service_name}
 use Rattle.reflect_pool.proofs.Pooled.{map-append}
 use Rattle.reflect_pool.proofs.build.link_declared.Goals as goal
@@ -60,6 +65,23 @@ returns-clause-services c =
     let more = mapped _ _ c.with_records.result c.map_err-3.result c.map_err-3.ensures.cases c.with_records.ensures.services c.in_ok-more.more c.in_ok-more.was in
     on_mapped _ _ c.add.result c.map_err-4.result c.map_err-4.ensures.variant
     (λ a. goes_on stored_service_name c.args.tables.now.services.items c.in_ok-more.more.services.items c.add.new.tables.services.items c.in_ok-batch.batch.services.items _ a.services more (batch ∙ ap (λ l. with_names services [] (batch_declarations c.args.before c.args.first l)) same)) c.add.ensures.appended
+
+pub returns-clause-numbered : goal.returns-clause-numbered
+returns-clause-numbered c =
+    let items = c.args.tables.now.extensions.items in
+    let w = linking c.args.file_names.now c.args.names.now c.args.links.now.items c.args.tables.now c.args.extension_numbers.now c.args.before c.args.first in
+    let batch = c.in_ok-batch.batch in
+    let t = types_with w batch in
+    let f = c.new.result in
+    let keys = map key_of (map extension_of items) in
+    let count : length keys ≡ length items = length-map (map extension_of items) key_of ∙ length-map items extension_of in
+    let none = none_right (list_of f) (doubled w.numbers t (place_at f)) c.in_ok-list_extensions.ensures.ok in
+    let all = numbered_more t (place_at f) w.numbers (numbers_of c.args.extension_numbers.now) keys batch.extensions.items (λ k. refl) none c.requires.numbered in
+    let put = subst (λ g. AreNumbered g (keys ++ map stored_key batch.extensions.items)) (sym c.in_ok-list_extensions.ensures.places)
+    (subst (λ n. AreNumbered (with_numbers (numbers_of c.args.extension_numbers.now) n batch.extensions.items) (keys ++ map stored_key batch.extensions.items)) count all) in
+    let more = mapped _ _ c.with_records.result c.map_err-3.result c.map_err-3.ensures.cases c.with_records.ensures.extensions c.in_ok-more.more c.in_ok-more.was in
+    on_mapped _ _ c.add.result c.map_err-4.result c.map_err-4.ensures.variant
+    (λ a. subst (λ ks. AreNumbered (numbers_of c.list_extensions.new.numbers) ks) (sym (keys_behind items c.in_ok-more.more.extensions.items c.add.new.tables.extensions.items batch.extensions.items a.extensions more)) put) c.add.ensures.appended
 
 pub returns-in_err-check_numbers-clause-refused : goal.returns-in_err-check_numbers-clause-refused
 returns-in_err-check_numbers-clause-refused c =

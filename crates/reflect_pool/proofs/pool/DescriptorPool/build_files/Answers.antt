@@ -1,13 +1,15 @@
-use Rattle.std.proofs.Common.{rules, of_calls, arith, ◌≡◌, ◌∙◌, length}
+use Rattle.std.proofs.Common.{rules, of_calls, arith, ◌≡◌, ◌∙◌, length, map, nat_lt, subst, sym}
+use Rattle.std.proofs.Math.ListN.{length-map}
+use Rattle.std.specs.List.{filter}
 use Rattle.std.proofs.lemmas.Fn.{filter_same}
 use Rattle.std.proofs.lemmas.Grind.{common_steps}
 use Rattle.reflect_names.proofs.Entries.{err_from}
-use Rattle.reflect_index.specs.Views.{pool_of}
+use Rattle.reflect_index.specs.Views.{extension_of, pool_of}
 use Rattle.reflect_pool.specs.Linked.{CountsOf}
 use Rattle.reflect_pool.specs.Refusals.{linking, is_unknown}
 use Rattle.reflect_pool.proofs.Refused.{mapped, is_of, refused_files}
 use Rattle.reflect_pool.proofs.Accepting.{faultless_files, adds_files}
-use Rattle.reflect_pool.proofs.Named.{linked_same}
+use Rattle.reflect_pool.proofs.Named.{FirstNumbers, linked_same}
 use Rattle.reflect_pool.proofs.pool.DescriptorPool.build_files.Goals as goal
 
 pub invariant_of-self : goal.invariant_of-self
@@ -16,8 +18,14 @@ invariant_of-self c =
     let first = c.in_ok-first.first in
     let start : first ≡ length tables.files.items = grind (arith, common_steps, c.in_ok-first.ensures.cases, c.len.ensures) in
     let same : pool_of c.link-outcome.new.tables ≡ pool_of tables = err_from _ c.link-outcome.result (search rules) c.link-outcome.ensures.unchanged in
-    linked_same tables (pool_of c.link-outcome.new.tables) c.self.inside.names c.forget_names.new.names c.self.inside.file_names c.link-outcome.new.file_names c.forget_files.new.file_names
-    first start same (c.forget_names.ensures.entries ∙ c.link-outcome.ensures.kept) c.link-outcome.ensures.kept_files (c.forget_files.ensures.was_ordered, c.forget_files.ensures.entries) c.self.invariant
+    let items = c.link-outcome.new.tables.extensions.items in
+    let v = c.link-outcome.new.extension_numbers in
+    let w = c.forget_numbers.new.numbers in
+    let here : c.len-extensions.result ≡ length items = search rules in
+    let count : c.len-extensions.result ≡ length (map extension_of items) = here ∙ sym (length-map items extension_of) in
+    let few : FirstNumbers (length (map extension_of items)) v w = (c.forget_numbers.ensures.was_ordered, subst (λ n. w.entries ≡ filter (λ e. nat_lt e.1 n) v.entries) count c.forget_numbers.ensures.entries) in
+    linked_same tables (pool_of c.link-outcome.new.tables) c.self.inside.names c.forget_names.new.names c.self.inside.file_names c.link-outcome.new.file_names c.forget_files.new.file_names c.self.inside.extension_numbers v w
+    first start same (c.forget_names.ensures.entries ∙ c.link-outcome.ensures.kept) c.link-outcome.ensures.kept_files (c.forget_files.ensures.was_ordered, c.forget_files.ensures.entries) c.link-outcome.ensures.kept_numbers few c.self.invariant
 
 pub returns-then-is_err-clause-refused : goal.returns-then-is_err-clause-refused
 returns-then-is_err-clause-refused c =

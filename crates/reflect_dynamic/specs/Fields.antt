@@ -1,0 +1,31 @@
+-- What the records of a message leave in its fields.
+use Rattle.std.specs.Prelude.{◌≡◌, ◌⊎◌, ℕ, List, [], ◌∷◌, ◌++◌, map, Option, None}
+use Rattle.reflect_entries.specs.Entries.{value_at}
+use Rattle.reflect_pool.specs.FieldsLeft.{field_type}
+use Rattle.reflect_pool.specs.declared.message.MessageDescriptor.{MessageDescriptor}
+use Rattle.reflect_pool.specs.declared.field.FieldDescriptor.{FieldDescriptor}
+use Rattle.reflect_scalar.specs.FieldTypes.{field_pool}
+use Rattle.reflect_wire.specs.Records.{Payload}
+use Rattle.reflect_dynamic.specs.Declares.{Owns}
+use Rattle.reflect_dynamic.specs.Keeps.{numbered}
+use Rattle.reflect_dynamic.specs.Oneofs.{IsSibling}
+use Rattle.reflect_dynamic.specs.Taking.{Leaves}
+use Rattle.reflect_dynamic.specs.declared.value.Value.{Value}
+
+-- what stands in the records of a number
+abbrev pub payloads : ℕ → List (ℕ × Payload) → List Payload
+payloads n rs = map (λ r. r.1) (numbered n rs)
+
+-- no record is one of another member of the field's oneof
+abbrev pub NoSibling : MessageDescriptor → FieldDescriptor → List (ℕ × Payload) → Type 0
+NoSibling m f rs = (n : ℕ) → IsSibling m f n → numbered n rs ≡ []
+
+-- the field's records leave their values; the last record of another member of its oneof unsets it, and those behind it count
+abbrev pub LeavesField : MessageDescriptor → FieldDescriptor → Option Value → Option Value → List (ℕ × Payload) → Type 0
+LeavesField m f old new rs =
+    (NoSibling m f rs × Leaves (field_pool f) (field_type f) old new (payloads (field_type f).number rs))
+    ⊎ ((before behind : List (ℕ × Payload)) × (r : ℕ × Payload) × (rs ≡ before ++ r ∷ behind) × IsSibling m f r.0 × NoSibling m f behind × Leaves (field_pool f) (field_type f) None new (payloads (field_type f).number behind))
+
+-- the fields hold what the records leave where nothing stood
+abbrev pub HoldFields : MessageDescriptor → List (ℕ × Value) → List (ℕ × Payload) → Type 0
+HoldFields m held rs = (f : FieldDescriptor) → Owns m f → LeavesField m f None (value_at held (field_type f).number) rs

@@ -1,0 +1,12 @@
+use Rattle.reflect_index.specs.Types.{type_at}
+use Rattle.reflect_pool.specs.Parts.{type_of_oneof}
+use Rattle.reflect_link.specs.Records.{oneof_along}
+use Rattle.reflect_link.proofs.Along.{along}
+use Rattle.reflect_link.proofs.readers.OneofDescriptorOneofReaders.oneof_descriptor_proto.Goals as goal
+
+pub returns : goal.returns
+returns c =
+    let self = c.args.self.now in
+    along oneof_along self.message.pool.now (type_at self.message.pool.now self.message.index).file (type_of_oneof self.message.pool.now self.message.index self.index).path
+    c.path.result.now c.parent_file_descriptor_proto.result.now c.oneof_record-found.result _ c.unwrap_or.result
+    c.parent_file_descriptor_proto.ensures c.path.ensures c.oneof_record-found.ensures c.unwrap_or.ensures

@@ -1,0 +1,24 @@
+use Rattle.std.proofs.Common.{◌≡◌, subst, sym, rules, of_calls}
+use Rattle.std.proofs.lemmas.Result.{err_from_is_err_and}
+use Rattle.reflect_schema.specs.Refusals.{FilesLinked}
+use Rattle.reflect_schema.proofs.Refused.{of_link, of_options}
+use Rattle.reflect_schema.proofs.schema.Schema.add_batch.Goals as goal
+use Rattle.reflect_schema.proofs.schema.Schema.add_batch.Goals.{then-is_err, else-is_err}
+
+pub returns-in_err-build_files-clause-err : goal.returns-in_err-build_files-clause-err
+returns-in_err-build_files-clause-err c =
+    let p = err_from_is_err_and c.from_residual.result c.from_residual.ensures.1 in
+    rw p.1 (of_link c.args.self.now.pool c.args.files.items c.copy_typed_options.new.files.items c.in_err-build_files.field-0.0 _ c.copy_typed_options.ensures c.in_err-build_files.ensures.refused p.2)
+
+pub returns-in_err-settled-clause-err : goal.returns-in_err-settled-clause-err
+returns-in_err-settled-clause-err c =
+    let r = c.from_residual-in_err-settled in
+    let p = err_from_is_err_and r.result r.ensures.1 in
+    let linked : FilesLinked c.args.self.now.pool c.args.files.items c.build_files.new.self = (c.copy_typed_options.new.files.items, c.copy_typed_options.ensures, (c.in_ok-build_files.ensures.added, c.in_ok-build_files.ensures.accepted)) in
+    rw p.1 (of_options c.args.self.now.pool c.args.files.items c.build_files.new.self c.in_err-settled.field-0.0 _ linked p.2)
+
+pub returns-clause-linked : goal.returns-clause-linked
+returns-clause-linked c =
+    let linked : FilesLinked c.args.self.now.pool c.args.files.items c.build_files.new.self = (c.copy_typed_options.new.files.items, c.copy_typed_options.ensures, (c.in_ok-build_files.ensures.added, c.in_ok-build_files.ensures.accepted)) in
+    let same : c.if-is_err.self.pool ≡ c.build_files.new.self = elim c.if-is_err.branch [ then-is_err w ↦ search (rules, of_calls) | else-is_err w ↦ search (rules, of_calls) ] in
+    subst (FilesLinked c.args.self.now.pool c.args.files.items) (sym same) linked
