@@ -13,8 +13,6 @@ mod literal;
 mod number;
 mod quoted;
 mod span;
-#[cfg(test)]
-mod tests;
 pub mod token;
 
 pub use comments::Comments;

@@ -10,13 +10,9 @@ mod file;
 mod message;
 mod names;
 mod option;
-#[cfg(test)]
-mod place_tests;
 mod range;
 mod service;
 mod source;
-#[cfg(test)]
-mod tests;
 mod tokens;
 
 pub use error::{ParseError, Refusal};

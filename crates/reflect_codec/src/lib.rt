@@ -17,6 +17,3 @@ mod source_info;
 
 pub use backward::Backward;
 pub use codec::{decode_file, decode_set, encode_file, encode_set};
-
-#[cfg(test)]
-mod tests;

@@ -24,6 +24,3 @@ pub use reflect_pool::{
     MessageDescriptor, MessageExtensions, OneofDescriptor, OneofFields, Oneofs, Syntax,
 };
 pub use service::{MethodDescriptor, Methods, ServiceDescriptor, Services};
-
-#[cfg(test)]
-mod tests;

@@ -22,6 +22,3 @@ pub use reflect_scope::{
 };
 pub use reflect_walk::{Offsets, VisitError, Visitor, visit, visit_all};
 pub use resolve_visitor::{Reference, ResolveVisitor};
-
-#[cfg(test)]
-mod tests;

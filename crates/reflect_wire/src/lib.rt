@@ -16,6 +16,3 @@ pub use write::{
     delimited_len, keep_written, key_len, push_delimited, push_fixed32, push_fixed64, push_key,
     push_varint, reserve_room, varint_len,
 };
-
-#[cfg(test)]
-mod tests;

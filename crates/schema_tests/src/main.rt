@@ -1,16 +1,9 @@
-//! Tests that cross crates, and a program that replays cases: each line of the files that it is given is a case, and it prints
-//! those that do not hold and how many of each kind do.
+//! A program that replays cases: each line of the files that it is given is a case, and it prints those that do not hold and
+//! how many of each kind do.
 //!
 //! Answers are worked by hand from the published encoding, or come from `protoc` or from an independent model.
 #![tactic(auto)]
 
-#[cfg(test)]
-mod calls;
-mod memory_files;
-#[cfg(test)]
-mod messages;
-#[cfg(test)]
-mod programs;
 mod refusals;
 mod replay;
 mod single_cases;

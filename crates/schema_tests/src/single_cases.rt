@@ -1,11 +1,11 @@
 //! Cases that need no schema: sources, records of no type, runs of the program.
 
-use crate::memory_files::MemoryFiles;
 use crate::refusals::same_source_refusal;
 use case_json::json::{
     bytes, expected, items, number, same_bytes, text, truth, wanted, wanted_refusal,
 };
 use case_json::{Difference, records};
+use memory_files::MemoryFiles;
 use protox_parse::parse;
 use reflect_schema::run;
 use reflect_wire::UnknownFieldSet;

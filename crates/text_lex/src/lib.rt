@@ -9,6 +9,3 @@ mod token;
 pub use lexer::{LexError, Lexeme, Lexer};
 pub use protox_lex::Span;
 pub use token::{Int, Radix, Token};
-
-#[cfg(test)]
-mod tests;

@@ -1,10 +1,12 @@
-use crate::{
-    DescriptorErrorKind, Faults, Label, Links, NameVisitor, Offsets, ResolveVisitor, SourceSpan,
-    VisitError, links_of, name_files,
-};
+//! Which names a batch declares, what its references mean, and which faults are listed where.
+
 use descriptor_records::{
     DescriptorProto, EnumDescriptorProto, EnumValueDescriptorProto, FieldDescriptorProto,
     FileDescriptorProto, Location, SourceCodeInfo,
+};
+use reflect_names::{
+    DescriptorErrorKind, Faults, Label, Links, NameVisitor, Offsets, ResolveVisitor, SourceSpan,
+    VisitError, links_of, name_files,
 };
 use std::alloc::{AllocError, Global};
 use std::collections::BTreeMap;

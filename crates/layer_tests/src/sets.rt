@@ -1,5 +1,7 @@
-use crate::{decode_file, decode_set, encode_file, encode_set};
+//! Descriptor records and sets are read from bytes and written.
+
 use descriptor_records::{DoubleValue, FileDescriptorProto};
+use reflect_codec::{decode_file, decode_set, encode_file, encode_set};
 use reflect_wire::WireError;
 use std::alloc::Global;
 

@@ -1,4 +1,6 @@
-use crate::{Comments, Int, LexErrorKind, Lexer, LineResolver, Sign, Span, Token};
+//! The tokens of protobuf sources, their places and faults.
+
+use protox_lex::{Comments, Int, LexErrorKind, Lexer, LineResolver, Sign, Span, Token};
 use std::alloc::Global;
 use std::test::Fail;
 

@@ -1,7 +1,9 @@
-use crate::{LexError, Lexer, Token};
+//! The tokens of the text format, their places and faults.
+
 use std::alloc::Global;
 use std::fmt;
 use std::test::Fail;
+use text_lex::{LexError, Lexer, Token};
 
 /// What kind of token it is, in a letter.
 fn mark(token: Token<'_>) -> &'static str {

@@ -1,4 +1,6 @@
-use crate::{
+//! Wire records are read and written as "Encoding" at protobuf.dev says.
+
+use reflect_wire::{
     UnknownField, UnknownFieldSet, UnknownFieldValue, WireError, WireType, key_at, varint_at,
 };
 use std::alloc::Global;

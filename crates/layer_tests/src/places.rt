@@ -1,7 +1,7 @@
 //! Where declarations stand, and whose comments are whose.
 
-use crate::parse;
 use descriptor_records::Location;
+use protox_parse::parse;
 use std::alloc::Global;
 use std::test::Fail;
 

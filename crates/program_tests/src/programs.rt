@@ -1,6 +1,6 @@
 //! The program where its streams fail, and its help.
 
-use crate::memory_files::{FailingReader, FailingWriter, MemoryFiles};
+use memory_files::{FailingReader, FailingWriter, MemoryFiles};
 use reflect_schema::run;
 use std::alloc::Global;
 use std::test::Fail;

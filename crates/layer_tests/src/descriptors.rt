@@ -1,9 +1,11 @@
-use crate::{
-    DescriptorPool, Edit, EnumReaders, FieldReaders, InFile, Kind, MessageReaders, PoolReaders,
-};
+//! A pool is built from records, and its descriptors answer.
+
 use descriptor_records::{
     DescriptorProto, EnumDescriptorProto, EnumValueDescriptorProto, ExtensionRange,
     FieldDescriptorProto, FieldType, FileDescriptorProto, Label, OneofDescriptorProto, Options,
+};
+use reflect_link::{
+    DescriptorPool, Edit, EnumReaders, FieldReaders, InFile, Kind, MessageReaders, PoolReaders,
 };
 use std::alloc::{AllocError, Global};
 use std::test::Fail;

@@ -1,5 +1,7 @@
-use crate::parse;
+//! Sources are read as the records that they describe, or refused with what is wrong.
+
 use descriptor_records::{FieldDescriptorProto, FileDescriptorProto};
+use protox_parse::parse;
 use std::alloc::Global;
 use std::test::Fail;
 

@@ -1,10 +1,9 @@
 //! Files, inputs and outputs in memory.
+#![tactic(auto)]
 
 use reflect_schema::{ReadFault, SourceFiles};
 use std::alloc::Global;
-#[cfg(test)]
 use std::io;
-#[cfg(test)]
 use std::io::{Read, Write};
 
 /// Files by their paths.
@@ -25,14 +24,12 @@ impl<'a> SourceFiles for MemoryFiles<'a> {
 }
 
 /// A reader that gives a byte at a call, and fails once it has answered so many calls.
-#[cfg(test)]
 #[derive(Drop)]
 pub struct FailingReader<'a> {
     pub bytes: &'a [u8],
     pub good_calls: u32,
 }
 
-#[cfg(test)]
 impl<'a> Read for FailingReader<'a> {
     fn read(&mut self, buffer: &mut [u8]) -> io::Result<usize> {
         if self.good_calls == 0 {
@@ -50,7 +47,6 @@ impl<'a> Read for FailingReader<'a> {
 }
 
 /// A writer that takes a byte at a call, and fails once it has answered so many calls; it counts those after that.
-#[cfg(test)]
 #[derive(Drop)]
 pub struct FailingWriter {
     pub good_calls: u32,
@@ -58,7 +54,6 @@ pub struct FailingWriter {
     pub calls_after_failure: u32,
 }
 
-#[cfg(test)]
 impl FailingWriter {
     pub fn new(good_calls: u32) -> FailingWriter {
         FailingWriter {
@@ -82,7 +77,6 @@ impl FailingWriter {
     }
 }
 
-#[cfg(test)]
 impl Write for FailingWriter {
     fn write(&mut self, bytes: &[u8]) -> io::Result<usize> {
         self.answer()?;
