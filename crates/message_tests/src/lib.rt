@@ -4,4 +4,12 @@
 #![tactic(auto)]
 
 #[cfg(test)]
+mod fields;
+#[cfg(test)]
 mod messages;
+#[cfg(test)]
+mod options;
+#[cfg(test)]
+mod pools;
+#[cfg(test)]
+mod values;

@@ -1,27 +1,16 @@
 //! Messages and their bytes, by types that come from source text. The bytes are worked by hand from "Encoding" at
 //! protobuf.dev.
 
-use descriptor_records::{FileDescriptorProto, Options};
+use crate::pools::{linked, message};
+use descriptor_records::Options;
 use protox_parse::parse;
 use reflect_bytes::PoolExt;
 use reflect_dynamic::{DynamicMessage, MapKey, ReadOptions, SetFieldError, Value};
-use reflect_link::{DescriptorPool, MessageDescriptor};
+use reflect_link::DescriptorPool;
 use reflect_wire::{WireError, push_delimited};
 use std::alloc::Global;
 use std::collections::BTreeMap;
 use std::test::Fail;
-
-fn linked(alloc: Global, source: &str) -> Result<DescriptorPool, Fail> {
-    let mut files: Vec<FileDescriptorProto> = Vec::new(alloc);
-    files.push(parse(alloc, "a.proto", source)?)?;
-    let mut pool = DescriptorPool::new(alloc);
-    pool.build_files(alloc, files)?;
-    Ok(pool)
-}
-
-fn message<'p>(pool: &'p DescriptorPool, name: &str) -> Result<MessageDescriptor<'p>, Fail> {
-    Ok(pool.get_message_by_name(name).ok_or("no such message")?)
-}
 
 /// The one form of what the bytes spell, as hexadecimal text.
 fn recoded(alloc: Global, source: &str, bytes: &[u8]) -> Result<String, Fail> {
