@@ -16,7 +16,7 @@ known_on : (known : Known) (xs ys : List Declaration) → known_behind known (xs
 known_on known [] ys = refl
 known_on known (x ∷ xs) ys = known_on (known_after known x) xs ys
 
-faults_on : (at : ℕ → Places) (files : List ℕ → Option ℕ) (known : Known) (xs ys : List Declaration)
+pub faults_on : (at : ℕ → Places) (files : List ℕ → Option ℕ) (known : Known) (xs ys : List Declaration)
     → faults_along at files known (xs ++ ys) ≡ faults_along at files known xs ++ faults_along at files (known_behind known xs) ys
 faults_on at files known [] ys = refl
 faults_on at files known (x ∷ xs) ys =

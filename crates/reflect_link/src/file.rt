@@ -1,6 +1,8 @@
-ghost use Rattle.std.specs.Prelude.{◌≡◌, ◌<◌, length, map, IfSome, IsSome};
+ghost use Rattle.std.specs.Prelude.{◌≡◌, ◌<◌, All, length, map, IfSome, IsSome};
+ghost use Rattle.std.proofs.Props.{props};
 ghost use Rattle.reflect_index.specs.Types.{declared_at, type_at, enum_at, extension_at, service_at};
 ghost use Rattle.reflect_index.specs.Views.{file_of, record_file, text_of};
+ghost use Rattle.reflect_pool.specs.Imports.{import_name, imported, imported_publicly, place_named};
 ghost use Rattle.reflect_link.specs.FileTypes.{file_type_at};
 
 use crate::lists::{Enums, Extensions, Messages};
@@ -18,7 +20,7 @@ pub struct FileDescriptor<'p> {
 }
 
 impl<'p> FileDescriptor<'p> {
-    ghost use Rattle.reflect_link.specs.ListsLeft.{messages_left, enums_left, extensions_left, services_left};
+    ghost use Rattle.reflect_link.specs.ListsLeft.{messages_left, enums_left, extensions_left, services_left, files_left};
 
     /// The file at a place of a pool.
     pub fn new(pool: &'p DescriptorPool, index: u32) -> FileDescriptor<'p>
@@ -78,16 +80,22 @@ impl<'p> FileDescriptor<'p> {
         &self.stored().record
     }
 
-    /// The imported files, in the order of the imports.
-    pub fn dependencies(&self) -> Files<'p> {
+    /// The imported files, in the order of the imports; none is left out.
+    pub fn dependencies(&self) -> Files<'p>
+        ensures files { files_left result ≡ map (file_type_at self.now.pool.now) (imported (place_named self.now.pool.now) (file_type_at self.now.pool.now self.now.index)) }
+        ensures names { map (λ f. f.name) (files_left result) ≡ (file_type_at self.now.pool.now self.now.index).imports }
+    {
         Files {
             pool: self.pool,
             places: self.pool.imports_of(self.index),
         }
     }
 
-    /// The publicly imported files, in the order in which they are named.
-    pub fn public_dependencies(&self) -> Files<'p> {
+    /// The publicly imported files, in the order in which they are named; none is left out.
+    pub fn public_dependencies(&self) -> Files<'p>
+        ensures files { files_left result ≡ map (file_type_at self.now.pool.now) (imported_publicly (place_named self.now.pool.now) (file_type_at self.now.pool.now self.now.index)) }
+        ensures names { map (λ f. f.name) (files_left result) ≡ map (import_name (file_type_at self.now.pool.now self.now.index).imports) (file_type_at self.now.pool.now self.now.index).public_imports }
+    {
         Files {
             pool: self.pool,
             places: self.pool.public_imports_of(self.index),
@@ -159,14 +167,19 @@ fn text(text: &Option<String>) -> &str
 pub struct Files<'p> {
     pool: &'p DescriptorPool,
     places: &'p [u32],
+    ghost inside: { All (λ place. place < length pool.now.files) places.now } by { Prim.hlevel props },
 }
 
 impl<'p> Iterator for Files<'p> {
-    ghost use Rattle.std.specs.Iterator.{at_most};
+    ghost use Rattle.std.specs.Iterator.{YieldsFirstBy, item_count};
+    ghost use Rattle.reflect_link.specs.FilesLeft.{file_type};
+    ghost use Rattle.reflect_link.specs.ListsLeft.{files_left};
 
     type Item = FileDescriptor<'p>;
 
-    ghost remaining = { λ s. at_most (length s.places.now) };
+    ghost next_gives = { YieldsFirstBy file_type files_left };
+
+    ghost remaining = { item_count files_left };
 
     fn next(&mut self) -> Option<FileDescriptor<'p>> {
         let (place, others) = self.places.split_first()?;

@@ -1,6 +1,6 @@
 //! The entries of a batch of files, and what they import.
 
-ghost use Rattle.std.specs.Prelude.{◌≡◌, ◌++◌, [], map, OnOk, IfOk};
+ghost use Rattle.std.specs.Prelude.{◌≡◌, ◌++◌, [], length, map, take, OnOk, IfOk};
 ghost use Rattle.reflect_walk.specs.Batches.{batch_declarations};
 ghost use Rattle.reflect_names.specs.FileNames.{indexes_of};
 ghost use Rattle.reflect_names.specs.ImportedFiles.{link_view, links_to};
@@ -39,14 +39,16 @@ pub fn index_files(
     visitor.into_batch(alloc)
 }
 
-/// Adds what the new files import, by the indexes that the map has for the names. A refusal may leave some of it.
+/// Adds what the new files import, by the indexes that the map has for the names, behind what is there. A refusal may leave
+/// some of it.
 pub fn add_links(
     alloc: Global,
     file_names: &BTreeMap<String, u32>,
     links: &mut Vec<Links>,
     files: &[FileDescriptorProto],
 ) -> Result<(), VisitError>
-    ensures { OnOk result (map link_view links.new.items ≡ map link_view links.old.items ++ map (links_to (indexes_of file_names.now)) files.now) }
+    ensures added { OnOk result (map link_view links.new.items ≡ map link_view links.old.items ++ map (links_to (indexes_of file_names.now)) files.now) }
+    ensures kept { take (length links.old.items) links.new.items ≡ links.old.items }
 {
     'turns: for file in files {
         let link = links_of(alloc, file_names, file)?;

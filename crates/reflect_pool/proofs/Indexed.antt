@@ -1,12 +1,13 @@
 -- The names of a pool's files, as these come and go.
-use Rattle.std.proofs.Common.{◌≡◌, ℕ, zero, suc, ◌<◌, ◌+◌, List, [], ◌∷◌, ◌++◌, Bool, true, false, cond, nat_lt, Option, Some, None, is_some, String, Global, string_bytes, bytes_eq, map, take, length, slice_get, get_or, append_assoc, ⊎_elim, ap, sym, subst, ◌∙◌, arith, refl}
+use Rattle.std.proofs.Common.{◌≡◌, ℕ, zero, suc, ◌<◌, ◌≤◌, ◌+◌, List, [], ◌∷◌, ◌++◌, Bool, true, false, cond, nat_lt, Option, Some, None, is_some, String, Global, string_bytes, bytes_eq, map, take, length, slice_get, get_or, append_assoc, ⊎_elim, ap, sym, subst, ◌∙◌, arith, refl}
 use Rattle.std.proofs.Math.ListN.{length-map, length-append}
 use Rattle.std.proofs.lemmas.List as lists
 use Rattle.std.proofs.lemmas.List.{append-nil, take-map}
+use Rattle.std.proofs.lemmas.List.Sums.{fails_before_first, passes_at_first}
 use Rattle.std.proofs.lemmas.Map.Entries.{option_filter}
 use Rattle.std.proofs.lemmas.Option.{same_Some, slice_get_within, slice_get-get_or, get_or_from_slice_get}
 use Rattle.std.specs.Bool.{Decides}
-use Rattle.std.specs.List.{Contains}
+use Rattle.std.specs.List.{Contains, position, position_or_len}
 use Rattle.std.specs.Cmp.Lexicographic.{bytes_decides}
 use Rattle.std.specs.Map.{update}
 use Rattle.descriptor_records.specs.declared.file.FileDescriptorProto.{FileDescriptorProto}
@@ -19,10 +20,8 @@ use Rattle.reflect_index.specs.Types.{FileType}
 use Rattle.reflect_index.specs.Views.{record_file, text_of}
 use Rattle.reflect_index.proofs.Founds.{no_some, last, front, either}
 use Rattle.reflect_index.proofs.Known.{none_left, none_right}
+use Rattle.reflect_pool.specs.Imports.{names_of_files as names}
 use Rattle.reflect_pool.specs.Linked.{AreIndexed}
-
-abbrev names : List FileType → List (List ℕ)
-names xs = map (λ x. x.name) xs
 
 -- what is left of an index where it is below the mark
 pub low_some : (mark : ℕ) (o : Option ℕ) (i : ℕ) → (option_filter (λ k. nat_lt k mark) o ≡ Some i → (o ≡ Some i) × (i < mark)) × (o ≡ Some i → i < mark → option_filter (λ k. nat_lt k mark) o ≡ Some i)
@@ -127,6 +126,28 @@ module _ (indexes : Indexes) (xs : List FileType) (are : AreIndexed indexes (nam
               absurd (omega (arith, one, less)),
         ),
       )
+
+  -- the index of a name is its first place
+  pub at_first : indexes t ≡ position (bytes_eq t) (names xs)
+  at_first = by (nat_lt (position_or_len (bytes_eq t) (names xs)) (length (names xs))) refl where
+    first : ℕ
+    first = position_or_len (bytes_eq t) (names xs)
+
+    none : (o : Option ℕ) → length (names xs) ≤ first → indexes t ≡ o → o ≡ None
+    none None past is = refl
+    none (Some i) past is =
+        let at = (are t i).0 is in
+        let long = slice_get_within (names xs) i t at in
+        let fails = fails_before_first (bytes_eq t) (names xs) i t (omega (arith, long, past)) in
+        let same = (bytes_decides t t).1 refl in
+        absurd (let no = sym (ap (bytes_eq t) (get_or_from_slice_get (names xs) i t t at) ∙ same) ∙ fails in cc)
+
+    by : (b : Bool) → nat_lt first (length (names xs)) ≡ b → indexes t ≡ cond (nat_lt first (length (names xs))) (Some first) None
+    by true is =
+        let lt : first < length (names xs) = grind (arith, is) in
+        let same = (bytes_decides t (get_or (names xs) first t)).0 (passes_at_first (bytes_eq t) (names xs) t lt) in
+        rw is ((are t first).1 (slice_get-get_or (names xs) first t lt ∙ ap Some (sym same)))
+    by false is = let past : length (names xs) ≤ first = grind (arith, is) in rw is (none (indexes t) past refl)
 
   pub has_name : (r : Bool) → r ≡ is_some (indexes t) → Decides r (Contains (names xs) t)
   has_name r e = by (indexes t) refl where

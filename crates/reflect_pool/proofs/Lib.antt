@@ -4,6 +4,8 @@ pub mod Bracketed
 pub mod Dotless
 pub mod FoundTypes
 pub mod Grown
+pub mod Imported
+pub mod ImportsAt
 pub mod Indexed
 pub mod Lookups
 pub mod Named

@@ -12,11 +12,14 @@ use Rattle.std.proofs.lemmas.Cmp.{nat_list_cmp_total}
 use Rattle.std.proofs.lemmas.Map.Entries.{lookup-filter-values, option_filter}
 use Rattle.std.proofs.lemmas.Map.Keys.{IsDistinct-from_sorted}
 use Rattle.reflect_scope.specs.declared.definition.Definition.{Definition}
+use Rattle.reflect_scope.specs.declared.seen.Links.{Links}
 use Rattle.reflect_names.specs.FileNames.{indexes_of, KeepsIndexes}
 use Rattle.reflect_names.specs.Known.{Known, known_of, below, AllBelow}
-use Rattle.reflect_index.specs.Types.{PoolType, ArePooled}
+use Rattle.reflect_index.specs.Types.{PoolType}
 use Rattle.reflect_passes.specs.Extensions.{KeyType, KeepsNumbers, key_cmp, numbers_of}
+use Rattle.reflect_pool.specs.Imports.{StandsAlone}
 use Rattle.reflect_pool.specs.Linked.{IsLinked, key_of}
+use Rattle.reflect_pool.proofs.Imported.{links_back, links_cut}
 use Rattle.reflect_pool.proofs.Numbered.{numbered_back, numbered_cut, places_kept}
 use Rattle.reflect_pool.proofs.Indexed.{indexed_cut, indexed_back}
 use Rattle.std.proofs.Math.ListN.{length-map}
@@ -106,31 +109,38 @@ FirstFiles mark m n = IsOrdered string_cmp m × (n.entries ≡ filter (λ e. nat
 abbrev pub FirstNumbers : ℕ → BTreeMap KeyType ℕ → BTreeMap KeyType ℕ → Type 0
 FirstNumbers count m n = IsOrdered key_cmp m × (n.entries ≡ filter (λ e. nat_lt e.1 count) m.entries)
 
-pub linked_cut : (p q : PoolType) (mark : ℕ) (m n : BTreeMap (String Global) Definition) (f g : BTreeMap (String Global) ℕ) (u v : BTreeMap KeyType ℕ) → q ≡ cut_to p mark → IsOrdered string_cmp m → n.entries ≡ below mark m.entries → FirstFiles mark f g
-    → FirstNumbers (length q.extensions) u v → IsLinked p m f u → ArePooled (cut_to p mark) → IsLinked q n g v
-linked_cut p q mark m n f g u v e up entries first numbers linked pooled =
+pub linked_cut : (p q : PoolType) (mark : ℕ) (m n : BTreeMap (String Global) Definition) (f g : BTreeMap (String Global) ℕ) (u v : BTreeMap KeyType ℕ) (ls ks : List Links) → q ≡ cut_to p mark → IsOrdered string_cmp m → n.entries ≡ below mark m.entries → FirstFiles mark f g
+    → FirstNumbers (length q.extensions) u v → ks ≡ take mark ls → IsLinked p m f u ls → StandsAlone (cut_to p mark) → IsLinked q n g v ks
+linked_cut p q mark m n f g u v ls ks e up entries first numbers links linked alone =
     let few = subst (λ (r : PoolType). FirstNumbers (length r.extensions) u v) e numbers in
-    subst (λ r. IsLinked r n g v) (sym e) (record {
-      pooled = pooled;
+    let indexed = indexed_cut mark (indexes_of f) (indexes_of g) p.files (text_kept (λ i. nat_lt i mark) f g first.0 first.1) linked.files in
+    subst (λ r. IsLinked r n g v ks) (sym e) (record {
+      pooled = alone.pooled;
       named = named_cut p mark (known_of m) (known_of n) (known_below mark m n up entries) linked.named;
       below = subst (AllBelow (length (take mark p.files))) (sym entries) (below_cut mark (length p.files) (length (take mark p.files)) m.entries (take_long mark p.files) linked.below);
-      files = indexed_cut mark (indexes_of f) (indexes_of g) p.files (text_kept (λ i. nat_lt i mark) f g first.0 first.1) linked.files;
+      files = indexed;
       numbers = numbered_cut mark (numbers_of u) (numbers_of v) p.extensions (linked.named.in_order extensions) (places_kept (length (cut_to p mark).extensions) u v few.0 few.1) linked.numbers;
+      imports = alone.imports;
+      to_imports = links_cut mark (indexes_of f) (indexes_of g) p.files ls ks linked.files indexed alone.imports links linked.to_imports;
     })
 
 -- a refusal, behind which the names of the files that are there are left
-pub linked_same : (t : Tables) (q : PoolType) (m n : BTreeMap (String Global) Definition) (f g h : BTreeMap (String Global) ℕ) (u v w : BTreeMap KeyType ℕ) (mark : ℕ) → mark ≡ length t.files.items → q ≡ pool_of t → n.entries ≡ below mark m.entries
-    → KeepsIndexes mark (indexes_of f) (indexes_of g) → FirstFiles mark g h → KeepsNumbers (length t.extensions.items) (numbers_of u) (numbers_of v) → FirstNumbers (length q.extensions) v w → IsLinked (pool_of t) m f u → IsLinked q n h w
-linked_same t q m n f g h u v w mark start e entries keeps first kept numbers linked =
+pub linked_same : (t : Tables) (q : PoolType) (m n : BTreeMap (String Global) Definition) (f g h : BTreeMap (String Global) ℕ) (u v w : BTreeMap KeyType ℕ) (ls mid ks : List Links) (mark : ℕ) → mark ≡ length t.files.items → q ≡ pool_of t → n.entries ≡ below mark m.entries
+    → KeepsIndexes mark (indexes_of f) (indexes_of g) → FirstFiles mark g h → KeepsNumbers (length t.extensions.items) (numbers_of u) (numbers_of v) → FirstNumbers (length q.extensions) v w
+    → take (length ls) mid ≡ ls → ks ≡ take mark mid → IsLinked (pool_of t) m f u ls → IsLinked q n h w ks
+linked_same t q m n f g h u v w ls mid ks mark start e entries keeps first kept numbers kept_links links linked =
     let long : length (pool_of t).extensions ≡ length t.extensions.items = length-map t.extensions.items extension_of in
     let few = subst (λ k. FirstNumbers k v w) (ap (λ (r : PoolType). length r.extensions) e) numbers in
     let count : length (pool_of t).files ≡ length t.files.items = length-map t.files.items file_of in
     let same : n.entries ≡ m.entries = entries ∙ ap (λ k. below k m.entries) (start ∙ sym count) ∙ below_all (length (pool_of t).files) m.entries linked.below in
-    subst (λ r. IsLinked r n h w) (sym e) (record {
+    let indexed = indexed_back mark (indexes_of f) (indexes_of g) (indexes_of h) (pool_of t).files (start ∙ sym count) keeps (text_kept (λ i. nat_lt i mark) g h first.0 first.1) linked.files in
+    subst (λ r. IsLinked r n h w ks) (sym e) (record {
       pooled = linked.pooled;
       named = subst (λ k. AreNamed k (names_of (pool_of t))) (ap {B = Known} (λ es. λ t. lookup (λ k. is_eq (slice_cmp nat_cmp t (string_bytes k))) es) (sym same)) linked.named;
       below = subst (AllBelow (length (pool_of t).files)) (sym same) linked.below;
-      files = indexed_back mark (indexes_of f) (indexes_of g) (indexes_of h) (pool_of t).files (start ∙ sym count) keeps (text_kept (λ i. nat_lt i mark) g h first.0 first.1) linked.files;
+      files = indexed;
       numbers = numbered_back (length (pool_of t).extensions) (numbers_of u) (numbers_of v) (numbers_of w) (map key_of (pool_of t).extensions) (sym (length-map (pool_of t).extensions key_of))
           (subst (λ k. KeepsNumbers k (numbers_of u) (numbers_of v)) (sym long) kept) (places_kept (length (pool_of t).extensions) v w few.0 few.1) linked.numbers;
+      imports = linked.imports;
+      to_imports = links_back mark (indexes_of f) (indexes_of h) (pool_of t).files ls mid ks (start ∙ sym count) linked.files indexed linked.imports kept_links links linked.to_imports;
     })

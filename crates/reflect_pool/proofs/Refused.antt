@@ -113,15 +113,30 @@ module _ {T : Type 0} (w : Linking) (fs : List FileDescriptorProto) (r : Result 
       IfErr-weaker r (λ x. Refuses (FaultyBatch (with_declared w fs) fs) x) (λ x. Refuses (Faulty w fs) x)
       (λ e n. refuses_as {P = FaultyBatch (with_declared w fs) fs} {Q = Faulty w fs} e (λ xs b. inr (none, b)) n) later
 
+-- a walk that ended early is refused with its error alone
+module _ {A V : Type 0} (w : Linking) (fs : List FileDescriptorProto) (Gives : V → DescriptorError → Type 0) (r : Result A V) (s : Result A DescriptorError)
+    (cases : MatchResult r (λ x. s ≡ Ok x) (λ e. IsErrAnd s (Gives e))) (alone : (e : V) (y : DescriptorError) → Gives e y → faults_of y ≡ another ∷ []) where
+  pub refused_walk : {T : Type 0} (y : DescriptorError) → s ≡ Err y → (out : Result T DescriptorError) → IsErrAnd out (λ z. z ≡ y) → IfErr out (λ e. Refuses (FaultyBatch w fs) e)
+  refused_walk y is out err =
+      let p = err_from_is_err_and out err in
+      refused_with (FaultyBatch w fs) out p.0 p.1 (inl (ap faults_of p.2 ∙ mapped_error Gives r s cases alone y is))
+
+  pub refused_last : IfErr s (λ e. Refuses (FaultyBatch w fs) e)
+  refused_last = by s refl where
+    by : (t : Result A DescriptorError) → s ≡ t → IfErr t (λ e. Refuses (FaultyBatch w fs) e)
+    by (Ok x) is = tt
+    by (Err y) is = inl (mapped_error Gives r s cases alone y is)
+
 -- what the parts of a pool are linked with
 pub is_of : (tables : Tables) (names : BTreeMap (String Global) Definition) (file_names : BTreeMap (String Global) ℕ) (links : List Links) (numbers : BTreeMap KeyType ℕ) (before : Offsets) (first : ℕ) (p : PoolType)
-    → IsLinked (pool_of tables) names file_names numbers → CountsOf (pool_of tables) before → first ≡ length tables.files.items → pool_of tables ≡ p
+    → IsLinked (pool_of tables) names file_names numbers links → CountsOf (pool_of tables) before → first ≡ length tables.files.items → pool_of tables ≡ p
     → IsOf p (linking file_names names links tables numbers before first)
 is_of tables names file_names links numbers before first p linked counts start same =
     subst (λ q. IsOf q (linking file_names names links tables numbers before first)) same (record {
       tables = refl;
       named = linked.named;
       files = linked.files;
+      links = linked.to_imports;
       numbers = λ k. has_number (numbers_of numbers) (pool_of tables).extensions linked.numbers k (is_known numbers k) refl;
       before = counts;
       first = start ∙ sym (length-map tables.files.items file_of);

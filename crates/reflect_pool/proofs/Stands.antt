@@ -6,11 +6,13 @@ use Rattle.std.specs.List.{AllByRecursion}
 use Rattle.std.specs.BTreeMap.{BTreeMap}
 use Rattle.descriptor_records.specs.declared.file.FileDescriptorProto.{FileDescriptorProto}
 use Rattle.reflect_scope.specs.declared.definition.Definition.{Definition}
+use Rattle.reflect_scope.specs.declared.seen.Links.{Links}
 use Rattle.reflect_walk.specs.Declarations.{Declaration}
 use Rattle.reflect_walk.specs.declared.visit_parts.Offsets.{Offsets}
 use Rattle.reflect_walk.specs.Batches.{batch_declarations, past_files}
 use Rattle.reflect_names.specs.Known.{Known, known_of}
 use Rattle.reflect_names.specs.FileNames.{indexes_of, with_files, files_faults}
+use Rattle.reflect_names.specs.ImportedFiles.{link_view, links_to}
 use Rattle.reflect_names.specs.Names.{Places}
 use Rattle.reflect_names.specs.NameSteps.{KeepsFrom}
 use Rattle.reflect_names.proofs.Entries.{below_more}
@@ -25,6 +27,7 @@ use Rattle.reflect_index.proofs.Orders.{AreUpTo}
 use Rattle.reflect_index.proofs.Batched.{Stand, batch_stands, names_behind}
 use Rattle.reflect_passes.specs.Extensions.{KeyType, numbers_of}
 use Rattle.reflect_pool.specs.Linked.{IsLinked, AreIndexed, AreNumbered, CountsOf, key_of}
+use Rattle.reflect_pool.proofs.Imported.{imports_more, links_more}
 use Rattle.reflect_pool.proofs.Indexed.{indexed_more}
 use Rattle.reflect_pool.proofs.Pooled.{map-append}
 
@@ -82,19 +85,24 @@ all_go_on old new ds g enums = named_as enum_name enum_of new.enums.items old.en
 all_go_on old new ds g extensions = named_as extension_name extension_of new.extensions.items old.extensions.items _ g.extensions
 all_go_on old new ds g services = named_as service_name service_of new.services.items old.services.items _ g.services
 
-pub linked_more : (old new : Tables) (were are : BTreeMap (String Global) Definition) (had has : BTreeMap (String Global) ℕ) (marked marks : BTreeMap KeyType ℕ) (at : ℕ → Places) (o : Offsets) (first : ℕ) (fs : List FileDescriptorProto)
-    → IsLinked (pool_of old) were had marked → CountsOf (pool_of old) o → first ≡ length old.files.items
+pub linked_more : (old new : Tables) (were are : BTreeMap (String Global) Definition) (had has : BTreeMap (String Global) ℕ) (marked marks : BTreeMap KeyType ℕ) (ls ks : List Links) (at : ℕ → Places) (o : Offsets) (first : ℕ) (fs : List FileDescriptorProto)
+    → IsLinked (pool_of old) were had marked ls → CountsOf (pool_of old) o → first ≡ length old.files.items
     → indexes_of has ≡ with_files (indexes_of had) first fs → files_faults at (indexes_of had) first fs ≡ []
     → known_of are ≡ known_behind (known_of were) (batch_declarations o first fs) → faults_along at (with_files (indexes_of had) first fs) (known_of were) (batch_declarations o first fs) ≡ []
     → KeepsFrom first (length fs) were.entries are.entries
     → ArePooled (pool_of new) → map file_of new.files.items ≡ map file_of old.files.items ++ map record_file fs → GoesOn old new (batch_declarations o first fs)
-    → AreNumbered (numbers_of marks) (map key_of (pool_of new).extensions) → IsLinked (pool_of new) are has marks
-linked_more old new were are had has marked marks at o first fs linked counts start indexes single is none keeps pooled files goes numbered =
+    → AreNumbered (numbers_of marks) (map key_of (pool_of new).extensions) → map link_view ks ≡ map link_view ls ++ map (links_to (indexes_of has)) fs → IsLinked (pool_of new) are has marks ks
+linked_more old new were are had has marked marks ls ks at o first fs linked counts start indexes single is none keeps pooled files goes numbered links =
     let olds : length (pool_of old).files ≡ length old.files.items = length-map old.files.items file_of in
     let count : length (pool_of new).files ≡ length (pool_of old).files + length fs = ap length files ∙ length-append (map file_of old.files.items) (map record_file fs) ∙ ap (λ n. length (pool_of old).files + n) (length-map fs record_file) in
     let from : first ≡ length (pool_of old).files = start ∙ sym olds in
     let name = λ (x : FileType). x.name in
     let place : length (map name (pool_of old).files) ≡ first = length-map (pool_of old).files name ∙ sym from in
+    let indexed = subst (λ ns. AreIndexed (indexes_of has) ns) (sym (ap (map name) files ∙ map-append name (pool_of old).files (map record_file fs)))
+    (subst (λ g. AreIndexed g (map name (pool_of old).files ++ map name (map record_file fs))) (sym indexes)
+    (subst (λ n. AreIndexed (with_files (indexes_of had) n fs) (map name (pool_of old).files ++ map name (map record_file fs))) place
+    (indexed_more at (indexes_of had) (map name (pool_of old).files) fs (subst (λ n. files_faults at (indexes_of had) n fs ≡ []) (sym place) single) linked.files))) in
+    let found = subst (λ g. faults_along at g (known_of were) (batch_declarations o first fs) ≡ []) (sym indexes) none in
     record {
       pooled = pooled;
       named = named_more (pool_of old) (pool_of new) (known_of were) at (with_files (indexes_of had) first fs) o fs (known_of are) linked.pooled linked.named counts
@@ -103,9 +111,8 @@ linked_more old new were are had has marked marks at o first fs linked counts st
           (λ s. subst (λ n. names_of (pool_of new) s ≡ names_of (pool_of old) s ++ with_names s [] (batch_declarations o n fs)) from (all_go_on old new (batch_declarations o first fs) goes s));
       below = keeps.bound (length (pool_of new).files) (omega (arith, count, from))
           (below_more (length (pool_of old).files) (length (pool_of new).files) were.entries (omega (arith, count)) linked.below);
-      files = subst (λ ns. AreIndexed (indexes_of has) ns) (sym (ap (map name) files ∙ map-append name (pool_of old).files (map record_file fs)))
-          (subst (λ g. AreIndexed g (map name (pool_of old).files ++ map name (map record_file fs))) (sym indexes)
-          (subst (λ n. AreIndexed (with_files (indexes_of had) n fs) (map name (pool_of old).files ++ map name (map record_file fs))) place
-          (indexed_more at (indexes_of had) (map name (pool_of old).files) fs (subst (λ n. files_faults at (indexes_of had) n fs ≡ []) (sym place) single) linked.files)));
+      files = indexed;
       numbers = numbered;
+      imports = imports_more (indexes_of had) (indexes_of has) (pool_of old).files (pool_of new).files fs files linked.files indexed linked.imports at (known_of were) o first found;
+      to_imports = links_more (indexes_of had) (indexes_of has) (pool_of old).files (pool_of new).files fs files linked.files indexed linked.imports ls ks linked.to_imports links;
     }

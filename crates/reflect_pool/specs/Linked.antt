@@ -4,11 +4,14 @@ use Rattle.reflect_walk.specs.declared.visit_parts.Offsets.{Offsets}
 use Rattle.std.specs.declared.alloc.Global.{Global}
 use Rattle.std.specs.BTreeMap.{BTreeMap}
 use Rattle.reflect_scope.specs.declared.definition.Definition.{Definition}
+use Rattle.reflect_scope.specs.declared.seen.Links.{Links}
 use Rattle.reflect_names.specs.FileNames.{Indexes, indexes_of}
+use Rattle.reflect_names.specs.ImportedFiles.{link_view}
 use Rattle.reflect_names.specs.Known.{known_of, AllBelow}
 use Rattle.reflect_index.specs.Types.{PoolType, ExtensionType, ArePooled}
 use Rattle.reflect_index.specs.Names.{AreNamed, names_of}
 use Rattle.reflect_passes.specs.Extensions.{KeyType, Numbers, numbers_of}
+use Rattle.reflect_pool.specs.Imports.{ImportsAreThere, imported_places, names_of_files}
 
 -- a pool that holds nothing
 abbrev pub empty_pool : PoolType
@@ -27,13 +30,16 @@ abbrev pub AreNumbered : Numbers → List KeyType → Type 0
 AreNumbered numbers keys = (k : KeyType) (i : ℕ) → (numbers k ≡ Some i → slice_get keys i ≡ Some k) × (slice_get keys i ≡ Some k → numbers k ≡ Some i)
 
 -- what entries name is there, a full name stands for a place exactly where it is the one at this place, all names are of the
--- pool's files, each file's name stands for the file, and each extension's message and number for the extension
-pub record IsLinked (p : PoolType) (names : BTreeMap (String Global) Definition) (file_names : BTreeMap (String Global) ℕ) (places : BTreeMap KeyType ℕ) : Type 0 where
+-- pool's files, each file's name stands for the file, and each extension's message and number for the extension; what files
+-- import is there, and the links are to it
+pub record IsLinked (p : PoolType) (names : BTreeMap (String Global) Definition) (file_names : BTreeMap (String Global) ℕ) (places : BTreeMap KeyType ℕ) (links : List Links) : Type 0 where
   pub pooled : ArePooled p
   pub named : AreNamed (known_of names) (names_of p)
   pub below : AllBelow (length p.files) names.entries
-  pub files : AreIndexed (indexes_of file_names) (map (λ f. f.name) p.files)
+  pub files : AreIndexed (indexes_of file_names) (names_of_files p.files)
   pub numbers : AreNumbered (numbers_of places) (map key_of p.extensions)
+  pub imports : ImportsAreThere p
+  pub to_imports : map link_view links ≡ map (imported_places (indexes_of file_names)) p.files
 
 -- how many of each sort there are
 pub record CountsOf (p : PoolType) (o : Offsets) : Type 0 where

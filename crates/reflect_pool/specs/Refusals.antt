@@ -27,6 +27,7 @@ use Rattle.reflect_passes.specs.Extensions.{KeyType, is_known}
 use Rattle.reflect_passes.specs.NameFaults.{name_faults, ReferenceFaults}
 use Rattle.reflect_passes.specs.NumberFaults.{NumberFaults, doubled}
 use Rattle.reflect_passes.specs.declared.linked_types.LinkedTypes.{LinkedTypes}
+use Rattle.reflect_pool.specs.Imports.{imported_places, names_of_files}
 use Rattle.reflect_pool.specs.Linked.{AreIndexed, CountsOf, key_of}
 
 -- what files are linked with: known files and names, what files import, entries, numbers of extensions, and how much there is
@@ -85,11 +86,13 @@ FaultyBatch w fs xs = FaultyReferences w fs xs ⊎ (FaultyNumbers w fs xs ⊎ Fa
 abbrev pub Faulty : Linking → List FileDescriptorProto → List Fault → Type 0
 Faulty w fs xs = (xs ≡ name_faults w.indexes w.known w.before w.first fs) ⊎ ((name_faults w.indexes w.known w.before w.first fs ≡ []) × FaultyBatch (with_declared w fs) fs xs)
 
--- what a pool is linked with: its entries, their names and those of its files, and the numbers of its extensions
+-- what a pool is linked with: its entries, their names and those of its files, what its files import, and the numbers of its
+-- extensions
 pub record IsOf (p : PoolType) (w : Linking) : Type 0 where
   pub tables : pool_of w.tables ≡ p
   pub named : AreNamed w.known (names_of p)
-  pub files : AreIndexed w.indexes (map (λ f. f.name) p.files)
+  pub files : AreIndexed w.indexes (names_of_files p.files)
+  pub links : map link_view w.links ≡ map (imported_places w.indexes) p.files
   pub numbers : (k : KeyType) → Decides (w.numbers k) (Contains (map key_of p.extensions) k)
   pub before : CountsOf p w.before
   pub first : w.first ≡ length p.files

@@ -1,10 +1,11 @@
 //! What the readers of the crate above take from a pool.
 
-ghost use Rattle.std.specs.Prelude.{◌≡◌, ◌<◌, length};
+ghost use Rattle.std.specs.Prelude.{◌≡◌, ◌<◌, All, HoldsAt, length, map};
 ghost use Rattle.reflect_index.specs.Types.{FileWithin, ChildrenWithin, counts_of, declared_at, type_at, enum_at, extension_at, service_at};
 ghost use Rattle.reflect_index.specs.Views.{children_of, declared_of, pool_of};
 ghost use Rattle.reflect_index.specs.Finding.{IsFirst};
 ghost use Rattle.reflect_pool.specs.Dots.{without_dot};
+ghost use Rattle.reflect_pool.specs.Imports.{import_name, imported, imported_publicly, name_at, place_named};
 ghost use Rattle.reflect_pool.specs.Parts.{type_of_method};
 
 use crate::blank::Blanks;
@@ -75,19 +76,23 @@ impl DescriptorPool {
     }
 
     /// The places of the files that a file imports, in the order of its imports.
-    pub fn imports_of(&self, file: u32) -> &[u32] {
-        match self.links.get(file as usize) {
-            Some(links) => links.imports.as_slice(),
-            None => &[],
-        }
+    pub fn imports_of(&self, file: u32) -> &[u32]
+        requires { file < length self.now.files }
+        ensures inside { All (λ place. place < length self.now.files) result.now }
+        ensures places { HoldsAt (λ f. result.now ≡ imported (place_named self.now) f) self.now.files file }
+        ensures names { HoldsAt (λ f. map (name_at self.now) result.now ≡ f.imports) self.now.files file }
+    {
+        self.links[file as usize].imports.as_slice()
     }
 
     /// The places of the files that a file imports publicly, in the order in which it names them.
-    pub fn public_imports_of(&self, file: u32) -> &[u32] {
-        match self.links.get(file as usize) {
-            Some(links) => links.public.as_slice(),
-            None => &[],
-        }
+    pub fn public_imports_of(&self, file: u32) -> &[u32]
+        requires { file < length self.now.files }
+        ensures inside { All (λ place. place < length self.now.files) result.now }
+        ensures places { HoldsAt (λ f. result.now ≡ imported_publicly (place_named self.now) f) self.now.files file }
+        ensures names { HoldsAt (λ f. map (name_at self.now) result.now ≡ map (import_name f.imports) f.public_imports) self.now.files file }
+    {
+        self.links[file as usize].public.as_slice()
     }
 
     /// The place of the file of a name.

@@ -1,10 +1,11 @@
 //! Adds a batch of files to a pool, or refuses it and leaves the pool as it was.
 
-ghost use Rattle.std.specs.Prelude.{◌≡◌, ◌+◌, ◌++◌, ◌<◌, ◌^◌, [], map, IfOk, IfErr, OnOk, OnErr, length, nat_lt, string_cmp};
+ghost use Rattle.std.specs.Prelude.{◌≡◌, ◌+◌, ◌++◌, ◌<◌, ◌^◌, [], map, take, IfOk, IfErr, OnOk, OnErr, length, nat_lt, string_cmp};
 ghost use Rattle.std.specs.List.{AllByRecursion, filter};
 ghost use Rattle.std.specs.BTreeMap.{IsOrdered};
 ghost use Rattle.reflect_walk.specs.Batches.{batch_declarations};
 ghost use Rattle.reflect_names.specs.FileNames.{indexes_of, KeepsIndexes};
+ghost use Rattle.reflect_names.specs.ImportedFiles.{link_view, links_to};
 ghost use Rattle.reflect_names.specs.Known.{below};
 ghost use Rattle.reflect_index.specs.Cut.{cut_to};
 ghost use Rattle.reflect_index.specs.Growth.{Together, Appended};
@@ -14,6 +15,7 @@ ghost use Rattle.reflect_index.specs.Names.{messages, enums, extensions, service
 ghost use Rattle.reflect_index.specs.DraftNames.{stored_message_name, stored_enum_name, stored_extension_name, stored_service_name};
 ghost use Rattle.reflect_passes.specs.Errors.{Refuses};
 ghost use Rattle.reflect_passes.specs.Extensions.{KeepsNumbers, key_cmp, numbers_of};
+ghost use Rattle.reflect_pool.specs.Imports.{StandsAlone};
 ghost use Rattle.reflect_pool.specs.Linked.{IsLinked, CountsOf, AreNumbered, key_of};
 ghost use Rattle.reflect_pool.specs.Accepted.{FaultlessBatch, Faultless, FaultlessFiles, AddsNames, AddsFiles};
 ghost use Rattle.reflect_pool.specs.Refusals.{linking, is_unknown, FaultyBatch, Faulty, FaultyFiles};
@@ -101,6 +103,8 @@ fn link_declared(
     ensures enums { OnOk result (map stored_enum_name tables.new.enums.items ≡ map stored_enum_name tables.old.enums.items ++ with_names enums [] (batch_declarations before first files.items)) }
     ensures extensions { OnOk result (map stored_extension_name tables.new.extensions.items ≡ map stored_extension_name tables.old.extensions.items ++ with_names extensions [] (batch_declarations before first files.items)) }
     ensures services { OnOk result (map stored_service_name tables.new.services.items ≡ map stored_service_name tables.old.services.items ++ with_names services [] (batch_declarations before first files.items)) }
+    ensures kept_links { take (length links.old.items) links.new.items ≡ links.old.items }
+    ensures linked { OnOk result (map link_view links.new.items ≡ map link_view links.old.items ++ map (links_to (indexes_of file_names.now)) files.items) }
     ensures kept_numbers { KeepsNumbers (length tables.old.extensions.items) (numbers_of extension_numbers.old) (numbers_of extension_numbers.new) }
     ensures numbered { OnOk result (AreNumbered (numbers_of extension_numbers.new) (map key_of (pool_of tables.new).extensions)) }
     ensures accepted { OnOk result (FaultlessBatch (linking file_names.now names.now links.old.items tables.old extension_numbers.old before first) files.items (pool_of tables.new)) }
@@ -182,15 +186,16 @@ fn link(
     names: &mut BTreeMap<String, Definition>,
     extension_numbers: &mut BTreeMap<(u32, u32), u32>,
 ) -> Result<(), DescriptorError>
-    requires linked { IsLinked (pool_of tables.old) names.old file_names.old extension_numbers.old }
+    requires linked { IsLinked (pool_of tables.old) names.old file_names.old extension_numbers.old links.old.items }
     requires before { CountsOf (pool_of tables.old) before }
     requires first { first ≡ length tables.old.files.items }
     ensures unchanged { OnErr result (pool_of tables.new ≡ pool_of tables.old) }
     ensures kept { below first names.new.entries ≡ below first names.old.entries }
     ensures kept_files { KeepsIndexes first (indexes_of file_names.old) (indexes_of file_names.new) }
     ensures grown { OnOk result (cut_to (pool_of tables.new) (length tables.old.files.items) ≡ pool_of tables.old) }
+    ensures kept_links { take (length links.old.items) links.new.items ≡ links.old.items }
     ensures kept_numbers { KeepsNumbers (length tables.old.extensions.items) (numbers_of extension_numbers.old) (numbers_of extension_numbers.new) }
-    ensures linked { OnOk result (IsLinked (pool_of tables.new) names.new file_names.new extension_numbers.new) }
+    ensures linked { OnOk result (IsLinked (pool_of tables.new) names.new file_names.new extension_numbers.new links.new.items) }
     ensures added { OnOk result (AddsNames (linking file_names.old names.old links.old.items tables.old extension_numbers.old before first) files.items (pool_of tables.new)) }
     ensures accepted { OnOk result (Faultless (linking file_names.old names.old links.old.items tables.old extension_numbers.old before first) files.items (pool_of tables.new)) }
     ensures refused { IfErr result (λ e. Refuses (Faulty (linking file_names.old names.old links.old.items tables.old extension_numbers.old before first) files.items) e) }
@@ -255,7 +260,7 @@ impl DescriptorPool {
     ) -> Result<(), DescriptorError>
         ensures unchanged { OnErr result (self.new ≡ self.old) }
         ensures grown { OnOk result (cut_to self.new (length self.old.files) ≡ self.old) }
-        ensures can_cut { OnOk result (ArePooled (cut_to self.new (length self.old.files))) }
+        ensures can_cut { OnOk result (StandsAlone (cut_to self.new (length self.old.files))) }
         ensures added { OnOk result (AddsFiles self.old files.items self.new) }
         ensures accepted { OnOk result (FaultlessFiles self.old files.items self.new) }
         ensures refused { IfErr result (λ e. Refuses (FaultyFiles self.old files.items) e) }
@@ -294,10 +299,10 @@ impl DescriptorPool {
 
     /// Leaves the first so many files as they stand, and their names. Takes no memory.
     ///
-    /// None of them may name a type of a file behind them, as is so of the files that were there before a call of
-    /// `build_files`.
+    /// None of them may name a type of a file behind them, or import one, as is so of the files that were there before a call
+    /// of `build_files`.
     pub fn cut(&mut self, mark: u32)
-        requires { ArePooled (cut_to self.old mark) }
+        requires { StandsAlone (cut_to self.old mark) }
         ensures { self.new ≡ cut_to self.old mark }
     {
         cut(&mut self.tables, mark);

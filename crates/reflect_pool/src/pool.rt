@@ -43,7 +43,7 @@ impl Model for DescriptorPool {
 
     ghost view = { λ p. pool_of p.tables };
 
-    ghost invariant = { λ p. IsLinked (pool_of p.tables) p.names p.file_names p.extension_numbers };
+    ghost invariant = { λ p. IsLinked (pool_of p.tables) p.names p.file_names p.extension_numbers p.links.items };
 }
 
 /// A full name without its leading dot, if it has one.

@@ -1,4 +1,4 @@
-use Rattle.std.proofs.Common.{refl, length, ◌≡◌, ◌∙◌, ◌++◌, [], List, inl, Result, Ok, Err, IfErr, OnOk, is_ok, map, ap, sym, subst, rules, of_calls}
+use Rattle.std.proofs.Common.{refl, length, ◌≡◌, ◌∙◌, ◌++◌, [], List, Result, Ok, Err, OnOk, is_ok, map, ap, sym, subst, rules, of_calls}
 use Rattle.std.proofs.Math.ListN.{length-map}
 use Rattle.std.proofs.lemmas.Result.{err_from_is_err_and}
 use Rattle.reflect_index.proofs.Known.{none_right}
@@ -6,12 +6,12 @@ use Rattle.reflect_passes.specs.Extensions.{numbers_of, with_numbers}
 use Rattle.reflect_pool.specs.Linked.{AreNumbered, key_of}
 use Rattle.reflect_pool.proofs.Numbered.{keys_behind, numbered_more, stored_key}
 use Rattle.reflect_names.specs.Faults.{list_of, place_at}
-use Rattle.reflect_passes.specs.Errors.{Refuses, faults_of}
+use Rattle.reflect_passes.specs.Errors.{Refuses}
 use Rattle.reflect_passes.specs.NumberFaults.{NumberFaults, doubled}
 use Rattle.reflect_passes.proofs.Listed.{places}
-use Rattle.reflect_pool.specs.Refusals.{linking, FaultyBatch}
+use Rattle.reflect_pool.specs.Refusals.{linking}
 use Rattle.reflect_pool.proofs.Accepting.{added_behind, faultless}
-use Rattle.reflect_pool.proofs.Refused.{mapped, before_mapped, mapped_error, types_with, types_of, means_of, refused_numbers, refused_extensions}
+use Rattle.reflect_pool.proofs.Refused.{mapped, before_mapped, types_with, types_of, means_of, refused_numbers, refused_extensions, refused_walk, refused_last}
 use Rattle.reflect_walk.specs.Batches.{batch_declarations}
 use Rattle.reflect_index.specs.Names.{FullName, messages, enums, extensions, services, with_names}
 use Rattle.reflect_index.specs.Views.{file_of, extension_of}
@@ -91,7 +91,7 @@ returns-in_err-check_numbers-clause-refused c =
     let batch = c.in_ok-batch.batch in
     let made = c.index_files.ensures in
     let types = types_of w fs c.as_slice-4.result.now _ c.index_files.result c.map_err-2.result c.as_slice-4.ensures.value c.map_err-2.ensures.cases made.messages made.ranges made.enums made.values made.extensions batch c.in_ok-batch.was in
-    let added = before_mapped _ c.add_links.result c.map_err.result c.in_ok-map_err.field-0 c.map_err.ensures.variant c.in_ok-map_err.was c.add_links.ensures in
+    let added = before_mapped _ c.add_links.result c.map_err.result c.in_ok-map_err.field-0 c.map_err.ensures.variant c.in_ok-map_err.was c.add_links.ensures.added in
     let means = means_of w fs rs c.as_slice.result.now c.as_slice-2.result.now c.add_links.new.links.items c.as_slice-3.result.now c.as_slice.ensures.value c.as_slice-2.ensures.value c.as_slice-3.ensures.value added c.in_ok-references.ensures.ok in
     let t = types_with w batch in
     let r = c.from_residual-in_err-check_numbers in
@@ -109,7 +109,7 @@ returns-in_err-list_extensions-clause-refused c =
     let batch = c.in_ok-batch.batch in
     let made = c.index_files.ensures in
     let types = types_of w fs c.as_slice-4.result.now _ c.index_files.result c.map_err-2.result c.as_slice-4.ensures.value c.map_err-2.ensures.cases made.messages made.ranges made.enums made.values made.extensions batch c.in_ok-batch.was in
-    let added = before_mapped _ c.add_links.result c.map_err.result c.in_ok-map_err.field-0 c.map_err.ensures.variant c.in_ok-map_err.was c.add_links.ensures in
+    let added = before_mapped _ c.add_links.result c.map_err.result c.in_ok-map_err.field-0 c.map_err.ensures.variant c.in_ok-map_err.was c.add_links.ensures.added in
     let means = means_of w fs rs c.as_slice.result.now c.as_slice-2.result.now c.add_links.new.links.items c.as_slice-3.result.now c.as_slice.ensures.value c.as_slice-2.ensures.value c.as_slice-3.ensures.value added c.in_ok-references.ensures.ok in
     let t = types_with w batch in
     let r = c.from_residual-in_err-list_extensions in
@@ -129,7 +129,7 @@ returns-clause-accepted c =
     let batch = c.in_ok-batch.batch in
     let made = c.index_files.ensures in
     let types = types_of w fs c.as_slice-4.result.now _ c.index_files.result c.map_err-2.result c.as_slice-4.ensures.value c.map_err-2.ensures.cases made.messages made.ranges made.enums made.values made.extensions batch c.in_ok-batch.was in
-    let added = before_mapped _ c.add_links.result c.map_err.result c.in_ok-map_err.field-0 c.map_err.ensures.variant c.in_ok-map_err.was c.add_links.ensures in
+    let added = before_mapped _ c.add_links.result c.map_err.result c.in_ok-map_err.field-0 c.map_err.ensures.variant c.in_ok-map_err.was c.add_links.ensures.added in
     let means = means_of w fs rs c.as_slice.result.now c.as_slice-2.result.now c.add_links.new.links.items c.as_slice-3.result.now c.as_slice.ensures.value c.as_slice-2.ensures.value c.as_slice-3.ensures.value added c.in_ok-references.ensures.ok in
     let t = types_with w batch in
     let none = subst (λ l. NumberFaults t w.before w.first l rs []) c.as_slice-6.ensures.value
@@ -144,10 +144,22 @@ returns-clause-accepted c =
     (mapped _ _ c.with_records.result c.map_err-3.result c.map_err-3.ensures.cases c.with_records.ensures.extensions c.in_ok-more.more c.in_ok-more.was))
     none f at c.in_ok-list_extensions.ensures.ok) c.add.ensures.appended
 
+pub returns-in_err-map_err-clause-refused : goal.returns-in_err-map_err-clause-refused
+returns-in_err-map_err-clause-refused c =
+    let w = linking c.args.file_names.now c.args.names.now c.args.links.now.items c.args.tables.now c.args.extension_numbers.now c.args.before c.args.first in
+    refused_walk w c.args.files.items _ c.add_links.result c.map_err.result c.map_err.ensures.cases (λ e y h. search (rules, of_calls)) c.in_err-map_err.field-0.0 c.in_err-map_err.was c.from_residual.result c.from_residual.ensures.1
+
+pub returns-in_err-batch-clause-refused : goal.returns-in_err-batch-clause-refused
+returns-in_err-batch-clause-refused c =
+    let w = linking c.args.file_names.now c.args.names.now c.args.links.now.items c.args.tables.now c.args.extension_numbers.now c.args.before c.args.first in
+    refused_walk w c.args.files.items _ c.index_files.result c.map_err-2.result c.map_err-2.ensures.cases (λ e y h. search (rules, of_calls)) c.in_err-batch.field-0.0 c.in_err-batch.was c.from_residual-in_err-batch.result c.from_residual-in_err-batch.ensures.1
+
 pub returns-in_err-more-clause-refused : goal.returns-in_err-more-clause-refused
 returns-in_err-more-clause-refused c =
     let w = linking c.args.file_names.now c.args.names.now c.args.links.now.items c.args.tables.now c.args.extension_numbers.now c.args.before c.args.first in
-    let r = c.from_residual-in_err-more in
-    let p = err_from_is_err_and r.result r.ensures.1 in
-    let says = mapped_error _ c.with_records.result c.map_err-3.result c.map_err-3.ensures.cases (λ e y h. search (rules, of_calls)) c.in_err-more.field-0.0 c.in_err-more.was in
-    subst (λ x. IfErr x (λ e. Refuses (FaultyBatch w c.args.files.items) e)) (sym p.1) (inl (ap faults_of p.2 ∙ says))
+    refused_walk w c.args.files.items _ c.with_records.result c.map_err-3.result c.map_err-3.ensures.cases (λ e y h. search (rules, of_calls)) c.in_err-more.field-0.0 c.in_err-more.was c.from_residual-in_err-more.result c.from_residual-in_err-more.ensures.1
+
+pub returns-clause-refused : goal.returns-clause-refused
+returns-clause-refused c =
+    let w = linking c.args.file_names.now c.args.names.now c.args.links.now.items c.args.tables.now c.args.extension_numbers.now c.args.before c.args.first in
+    refused_last w c.args.files.items _ c.add.result c.map_err-4.result c.map_err-4.ensures.cases (λ e y h. search (rules, of_calls))

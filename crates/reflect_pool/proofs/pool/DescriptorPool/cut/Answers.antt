@@ -1,9 +1,10 @@
 use Rattle.std.proofs.Common.{◌≡◌, ◌∙◌, length, map, nat_lt, subst, sym, rules}
 use Rattle.std.proofs.Math.ListN.{length-map}
 use Rattle.std.specs.List.{filter}
-use Rattle.reflect_index.specs.Types.{PoolType, ArePooled}
+use Rattle.reflect_index.specs.Types.{PoolType}
 use Rattle.reflect_index.specs.Cut.{cut_to}
 use Rattle.reflect_index.specs.Views.{extension_of, pool_of}
+use Rattle.reflect_pool.specs.Imports.{StandsAlone}
 use Rattle.reflect_pool.proofs.Named.{FirstNumbers, linked_cut}
 use Rattle.reflect_pool.proofs.pool.DescriptorPool.cut.Goals as goal
 
@@ -15,6 +16,6 @@ invariant_of-self c =
     let here : c.len-extensions.result ≡ length items = search rules in
     let count : c.len-extensions.result ≡ length (map extension_of items) = here ∙ sym (length-map items extension_of) in
     let few : FirstNumbers (length (map extension_of items)) u v = (c.forget_numbers.ensures.was_ordered, subst (λ n. v.entries ≡ filter (λ e. nat_lt e.1 n) u.entries) count c.forget_numbers.ensures.entries) in
-    linked_cut (pool_of c.self.inside.tables) (pool_of c.cut.new.tables) c.args.mark c.self.inside.names c.forget_names.new.names c.self.inside.file_names c.forget_files.new.file_names u v
-    c.cut.ensures c.forget_names.ensures.was_ordered c.forget_names.ensures.entries (c.forget_files.ensures.was_ordered, c.forget_files.ensures.entries) few c.self.invariant
-    (subst (λ (p : PoolType). ArePooled (cut_to p c.args.mark)) (sym c.self.view_is) c.requires)
+    linked_cut (pool_of c.self.inside.tables) (pool_of c.cut.new.tables) c.args.mark c.self.inside.names c.forget_names.new.names c.self.inside.file_names c.forget_files.new.file_names u v c.self.inside.links.items c.truncate.new.self.items
+    c.cut.ensures c.forget_names.ensures.was_ordered c.forget_names.ensures.entries (c.forget_files.ensures.was_ordered, c.forget_files.ensures.entries) few (search rules) c.self.invariant
+    (subst (λ (p : PoolType). StandsAlone (cut_to p c.args.mark)) (sym c.self.view_is) c.requires)

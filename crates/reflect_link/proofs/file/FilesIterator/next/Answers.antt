@@ -1,0 +1,9 @@
+use Rattle.std.proofs.Common.{◌<◌, All, List, ℕ, length, subst}
+use Rattle.std.proofs.lemmas.List.Elements.{All-tail}
+use Rattle.reflect_link.proofs.file.FilesIterator.next.Goals as goal
+
+pub invariant_of-self : goal.invariant_of-self
+invariant_of-self c =
+    let self = c.args.self.now in
+    let inside : ℕ → Type 0 = λ place. place < length self.pool.now.files in
+    record { inside = All-tail inside c.in_ok-place.place.now c.in_ok-place.others.now (subst (λ (places : List ℕ). All inside places) c.in_ok-place.ensures.cases.0 self.inside) }
