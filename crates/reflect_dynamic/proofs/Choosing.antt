@@ -1,7 +1,6 @@
 -- What stands of oneofs when a field is set.
 use Rattle.std.proofs.Common.{◌≡◌, ◌≢◌, ◌⊎◌, inl, inr, ℕ, ◌==◌, Bool, true, false, true≢false, cond, is_some, List, Option, None, Some, refl, sym, ap, ◌∙◌, subst, arith}
 use Rattle.std.specs.Option.{IsSome, option_and_then}
-use Rattle.reflect_index.specs.Types.{FieldType}
 use Rattle.reflect_pool.specs.FieldsLeft.{field_type}
 use Rattle.reflect_pool.specs.Parts.{members_of}
 use Rattle.reflect_pool.specs.declared.message.MessageDescriptor.{MessageDescriptor}

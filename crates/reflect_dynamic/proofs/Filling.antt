@@ -1,8 +1,8 @@
 -- What records leave in fields, run by run.
-use Rattle.std.proofs.Common.{◌≡◌, ◌≢◌, ◌⊎◌, inl, inr, ℕ, ◌==◌, Bool, true, false, cond, List, [], ◌∷◌, ◌++◌, map, Option, None, Some, is_some, refl, sym, ap, ◌∙◌, subst, append_assoc, arith}
-use Rattle.std.specs.Option.{IsSome}
+use Rattle.std.proofs.Common.{◌≡◌, ◌≢◌, ◌⊎◌, inl, inr, ℕ, ◌==◌, Bool, true, false, cond, List, [], ◌∷◌, ◌++◌, map, Option, None, Some, refl, sym, ap, ◌∙◌, subst, append_assoc, arith}
 use Rattle.std.proofs.lemmas.List.{map-append}
 use Rattle.std.proofs.lemmas.List.Elements.{filter-append}
+use Rattle.reflect_index.specs.Types.{PoolType, FieldType}
 use Rattle.reflect_pool.specs.FieldsLeft.{field_type}
 use Rattle.reflect_pool.specs.declared.message.MessageDescriptor.{MessageDescriptor}
 use Rattle.reflect_pool.specs.declared.field.FieldDescriptor.{FieldDescriptor}
@@ -33,18 +33,26 @@ payloads_own n (p ∷ ps) =
     let rest = numbered n (map (λ p. (n, p)) ps) in
     ap (λ b. map (λ (r : ℕ × Payload). r.1) (cond b ((n, p) ∷ rest) rest)) is ∙ ap (λ l. p ∷ l) (payloads_own n ps)
 
+-- what all records leave under one number
+module _ (pool : PoolType) (t : FieldType) (a b : Option Value) where
+  pub under_both : (c : Option Value) (rs ts : List (ℕ × Payload)) → Leaves pool t a b (payloads t.number rs) → Leaves pool t b c (payloads t.number ts) → Leaves pool t a c (payloads t.number (rs ++ ts))
+  under_both c rs ts h k = subst (Leaves pool t a c) (sym (payloads_both t.number rs ts)) (leaves_both pool t a b c (payloads t.number rs) (payloads t.number ts) h k)
+
+  pub under_other : (n : ℕ) (run : List Payload × Payload) → n ≢ t.number → b ≡ a → Leaves pool t a b (payloads t.number (run_records n run))
+  under_other n run other same =
+      let none : payloads t.number (run_records n run) ≡ [] = ap (map (λ (r : ℕ × Payload). r.1)) (not_numbered t.number n (run.0 ++ run.1 ∷ []) other) in
+      subst (Leaves pool t a b) (sym none) same
+
+  pub under_own : (run : List Payload × Payload) → Leaves pool t a b (run.0 ++ run.1 ∷ []) → Leaves pool t a b (payloads t.number (run_records t.number run))
+  under_own run h = subst (Leaves pool t a b) (sym (payloads_own t.number (run.0 ++ run.1 ∷ []))) h
+
 module _ (m : MessageDescriptor) (f : FieldDescriptor) where
   none_both : (rs ts : List (ℕ × Payload)) → NoSibling m f rs → NoSibling m f ts → NoSibling m f (rs ++ ts)
   none_both rs ts h k = λ n s. filter-append (λ r. r.0 == n) rs ts ∙ ap (λ l. l ++ numbered n ts) (h n s) ∙ k n s
 
   field_both : (a b c : Option Value) (rs ts : List (ℕ × Payload)) → LeavesField m f a b rs → LeavesField m f b c ts → LeavesField m f a c (rs ++ ts)
-  field_both a b c rs ts (inl h) (inl k) =
-      let n = (field_type f).number in
-      let both = leaves_both (field_pool f) (field_type f) a b c (payloads n rs) (payloads n ts) h.1 k.1 in
-      inl (none_both rs ts h.0 k.0, subst (Leaves (field_pool f) (field_type f) a c) (sym (payloads_both n rs ts)) both)
+  field_both a b c rs ts (inl h) (inl k) = inl (none_both rs ts h.0 k.0, under_both (field_pool f) (field_type f) a b c rs ts h.1 k.1)
   field_both a b c rs ts (inr h) (inl k) =
-      let n = (field_type f).number in
-      let both = leaves_both (field_pool f) (field_type f) None b c (payloads n h.1) (payloads n ts) h.6 k.1 in
       inr (
         h.0,
         h.1 ++ ts,
@@ -52,22 +60,17 @@ module _ (m : MessageDescriptor) (f : FieldDescriptor) where
         ap (λ l. l ++ ts) h.3 ∙ append_assoc h.0 (h.2 ∷ h.1) ts,
         h.4,
         none_both h.1 ts h.5 k.0,
-        subst (Leaves (field_pool f) (field_type f) None c) (sym (payloads_both n h.1 ts)) both,
+        under_both (field_pool f) (field_type f) None b c h.1 ts h.6 k.1,
       )
   field_both a b c rs ts h (inr k) = inr (rs ++ k.0, k.1, k.2, ap (λ l. rs ++ l) k.3 ∙ sym (append_assoc rs k.0 (k.2 ∷ k.1)), k.4, k.5, k.6)
 
   -- records of a number that is neither the field's nor a sibling's
   field_other : (a b : Option Value) (n : ℕ) (run : List Payload × Payload) → n ≢ (field_type f).number → (IsSibling m f n → ⊥) → b ≡ a → LeavesField m f a b (run_records n run)
-  field_other a b n run other apart same =
-      let none : payloads (field_type f).number (run_records n run) ≡ [] = ap (map (λ (r : ℕ × Payload). r.1)) (not_numbered (field_type f).number n (run.0 ++ run.1 ∷ []) other) in
-      inl (λ k s. not_numbered k n (run.0 ++ run.1 ∷ []) (λ e. apart (subst (IsSibling m f) (sym e) s)), subst (Leaves (field_pool f) (field_type f) a b) (sym none) same)
+  field_other a b n run other apart same = inl (λ k s. not_numbered k n (run.0 ++ run.1 ∷ []) (λ e. apart (subst (IsSibling m f) (sym e) s)), under_other (field_pool f) (field_type f) a b n run other same)
 
   -- records of the field's own number
   field_own : (a b : Option Value) (run : List Payload × Payload) → Leaves (field_pool f) (field_type f) a b (run.0 ++ run.1 ∷ []) → LeavesField m f a b (run_records (field_type f).number run)
-  field_own a b run h =
-      let n = (field_type f).number in
-      let all = run.0 ++ run.1 ∷ [] in
-      inl (λ k s. not_numbered k n all (λ e. s.4 (sym e)), subst (Leaves (field_pool f) (field_type f) a b) (sym (payloads_own n all)) h)
+  field_own a b run h = inl (λ k s. not_numbered k (field_type f).number (run.0 ++ run.1 ∷ []) (λ e. s.4 (sym e)), under_own (field_pool f) (field_type f) a b run h)
 
   -- records of a sibling
   field_unset : (a b : Option Value) (n : ℕ) (run : List Payload × Payload) → IsSibling m f n → b ≡ None → LeavesField m f a b (run_records n run)

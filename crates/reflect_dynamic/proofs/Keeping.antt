@@ -94,9 +94,3 @@ module _ (m : MessageDescriptor) where
         → IfOk r (λ rest. (run : List Payload × Payload) × Fronts (IsRun levels key) bytes run rest.now × Keeps m old new (run_records key.number run))
     kept_if_read old new (Ok rest) h = (([], h.0), (h.1.0, ([], h.1.0, refl, h.1.1, refl), h.1.2), keeps_record old new key.number h.0 h.2)
     kept_if_read old new (Err e) h = tt
-
-    pub left_if_declared : (old new : List (ℕ × Payload)) (Q : List Payload × Payload → Type 0) (r : Result (Bor (List ℕ)) WireError) → new ≡ old → IsDeclared m key.number
-        → IfOk r (λ rest. (run : List Payload × Payload) × Fronts (IsRun levels key) bytes run rest.now × Q run)
-        → IfOk r (λ rest. (run : List Payload × Payload) × Fronts (IsRun levels key) bytes run rest.now × Keeps m old new (run_records key.number run))
-    left_if_declared old new Q (Ok rest) e is h = (h.0, h.1, keeps_declared old new key.number h.0 e is)
-    left_if_declared old new Q (Err x) e is h = tt

@@ -1,11 +1,15 @@
 pub mod Appending
 pub mod Choosing
+pub mod Copying
+pub mod Extending
 pub mod Filling
 pub mod Keeping
 pub mod Kept
 pub mod Owning
 pub mod Packing
+pub mod Putting
 pub mod Running
 pub mod Setting
 pub mod Sparing
 pub mod Taking
+pub mod Trees

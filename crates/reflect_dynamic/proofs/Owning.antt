@@ -1,18 +1,18 @@
 -- Which field has the records of a number.
-use Rattle.std.proofs.Common.{◌≡◌, ◌≢◌, ℕ, Bool, true, false, List, Option, None, Some, refl, sym, ap, ◌∙◌, subst, nat_lt, arith}
+use Rattle.std.proofs.Common.{◌≡◌, ℕ, Bool, true, false, List, Option, Some, refl, sym, ap, ◌∙◌, subst, nat_lt, arith}
 use Rattle.std.specs.Option.{option_and_then}
 use Rattle.reflect_index.specs.Finding.{IsFirst}
-use Rattle.reflect_index.specs.Types.{PoolType, FieldType, type_at, type_of_field, no_field}
+use Rattle.reflect_index.specs.Types.{PoolType, type_at, type_of_field, no_field, extension_at, no_extension}
 use Rattle.reflect_pool.specs.FieldsLeft.{field_type}
-use Rattle.reflect_pool.specs.Finds.{FindsField}
+use Rattle.reflect_pool.specs.Finds.{FindsField, FindsAny}
 use Rattle.reflect_pool.specs.Parts.{members_of}
 use Rattle.reflect_pool.specs.declared.message.MessageDescriptor.{MessageDescriptor}
 use Rattle.reflect_pool.specs.declared.field.FieldDescriptor.{FieldDescriptor}
 use Rattle.reflect_wire.specs.Records.{Payload}
 use Rattle.reflect_entries.specs.Members.{first_number, first_member_of}
-use Rattle.reflect_scalar.specs.FieldTypes.{field_pool}
-use Rattle.reflect_scalar.specs.Floats.{HoldsFloats}
-use Rattle.reflect_dynamic.specs.Declares.{Declares, Owns}
+use Rattle.reflect_pool.specs.declared.extension.ExtensionDescriptor.{ExtensionDescriptor}
+use Rattle.reflect_scalar.specs.FieldTypes.{field_pool, extension_pool, extension_type}
+use Rattle.reflect_dynamic.specs.Declares.{Declares, Owns, OwnsExtension}
 use Rattle.reflect_dynamic.specs.Taking.{Leaves}
 use Rattle.reflect_dynamic.specs.declared.value.Value.{Value}
 
@@ -44,3 +44,16 @@ module _ (m : MessageDescriptor) where
 
     pub leaves_same : (old new : Option Value) (ps : List Payload) → Leaves (field_pool g) (field_type g) old new ps → Leaves (field_pool f) (field_type f) old new ps
     leaves_same old new ps h = subst (λ p. Leaves p (field_type f) old new ps) (sym (alike (λ p i k. p))) (subst (λ t. Leaves (field_pool g) t old new ps) (sym (alike type_of_field)) h)
+
+  -- and so does an extension
+  module _ (x y : ExtensionDescriptor) (owns : OwnsExtension m x) (other : OwnsExtension m y) (same : (extension_type x).number ≡ (extension_type y).number) where
+    one_extension : x.index ≡ y.index
+    one_extension =
+        let first = subst (λ n. FindsAny (λ z. (z.extendee ≡ m.index) × (z.field.number ≡ n)) m.pool.now (Some x)) same owns.1 in
+        one_first (λ z. (z.extendee ≡ m.index) × (z.field.number ≡ (extension_type y).number)) m.pool.now.extensions no_extension x.index y.index first other.1
+
+    one_pool : extension_pool x ≡ extension_pool y
+    one_pool = owns.0.0 ∙ sym other.0.0
+
+    pub extension_same : (old new : Option Value) (ps : List Payload) → Leaves (extension_pool y) (extension_type y) old new ps → Leaves (extension_pool x) (extension_type x) old new ps
+    extension_same old new ps h = subst (λ i. Leaves (extension_pool x) (extension_at (extension_pool x) i).field old new ps) (sym one_extension) (subst (λ p. Leaves p (extension_at p y.index).field old new ps) (sym one_pool) h)

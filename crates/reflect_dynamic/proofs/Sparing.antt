@@ -1,6 +1,5 @@
 -- What stays under numbers that are not read, record by record.
 use Rattle.std.proofs.Common.{◌≡◌, ◌≢◌, ◌⊎◌, inl, inr, Result, Ok, Err, IfOk, ℕ, ◌==◌, true, cond, List, [], ◌∷◌, ◌++◌, None, Some, refl, sym, ap, ◌∙◌, subst, arith}
-use Rattle.std.specs.Option.{IsSome}
 use Rattle.std.specs.Borrow.{Bor}
 use Rattle.std.proofs.lemmas.List.Elements.{filter-append}
 use Rattle.reflect_pool.specs.FieldsLeft.{field_type}
@@ -12,16 +11,18 @@ use Rattle.reflect_wire.specs.Views.{records_of}
 use Rattle.reflect_wire.specs.declared.wire_key.WireKey.{WireKey}
 use Rattle.reflect_wire.specs.declared.wire_error.WireError.{WireError}
 use Rattle.reflect_entries.specs.Entries.{value_at}
-use Rattle.reflect_scalar.specs.FieldTypes.{field_pool}
-use Rattle.reflect_dynamic.specs.Fields.{HoldFields}
+use Rattle.reflect_pool.specs.declared.extension.ExtensionDescriptor.{ExtensionDescriptor}
+use Rattle.reflect_scalar.specs.FieldTypes.{field_pool, extension_pool, extension_type}
+use Rattle.reflect_dynamic.specs.Fields.{HoldFields, HoldExtensions}
 use Rattle.reflect_dynamic.specs.Keeps.{numbered, Keeps}
 use Rattle.reflect_dynamic.specs.Merging.{IsBody, IsRun, run_records}
-use Rattle.reflect_dynamic.specs.Declares.{Owns}
+use Rattle.reflect_dynamic.specs.Declares.{Owns, OwnsExtension, NoField}
 use Rattle.reflect_dynamic.specs.Oneofs.{AreChosen, MakesRoom, Chooses, Unsets, sibling}
-use Rattle.reflect_dynamic.specs.Spares.{Same, ReadsMember, SparesFields, SparesExtensions, HoldsRead, FillsFields, Content, Merges}
+use Rattle.reflect_dynamic.specs.Spares.{Same, ReadsMember, SparesFields, SparesExtensions, HoldsRead, Content, Merges}
 use Rattle.reflect_dynamic.specs.Taking.{Leaves}
 use Rattle.reflect_dynamic.specs.declared.value.Value.{Value}
 use Rattle.reflect_dynamic.proofs.Choosing.{is_or_not, in_oneof, room_keeps, room_chosen}
+use Rattle.reflect_dynamic.proofs.Extending.{extended_none, extended_both, extended_apart, extended_run, extended_empty}
 use Rattle.reflect_dynamic.proofs.Filling.{filled_none, filled_both, filled_apart, filled_run, filled_empty}
 use Rattle.reflect_dynamic.proofs.Keeping.{two_empty, keeps_none, keeps_more, keeps_declared, field_declared}
 use Rattle.reflect_dynamic.proofs.Running.{whole_body}
@@ -80,6 +81,7 @@ module _ (m : MessageDescriptor) where
     fields = fields_same a.fields a.fields [] refl;
     filled = filled_none m a;
     extensions = extensions_same a.extensions a.extensions [] refl;
+    extended = extended_none m a.extensions;
     unknown = keeps_none m a.unknown;
   }
 
@@ -88,6 +90,7 @@ module _ (m : MessageDescriptor) where
     fields = fields_more a.fields b.fields c.fields rs ts h.fields k.fields;
     filled = λ chosen. let first = h.filled chosen in filled_both m a b c rs ts first (k.filled first.chosen);
     extensions = extensions_more a.extensions b.extensions c.extensions rs ts h.extensions k.extensions;
+    extended = extended_both m a.extensions b.extensions c.extensions rs ts h.extended k.extended;
     unknown = keeps_more m a.unknown b.unknown c.unknown rs ts h.unknown k.unknown;
   }
 
@@ -106,47 +109,51 @@ module _ (m : MessageDescriptor) where
         fields = fields_run g old.choices old.fields between new.fields run owns there clears;
         filled = λ chosen. filled_run m g owns old new between chosen notes there clears run left;
         extensions = extensions_same old.extensions new.extensions (run_records number run) extensions;
+        extended = extended_apart m old.extensions new.extensions number run (λ x owned free e. free g owns (sym e)) extensions;
         unknown = keeps_declared m old.unknown new.unknown number run unknown (field_declared m g number owns refl);
       } in
       subst (λ n. Merges m old new (run_records n run)) is merged
 
   module _ (levels : ℕ) (key : WireKey) (bytes : List ℕ) (old new : Content) where
     -- where records are kept, nothing else changes
-    pub merges_kept : (r : Result (Bor (List ℕ)) WireError) → ((f : FieldDescriptor) → Owns m f → (field_type f).number ≢ key.number) → new.fields ≡ old.fields → new.choices ≡ old.choices → new.extensions ≡ old.extensions
+    pub merges_kept : (r : Result (Bor (List ℕ)) WireError) → NoField m key.number → ((x : ExtensionDescriptor) → OwnsExtension m x → (extension_type x).number ≢ key.number) → new.fields ≡ old.fields → new.choices ≡ old.choices → new.extensions ≡ old.extensions
         → IfOk r (λ rest. (run : List Payload × Payload) × Fronts (IsRun levels key) bytes run rest.now × Keeps m old.unknown new.unknown (run_records key.number run))
         → IfOk r (λ rest. (run : List Payload × Payload) × Fronts (IsRun levels key) bytes run rest.now × Merges m old new (run_records key.number run))
-    merges_kept (Ok rest) none fields choices extensions h = (
+    merges_kept (Ok rest) none apart fields choices extensions h = (
       h.0,
       h.1,
       record {
         fields = fields_same old.fields new.fields (run_records key.number h.0) fields;
         filled = filled_apart m old new key.number h.0 none fields choices;
         extensions = extensions_same old.extensions new.extensions (run_records key.number h.0) extensions;
+        extended = extended_apart m old.extensions new.extensions key.number h.0 (λ x owns free. apart x owns) extensions;
         unknown = h.2;
       },
     )
-    merges_kept (Err e) none fields choices extensions h = tt
+    merges_kept (Err e) none apart fields choices extensions h = tt
 
     -- records of an extension
-    pub merges_extension : (r : Result (Bor (List ℕ)) WireError) → ((f : FieldDescriptor) → Owns m f → (field_type f).number ≢ key.number) → new.fields ≡ old.fields → new.choices ≡ old.choices → ((k : ℕ) → k ≢ key.number → Same old.extensions new.extensions k)
-        → IfOk r (λ rest. (run : List Payload × Payload) × Fronts (IsRun levels key) bytes run rest.now × Keeps m old.unknown new.unknown (run_records key.number run))
+    pub merges_extension : (r : Result (Bor (List ℕ)) WireError) → NoField m key.number → (x : ExtensionDescriptor) → OwnsExtension m x → (extension_type x).number ≡ key.number → new.fields ≡ old.fields → new.choices ≡ old.choices → new.unknown ≡ old.unknown
+        → ((k : ℕ) → k ≢ key.number → Same old.extensions new.extensions k)
+        → IfOk r (λ rest. (run : List Payload × Payload) × Fronts (IsRun levels key) bytes run rest.now × Leaves (extension_pool x) (extension_type x) (value_at old.extensions key.number) (value_at new.extensions key.number) (run.0 ++ run.1 ∷ []))
         → IfOk r (λ rest. (run : List Payload × Payload) × Fronts (IsRun levels key) bytes run rest.now × Merges m old new (run_records key.number run))
-    merges_extension (Ok rest) none fields choices others h = (
+    merges_extension (Ok rest) none x owns is fields choices unknown others h = (
       h.0,
       h.1,
       record {
         fields = fields_same old.fields new.fields (run_records key.number h.0) fields;
         filled = filled_apart m old new key.number h.0 none fields choices;
         extensions = extensions_run old.extensions new.extensions key.number h.0 others;
-        unknown = h.2;
+        extended = extended_run m x owns key.number is none old.extensions new.extensions h.0 others h.2;
+        unknown = keeps_declared m old.unknown new.unknown key.number h.0 unknown (inr (x, owns, is));
       },
     )
-    merges_extension (Err e) none fields choices others h = tt
+    merges_extension (Err e) none x owns is fields choices unknown others h = tt
 
 -- what a message that held nothing holds of the records
 pub decoded : (m type : MessageDescriptor) (levels : ℕ) (bytes rest : List ℕ) (a b : Content) (rs : List (ℕ × Payload)) → type ≡ m → Fronts (IsBody None levels) bytes rs rest → rest ≡ [] → Merges type a b rs
     → a.fields ≡ [] → a.extensions ≡ [] → a.unknown ≡ [] → AreChosen type a.choices a.fields
-    → (rs : List (ℕ × Payload)) × SpellsRecords levels bytes (records_of rs) × Keeps m [] b.unknown rs × HoldsRead b.fields rs × HoldsRead b.extensions rs × HoldFields m b.fields rs
+    → (rs : List (ℕ × Payload)) × SpellsRecords levels bytes (records_of rs) × Keeps m [] b.unknown rs × HoldsRead b.fields rs × HoldsRead b.extensions rs × HoldFields m b.fields rs × HoldExtensions m b.extensions rs
 decoded m type levels bytes rest a b rs same read whole h fields extensions unknown chosen =
     let merged = subst (λ m. Merges m a b rs) same h in (
       rs,
@@ -155,6 +162,7 @@ decoded m type levels bytes rest a b rs same read whole h fields extensions unkn
       λ n e. by n (merged.fields.unread n e),
       λ n e. merged.extensions.unread n e ∙ ap (λ l. value_at l n) extensions,
       filled_empty m a b rs fields (merged.filled (subst (λ m. AreChosen m a.choices a.fields) same chosen)),
+      extended_empty m a.extensions b.extensions rs extensions merged.extended,
     ) where
       by : (n : ℕ) → Same a.fields b.fields n ⊎ ((value_at b.fields n ≡ None) × ReadsMember m rs) → value_at b.fields n ≡ None
       by n (inl is) = is ∙ ap (λ l. value_at l n) fields

@@ -1,12 +1,13 @@
--- What the records of a message leave in its fields.
+-- What the records of a message leave in its fields and extensions.
 use Rattle.std.specs.Prelude.{◌≡◌, ◌⊎◌, ℕ, List, [], ◌∷◌, ◌++◌, map, Option, None}
 use Rattle.reflect_entries.specs.Entries.{value_at}
 use Rattle.reflect_pool.specs.FieldsLeft.{field_type}
 use Rattle.reflect_pool.specs.declared.message.MessageDescriptor.{MessageDescriptor}
 use Rattle.reflect_pool.specs.declared.field.FieldDescriptor.{FieldDescriptor}
-use Rattle.reflect_scalar.specs.FieldTypes.{field_pool}
+use Rattle.reflect_pool.specs.declared.extension.ExtensionDescriptor.{ExtensionDescriptor}
+use Rattle.reflect_scalar.specs.FieldTypes.{field_pool, extension_pool, extension_type}
 use Rattle.reflect_wire.specs.Records.{Payload}
-use Rattle.reflect_dynamic.specs.Declares.{Owns}
+use Rattle.reflect_dynamic.specs.Declares.{Owns, OwnsExtension, NoField}
 use Rattle.reflect_dynamic.specs.Keeps.{numbered}
 use Rattle.reflect_dynamic.specs.Oneofs.{IsSibling}
 use Rattle.reflect_dynamic.specs.Taking.{Leaves}
@@ -29,3 +30,12 @@ LeavesField m f old new rs =
 -- the fields hold what the records leave where nothing stood
 abbrev pub HoldFields : MessageDescriptor → List (ℕ × Value) → List (ℕ × Payload) → Type 0
 HoldFields m held rs = (f : FieldDescriptor) → Owns m f → LeavesField m f None (value_at held (field_type f).number) rs
+
+-- an extension's records leave their values, where no field has its number
+abbrev pub LeavesExtension : MessageDescriptor → ExtensionDescriptor → Option Value → Option Value → List (ℕ × Payload) → Type 0
+LeavesExtension m x old new rs = NoField m (extension_type x).number → Leaves (extension_pool x) (extension_type x) old new (payloads (extension_type x).number rs)
+
+-- the extensions hold what the records leave where nothing stood, and nothing under the number of a field
+abbrev pub HoldExtensions : MessageDescriptor → List (ℕ × Value) → List (ℕ × Payload) → Type 0
+HoldExtensions m held rs =
+    ((x : ExtensionDescriptor) → OwnsExtension m x → LeavesExtension m x None (value_at held (extension_type x).number) rs) × ((f : FieldDescriptor) → Owns m f → value_at held (field_type f).number ≡ None)

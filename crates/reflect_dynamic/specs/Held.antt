@@ -10,18 +10,24 @@ use Rattle.reflect_dynamic.specs.declared.parts.Held.TheOpen.{Held-F}
 use Rattle.reflect_dynamic.specs.declared.value.Value.{Value}
 
 -- what the declared fields hold, with their numbers
-abbrev pub fields_of : DynamicMessage → List (ℕ × Value)
-fields_of m = elim (out-Held m.held) [
+abbrev pub fields_in : Held → List (ℕ × Value)
+fields_in h = elim (out-Held h) [
   | Held-F.Nothing ↦ []
   | Held-F.Block b ↦ b.value.fields
 ]
 
+abbrev pub fields_of : DynamicMessage → List (ℕ × Value)
+fields_of m = fields_in m.held
+
 -- what the extensions hold, with their numbers
-abbrev pub extensions_of : DynamicMessage → List (ℕ × Value)
-extensions_of m = elim (out-Held m.held) [
+abbrev pub extensions_in : Held → List (ℕ × Value)
+extensions_in h = elim (out-Held h) [
   | Held-F.Nothing ↦ []
   | Held-F.Block b ↦ b.value.extensions
 ]
+
+abbrev pub extensions_of : DynamicMessage → List (ℕ × Value)
+extensions_of m = extensions_in m.held
 
 -- the records of numbers that the type does not declare, with their numbers
 abbrev pub unknown_in : Held → List (ℕ × Payload)
@@ -34,11 +40,14 @@ abbrev pub unknown_of : DynamicMessage → List (ℕ × Payload)
 unknown_of m = unknown_in m.held
 
 -- the member of each oneof that is noted as set last, by the number of the oneof's first member
-abbrev pub choices_of : DynamicMessage → List (ℕ × ℕ)
-choices_of m = elim (out-Held m.held) [
+abbrev pub choices_in : Held → List (ℕ × ℕ)
+choices_in h = elim (out-Held h) [
   | Held-F.Nothing ↦ []
   | Held-F.Block b ↦ b.value.choices.members
 ]
+
+abbrev pub choices_of : DynamicMessage → List (ℕ × ℕ)
+choices_of m = choices_in m.held
 
 -- under the number of a declared field stands what is given, or nothing, and nothing else is changed
 pub record UpdatesField (old new : DynamicMessage) (number : ℕ) (given : Option Value) : Type 0 where

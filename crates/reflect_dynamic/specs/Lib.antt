@@ -1,3 +1,4 @@
+pub mod Copies
 pub mod Declares
 pub mod Elements
 pub mod EntriesLeft
@@ -8,7 +9,9 @@ pub mod Left
 pub mod Merging
 pub mod Oneofs
 pub mod Packed
+pub mod Puts
 pub mod Shown
 pub mod Singles
 pub mod Spares
 pub mod Taking
+pub mod Trees

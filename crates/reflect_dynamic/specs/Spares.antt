@@ -5,10 +5,12 @@ use Rattle.reflect_entries.specs.Entries.{value_at}
 use Rattle.reflect_pool.specs.FieldsLeft.{field_type}
 use Rattle.reflect_pool.specs.declared.message.MessageDescriptor.{MessageDescriptor}
 use Rattle.reflect_pool.specs.declared.field.FieldDescriptor.{FieldDescriptor}
+use Rattle.reflect_pool.specs.declared.extension.ExtensionDescriptor.{ExtensionDescriptor}
+use Rattle.reflect_scalar.specs.FieldTypes.{extension_type}
 use Rattle.reflect_wire.specs.Records.{Payload}
 use Rattle.reflect_entries.specs.Undeclared.{undeclared}
-use Rattle.reflect_dynamic.specs.Declares.{Declares, Owns}
-use Rattle.reflect_dynamic.specs.Fields.{LeavesField}
+use Rattle.reflect_dynamic.specs.Declares.{Declares, Owns, OwnsExtension}
+use Rattle.reflect_dynamic.specs.Fields.{LeavesField, LeavesExtension}
 use Rattle.reflect_dynamic.specs.Held.{fields_of, choices_of, extensions_of, unknown_of}
 use Rattle.reflect_dynamic.specs.Keeps.{numbered, Keeps}
 use Rattle.reflect_dynamic.specs.Oneofs.{AreChosen}
@@ -54,9 +56,15 @@ pub record FillsFields (m : MessageDescriptor) (old new : Content) (read : List 
   pub each : (f : FieldDescriptor) → Owns m f → LeavesField m f (value_at old.fields (field_type f).number) (value_at new.fields (field_type f).number) read
   pub chosen : AreChosen m new.choices new.fields
 
+-- the extensions' records leave their values, and what stands under the numbers of fields stays
+pub record FillsExtensions (m : MessageDescriptor) (old new : List (ℕ × Value)) (read : List (ℕ × Payload)) : Type 0 where
+  pub each : (x : ExtensionDescriptor) → OwnsExtension m x → LeavesExtension m x (value_at old (extension_type x).number) (value_at new (extension_type x).number) read
+  pub behind : (f : FieldDescriptor) → Owns m f → Same old new (field_type f).number
+
 -- the records are taken in: what they do not name stays, and those of undeclared numbers are kept
 pub record Merges (m : MessageDescriptor) (old new : Content) (read : List (ℕ × Payload)) : Type 0 where
   pub fields : SparesFields m old.fields new.fields read
   pub filled : AreChosen m old.choices old.fields → FillsFields m old new read
   pub extensions : SparesExtensions old.extensions new.extensions read
+  pub extended : FillsExtensions m old.extensions new.extensions read
   pub unknown : Keeps m old.unknown new.unknown read

@@ -46,6 +46,7 @@ pub fn declared_extension<'p>(
 ) -> Option<ExtensionDescriptor<'p>>
     ensures owns { IfSome result (λ x. OwnsExtension descriptor.entry x) }
     ensures number { IfSome result (λ x. (extension_type x).number ≡ number) }
+    ensures none { IfNone result ((x : ExtensionDescriptor) → OwnsExtension descriptor.entry x → (extension_type x).number ≢ number) }
 {
     let extension = descriptor.get_extension(number)?;
     if holds_floats(&extension) {

@@ -1,6 +1,16 @@
 //! From a message to wire bytes, which are put from the last to the first: so the length of what stands behind a key is
 //! known when the key is put.
 
+ghost use Rattle.std.specs.Prelude.{◌≡◌, ℕ, List, ◌++◌, map, length, OnOk, IfOk, is_some, option_map};
+ghost use Rattle.reflect_codec.specs.Held.{held};
+ghost use Rattle.reflect_codec.specs.Fields.{payload_field};
+ghost use Rattle.reflect_pool.specs.declared.kind.Kind.{Kind};
+ghost use Rattle.reflect_pool.specs.Kinds.{IsKind};
+ghost use Rattle.reflect_scalar.specs.FieldTypes.{either_pool, either_type};
+ghost use Rattle.reflect_scalar.specs.Singles.{scalar_view};
+ghost use Rattle.reflect_dynamic.specs.Puts.{form, bare_bytes, single_bytes, row_bytes};
+ghost use Rattle.reflect_dynamic.specs.Singles.{single};
+
 use crate::declared::{declared_extension, declared_field};
 use crate::defaults::{is_present, is_present_scalar};
 use crate::message::DynamicMessage;
@@ -118,7 +128,9 @@ fn put_record<'p>(
 }
 
 /// Puts the key and the length of what was put since `end` bytes were held.
-fn put_length(out: &mut Backward, number: u32, end: usize) -> Result<(), AllocError> {
+fn put_length(out: &mut Backward, number: u32, end: usize) -> Result<(), AllocError>
+    ensures { (payload behind : List ℕ) → held out.old ≡ payload ++ behind → length behind ≡ end → OnOk result (held out.new ≡ payload_field number payload ++ behind) }
+{
     let len = out.len().saturating_sub(end);
     out.put_varint(len as u64)?;
     out.put_key(WireKey {
@@ -133,7 +145,9 @@ fn put_single(
     number: u32,
     kind: &Kind<'_>,
     value: Option<Scalar<'_>>,
-) -> Result<(), AllocError> {
+) -> Result<(), AllocError>
+    ensures { OnOk result (held out.new ≡ single_bytes kind.now number (option_map scalar_view value.entry) ++ held out.old) }
+{
     if put_bare(out, kind, value)? {
         out.put_key(WireKey {
             number,
@@ -148,7 +162,10 @@ fn put_bare(
     out: &mut Backward,
     kind: &Kind<'_>,
     value: Option<Scalar<'_>>,
-) -> Result<bool, AllocError> {
+) -> Result<bool, AllocError>
+    ensures put { OnOk result (held out.new ≡ bare_bytes kind.now (option_map scalar_view value.entry) ++ held out.old) }
+    ensures suits { IfOk result (λ b. b ≡ is_some (form kind.now (option_map scalar_view value.entry))) }
+{
     let Some(value) = value else {
         return Ok(false);
     };
@@ -172,17 +189,27 @@ fn put_list<'p>(
     Ok(())
 }
 
+/// Puts the values that suit the kind, one behind the other.
+fn put_row(out: &mut Backward, kind: &Kind<'_>, values: &[Value<'_>]) -> Result<(), AllocError>
+    ensures { OnOk result (held out.new ≡ row_bytes kind.now (map single values.now) ++ held out.old) }
+{
+    'values: for value in values.iter().rev() {
+        put_bare(out, kind, value.as_scalar())?;
+    }
+    Ok(())
+}
+
 /// Puts the record of a packed list.
 fn put_packed<'p>(
     out: &mut Backward,
     field: AnyField<'p>,
     values: &[Value<'p>],
-) -> Result<(), AllocError> {
-    let kind = field.kind();
+) -> Result<(), AllocError>
+    ensures { OnOk result ((kind : Kind) × IsKind (either_pool field.entry) kind (either_type field.entry).kind × (held out.new ≡ payload_field (either_type field.entry).number (row_bytes kind (map single values.now)) ++ held out.old)) }
+{
     let end = out.len();
-    for value in values.iter().rev() {
-        put_bare(out, &kind, value.as_scalar())?;
-    }
+    let kind = field.kind();
+    put_row(out, &kind, values)?;
     put_length(out, field.number(), end)
 }
 

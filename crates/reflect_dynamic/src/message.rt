@@ -6,11 +6,13 @@ ghost use Rattle.std.specs.Option.{option_copied};
 ghost use Rattle.reflect_entries.specs.Entries.{value_at};
 ghost use Rattle.reflect_dynamic.specs.EntriesLeft.{entries_left};
 ghost use Rattle.reflect_entries.specs.Undeclared.{undeclared};
-ghost use Rattle.reflect_dynamic.specs.Fields.{HoldFields};
+ghost use Rattle.reflect_dynamic.specs.Copies.{AreCopies, MergesFields, MergesExtensions};
+ghost use Rattle.reflect_dynamic.specs.Fields.{HoldFields, HoldExtensions};
 ghost use Rattle.reflect_dynamic.specs.Held.{fields_of, choices_of, extensions_of, unknown_of};
 ghost use Rattle.reflect_dynamic.specs.Keeps.{Keeps};
 ghost use Rattle.reflect_dynamic.specs.Oneofs.{IsExclusive};
 ghost use Rattle.reflect_dynamic.specs.Spares.{HoldsRead};
+ghost use Rattle.reflect_dynamic.specs.Trees.{held_tree};
 
 use crate::decode::{MAX_LEVELS, merge_body};
 use crate::encode::put_message;
@@ -67,7 +69,7 @@ impl<'p> DynamicMessage<'p> {
         bytes: &[u8],
     ) -> Result<DynamicMessage<'p>, WireError>
         ensures same_type { IfOk result (λ m. m.descriptor ≡ descriptor.entry) }
-        ensures read { IfOk result (λ m. (rs : List (ℕ × Payload)) × SpellsRecords 100 bytes.now (records_of rs) × Keeps descriptor.entry [] (unknown_of m) rs × HoldsRead (fields_of m) rs × HoldsRead (extensions_of m) rs × HoldFields descriptor.entry (fields_of m) rs) }
+        ensures read { IfOk result (λ m. (rs : List (ℕ × Payload)) × SpellsRecords 100 bytes.now (records_of rs) × Keeps descriptor.entry [] (unknown_of m) rs × HoldsRead (fields_of m) rs × HoldsRead (extensions_of m) rs × HoldFields descriptor.entry (fields_of m) rs × HoldExtensions descriptor.entry (extensions_of m) rs) }
         ensures exclusive { IfOk result IsExclusive }
     {
         let mut message = DynamicMessage::new(alloc, descriptor);
@@ -81,7 +83,8 @@ impl<'p> DynamicMessage<'p> {
     /// Refused as `decode` is; the message is then unchanged.
     pub fn merge(&mut self, bytes: &[u8]) -> Result<(), WireError>
         ensures type_stays { self.new.descriptor ≡ self.old.descriptor }
-        ensures read { OnOk result ((rs : List (ℕ × Payload)) × SpellsRecords 100 bytes.now (records_of rs) × Keeps self.old.descriptor (unknown_of self.old) (unknown_of self.new) rs) }
+        ensures read { OnOk result ((rs : List (ℕ × Payload)) × SpellsRecords 100 bytes.now (records_of rs) × Keeps self.old.descriptor (unknown_of self.old) (unknown_of self.new) rs × (IsExclusive self.old → MergesFields self.old.descriptor (fields_of self.old) (fields_of self.new) rs) × MergesExtensions self.old.descriptor (extensions_of self.old) (extensions_of self.new) rs) }
+        ensures exclusive { IsExclusive self.old → IsExclusive self.new }
         ensures err { OnErr result (self.new ≡ self.old) }
     {
         let mut merged = self.clone()?;
@@ -132,6 +135,10 @@ impl<'p> DynamicMessage<'p> {
     #[cycle(clone)]
     pub fn clone(&self) -> Result<DynamicMessage<'p>, AllocError>
         ensures same_type { IfOk result (λ m. m.descriptor ≡ self.now.descriptor) }
+        ensures fields { IfOk result (λ m. AreCopies (fields_of self.now) (fields_of m)) }
+        ensures choices { IfOk result (λ m. choices_of m ≡ choices_of self.now) }
+        ensures content { IfOk result (λ m. held_tree m.held ≡ held_tree self.now.held) }
+        ensures extensions { IfOk result (λ m. AreCopies (extensions_of self.now) (extensions_of m)) }
         ensures unknown { IfOk result (λ m. unknown_of m ≡ unknown_of self.now) }
     {
         Ok(DynamicMessage {

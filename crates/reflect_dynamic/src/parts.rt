@@ -5,9 +5,11 @@ ghost use Rattle.std.specs.Option.{IsSome};
 ghost use Rattle.reflect_entries.specs.Entries.{value_at};
 ghost use Rattle.reflect_entries.specs.Members.{first_member_of};
 ghost use Rattle.reflect_entries.specs.Undeclared.{undeclared};
-ghost use Rattle.reflect_dynamic.specs.Held.{unknown_in};
+ghost use Rattle.reflect_dynamic.specs.Copies.{AreCopies};
+ghost use Rattle.reflect_dynamic.specs.Held.{fields_in, choices_in, extensions_in, unknown_in};
 ghost use Rattle.reflect_pool.specs.FieldsLeft.{field_type};
 ghost use Rattle.reflect_dynamic.specs.Oneofs.{MakesRoom, Changes, Chooses, Unsets};
+ghost use Rattle.reflect_dynamic.specs.Trees.{held_tree, parts_tree};
 
 use crate::value::Value;
 use reflect_entries::{Choices, Entries, UnknownRecords};
@@ -27,6 +29,10 @@ impl<'p> Held<'p> {
     /// A copy.
     #[cycle(clone)]
     pub fn clone(&self, alloc: Global) -> Result<Held<'p>, AllocError>
+        ensures fields { IfOk result (λ copy. AreCopies (fields_in self.now) (fields_in copy)) }
+        ensures choices { IfOk result (λ copy. choices_in copy ≡ choices_in self.now) }
+        ensures content { IfOk result (λ copy. held_tree copy ≡ held_tree self.now) }
+        ensures extensions { IfOk result (λ copy. AreCopies (extensions_in self.now) (extensions_in copy)) }
         ensures unknown { IfOk result (λ copy. unknown_in copy ≡ unknown_in self.now) }
     {
         match self {
@@ -69,6 +75,10 @@ impl<'p> Parts<'p> {
     /// A copy.
     #[cycle(clone)]
     pub fn clone(&self, alloc: Global) -> Result<Parts<'p>, AllocError>
+        ensures fields { IfOk result (λ copy. AreCopies self.now.fields copy.fields) }
+        ensures choices { IfOk result (λ copy. copy.choices.members ≡ self.now.choices.members) }
+        ensures content { IfOk result (λ copy. parts_tree copy ≡ parts_tree self.now) }
+        ensures extensions { IfOk result (λ copy. AreCopies self.now.extensions copy.extensions) }
         ensures unknown { IfOk result (λ copy. undeclared copy.unknown ≡ undeclared self.now.unknown) }
     {
         Ok(Parts {
@@ -129,11 +139,13 @@ impl<'p> Parts<'p> {
 fn entries_clone<'p>(
     alloc: Global,
     entries: &Entries<Value<'p>>,
-) -> Result<Entries<Value<'p>>, AllocError> {
+) -> Result<Entries<Value<'p>>, AllocError>
+    ensures { IfOk result (λ copy. AreCopies entries.now copy) }
+{
     let mut copy = Entries::new(alloc);
     copy.reserve(entries.len())?;
-    for (number, value) in entries.numbers().iter().zip(entries.values()) {
-        copy.set(*number, value.clone()?)?;
+    'entries: for (number, value) in entries.numbers().iter().zip(entries.values()) {
+        copy.slot(*number, value.clone()?)?;
     }
     Ok(copy)
 }

@@ -1,5 +1,6 @@
-ghost use Rattle.std.specs.Prelude.{◌≡◌, Some, IfOk, option_map};
+ghost use Rattle.std.specs.Prelude.{◌≡◌, Some, IfOk, map, option_map};
 ghost use Rattle.reflect_scalar.specs.Singles.{scalar_view};
+ghost use Rattle.reflect_dynamic.specs.Trees.{tree};
 ghost use Rattle.reflect_dynamic.specs.Singles.{single};
 
 use crate::message::DynamicMessage;
@@ -82,7 +83,9 @@ impl<'p> Value<'p> {
 
     /// A copy.
     #[cycle(clone)]
-    pub fn clone(&self) -> Result<Value<'p>, AllocError> {
+    pub fn clone(&self) -> Result<Value<'p>, AllocError>
+        ensures { IfOk result (λ copy. tree copy ≡ tree self.now) }
+    {
         match self {
             Value::Bool(truth) => Ok(Value::Bool(*truth)),
             Value::I32(n) => Ok(Value::I32(*n)),
@@ -100,9 +103,11 @@ impl<'p> Value<'p> {
 }
 
 #[cycle(clone)]
-fn list_clone<'p>(values: &Vec<Value<'p>>) -> Result<Vec<Value<'p>>, AllocError> {
+fn list_clone<'p>(values: &Vec<Value<'p>>) -> Result<Vec<Value<'p>>, AllocError>
+    ensures { IfOk result (λ copy. map tree copy.items ≡ map tree values.now.items) }
+{
     let mut copy = Vec::with_capacity(*values.allocator(), values.len())?;
-    for value in values {
+    'values: for value in values {
         copy.push(value.clone()?)?;
     }
     Ok(copy)

@@ -1,4 +1,4 @@
-use Rattle.std.proofs.Common.{rules, ◌≡◌, inr, [], true, Some, None, refl, sym, ap, ◌∙◌, subst, arith}
+use Rattle.std.proofs.Common.{rules, ◌≡◌, [], true, Some, None, refl, sym, ap, ◌∙◌, subst, arith}
 use Rattle.reflect_wire.specs.Reads.{Fronts}
 use Rattle.reflect_wire.specs.Key.{IsKey, IsDelimited}
 use Rattle.reflect_wire.specs.declared.wire_key.WireType.TheVariants.{LengthDelimited, EndGroup}
@@ -11,7 +11,7 @@ use Rattle.reflect_dynamic.specs.Merging.{IsBody, run_records}
 use Rattle.reflect_dynamic.specs.declared.value.Value.{the_lemmas}
 use Rattle.reflect_dynamic.proofs.Appending.{appends_value, appends_row, appends_more, list_done}
 use Rattle.reflect_dynamic.proofs.Choosing.{makes_room}
-use Rattle.reflect_dynamic.proofs.Keeping.{kept_if_read, left_if_declared}
+use Rattle.reflect_dynamic.proofs.Keeping.{kept_if_read}
 use Rattle.reflect_dynamic.proofs.Kept.{no_longer}
 use Rattle.reflect_dynamic.proofs.Running.{delimited_value, same_value, run_if_read, group_if_read, run_more, run_done, run_behind, group_ends}
 use Rattle.reflect_dynamic.proofs.Sparing.{merges_none, merges_more, merges_field, merges_kept, merges_extension}
@@ -178,14 +178,13 @@ merge_record-returns-in-Some-declared_extension-clause-read t c =
     let raw = c.args.raw in
     let found = c.in-Some-declared_extension in
     let merged = c.merge_field-in-Some-declared_extension in
-    let kept = left_if_declared c.args.descriptor raw.levels raw.key raw.bytes.now _ _ _ merged.result refl (inr (found.extension, found.ensures.owns, found.ensures.number)) merged.ensures.read in
-    merges_extension c.args.descriptor raw.levels raw.key raw.bytes.now _ _ merged.result c.in_default.ensures.none refl refl merged.ensures.others kept
+    merges_extension c.args.descriptor raw.levels raw.key raw.bytes.now _ _ merged.result c.in_default.ensures.none found.extension found.ensures.owns found.ensures.number refl refl refl merged.ensures.others merged.ensures.read
 
 pub merge_record-returns-clause-read : goal.merge_record-returns-clause-read
 merge_record-returns-clause-read t c =
     let raw = c.args.raw in
     let kept = kept_if_read c.args.descriptor raw.levels raw.key raw.bytes.now _ _ c.keep_unknown.result c.keep_unknown.ensures.kept in
-    merges_kept c.args.descriptor raw.levels raw.key raw.bytes.now _ _ c.keep_unknown.result c.in_default.ensures.none refl refl refl kept
+    merges_kept c.args.descriptor raw.levels raw.key raw.bytes.now _ _ c.keep_unknown.result c.in_default.ensures.none c.in_default-declared_extension.ensures.none refl refl refl kept
 
 pub merge_records-records-preserved : goal.merge_records-records-preserved
 merge_records-records-preserved t c =
