@@ -14,8 +14,10 @@ fn by_number(rt: HostRuntime) -> Result<(), Fail> {
     let mut message = DynamicMessage::new(alloc, message(&pool, "M")?);
     message.set_field_by_number(1, Value::I32(5))?;
     assert!(rt; message.has_field_by_number(1));
-    let held = message.get_field_by_number(1)?.ok_or("no a")?;
-    assert_eq!(rt; held.value().as_i32(), Some(5));
+    {
+        let held = message.get_field_by_number(1)?.ok_or("no a")?;
+        assert_eq!(rt; held.value().as_i32(), Some(5));
+    }
     let taken = message.take_field_by_number(1).ok_or("not set")?;
     assert_eq!(rt; taken.as_i32(), Some(5));
     assert!(rt; !message.has_field_by_number(1));
@@ -40,8 +42,10 @@ fn by_name(rt: HostRuntime) -> Result<(), Fail> {
     let taken = message.take_field_by_name("a").ok_or("not set")?;
     assert_eq!(rt; taken.as_i32(), Some(5));
     message.try_set_field_by_name("a", Value::I32(6))?;
-    let held = message.get_field_by_name("a")?.ok_or("no a")?;
-    assert_eq!(rt; held.value().as_i32(), Some(6));
+    {
+        let held = message.get_field_by_name("a")?.ok_or("no a")?;
+        assert_eq!(rt; held.value().as_i32(), Some(6));
+    }
     message.clear_field_by_name("a");
     assert!(rt; !message.has_field_by_name("a"));
     let text = message.get_field_by_name_mut("s")?.ok_or("no s")?;
