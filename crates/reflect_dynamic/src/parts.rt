@@ -145,6 +145,7 @@ fn entries_clone<'p>(
     let mut copy = Entries::new(alloc);
     copy.reserve(entries.len())?;
     'entries: for (number, value) in entries.numbers().iter().zip(entries.values()) {
+        // (of one number the first value counts, as for lookups: a borrow does not tell that numbers ascend)
         copy.slot(*number, value.clone()?)?;
     }
     Ok(copy)
