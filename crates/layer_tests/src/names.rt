@@ -221,3 +221,24 @@ fn faults_stand_where_the_parser_says(rt: HostRuntime) -> Result<(), Fail> {
     assert!(rt; label.span().is_none());
     Ok(())
 }
+
+#[test]
+fn indexes_end_at_the_largest(rt: HostRuntime) -> Result<(), Fail> {
+    const LAST: u32 = 2_147_483_647;
+    let alloc = rt.alloc();
+    let a = file(alloc, "a", "", &[], &[], &[])?;
+    let b = file(alloc, "b", "", &[], &[], &[])?;
+    let files = vec![in alloc; a, b]?;
+    for (first, fits) in [(LAST - 1, true), (LAST, false)] {
+        let mut names = BTreeMap::new(alloc);
+        let mut faults = Faults::new(alloc, files.as_slice(), first);
+        let named = name_files(alloc, &mut names, first, files.as_slice(), &mut faults);
+        match named {
+            Ok(()) => assert!(rt; fits),
+            Err(error) => assert!(rt; !fits && error == VisitError::TooMany),
+        }
+    }
+    let told = format!(in alloc; "{}", DescriptorErrorKind::TooMany)?;
+    assert_eq!(rt; told.as_str(), "too many declarations");
+    Ok(())
+}
