@@ -3,7 +3,7 @@ use Rattle.std.proofs.Common.{◌≡◌, ℕ, ℤ, ◌<◌, ◌+◌, List, [], �
 use Rattle.std.proofs.lemmas.List.{append-nil}
 use Rattle.reflect_walk.specs.Declarations.{each}
 use Rattle.reflect_walk.proofs.Walks.{each_more}
-use Rattle.reflect_names.specs.Faults.{Fault, Place, Adds, place_at, file_name, name_at, list_of}
+use Rattle.reflect_names.specs.Faults.{Fault, Place, Adds, place_at, batch_places, list_of}
 use Rattle.reflect_names.specs.declared.faults.Faults.{Faults}
 
 pub adds_on : (s t u : Faults) (xs ys : List Fault) → Adds s t xs → Adds t u ys → Adds s u (xs ++ ys)
@@ -18,9 +18,7 @@ adds_none s = record { files = refl; first = refl; added = sym (append-nil (list
 
 -- the places are those of the same files
 pub places_of_same : (s t : Faults) → t.files.now ≡ s.files.now → t.first ≡ s.first → (i : ℕ) → place_at t i ≡ place_at s i
-places_of_same s t files first i =
-    let name : file_name t i ≡ file_name s i = ap (λ f. name_at f t.first i) files ∙ ap (λ n. name_at s.files.now n i) first in
-    ap {B = List ℤ → Place} (λ n. λ path. record { file = n; path = path }) name
+places_of_same s t files first i = ap (λ fs. batch_places fs t.first i) files ∙ ap (λ n. batch_places s.files.now n i) first
 
 pub same_places : (s t : Faults) (xs : List Fault) → Adds s t xs → (i : ℕ) → place_at t i ≡ place_at s i
 same_places s t xs a i = places_of_same s t a.files a.first i

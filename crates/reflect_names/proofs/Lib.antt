@@ -1,4 +1,5 @@
 pub mod Added
+pub mod SpanRuns
 pub mod Entries
 pub mod Packages
 pub mod Found

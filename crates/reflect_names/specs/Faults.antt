@@ -2,15 +2,18 @@
 use Rattle.std.specs.Prelude.{◌≡◌, ℕ, ℤ, ◌-◌, List, [], ◌∷◌, ◌++◌, map, Bool, true, false, cond, nat_le, Option, Some, None, slice_get, string_bytes, Result, Ok, Err}
 use Rattle.descriptor_records.specs.declared.file.FileDescriptorProto.{FileDescriptorProto}
 use Rattle.reflect_walk.specs.Tree.{text_of}
+use Rattle.reflect_names.specs.Spans.{span_among, locations_at}
 use Rattle.reflect_names.specs.declared.label.Label.{Label}
+use Rattle.reflect_names.specs.declared.label.SourceSpan.{SourceSpan}
 use Rattle.reflect_names.specs.declared.error.DescriptorErrorKind.{DescriptorErrorKind}
 use Rattle.reflect_names.specs.declared.error.DescriptorErrorKind.TheVariants as kind
 use Rattle.reflect_names.specs.declared.faults.Faults.{Faults}
 
--- a path in the file of a name
+-- a path in the file of a name, and where it stands in its source, if that is told
 pub record Place : Type 0 where
   pub file : List ℕ
   pub path : List ℤ
+  pub span : Option SourceSpan
 
 pub data Fault : Type 0 where
   duplicate_file : List ℕ → Place → Fault
@@ -37,7 +40,7 @@ pub data Fault : Type 0 where
   another : Fault
 
 abbrev pub place_of : Label → Place
-place_of l = record { file = string_bytes l.file; path = l.path.items }
+place_of l = record { file = string_bytes l.file; path = l.path.items; span = l.span }
 
 abbrev pub fault_view : DescriptorErrorKind → Fault
 fault_view (kind.DuplicateFileName name found) = duplicate_file (string_bytes name) (place_of found)
@@ -72,13 +75,13 @@ name_at files first i = cond (nat_le first i) (elim (slice_get files (i - first)
 
 -- the places of their records
 abbrev pub batch_places : List FileDescriptorProto → ℕ → ℕ → List ℤ → Place
-batch_places files first i path = record { file = name_at files first i; path = path }
+batch_places files first i path = record { file = name_at files first i; path = path; span = span_among (locations_at files first i) path }
 
 abbrev pub file_name : Faults → ℕ → List ℕ
 file_name f i = name_at f.files.now f.first i
 
 abbrev pub place_at : Faults → ℕ → List ℤ → Place
-place_at f i path = record { file = file_name f i; path = path }
+place_at f = batch_places f.files.now f.first
 
 -- the faults are those of the same files as before, with more behind
 pub record Adds (s t : Faults) (more : List Fault) : Type 0 where

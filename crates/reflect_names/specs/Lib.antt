@@ -1,4 +1,5 @@
 pub mod Known
+pub mod Spans
 pub mod Faults
 pub mod Names
 pub mod NameSteps

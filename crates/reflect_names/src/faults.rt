@@ -1,18 +1,13 @@
-ghost use Rattle.std.specs.Prelude.{◌≡◌, ◌++◌, ◌∷◌, [], ◌↔◌, IsTrue, IfOk, OnOk, map, Option, Some, None, pos};
+ghost use Rattle.std.specs.Prelude.{◌≡◌, ◌++◌, ◌∷◌, [], ◌↔◌, IsTrue, IfOk, OnOk, IfSome, map, Option, Some, None, pos};
 ghost use Rattle.reflect_walk.specs.Tree.{text_of as content_of};
+ghost use Rattle.std.proofs.Props.{props};
+ghost use Rattle.reflect_names.specs.Spans.{locations, locations_at, span_among};
 
 use crate::error::DescriptorErrorKind;
 use crate::label::{Label, SourceSpan};
-use descriptor_records::{FileDescriptorProto, join_path};
+use crate::spans::FileSpans;
+use descriptor_records::{FileDescriptorProto, Location, join_path};
 use std::alloc::{AllocError, Global};
-use std::collections::BTreeMap;
-
-/// Where the paths of one file stand in its source.
-#[derive(Drop)]
-struct FileSpans {
-    file: u32,
-    by_path: BTreeMap<Vec<i32>, SourceSpan>,
-}
 
 /// The faults of one pass over new files, in the order in which they were met.
 #[derive(Drop)]
@@ -20,7 +15,9 @@ pub struct Faults<'a> {
     files: &'a [FileDescriptorProto],
     first: u32,
     found: Vec<DescriptorErrorKind>,
-    spans: Option<FileSpans>,
+    /// The spans of the file that was asked for last.
+    spans: Option<(u32, FileSpans<'a>)>,
+    ghost told: { IfSome spans (λ s. s.1.locations.now ≡ locations_at files.now first s.0) } by { Prim.hlevel props },
 }
 
 /// The text, empty where it is missing.
@@ -33,29 +30,14 @@ pub fn text_of(text: &Option<String>) -> &str
     }
 }
 
-/// The first location of each path stays.
-fn spans_of(
-    alloc: Global,
-    index: u32,
-    file: Option<&FileDescriptorProto>,
-) -> Result<FileSpans, AllocError> {
-    let mut by_path = BTreeMap::new(alloc);
-    if let Some(file) = file {
-        if let Some(info) = &file.source_code_info {
-            for location in &info.location {
-                if let Some(span) = SourceSpan::from_location(location.span.as_slice()) {
-                    if !by_path.contains_key(location.path.as_slice()) {
-                        let path = Vec::from_slice(alloc, location.path.as_slice())?;
-                        by_path.insert(path, span)?;
-                    }
-                }
-            }
-        }
+/// The locations of a file, none where it tells none.
+fn locations_of(file: &FileDescriptorProto) -> &[Location]
+    ensures { result.now ≡ locations file.now }
+{
+    match &file.source_code_info {
+        Some(info) => info.location.as_slice(),
+        None => &[],
     }
-    Ok(FileSpans {
-        file: index,
-        by_path,
-    })
 }
 
 impl<'a> Faults<'a> {
@@ -75,8 +57,17 @@ impl<'a> Faults<'a> {
         }
     }
 
-    fn file(&self, index: u32) -> Option<&'a FileDescriptorProto> {
-        self.files.get(index.checked_sub(self.first)? as usize)
+    /// The locations of the file at an index, none where there is none.
+    fn locations(&self, index: u32) -> &'a [Location]
+        ensures { result.now ≡ locations_at self.now.files.now self.now.first index }
+    {
+        if index < self.first {
+            return &[];
+        }
+        match self.files.get((index - self.first) as usize) {
+            Some(file) => locations_of(file),
+            None => &[],
+        }
     }
 
     /// The name of the file at an index, empty where there is none.
@@ -97,23 +88,22 @@ impl<'a> Faults<'a> {
         &mut self,
         alloc: Global,
         file: u32,
-        path: &[i32],
+        path: &Vec<i32>,
     ) -> Result<Option<SourceSpan>, AllocError>
+        ensures span { IfOk result (λ s. s ≡ span_among (locations_at self.old.files.now self.old.first file) path.now.items) }
         ensures found { self.new.found.items ≡ self.old.found.items }
         ensures files { self.new.files.now ≡ self.old.files.now }
         ensures first { self.new.first ≡ self.old.first }
     {
-        let is_known = match &self.spans {
-            Some(spans) => spans.file == file,
-            None => false,
-        };
-        if !is_known {
-            self.spans = Some(spans_of(alloc, file, self.file(file))?);
+        if let Some((known, spans)) = &self.spans {
+            if *known == file {
+                return Ok(spans.get(path));
+            }
         }
-        Ok(match &self.spans {
-            Some(spans) => spans.by_path.get(path).copied(),
-            None => None,
-        })
+        let spans = FileSpans::new(alloc, self.locations(file))?;
+        let span = spans.get(path);
+        self.spans = Some((file, spans));
+        Ok(span)
     }
 
     /// The place at `path` of the file at index `file`. The list of faults stays as it is.
@@ -121,8 +111,8 @@ impl<'a> Faults<'a> {
         ensures place { IfOk result (λ l. place_of l ≡ place_at self.old file path.now) }
         ensures same { Adds self.old self.new [] }
     {
-        let span = self.span(alloc, file, path)?;
         let path = Vec::from_slice(alloc, path)?;
+        let span = self.span(alloc, file, &path)?;
         Label::new(alloc, self.name_of(file), path, span)
     }
 

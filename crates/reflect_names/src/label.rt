@@ -1,4 +1,4 @@
-ghost use Rattle.std.specs.Prelude.{◌≡◌, IfOk};
+ghost use Rattle.std.specs.Prelude.{◌≡◌, IfOk, option_map};
 
 use std::alloc::{AllocError, Global};
 use std::ops::Range;
@@ -13,9 +13,13 @@ pub struct SourceSpan {
 }
 
 impl SourceSpan {
+    ghost use Rattle.reflect_names.specs.Spans.{between, span_of};
+
     /// Reads the `span` of a location: line, column, end column; or line, column, end line, end column. None where it is
     /// neither, or has a negative number.
-    pub fn from_location(span: &[i32]) -> Option<SourceSpan> {
+    pub fn from_location(span: &[i32]) -> Option<SourceSpan>
+        ensures { result ≡ span_of span.now }
+    {
         match span {
             [line, column, end_column] => SourceSpan::from_numbers(
                 *line,
@@ -30,7 +34,9 @@ impl SourceSpan {
         }
     }
 
-    fn from_numbers(line: i32, column: i32, end_line: i32, end_column: i32) -> Option<SourceSpan> {
+    fn from_numbers(line: i32, column: i32, end_line: i32, end_column: i32) -> Option<SourceSpan>
+        ensures { result ≡ between line column end_line end_column }
+    {
         Some(SourceSpan {
             start_line: usize::try_from(line).ok()?,
             start_column: usize::try_from(column).ok()?,
@@ -59,7 +65,7 @@ impl Label {
         path: Vec<i32>,
         span: Option<SourceSpan>,
     ) -> Result<Label, AllocError>
-        ensures { IfOk result (λ l. place_of l ≡ record { file = file.now; path = path.items }) }
+        ensures { IfOk result (λ l. place_of l ≡ record { file = file.now; path = path.items; span = span }) }
     {
         Ok(Label {
             file: String::from_str(alloc, file)?,
@@ -70,22 +76,30 @@ impl Label {
     }
 
     /// The name of the file.
-    pub fn file(&self) -> &str {
+    pub fn file(&self) -> &str
+        ensures { result.now ≡ (place_of self.now).file }
+    {
         self.file.as_str()
     }
 
     /// The path, by the field numbers of `descriptor.proto`.
-    pub fn path(&self) -> &[i32] {
+    pub fn path(&self) -> &[i32]
+        ensures { result.now ≡ (place_of self.now).path }
+    {
         self.path.as_slice()
     }
 
     /// The line, from 0, where the place is known.
-    pub fn line(&self) -> Option<usize> {
+    pub fn line(&self) -> Option<usize>
+        ensures { result ≡ option_map (λ s. s.start_line) (place_of self.now).span }
+    {
         Some(self.span?.start_line)
     }
 
     /// The column in bytes, from 0, where the place is known.
-    pub fn column(&self) -> Option<usize> {
+    pub fn column(&self) -> Option<usize>
+        ensures { result ≡ option_map (λ s. s.start_column) (place_of self.now).span }
+    {
         Some(self.span?.start_column)
     }
 

@@ -10,6 +10,7 @@ mod name_visitor;
 mod names;
 mod required;
 mod resolve_visitor;
+mod spans;
 
 pub use error::DescriptorErrorKind;
 pub use faults::Faults;
