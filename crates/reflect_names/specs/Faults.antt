@@ -66,6 +66,31 @@ fault_view (kind.BadMapEntry name found) = bad_map_entry (string_bytes name) (pl
 fault_view (kind.DuplicateExtensionNumber number message found) = duplicate_extension number (string_bytes message) (place_of found)
 fault_view _ = another
 
+-- where a fault stands, if it is one of a file
+abbrev pub place_of_fault : Fault → Option Place
+place_of_fault (duplicate_file n p) = Some p
+place_of_fault (file_not_found n p) = Some p
+place_of_fault (duplicate_name n p) = Some p
+place_of_fault (name_not_found n p) = Some p
+place_of_fault (name_shadowed n m p) = Some p
+place_of_fault (invalid_type p) = Some p
+place_of_fault (unknown_syntax n p) = Some p
+place_of_fault (missing p) = Some p
+place_of_fault (bad_import_index i p) = Some p
+place_of_fault (invalid_number i p) = Some p
+place_of_fault (duplicate_number i p) = Some p
+place_of_fault (reserved_number i r p) = Some p
+place_of_fault (number_of_extensions i r p) = Some p
+place_of_fault (no_extension_number i n p) = Some p
+place_of_fault (empty_enum p) = Some p
+place_of_fault (duplicate_enum_number i p) = Some p
+place_of_fault (bad_first_value p) = Some p
+place_of_fault (bad_default n p) = Some p
+place_of_fault (bad_oneof_index i p) = Some p
+place_of_fault (bad_map_entry n p) = Some p
+place_of_fault (duplicate_extension i n p) = Some p
+place_of_fault another = None
+
 abbrev pub list_of : Faults → List Fault
 list_of f = map fault_view f.found.items
 

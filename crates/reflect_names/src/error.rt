@@ -145,8 +145,13 @@ pub enum DescriptorErrorKind {
 }
 
 impl DescriptorErrorKind {
+    ghost use Rattle.std.specs.Prelude.{◌≡◌, option_map};
+    ghost use Rattle.reflect_names.specs.Faults.{fault_view, place_of, place_of_fault};
+
     /// The place of the fault, if it has one.
-    pub fn label(&self) -> Option<&Label> {
+    pub fn label(&self) -> Option<&Label>
+        ensures { option_map (λ l. place_of l.now) result ≡ place_of_fault (fault_view self.now) }
+    {
         match self {
             DescriptorErrorKind::DuplicateFileName { found, .. }
             | DescriptorErrorKind::FileNotFound { found, .. }

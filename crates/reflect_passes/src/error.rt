@@ -1,4 +1,4 @@
-ghost use Rattle.std.specs.Prelude.{◌≡◌, ◌∷◌, [], map, IfSome, IfNone};
+ghost use Rattle.std.specs.Prelude.{◌≡◌, ◌∷◌, [], map, option_map, IfSome, IfNone};
 
 use reflect_names::{DescriptorErrorKind, Label, VisitError};
 use std::alloc::{AllocError, Global};
@@ -15,7 +15,7 @@ pub struct DescriptorError {
 
 impl DescriptorError {
     ghost use Rattle.reflect_names.specs.Faults.{fault_view};
-    ghost use Rattle.reflect_passes.specs.Errors.{faults_of};
+    ghost use Rattle.reflect_passes.specs.Errors.{faults_of, first_place, first_span};
 
     /// The error of one fault. Takes no memory.
     pub fn new(alloc: Global, first: DescriptorErrorKind) -> DescriptorError
@@ -55,22 +55,30 @@ impl DescriptorError {
     }
 
     /// The name of the file that the first fault is in.
-    pub fn file(&self) -> Option<&str> {
+    pub fn file(&self) -> Option<&str>
+        ensures { option_map (λ f. f.now) result ≡ option_map (λ p. p.file) (first_place self.now) }
+    {
         Some(self.first.label()?.file())
     }
 
     /// The line of the first fault, counted from 0, where the file's record says where things stand.
-    pub fn line(&self) -> Option<usize> {
+    pub fn line(&self) -> Option<usize>
+        ensures { result ≡ option_map (λ s. s.start_line) (first_span self.now) }
+    {
         self.first.label()?.line()
     }
 
     /// The column of the first fault, counted from 0 in bytes, where the file's record says where things stand.
-    pub fn column(&self) -> Option<usize> {
+    pub fn column(&self) -> Option<usize>
+        ensures { result ≡ option_map (λ s. s.start_column) (first_span self.now) }
+    {
         self.first.label()?.column()
     }
 
     /// Which part of the file's record the first fault is at, as in a record's locations.
-    pub fn path(&self) -> Option<&[i32]> {
+    pub fn path(&self) -> Option<&[i32]>
+        ensures { option_map (λ p. p.now) result ≡ option_map (λ p. p.path) (first_place self.now) }
+    {
         Some(self.first.label()?.path())
     }
 }
