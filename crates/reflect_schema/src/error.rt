@@ -30,8 +30,12 @@ pub enum SchemaError {
 }
 
 impl SchemaError {
+    ghost use Rattle.reflect_schema.specs.Places.{NamesFile, NamesPosition};
+
     /// The name of the file that is refused.
-    pub fn file(&self) -> Option<&str> {
+    pub fn file(&self) -> Option<&str>
+        ensures { NamesFile self.now result }
+    {
         match self {
             SchemaError::Parse(error) => Some(error.file()),
             SchemaError::Link(error) => error.file(),
@@ -41,7 +45,9 @@ impl SchemaError {
     }
 
     /// Line and column, both from 1 and the column in bytes, where they are known.
-    pub fn position(&self) -> Option<(usize, usize)> {
+    pub fn position(&self) -> Option<(usize, usize)>
+        ensures { NamesPosition self.now result }
+    {
         let (line, column) = match self {
             SchemaError::Parse(error) => {
                 let (line, column) = error.position()?;
