@@ -1,8 +1,8 @@
-use Rattle.std.proofs.Common.{◌≡◌, [], OnOk, ap, subst, ◌∙◌, rules}
+use Rattle.std.proofs.Common.{◌≡◌, [], OnOk, Result, Ok, Err, ap, subst, ◌∙◌}
 use Rattle.reflect_names.specs.Faults.{Adds, list_of, place_at}
 use Rattle.reflect_names.specs.FileNames.{indexes_of, with_files}
 use Rattle.reflect_names.specs.Known.{known_of}
-use Rattle.reflect_names.specs.NamePass.{faults_along}
+use Rattle.reflect_names.specs.NamePass.{faults_along, known_behind}
 use Rattle.reflect_walk.specs.Batches.{batch_declarations}
 use Rattle.reflect_passes.specs.NameFaults.{name_faults}
 use Rattle.reflect_passes.proofs.Listed.{names_listed, refused_by, same_known}
@@ -32,3 +32,16 @@ pub returns-in-Ok-clause-err : goal.returns-in-Ok-clause-err
 returns-in-Ok-clause-err c =
     let faults = name_faults (indexes_of c.args.file_names.now) (known_of c.args.names.now) c.args.before c.args.first c.args.files.now in
     refused_by c.without_faults.result (list_of c.into_parts-all.result.1) (λ xs. xs ≡ faults) (listed c) c.without_faults.ensures.err
+
+always : {T E : Type 0} (r : Result T E) (P : Type 0) → P → OnOk r P
+always (Ok x) P p = p
+always (Err e) P p = tt
+
+pub returns-in-Ok-clause-names : goal.returns-in-Ok-clause-names
+returns-in-Ok-clause-names c =
+    let known = known_of c.args.names.now in
+    let ds = batch_declarations c.args.before c.args.first c.args.files.now in
+    let v = c.new-visitor.result in
+    let same : known_of v.names ≡ known = same_known v.names c.replace-known.result c.new-visitor.ensures.names ∙ ap known_of c.replace-known.ensures.value in
+    let all = same_known c.into_parts-all.result.0 c.declare_files-declared.new.self.names c.into_parts-all.ensures.names in
+    always c.without_faults.result (known_of c.into_parts-all.result.0 ≡ known_behind known ds) (all ∙ c.in-Ok.ensures.known ∙ ap (λ k. known_behind k ds) same)
