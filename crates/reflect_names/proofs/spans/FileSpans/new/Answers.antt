@@ -27,7 +27,7 @@ locations-preserved c =
       | in-Some+then-not-contains_key+in_ok-from_slice+in_ok-insert w ↦
           let is = w.in_ok-from_slice.ensures.items ∙ w.as_slice-then-not-contains_key.ensures.value in
           subst (λ n. AreSpans n (take k ls ++ l ∷ [])) (sym w.by_path-is)
-            (spans_put m w.insert.new.self (take k ls) l w.in_ok-from_slice.field-0 w.in-Some.span c.locations.invariant (sym w.contains_key.ensures ∙ w.if-not-contains_key.true) is (read ∙ w.in-Some.is) w.in_ok-insert.ensures.updates.0)
+          (spans_put m w.insert.new.self (take k ls) l w.in_ok-from_slice.field-0 w.in-Some.span c.locations.invariant (sym w.contains_key.ensures ∙ w.if-not-contains_key.true) is (read ∙ w.in-Some.is) w.in_ok-insert.ensures.updates.0)
       | in-Some+else-not-contains_key w ↦
           subst (λ n. AreSpans n (take k ls ++ l ∷ [])) (sym w.by_path-is) (spans_kept m (take k ls) l c.locations.invariant (sym w.contains_key.ensures ∙ w.if-not-contains_key.false))
       | in_default w ↦
