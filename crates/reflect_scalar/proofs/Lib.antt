@@ -1,2 +1,4 @@
+pub mod Defaulted
+pub mod First
 pub mod Meanings
 pub mod ReadBack

@@ -2,6 +2,7 @@
 
 ghost use Rattle.std.specs.Prelude.{◌≡◌, ◌↔◌, IsTrue};
 ghost use Rattle.reflect_index.specs.Types.{FieldType, PoolType};
+ghost use Rattle.reflect_pool.specs.Defaults.{IsDefault};
 ghost use Rattle.reflect_pool.specs.Kinds.{IsKind};
 ghost use Rattle.reflect_pool.specs.Shapes.{holds_list, holds_map};
 ghost use Rattle.reflect_scalar.specs.Floats.{is_float_kind, HoldsFloats};
@@ -45,7 +46,8 @@ pub trait FieldDescriptorLike<'p> {
         ensures { result ≡ (says self.now).presence };
 
     /// The default that its declaration gives.
-    fn default(&self) -> Option<DefaultValue<'p>>;
+    fn default(&self) -> Option<DefaultValue<'p>>
+        ensures { IsDefault (pool self.now) (says self.now) result };
 
     /// The oneof that it is a member of. An extension is in none.
     fn containing_oneof(&self) -> Option<OneofDescriptor<'p>>;

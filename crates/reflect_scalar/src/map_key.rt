@@ -1,3 +1,7 @@
+ghost use Rattle.std.specs.Prelude.{◌≡◌, IfOk};
+ghost use Rattle.reflect_scalar.specs.Keys.{key_view};
+ghost use Rattle.reflect_scalar.specs.Singles.{scalar_view};
+
 use crate::scalar::Scalar;
 use reflect_link::Kind;
 use std::alloc::{AllocError, Global};
@@ -38,7 +42,9 @@ impl MapKey {
     }
 
     /// The key as a single value.
-    pub fn as_scalar(&self) -> Scalar<'_> {
+    pub fn as_scalar(&self) -> Scalar<'_>
+        ensures { scalar_view result ≡ key_view self.now }
+    {
         match self {
             MapKey::Bool(truth) => Scalar::Bool(*truth),
             MapKey::I32(n) => Scalar::I32(*n),
@@ -50,7 +56,9 @@ impl MapKey {
     }
 
     /// A copy.
-    pub fn clone(&self) -> Result<MapKey, AllocError> {
+    pub fn clone(&self) -> Result<MapKey, AllocError>
+        ensures { IfOk result (λ copy. key_view copy ≡ key_view self.now) }
+    {
         match self {
             MapKey::Bool(truth) => Ok(MapKey::Bool(*truth)),
             MapKey::I32(n) => Ok(MapKey::I32(*n)),

@@ -1,7 +1,11 @@
 //! Single values, and the defaults of fields that hold them.
 
-ghost use Rattle.std.specs.Prelude.{◌≡◌, option_map};
-ghost use Rattle.reflect_scalar.specs.Kinds.{suits, IsDefault};
+ghost use Rattle.std.specs.Prelude.{◌≡◌, Option, option_map};
+ghost use Rattle.std.specs.Option.{option_and_then};
+ghost use Rattle.reflect_pool.specs.Defaults as pools;
+ghost use Rattle.reflect_pool.specs.declared.kind.DefaultValue.{DefaultValue};
+ghost use Rattle.reflect_scalar.specs.Defaults.{signed_in, unsigned_in, lent_in, default_in};
+ghost use Rattle.reflect_scalar.specs.Kinds.{suits, kind_type, IsDefault};
 ghost use Rattle.reflect_scalar.specs.Singles.{scalar_view};
 
 use crate::field_like::FieldDescriptorLike;
@@ -68,7 +72,9 @@ impl<'a> Scalar<'a> {
 }
 
 /// A declared default of a kind with a sign.
-fn signed_default<'a>(kind: &Kind<'_>, n: i64) -> Option<Scalar<'a>> {
+fn signed_default<'a>(kind: &Kind<'_>, n: i64) -> Option<Scalar<'a>>
+    ensures { option_map scalar_view result ≡ signed_in (kind_type kind.now) n }
+{
     match kind {
         Kind::Int32 | Kind::Sint32 | Kind::Sfixed32 => Some(Scalar::I32(i32::try_from(n).ok()?)),
         _ => Some(Scalar::I64(n)),
@@ -76,7 +82,9 @@ fn signed_default<'a>(kind: &Kind<'_>, n: i64) -> Option<Scalar<'a>> {
 }
 
 /// A declared default of a kind without a sign.
-fn unsigned_default<'a>(kind: &Kind<'_>, n: u64) -> Option<Scalar<'a>> {
+fn unsigned_default<'a>(kind: &Kind<'_>, n: u64) -> Option<Scalar<'a>>
+    ensures { option_map scalar_view result ≡ unsigned_in (kind_type kind.now) n }
+{
     match kind {
         Kind::Uint32 | Kind::Fixed32 => Some(Scalar::U32(u32::try_from(n).ok()?)),
         _ => Some(Scalar::U64(n)),
@@ -84,7 +92,9 @@ fn unsigned_default<'a>(kind: &Kind<'_>, n: u64) -> Option<Scalar<'a>> {
 }
 
 /// What a declared default says of a field of a kind. The text of a floating-point one is not read.
-fn declared_default<'p>(kind: &Kind<'p>, default: DefaultValue<'p>) -> Option<Scalar<'p>> {
+fn declared_default<'p>(kind: &Kind<'p>, default: DefaultValue<'p>) -> Option<Scalar<'p>>
+    ensures { option_map scalar_view result ≡ lent_in (kind_type kind.now) default.entry }
+{
     match default {
         DefaultValue::I64(n) => signed_default(kind, n),
         DefaultValue::U64(n) => unsigned_default(kind, n),
@@ -96,13 +106,20 @@ fn declared_default<'p>(kind: &Kind<'p>, default: DefaultValue<'p>) -> Option<Sc
     }
 }
 
+/// The default that a field's declaration gives, as a value of its kind.
+fn declared_scalar<'p, F: FieldDescriptorLike<'p>>(field: &F, kind: &Kind<'p>) -> Option<Scalar<'p>>
+    ensures { (o : Option DefaultValue) × pools.IsDefault (F.pool field.now) (F.says field.now) o × (option_map scalar_view result ≡ option_and_then (lent_in (kind_type kind.now)) o) }
+{
+    declared_default(kind, field.default()?)
+}
+
 /// What one value of a field is where none was set: the declared default, else that of the kind. `None` of a message.
-pub fn default_scalar<'p, F: FieldDescriptorLike<'p>>(field: &F) -> Option<Scalar<'p>> {
+pub fn default_scalar<'p, F: FieldDescriptorLike<'p>>(field: &F) -> Option<Scalar<'p>>
+    ensures { option_map scalar_view result ≡ default_in (F.pool field.now) (F.says field.now) }
+{
     let kind = field.kind();
-    if let Some(default) = field.default() {
-        if let Some(scalar) = declared_default(&kind, default) {
-            return Some(scalar);
-        }
+    match declared_scalar(field, &kind) {
+        Some(scalar) => Some(scalar),
+        None => Scalar::default_value(&kind),
     }
-    Scalar::default_value(&kind)
 }
