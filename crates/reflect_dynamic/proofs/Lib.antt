@@ -1,10 +1,13 @@
 pub mod Appending
+pub mod Before
 pub mod Choosing
 pub mod Copying
 pub mod Extending
 pub mod Filling
+pub mod Forms
 pub mod Keeping
 pub mod Kept
+pub mod Known
 pub mod Owning
 pub mod Packing
 pub mod Putting

@@ -1,3 +1,4 @@
+pub mod Bytes
 pub mod Copies
 pub mod Declares
 pub mod Elements
@@ -5,6 +6,7 @@ pub mod EntriesLeft
 pub mod Fields
 pub mod Held
 pub mod Keeps
+pub mod Known
 pub mod Left
 pub mod Merging
 pub mod Oneofs

@@ -1,6 +1,8 @@
 //! Defaults: what stands for a field that is not set.
 
-ghost use Rattle.std.specs.Prelude.{◌≡◌, true, IsTrue};
+ghost use Rattle.std.specs.Prelude.{◌≡◌, ◌||◌, not, true, Some, IsTrue, option_map};
+ghost use Rattle.reflect_scalar.specs.Singles.{scalar_view};
+ghost use Rattle.reflect_dynamic.specs.Bytes.{form_of, is_default, is_set};
 
 use crate::message::DynamicMessage;
 use crate::value::Value;
@@ -40,7 +42,9 @@ pub fn is_default_of<'p, F: FieldDescriptorLike<'p>>(value: &Value<'p>, field: &
 pub fn is_default_scalar<'p, F: FieldDescriptorLike<'p>>(
     value: Option<Scalar<'_>>,
     field: &F,
-) -> bool {
+) -> bool
+    ensures { result ≡ is_default (F.pool field.now) (F.says field.now) (option_map scalar_view value.entry) }
+{
     match (value, default_scalar(field)) {
         (Some(value), Some(default)) => value == default,
         _ => false,
@@ -48,14 +52,17 @@ pub fn is_default_scalar<'p, F: FieldDescriptorLike<'p>>(
 }
 
 /// A field or an extension that holds the single value is set: it has presence, or the value is not its default.
-pub fn is_present_scalar<'p, F: FieldDescriptorLike<'p>>(value: Scalar<'_>, field: &F) -> bool {
+pub fn is_present_scalar<'p, F: FieldDescriptorLike<'p>>(value: Scalar<'_>, field: &F) -> bool
+    ensures { result ≡ ((F.says field.now).presence || not (is_default (F.pool field.now) (F.says field.now) (Some (scalar_view value.entry)))) }
+{
     field.supports_presence() || !is_default_scalar(Some(value), field)
 }
 
 /// A field or an extension that holds the value is set: it has presence, or the value is not its default. A message always
 /// is content.
 pub fn is_present<'p, F: FieldDescriptorLike<'p>>(value: &Value<'p>, field: &F) -> bool
-    ensures { (F.says field.now).presence ≡ true → IsTrue result }
+    ensures presence { (F.says field.now).presence ≡ true → IsTrue result }
+    ensures set { result ≡ is_set (F.pool field.now) (F.says field.now) (form_of value.now) }
 {
     field.supports_presence()
         || match value {

@@ -1,4 +1,4 @@
-ghost use Rattle.std.specs.Prelude.{◌≡◌, ℕ, List, [], IfOk, IfErr, OnOk, OnErr, IfSome, IfNone};
+ghost use Rattle.std.specs.Prelude.{◌≡◌, ℕ, List, [], ◌++◌, IfOk, IfErr, OnOk, OnErr, IfSome, IfNone};
 ghost use Rattle.reflect_wire.specs.Records.{Payload, SpellsRecords};
 ghost use Rattle.reflect_wire.specs.Views.{records_of};
 ghost use Rattle.reflect_wire.specs.declared.wire_error.WireError.TheVariants.{Memory};
@@ -6,6 +6,8 @@ ghost use Rattle.std.specs.Option.{option_copied};
 ghost use Rattle.reflect_entries.specs.Entries.{value_at};
 ghost use Rattle.reflect_dynamic.specs.EntriesLeft.{entries_left};
 ghost use Rattle.reflect_entries.specs.Undeclared.{undeclared};
+ghost use Rattle.reflect_codec.specs.Held.{held};
+ghost use Rattle.reflect_dynamic.specs.Bytes.{message_bytes};
 ghost use Rattle.reflect_dynamic.specs.Copies.{AreCopies, MergesFields, MergesExtensions};
 ghost use Rattle.reflect_dynamic.specs.Fields.{HoldFields, HoldExtensions};
 ghost use Rattle.reflect_dynamic.specs.Held.{fields_of, choices_of, extensions_of, unknown_of};
@@ -103,6 +105,7 @@ impl<'p> DynamicMessage<'p> {
     ///
     /// Refused for want of memory alone, which leaves `out`.
     pub fn encode(&self, out: &mut Vec<u8>) -> Result<(), WireError>
+        ensures ok { OnOk result (out.new.items ≡ out.old.items ++ message_bytes self.now) }
         ensures err { IfErr result (λ e. e ≡ Memory) }
         ensures left { OnErr result (out.new.items ≡ out.old.items) }
     {
@@ -111,12 +114,14 @@ impl<'p> DynamicMessage<'p> {
 
     /// The message's wire bytes. Refused as `encode` is.
     pub fn encode_to_vec(&self) -> Result<Vec<u8>, WireError>
+        ensures ok { IfOk result (λ bytes. bytes.items ≡ message_bytes self.now) }
         ensures err { IfErr result (λ e. e ≡ Memory) }
     {
         Ok(self.written()?.into_bytes())
     }
 
     fn written(&self) -> Result<Backward, WireError>
+        ensures ok { IfOk result (λ written. held written ≡ message_bytes self.now) }
         ensures err { IfErr result (λ e. e ≡ Memory) }
     {
         let mut written = Backward::new(self.allocator());
