@@ -3,8 +3,10 @@ pub mod Choosing
 pub mod Copying
 pub mod Extending
 pub mod Filling
+pub mod Joining
 pub mod Keeping
 pub mod Kept
+pub mod Nesting
 pub mod Owning
 pub mod Packing
 pub mod Putting

@@ -1,3 +1,4 @@
+pub mod Contents
 pub mod Copies
 pub mod Declares
 pub mod Elements
@@ -6,7 +7,9 @@ pub mod Fields
 pub mod Held
 pub mod Keeps
 pub mod Left
+pub mod Levels
 pub mod Merging
+pub mod Messages
 pub mod Oneofs
 pub mod Packed
 pub mod Puts
