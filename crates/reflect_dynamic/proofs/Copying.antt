@@ -7,11 +7,13 @@ use Rattle.reflect_wire.specs.Records.{Payload, SpellsRecords}
 use Rattle.reflect_wire.specs.Views.{records_of}
 use Rattle.reflect_pool.specs.declared.message.MessageDescriptor.{MessageDescriptor}
 use Rattle.reflect_entries.specs.Entries.{Updates, value_at}
+use Rattle.reflect_dynamic.specs.Contents.{Content}
 use Rattle.reflect_dynamic.specs.Copies.{AreCopies, MergesFields, MergesExtensions}
 use Rattle.reflect_dynamic.specs.Keeps.{Keeps}
 use Rattle.reflect_dynamic.specs.Merging.{IsBody}
+use Rattle.reflect_dynamic.specs.Messages.{Takes}
 use Rattle.reflect_dynamic.specs.Oneofs.{AreChosen}
-use Rattle.reflect_dynamic.specs.Spares.{Content, Merges}
+use Rattle.reflect_dynamic.specs.Spares.{Merges}
 use Rattle.reflect_dynamic.specs.Trees.{tree}
 use Rattle.reflect_dynamic.specs.declared.value.Value.{Value}
 use Rattle.reflect_dynamic.proofs.Running.{whole_body}
@@ -76,11 +78,11 @@ pub chosen_copied : (m : MessageDescriptor) (choices noted : List (ℕ × ℕ)) 
 chosen_copied m choices noted old copy same copies h = subst (λ l. AreChosen m l copy) (sym same) (record { member = h.member; noted = λ f owns first is stands. h.noted f owns first is (sym (some_copied _ _ (copies _)) ∙ stands) })
 
 -- what a message holds into a copy of which records were taken in
-pub merged : (m type : MessageDescriptor) (levels : ℕ) (bytes rest : List ℕ) (old a b : Content) (rs : List (ℕ × Payload)) → type ≡ m → Fronts (IsBody None levels) bytes rs rest → rest ≡ [] → Merges type a b rs
+pub merged : (inner : Takes) (m type : MessageDescriptor) (levels : ℕ) (bytes rest : List ℕ) (old a b : Content) (rs : List (ℕ × Payload)) → type ≡ m → Fronts (IsBody None levels) bytes rs rest → rest ≡ [] → Merges inner type a b rs
     → AreCopies old.fields a.fields → a.choices ≡ old.choices → AreCopies old.extensions a.extensions → a.unknown ≡ old.unknown
-    → (rs : List (ℕ × Payload)) × SpellsRecords levels bytes (records_of rs) × Keeps m old.unknown b.unknown rs × (AreChosen m old.choices old.fields → MergesFields m old.fields b.fields rs) × MergesExtensions m old.extensions b.extensions rs
-merged m type levels bytes rest old a b rs is read whole h fields choices extensions unknown =
-    let taken = subst (λ m. Merges m a b rs) is h in (
+    → (rs : List (ℕ × Payload)) × SpellsRecords levels bytes (records_of rs) × Keeps m old.unknown b.unknown rs × (AreChosen m old.choices old.fields → MergesFields inner m old.fields b.fields rs) × MergesExtensions inner m old.extensions b.extensions rs
+merged inner m type levels bytes rest old a b rs is read whole h fields choices extensions unknown =
+    let taken = subst (λ m. Merges inner m a b rs) is h in (
       rs,
       whole_body levels bytes rest rs read whole,
       subst (λ l. Keeps m l b.unknown rs) unknown taken.unknown,
@@ -88,8 +90,8 @@ merged m type levels bytes rest old a b rs is read whole h fields choices extens
       (a.extensions, extensions, taken.extended),
     )
 
-pub merged_chosen : (m type new : MessageDescriptor) (old a b : Content) (rs : List (ℕ × Payload)) → type ≡ m → new ≡ type → Merges type a b rs → AreCopies old.fields a.fields → a.choices ≡ old.choices → AreChosen m old.choices old.fields
+pub merged_chosen : (inner : Takes) (m type new : MessageDescriptor) (old a b : Content) (rs : List (ℕ × Payload)) → type ≡ m → new ≡ type → Merges inner type a b rs → AreCopies old.fields a.fields → a.choices ≡ old.choices → AreChosen m old.choices old.fields
     → AreChosen new b.choices b.fields
-merged_chosen m type new old a b rs is same h fields choices chosen =
+merged_chosen inner m type new old a b rs is same h fields choices chosen =
     let copied = chosen_copied type old.choices a.choices old.fields a.fields choices fields (subst (λ t. AreChosen t old.choices old.fields) (sym is) chosen) in
     subst (λ t. AreChosen t b.choices b.fields) (sym same) (h.filled copied).chosen

@@ -5,9 +5,11 @@ pub mod Copying
 pub mod Extending
 pub mod Filling
 pub mod Forms
+pub mod Joining
 pub mod Keeping
 pub mod Kept
 pub mod Known
+pub mod Nesting
 pub mod Owning
 pub mod Packing
 pub mod Putting

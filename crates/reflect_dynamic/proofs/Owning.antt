@@ -13,6 +13,7 @@ use Rattle.reflect_entries.specs.Members.{first_number, first_member_of}
 use Rattle.reflect_pool.specs.declared.extension.ExtensionDescriptor.{ExtensionDescriptor}
 use Rattle.reflect_scalar.specs.FieldTypes.{field_pool, extension_pool, extension_type}
 use Rattle.reflect_dynamic.specs.Declares.{Declares, Owns, OwnsExtension}
+use Rattle.reflect_dynamic.specs.Messages.{Takes}
 use Rattle.reflect_dynamic.specs.Taking.{Leaves}
 use Rattle.reflect_dynamic.specs.declared.value.Value.{Value}
 
@@ -42,8 +43,8 @@ module _ (m : MessageDescriptor) where
     pub same_first : first_member_of f ≡ first_member_of g
     same_first = alike (λ p i k. option_and_then (λ oneof. first_number (members_of p i oneof)) (type_of_field p i k).oneof)
 
-    pub leaves_same : (old new : Option Value) (ps : List Payload) → Leaves (field_pool g) (field_type g) old new ps → Leaves (field_pool f) (field_type f) old new ps
-    leaves_same old new ps h = subst (λ p. Leaves p (field_type f) old new ps) (sym (alike (λ p i k. p))) (subst (λ t. Leaves (field_pool g) t old new ps) (sym (alike type_of_field)) h)
+    pub leaves_same : (inner : Takes) (old new : Option Value) (ps : List Payload) → Leaves inner (field_pool g) (field_type g) old new ps → Leaves inner (field_pool f) (field_type f) old new ps
+    leaves_same inner old new ps h = subst (λ p. Leaves inner p (field_type f) old new ps) (sym (alike (λ p i k. p))) (subst (λ t. Leaves inner (field_pool g) t old new ps) (sym (alike type_of_field)) h)
 
   -- and so does an extension
   module _ (x y : ExtensionDescriptor) (owns : OwnsExtension m x) (other : OwnsExtension m y) (same : (extension_type x).number ≡ (extension_type y).number) where
@@ -55,5 +56,5 @@ module _ (m : MessageDescriptor) where
     one_pool : extension_pool x ≡ extension_pool y
     one_pool = owns.0.0 ∙ sym other.0.0
 
-    pub extension_same : (old new : Option Value) (ps : List Payload) → Leaves (extension_pool y) (extension_type y) old new ps → Leaves (extension_pool x) (extension_type x) old new ps
-    extension_same old new ps h = subst (λ i. Leaves (extension_pool x) (extension_at (extension_pool x) i).field old new ps) (sym one_extension) (subst (λ p. Leaves p (extension_at p y.index).field old new ps) (sym one_pool) h)
+    pub extension_same : (inner : Takes) (old new : Option Value) (ps : List Payload) → Leaves inner (extension_pool y) (extension_type y) old new ps → Leaves inner (extension_pool x) (extension_type x) old new ps
+    extension_same inner old new ps h = subst (λ i. Leaves inner (extension_pool x) (extension_at (extension_pool x) i).field old new ps) (sym one_extension) (subst (λ p. Leaves inner p (extension_at p y.index).field old new ps) (sym one_pool) h)

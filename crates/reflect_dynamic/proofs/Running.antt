@@ -26,29 +26,16 @@ module _ (levels : ℕ) (key : WireKey) where
   pub scalar_value : (kind : Kind) (bytes rest : List ℕ) (v : Single) → Fronts (IsScalar kind key.wire) bytes v rest → (p : Payload) × Fronts (IsValue levels key) bytes p rest
   scalar_value kind bytes rest v h = (h.1.0, (h.0, (h.1.1.0, plain_spelled levels key.number h.0 h.1.0 h.1.1.1), h.2))
 
-  pub delimited_value : (bytes rest body : List ℕ) → key.wire ≡ LengthDelimited → Fronts IsDelimited bytes body rest → (p : Payload) × Fronts (IsValue levels key) bytes p rest
-  delimited_value bytes rest body wire h = (delimited body, (h.0, (wire, h.1), h.2))
+  pub delimited_value : (bytes rest body : List ℕ) → key.wire ≡ LengthDelimited → Fronts IsDelimited bytes body rest → Fronts (IsValue levels key) bytes (delimited body) rest
+  delimited_value bytes rest body wire h = (h.0, (wire, h.1), h.2)
 
-  pub group_value : (below : ℕ) (bytes rest : List ℕ) (rs : List (ℕ × Payload)) → key.wire ≡ StartGroup → below + 1 ≡ levels → Fronts (IsBody (Some key.number) below) bytes rs rest → (p : Payload) × Fronts (IsValue levels key) bytes p rest
+  pub group_value : (below : ℕ) (bytes rest : List ℕ) (rs : List (ℕ × Payload)) → key.wire ≡ StartGroup → below + 1 ≡ levels → Fronts (IsBody (Some key.number) below) bytes rs rest → Fronts (IsValue levels key) bytes (group (records_of rs)) rest
   group_value below bytes rest rs wire e h =
       let same : below ≡ levels - 1 = omega (arith, e) in
-      (group (records_of rs), (h.0, (wire, (omega (arith, e), subst (λ l. IsGroup l key.number h.0 (records_of rs)) same h.1)), h.2))
+      (h.0, (wire, (omega (arith, e), subst (λ l. IsGroup l key.number h.0 (records_of rs)) same h.1)), h.2)
 
   pub same_value : (levels' : ℕ) (key' : WireKey) (bytes rest : List ℕ) (p : Payload) → levels' ≡ levels → key' ≡ key → Fronts (IsValue levels' key') bytes p rest → Fronts (IsValue levels key) bytes p rest
   same_value levels' key' bytes rest p l k h = subst (λ k. Fronts (IsValue levels k) bytes p rest) k (subst (λ l. Fronts (IsValue l key') bytes p rest) l h)
-
-  -- one value is a run
-  pub run_of_one : (bytes rest : List ℕ) → (p : Payload) × Fronts (IsValue levels key) bytes p rest → (run : List Payload × Payload) × Fronts (IsRun levels key) bytes run rest
-  run_of_one bytes rest (p, h) = (([], p), (h.0, ([], h.0, refl, h.1, refl), h.2))
-
-  pub run_if_read : (bytes : List ℕ) (r : Result (Bor (List ℕ)) WireError) → IfOk r (λ rest. (p : Payload) × Fronts (IsValue levels key) bytes p rest.now) → IfOk r (λ rest. (run : List Payload × Payload) × Fronts (IsRun levels key) bytes run rest.now)
-  run_if_read bytes (Ok rest) h = run_of_one bytes rest.now h
-  run_if_read bytes (Err e) h = tt
-
-  pub group_if_read : (below : ℕ) (bytes : List ℕ) (Q : List (ℕ × Payload) → Type 0) (r : Result (Bor (List ℕ)) WireError) → key.wire ≡ StartGroup → below + 1 ≡ levels
-      → IfOk r (λ rest. (rs : List (ℕ × Payload)) × Fronts (IsBody (Some key.number) below) bytes rs rest.now × Q rs) → IfOk r (λ rest. (p : Payload) × Fronts (IsValue levels key) bytes p rest.now)
-  group_if_read below bytes Q (Ok rest) wire e h = group_value below bytes rest.now h.0 wire e h.1
-  group_if_read below bytes Q (Err e) wire is h = tt
 
   lead_push : (lead value again : List ℕ) (ps : List Payload) (p : Payload) → LeadsOn levels key lead ps → IsValue levels key value p → IsKey again key → LeadsOn levels key (lead ++ (value ++ again)) (ps ++ p ∷ [])
   lead_push lead value again [] p h v k = (value, again, [], v, k, refl, ap (λ l. l ++ (value ++ again)) h ∙ ap (λ l. value ++ l) (sym (append-nil again)))

@@ -13,17 +13,20 @@ use Rattle.reflect_wire.specs.declared.wire_error.WireError.{WireError}
 use Rattle.reflect_entries.specs.Entries.{value_at}
 use Rattle.reflect_pool.specs.declared.extension.ExtensionDescriptor.{ExtensionDescriptor}
 use Rattle.reflect_scalar.specs.FieldTypes.{field_pool, extension_pool, extension_type}
+use Rattle.reflect_dynamic.specs.Contents.{Content}
 use Rattle.reflect_dynamic.specs.Fields.{HoldFields, HoldExtensions}
 use Rattle.reflect_dynamic.specs.Keeps.{numbered, Keeps}
 use Rattle.reflect_dynamic.specs.Merging.{IsBody, IsRun, run_records}
+use Rattle.reflect_dynamic.specs.Messages.{Takes}
 use Rattle.reflect_dynamic.specs.Declares.{Owns, OwnsExtension, NoField}
 use Rattle.reflect_dynamic.specs.Oneofs.{AreChosen, MakesRoom, Chooses, Unsets, sibling}
-use Rattle.reflect_dynamic.specs.Spares.{Same, ReadsMember, SparesFields, SparesExtensions, HoldsRead, Content, Merges}
+use Rattle.reflect_dynamic.specs.Spares.{Same, ReadsMember, SparesFields, SparesExtensions, HoldsRead, Merges}
 use Rattle.reflect_dynamic.specs.Taking.{Leaves}
 use Rattle.reflect_dynamic.specs.declared.value.Value.{Value}
 use Rattle.reflect_dynamic.proofs.Choosing.{is_or_not, in_oneof, room_keeps, room_chosen}
 use Rattle.reflect_dynamic.proofs.Extending.{extended_none, extended_both, extended_apart, extended_run, extended_empty}
 use Rattle.reflect_dynamic.proofs.Filling.{filled_none, filled_both, filled_apart, filled_run, filled_empty}
+use Rattle.reflect_dynamic.proofs.Joining.{Joins}
 use Rattle.reflect_dynamic.proofs.Keeping.{two_empty, keeps_none, keeps_more, keeps_declared, field_declared}
 use Rattle.reflect_dynamic.proofs.Running.{whole_body}
 
@@ -76,57 +79,58 @@ module _ (m : MessageDescriptor) where
     by k x (inl is) = inr (unsets.unset k is, (f, owns.0, in_oneof f choices k is, run_read (field_type f).number run))
     by k x (inr not) = inl (unsets.others k not ∙ x)
 
-  pub merges_none : (a : Content) → Merges m a a []
+module _ (inner : Takes) (m : MessageDescriptor) where
+  pub merges_none : (a : Content) → Merges inner m a a []
   merges_none a = record {
-    fields = fields_same a.fields a.fields [] refl;
-    filled = filled_none m a;
+    fields = fields_same m a.fields a.fields [] refl;
+    filled = filled_none inner m a;
     extensions = extensions_same a.extensions a.extensions [] refl;
-    extended = extended_none m a.extensions;
+    extended = extended_none inner m a.extensions;
     unknown = keeps_none m a.unknown;
   }
 
-  pub merges_more : (a b c : Content) (rs ts : List (ℕ × Payload)) → Merges m a b rs → Merges m b c ts → Merges m a c (rs ++ ts)
-  merges_more a b c rs ts h k = record {
-    fields = fields_more a.fields b.fields c.fields rs ts h.fields k.fields;
-    filled = λ chosen. let first = h.filled chosen in filled_both m a b c rs ts first (k.filled first.chosen);
+  pub merges_more : Joins inner → (a b c : Content) (rs ts : List (ℕ × Payload)) → Merges inner m a b rs → Merges inner m b c ts → Merges inner m a c (rs ++ ts)
+  merges_more joins a b c rs ts h k = record {
+    fields = fields_more m a.fields b.fields c.fields rs ts h.fields k.fields;
+    filled = λ chosen. let first = h.filled chosen in filled_both inner m joins a b c rs ts first (k.filled first.chosen);
     extensions = extensions_more a.extensions b.extensions c.extensions rs ts h.extensions k.extensions;
-    extended = extended_both m a.extensions b.extensions c.extensions rs ts h.extended k.extended;
+    extended = extended_both inner m joins a.extensions b.extensions c.extensions rs ts h.extended k.extended;
     unknown = keeps_more m a.unknown b.unknown c.unknown rs ts h.unknown k.unknown;
   }
 
   -- records of a field, for whose choice room is made, and which is then noted
   pub merges_field : (g : FieldDescriptor) → Owns m g → (n : ℕ) → (field_type g).number ≡ n → (old new : Content) (room : List (ℕ × ℕ)) (between : List (ℕ × Value)) (run : List Payload × Payload)
-      → MakesRoom g old.choices room → ((k : ℕ) → k ≢ n → Same old.fields between k) → Leaves (field_pool g) (field_type g) (value_at old.fields n) (value_at between n) (run.0 ++ run.1 ∷ [])
-      → Unsets g room between new.fields → Chooses g room new.choices → new.extensions ≡ old.extensions → new.unknown ≡ old.unknown → Merges m old new (run_records n run)
+      → MakesRoom g old.choices room → ((k : ℕ) → k ≢ n → Same old.fields between k) → Leaves inner (field_pool g) (field_type g) (value_at old.fields n) (value_at between n) (run.0 ++ run.1 ∷ [])
+      → Unsets g room between new.fields → Chooses g room new.choices → new.extensions ≡ old.extensions → new.unknown ≡ old.unknown → Merges inner m old new (run_records n run)
   merges_field g owns n is old new room between run made put leaves unsets chooses extensions unknown =
       let number = (field_type g).number in
       let there : (k : ℕ) → k ≢ number → Same old.fields between k = λ k e. put k (λ s. e (s ∙ sym is)) in
-      let left = subst (λ n. Leaves (field_pool g) (field_type g) (value_at old.fields n) (value_at between n) (run.0 ++ run.1 ∷ [])) (sym is) leaves in
+      let left = subst (λ n. Leaves inner (field_pool g) (field_type g) (value_at old.fields n) (value_at between n) (run.0 ++ run.1 ∷ [])) (sym is) leaves in
       let kept = room_keeps g old.choices room made in
       let clears : Unsets g old.choices between new.fields = record { unset = λ k e. unsets.unset k (kept ∙ e); others = λ k e. unsets.others k (λ s. e (sym kept ∙ s)) } in
       let notes = room_chosen g old.choices room new.choices made chooses in
-      let merged : Merges m old new (run_records number run) = record {
-        fields = fields_run g old.choices old.fields between new.fields run owns there clears;
-        filled = λ chosen. filled_run m g owns old new between chosen notes there clears run left;
+      let merged : Merges inner m old new (run_records number run) = record {
+        fields = fields_run m g old.choices old.fields between new.fields run owns there clears;
+        filled = λ chosen. filled_run inner m g owns old new between chosen notes there clears run left;
         extensions = extensions_same old.extensions new.extensions (run_records number run) extensions;
-        extended = extended_apart m old.extensions new.extensions number run (λ x owned free e. free g owns (sym e)) extensions;
+        extended = extended_apart inner m old.extensions new.extensions number run (λ x owned free e. free g owns (sym e)) extensions;
         unknown = keeps_declared m old.unknown new.unknown number run unknown (field_declared m g number owns refl);
       } in
-      subst (λ n. Merges m old new (run_records n run)) is merged
+      subst (λ n. Merges inner m old new (run_records n run)) is merged
 
   module _ (levels : ℕ) (key : WireKey) (bytes : List ℕ) (old new : Content) where
     -- where records are kept, nothing else changes
     pub merges_kept : (r : Result (Bor (List ℕ)) WireError) → NoField m key.number → ((x : ExtensionDescriptor) → OwnsExtension m x → (extension_type x).number ≢ key.number) → new.fields ≡ old.fields → new.choices ≡ old.choices → new.extensions ≡ old.extensions
         → IfOk r (λ rest. (run : List Payload × Payload) × Fronts (IsRun levels key) bytes run rest.now × Keeps m old.unknown new.unknown (run_records key.number run))
-        → IfOk r (λ rest. (run : List Payload × Payload) × Fronts (IsRun levels key) bytes run rest.now × Merges m old new (run_records key.number run))
+        → IfOk r (λ rest. (run : List Payload × Payload) × Fronts (IsRun levels key) bytes run rest.now × Merges inner m old new (run_records key.number run))
     merges_kept (Ok rest) none apart fields choices extensions h = (
       h.0,
       h.1,
       record {
-        fields = fields_same old.fields new.fields (run_records key.number h.0) fields;
-        filled = filled_apart m old new key.number h.0 none fields choices;
+        fields = fields_same m old.fields new.fields (run_records key.number h.0) fields;
+        filled = filled_apart inner m old new key.number h.0 none fields choices;
         extensions = extensions_same old.extensions new.extensions (run_records key.number h.0) extensions;
-        extended = extended_apart m old.extensions new.extensions key.number h.0 (λ x owns free. apart x owns) extensions;
+        extended = extended_apart inner m old.extensions new.extensions key.number h.0 (λ x owns free. apart x owns) extensions;
         unknown = h.2;
       },
     )
@@ -135,34 +139,34 @@ module _ (m : MessageDescriptor) where
     -- records of an extension
     pub merges_extension : (r : Result (Bor (List ℕ)) WireError) → NoField m key.number → (x : ExtensionDescriptor) → OwnsExtension m x → (extension_type x).number ≡ key.number → new.fields ≡ old.fields → new.choices ≡ old.choices → new.unknown ≡ old.unknown
         → ((k : ℕ) → k ≢ key.number → Same old.extensions new.extensions k)
-        → IfOk r (λ rest. (run : List Payload × Payload) × Fronts (IsRun levels key) bytes run rest.now × Leaves (extension_pool x) (extension_type x) (value_at old.extensions key.number) (value_at new.extensions key.number) (run.0 ++ run.1 ∷ []))
-        → IfOk r (λ rest. (run : List Payload × Payload) × Fronts (IsRun levels key) bytes run rest.now × Merges m old new (run_records key.number run))
+        → IfOk r (λ rest. (run : List Payload × Payload) × Fronts (IsRun levels key) bytes run rest.now × Leaves inner (extension_pool x) (extension_type x) (value_at old.extensions key.number) (value_at new.extensions key.number) (run.0 ++ run.1 ∷ []))
+        → IfOk r (λ rest. (run : List Payload × Payload) × Fronts (IsRun levels key) bytes run rest.now × Merges inner m old new (run_records key.number run))
     merges_extension (Ok rest) none x owns is fields choices unknown others h = (
       h.0,
       h.1,
       record {
-        fields = fields_same old.fields new.fields (run_records key.number h.0) fields;
-        filled = filled_apart m old new key.number h.0 none fields choices;
+        fields = fields_same m old.fields new.fields (run_records key.number h.0) fields;
+        filled = filled_apart inner m old new key.number h.0 none fields choices;
         extensions = extensions_run old.extensions new.extensions key.number h.0 others;
-        extended = extended_run m x owns key.number is none old.extensions new.extensions h.0 others h.2;
+        extended = extended_run inner m x owns key.number is none old.extensions new.extensions h.0 others h.2;
         unknown = keeps_declared m old.unknown new.unknown key.number h.0 unknown (inr (x, owns, is));
       },
     )
     merges_extension (Err e) none x owns is fields choices unknown others h = tt
 
 -- what a message that held nothing holds of the records
-pub decoded : (m type : MessageDescriptor) (levels : ℕ) (bytes rest : List ℕ) (a b : Content) (rs : List (ℕ × Payload)) → type ≡ m → Fronts (IsBody None levels) bytes rs rest → rest ≡ [] → Merges type a b rs
+pub decoded : (inner : Takes) (m type : MessageDescriptor) (levels : ℕ) (bytes rest : List ℕ) (a b : Content) (rs : List (ℕ × Payload)) → type ≡ m → Fronts (IsBody None levels) bytes rs rest → rest ≡ [] → Merges inner type a b rs
     → a.fields ≡ [] → a.extensions ≡ [] → a.unknown ≡ [] → AreChosen type a.choices a.fields
-    → (rs : List (ℕ × Payload)) × SpellsRecords levels bytes (records_of rs) × Keeps m [] b.unknown rs × HoldsRead b.fields rs × HoldsRead b.extensions rs × HoldFields m b.fields rs × HoldExtensions m b.extensions rs
-decoded m type levels bytes rest a b rs same read whole h fields extensions unknown chosen =
-    let merged = subst (λ m. Merges m a b rs) same h in (
+    → (rs : List (ℕ × Payload)) × SpellsRecords levels bytes (records_of rs) × Keeps m [] b.unknown rs × HoldsRead b.fields rs × HoldsRead b.extensions rs × HoldFields inner m b.fields rs × HoldExtensions inner m b.extensions rs
+decoded inner m type levels bytes rest a b rs same read whole h fields extensions unknown chosen =
+    let merged = subst (λ m. Merges inner m a b rs) same h in (
       rs,
       whole_body levels bytes rest rs read whole,
       subst (λ l. Keeps m l b.unknown rs) unknown merged.unknown,
       λ n e. by n (merged.fields.unread n e),
       λ n e. merged.extensions.unread n e ∙ ap (λ l. value_at l n) extensions,
-      filled_empty m a b rs fields (merged.filled (subst (λ m. AreChosen m a.choices a.fields) same chosen)),
-      extended_empty m a.extensions b.extensions rs extensions merged.extended,
+      filled_empty inner m a b rs fields (merged.filled (subst (λ m. AreChosen m a.choices a.fields) same chosen)),
+      extended_empty inner m a.extensions b.extensions rs extensions merged.extended,
     ) where
       by : (n : ℕ) → Same a.fields b.fields n ⊎ ((value_at b.fields n ≡ None) × ReadsMember m rs) → value_at b.fields n ≡ None
       by n (inl is) = is ∙ ap (λ l. value_at l n) fields

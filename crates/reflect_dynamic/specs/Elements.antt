@@ -2,18 +2,14 @@
 use Rattle.std.specs.Prelude.{◌≡◌, ◌⊎◌, ℕ, true, List, [], ◌∷◌, ◌++◌, Option, None, Some}
 use Rattle.reflect_wire.specs.Records.{Payload, delimited}
 use Rattle.reflect_pool.specs.declared.kind.Kind.{Kind}
-use Rattle.reflect_pool.specs.declared.kind.Kind.TheVariants as kinds
 use Rattle.reflect_scalar.specs.Kinds.{wire_type, packs}
 use Rattle.reflect_scalar.specs.Meaning.{Means}
 use Rattle.reflect_scalar.specs.Singles.{Single}
+use Rattle.reflect_dynamic.specs.Messages.{Takes, IsMade}
 use Rattle.reflect_dynamic.specs.Packed.{IsPacked, Continues}
 use Rattle.reflect_dynamic.specs.declared.value.Value.{Value}
 use Rattle.reflect_dynamic.specs.declared.parts.Held.TheOpen.{Value-F}
 use Rattle.reflect_dynamic.specs.declared.parts.Held.TheViews.{out-Value}
-
-abbrev pub IsMessage : Kind → Type 0
-IsMessage (kinds.Message m) = Unit {0}
-IsMessage _ = ⊥
 
 -- the record is packed, and spells these values of the kind
 abbrev pub IsRow : Kind → Payload → List Single → Type 0
@@ -23,14 +19,14 @@ IsRow kind p vs = (body : List ℕ) × (p ≡ delimited body) × (packs (wire_ty
 abbrev pub AreElements : Kind → Payload → List Single → Type 0
 AreElements kind p vs = ((v : Single) × (vs ≡ v ∷ []) × Means kind p v) ⊎ IsRow kind p vs
 
--- behind the old values stand those of the record, or, of a message kind, one value more
-abbrev pub Appends : Kind → List Value → List Value → Payload → Type 0
-Appends kind old new p = (IsMessage kind × ((v : Value) × (new ≡ old ++ v ∷ []))) ⊎ ((vs : List Single) × AreElements kind p vs × Continues old new vs)
+-- behind the old values stands the record's message, or, of another kind, the values that it spells
+abbrev pub Appends : Takes → Kind → List Value → List Value → Payload → Type 0
+Appends inner kind old new p = ((v : Value) × IsMade inner kind p v × (new ≡ old ++ v ∷ [])) ⊎ ((vs : List Single) × AreElements kind p vs × Continues old new vs)
 
 -- the same for records one behind the other
-abbrev pub AppendsAll : Kind → List Value → List Value → List Payload → Type 0
-AppendsAll kind old new [] = new ≡ old
-AppendsAll kind old new (p ∷ ps) = (between : List Value) × Appends kind old between p × AppendsAll kind between new ps
+abbrev pub AppendsAll : Takes → Kind → List Value → List Value → List Payload → Type 0
+AppendsAll inner kind old new [] = new ≡ old
+AppendsAll inner kind old new (p ∷ ps) = (between : List Value) × Appends inner kind old between p × AppendsAll inner kind between new ps
 
 -- the values of a list
 abbrev pub list_items : Value → Option (List Value)
@@ -54,5 +50,5 @@ items_held None = Some []
 items_held (Some v) = list_items v
 
 -- a list is continued by the values of the records
-abbrev pub ContinuesList : Kind → Option Value → Option Value → List Payload → Type 0
-ContinuesList kind old new ps = (before after : List Value) × (items_held old ≡ Some before) × (items_held new ≡ Some after) × AppendsAll kind before after ps
+abbrev pub ContinuesList : Takes → Kind → Option Value → Option Value → List Payload → Type 0
+ContinuesList inner kind old new ps = (before after : List Value) × (items_held old ≡ Some before) × (items_held new ≡ Some after) × AppendsAll inner kind before after ps

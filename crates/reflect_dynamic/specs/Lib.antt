@@ -1,4 +1,5 @@
 pub mod Bytes
+pub mod Contents
 pub mod Copies
 pub mod Declares
 pub mod Elements
@@ -8,7 +9,9 @@ pub mod Held
 pub mod Keeps
 pub mod Known
 pub mod Left
+pub mod Levels
 pub mod Merging
+pub mod Messages
 pub mod Oneofs
 pub mod Packed
 pub mod Puts

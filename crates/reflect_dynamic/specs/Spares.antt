@@ -8,14 +8,12 @@ use Rattle.reflect_pool.specs.declared.field.FieldDescriptor.{FieldDescriptor}
 use Rattle.reflect_pool.specs.declared.extension.ExtensionDescriptor.{ExtensionDescriptor}
 use Rattle.reflect_scalar.specs.FieldTypes.{extension_type}
 use Rattle.reflect_wire.specs.Records.{Payload}
-use Rattle.reflect_entries.specs.Undeclared.{undeclared}
+use Rattle.reflect_dynamic.specs.Contents.{Content}
 use Rattle.reflect_dynamic.specs.Declares.{Declares, Owns, OwnsExtension}
 use Rattle.reflect_dynamic.specs.Fields.{LeavesField, LeavesExtension}
-use Rattle.reflect_dynamic.specs.Held.{fields_of, choices_of, extensions_of, unknown_of}
 use Rattle.reflect_dynamic.specs.Keeps.{numbered, Keeps}
+use Rattle.reflect_dynamic.specs.Messages.{Takes}
 use Rattle.reflect_dynamic.specs.Oneofs.{AreChosen}
-use Rattle.reflect_dynamic.specs.declared.message.DynamicMessage.{DynamicMessage}
-use Rattle.reflect_dynamic.specs.declared.parts.Parts.{Parts}
 use Rattle.reflect_dynamic.specs.declared.value.Value.{Value}
 
 -- under the number stands what stood there
@@ -38,33 +36,20 @@ pub record SparesExtensions (old new : List (ℕ × Value)) (read : List (ℕ ×
 abbrev pub HoldsRead : List (ℕ × Value) → List (ℕ × Payload) → Type 0
 HoldsRead held read = (n : ℕ) → numbered n read ≡ [] → value_at held n ≡ None
 
--- what a message holds, apart from its type
-pub record Content : Type 0 where
-  pub fields : List (ℕ × Value)
-  pub choices : List (ℕ × ℕ)
-  pub extensions : List (ℕ × Value)
-  pub unknown : List (ℕ × Payload)
-
-abbrev pub content_of : DynamicMessage → Content
-content_of m = record { fields = fields_of m; choices = choices_of m; extensions = extensions_of m; unknown = unknown_of m }
-
-abbrev pub content_in : Parts → Content
-content_in p = record { fields = p.fields; choices = p.choices.members; extensions = p.extensions; unknown = undeclared p.unknown }
-
 -- where one member of each oneof at most holds anything, and it is noted, the records leave their values, and it stays so
-pub record FillsFields (m : MessageDescriptor) (old new : Content) (read : List (ℕ × Payload)) : Type 0 where
-  pub each : (f : FieldDescriptor) → Owns m f → LeavesField m f (value_at old.fields (field_type f).number) (value_at new.fields (field_type f).number) read
+pub record FillsFields (inner : Takes) (m : MessageDescriptor) (old new : Content) (read : List (ℕ × Payload)) : Type 0 where
+  pub each : (f : FieldDescriptor) → Owns m f → LeavesField inner m f (value_at old.fields (field_type f).number) (value_at new.fields (field_type f).number) read
   pub chosen : AreChosen m new.choices new.fields
 
 -- the extensions' records leave their values, and what stands under the numbers of fields stays
-pub record FillsExtensions (m : MessageDescriptor) (old new : List (ℕ × Value)) (read : List (ℕ × Payload)) : Type 0 where
-  pub each : (x : ExtensionDescriptor) → OwnsExtension m x → LeavesExtension m x (value_at old (extension_type x).number) (value_at new (extension_type x).number) read
+pub record FillsExtensions (inner : Takes) (m : MessageDescriptor) (old new : List (ℕ × Value)) (read : List (ℕ × Payload)) : Type 0 where
+  pub each : (x : ExtensionDescriptor) → OwnsExtension m x → LeavesExtension inner m x (value_at old (extension_type x).number) (value_at new (extension_type x).number) read
   pub behind : (f : FieldDescriptor) → Owns m f → Same old new (field_type f).number
 
 -- the records are taken in: what they do not name stays, and those of undeclared numbers are kept
-pub record Merges (m : MessageDescriptor) (old new : Content) (read : List (ℕ × Payload)) : Type 0 where
+pub record Merges (inner : Takes) (m : MessageDescriptor) (old new : Content) (read : List (ℕ × Payload)) : Type 0 where
   pub fields : SparesFields m old.fields new.fields read
-  pub filled : AreChosen m old.choices old.fields → FillsFields m old new read
+  pub filled : AreChosen m old.choices old.fields → FillsFields inner m old new read
   pub extensions : SparesExtensions old.extensions new.extensions read
-  pub extended : FillsExtensions m old.extensions new.extensions read
+  pub extended : FillsExtensions inner m old.extensions new.extensions read
   pub unknown : Keeps m old.unknown new.unknown read

@@ -11,10 +11,12 @@ ghost use Rattle.reflect_entries.specs.Sets.{with_record};
 ghost use Rattle.reflect_entries.specs.Undeclared.{undeclared};
 ghost use Rattle.reflect_scalar.specs.FieldTypes.{either_pool, either_type};
 ghost use Rattle.reflect_scalar.specs.Singles.{Single};
+ghost use Rattle.reflect_dynamic.specs.Contents.{content_of, content_in};
 ghost use Rattle.reflect_dynamic.specs.Elements.{Appends, ContinuesList};
+ghost use Rattle.reflect_dynamic.specs.Levels.{TakesAt, MergesAt};
 ghost use Rattle.reflect_dynamic.specs.Merging.{IsBody, IsRun, run_records};
 ghost use Rattle.reflect_dynamic.specs.Packed.{IsPacked, PackedFault, Continues};
-ghost use Rattle.reflect_dynamic.specs.Spares.{Same, Merges, content_of, content_in};
+ghost use Rattle.reflect_dynamic.specs.Spares.{Same};
 ghost use Rattle.reflect_dynamic.specs.Taking.{Leaves};
 
 use crate::declared::{declared_extension, declared_field};
@@ -86,7 +88,7 @@ pub fn merge_body<'p, 'b>(
 ) -> Result<&'b [u8], WireError>
     requires nested { levels ≤ 100 }
     ensures same_type { message.new.descriptor ≡ message.old.descriptor }
-    ensures read { IfOk result (λ rest. (rs : List (ℕ × Payload)) × Fronts (IsBody group levels) bytes.now rs rest.now × Merges message.old.descriptor (content_of message.old) (content_of message.new) rs) }
+    ensures read { IfOk result (λ rest. (rs : List (ℕ × Payload)) × Fronts (IsBody group levels) bytes.now rs rest.now × MergesAt levels message.old.descriptor (content_of message.old) (content_of message.new) rs) }
     ensures whole { group ≡ None → IfOk result (λ rest. rest.now ≡ []) }
     ensures shorter { IfOk result (λ rest. length rest.now ≤ length bytes.now) }
 {
@@ -110,7 +112,7 @@ fn merge_records<'p, 'b>(
     levels: u32,
 ) -> Result<&'b [u8], WireError>
     requires nested { levels ≤ 100 }
-    ensures read { IfOk result (λ rest. (rs : List (ℕ × Payload)) × Fronts (IsBody group levels) bytes.now rs rest.now × Merges descriptor.entry (content_in parts.old) (content_in parts.new) rs) }
+    ensures read { IfOk result (λ rest. (rs : List (ℕ × Payload)) × Fronts (IsBody group levels) bytes.now rs rest.now × MergesAt levels descriptor.entry (content_in parts.old) (content_in parts.new) rs) }
     ensures whole { group ≡ None → IfOk result (λ rest. rest.now ≡ []) }
     ensures shorter { IfOk result (λ rest. length rest.now ≤ length bytes.now) }
 {
@@ -144,7 +146,7 @@ fn merge_record<'p, 'b>(
     descriptor: MessageDescriptor<'p>,
     raw: RawRecord<'b>,
 ) -> Result<&'b [u8], WireError>
-    ensures read { IfOk result (λ rest. (run : List Payload × Payload) × Fronts (IsRun raw.entry.levels raw.entry.key) raw.entry.bytes.now run rest.now × Merges descriptor.entry (content_in parts.old) (content_in parts.new) (run_records raw.entry.key.number run)) }
+    ensures read { IfOk result (λ rest. (run : List Payload × Payload) × Fronts (IsRun raw.entry.levels raw.entry.key) raw.entry.bytes.now run rest.now × MergesAt raw.entry.levels descriptor.entry (content_in parts.old) (content_in parts.new) (run_records raw.entry.key.number run)) }
     ensures shorter { IfOk result (λ rest. length rest.now ≤ length raw.entry.bytes.now) }
 {
     let number = raw.key.number;
@@ -203,7 +205,7 @@ fn merge_field<'p, 'b>(
     raw: RawRecord<'b>,
 ) -> Result<&'b [u8], WireError>
     ensures others { (n : ℕ) → n ≢ raw.entry.key.number → Same content.old content.new n }
-    ensures read { IfOk result (λ rest. (run : List Payload × Payload) × Fronts (IsRun raw.entry.levels raw.entry.key) raw.entry.bytes.now run rest.now × Leaves (either_pool field.entry) (either_type field.entry) (value_at content.old raw.entry.key.number) (value_at content.new raw.entry.key.number) (run.0 ++ run.1 ∷ [])) }
+    ensures read { IfOk result (λ rest. (run : List Payload × Payload) × Fronts (IsRun raw.entry.levels raw.entry.key) raw.entry.bytes.now run rest.now × Leaves (TakesAt raw.entry.levels) (either_pool field.entry) (either_type field.entry) (value_at content.old raw.entry.key.number) (value_at content.new raw.entry.key.number) (run.0 ++ run.1 ∷ [])) }
     ensures shorter { IfOk result (λ rest. length rest.now ≤ length raw.entry.bytes.now) }
 {
     let number = raw.key.number;
@@ -242,7 +244,8 @@ fn merge_message<'p, 'b>(
     is_group: bool,
     raw: RawRecord<'b>,
 ) -> Result<&'b [u8], WireError>
-    ensures read { IfOk result (λ rest. (p : Payload) × Fronts (IsValue raw.entry.levels raw.entry.key) raw.entry.bytes.now p rest.now) }
+    ensures same_type { message.new.descriptor ≡ message.old.descriptor }
+    ensures read { IfOk result (λ rest. (p : Payload) × Fronts (IsValue raw.entry.levels raw.entry.key) raw.entry.bytes.now p rest.now × TakesAt raw.entry.levels message.old.descriptor (content_of message.old) (content_of message.new) (p ∷ [])) }
     ensures shorter { IfOk result (λ rest. length rest.now ≤ length raw.entry.bytes.now) }
 {
     match raw.key.wire {
@@ -269,7 +272,7 @@ fn merge_list<'p, 'b>(
     is_group: bool,
     raw: RawRecord<'b>,
 ) -> Result<&'b [u8], WireError>
-    ensures read { IfOk result (λ rest. (run : List Payload × Payload) × Fronts (IsRun raw.entry.levels raw.entry.key) raw.entry.bytes.now run rest.now × ContinuesList kind.now (Some list.old) (Some list.new) (run.0 ++ run.1 ∷ [])) }
+    ensures read { IfOk result (λ rest. (run : List Payload × Payload) × Fronts (IsRun raw.entry.levels raw.entry.key) raw.entry.bytes.now run rest.now × ContinuesList (TakesAt raw.entry.levels) kind.now (Some list.old) (Some list.new) (run.0 ++ run.1 ∷ [])) }
     ensures shorter { IfOk result (λ rest. length rest.now ≤ length raw.entry.bytes.now) }
 {
     let Value::List(values) = list else {
@@ -294,7 +297,7 @@ fn merge_element<'p, 'b>(
     is_group: bool,
     raw: RawRecord<'b>,
 ) -> Result<&'b [u8], WireError>
-    ensures read { IfOk result (λ rest. (p : Payload) × Fronts (IsValue raw.entry.levels raw.entry.key) raw.entry.bytes.now p rest.now × Appends kind.now values.old.items values.new.items p) }
+    ensures read { IfOk result (λ rest. (p : Payload) × Fronts (IsValue raw.entry.levels raw.entry.key) raw.entry.bytes.now p rest.now × Appends (TakesAt raw.entry.levels) kind.now values.old.items values.new.items p) }
     ensures shorter { IfOk result (λ rest. length rest.now ≤ length raw.entry.bytes.now) }
 {
     if let Kind::Message(inner) = kind {

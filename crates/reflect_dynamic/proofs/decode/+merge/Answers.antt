@@ -1,21 +1,24 @@
 use Rattle.std.proofs.Common.{rules, ◌≡◌, [], true, Some, None, refl, sym, ap, ◌∙◌, subst, arith}
 use Rattle.reflect_wire.specs.Reads.{Fronts}
 use Rattle.reflect_wire.specs.Key.{IsKey, IsDelimited}
+use Rattle.reflect_wire.specs.Records.{delimited}
 use Rattle.reflect_wire.specs.declared.wire_key.WireType.TheVariants.{LengthDelimited, EndGroup}
 use Rattle.reflect_entries.specs.Undeclared.{undeclared}
 use Rattle.reflect_pool.specs.Kinds.{IsKind}
 use Rattle.reflect_scalar.specs.FieldTypes.{either_pool, either_type}
 use Rattle.reflect_scalar.specs.Kinds.{packs, wire_type}
 use Rattle.reflect_scalar.specs.Singles.{scalar_view}
+use Rattle.reflect_dynamic.specs.Levels.{TakesAt}
 use Rattle.reflect_dynamic.specs.Merging.{IsBody, run_records}
-use Rattle.reflect_dynamic.specs.declared.value.Value.{the_lemmas}
-use Rattle.reflect_dynamic.proofs.Appending.{appends_value, appends_row, appends_more, list_done}
+use Rattle.reflect_dynamic.specs.declared.value.Value.{Message, the_lemmas}
+use Rattle.reflect_dynamic.proofs.Appending.{appends_value, appends_row, appends_message, appends_more, list_done}
 use Rattle.reflect_dynamic.proofs.Choosing.{makes_room}
 use Rattle.reflect_dynamic.proofs.Keeping.{kept_if_read}
 use Rattle.reflect_dynamic.proofs.Kept.{no_longer}
-use Rattle.reflect_dynamic.proofs.Running.{delimited_value, same_value, run_if_read, group_if_read, run_more, run_done, run_behind, group_ends}
+use Rattle.reflect_dynamic.proofs.Nesting.{appends_at, joins_at, delimited_taken, group_taken}
+use Rattle.reflect_dynamic.proofs.Running.{delimited_value, same_value, run_more, run_done, run_behind, group_ends}
 use Rattle.reflect_dynamic.proofs.Sparing.{merges_none, merges_more, merges_field, merges_kept, merges_extension}
-use Rattle.reflect_dynamic.proofs.Taking.{items_of_slot, message_leaves, list_leaves, single_leaves}
+use Rattle.reflect_dynamic.proofs.Taking.{items_of_slot, map_leaves, message_leaves, list_leaves, single_leaves}
 use Rattle.reflect_dynamic.proofs.decode.+merge.Goals as goal
 
 pub merge_element-returns-then-is_packable : goal.merge_element-returns-then-is_packable
@@ -26,7 +29,7 @@ merge_element-returns-then-is_packable t c =
     let read = c.in_ok-body.ensures.read in
     let row = c.in_ok-push_packed.ensures.read in
     record {
-      read = appends_row raw.levels raw.key c.args.kind.now raw.bytes.now c.in_ok-body.rest.now _ _ c.in_ok-body.body.now row.0 wire packed read row.1 row.2;
+      read = appends_row (TakesAt raw.levels) raw.levels raw.key c.args.kind.now raw.bytes.now c.in_ok-body.rest.now _ _ c.in_ok-body.body.now row.0 wire packed read row.1 row.2;
       shorter = no_longer IsDelimited raw.bytes.now c.in_ok-body.rest.now c.in_ok-body.body.now read;
     }
 
@@ -37,27 +40,42 @@ merge_element-returns t c =
     let lt = found.ensures.shorter in
     let value = c.in_ok-from_scalar in
     record {
-      read = appends_value raw.levels raw.key c.args.kind.now raw.bytes.now found.rest.now _ _ (scalar_view found.scalar) value.field-0 found.ensures.read c.in_ok-push-2.ensures.items value.ensures;
+      read = appends_value (TakesAt raw.levels) raw.levels raw.key c.args.kind.now raw.bytes.now found.rest.now _ _ (scalar_view found.scalar) value.field-0 found.ensures.read c.in_ok-push-2.ensures.items value.ensures;
       shorter = omega (arith, lt);
     }
+
+pub merge_element-returns-in-Message-clause-read : goal.merge_element-returns-in-Message-clause-read
+merge_element-returns-in-Message-clause-read t c =
+    let raw = c.args.raw in
+    let fresh = c.new-message in
+    let found = c.in_ok-rest in
+    let read = found.ensures.read in
+    appends_message (TakesAt raw.levels) raw.levels raw.key c.args.kind.now raw.bytes.now found.rest.now _ _ c.in-Message.inner fresh.result c.merge_message.new.message _ read.0 (search rules) fresh.ensures.same_type fresh.ensures.empty found.ensures.same_type
+    (search (rules, the_lemmas)) c.in_ok-push.ensures.items read.1 read.2
 
 pub merge_field-returns-in-Message-3-clause-read : goal.merge_field-returns-in-Message-3-clause-read
 merge_field-returns-in-Message-3-clause-read t c =
     let raw = c.args.raw in
+    let pool = either_pool c.args.field in
+    let type = either_type c.args.field in
     let kind = c.in-Message-2 in
-    message_leaves raw.levels raw.key raw.bytes.now (either_pool c.args.field) (either_type c.args.field) _ _ kind.inner c.merge_message.result (subst (λ k. IsKind (either_pool c.args.field) k (either_type c.args.field).kind) kind.is c.kind-kind.ensures)
-    (run_if_read raw.levels raw.key raw.bytes.now c.merge_message.result c.merge_message.ensures.read)
+    let fresh = c.new-in-Message-2 in
+    let slot = c.in_ok-message-in-Message-2 in
+    let merged = c.merge_message in
+    let is = subst (λ k. IsKind pool k type.kind) kind.is c.kind-kind.ensures in
+    message_leaves (TakesAt raw.levels) raw.levels raw.key raw.bytes.now pool type _ _ kind.inner fresh.result c.in-Message-3.message _ merged.new.message (Message fresh.result) slot.field-0.now (Message merged.new.message) merged.result is (search rules) (search rules)
+    (search (rules, the_lemmas)) fresh.ensures.same_type fresh.ensures.empty (search (rules, the_lemmas)) (search rules) (search (rules, the_lemmas)) c.in-Message-3.message-is merged.ensures.same_type merged.ensures.read
 
 pub merge_field-returns-in_ok-map-in-Message-clause-read : goal.merge_field-returns-in_ok-map-in-Message-clause-read
 merge_field-returns-in_ok-map-in-Message-clause-read t c =
     let raw = c.args.raw in
     let kind = c.in-Message in
-    message_leaves raw.levels raw.key raw.bytes.now (either_pool c.args.field) (either_type c.args.field) _ _ kind.entry c.merge_map.result (subst (λ k. IsKind (either_pool c.args.field) k (either_type c.args.field).kind) kind.is c.kind-kind.ensures) c.merge_map.ensures.read
+    map_leaves (TakesAt raw.levels) raw.levels raw.key raw.bytes.now (either_pool c.args.field) (either_type c.args.field) _ _ kind.entry c.merge_map.result (subst (λ k. IsKind (either_pool c.args.field) k (either_type c.args.field).kind) kind.is c.kind-kind.ensures) (search rules) c.merge_map.ensures.read
 
 pub merge_field-returns-then-is_list-clause-read : goal.merge_field-returns-then-is_list-clause-read
 merge_field-returns-then-is_list-clause-read t c =
     let raw = c.args.raw in
-    list_leaves raw.levels raw.key raw.bytes.now (either_pool c.args.field) (either_type c.args.field) _ _ c.kind-kind.result _ _ c.merge_list.result c.kind-kind.ensures (search rules) (items_of_slot _ _ _ c.in_ok-list.ensures.value (search (rules, the_lemmas))) (search rules) c.merge_list.ensures.read
+    list_leaves (TakesAt raw.levels) raw.levels raw.key raw.bytes.now (either_pool c.args.field) (either_type c.args.field) _ _ c.kind-kind.result _ _ c.merge_list.result c.kind-kind.ensures (search rules) (items_of_slot _ _ _ c.in_ok-list.ensures.value (search (rules, the_lemmas))) (search rules) c.merge_list.ensures.read
 
 pub merge_field-returns-in_ok-set-in_default-clause-read : goal.merge_field-returns-in_ok-set-in_default-clause-read
 merge_field-returns-in_ok-set-in_default-clause-read t c =
@@ -65,7 +83,7 @@ merge_field-returns-in_ok-set-in_default-clause-read t c =
     let found = c.in_ok-scalar-in_default in
     let value = c.in_ok-from_scalar-in_default in
     let put = c.in_ok-set-in_default.ensures.updates in
-    single_leaves raw.levels raw.key raw.bytes.now (either_pool c.args.field) (either_type c.args.field) _ _ c.kind-kind.result found.rest.now _ (scalar_view found.scalar) c.kind-kind.ensures (search rules) found.ensures.read put.here value.ensures
+    single_leaves (TakesAt raw.levels) raw.levels raw.key raw.bytes.now (either_pool c.args.field) (either_type c.args.field) _ _ c.kind-kind.result found.rest.now _ (scalar_view found.scalar) c.kind-kind.ensures (search rules) found.ensures.read put.here value.ensures
 
 pub merge_list-returns-in-None-clause-read : goal.merge_list-returns-in-None-clause-read
 merge_list-returns-in-None-clause-read t c =
@@ -74,7 +92,8 @@ merge_list-returns-in-None-clause-read t c =
     let inv = c.records.invariant in
     let rest = c.in_ok-rest.rest.now in
     let read = c.in_ok-rest.ensures.read in
-    list_done raw.levels raw.key c.args.kind.now raw.bytes.now here.bytes.now rest _ _ _ _ _ inv.0 read.0 (search (rules, the_lemmas)) (search (rules, the_lemmas)) inv.1 (same_value raw.levels raw.key here.levels here.key here.bytes.now rest read.0 inv.4 inv.3 read.1) inv.2 read.2
+    let added = appends_at here.levels raw.levels c.args.kind.now _ _ read.0 inv.4 read.2 in
+    list_done (TakesAt raw.levels) raw.levels raw.key c.args.kind.now raw.bytes.now here.bytes.now rest _ _ _ _ _ inv.0 read.0 (search (rules, the_lemmas)) (search (rules, the_lemmas)) inv.1 (same_value raw.levels raw.key here.levels here.key here.bytes.now rest read.0 inv.4 inv.3 read.1) inv.2 added
 
 pub merge_map-returns-in-None-clause-read : goal.merge_map-returns-in-None-clause-read
 merge_map-returns-in-None-clause-read t c =
@@ -83,20 +102,22 @@ merge_map-returns-in-None-clause-read t c =
     let inv = c.records.invariant in
     let rest = c.in_ok-body.rest.now in
     let wire : raw.key.wire ≡ LengthDelimited = search rules in
-    run_done raw.levels raw.key raw.bytes.now here rest inv.0 inv.1 (delimited_value raw.levels raw.key here rest c.in_ok-body.body.now wire c.in_ok-body.ensures.read)
+    run_done raw.levels raw.key raw.bytes.now here rest inv.0 inv.1 (delimited c.in_ok-body.body.now, delimited_value raw.levels raw.key here rest c.in_ok-body.body.now wire c.in_ok-body.ensures.read)
 
 pub merge_message-returns-in_ok-merge_body-in-LengthDelimited-clause-read : goal.merge_message-returns-in_ok-merge_body-in-LengthDelimited-clause-read
 merge_message-returns-in_ok-merge_body-in-LengthDelimited-clause-read t c =
     let raw = c.args.raw in
     let found = c.in_ok-body-in-LengthDelimited in
-    delimited_value raw.levels raw.key raw.bytes.now found.rest.now found.body.now c.in-LengthDelimited.is found.ensures.read
+    let below = c.in_ok-levels_below-in-LengthDelimited in
+    let merged = c.in_ok-merge_body-in-LengthDelimited in
+    delimited_taken below.field-0 raw.levels below.ensures.below _ _ _ raw.key raw.bytes.now found.body.now merged.field-0.now found.rest.now c.in-LengthDelimited.is found.ensures.read (merged.ensures.whole refl) merged.ensures.read
 
 pub merge_message-returns-in_ok-levels-in-StartGroup-clause-read : goal.merge_message-returns-in_ok-levels-in-StartGroup-clause-read
 merge_message-returns-in_ok-levels-in-StartGroup-clause-read t c =
     let raw = c.args.raw in
     let below = c.in_ok-levels-in-StartGroup in
     let merged = c.merge_body-in-StartGroup in
-    group_if_read raw.levels raw.key below.levels raw.bytes.now _ merged.result c.in-StartGroup.is below.ensures.below merged.ensures.read
+    group_taken below.levels raw.levels below.ensures.below _ _ _ raw.key raw.bytes.now merged.result c.in-StartGroup.is merged.ensures.read
 
 pub merge_records-returns-in-Some-clause-read : goal.merge_records-returns-in-Some-clause-read
 merge_records-returns-in-Some-clause-read t c =
@@ -134,7 +155,7 @@ merge_list-records-preserved t c =
     let so_far = inv.5 in (
       _,
       run_more raw.levels raw.key raw.bytes.now here.bytes.now rest next.bytes.now inv.0 read.0 inv.1 value key,
-      appends_more c.args.kind.now _ _ _ inv.0 read.0 inv.2 read.2,
+      appends_more (TakesAt raw.levels) c.args.kind.now _ _ _ inv.0 read.0 inv.2 (appends_at here.levels raw.levels c.args.kind.now _ _ read.0 inv.4 read.2),
       c.in-Some.ensures.key ∙ inv.3,
       c.in-Some.ensures.levels ∙ inv.4,
       omega (arith, before, behind, so_far),
@@ -157,7 +178,7 @@ merge_map-records-preserved t c =
     let before = no_longer IsDelimited here rest c.in_ok-body.body.now read in
     let behind = c.in-Some.ensures.shorter in
     let so_far = inv.4 in
-    (_, run_more raw.levels raw.key raw.bytes.now here rest next.bytes.now inv.0 value.0 inv.1 value.1 key, c.in-Some.ensures.key ∙ inv.2, c.in-Some.ensures.levels ∙ inv.3, omega (arith, before, behind, so_far))
+    (_, run_more raw.levels raw.key raw.bytes.now here rest next.bytes.now inv.0 (delimited c.in_ok-body.body.now) inv.1 value key, c.in-Some.ensures.key ∙ inv.2, c.in-Some.ensures.levels ∙ inv.3, omega (arith, before, behind, so_far))
 
 pub merge_record-returns-in-Some-clause-read : goal.merge_record-returns-in-Some-clause-read
 merge_record-returns-in-Some-clause-read t c =
@@ -170,7 +191,7 @@ merge_record-returns-in-Some-clause-read t c =
     let made = makes_room found.field _ _ room.first room.stays room.others in (
       run.0,
       run.1,
-      merges_field type found.field found.ensures.owns raw.key.number found.ensures.number _ _ _ _ run.0 made c.in_ok-rest.ensures.others run.2 cleared.unsets (cleared.chooses room.room) cleared.extensions (ap undeclared cleared.unknown),
+      merges_field (TakesAt raw.levels) type found.field found.ensures.owns raw.key.number found.ensures.number _ _ _ _ run.0 made c.in_ok-rest.ensures.others run.2 cleared.unsets (cleared.chooses room.room) cleared.extensions (ap undeclared cleared.unknown),
     )
 
 pub merge_record-returns-in-Some-declared_extension-clause-read : goal.merge_record-returns-in-Some-declared_extension-clause-read
@@ -178,13 +199,13 @@ merge_record-returns-in-Some-declared_extension-clause-read t c =
     let raw = c.args.raw in
     let found = c.in-Some-declared_extension in
     let merged = c.merge_field-in-Some-declared_extension in
-    merges_extension c.args.descriptor raw.levels raw.key raw.bytes.now _ _ merged.result c.in_default.ensures.none found.extension found.ensures.owns found.ensures.number refl refl refl merged.ensures.others merged.ensures.read
+    merges_extension (TakesAt raw.levels) c.args.descriptor raw.levels raw.key raw.bytes.now _ _ merged.result c.in_default.ensures.none found.extension found.ensures.owns found.ensures.number refl refl refl merged.ensures.others merged.ensures.read
 
 pub merge_record-returns-clause-read : goal.merge_record-returns-clause-read
 merge_record-returns-clause-read t c =
     let raw = c.args.raw in
     let kept = kept_if_read c.args.descriptor raw.levels raw.key raw.bytes.now _ _ c.keep_unknown.result c.keep_unknown.ensures.kept in
-    merges_kept c.args.descriptor raw.levels raw.key raw.bytes.now _ _ c.keep_unknown.result c.in_default.ensures.none c.in_default-declared_extension.ensures.none refl refl refl kept
+    merges_kept (TakesAt raw.levels) c.args.descriptor raw.levels raw.key raw.bytes.now _ _ c.keep_unknown.result c.in_default.ensures.none c.in_default-declared_extension.ensures.none refl refl refl kept
 
 pub merge_records-records-preserved : goal.merge_records-records-preserved
 merge_records-records-preserved t c =
@@ -198,15 +219,15 @@ merge_records-records-preserved t c =
     let so_far = inv.4 in (
       _,
       run_behind c.args.levels c.args.bytes.now here inv.0 inv.1 next.key next.behind.now rest merged.0 next.ensures.read merged.1,
-      merges_more c.args.descriptor _ _ _ inv.0 (run_records next.key.number merged.0) inv.2 merged.2,
+      merges_more (TakesAt c.args.levels) c.args.descriptor (joins_at c.args.levels) _ _ _ inv.0 (run_records next.key.number merged.0) inv.2 merged.2,
       inv.3,
       omega (arith, key, behind, so_far),
     )
 
 pub merge_records-records-init : goal.merge_records-records-init
-merge_records-records-init t c = ([], ([], refl, refl), merges_none c.args.descriptor _, refl, omega arith)
+merge_records-records-init t c = ([], ([], refl, refl), merges_none (TakesAt c.args.levels) c.args.descriptor _, refl, omega arith)
 
 pub merge_body-returns-then-is_none-clause-read : goal.merge_body-returns-then-is_none-clause-read
 merge_body-returns-then-is_none-clause-read t c =
     let none : c.args.group ≡ None = search rules in
-    ([], ([], subst (λ g. IsBody g c.args.levels [] []) (sym none) refl, refl), merges_none _ _)
+    ([], ([], subst (λ g. IsBody g c.args.levels [] []) (sym none) refl, refl), merges_none (TakesAt c.args.levels) _ _)

@@ -1,9 +1,10 @@
 use Rattle.std.proofs.Common.{◌≡◌, ℕ, ◌+◌, ◌*◌, ◌≤◌, List, None, length}
 use Rattle.reflect_wire.specs.Reads.{Fronts}
 use Rattle.reflect_wire.specs.Records.{Payload}
+use Rattle.reflect_dynamic.specs.Contents.{content_in}
 use Rattle.reflect_dynamic.specs.Elements.{AppendsAll}
+use Rattle.reflect_dynamic.specs.Levels.{TakesAt, MergesAt}
 use Rattle.reflect_dynamic.specs.Merging.{IsBody, LeadsOn}
-use Rattle.reflect_dynamic.specs.Spares.{Merges, content_in}
 use Rattle.reflect_dynamic.proofs.decode.+merge.Given as goal
 
 abbrev pub decreases-merge_body : goal.decreases-merge_body
@@ -33,7 +34,7 @@ decreases-merge_list-records l = length l.record.bytes.now
 abbrev pub invariant-merge_list-records : goal.invariant-merge_list-records
 invariant-merge_list-records l =
     (ps : List Payload) × Fronts (LeadsOn l.initial.record.levels l.initial.record.key) l.initial.record.bytes.now ps l.record.bytes.now
-    × AppendsAll l.kind l.initial.values.items l.values.items ps × (l.record.key ≡ l.initial.record.key) × (l.record.levels ≡ l.initial.record.levels) × (length l.record.bytes.now ≤ length l.initial.record.bytes.now)
+    × AppendsAll (TakesAt l.initial.record.levels) l.kind l.initial.values.items l.values.items ps × (l.record.key ≡ l.initial.record.key) × (l.record.levels ≡ l.initial.record.levels) × (length l.record.bytes.now ≤ length l.initial.record.bytes.now)
 
 abbrev pub decreases-merge_map : goal.decreases-merge_map
 decreases-merge_map l = 10 * length l.raw.bytes.now + 8
@@ -55,7 +56,7 @@ decreases-merge_records-records l = length l.rest
 abbrev pub invariant-merge_records-records : goal.invariant-merge_records-records
 invariant-merge_records-records l =
     (rs : List (ℕ × Payload)) × Fronts (IsBody None l.levels) l.bytes rs l.rest
-    × Merges l.descriptor (content_in l.initial.parts) (content_in l.parts) rs × (l.group ≡ l.initial.group) × (length l.rest ≤ length l.initial.rest)
+    × MergesAt l.levels l.descriptor (content_in l.initial.parts) (content_in l.parts) rs × (l.group ≡ l.initial.group) × (length l.rest ≤ length l.initial.rest)
 
 abbrev pub decreases-merge_part : goal.decreases-merge_part
 decreases-merge_part l = 10 * length l.raw.bytes.now + 7

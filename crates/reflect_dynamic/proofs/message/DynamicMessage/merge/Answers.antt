@@ -1,5 +1,6 @@
 use Rattle.std.proofs.Common.{refl}
-use Rattle.reflect_dynamic.specs.Spares.{content_of}
+use Rattle.reflect_dynamic.specs.Contents.{content_of}
+use Rattle.reflect_dynamic.specs.Levels.{TakesAt}
 use Rattle.reflect_dynamic.proofs.Copying.{merged, merged_chosen}
 use Rattle.reflect_dynamic.proofs.message.DynamicMessage.merge.Goals as goal
 
@@ -10,7 +11,7 @@ returns-clause-read c =
     let made = copy.ensures in
     let taken = c.in_ok-merge_body.ensures in
     let read = taken.read in
-    merged old.descriptor copy.merged.descriptor 100 c.args.bytes.now c.in_ok-merge_body.field-0.now (content_of old) (content_of copy.merged) (content_of c.merge_body.new.message) read.0 made.same_type read.1 (taken.whole refl) read.2 made.fields made.choices made.extensions made.unknown
+    merged (TakesAt 100) old.descriptor copy.merged.descriptor 100 c.args.bytes.now c.in_ok-merge_body.field-0.now (content_of old) (content_of copy.merged) (content_of c.merge_body.new.message) read.0 made.same_type read.1 (taken.whole refl) read.2 made.fields made.choices made.extensions made.unknown
 
 pub returns-clause-exclusive : goal.returns-clause-exclusive
 returns-clause-exclusive c =
@@ -20,4 +21,4 @@ returns-clause-exclusive c =
     let made = copy.ensures in
     let taken = c.in_ok-merge_body.ensures in
     let read = taken.read in
-    merged_chosen old.descriptor copy.merged.descriptor new.descriptor (content_of old) (content_of copy.merged) (content_of new) read.0 made.same_type taken.same_type read.2 made.fields made.choices
+    merged_chosen (TakesAt 100) old.descriptor copy.merged.descriptor new.descriptor (content_of old) (content_of copy.merged) (content_of new) read.0 made.same_type taken.same_type read.2 made.fields made.choices

@@ -1,0 +1,65 @@
+-- What records leave of messages that stand under numbers (protobuf.dev, "Encoding", Submessages, Last One Wins).
+use Rattle.std.specs.Prelude.{◌≡◌, ℕ, List, [], ◌∷◌, ◌++◌, Option, None, Some}
+use Rattle.reflect_index.specs.Types.{PoolType, KindType}
+use Rattle.reflect_pool.specs.Kinds.{IsKind}
+use Rattle.reflect_pool.specs.declared.kind.Kind.{Kind}
+use Rattle.reflect_pool.specs.declared.kind.Kind.TheVariants as kinds
+use Rattle.reflect_pool.specs.declared.message.MessageDescriptor.{MessageDescriptor}
+use Rattle.reflect_wire.specs.Records.{Payload, delimited, group, SpellsRecords}
+use Rattle.reflect_wire.specs.Views.{records_of}
+use Rattle.reflect_dynamic.specs.Contents.{Content, content_of, nothing}
+use Rattle.reflect_dynamic.specs.declared.message.DynamicMessage.{DynamicMessage}
+use Rattle.reflect_dynamic.specs.declared.value.Value.{Value}
+use Rattle.reflect_dynamic.specs.declared.parts.Held.TheOpen.{Value-F}
+use Rattle.reflect_dynamic.specs.declared.parts.Held.TheViews.{out-Value}
+
+-- what payloads leave in a message of a type, from what it held before to what it holds behind them
+abbrev pub Takes : Type 1
+Takes = MessageDescriptor → Content → Content → List Payload → Type 0
+
+-- the records inside a payload: those of a group, or those that the bytes spell
+abbrev pub IsInside : ℕ → Payload → List (ℕ × Payload) → Type 0
+IsInside levels (delimited body) rs = SpellsRecords levels body (records_of rs)
+IsInside levels (group inside) rs = inside ≡ records_of rs
+IsInside levels _ rs = ⊥
+
+-- the records inside payloads, one behind the other
+abbrev pub AreInside : ℕ → List Payload → List (ℕ × Payload) → Type 0
+AreInside levels [] rs = rs ≡ []
+AreInside levels (p ∷ ps) rs = (here behind : List (ℕ × Payload)) × IsInside levels p here × AreInside levels ps behind × (rs ≡ here ++ behind)
+
+-- the message that a value is
+abbrev pub message_in : Value → Option DynamicMessage
+message_in v = elim (out-Value v) [
+  | Value-F.Bool b ↦ None
+  | Value-F.I32 z ↦ None
+  | Value-F.I64 z ↦ None
+  | Value-F.U32 n ↦ None
+  | Value-F.U64 n ↦ None
+  | Value-F.String t ↦ None
+  | Value-F.Bytes b ↦ None
+  | Value-F.EnumNumber z ↦ None
+  | Value-F.Message m ↦ Some m
+  | Value-F.List vs ↦ None
+  | Value-F.Map es ↦ None
+]
+
+-- the message that is held
+abbrev pub message_held : Option Value → Option DynamicMessage
+message_held None = None
+message_held (Some v) = message_in v
+
+-- the message that is held, or where nothing is, one of the type in which nothing is set
+abbrev pub IsStart : PoolType → KindType → Option Value → DynamicMessage → Type 0
+IsStart pool t None m = IsKind pool (kinds.Message m.descriptor) t × (content_of m ≡ nothing)
+IsStart pool t (Some v) m = message_in v ≡ Some m
+
+-- the message has taken in the payloads, and is still of its type
+abbrev pub MergesMessage : Takes → PoolType → KindType → Option Value → Option Value → List Payload → Type 0
+MergesMessage inner pool t old new ps =
+    (before after : DynamicMessage) × IsStart pool t old before × (message_held new ≡ Some after) × (after.descriptor ≡ before.descriptor) × inner before.descriptor (content_of before) (content_of after) ps
+
+-- the value is a message of the kind's type that holds what the payload leaves in nothing
+abbrev pub IsMade : Takes → Kind → Payload → Value → Type 0
+IsMade inner (kinds.Message d) p v = (m : DynamicMessage) × (message_in v ≡ Some m) × (m.descriptor ≡ d) × inner d nothing (content_of m) (p ∷ [])
+IsMade inner _ p v = ⊥
