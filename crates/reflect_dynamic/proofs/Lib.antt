@@ -5,6 +5,7 @@ pub mod Extending
 pub mod Filling
 pub mod Keeping
 pub mod Kept
+pub mod Lengthening
 pub mod Owning
 pub mod Packing
 pub mod Putting

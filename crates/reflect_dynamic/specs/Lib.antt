@@ -6,6 +6,7 @@ pub mod Fields
 pub mod Held
 pub mod Keeps
 pub mod Left
+pub mod Lists
 pub mod Merging
 pub mod Oneofs
 pub mod Packed
