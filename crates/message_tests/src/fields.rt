@@ -101,6 +101,62 @@ fn extensions(rt: HostRuntime) -> Result<(), Fail> {
     Ok(())
 }
 
+/// A type with a list, a map, a single value, and an extension that is a list.
+const REPEATED: &str =
+    "syntax = \"proto2\"; message M { repeated int32 r = 1; map<int32, string> m = 2; optional int32 a = 3; extensions 10; } extend M { repeated bool e = 10; }";
+
+#[test]
+fn values_are_put_behind_those_of_a_list(rt: HostRuntime) -> Result<(), Fail> {
+    let alloc = rt.alloc();
+    let pool = linked(alloc, REPEATED)?;
+    let descriptor = message(&pool, "M")?;
+    let list = descriptor.get_field(1).ok_or("no r")?;
+    let single = descriptor.get_field(3).ok_or("no a")?;
+    let extension = descriptor.get_extension(10).ok_or("no e")?;
+    let mut message = DynamicMessage::new(alloc, descriptor);
+    for number in [5, 6] {
+        let mut values = Vec::new(alloc);
+        values.push(Value::I32(number))?;
+        message.extend_field(&list, values)?;
+    }
+    let mut values = Vec::new(alloc);
+    values.push(Value::Bool(true))?;
+    values.push(Value::Bool(false))?;
+    message.extend_extension(&extension, values)?;
+    // A field of one value takes none behind it.
+    let mut values = Vec::new(alloc);
+    values.push(Value::I32(7))?;
+    message.extend_field(&single, values)?;
+    let wanted = [0x08, 0x05, 0x08, 0x06, 0x50, 0x01, 0x50, 0x00];
+    assert_eq!(rt; message.encode_to_vec()?.as_slice(), wanted.as_slice());
+    Ok(())
+}
+
+#[test]
+fn entries_are_put_over_those_of_a_map(rt: HostRuntime) -> Result<(), Fail> {
+    let alloc = rt.alloc();
+    let pool = linked(alloc, REPEATED)?;
+    let descriptor = message(&pool, "M")?;
+    let map = descriptor.get_field(2).ok_or("no m")?;
+    let entry = map.kind().as_message().ok_or("no entries")?;
+    let mut message = DynamicMessage::new(alloc, descriptor);
+    for (key, text) in [(2, "a"), (1, "b"), (2, "c")] {
+        let mut value = DynamicMessage::new(alloc, entry);
+        value.set_field_by_number(1, Value::I32(key))?;
+        value.set_field_by_number(2, Value::String(String::from_str(alloc, text)?))?;
+        let mut entries = Vec::new(alloc);
+        entries.push(Value::Message(value))?;
+        message.extend_field(&map, entries)?;
+    }
+    // An entry without a key has the default one.
+    let mut entries = Vec::new(alloc);
+    entries.push(Value::Message(DynamicMessage::new(alloc, entry)))?;
+    message.extend_field(&map, entries)?;
+    let wanted = b"\x12\x04\x08\x00\x12\x00\x12\x05\x08\x01\x12\x01b\x12\x05\x08\x02\x12\x01c";
+    assert_eq!(rt; message.encode_to_vec()?.as_slice(), wanted.as_slice());
+    Ok(())
+}
+
 #[test]
 fn all_at_once(rt: HostRuntime) -> Result<(), Fail> {
     let alloc = rt.alloc();

@@ -9,6 +9,7 @@ pub mod Joining
 pub mod Keeping
 pub mod Kept
 pub mod Known
+pub mod Lengthening
 pub mod Nesting
 pub mod Owning
 pub mod Packing

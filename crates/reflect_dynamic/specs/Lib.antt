@@ -10,6 +10,7 @@ pub mod Keeps
 pub mod Known
 pub mod Left
 pub mod Levels
+pub mod Lists
 pub mod Merging
 pub mod Messages
 pub mod Oneofs

@@ -12,6 +12,7 @@ mod decode;
 mod defaults;
 mod descriptor_ext;
 mod encode;
+mod extend;
 mod field_ref;
 mod lengths;
 mod message;
