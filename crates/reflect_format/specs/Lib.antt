@@ -1,5 +1,7 @@
+pub mod Lacks
 pub mod Left
 pub mod Number
 pub mod Radix
 pub mod Refusals
 pub mod Takes
+pub mod Truth

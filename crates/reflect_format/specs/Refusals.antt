@@ -1,11 +1,9 @@
 -- What the refusals of names tell of the types.
-use Rattle.std.specs.Prelude.{◌≡◌, Bool, true, false, ℕ, List, Option, None, IfSome, IsSome, string_bytes}
+use Rattle.std.specs.Prelude.{◌≡◌, Bool, true, false, ℕ, List, None, IsSome, string_bytes}
 use Rattle.reflect_index.specs.Finding.{IsFirst}
 use Rattle.reflect_index.specs.Types.{type_at, enum_at}
-use Rattle.reflect_pool.specs.Finds.{FindsField}
 use Rattle.reflect_pool.specs.FieldsLeft.{field_type}
 use Rattle.reflect_pool.specs.declared.enums.EnumDescriptor.{EnumDescriptor}
-use Rattle.reflect_pool.specs.declared.field.FieldDescriptor.{FieldDescriptor}
 use Rattle.reflect_pool.specs.declared.message.MessageDescriptor.{MessageDescriptor}
 use Rattle.reflect_pool.specs.declared.kind.Kind.{Kind}
 use Rattle.reflect_pool.specs.declared.kind.Kind.TheVariants as values
@@ -15,6 +13,7 @@ use Rattle.reflect_scalar.specs.FieldTypes.{extension_type}
 use Rattle.reflect_entries.specs.Entries.{value_at}
 use Rattle.reflect_dynamic.specs.Held.{fields_of, extensions_of}
 use Rattle.reflect_dynamic.specs.declared.message.DynamicMessage.{DynamicMessage}
+use Rattle.reflect_format.specs.Lacks.{LacksField, LacksGroup, HasFloatField, LacksExtension, HasFloatExtension}
 use Rattle.reflect_format.specs.declared.target.Target.{Target}
 use Rattle.reflect_format.specs.declared.target.Target.TheVariants as targets
 use Rattle.reflect_format.specs.declared.error.ParseErrorKind.{ParseErrorKind}
@@ -58,19 +57,36 @@ TellsFloatField m name (kinds.FloatField field message span) =
     (string_bytes field ≡ name) × (string_bytes message ≡ (type_at m.pool.now m.index).full_name)
 TellsFloatField m name _ = ⊥
 
--- no field of the type has the name, or the first that has it is a group
-abbrev pub LacksField : MessageDescriptor → List ℕ → Type 0
-LacksField m name = (found : Option FieldDescriptor) × FindsField (λ f. f.name ≡ name) m found × IfSome found (λ f. (field_type f).group ≡ true)
-
--- A refusal of a field's name: it is called unknown only where the type that it tells has no field of the name but a group. One of
--- floating-point numbers is told with its type, or memory ran out.
+-- A refusal of a field's name: it is called unknown only where the type that it tells has no field of the name but a group, and no
+-- group whose type has the name. One of floating-point numbers is told with its type, or memory ran out.
 abbrev pub RefusesField : MessageDescriptor → List ℕ → ParseErrorKind → Type 0
 RefusesField m name (kinds.FieldNotFound field message span) =
-    (string_bytes field ≡ name) × (string_bytes message ≡ (type_at m.pool.now m.index).full_name) × LacksField m name
+    (string_bytes field ≡ name) × (string_bytes message ≡ (type_at m.pool.now m.index).full_name) × LacksField m name × LacksGroup m name
 RefusesField m name (kinds.FloatField field message span) =
-    (string_bytes field ≡ name) × (string_bytes message ≡ (type_at m.pool.now m.index).full_name)
+    (string_bytes field ≡ name) × (string_bytes message ≡ (type_at m.pool.now m.index).full_name) × HasFloatField m name
 RefusesField m name kinds.Memory = Unit {0}
 RefusesField m name _ = ⊥
+
+-- It tells this message type by its full name and this full name of an extension.
+abbrev pub TellsExtension : MessageDescriptor → List ℕ → ParseErrorKind → Type 0
+TellsExtension m name (kinds.ExtensionNotFound extension message span) =
+    (string_bytes extension ≡ name) × (string_bytes message ≡ (type_at m.pool.now m.index).full_name)
+TellsExtension m name _ = ⊥
+
+-- A refusal of an extension's full name: it is called unknown only where the type that it tells has no extension of the name. One of
+-- floating-point numbers is told with its type, or memory ran out.
+abbrev pub RefusesExtension : MessageDescriptor → List ℕ → ParseErrorKind → Type 0
+RefusesExtension m name (kinds.ExtensionNotFound extension message span) =
+    (string_bytes extension ≡ name) × (string_bytes message ≡ (type_at m.pool.now m.index).full_name) × LacksExtension m name
+RefusesExtension m name (kinds.FloatField field message span) =
+    (string_bytes message ≡ (type_at m.pool.now m.index).full_name) × HasFloatExtension m (string_bytes field)
+RefusesExtension m name kinds.Memory = Unit {0}
+RefusesExtension m name _ = ⊥
+
+-- It tells this name of a message type.
+abbrev pub TellsMessage : List ℕ → ParseErrorKind → Type 0
+TellsMessage name (kinds.MessageNotFound message span) = string_bytes message ≡ name
+TellsMessage name _ = ⊥
 
 -- It tells this name of a field that is set.
 abbrev pub TellsSet : List ℕ → ParseErrorKind → Type 0

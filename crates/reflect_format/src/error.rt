@@ -276,12 +276,16 @@ pub struct ParseError {
 
 impl ParseError {
     /// The error of a fault.
-    pub fn new(kind: ParseErrorKind) -> ParseError {
+    pub fn new(kind: ParseErrorKind) -> ParseError
+        ensures { result.kind ≡ kind }
+    {
         ParseError { kind }
     }
 
     /// What is wrong.
-    pub fn kind(&self) -> &ParseErrorKind {
+    pub fn kind(&self) -> &ParseErrorKind
+        ensures { result.now ≡ self.now.kind }
+    {
         &self.kind
     }
 

@@ -1,7 +1,7 @@
 //! Faults with the names and numbers that they tell.
 
-ghost use Rattle.std.specs.Prelude.{◌≡◌, IfOk, true};
-ghost use Rattle.reflect_format.specs.Refusals.{is_of_text, TellsField, TellsFloatField, TellsOneof, TellsSet, TellsValue};
+ghost use Rattle.std.specs.Prelude.{◌≡◌, IfOk, true, string_bytes};
+ghost use Rattle.reflect_format.specs.Refusals.{is_of_text, TellsExtension, TellsField, TellsFloatField, TellsMessage, TellsOneof, TellsSet, TellsValue};
 
 use crate::error::ParseErrorKind;
 use crate::number::{IntegerRange, Literal};
@@ -31,7 +31,9 @@ pub fn unknown_extension(
     name: String,
     descriptor: MessageDescriptor<'_>,
     span: Span,
-) -> Result<ParseErrorKind, AllocError> {
+) -> Result<ParseErrorKind, AllocError>
+    ensures { IfOk result (TellsExtension descriptor.entry (string_bytes name)) }
+{
     Ok(ParseErrorKind::ExtensionNotFound {
         extension_name: name,
         message_name: String::from_str(alloc, descriptor.full_name())?,
@@ -40,7 +42,9 @@ pub fn unknown_extension(
 }
 
 /// The pool has no message type of this name.
-pub fn unknown_message(name: String, span: Span) -> ParseErrorKind {
+pub fn unknown_message(name: String, span: Span) -> ParseErrorKind
+    ensures { TellsMessage (string_bytes name) result }
+{
     ParseErrorKind::MessageNotFound {
         message_name: name,
         span,

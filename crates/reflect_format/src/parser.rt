@@ -3,7 +3,8 @@
 ghost use Rattle.reflect_format.specs.Left.{left};
 ghost use Rattle.reflect_format.specs.Takes.{Takes};
 ghost use Rattle.reflect_format.specs.Refusals.{RefusesScalar, RefusesSecond};
-ghost use Rattle.std.specs.Prelude.{◌<◌, IfErr, IfOk, OnOk};
+ghost use Rattle.reflect_format.specs.Truth.{TrueFor, TrueOf};
+ghost use Rattle.std.specs.Prelude.{◌≡◌, ◌<◌, IfErr, IfOk, OnOk};
 
 use crate::error::{ParseError, ParseErrorKind};
 use crate::fault::{already_set, oneof_already_set, unknown_message};
@@ -38,7 +39,10 @@ impl<'a> Parser<'a> {
     ///
     /// The first fault ends it; the message then has the fields at the top that were read before the fault, and for want of
     /// memory perhaps a part of the map or the `google.protobuf.Any` that was to be set.
-    pub fn parse_message(&mut self, message: &mut DynamicMessage<'_>) -> Result<(), ParseError> {
+    pub fn parse_message(&mut self, message: &mut DynamicMessage<'_>) -> Result<(), ParseError>
+        ensures type_stays { message.new.descriptor ≡ message.old.descriptor }
+        ensures refused { IfErr result (λ e. TrueOf message.old.descriptor.pool.now e.kind) }
+    {
         fields_to_end(&mut self.tokens, message).map_err(ParseError::new)
     }
 }
@@ -46,7 +50,10 @@ impl<'a> Parser<'a> {
 fn fields_to_end(
     tokens: &mut Tokens<'_>,
     message: &mut DynamicMessage<'_>,
-) -> Result<(), ParseErrorKind> {
+) -> Result<(), ParseErrorKind>
+    ensures type_stays { message.new.descriptor ≡ message.old.descriptor }
+    ensures refused { IfErr result (TrueOf message.old.descriptor.pool.now) }
+{
     'fields: while !tokens.is_empty() {
         field(tokens, message, MAX_BRACES)?;
     }
@@ -60,7 +67,9 @@ fn field(
     message: &mut DynamicMessage<'_>,
     braces: u32,
 ) -> Result<(), ParseErrorKind>
-    ensures { OnOk result (left tokens.new < left tokens.old) }
+    ensures taken { OnOk result (left tokens.new < left tokens.old) }
+    ensures type_stays { message.new.descriptor ≡ message.old.descriptor }
+    ensures refused { IfErr result (TrueOf message.old.descriptor.pool.now) }
 {
     let (name, span) = tokens.name()?;
     tokens.separator()?;
@@ -91,11 +100,13 @@ fn assignment<'p>(
     braces: u32,
 ) -> Result<(), ParseErrorKind>
     requires { Takes message.old.descriptor target }
-    ensures { OnOk result (left tokens.new < left tokens.old) }
+    ensures taken { OnOk result (left tokens.new < left tokens.old) }
+    ensures type_stays { message.new.descriptor ≡ message.old.descriptor }
+    ensures refused { IfErr result (TrueOf message.old.descriptor.pool.now) }
 {
     if target.is_list() || target.is_map() {
         let values = values(tokens, target.kind(), braces)?;
-        return Ok(target.add(tokens.alloc, message, values)?);
+        return Ok(target.add(message, values)?);
     }
     let (value, span) = value(tokens, target.kind(), braces)?;
     refuse_second(tokens.alloc, message, target, span)?;
@@ -128,7 +139,8 @@ fn values<'p>(
     kind: Kind<'p>,
     braces: u32,
 ) -> Result<Vec<Value<'p>>, ParseErrorKind>
-    ensures { IfOk result (λ _. left tokens.new < left tokens.old) }
+    ensures taken { IfOk result (λ _. left tokens.new < left tokens.old) }
+    ensures refused { IfErr result (TrueFor kind.entry) }
 {
     let mut values = Vec::new(tokens.alloc);
     let is_bracketed = tokens.eat(Token::LeftBracket).is_some();
@@ -156,7 +168,9 @@ fn expansion(
     span: Span,
     braces: u32,
 ) -> Result<(), ParseErrorKind>
-    ensures { OnOk result (left tokens.new < left tokens.old) }
+    ensures taken { OnOk result (left tokens.new < left tokens.old) }
+    ensures type_stays { message.new.descriptor ≡ message.old.descriptor }
+    ensures refused { IfErr result (TrueOf message.old.descriptor.pool.now) }
 {
     let descriptor = message.descriptor();
     let known = descriptor
@@ -176,7 +190,10 @@ fn hold(
     name: &AnyName,
     body: &DynamicMessage<'_>,
     span: Span,
-) -> Result<(), ParseErrorKind> {
+) -> Result<(), ParseErrorKind>
+    ensures type_stays { message.new.descriptor ≡ message.old.descriptor }
+    ensures refused { IfErr result (TrueOf message.old.descriptor.pool.now) }
+{
     let Some(fields) = any_fields(message.descriptor()) else {
         return Err(ParseErrorKind::InvalidTypeForAny { span });
     };
@@ -199,7 +216,8 @@ fn value<'p>(
     kind: Kind<'p>,
     braces: u32,
 ) -> Result<(Value<'p>, Span), ParseErrorKind>
-    ensures { IfOk result (λ _. left tokens.new < left tokens.old) }
+    ensures taken { IfOk result (λ _. left tokens.new < left tokens.old) }
+    ensures refused { IfErr result (TrueFor kind.entry) }
 {
     match kind {
         Kind::Message(descriptor) => {
@@ -262,7 +280,8 @@ fn message_value<'p>(
     descriptor: MessageDescriptor<'p>,
     braces: u32,
 ) -> Result<(DynamicMessage<'p>, Span), ParseErrorKind>
-    ensures { IfOk result (λ _. left tokens.new < left tokens.old) }
+    ensures taken { IfOk result (λ _. left tokens.new < left tokens.old) }
+    ensures refused { IfErr result (TrueOf descriptor.entry.pool.now) }
 {
     let Some((open, closing)) = tokens.open_brace() else {
         return Err(tokens.refuse("'{' or '<'"));
@@ -283,7 +302,9 @@ fn fields_to_brace(
     closing: Brace,
     braces: u32,
 ) -> Result<Span, ParseErrorKind>
-    ensures { IfOk result (λ _. left tokens.new < left tokens.old) }
+    ensures taken { IfOk result (λ _. left tokens.new < left tokens.old) }
+    ensures type_stays { message.new.descriptor ≡ message.old.descriptor }
+    ensures refused { IfErr result (TrueOf message.old.descriptor.pool.now) }
 {
     'fields: loop {
         if let Some(close) = tokens.eat(closing.token()) {

@@ -1,18 +1,20 @@
 //! Fields and extensions alike, as a text sets them.
 
-ghost use Rattle.std.specs.Prelude.{◌≡◌, IfErr, IfNone, IfOk, IfSome, IsTrue};
-ghost use Rattle.reflect_dynamic.specs.Declares.{Declares};
-ghost use Rattle.reflect_format.specs.Refusals.{Holds, LacksField, RefusesField};
-ghost use Rattle.reflect_format.specs.Takes.{Takes};
+ghost use Rattle.std.specs.Prelude.{◌≡◌, IfErr, IfNone, IfOk, IfSome, IsTrue, string_bytes};
+ghost use Rattle.reflect_pool.specs.FieldsLeft.{field_type};
+ghost use Rattle.reflect_pool.specs.Kinds.{IsKind};
+ghost use Rattle.reflect_format.specs.Lacks.{IsGroupCalled, LacksField, LacksGroup};
+ghost use Rattle.reflect_format.specs.Refusals.{Holds, RefusesExtension, RefusesField};
+ghost use Rattle.reflect_format.specs.Takes.{Takes, target_pool, target_type};
 
 use crate::error::ParseErrorKind;
 use crate::fault::{float_field, unknown_extension, unknown_field};
-use reflect_dynamic::{DynamicMessage, MapKey, Value};
+use reflect_dynamic::{DynamicMessage, Value};
 use reflect_link::{
     ExtensionDescriptor, FieldDescriptor, Kind, MessageDescriptor, OneofDescriptor,
 };
+use reflect_scalar::holds_floats;
 use std::alloc::{AllocError, Global};
-use std::collections::BTreeMap;
 use text_lex::Span;
 
 /// What a name stands for.
@@ -33,14 +35,16 @@ impl<'p> Target<'p> {
         ensures takes { IfOk result (Takes descriptor.entry) }
         ensures refused { IfErr result (RefusesField descriptor.entry name.now) }
     {
-        let Some(field) = field_by_text_name(alloc, descriptor, name)? else {
-            return Err(unknown_field(alloc, name, descriptor, span)?);
-        };
-        let target = Target::Field(field);
-        if target.holds_floats() {
-            return Err(float_field(alloc, name, descriptor, span)?);
+        if let Some(field) = plain_field(descriptor, name) {
+            if holds_floats(&field) {
+                return Err(float_field(alloc, name, descriptor, span)?);
+            }
+            return Ok(Target::Field(field));
         }
-        Ok(target)
+        match group_field(alloc, descriptor, name)? {
+            Some(group) => Ok(Target::Field(group)),
+            None => Err(unknown_field(alloc, name, descriptor, span)?),
+        }
     }
 
     /// The extension of a full name.
@@ -50,19 +54,21 @@ impl<'p> Target<'p> {
         name: String,
         span: Span,
     ) -> Result<Target<'p>, ParseErrorKind>
-        ensures { IfOk result (Takes descriptor.entry) }
+        ensures takes { IfOk result (Takes descriptor.entry) }
+        ensures refused { IfErr result (RefusesExtension descriptor.entry (string_bytes name)) }
     {
         let Some(extension) = descriptor.get_extension_by_full_name(name.as_str()) else {
             return Err(unknown_extension(alloc, name, descriptor, span)?);
         };
-        let target = Target::Extension(extension);
-        if target.holds_floats() {
-            return Err(float_field(alloc, target.text_name(), descriptor, span)?);
+        if holds_floats(&extension) {
+            return Err(float_field(alloc, extension.json_name(), descriptor, span)?);
         }
-        Ok(target)
+        Ok(Target::Extension(extension))
     }
 
-    pub fn kind(&self) -> Kind<'p> {
+    pub fn kind(&self) -> Kind<'p>
+        ensures { IsKind (target_pool self.now) result (target_type self.now).kind }
+    {
         match self {
             Target::Field(field) => field.kind(),
             Target::Extension(extension) => extension.kind(),
@@ -81,17 +87,6 @@ impl<'p> Target<'p> {
             Target::Field(field) => field.is_map(),
             Target::Extension(extension) => extension.is_map(),
         }
-    }
-
-    /// The values are floating-point numbers, or those of a map are.
-    fn holds_floats(&self) -> bool {
-        let kind = match self.kind() {
-            Kind::Message(entry) if self.is_map() && entry.is_map_entry() => {
-                entry.map_entry_value_field().kind()
-            }
-            kind => kind,
-        };
-        matches!(kind, Kind::Float | Kind::Double)
     }
 
     /// The name by which a text sets it: of a group its type's, of an extension the full one in brackets.
@@ -144,98 +139,23 @@ impl<'p> Target<'p> {
     /// Puts values of its kind behind those of a list, or the entries that they are into a map.
     pub fn add(
         &self,
-        alloc: Global,
         message: &mut DynamicMessage<'p>,
         values: Vec<Value<'p>>,
     ) -> Result<(), AllocError>
         requires { Takes message.old.descriptor self.now }
+        ensures { message.new.descriptor ≡ message.old.descriptor }
     {
-        let held = match self {
-            Target::Field(field) => message.get_field_mut(field)?,
-            Target::Extension(extension) => message.get_extension_mut(extension)?,
-        };
-        match held {
-            Value::List(list) => append(list, values),
-            Value::Map(entries) => insert(alloc, entries, values),
-            _ => Ok(()),
+        match self {
+            Target::Field(field) => message.extend_field(field, values),
+            Target::Extension(extension) => message.extend_extension(extension, values),
         }
-    }
-}
-
-/// Puts values behind those of a list. Refused, the list is as before.
-fn append<'p>(list: &mut Vec<Value<'p>>, mut values: Vec<Value<'p>>) -> Result<(), AllocError> {
-    list.append(&mut values)?;
-    Ok(())
-}
-
-/// Puts entries into a map, each over what stood under its key.
-fn insert<'p>(
-    alloc: Global,
-    entries: &mut BTreeMap<MapKey, Value<'p>>,
-    values: Vec<Value<'p>>,
-) -> Result<(), AllocError> {
-    for value in values {
-        if let Value::Message(entry) = value {
-            if let Some((key, value)) = key_and_value(alloc, entry)? {
-                entries.insert(key, value)?;
-            }
-        }
-    }
-    Ok(())
-}
-
-/// The key and the value of an entry. Each is its default where the entry has none.
-fn key_and_value<'p>(
-    alloc: Global,
-    mut entry: DynamicMessage<'p>,
-) -> Result<Option<(MapKey, Value<'p>)>, AllocError> {
-    let descriptor = entry.descriptor();
-    if !descriptor.is_map_entry() {
-        return Ok(None);
-    }
-    let key_field = descriptor.map_entry_key_field();
-    let value_field = descriptor.map_entry_value_field();
-    let key = taken(alloc, &mut entry, key_field)?;
-    let value = taken(alloc, &mut entry, value_field)?;
-    match key.into_map_key() {
-        Some(key) => Ok(Some((key, value))),
-        None => Ok(None),
-    }
-}
-
-/// What a message holds under a field of its type, or the field's default.
-fn taken<'p>(
-    alloc: Global,
-    message: &mut DynamicMessage<'p>,
-    field: FieldDescriptor<'p>,
-) -> Result<Value<'p>, AllocError>
-    requires { Declares message.old.descriptor field }
-    ensures { message.new.descriptor ≡ message.old.descriptor }
-{
-    match message.take_field(&field) {
-        Some(value) => Ok(value),
-        None => Value::default_value_for_field(alloc, &field),
-    }
-}
-
-/// The field that a text calls so.
-fn field_by_text_name<'p>(
-    alloc: Global,
-    descriptor: MessageDescriptor<'p>,
-    name: &str,
-) -> Result<Option<FieldDescriptor<'p>>, AllocError>
-    ensures message { IfOk result (λ found. IfSome found (λ f. f.message ≡ descriptor.entry)) }
-    ensures lacks { IfOk result (λ found. IfNone found (LacksField descriptor.entry name.now)) }
-{
-    match plain_field(descriptor, name) {
-        Some(field) => Ok(Some(field)),
-        None => group_field(alloc, descriptor, name),
     }
 }
 
 /// The field of a name that is no group.
 fn plain_field<'p>(descriptor: MessageDescriptor<'p>, name: &str) -> Option<FieldDescriptor<'p>>
     ensures message { IfSome result (λ f. f.message ≡ descriptor.entry) }
+    ensures named { IfSome result (λ f. (field_type f).name ≡ name.now) }
     ensures lacks { IfNone result (LacksField descriptor.entry name.now) }
 {
     let field = descriptor.get_field_by_name(name)?;
@@ -251,14 +171,26 @@ fn group_field<'p>(
     descriptor: MessageDescriptor<'p>,
     name: &str,
 ) -> Result<Option<FieldDescriptor<'p>>, AllocError>
-    ensures { IfOk result (λ found. IfSome found (λ f. f.message ≡ descriptor.entry)) }
+    ensures message { IfOk result (λ found. IfSome found (λ f. f.message ≡ descriptor.entry)) }
+    ensures lacks { IfOk result (λ found. IfNone found (LacksGroup descriptor.entry name.now)) }
 {
     let lower = name.to_ascii_lowercase(alloc)?;
     let Some(field) = descriptor.get_field_by_name(lower.as_str()) else {
         return Ok(None);
     };
+    if is_group_called(&field, name) {
+        Ok(Some(field))
+    } else {
+        Ok(None)
+    }
+}
+
+/// The field is a group, whose type has the name.
+fn is_group_called(field: &FieldDescriptor<'_>, name: &str) -> bool
+    ensures { IsGroupCalled field.now name.now → IsTrue result }
+{
     match field.kind() {
-        Kind::Message(group) if field.is_group() && group.name() == name => Ok(Some(field)),
-        _ => Ok(None),
+        Kind::Message(group) => field.is_group() && group.name() == name,
+        _ => false,
     }
 }

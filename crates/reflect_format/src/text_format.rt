@@ -1,3 +1,6 @@
+ghost use Rattle.std.specs.Prelude.{◌≡◌, IfErr, IfOk};
+ghost use Rattle.reflect_format.specs.Truth.{TrueOf};
+
 use crate::error::ParseError;
 use crate::parser::Parser;
 use reflect_dynamic::DynamicMessage;
@@ -7,16 +10,27 @@ use std::alloc::Global;
 
 /// Messages as text, in protobuf's text format (protobuf.dev, "Text Format Language Specification").
 pub trait TextFormat<'p>: Sized {
-    /// The message of a type that a text spells.
+    ghost use Rattle.reflect_pool.specs.declared.message.MessageDescriptor.{MessageDescriptor};
+
+    /// The type of the message.
+    ghost message_type: { Self → MessageDescriptor };
+
+    /// The message of a type that a text spells. Refused with the first fault of the text, as `merge_text_format` is.
     fn parse_text_format(
         alloc: Global,
         descriptor: MessageDescriptor<'p>,
         text: &str,
-    ) -> Result<Self, ParseError>;
+    ) -> Result<Self, ParseError>
+        ensures same_type { IfOk result (λ m. message_type m ≡ descriptor.entry) }
+        ensures refused { IfErr result (λ e. TrueOf descriptor.entry.pool.now e.kind) };
 
     /// Reads a text into the message. The first fault ends it; the message then has the fields at the top that were read
     /// before the fault, and for want of memory perhaps a part of the map or the `google.protobuf.Any` that was to be set.
-    fn merge_text_format(&mut self, alloc: Global, text: &str) -> Result<(), ParseError>;
+    ///
+    /// A name is called unknown only where its type, its enum or the pool has none such.
+    fn merge_text_format(&mut self, alloc: Global, text: &str) -> Result<(), ParseError>
+        ensures type_stays { message_type self.new ≡ message_type self.old }
+        ensures refused { IfErr result (λ e. TrueOf (message_type self.old).pool.now e.kind) };
 
     /// The message's text in the form of [`FormatOptions::new`].
     fn to_text_format(&self, alloc: Global) -> Result<String, WriteError>;
@@ -30,6 +44,8 @@ pub trait TextFormat<'p>: Sized {
 }
 
 impl<'p> TextFormat<'p> for DynamicMessage<'p> {
+    ghost message_type = { λ m. m.descriptor };
+
     fn parse_text_format(
         alloc: Global,
         descriptor: MessageDescriptor<'p>,

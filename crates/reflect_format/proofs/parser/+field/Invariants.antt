@@ -1,4 +1,4 @@
-use Rattle.std.proofs.Common.{◌+◌, ◌*◌, ◌≤◌}
+use Rattle.std.proofs.Common.{◌≡◌, ◌+◌, ◌*◌, ◌≤◌}
 use Rattle.reflect_format.specs.Left.{left}
 use Rattle.reflect_format.proofs.parser.+field.Given as goal
 
@@ -24,7 +24,7 @@ abbrev pub decreases-fields_to_brace : goal.decreases-fields_to_brace
 decreases-fields_to_brace l = 6 * l.braces + 5
 
 abbrev pub invariant-fields_to_brace-fields : goal.invariant-fields_to_brace-fields
-invariant-fields_to_brace-fields l = left l.tokens ≤ left l.initial.tokens
+invariant-fields_to_brace-fields l = (left l.tokens ≤ left l.initial.tokens) × (l.message.descriptor ≡ l.initial.message.descriptor)
 
 abbrev pub decreases-fields_to_brace-fields : goal.decreases-fields_to_brace-fields
 decreases-fields_to_brace-fields l = left l.tokens

@@ -1,0 +1,24 @@
+use Rattle.std.proofs.Common.{subst, string_bytes}
+use Rattle.std.proofs.lemmas.Result.{IfErr-weaker}
+use Rattle.reflect_format.specs.Truth.{TrueOf}
+use Rattle.reflect_format.proofs.Telling.{field_true, extension_true, scalar_true, passed}
+use Rattle.reflect_format.proofs.parser.+field.Goals as goal
+
+pub field-returns-in_err-target-in-Field-clause-refused : goal.field-returns-in_err-target-in-Field-clause-refused
+field-returns-in_err-target-in-Field-clause-refused t c =
+    let type = c.descriptor-descriptor in
+    let fault = c.in_err-target-in-Field in
+    let r = c.from_residual-in_err-target-in-Field in
+    passed r.result (TrueOf c.args.message.now.descriptor.pool.now) fault.field-0.0 r.ensures.1
+    (subst (λ d. TrueOf d.pool.now fault.field-0.0) type.ensures (field_true type.result c.in-Field.name.now fault.field-0.0 fault.ensures.refused))
+
+pub field-returns-in_err-target-in-Extension-clause-refused : goal.field-returns-in_err-target-in-Extension-clause-refused
+field-returns-in_err-target-in-Extension-clause-refused t c =
+    let type = c.descriptor-descriptor in
+    let fault = c.in_err-target-in-Extension in
+    let r = c.from_residual-in_err-target-in-Extension in
+    passed r.result (TrueOf c.args.message.now.descriptor.pool.now) fault.field-0.0 r.ensures.1
+    (subst (λ d. TrueOf d.pool.now fault.field-0.0) type.ensures (extension_true type.result (string_bytes c.in-Extension.name) fault.field-0.0 fault.ensures.refused))
+
+pub value-returns-in_default-clause-refused : goal.value-returns-in_default-clause-refused
+value-returns-in_default-clause-refused t c = IfErr-weaker c.scalar_value.result _ _ (λ k h. scalar_true c.args.kind k h) c.scalar_value.ensures.refused
