@@ -2,6 +2,8 @@
 
 use crate::pools::{linked, message};
 use reflect_dynamic::{DynamicMessage, Value};
+use reflect_link::MessageDescriptor;
+use std::alloc::{AllocError, Global};
 use std::test::Fail;
 
 const SOURCE: &str =
@@ -114,22 +116,28 @@ fn values_are_put_behind_those_of_a_list(rt: HostRuntime) -> Result<(), Fail> {
     let single = descriptor.get_field(3).ok_or("no a")?;
     let extension = descriptor.get_extension(10).ok_or("no e")?;
     let mut message = DynamicMessage::new(alloc, descriptor);
-    for number in [5, 6] {
-        let mut values = Vec::new(alloc);
-        values.push(Value::I32(number))?;
-        message.extend_field(&list, values)?;
-    }
-    let mut values = Vec::new(alloc);
-    values.push(Value::Bool(true))?;
-    values.push(Value::Bool(false))?;
+    message.extend_field(&list, vec![in alloc; Value::I32(5)]?)?;
+    message.extend_field(&list, vec![in alloc; Value::I32(6)]?)?;
+    let values = vec![in alloc; Value::Bool(true), Value::Bool(false)]?;
     message.extend_extension(&extension, values)?;
     // A field of one value takes none behind it.
-    let mut values = Vec::new(alloc);
-    values.push(Value::I32(7))?;
-    message.extend_field(&single, values)?;
+    message.extend_field(&single, vec![in alloc; Value::I32(7)]?)?;
     let wanted = [0x08, 0x05, 0x08, 0x06, 0x50, 0x01, 0x50, 0x00];
     assert_eq!(rt; message.encode_to_vec()?.as_slice(), wanted.as_slice());
     Ok(())
+}
+
+/// An entry of a map, alone in a list.
+fn one_entry<'p>(
+    alloc: Global,
+    entry: MessageDescriptor<'p>,
+    key: i32,
+    text: &str,
+) -> Result<Vec<Value<'p>>, AllocError> {
+    let mut value = DynamicMessage::new(alloc, entry);
+    value.set_field_by_number(1, Value::I32(key))?;
+    value.set_field_by_number(2, Value::String(String::from_str(alloc, text)?))?;
+    Ok(vec![in alloc; Value::Message(value)]?)
 }
 
 #[test]
@@ -140,18 +148,12 @@ fn entries_are_put_over_those_of_a_map(rt: HostRuntime) -> Result<(), Fail> {
     let map = descriptor.get_field(2).ok_or("no m")?;
     let entry = map.kind().as_message().ok_or("no entries")?;
     let mut message = DynamicMessage::new(alloc, descriptor);
-    for (key, text) in [(2, "a"), (1, "b"), (2, "c")] {
-        let mut value = DynamicMessage::new(alloc, entry);
-        value.set_field_by_number(1, Value::I32(key))?;
-        value.set_field_by_number(2, Value::String(String::from_str(alloc, text)?))?;
-        let mut entries = Vec::new(alloc);
-        entries.push(Value::Message(value))?;
-        message.extend_field(&map, entries)?;
-    }
+    message.extend_field(&map, one_entry(alloc, entry, 2, "a")?)?;
+    message.extend_field(&map, one_entry(alloc, entry, 1, "b")?)?;
+    message.extend_field(&map, one_entry(alloc, entry, 2, "c")?)?;
     // An entry without a key has the default one.
-    let mut entries = Vec::new(alloc);
-    entries.push(Value::Message(DynamicMessage::new(alloc, entry)))?;
-    message.extend_field(&map, entries)?;
+    let empty = Value::Message(DynamicMessage::new(alloc, entry));
+    message.extend_field(&map, vec![in alloc; empty]?)?;
     let wanted = b"\x12\x04\x08\x00\x12\x00\x12\x05\x08\x01\x12\x01b\x12\x05\x08\x02\x12\x01c";
     assert_eq!(rt; message.encode_to_vec()?.as_slice(), wanted.as_slice());
     Ok(())
