@@ -7,6 +7,7 @@ use Rattle.reflect_index.specs.Types.{PoolType}
 abbrev pub cut_to : PoolType → ℕ → PoolType
 cut_to p mark = record {
   files = take mark p.files;
+  records = take mark p.records;
   declared = take mark p.declared;
   messages = filter (λ m. nat_lt m.file mark) p.messages;
   enums = filter (λ e. nat_lt e.file mark) p.enums;

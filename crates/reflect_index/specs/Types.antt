@@ -1,7 +1,8 @@
--- What a pool holds: files, message types with their fields and oneofs, enum types with their values, extensions and services,
--- each at its place.
+-- What a pool holds: files with their records, message types with their fields and oneofs, enum types with their values, extensions
+-- and services, each at its place.
 use Rattle.std.specs.Prelude.{◌≡◌, ◌==◌, ◌+◌, ◌^◌, ℕ, ℤ, ◌<◌, List, [], ◌∷◌, length, Bool, false, cond, Option, None, Some, slice_index_or}
 use Rattle.std.specs.List.{All, AllByRecursion}
+use Rattle.descriptor_records.specs.declared.file.FileDescriptorProto.{FileDescriptorProto}
 use Rattle.reflect_index.specs.declared.kind.Cardinality.{Cardinality}
 use Rattle.reflect_index.specs.declared.kind.Cardinality.TheVariants.{Optional}
 use Rattle.reflect_index.specs.declared.kind.Syntax.{Syntax}
@@ -128,14 +129,19 @@ pub record FilePlaces : Type 0 where
   pub children : ChildPlaces
   pub services : List ℕ
 
--- what each file declares stands at the file's place
+-- each file's record, and what the file declares, stand at the file's place
 pub record PoolType : Type 0 where
   pub files : List FileType
+  pub records : List FileDescriptorProto
   pub declared : List FilePlaces
   pub messages : List MessageType
   pub enums : List EnumType
   pub extensions : List ExtensionType
   pub services : List ServiceType
+
+-- nothing but the records of the first pool's files is otherwise in the second
+abbrev pub IsSettled : PoolType → PoolType → Type 0
+IsSettled old new = new ≡ record old { records = new.records }
 
 abbrev pub counts_of : PoolType → Counts
 counts_of p = record { files = length p.files; messages = length p.messages; enums = length p.enums; extensions = length p.extensions; services = length p.services }

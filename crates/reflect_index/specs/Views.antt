@@ -170,6 +170,9 @@ record_file f = record {
 abbrev pub file_of : StoredFile → FileType
 file_of f = record_file f.record
 
+abbrev pub record_of : StoredFile → FileDescriptorProto
+record_of f = f.record
+
 abbrev pub declared_of : Declared → FilePlaces
 declared_of d = record { children = children_of d.children; services = d.services.items }
 
@@ -179,6 +182,7 @@ places_of f = declared_of f.declared
 abbrev pub pool_of : Tables → PoolType
 pool_of t = record {
   files = map file_of t.files.items;
+  records = map record_of t.files.items;
   declared = map places_of t.files.items;
   messages = map message_of t.messages.items;
   enums = map enum_of t.enums.items;

@@ -1,6 +1,7 @@
 //! Moves settled options, and the paths of locations that speak of them, into the files' records.
 
 ghost use Rattle.std.specs.Prelude.{◌≡◌, map};
+ghost use Rattle.reflect_index.specs.Types.{IsSettled};
 ghost use Rattle.reflect_index.specs.Views.{file_of, places_of, pool_of, record_file};
 
 use crate::stored::StoredFile;
@@ -169,7 +170,7 @@ fn settle_edit(files: &mut Vec<StoredFile>, edit: Edit)
 
 /// Moves edits into the records. One that names no place of the files is passed over. Takes no memory.
 pub fn settle_all(tables: &mut Tables, edits: Vec<Edit>)
-    ensures { pool_of tables.new ≡ pool_of tables.old }
+    ensures { IsSettled (pool_of tables.old) (pool_of tables.new) }
 {
     settle_edits(&mut tables.files, edits);
 }

@@ -1,5 +1,5 @@
 -- The records that descriptors lend.
-use Rattle.std.specs.Prelude.{◌≡◌, ℕ, ℤ, List, Option, Some, None}
+use Rattle.std.specs.Prelude.{◌≡◌, ℕ, ℤ, List, Option, Some, None, slice_get}
 use Rattle.descriptor_records.specs.declared.enums.EnumDescriptorProto.{EnumDescriptorProto}
 use Rattle.descriptor_records.specs.declared.enums.EnumValueDescriptorProto.{EnumValueDescriptorProto}
 use Rattle.descriptor_records.specs.declared.field.FieldDescriptorProto.{FieldDescriptorProto}
@@ -9,18 +9,16 @@ use Rattle.descriptor_records.specs.declared.message.DescriptorProto.{Descriptor
 use Rattle.descriptor_records.specs.declared.service.MethodDescriptorProto.{MethodDescriptorProto}
 use Rattle.descriptor_records.specs.declared.service.ServiceDescriptorProto.{ServiceDescriptorProto}
 use Rattle.reflect_index.specs.Types.{PoolType, type_at, type_of_field, enum_at, extension_at, service_at}
-use Rattle.reflect_index.specs.Views.{record_file}
 use Rattle.reflect_pool.specs.Parts.{type_of_oneof, type_of_value, type_of_method}
-use Rattle.reflect_link.specs.FileTypes.{file_type_at}
 use Rattle.reflect_link.specs.Records.{message_along, field_along, oneof_along, enum_along, value_along, extension_along, service_along, method_along}
 
 abbrev pub IsWhereThere : {X : Type 0} → Option X → X → Type 0
 IsWhereThere None x = Unit {0}
 IsWhereThere (Some found) x = x ≡ found
 
--- it is the record at a path of a file's record, where one is there
+-- it is the record at a path of the record of a pool's file, where one is there
 abbrev pub IsAlong : {X : Type 0} → (FileDescriptorProto → List ℤ → Option X) → PoolType → ℕ → List ℤ → X → Type 0
-IsAlong along p file path x = (f : FileDescriptorProto) × (record_file f ≡ file_type_at p file) × IsWhereThere (along f path) x
+IsAlong along p file path x = (f : FileDescriptorProto) × (slice_get p.records file ≡ Some f) × IsWhereThere (along f path) x
 
 abbrev pub IsMessageOf : PoolType → ℕ → DescriptorProto → Type 0
 IsMessageOf p i m = IsAlong message_along p (type_at p i).file (type_at p i).path m

@@ -1,4 +1,4 @@
-ghost use Rattle.std.specs.Prelude.{◌≡◌, ◌<◌, All, length, map, IfSome, IsSome};
+ghost use Rattle.std.specs.Prelude.{◌≡◌, ◌<◌, All, Some, length, map, slice_get, IfSome, IsSome};
 ghost use Rattle.std.proofs.Props.{props};
 ghost use Rattle.reflect_index.specs.Types.{declared_at, type_at, enum_at, extension_at, service_at};
 ghost use Rattle.reflect_index.specs.Views.{file_of, record_file, text_of};
@@ -46,7 +46,8 @@ impl<'p> FileDescriptor<'p> {
     }
 
     fn stored(&self) -> &'p StoredFile
-        ensures { file_of result.now ≡ file_type_at self.now.pool.now self.now.index }
+        ensures file { file_of result.now ≡ file_type_at self.now.pool.now self.now.index }
+        ensures stands { slice_get self.now.pool.now.records self.now.index ≡ Some result.now.«record» }
     {
         let tables = self.pool.tables();
         &tables.files[self.index as usize]
@@ -75,7 +76,8 @@ impl<'p> FileDescriptor<'p> {
 
     /// The record of the file, with full names in place of references.
     pub fn file_descriptor_proto(&self) -> &'p FileDescriptorProto
-        ensures { record_file result.now ≡ file_type_at self.now.pool.now self.now.index }
+        ensures stands { slice_get self.now.pool.now.records self.now.index ≡ Some result.now }
+        ensures header { record_file result.now ≡ file_type_at self.now.pool.now self.now.index }
     {
         &self.stored().record
     }

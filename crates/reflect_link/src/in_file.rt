@@ -1,4 +1,4 @@
-ghost use Rattle.std.specs.Prelude.{◌≡◌, ℕ};
+ghost use Rattle.std.specs.Prelude.{◌≡◌, ℕ, Some, slice_get};
 ghost use Rattle.reflect_index.specs.Types.{PoolType, type_at, enum_at, extension_at};
 ghost use Rattle.reflect_index.specs.Views.{record_file};
 ghost use Rattle.reflect_link.specs.FileTypes.{file_type_at};
@@ -25,7 +25,8 @@ pub trait InFile<'p> {
 
     /// The record of the file that the declaration stands in.
     fn parent_file_descriptor_proto(&self) -> &'p FileDescriptorProto
-        ensures { record_file result.now ≡ file_type_at (stands_in self.now) (file_of self.now) };
+        ensures stands { slice_get (stands_in self.now).records (file_of self.now) ≡ Some result.now }
+        ensures header { record_file result.now ≡ file_type_at (stands_in self.now) (file_of self.now) };
 
     /// The package of the file that the declaration stands in, empty where there is none.
     fn package_name(&self) -> &'p str

@@ -22,7 +22,7 @@ pub trait PoolReaders {
 
     /// The records of the files, with full names in place of references.
     fn file_descriptor_protos(&self) -> FileRecords<'_>
-        ensures { records_left result ≡ (holds self.now).files };
+        ensures { records_left result ≡ (holds self.now).records };
 
     /// All message types, of each file with those that stand in others, each before what stands in it.
     fn all_messages(&self) -> AllMessages<'_>
@@ -267,12 +267,11 @@ pub struct FileRecords<'p> {
 
 impl<'p> Iterator for FileRecords<'p> {
     ghost use Rattle.std.specs.Iterator.{YieldsFirstBy, item_count};
-    ghost use Rattle.reflect_index.specs.Views.{record_file};
     ghost use Rattle.reflect_link.specs.FilesLeft.{records_left};
 
     type Item = &'p FileDescriptorProto;
 
-    ghost next_gives = { YieldsFirstBy (λ r. record_file r.now) records_left };
+    ghost next_gives = { YieldsFirstBy (λ r. r.now) records_left };
 
     ghost remaining = { item_count records_left };
 

@@ -1,4 +1,4 @@
-ghost use Rattle.std.specs.Prelude.{◌≡◌, ◌<◌, ◌-◌, All, length, IfSome, IsSome};
+ghost use Rattle.std.specs.Prelude.{◌≡◌, ◌<◌, ◌-◌, All, Some, length, slice_get, IfSome, IsSome};
 ghost use Rattle.std.proofs.Props.{props};
 ghost use Rattle.reflect_index.specs.Types.{service_at};
 ghost use Rattle.reflect_index.specs.Views.{service_of, method_of, record_file};
@@ -59,7 +59,8 @@ impl<'p> ServiceDescriptor<'p> {
 
     /// The record of the file that the service is declared in.
     pub fn parent_file_descriptor_proto(&self) -> &'p FileDescriptorProto
-        ensures { record_file result.now ≡ file_type_at self.now.pool.now (service_at self.now.pool.now self.now.index).file }
+        ensures stands { slice_get self.now.pool.now.records (service_at self.now.pool.now self.now.index).file ≡ Some result.now }
+        ensures header { record_file result.now ≡ file_type_at self.now.pool.now (service_at self.now.pool.now self.now.index).file }
     {
         self.parent_file().file_descriptor_proto()
     }
@@ -253,7 +254,8 @@ impl<'p> MethodDescriptor<'p> {
 
     /// The record of the file that the method is declared in.
     pub fn parent_file_descriptor_proto(&self) -> &'p FileDescriptorProto
-        ensures { record_file result.now ≡ file_type_at self.now.service.pool.now (service_at self.now.service.pool.now self.now.service.index).file }
+        ensures stands { slice_get self.now.service.pool.now.records (service_at self.now.service.pool.now self.now.service.index).file ≡ Some result.now }
+        ensures header { record_file result.now ≡ file_type_at self.now.service.pool.now (service_at self.now.service.pool.now self.now.service.index).file }
     {
         self.service.parent_file_descriptor_proto()
     }

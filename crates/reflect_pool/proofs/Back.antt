@@ -6,7 +6,7 @@ use Rattle.std.proofs.lemmas.List.{append-nil}
 use Rattle.std.proofs.lemmas.List.Elements.{filter-append}
 use Rattle.std.specs.List.{AllByRecursion, filter}
 use Rattle.reflect_index.specs.Types.{ArePooled, MessageWithin, EnumWithin, ExtensionWithin, ServiceWithin, counts_of}
-use Rattle.reflect_index.specs.Views.{file_of, places_of, message_of, enum_of, extension_of, service_of, pool_of}
+use Rattle.reflect_index.specs.Views.{file_of, record_of, places_of, message_of, enum_of, extension_of, service_of, pool_of}
 use Rattle.reflect_index.specs.Growth.{Appended}
 use Rattle.reflect_index.specs.Cut.{cut_to}
 use Rattle.reflect_index.specs.declared.stored.StoredFile.{StoredFile}
@@ -59,6 +59,8 @@ cut_back old more new e w h =
     let c = counts_of (pool_of old) in
     let files = files_back file_of old more new e in
     let count : length (map places_of old.files.items) ≡ n = length-map old.files.items places_of ∙ sym (length-map old.files.items file_of) in
+    let many : length (map record_of old.files.items) ≡ n = length-map old.files.items record_of ∙ sym (length-map old.files.items file_of) in
+    let records = subst (λ k. take k (map record_of new.files.items) ≡ map record_of old.files.items) many (files_back record_of old more new e) in
     let declared = subst (λ k. take k (map places_of new.files.items) ≡ map places_of old.files.items) count (files_back places_of old more new e) in
     let messages = back message_of (λ m. m.file) n old.messages.items more.messages.items new.messages.items e.messages
     (all_through (MessageWithin c) (λ m. m.file < n) (map message_of old.messages.items) (λ m k. k.file) h.messages) w.messages in
@@ -68,4 +70,4 @@ cut_back old more new e w h =
     (all_through (ExtensionWithin c) (λ m. m.file < n) (map extension_of old.extensions.items) (λ m k. k.file) h.extensions) w.extensions in
     let services = back service_of (λ m. m.file) n old.services.items more.services.items new.services.items e.services
     (all_through (ServiceWithin c) (λ m. m.file < n) (map service_of old.services.items) (λ m k. k.file) h.services) w.services in
-    λ i. record { files = files i; declared = declared i; messages = messages i; enums = enums i; extensions = extensions i; services = services i }
+    λ i. record { files = files i; records = records i; declared = declared i; messages = messages i; enums = enums i; extensions = extensions i; services = services i }

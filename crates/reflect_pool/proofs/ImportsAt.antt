@@ -85,41 +85,46 @@ module _ (indexes : Indexes) (files : List FileType) (are : AreIndexed indexes (
   pub publicly_imported_there : All (λ place. place < length files) (imported_publicly indexes f)
   publicly_imported_there = all_given (λ place. place < length files) (import_at indexes f.imports) publicly_there f.public_imports
 
--- the links of the file at a place
+-- the links of a pool's files
 module _ (q pool : PoolType) (names : BTreeMap (String Global) Definition) (file_names : BTreeMap (String Global) ℕ) (places : BTreeMap KeyType ℕ) (links : List Links)
-    (same : q ≡ pool) (linked : IsLinked q names file_names places links) (i : ℕ) (l : Links) (lt : i < length pool.files) (is : l ≡ get_or links i l) where
+    (same : q ≡ pool) (linked : IsLinked q names file_names places links) where
   here : IsLinked pool names file_names places links
   here = subst (λ p. IsLinked p names file_names places links) same linked
 
   by_names : indexes_of file_names ≡ place_named pool
   by_names = fun_ext (at_first (indexes_of file_names) pool.files here.files)
 
-  pub links_at : (d : FileType) → link_view l ≡ imported_places (place_named pool) (get_or pool.files i d)
-  links_at d =
-      let views = imported_places (indexes_of file_names) in
-      let long : i < length (map link_view links) = subst (λ n. i < n) (sym (ap length here.to_imports ∙ length-map pool.files views)) lt in
-      sym (view_there link_view links i l (views d) long is) ∙ ap (λ ps. get_or ps i (views d)) here.to_imports ∙ lists.get_or-map views pool.files i d (views d) lt
-      ∙ ap (λ g. imported_places g (get_or pool.files i d)) by_names
+  pub links_are : map link_view links ≡ map (imported_places (place_named pool)) pool.files
+  links_are = here.to_imports ∙ ap (λ g. map (imported_places g) pool.files) by_names
 
-  none : FileType
-  none = record { name = []; package_name = []; syntax = Proto2; imports = []; public_imports = [] }
+  -- those of the file at a place
+  module _ (i : ℕ) (l : Links) (lt : i < length pool.files) (is : l ≡ get_or links i l) where
+    pub links_at : (d : FileType) → link_view l ≡ imported_places (place_named pool) (get_or pool.files i d)
+    links_at d =
+        let views = imported_places (indexes_of file_names) in
+        let long : i < length (map link_view links) = subst (λ n. i < n) (sym (ap length here.to_imports ∙ length-map pool.files views)) lt in
+        sym (view_there link_view links i l (views d) long is) ∙ ap (λ ps. get_or ps i (views d)) here.to_imports ∙ lists.get_or-map views pool.files i d (views d) lt
+        ∙ ap (λ g. imported_places g (get_or pool.files i d)) by_names
 
-  are : AreIndexed (place_named pool) (names_of_files pool.files)
-  are = subst (λ g. AreIndexed g (names_of_files pool.files)) by_names here.files
+    none : FileType
+    none = record { name = []; package_name = []; syntax = Proto2; imports = []; public_imports = [] }
 
-  pub imports_inside : All (λ place. place < length pool.files) l.imports.items
-  imports_inside = subst (All (λ place. place < length pool.files)) (sym (ap (λ (p : List ℕ × List ℕ). p.0) (links_at none))) (imported_there (place_named pool) pool.files are (get_or pool.files i none))
+    are : AreIndexed (place_named pool) (names_of_files pool.files)
+    are = subst (λ g. AreIndexed g (names_of_files pool.files)) by_names here.files
 
-  pub public_inside : All (λ place. place < length pool.files) l.public.items
-  public_inside = subst (All (λ place. place < length pool.files)) (sym (ap (λ (p : List ℕ × List ℕ). p.1) (links_at none))) (publicly_imported_there (place_named pool) pool.files are (get_or pool.files i none))
+    pub imports_inside : All (λ place. place < length pool.files) l.imports.items
+    imports_inside = subst (All (λ place. place < length pool.files)) (sym (ap (λ (p : List ℕ × List ℕ). p.0) (links_at none))) (imported_there (place_named pool) pool.files are (get_or pool.files i none))
 
-  among : (d : FileType) → ImportsAmong (names_of_files pool.files) (get_or pool.files i d)
-  among d = at_place (ImportsAmong (names_of_files pool.files)) pool.files i d here.imports lt
+    pub public_inside : All (λ place. place < length pool.files) l.public.items
+    public_inside = subst (All (λ place. place < length pool.files)) (sym (ap (λ (p : List ℕ × List ℕ). p.1) (links_at none))) (publicly_imported_there (place_named pool) pool.files are (get_or pool.files i none))
 
-  pub names_at : (d : FileType) → map (name_at pool) l.imports.items ≡ (get_or pool.files i d).imports
-  names_at d =
-      ap (λ (p : List ℕ × List ℕ). map (name_at pool) p.0) (links_at d) ∙ imported_names (place_named pool) (names_of_files pool.files) are (get_or pool.files i d) (among d)
+    among : (d : FileType) → ImportsAmong (names_of_files pool.files) (get_or pool.files i d)
+    among d = at_place (ImportsAmong (names_of_files pool.files)) pool.files i d here.imports lt
 
-  pub public_names_at : (d : FileType) → map (name_at pool) l.public.items ≡ map (import_name (get_or pool.files i d).imports) (get_or pool.files i d).public_imports
-  public_names_at d =
-      ap (λ (p : List ℕ × List ℕ). map (name_at pool) p.1) (links_at d) ∙ publicly_imported_names (place_named pool) (names_of_files pool.files) are (get_or pool.files i d) (among d)
+    pub names_at : (d : FileType) → map (name_at pool) l.imports.items ≡ (get_or pool.files i d).imports
+    names_at d =
+        ap (λ (p : List ℕ × List ℕ). map (name_at pool) p.0) (links_at d) ∙ imported_names (place_named pool) (names_of_files pool.files) are (get_or pool.files i d) (among d)
+
+    pub public_names_at : (d : FileType) → map (name_at pool) l.public.items ≡ map (import_name (get_or pool.files i d).imports) (get_or pool.files i d).public_imports
+    public_names_at d =
+        ap (λ (p : List ℕ × List ℕ). map (name_at pool) p.1) (links_at d) ∙ publicly_imported_names (place_named pool) (names_of_files pool.files) are (get_or pool.files i d) (among d)

@@ -14,6 +14,7 @@ pub mod OneofMembers
 pub mod Places
 pub mod Pooled
 pub mod Ranged
+pub mod Refused
+pub mod Settled
 pub mod Stands
 pub mod Within
-pub mod Refused

@@ -15,7 +15,7 @@ use Rattle.reflect_pool.specs.Imports.{ImportsAreThere, imported_places, names_o
 
 -- a pool that holds nothing
 abbrev pub empty_pool : PoolType
-empty_pool = record { files = []; declared = []; messages = []; enums = []; extensions = []; services = [] }
+empty_pool = record { files = []; records = []; declared = []; messages = []; enums = []; extensions = []; services = [] }
 
 -- a name has an index exactly where it is the one at this place
 abbrev pub AreIndexed : Indexes → List (List ℕ) → Type 0

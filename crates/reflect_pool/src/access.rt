@@ -4,8 +4,11 @@ ghost use Rattle.std.specs.Prelude.{◌≡◌, ◌<◌, All, HoldsAt, length, ma
 ghost use Rattle.reflect_index.specs.Types.{FileWithin, ChildrenWithin, counts_of, declared_at, type_at, enum_at, extension_at, service_at};
 ghost use Rattle.reflect_index.specs.Views.{children_of, declared_of, pool_of};
 ghost use Rattle.reflect_index.specs.Finding.{IsFirst};
+ghost use Rattle.reflect_index.specs.Names.{AreNamed, names_of};
+ghost use Rattle.reflect_names.specs.ImportedFiles.{link_view};
+ghost use Rattle.reflect_names.specs.Known.{known_of};
 ghost use Rattle.reflect_pool.specs.Dots.{without_dot};
-ghost use Rattle.reflect_pool.specs.Imports.{import_name, imported, imported_publicly, name_at, place_named};
+ghost use Rattle.reflect_pool.specs.Imports.{import_name, imported, imported_places, imported_publicly, name_at, place_named};
 ghost use Rattle.reflect_pool.specs.Parts.{type_of_method};
 
 use crate::blank::Blanks;
@@ -48,12 +51,16 @@ impl DescriptorPool {
     }
 
     /// What the full names stand for.
-    pub fn names(&self) -> &BTreeMap<String, Definition> {
+    pub fn names(&self) -> &BTreeMap<String, Definition>
+        ensures { AreNamed (known_of result.now) (names_of self.now) }
+    {
         &self.names
     }
 
     /// What each file imports, by its place.
-    pub fn links(&self) -> &[Links] {
+    pub fn links(&self) -> &[Links]
+        ensures { map link_view result.now ≡ map (imported_places (place_named self.now)) self.now.files }
+    {
         self.links.as_slice()
     }
 

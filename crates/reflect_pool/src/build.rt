@@ -9,7 +9,7 @@ ghost use Rattle.reflect_names.specs.ImportedFiles.{link_view, links_to};
 ghost use Rattle.reflect_names.specs.Known.{below};
 ghost use Rattle.reflect_index.specs.Cut.{cut_to};
 ghost use Rattle.reflect_index.specs.Growth.{Together, Appended};
-ghost use Rattle.reflect_index.specs.Types.{ArePooled, AreFew, ListsMembers};
+ghost use Rattle.reflect_index.specs.Types.{ArePooled, AreFew, IsSettled, ListsMembers};
 ghost use Rattle.reflect_index.specs.Views.{file_of, record_file, message_of, pool_of};
 ghost use Rattle.reflect_index.specs.Names.{messages, enums, extensions, services, with_names};
 ghost use Rattle.reflect_index.specs.DraftNames.{stored_message_name, stored_enum_name, stored_extension_name, stored_service_name};
@@ -316,7 +316,7 @@ impl DescriptorPool {
     /// Moves settled options, and the paths of locations that speak of them, into the files' records. One that names no
     /// place of the pool is passed over. Takes no memory; the types stay as they are.
     pub fn settle(&mut self, edits: Vec<Edit>)
-        ensures { self.new ≡ self.old }
+        ensures { IsSettled self.old self.new }
     {
         settle_all(&mut self.tables, edits);
     }

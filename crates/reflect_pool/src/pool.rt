@@ -35,11 +35,15 @@ pub struct DescriptorPool {
 }
 
 impl Model for DescriptorPool {
+    ghost use Rattle.std.specs.Coded.{codes};
+    ghost use Rattle.descriptor_records.specs.contracts.message.DescriptorProto as nested;
     ghost use Rattle.reflect_index.specs.Types.{PoolType};
     ghost use Rattle.reflect_index.specs.Views.{pool_of};
     ghost use Rattle.reflect_pool.specs.Linked.{IsLinked};
 
     ghost Value = { PoolType };
+
+    ghost coded = { Prim.hlevel (codes, nested.the_row.coded) };
 
     ghost view = { λ p. pool_of p.tables };
 

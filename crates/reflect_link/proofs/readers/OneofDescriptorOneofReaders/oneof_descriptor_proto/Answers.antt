@@ -9,4 +9,4 @@ returns c =
     let self = c.args.self.now in
     along oneof_along self.message.pool.now (type_at self.message.pool.now self.message.index).file (type_of_oneof self.message.pool.now self.message.index self.index).path
     c.path.result.now c.parent_file_descriptor_proto.result.now c.oneof_record-found.result _ c.unwrap_or.result
-    c.parent_file_descriptor_proto.ensures c.path.ensures c.oneof_record-found.ensures c.unwrap_or.ensures
+    c.parent_file_descriptor_proto.ensures.stands c.path.ensures c.oneof_record-found.ensures c.unwrap_or.ensures

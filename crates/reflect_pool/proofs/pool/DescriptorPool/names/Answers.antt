@@ -1,0 +1,7 @@
+use Rattle.std.proofs.Common.{subst}
+use Rattle.reflect_index.specs.Names.{AreNamed, names_of}
+use Rattle.reflect_names.specs.Known.{known_of}
+use Rattle.reflect_pool.proofs.pool.DescriptorPool.names.Goals as goal
+
+pub returns : goal.returns
+returns c = subst (λ p. AreNamed (known_of c.self.inside.names) (names_of p)) c.self.view_is c.self.invariant.named
