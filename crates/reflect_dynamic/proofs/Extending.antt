@@ -7,7 +7,8 @@ use Rattle.reflect_wire.specs.Records.{Payload}
 use Rattle.reflect_entries.specs.Entries.{value_at}
 use Rattle.reflect_scalar.specs.FieldTypes.{extension_pool, extension_type}
 use Rattle.reflect_dynamic.specs.Declares.{OwnsExtension, NoField}
-use Rattle.reflect_dynamic.specs.Fields.{payloads, HoldExtensions}
+use Rattle.reflect_dynamic.specs.Fields.{HoldExtensions}
+use Rattle.reflect_dynamic.specs.Keeps.{payloads}
 use Rattle.reflect_dynamic.specs.Merging.{run_records}
 use Rattle.reflect_dynamic.specs.Messages.{Takes}
 use Rattle.reflect_dynamic.specs.Spares.{Same, FillsExtensions}

@@ -12,8 +12,8 @@ use Rattle.reflect_entries.specs.Members.{first_member_of}
 use Rattle.reflect_scalar.specs.FieldTypes.{field_pool}
 use Rattle.reflect_dynamic.specs.Contents.{Content}
 use Rattle.reflect_dynamic.specs.Declares.{Owns}
-use Rattle.reflect_dynamic.specs.Fields.{payloads, NoSibling, LeavesField, HoldFields}
-use Rattle.reflect_dynamic.specs.Keeps.{numbered}
+use Rattle.reflect_dynamic.specs.Fields.{NoSibling, LeavesField, HoldFields}
+use Rattle.reflect_dynamic.specs.Keeps.{numbered, payloads}
 use Rattle.reflect_dynamic.specs.Merging.{run_records}
 use Rattle.reflect_dynamic.specs.Messages.{Takes}
 use Rattle.reflect_dynamic.specs.Oneofs.{IsSibling, AreChosen, Changes, Chooses, Unsets}
@@ -22,19 +22,9 @@ use Rattle.reflect_dynamic.specs.Taking.{Leaves}
 use Rattle.reflect_dynamic.specs.declared.value.Value.{Value}
 use Rattle.reflect_dynamic.proofs.Choosing.{is_or_not, own_stays, unsets_changes, chosen_next, sibling_unset, other_stays}
 use Rattle.reflect_dynamic.proofs.Joining.{Joins}
-use Rattle.reflect_dynamic.proofs.Keeping.{not_numbered}
+use Rattle.reflect_dynamic.proofs.Keeping.{not_numbered, payloads_both, payloads_own}
 use Rattle.reflect_dynamic.proofs.Owning.{same_first, leaves_same}
 use Rattle.reflect_dynamic.proofs.Taking.{leaves_both}
-
-payloads_both : (n : ℕ) (rs ts : List (ℕ × Payload)) → payloads n (rs ++ ts) ≡ payloads n rs ++ payloads n ts
-payloads_both n rs ts = ap (map (λ (r : ℕ × Payload). r.1)) (filter-append (λ r. r.0 == n) rs ts) ∙ map-append (λ (r : ℕ × Payload). r.1) (numbered n rs) (numbered n ts)
-
-payloads_own : (n : ℕ) (ps : List Payload) → payloads n (map (λ p. (n, p)) ps) ≡ ps
-payloads_own n [] = refl
-payloads_own n (p ∷ ps) =
-    let is : (n == n) ≡ true = grind (arith) in
-    let rest = numbered n (map (λ p. (n, p)) ps) in
-    ap (λ b. map (λ (r : ℕ × Payload). r.1) (cond b ((n, p) ∷ rest) rest)) is ∙ ap (λ l. p ∷ l) (payloads_own n ps)
 
 -- what all records leave under one number
 module _ (inner : Takes) (pool : PoolType) (t : FieldType) (a b : Option Value) where

@@ -2,6 +2,7 @@
 use Rattle.std.proofs.Common.{◌≡◌, ◌≢◌, inl, Result, Ok, Err, IfOk, ℕ, ◌==◌, Bool, true, false, true≢false, cond, nat_lt, nat_le, List, [], ◌∷◌, ◌++◌, map, refl, sym, ap, ◌∙◌, subst, append_assoc, append-nil, arith}
 use Rattle.std.specs.Borrow.{Bor}
 use Rattle.std.specs.List.{filter}
+use Rattle.std.proofs.lemmas.List.{map-append}
 use Rattle.std.proofs.lemmas.List.Elements.{filter-append}
 use Rattle.reflect_pool.specs.declared.message.MessageDescriptor.{MessageDescriptor}
 use Rattle.reflect_pool.specs.FieldsLeft.{field_type}
@@ -12,7 +13,7 @@ use Rattle.reflect_wire.specs.declared.wire_error.WireError.{WireError}
 use Rattle.reflect_wire.specs.declared.wire_key.WireKey.{WireKey}
 use Rattle.reflect_entries.specs.Sets.{up_to, above, with_record}
 use Rattle.reflect_dynamic.specs.Declares.{Owns, IsDeclared}
-use Rattle.reflect_dynamic.specs.Keeps.{numbered, Keeps}
+use Rattle.reflect_dynamic.specs.Keeps.{numbered, payloads, Keeps}
 use Rattle.reflect_dynamic.specs.Merging.{IsRun, run_records}
 
 module _ {X : Type 0} (t s : X → Bool) where
@@ -59,6 +60,16 @@ not_numbered m n [] other = refl
 not_numbered m n (p ∷ ps) other =
     let is : (n == m) ≡ false = grind (arith, other) in
     ap (λ b. cond b ((n, p) ∷ numbered m (map (λ p. (n, p)) ps)) (numbered m (map (λ p. (n, p)) ps))) is ∙ not_numbered m n ps other
+
+pub payloads_both : (n : ℕ) (rs ts : List (ℕ × Payload)) → payloads n (rs ++ ts) ≡ payloads n rs ++ payloads n ts
+payloads_both n rs ts = ap (map (λ (r : ℕ × Payload). r.1)) (filter-append (λ r. r.0 == n) rs ts) ∙ map-append (λ (r : ℕ × Payload). r.1) (numbered n rs) (numbered n ts)
+
+pub payloads_own : (n : ℕ) (ps : List Payload) → payloads n (map (λ p. (n, p)) ps) ≡ ps
+payloads_own n [] = refl
+payloads_own n (p ∷ ps) =
+    let is : (n == n) ≡ true = grind (arith) in
+    let rest = numbered n (map (λ p. (n, p)) ps) in
+    ap (λ b. map (λ (r : ℕ × Payload). r.1) (cond b ((n, p) ∷ rest) rest)) is ∙ ap (λ l. p ∷ l) (payloads_own n ps)
 
 module _ (m : MessageDescriptor) where
   pub keeps_none : (old : List (ℕ × Payload)) → Keeps m old old []

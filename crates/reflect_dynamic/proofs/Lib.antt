@@ -10,6 +10,7 @@ pub mod Keeping
 pub mod Kept
 pub mod Known
 pub mod Lengthening
+pub mod Mapping
 pub mod Nesting
 pub mod Owning
 pub mod Packing
@@ -18,4 +19,5 @@ pub mod Running
 pub mod Setting
 pub mod Sparing
 pub mod Taking
+pub mod Telling
 pub mod Trees

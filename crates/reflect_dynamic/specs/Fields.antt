@@ -1,5 +1,5 @@
 -- What the records of a message leave in its fields and extensions.
-use Rattle.std.specs.Prelude.{◌≡◌, ◌⊎◌, ℕ, List, [], ◌∷◌, ◌++◌, map, Option, None}
+use Rattle.std.specs.Prelude.{◌≡◌, ◌⊎◌, ℕ, List, [], ◌∷◌, ◌++◌, Option, None}
 use Rattle.reflect_entries.specs.Entries.{value_at}
 use Rattle.reflect_pool.specs.FieldsLeft.{field_type}
 use Rattle.reflect_pool.specs.declared.message.MessageDescriptor.{MessageDescriptor}
@@ -8,15 +8,11 @@ use Rattle.reflect_pool.specs.declared.extension.ExtensionDescriptor.{ExtensionD
 use Rattle.reflect_scalar.specs.FieldTypes.{field_pool, extension_pool, extension_type}
 use Rattle.reflect_wire.specs.Records.{Payload}
 use Rattle.reflect_dynamic.specs.Declares.{Owns, OwnsExtension, NoField}
-use Rattle.reflect_dynamic.specs.Keeps.{numbered}
+use Rattle.reflect_dynamic.specs.Keeps.{numbered, payloads}
 use Rattle.reflect_dynamic.specs.Messages.{Takes}
 use Rattle.reflect_dynamic.specs.Oneofs.{IsSibling}
 use Rattle.reflect_dynamic.specs.Taking.{Leaves}
 use Rattle.reflect_dynamic.specs.declared.value.Value.{Value}
-
--- what stands in the records of a number
-abbrev pub payloads : ℕ → List (ℕ × Payload) → List Payload
-payloads n rs = map (λ r. r.1) (numbered n rs)
 
 -- no record is one of another member of the field's oneof
 abbrev pub NoSibling : MessageDescriptor → FieldDescriptor → List (ℕ × Payload) → Type 0

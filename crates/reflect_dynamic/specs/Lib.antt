@@ -11,11 +11,14 @@ pub mod Known
 pub mod Left
 pub mod Levels
 pub mod Lists
+pub mod Maps
 pub mod Merging
 pub mod Messages
 pub mod Oneofs
 pub mod Packed
+pub mod Present
 pub mod Puts
+pub mod Scalars
 pub mod Shown
 pub mod Singles
 pub mod Spares

@@ -6,6 +6,7 @@ ghost use Rattle.reflect_scalar.specs.FieldTypes.{extension_pool, extension_type
 ghost use Rattle.reflect_entries.specs.Entries.{value_at};
 ghost use Rattle.reflect_dynamic.specs.Held.{extensions_of, fields_of, unknown_of, UpdatesExtension};
 ghost use Rattle.reflect_dynamic.specs.Lists.{Lengthens, KeepsList};
+ghost use Rattle.reflect_dynamic.specs.Present.{held_if_set, is_held};
 ghost use Rattle.reflect_dynamic.specs.Shown.{Shows};
 ghost use Rattle.reflect_dynamic.specs.Spares.{Same};
 
@@ -23,6 +24,7 @@ impl<'p> DynamicMessage<'p> {
     pub fn has_extension(&self, extension: &ExtensionDescriptor<'p>) -> bool
         ensures held { IsTrue result → IsSome (value_at (extensions_of self.now) (extension_type extension.now).number) }
         ensures presence { (extension_type extension.now).presence ≡ true → IsSome (value_at (extensions_of self.now) (extension_type extension.now).number) → IsTrue result }
+        ensures set { result ≡ is_held (extension_pool extension.now) (extension_type extension.now) (value_at (extensions_of self.now) (extension_type extension.now).number) }
     {
         content::is_set(self.extension_value(extension.number()), extension)
     }
@@ -62,6 +64,8 @@ impl<'p> DynamicMessage<'p> {
         ensures type_stays { self.new.descriptor ≡ self.old.descriptor }
         ensures ok { OnOk result (UpdatesExtension self.old self.new (extension_type extension.now).number (Some value.entry)) }
         ensures err { OnErr result (extensions_of self.new ≡ extensions_of self.old) }
+        ensures fields { fields_of self.new ≡ fields_of self.old }
+        ensures unknown { unknown_of self.new ≡ unknown_of self.old }
     {
         let mut parts = self.take_block()?;
         let outcome = parts.extensions.set(extension.number(), value);
@@ -104,6 +108,7 @@ impl<'p> DynamicMessage<'p> {
         ensures updates { UpdatesExtension self.old self.new (extension_type extension.now).number None }
         ensures held { IfSome result (λ v. value_at (extensions_of self.old) (extension_type extension.now).number ≡ Some v) }
         ensures presence { (extension_type extension.now).presence ≡ true → result ≡ value_at (extensions_of self.old) (extension_type extension.now).number }
+        ensures taken { result ≡ held_if_set (extension_pool extension.now) (extension_type extension.now) (value_at (extensions_of self.old) (extension_type extension.now).number) }
     {
         let mut parts = self.block()?;
         let taken = content::take(&mut parts.extensions, extension);

@@ -9,6 +9,7 @@ ghost use Rattle.reflect_dynamic.specs.Declares.{Declares, Owns};
 ghost use Rattle.reflect_dynamic.specs.Held.{fields_of, choices_of, extensions_of, unknown_of, UpdatesField};
 ghost use Rattle.reflect_dynamic.specs.Lists.{Lengthens, KeepsList};
 ghost use Rattle.reflect_dynamic.specs.Oneofs.{IsExclusive, SetsField, sibling};
+ghost use Rattle.reflect_dynamic.specs.Present.{held_if_set, is_held};
 ghost use Rattle.reflect_dynamic.specs.Shown.{Shows};
 ghost use Rattle.reflect_dynamic.specs.Spares.{Same};
 
@@ -29,6 +30,7 @@ impl<'p> DynamicMessage<'p> {
         requires { Declares self.now.descriptor field.now }
         ensures held { IsTrue result → IsSome (value_at (fields_of self.now) (field_type field.now).number) }
         ensures presence { (field_type field.now).presence ≡ true → IsSome (value_at (fields_of self.now) (field_type field.now).number) → IsTrue result }
+        ensures set { result ≡ is_held (field_pool field.now) (field_type field.now) (value_at (fields_of self.now) (field_type field.now).number) }
     {
         content::is_set(self.field_value(field.number()), field)
     }
@@ -65,6 +67,8 @@ impl<'p> DynamicMessage<'p> {
         ensures ok { OnOk result (SetsField self.old self.new field.now value.entry) }
         ensures exclusive { Owns self.old.descriptor field.now → IsExclusive self.old → IsExclusive self.new }
         ensures err { OnErr result (fields_of self.new ≡ fields_of self.old) }
+        ensures extensions { extensions_of self.new ≡ extensions_of self.old }
+        ensures unknown { unknown_of self.new ≡ unknown_of self.old }
     {
         let mut parts = self.take_block()?;
         let outcome = parts.set_field(field, value);
@@ -86,6 +90,8 @@ impl<'p> DynamicMessage<'p> {
         ensures ok { OnOk result (SetsField self.old self.new field.now value.entry) }
         ensures exclusive { Owns self.old.descriptor field.now → IsExclusive self.old → IsExclusive self.new }
         ensures err { OnErr result (fields_of self.new ≡ fields_of self.old) }
+        ensures extensions { extensions_of self.new ≡ extensions_of self.old }
+        ensures unknown { unknown_of self.new ≡ unknown_of self.old }
     {
         if !is_valid_for(&value, field) {
             return Err(SetFieldError::InvalidType {
@@ -141,6 +147,7 @@ impl<'p> DynamicMessage<'p> {
         ensures exclusive { IsExclusive self.old → IsExclusive self.new }
         ensures held { IfSome result (λ v. value_at (fields_of self.old) (field_type field.now).number ≡ Some v) }
         ensures presence { (field_type field.now).presence ≡ true → result ≡ value_at (fields_of self.old) (field_type field.now).number }
+        ensures taken { result ≡ held_if_set (field_pool field.now) (field_type field.now) (value_at (fields_of self.old) (field_type field.now).number) }
     {
         let mut parts = self.block()?;
         let taken = content::take(&mut parts.fields, field);

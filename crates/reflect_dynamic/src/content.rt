@@ -3,6 +3,7 @@
 ghost use Rattle.std.specs.Prelude.{◌≡◌, true, None, Some, IsTrue, IsSome, IfSome, IfOk};
 ghost use Rattle.std.specs.Option.{option_copied};
 ghost use Rattle.reflect_entries.specs.Entries.{Updates, value_at};
+ghost use Rattle.reflect_dynamic.specs.Present.{held_if_set, is_held};
 ghost use Rattle.reflect_dynamic.specs.Shown.{Shows};
 
 use crate::defaults::{default_of, is_present};
@@ -16,6 +17,7 @@ use std::alloc::{AllocError, Global};
 pub fn is_set<'p, F: FieldDescriptorLike<'p>>(held: Option<&Value<'p>>, field: &F) -> bool
     ensures held { IsTrue result → IsSome held.entry }
     ensures presence { (F.says field.now).presence ≡ true → IsSome held.entry → IsTrue result }
+    ensures set { result ≡ is_held (F.pool field.now) (F.says field.now) (option_copied held.entry) }
 {
     match held {
         Some(value) => is_present(value, field),
@@ -45,6 +47,7 @@ pub fn take<'p, F: FieldDescriptorLike<'p>>(
     ensures updates { Updates content.old content.new (F.says field.now).number None }
     ensures held { IfSome result (λ v. value_at content.old (F.says field.now).number ≡ Some v) }
     ensures presence { (F.says field.now).presence ≡ true → result ≡ value_at content.old (F.says field.now).number }
+    ensures taken { result ≡ held_if_set (F.pool field.now) (F.says field.now) (value_at content.old (F.says field.now).number) }
 {
     let held = content.take(field.number())?;
     if is_present(&held, field) {

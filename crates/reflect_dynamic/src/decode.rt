@@ -1,28 +1,35 @@
 //! From wire bytes to a message, record by record.
 
 ghost use Rattle.std.specs.Prelude.{◌≡◌, ◌≢◌, ℕ, ◌+◌, ◌<◌, ◌≤◌, List, [], ◌∷◌, ◌++◌, None, Some, length, IfOk, IfErr, OnOk, OnErr, IfSome};
+ghost use Rattle.std.specs.BTreeMap.{insert_entry};
 ghost use Rattle.reflect_wire.specs.Faults.{Tells, ValueFault};
 ghost use Rattle.reflect_wire.specs.Key.{IsKey};
 ghost use Rattle.reflect_wire.specs.Reads.{Fronts, Refuses, RefusesWhole};
-ghost use Rattle.reflect_wire.specs.Records.{Payload, IsValue};
-ghost use Rattle.reflect_wire.specs.Views.{field_view};
+ghost use Rattle.reflect_wire.specs.Records.{Payload, IsValue, SpellsRecords};
+ghost use Rattle.reflect_wire.specs.Views.{field_view, records_of};
+ghost use Rattle.reflect_index.specs.Types.{PoolType, KindType};
+ghost use Rattle.reflect_pool.specs.FieldsLeft.{field_type};
+ghost use Rattle.reflect_pool.specs.Kinds.{IsKind};
 ghost use Rattle.reflect_entries.specs.Entries.{value_at};
 ghost use Rattle.reflect_entries.specs.Sets.{with_record};
 ghost use Rattle.reflect_entries.specs.Undeclared.{undeclared};
-ghost use Rattle.reflect_scalar.specs.FieldTypes.{either_pool, either_type};
+ghost use Rattle.reflect_scalar.specs.FieldTypes.{field_pool, either_pool, either_type};
 ghost use Rattle.reflect_scalar.specs.Singles.{Single};
 ghost use Rattle.reflect_dynamic.specs.Contents.{content_of, content_in};
 ghost use Rattle.reflect_dynamic.specs.Elements.{Appends, ContinuesList};
 ghost use Rattle.reflect_dynamic.specs.Levels.{TakesAt, MergesAt};
+ghost use Rattle.reflect_dynamic.specs.Keeps.{payloads};
+ghost use Rattle.reflect_dynamic.specs.Maps.{ChangesPart, ContinuesMap, LeavesKey, LeavesValue, PutEntries, key_order};
 ghost use Rattle.reflect_dynamic.specs.Merging.{IsBody, IsRun, run_records};
 ghost use Rattle.reflect_dynamic.specs.Packed.{IsPacked, PackedFault, Continues};
 ghost use Rattle.reflect_dynamic.specs.Spares.{Same};
 ghost use Rattle.reflect_dynamic.specs.Taking.{Leaves};
 
 use crate::declared::{declared_extension, declared_field};
-use crate::defaults::default_of;
+use crate::defaults::default_one;
 use crate::message::DynamicMessage;
 use crate::parts::Parts;
+use crate::validity::entry_fields;
 use crate::value::Value;
 use reflect_entries::{Entries, UnknownRecords};
 use reflect_link::{FieldDescriptor, Kind, MessageDescriptor};
@@ -214,11 +221,11 @@ fn merge_field<'p, 'b>(
         let list = content.slot(number, Value::List(Vec::new(alloc)))?;
         return merge_list(list, alloc, &kind, field.is_group(), raw);
     }
+    if field.is_map() {
+        let map = content.slot(number, Value::Map(BTreeMap::new(alloc)))?;
+        return merge_map(map, alloc, &kind, raw);
+    }
     match kind {
-        Kind::Message(entry) if field.is_map() => {
-            let map = content.slot(number, Value::Map(BTreeMap::new(alloc)))?;
-            merge_map(map, alloc, entry, raw)
-        }
         Kind::Message(inner) => {
             let empty = Value::Message(DynamicMessage::new(alloc, inner));
             match content.slot(number, empty)? {
@@ -347,33 +354,62 @@ fn push_packed(
     Ok(())
 }
 
-/// Takes in an entry of a map, over what stood under its key, and with it the records behind that have the same key.
+/// Takes in an entry of a map.
 #[cycle(merge)]
 fn merge_map<'p, 'b>(
     map: &mut Value<'p>,
     alloc: Global,
-    entry: MessageDescriptor<'p>,
+    kind: &Kind<'p>,
     raw: RawRecord<'b>,
 ) -> Result<&'b [u8], WireError>
-    ensures read { IfOk result (λ rest. (run : List Payload × Payload) × Fronts (IsRun raw.entry.levels raw.entry.key) raw.entry.bytes.now run rest.now) }
+    ensures read { IfOk result (λ rest. (run : List Payload × Payload) × Fronts (IsRun raw.entry.levels raw.entry.key) raw.entry.bytes.now run rest.now × ((pool : PoolType) (t : KindType) → IsKind pool kind.now t → ContinuesMap (TakesAt raw.entry.levels) pool t (Some map.old) (Some map.new) (run.0 ++ run.1 ∷ []))) }
     ensures shorter { IfOk result (λ rest. length rest.now ≤ length raw.entry.bytes.now) }
 {
-    let (Value::Map(entries), WireType::LengthDelimited) = (map, raw.key.wire) else {
+    match map {
+        Value::Map(entries) => merge_entries(entries, alloc, kind, raw),
+        _ => Err(WireError::BadWireType),
+    }
+}
+
+/// Takes in an entry of a map, over what stood under its key, and with it the records behind that have the same key.
+#[cycle(merge)]
+fn merge_entries<'p, 'b>(
+    entries: &mut BTreeMap<MapKey, Value<'p>>,
+    alloc: Global,
+    kind: &Kind<'p>,
+    raw: RawRecord<'b>,
+) -> Result<&'b [u8], WireError>
+    ensures read { IfOk result (λ rest. (run : List Payload × Payload) × Fronts (IsRun raw.entry.levels raw.entry.key) raw.entry.bytes.now run rest.now × ((pool : PoolType) (t : KindType) → IsKind pool kind.now t → PutEntries (TakesAt raw.entry.levels) pool t entries.old.entries entries.new.entries (run.0 ++ run.1 ∷ []))) }
+    ensures shorter { IfOk result (λ rest. length rest.now ≤ length raw.entry.bytes.now) }
+{
+    if raw.key.wire != WireType::LengthDelimited {
         return Err(WireError::BadWireType);
-    };
-    let (Some(keys), Some(values)) = (entry.get_field(1), entry.get_field(2)) else {
+    }
+    let Some((keys, values)) = entry_fields(kind) else {
         return Err(WireError::BadWireType);
     };
     let mut record = raw;
     'records: loop {
         let (body, rest) = delimited_at(record.bytes)?;
         let (key, value) = entry_of(alloc, keys, values, body, record.levels)?;
-        entries.insert(key, value)?;
+        put_entry(entries, key, value)?;
         match record.another_at(rest) {
             Some(next) => record = next,
             None => return Ok(rest),
         }
     }
+}
+
+/// Puts an entry over what stood under its key.
+fn put_entry<'p>(
+    entries: &mut BTreeMap<MapKey, Value<'p>>,
+    key: MapKey,
+    value: Value<'p>,
+) -> Result<(), AllocError>
+    ensures { OnOk result (entries.new.entries ≡ insert_entry key_order entries.old.entries key value.entry) }
+{
+    entries.insert(key, value)?;
+    Ok(())
 }
 
 /// The key and the value of a map's entry, which is at the level of the message that holds the map. What the entry does not
@@ -389,25 +425,42 @@ fn entry_of<'p>(
     levels: u32,
 ) -> Result<(MapKey, Value<'p>), WireError>
     requires nested { levels ≤ 100 }
+    ensures read { IfOk result (λ e. (rs : List (ℕ × Payload)) × SpellsRecords levels body.now (records_of rs) × LeavesKey (field_pool keys.entry) (field_type keys.entry) e.0 (payloads 1 rs) × LeavesValue (TakesAt levels) (field_pool values.entry) (field_type values.entry) e.1 (payloads 2 rs)) }
 {
-    if levels == 0 && values.kind().as_message().is_some() {
+    if levels == 0 && matches!(values.kind(), Kind::Message(_)) {
         return Err(WireError::TooDeep);
     }
-    let mut held_key = default_of(alloc, &keys)?;
-    let mut value = default_of(alloc, &values)?;
+    let mut held_key = default_one(alloc, &keys)?;
+    let mut value = default_one(alloc, &values)?;
     let mut rest = body;
     'records: while !rest.is_empty() {
         let (key, bytes) = key_at(rest)?;
         let raw = RawRecord { key, bytes, levels };
-        rest = match key.number {
-            1 => merge_part(&mut held_key, alloc, &keys, raw)?,
-            2 => merge_part(&mut value, alloc, &values, raw)?,
-            _ => unknown_at(alloc, raw)?.1,
-        };
+        rest = merge_entry(&mut held_key, &mut value, alloc, &keys, &values, raw)?;
     }
     match held_key.into_map_key() {
         Some(key) => Ok((key, value)),
         None => Err(WireError::BadWireType),
+    }
+}
+
+/// Takes in a record of a map's entry: of its key, of its value, or one that is dropped.
+#[cycle(merge)]
+fn merge_entry<'p, 'b>(
+    held_key: &mut Value<'p>,
+    value: &mut Value<'p>,
+    alloc: Global,
+    keys: &FieldDescriptor<'p>,
+    values: &FieldDescriptor<'p>,
+    raw: RawRecord<'b>,
+) -> Result<&'b [u8], WireError>
+    ensures read { IfOk result (λ rest. (p : Payload) × Fronts (IsValue raw.entry.levels raw.entry.key) raw.entry.bytes.now p rest.now × ChangesPart (TakesAt raw.entry.levels) (field_pool keys.now) (field_type keys.now) held_key.old held_key.new (payloads 1 ((raw.entry.key.number, p) ∷ [])) × ChangesPart (TakesAt raw.entry.levels) (field_pool values.now) (field_type values.now) value.old value.new (payloads 2 ((raw.entry.key.number, p) ∷ []))) }
+    ensures shorter { IfOk result (λ rest. length rest.now ≤ length raw.entry.bytes.now) }
+{
+    match raw.key.number {
+        1 => merge_part(held_key, alloc, keys, raw),
+        2 => merge_part(value, alloc, values, raw),
+        _ => Ok(unknown_at(alloc, raw)?.1),
     }
 }
 
@@ -419,12 +472,17 @@ fn merge_part<'p, 'b>(
     field: &FieldDescriptor<'p>,
     raw: RawRecord<'b>,
 ) -> Result<&'b [u8], WireError>
+    ensures read { IfOk result (λ rest. (p : Payload) × Fronts (IsValue raw.entry.levels raw.entry.key) raw.entry.bytes.now p rest.now × ChangesPart (TakesAt raw.entry.levels) (field_pool field.now) (field_type field.now) held.old held.new (p ∷ [])) }
     ensures shorter { IfOk result (λ rest. length rest.now ≤ length raw.entry.bytes.now) }
 {
-    if let Value::Message(message) = held {
-        return merge_message(message, alloc, field.is_group(), raw);
+    let kind = field.kind();
+    if let Kind::Message(_inner) = kind {
+        return match held {
+            Value::Message(message) => merge_message(message, alloc, field.is_group(), raw),
+            _ => Err(WireError::BadWireType),
+        };
     }
-    let (scalar, rest) = scalar_at(&field.kind(), raw.key.wire, raw.bytes)?;
+    let (scalar, rest) = scalar_at(&kind, raw.key.wire, raw.bytes)?;
     *held = Value::from_scalar(alloc, scalar)?;
     Ok(rest)
 }

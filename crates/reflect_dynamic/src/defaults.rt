@@ -1,8 +1,12 @@
 //! Defaults: what stands for a field that is not set.
 
-ghost use Rattle.std.specs.Prelude.{◌≡◌, ◌||◌, not, true, Some, IsTrue, option_map};
+ghost use Rattle.std.specs.Prelude.{◌≡◌, ◌||◌, not, true, None, Some, IsTrue, IfOk, option_map};
+ghost use Rattle.reflect_scalar.specs.Defaults.{default_in};
 ghost use Rattle.reflect_scalar.specs.Singles.{scalar_view};
 ghost use Rattle.reflect_dynamic.specs.Bytes.{form_of, is_default, is_set};
+ghost use Rattle.reflect_dynamic.specs.Messages.{IsStart, message_in};
+ghost use Rattle.reflect_dynamic.specs.Scalars.{IsScalarType, IsMessageType};
+ghost use Rattle.reflect_dynamic.specs.Singles.{single};
 
 use crate::message::DynamicMessage;
 use crate::value::Value;
@@ -10,6 +14,23 @@ use reflect_link::{ExtensionDescriptor, FieldDescriptor, Kind};
 use reflect_scalar::{FieldDescriptorLike, Scalar, default_scalar};
 use std::alloc::{AllocError, Global};
 use std::collections::BTreeMap;
+
+/// What one value of a field or an extension is where none is set: an empty message, else what its declaration or its kind says.
+pub fn default_one<'p, F: FieldDescriptorLike<'p>>(
+    alloc: Global,
+    field: &F,
+) -> Result<Value<'p>, AllocError>
+    ensures scalar { IfOk result (λ v. IsScalarType (F.says field.now).kind → single v ≡ default_in (F.pool field.now) (F.says field.now)) }
+    ensures message { IfOk result (λ v. IsMessageType (F.says field.now).kind → (m : DynamicMessage) × (message_in v ≡ Some m) × IsStart (F.pool field.now) (F.says field.now).kind None m) }
+{
+    match field.kind() {
+        Kind::Message(inner) => Ok(Value::Message(DynamicMessage::new(alloc, inner))),
+        kind => match default_scalar(field) {
+            Some(scalar) => Value::from_scalar(alloc, scalar),
+            None => Ok(Value::default_value(alloc, &kind)),
+        },
+    }
+}
 
 /// The default of a field or an extension: empty of a list, a map or a message, else what its declaration or its kind says.
 pub fn default_of<'p, F: FieldDescriptorLike<'p>>(
@@ -22,10 +43,7 @@ pub fn default_of<'p, F: FieldDescriptorLike<'p>>(
     if field.is_list() {
         return Ok(Value::List(Vec::new(alloc)));
     }
-    match default_scalar(field) {
-        Some(scalar) => Value::from_scalar(alloc, scalar),
-        None => Ok(Value::default_value(alloc, &field.kind())),
-    }
+    default_one(alloc, field)
 }
 
 /// The value is the default of a field or an extension.

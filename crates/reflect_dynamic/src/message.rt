@@ -135,6 +135,7 @@ impl<'p> DynamicMessage<'p> {
     /// Unsets all fields and extensions, and drops the other records. Takes no memory.
     pub fn clear(&mut self)
         ensures type_stays { self.new.descriptor ≡ self.old.descriptor }
+        ensures empty { content_of self.new ≡ nothing }
     {
         self.held = Held::Nothing;
     }

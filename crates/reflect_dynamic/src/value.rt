@@ -1,4 +1,5 @@
-ghost use Rattle.std.specs.Prelude.{◌≡◌, Some, IfOk, map, option_map};
+ghost use Rattle.std.specs.Prelude.{◌≡◌, Some, IfOk, IfSome, map, option_map};
+ghost use Rattle.reflect_scalar.specs.Keys.{key_view};
 ghost use Rattle.reflect_scalar.specs.Singles.{scalar_view};
 ghost use Rattle.reflect_dynamic.specs.Trees.{tree};
 ghost use Rattle.reflect_dynamic.specs.Singles.{single};
@@ -69,7 +70,9 @@ impl<'p> Value<'p> {
     }
 
     /// The value as a key of a map, if it can be one.
-    pub fn into_map_key(self) -> Option<MapKey> {
+    pub fn into_map_key(self) -> Option<MapKey>
+        ensures { IfSome result (λ key. single self.entry ≡ Some (key_view key)) }
+    {
         match self {
             Value::Bool(truth) => Some(MapKey::Bool(truth)),
             Value::I32(n) => Some(MapKey::I32(n)),

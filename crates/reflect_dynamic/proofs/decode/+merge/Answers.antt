@@ -4,21 +4,26 @@ use Rattle.reflect_wire.specs.Key.{IsKey, IsDelimited}
 use Rattle.reflect_wire.specs.Records.{delimited}
 use Rattle.reflect_wire.specs.declared.wire_key.WireType.TheVariants.{LengthDelimited, EndGroup}
 use Rattle.reflect_entries.specs.Undeclared.{undeclared}
+use Rattle.reflect_pool.specs.FieldsLeft.{field_type}
 use Rattle.reflect_pool.specs.Kinds.{IsKind}
-use Rattle.reflect_scalar.specs.FieldTypes.{either_pool, either_type}
+use Rattle.reflect_scalar.specs.FieldTypes.{field_pool, either_pool, either_type}
 use Rattle.reflect_scalar.specs.Kinds.{packs, wire_type}
 use Rattle.reflect_scalar.specs.Singles.{scalar_view}
+use Rattle.reflect_dynamic.specs.Keeps.{payloads}
 use Rattle.reflect_dynamic.specs.Levels.{TakesAt}
+use Rattle.reflect_dynamic.specs.Maps.{LeavesSingle, map_entries}
+use Rattle.reflect_dynamic.specs.Messages.{message_in}
 use Rattle.reflect_dynamic.specs.Merging.{IsBody, run_records}
 use Rattle.reflect_dynamic.specs.declared.value.Value.{Message, the_lemmas}
 use Rattle.reflect_dynamic.proofs.Appending.{appends_value, appends_row, appends_message, appends_more, list_done}
 use Rattle.reflect_dynamic.proofs.Choosing.{makes_room}
 use Rattle.reflect_dynamic.proofs.Keeping.{kept_if_read}
-use Rattle.reflect_dynamic.proofs.Kept.{no_longer}
+use Rattle.reflect_dynamic.proofs.Kept.{no_longer, key_shorter}
 use Rattle.reflect_dynamic.proofs.Nesting.{appends_at, joins_at, delimited_taken, group_taken}
-use Rattle.reflect_dynamic.proofs.Running.{delimited_value, same_value, run_more, run_done, run_behind, group_ends}
+use Rattle.reflect_dynamic.proofs.Mapping.{key_step, value_step, part_single, part_message, put_more, map_put, entry_is_read}
+use Rattle.reflect_dynamic.proofs.Running.{delimited_value, same_value, run_more, run_ends, run_behind, whole_body, group_ends}
 use Rattle.reflect_dynamic.proofs.Sparing.{merges_none, merges_more, merges_field, merges_kept, merges_extension}
-use Rattle.reflect_dynamic.proofs.Taking.{items_of_slot, map_leaves, message_leaves, list_leaves, single_leaves}
+use Rattle.reflect_dynamic.proofs.Taking.{entries_of_slot, items_of_slot, map_leaves, message_leaves, list_leaves, single_leaves}
 use Rattle.reflect_dynamic.proofs.decode.+merge.Goals as goal
 
 pub merge_element-returns-then-is_packable : goal.merge_element-returns-then-is_packable
@@ -53,24 +58,23 @@ merge_element-returns-in-Message-clause-read t c =
     appends_message (TakesAt raw.levels) raw.levels raw.key c.args.kind.now raw.bytes.now found.rest.now _ _ c.in-Message.inner fresh.result c.merge_message.new.message _ read.0 (search rules) fresh.ensures.same_type fresh.ensures.empty found.ensures.same_type
     (search (rules, the_lemmas)) c.in_ok-push.ensures.items read.1 read.2
 
-pub merge_field-returns-in-Message-3-clause-read : goal.merge_field-returns-in-Message-3-clause-read
-merge_field-returns-in-Message-3-clause-read t c =
+pub merge_field-returns-in-Message-2-clause-read : goal.merge_field-returns-in-Message-2-clause-read
+merge_field-returns-in-Message-2-clause-read t c =
     let raw = c.args.raw in
     let pool = either_pool c.args.field in
     let type = either_type c.args.field in
-    let kind = c.in-Message-2 in
-    let fresh = c.new-in-Message-2 in
-    let slot = c.in_ok-message-in-Message-2 in
+    let kind = c.in-Message in
+    let fresh = c.new-in-Message in
+    let slot = c.in_ok-message-in-Message in
     let merged = c.merge_message in
     let is = subst (λ k. IsKind pool k type.kind) kind.is c.kind-kind.ensures in
-    message_leaves (TakesAt raw.levels) raw.levels raw.key raw.bytes.now pool type _ _ kind.inner fresh.result c.in-Message-3.message _ merged.new.message (Message fresh.result) slot.field-0.now (Message merged.new.message) merged.result is (search rules) (search rules)
-    (search (rules, the_lemmas)) fresh.ensures.same_type fresh.ensures.empty (search (rules, the_lemmas)) (search rules) (search (rules, the_lemmas)) c.in-Message-3.message-is merged.ensures.same_type merged.ensures.read
+    message_leaves (TakesAt raw.levels) raw.levels raw.key raw.bytes.now pool type _ _ kind.inner fresh.result c.in-Message-2.message _ merged.new.message (Message fresh.result) slot.field-0.now (Message merged.new.message) merged.result is (search rules) (search rules) (search rules)
+    (search (rules, the_lemmas)) fresh.ensures.same_type fresh.ensures.empty (search (rules, the_lemmas)) (search rules) (search (rules, the_lemmas)) c.in-Message-2.message-is merged.ensures.same_type merged.ensures.read
 
-pub merge_field-returns-in_ok-map-in-Message-clause-read : goal.merge_field-returns-in_ok-map-in-Message-clause-read
-merge_field-returns-in_ok-map-in-Message-clause-read t c =
+pub merge_field-returns-then-is_map-clause-read : goal.merge_field-returns-then-is_map-clause-read
+merge_field-returns-then-is_map-clause-read t c =
     let raw = c.args.raw in
-    let kind = c.in-Message in
-    map_leaves (TakesAt raw.levels) raw.levels raw.key raw.bytes.now (either_pool c.args.field) (either_type c.args.field) _ _ kind.entry c.merge_map.result (subst (λ k. IsKind (either_pool c.args.field) k (either_type c.args.field).kind) kind.is c.kind-kind.ensures) (search rules) c.merge_map.ensures.read
+    map_leaves (TakesAt raw.levels) raw.levels raw.key raw.bytes.now (either_pool c.args.field) (either_type c.args.field) _ _ c.kind-kind.result _ _ c.merge_map.result c.kind-kind.ensures (search rules) (entries_of_slot _ _ _ c.in_ok-map.ensures.value (search (rules, the_lemmas))) (search rules) c.merge_map.ensures.read
 
 pub merge_field-returns-then-is_list-clause-read : goal.merge_field-returns-then-is_list-clause-read
 merge_field-returns-then-is_list-clause-read t c =
@@ -94,15 +98,6 @@ merge_list-returns-in-None-clause-read t c =
     let read = c.in_ok-rest.ensures.read in
     let added = appends_at here.levels raw.levels c.args.kind.now _ _ read.0 inv.4 read.2 in
     list_done (TakesAt raw.levels) raw.levels raw.key c.args.kind.now raw.bytes.now here.bytes.now rest _ _ _ _ _ inv.0 read.0 (search (rules, the_lemmas)) (search (rules, the_lemmas)) inv.1 (same_value raw.levels raw.key here.levels here.key here.bytes.now rest read.0 inv.4 inv.3 read.1) inv.2 added
-
-pub merge_map-returns-in-None-clause-read : goal.merge_map-returns-in-None-clause-read
-merge_map-returns-in-None-clause-read t c =
-    let raw = c.args.raw in
-    let here = c.records.record.bytes.now in
-    let inv = c.records.invariant in
-    let rest = c.in_ok-body.rest.now in
-    let wire : raw.key.wire ≡ LengthDelimited = search rules in
-    run_done raw.levels raw.key raw.bytes.now here rest inv.0 inv.1 (delimited c.in_ok-body.body.now, delimited_value raw.levels raw.key here rest c.in_ok-body.body.now wire c.in_ok-body.ensures.read)
 
 pub merge_message-returns-in_ok-merge_body-in-LengthDelimited-clause-read : goal.merge_message-returns-in_ok-merge_body-in-LengthDelimited-clause-read
 merge_message-returns-in_ok-merge_body-in-LengthDelimited-clause-read t c =
@@ -161,25 +156,6 @@ merge_list-records-preserved t c =
       omega (arith, before, behind, so_far),
     )
 
-pub merge_map-records-init : goal.merge_map-records-init
-merge_map-records-init t c = ([], ([], refl, refl), refl, refl, omega arith)
-
-pub merge_map-records-preserved : goal.merge_map-records-preserved
-merge_map-records-preserved t c =
-    let raw = c.args.raw in
-    let here = c.records.record.bytes.now in
-    let inv = c.records.invariant in
-    let rest = c.in_ok-body.rest.now in
-    let next = c.in-Some.next in
-    let wire : raw.key.wire ≡ LengthDelimited = search rules in
-    let read = c.in_ok-body.ensures.read in
-    let value = delimited_value raw.levels raw.key here rest c.in_ok-body.body.now wire read in
-    let key = subst (λ k. Fronts IsKey rest k next.bytes.now) inv.2 c.in-Some.ensures.read in
-    let before = no_longer IsDelimited here rest c.in_ok-body.body.now read in
-    let behind = c.in-Some.ensures.shorter in
-    let so_far = inv.4 in
-    (_, run_more raw.levels raw.key raw.bytes.now here rest next.bytes.now inv.0 (delimited c.in_ok-body.body.now) inv.1 value key, c.in-Some.ensures.key ∙ inv.2, c.in-Some.ensures.levels ∙ inv.3, omega (arith, before, behind, so_far))
-
 pub merge_record-returns-in-Some-clause-read : goal.merge_record-returns-in-Some-clause-read
 merge_record-returns-in-Some-clause-read t c =
     let raw = c.args.raw in
@@ -231,3 +207,109 @@ pub merge_body-returns-then-is_none-clause-read : goal.merge_body-returns-then-i
 merge_body-returns-then-is_none-clause-read t c =
     let none : c.args.group ≡ None = search rules in
     ([], ([], subst (λ g. IsBody g c.args.levels [] []) (sym none) refl, refl), merges_none (TakesAt c.args.levels) _ _)
+
+pub merge_part-returns : goal.merge_part-returns
+merge_part-returns t c =
+    let raw = c.args.raw in
+    let found = c.in_ok-scalar in
+    let lt = found.ensures.shorter in
+    record {
+      read = part_single (TakesAt raw.levels) (field_pool c.args.field.now) (field_type c.args.field.now) raw.levels raw.key raw.bytes.now _ _ c.kind-kind.result found.rest.now (scalar_view found.scalar) c.kind-kind.ensures found.ensures.read c.in_ok-held.ensures;
+      shorter = omega (arith, lt);
+    }
+
+pub merge_part-returns-in-Message-held-clause-read : goal.merge_part-returns-in-Message-held-clause-read
+merge_part-returns-in-Message-held-clause-read t c =
+    let raw = c.args.raw in
+    let field = c.args.field.now in
+    let kind = c.in-Message in
+    let held = c.in-Message-held in
+    let merged = c.merge_message in
+    let is = subst (λ k. IsKind (field_pool field) k (field_type field).kind) kind.is c.kind-kind.ensures in
+    let was : message_in c.args.held.now ≡ Some held.message = search (rules, the_lemmas) in
+    part_message (TakesAt raw.levels) (field_pool field) (field_type field) raw.levels raw.key raw.bytes.now c.args.held.now _ kind._inner _ merged.new.message merged.result is (was ∙ ap Some (sym held.message-is)) (search (rules, the_lemmas)) merged.ensures.same_type merged.ensures.read
+
+pub merge_map-returns-in-Map-clause-read : goal.merge_map-returns-in-Map-clause-read
+merge_map-returns-in-Map-clause-read t c =
+    let raw = c.args.raw in
+    let merged = c.merge_entries in
+    let was : map_entries c.args.map.now ≡ Some c.in-Map.entries.entries = search (rules, the_lemmas) in
+    map_put (TakesAt raw.levels) raw.levels raw.key raw.bytes.now c.args.map.now _ _ merged.new.entries.entries c.args.kind.now merged.result (was ∙ ap (λ m. Some m.entries) (sym c.in-Map.entries-is)) (search (rules, the_lemmas)) merged.ensures.read
+
+pub merge_entries-returns-in-None-clause-read : goal.merge_entries-returns-in-None-clause-read
+merge_entries-returns-in-None-clause-read t c =
+    let raw = c.args.raw in
+    let here = c.records.record in
+    let inv = c.records.invariant in
+    let rest = c.in_ok-body.rest.now in
+    let body = c.in_ok-body.body.now in
+    let entry = c.in_ok-key in
+    let fields = c.in-Some in
+    let wire : raw.key.wire ≡ LengthDelimited = search rules in
+    let value = delimited_value raw.levels raw.key here.bytes.now rest body wire c.in_ok-body.ensures.read in (
+      (inv.0, delimited body),
+      run_ends raw.levels raw.key raw.bytes.now here.bytes.now rest inv.0 (delimited body) inv.1 value,
+      λ pool kind is. put_more (TakesAt raw.levels) pool kind _ _ _ inv.0 (delimited body) entry.key entry.value (inv.2 pool kind is)
+          (entry_is_read pool kind here.levels raw.levels fields.keys fields.values body entry.key entry.value inv.4 (fields.ensures.some pool kind is) entry.ensures.read) c.in_ok-put_entry.ensures,
+    )
+
+pub merge_entries-records-init : goal.merge_entries-records-init
+merge_entries-records-init t c = ([], ([], refl, refl), (λ pool kind is. refl), refl, refl, omega arith)
+
+pub merge_entries-records-preserved : goal.merge_entries-records-preserved
+merge_entries-records-preserved t c =
+    let raw = c.args.raw in
+    let here = c.records.record in
+    let inv = c.records.invariant in
+    let rest = c.in_ok-body.rest.now in
+    let body = c.in_ok-body.body.now in
+    let entry = c.in_ok-key in
+    let fields = c.in-Some in
+    let found = c.in-Some-another_at in
+    let wire : raw.key.wire ≡ LengthDelimited = search rules in
+    let read = c.in_ok-body.ensures.read in
+    let value = delimited_value raw.levels raw.key here.bytes.now rest body wire read in
+    let key = subst (λ k. Fronts IsKey rest k found.next.bytes.now) inv.3 found.ensures.read in
+    let before = no_longer IsDelimited here.bytes.now rest body read in
+    let behind = found.ensures.shorter in
+    let so_far = inv.5 in (
+      _,
+      run_more raw.levels raw.key raw.bytes.now here.bytes.now rest found.next.bytes.now inv.0 (delimited body) inv.1 value key,
+      (λ pool kind is. put_more (TakesAt raw.levels) pool kind _ _ _ inv.0 (delimited body) entry.key entry.value (inv.2 pool kind is)
+          (entry_is_read pool kind here.levels raw.levels fields.keys fields.values body entry.key entry.value inv.4 (fields.ensures.some pool kind is) entry.ensures.read) c.in_ok-put_entry.ensures),
+      found.ensures.key ∙ inv.3,
+      found.ensures.levels ∙ inv.4,
+      omega (arith, before, behind, so_far),
+    )
+
+pub entry_of-records-preserved : goal.entry_of-records-preserved
+entry_of-records-preserved t c =
+    let inv = c.records.invariant in
+    let here = c.records.rest.now in
+    let next = c.in_ok-key in
+    let rest = c.in_ok-rest.rest.now in
+    let read = c.in_ok-rest.ensures.read in
+    let p = read.0 in
+    let value = read.1 in
+    let levels = c.args.levels in
+    let keys = c.args.keys in
+    let values = c.args.values in
+    let key = no_longer IsKey here next.bytes.now next.key next.ensures.read in
+    let behind = c.in_ok-rest.ensures.shorter in
+    let so_far = inv.4 in (
+      _,
+      run_behind levels c.args.body.now here inv.0 inv.1 next.key next.bytes.now rest ([], p) next.ensures.read (value.0, ([], value.0, refl, value.1, refl), value.2),
+      key_step (TakesAt levels) (field_pool keys) (field_type keys) 1 inv.0 (next.key.number, p) _ _ inv.2 read.2,
+      value_step (TakesAt levels) (field_pool values) (field_type values) 2 inv.0 (next.key.number, p) _ _ (joins_at levels) inv.3 read.3,
+      omega (arith, key, behind, so_far),
+    )
+
+pub entry_of-merge_entry-requires : goal.entry_of-merge_entry-requires
+entry_of-merge_entry-requires t c =
+    let next = c.in_ok-key in
+    let key = key_shorter c.records.rest.now next.bytes.now next.key next.ensures.read in
+    let so_far = c.records.invariant.4 in
+    (omega (arith, key, so_far), tt)
+
+pub entry_of-records-init : goal.entry_of-records-init
+entry_of-records-init t c = ([], ([], refl, refl), (λ scalar. c.in_ok-held_key.ensures.scalar scalar), ((λ scalar. c.in_ok-value.ensures.scalar scalar), λ type. c.in_ok-value.ensures.message type), omega arith)

@@ -1,10 +1,18 @@
 use Rattle.std.proofs.Common.{◌≡◌, ℕ, ◌+◌, ◌*◌, ◌≤◌, List, None, length}
 use Rattle.reflect_wire.specs.Reads.{Fronts}
 use Rattle.reflect_wire.specs.Records.{Payload}
+use Rattle.reflect_index.specs.Types.{PoolType, KindType}
+use Rattle.reflect_pool.specs.Kinds.{IsKind}
+use Rattle.reflect_pool.specs.FieldsLeft.{field_type}
+use Rattle.reflect_scalar.specs.FieldTypes.{field_pool}
 use Rattle.reflect_dynamic.specs.Contents.{content_in}
 use Rattle.reflect_dynamic.specs.Elements.{AppendsAll}
+use Rattle.reflect_dynamic.specs.Keeps.{payloads}
 use Rattle.reflect_dynamic.specs.Levels.{TakesAt, MergesAt}
+use Rattle.reflect_dynamic.specs.Maps.{LeavesSingle, LeavesValue, PutEntries}
 use Rattle.reflect_dynamic.specs.Merging.{IsBody, LeadsOn}
+use Rattle.reflect_dynamic.specs.Scalars.{IsScalarType}
+use Rattle.reflect_dynamic.specs.Singles.{single}
 use Rattle.reflect_dynamic.proofs.decode.+merge.Given as goal
 
 abbrev pub decreases-merge_body : goal.decreases-merge_body
@@ -39,12 +47,16 @@ invariant-merge_list-records l =
 abbrev pub decreases-merge_map : goal.decreases-merge_map
 decreases-merge_map l = 10 * length l.raw.bytes.now + 8
 
-abbrev pub decreases-merge_map-records : goal.decreases-merge_map-records
-decreases-merge_map-records l = length l.record.bytes.now
+abbrev pub decreases-merge_entries : goal.decreases-merge_entries
+decreases-merge_entries l = 10 * length l.raw.bytes.now + 7
 
-abbrev pub invariant-merge_map-records : goal.invariant-merge_map-records
-invariant-merge_map-records l =
+abbrev pub decreases-merge_entries-records : goal.decreases-merge_entries-records
+decreases-merge_entries-records l = length l.record.bytes.now
+
+abbrev pub invariant-merge_entries-records : goal.invariant-merge_entries-records
+invariant-merge_entries-records l =
     (ps : List Payload) × Fronts (LeadsOn l.initial.record.levels l.initial.record.key) l.initial.record.bytes.now ps l.record.bytes.now
+    × ((pool : PoolType) (t : KindType) → IsKind pool l.kind t → PutEntries (TakesAt l.initial.record.levels) pool t l.initial.entries.entries l.entries.entries ps)
     × (l.record.key ≡ l.initial.record.key) × (l.record.levels ≡ l.initial.record.levels) × (length l.record.bytes.now ≤ length l.initial.record.bytes.now)
 
 abbrev pub decreases-entry_of : goal.decreases-entry_of
@@ -65,4 +77,10 @@ abbrev pub decreases-entry_of-records : goal.decreases-entry_of-records
 decreases-entry_of-records l = length l.rest
 
 abbrev pub invariant-entry_of-records : goal.invariant-entry_of-records
-invariant-entry_of-records l = length l.rest ≤ length l.initial.rest
+invariant-entry_of-records l =
+    (rs : List (ℕ × Payload)) × Fronts (IsBody None l.levels) l.body rs l.rest
+    × (IsScalarType (field_type l.keys).kind → LeavesSingle (field_pool l.keys) (field_type l.keys) (single l.held_key) (payloads 1 rs))
+    × LeavesValue (TakesAt l.levels) (field_pool l.values) (field_type l.values) l.value (payloads 2 rs) × (length l.rest ≤ length l.initial.rest)
+
+abbrev pub decreases-merge_entry : goal.decreases-merge_entry
+decreases-merge_entry l = 10 * length l.raw.bytes.now + 8
