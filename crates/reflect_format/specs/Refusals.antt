@@ -1,7 +1,7 @@
 -- What the refusals of names tell of the types.
-use Rattle.std.specs.Prelude.{◌≡◌, Bool, true, false, ℕ, List, None, IsSome, string_bytes}
+use Rattle.std.specs.Prelude.{◌≡◌, ◌⊎◌, Bool, true, false, ℕ, List, None, Some, IsSome, string_bytes}
 use Rattle.reflect_index.specs.Finding.{IsFirst}
-use Rattle.reflect_index.specs.Types.{type_at, enum_at}
+use Rattle.reflect_index.specs.Types.{type_at, enum_at, extension_at}
 use Rattle.reflect_pool.specs.FieldsLeft.{field_type}
 use Rattle.reflect_pool.specs.declared.enums.EnumDescriptor.{EnumDescriptor}
 use Rattle.reflect_pool.specs.declared.message.MessageDescriptor.{MessageDescriptor}
@@ -13,7 +13,7 @@ use Rattle.reflect_scalar.specs.FieldTypes.{extension_type}
 use Rattle.reflect_entries.specs.Entries.{value_at}
 use Rattle.reflect_dynamic.specs.Held.{fields_of, extensions_of}
 use Rattle.reflect_dynamic.specs.declared.message.DynamicMessage.{DynamicMessage}
-use Rattle.reflect_format.specs.Lacks.{LacksField, LacksGroup, HasFloatField, LacksExtension, HasFloatExtension}
+use Rattle.reflect_format.specs.Lacks.{IsGroupCalled, LacksField, LacksGroup, HasFloatField, LacksExtension, HasFloatExtension}
 use Rattle.reflect_format.specs.declared.target.Target.{Target}
 use Rattle.reflect_format.specs.declared.target.Target.TheVariants as targets
 use Rattle.reflect_format.specs.declared.error.ParseErrorKind.{ParseErrorKind}
@@ -98,15 +98,25 @@ abbrev pub TellsOneof : OneofDescriptor → ParseErrorKind → Type 0
 TellsOneof o (kinds.OneofAlreadySet oneof span) = string_bytes oneof ≡ (type_of_oneof o.message.pool.now o.message.index o.index).name
 TellsOneof o _ = ⊥
 
+-- the oneof is one of the field's type, and the field is a member of it
+abbrev pub Shares : Target → OneofDescriptor → Type 0
+Shares (targets.Field f) o = (o.message ≡ f.message) × ((field_type f).oneof ≡ Some o.index)
+Shares (targets.Extension x) o = ⊥
+
+-- a text sets it by this name: of a group its type's, of an extension the one in brackets
+abbrev pub IsTextName : Target → List ℕ → Type 0
+IsTextName (targets.Field f) name = ((field_type f).name ≡ name) ⊎ IsGroupCalled f name
+IsTextName (targets.Extension x) name = (extension_at x.pool.now x.index).json_name ≡ name
+
 -- the message holds something under the number
 abbrev pub Holds : DynamicMessage → Target → Type 0
 Holds m (targets.Field f) = IsSome (value_at (fields_of m) (field_type f).number)
 Holds m (targets.Extension x) = IsSome (value_at (extensions_of m) (extension_type x).number)
 
--- A refusal of a second value: the message holds one; or a oneof has another field that is set, or memory ran out.
+-- A refusal of a second value: the message holds one of what is told; or a oneof is told that has the field for a member, or memory ran out.
 abbrev pub RefusesSecond : DynamicMessage → Target → ParseErrorKind → Type 0
-RefusesSecond m t (kinds.FieldAlreadySet field span) = Holds m t
-RefusesSecond m t (kinds.OneofAlreadySet oneof span) = Unit {0}
+RefusesSecond m t (kinds.FieldAlreadySet field span) = Holds m t × IsTextName t (string_bytes field)
+RefusesSecond m t (kinds.OneofAlreadySet oneof span) = (o : OneofDescriptor) × Shares t o × TellsOneof o (kinds.OneofAlreadySet oneof span)
 RefusesSecond m t kinds.Memory = Unit {0}
 RefusesSecond m t _ = ⊥
 

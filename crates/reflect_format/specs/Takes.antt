@@ -1,7 +1,8 @@
 -- Which fields and extensions belong to a message's type.
-use Rattle.std.specs.Prelude.{◌≡◌, ℕ}
+use Rattle.std.specs.Prelude.{◌≡◌, ◌||◌, ℕ, Bool}
 use Rattle.reflect_index.specs.Types.{PoolType, FieldType, extension_at}
 use Rattle.reflect_pool.specs.FieldsLeft.{field_type}
+use Rattle.reflect_pool.specs.Shapes.{holds_list, holds_map}
 use Rattle.reflect_pool.specs.declared.message.MessageDescriptor.{MessageDescriptor}
 use Rattle.reflect_scalar.specs.FieldTypes.{field_pool, extension_pool, extension_type}
 use Rattle.reflect_format.specs.declared.target.Target.{Target}
@@ -16,6 +17,10 @@ target_type (target.Extension x) = extension_type x
 abbrev pub target_pool : Target → PoolType
 target_pool (target.Field f) = field_pool f
 target_pool (target.Extension x) = extension_pool x
+
+-- it is a list or a map
+abbrev pub holds_many : Target → Bool
+holds_many t = holds_list (target_pool t) (target_type t) || holds_map (target_pool t) (target_type t)
 
 -- the place of the type that it belongs to
 abbrev pub type_place : Target → ℕ

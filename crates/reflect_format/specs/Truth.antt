@@ -1,5 +1,5 @@
 -- Refusals that are true of the pool whose types a text is read by.
-use Rattle.std.specs.Prelude.{◌≡◌, ◌⊎◌, true, ℕ, List, None, string_bytes}
+use Rattle.std.specs.Prelude.{◌≡◌, ◌⊎◌, true, false, ℕ, List, None, string_bytes}
 use Rattle.reflect_index.specs.Finding.{IsFirst}
 use Rattle.reflect_index.specs.Types.{PoolType, type_at, enum_at}
 use Rattle.reflect_pool.specs.FindsNames.{FindsMessage}
@@ -8,7 +8,10 @@ use Rattle.reflect_pool.specs.declared.message.MessageDescriptor.{MessageDescrip
 use Rattle.reflect_pool.specs.declared.kind.Kind.{Kind}
 use Rattle.reflect_pool.specs.declared.kind.Kind.TheVariants as values
 use Rattle.reflect_format.specs.Lacks.{LacksField, LacksGroup, LacksExtension, HasFloatField, HasFloatExtension}
-use Rattle.reflect_format.specs.Refusals.{is_of_text}
+use Rattle.reflect_format.specs.Refusals.{is_of_text, IsTextName, Shares, TellsOneof}
+use Rattle.reflect_format.specs.Takes.{holds_many, target_pool}
+use Rattle.reflect_pool.specs.declared.oneof.OneofDescriptor.{OneofDescriptor}
+use Rattle.reflect_format.specs.declared.target.Target.{Target}
 use Rattle.reflect_format.specs.declared.error.ParseErrorKind.{ParseErrorKind}
 use Rattle.reflect_format.specs.declared.error.ParseErrorKind.TheVariants as kinds
 
@@ -25,7 +28,8 @@ abbrev pub HasFloats : MessageDescriptor → List ℕ → Type 0
 HasFloats m name = HasFloatField m name ⊎ HasFloatExtension m name
 
 -- What a refusal says of a pool is so: a field, an extension or a value is called unknown where the type that is told has none of the
--- name, a message type where no type of the pool has the name, and floating-point numbers are told where a field holds them. The other
+-- name, a message type where no type of the pool has the name, and floating-point numbers are told where a field holds them. A
+-- field or extension that is told to be set is one of the pool that holds one value, and so is a member of a oneof that is told. The other
 -- refusals say nothing of types. A map's key is never refused, and no message is too long.
 abbrev pub TrueOf : PoolType → ParseErrorKind → Type 0
 TrueOf pool (kinds.FieldNotFound field message span) = (m : MessageDescriptor) × IsType pool m (string_bytes message) × LacksField m (string_bytes field) × LacksGroup m (string_bytes field)
@@ -34,6 +38,8 @@ TrueOf pool (kinds.MessageNotFound message span) = FindsMessage pool (string_byt
 TrueOf pool (kinds.EnumValueNotFound value enumeration span) =
     (e : EnumDescriptor) × IsEnum pool e (string_bytes enumeration) × IsFirst (λ v. v.name ≡ string_bytes value) (enum_at e.pool.now e.index).values None
 TrueOf pool (kinds.FloatField field message span) = (m : MessageDescriptor) × IsType pool m (string_bytes message) × HasFloats m (string_bytes field)
+TrueOf pool (kinds.FieldAlreadySet field span) = (t : Target) × (target_pool t ≡ pool) × (holds_many t ≡ false) × IsTextName t (string_bytes field)
+TrueOf pool (kinds.OneofAlreadySet oneof span) = (t : Target) × (target_pool t ≡ pool) × (holds_many t ≡ false) × (o : OneofDescriptor) × Shares t o × TellsOneof o (kinds.OneofAlreadySet oneof span)
 TrueOf pool kinds.InvalidMapKey = ⊥
 TrueOf pool (kinds.TooLong span) = ⊥
 TrueOf pool _ = Unit {0}

@@ -104,7 +104,7 @@ fn assignment<'p>(
     ensures type_stays { message.new.descriptor ≡ message.old.descriptor }
     ensures refused { IfErr result (TrueOf message.old.descriptor.pool.now) }
 {
-    if target.is_list() || target.is_map() {
+    if target.holds_many() {
         let values = values(tokens, target.kind(), braces)?;
         return Ok(target.add(message, values)?);
     }

@@ -4,8 +4,8 @@ ghost use Rattle.std.specs.Prelude.{◌≡◌, IfErr, IfNone, IfOk, IfSome, IsTr
 ghost use Rattle.reflect_pool.specs.FieldsLeft.{field_type};
 ghost use Rattle.reflect_pool.specs.Kinds.{IsKind};
 ghost use Rattle.reflect_format.specs.Lacks.{IsGroupCalled, LacksField, LacksGroup};
-ghost use Rattle.reflect_format.specs.Refusals.{Holds, RefusesExtension, RefusesField};
-ghost use Rattle.reflect_format.specs.Takes.{Takes, target_pool, target_type};
+ghost use Rattle.reflect_format.specs.Refusals.{Holds, IsTextName, RefusesExtension, RefusesField, Shares};
+ghost use Rattle.reflect_format.specs.Takes.{Takes, holds_many, target_pool, target_type};
 
 use crate::error::ParseErrorKind;
 use crate::fault::{float_field, unknown_extension, unknown_field};
@@ -75,22 +75,20 @@ impl<'p> Target<'p> {
         }
     }
 
-    pub fn is_list(&self) -> bool {
+    /// It holds any number of values: it is a list or a map.
+    pub fn holds_many(&self) -> bool
+        ensures { result ≡ holds_many self.now }
+    {
         match self {
-            Target::Field(field) => field.is_list(),
-            Target::Extension(extension) => extension.is_list(),
-        }
-    }
-
-    pub fn is_map(&self) -> bool {
-        match self {
-            Target::Field(field) => field.is_map(),
-            Target::Extension(extension) => extension.is_map(),
+            Target::Field(field) => field.is_list() || field.is_map(),
+            Target::Extension(extension) => extension.is_list() || extension.is_map(),
         }
     }
 
     /// The name by which a text sets it: of a group its type's, of an extension the full one in brackets.
-    pub fn text_name(&self) -> &'p str {
+    pub fn text_name(&self) -> &'p str
+        ensures { IsTextName self.now result.now }
+    {
         match self {
             Target::Field(field) => match field.kind() {
                 Kind::Message(group) if field.is_group() => group.name(),
@@ -112,7 +110,9 @@ impl<'p> Target<'p> {
     }
 
     /// The oneof that it shares with a field which the message holds a value of.
-    pub fn rival(&self, message: &DynamicMessage<'p>) -> Option<OneofDescriptor<'p>> {
+    pub fn rival(&self, message: &DynamicMessage<'p>) -> Option<OneofDescriptor<'p>>
+        ensures { IfSome result (Shares self.now) }
+    {
         let Target::Field(field) = self else {
             return None;
         };
