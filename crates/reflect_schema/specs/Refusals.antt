@@ -1,7 +1,7 @@
 -- Which refusals the calls of a schema give.
-use Rattle.std.specs.Prelude.{◌≡◌, ℕ, List, None, Some, string_bytes}
+use Rattle.std.specs.Prelude.{◌≡◌, ℕ, List, None, Some, IfSome, length, string_bytes}
 use Rattle.reflect_index.specs.Finding.{IsFirst}
-use Rattle.reflect_index.specs.Types.{PoolType}
+use Rattle.reflect_index.specs.Types.{PoolType, IsSettled}
 use Rattle.descriptor_records.specs.declared.file.FileDescriptorProto.{FileDescriptorProto}
 use Rattle.reflect_passes.specs.Errors.{Refuses}
 use Rattle.reflect_pool.specs.Dots.{without_dot}
@@ -9,6 +9,7 @@ use Rattle.reflect_pool.specs.Refusals.{FaultyFiles}
 use Rattle.reflect_wire.specs.declared.wire_error.WireError.{WireError}
 use Rattle.reflect_wire.specs.declared.wire_error.WireError.TheVariants as wire
 use Rattle.reflect_bytes.specs.Spelled.{SpellsSet, RecordsLinked}
+use Rattle.reflect_text.specs.Places.{option_place, StandsFrom}
 use Rattle.reflect_text.specs.TypedOptions.{TypedFiles}
 use Rattle.reflect_schema.specs.declared.error.SchemaError.{SchemaError}
 use Rattle.reflect_schema.specs.declared.error.SchemaError.TheVariants.{Parse, Link, Options, Wire, Text, UnknownType, Memory, TooLong}
@@ -49,14 +50,18 @@ TextRefused p name TooLong = IsKnown p name
 TextRefused p name Memory = Unit {0}
 TextRefused p name _ = ⊥
 
--- files are added to a pool, which becomes the new one, with the options that linking reads where it reads them
-abbrev pub FilesLinked : PoolType → List FileDescriptorProto → PoolType → Type 0
-FilesLinked p files new = (typed : List FileDescriptorProto) × TypedFiles files typed × RecordsLinked p typed new
+-- files fit together and with a pool, which becomes the new one, with the options that linking reads where it reads them
+abbrev pub FilesFit : PoolType → List FileDescriptorProto → PoolType → Type 0
+FilesFit p files new = (typed : List FileDescriptorProto) × TypedFiles files typed × RecordsLinked p typed new
 
--- of files: they do not fit together, or they do and their options do not suit their types
+-- files are added to a pool, and what settles their options changes records alone
+abbrev pub FilesLinked : PoolType → List FileDescriptorProto → PoolType → Type 0
+FilesLinked p files new = (linked : PoolType) × FilesFit p files linked × IsSettled linked new
+
+-- of files: they do not fit together; or they do and options of one of them, where the fault stands, do not suit their types
 abbrev pub FilesRefused : PoolType → List FileDescriptorProto → SchemaError → Type 0
 FilesRefused p files (Link e) = (typed : List FileDescriptorProto) × TypedFiles files typed × Refuses (FaultyFiles p typed) e
-FilesRefused p files (Options e) = (new : PoolType) × FilesLinked p files new
+FilesRefused p files (Options e) = (new : PoolType) × FilesFit p files new × IfSome (option_place e) (StandsFrom new.records (length p.files))
 FilesRefused p files Memory = Unit {0}
 FilesRefused p files _ = ⊥
 

@@ -26,6 +26,8 @@ pub struct Schema {
 impl Schema {
     ghost use Rattle.reflect_pool.specs.FindsNames.{FindsMessage};
     ghost use Rattle.reflect_pool.specs.Linked.{empty_pool};
+    ghost use Rattle.reflect_bytes.specs.Written.{pool_bytes};
+    ghost use Rattle.reflect_schema.specs.declared.error.SchemaError.TheVariants.{Memory};
     ghost use Rattle.reflect_schema.specs.Refusals.{TypeRefused, BytesRefused, TextRefused, FilesLinked, FilesRefused, SourcesLinked, SourcesRefused, SetLinked, SetRefused};
 
     /// A schema without files. Takes no memory.
@@ -103,8 +105,11 @@ impl Schema {
 
     /// The descriptor set of all files, in the order in which they were added, with their options settled.
     ///
-    /// `TooLong` where it would have more bytes than a length can say.
-    pub fn to_descriptor_set(&self) -> Result<Vec<u8>, SchemaError> {
+    /// Refused for want of memory alone.
+    pub fn to_descriptor_set(&self) -> Result<Vec<u8>, SchemaError>
+        ensures ok { IfOk result (λ bytes. bytes.items ≡ pool_bytes self.now.pool) }
+        ensures err { IfErr result (λ e. e ≡ Memory) }
+    {
         Ok(self.pool.encode_to_vec(self.alloc)?)
     }
 

@@ -1,3 +1,5 @@
+ghost use Rattle.std.specs.Prelude.{◌≡◌, None, option_map};
+
 use reflect_format::ParseError;
 use reflect_names::Label;
 use reflect_wire::WireError;
@@ -99,33 +101,48 @@ pub struct OptionError {
 }
 
 impl OptionError {
+    ghost use Rattle.reflect_text.specs.Places.{option_place, option_span};
+
     /// The error of a fault at a place, if it has one.
-    pub fn new(kind: OptionErrorKind, place: Option<Label>) -> OptionError {
+    pub fn new(kind: OptionErrorKind, place: Option<Label>) -> OptionError
+        ensures kind { result.kind ≡ kind }
+        ensures place { result.place ≡ place }
+    {
         OptionError { kind, place }
     }
 
     /// What is wrong.
-    pub fn kind(&self) -> &OptionErrorKind {
+    pub fn kind(&self) -> &OptionErrorKind
+        ensures { result.now ≡ self.now.kind }
+    {
         &self.kind
     }
 
     /// The name of the file.
-    pub fn file(&self) -> Option<&str> {
+    pub fn file(&self) -> Option<&str>
+        ensures { option_map (λ f. f.now) result ≡ option_map (λ p. p.file) (option_place self.now) }
+    {
         Some(self.place.as_ref()?.file())
     }
 
     /// The line, counted from 0, where the file's record says where things stand.
-    pub fn line(&self) -> Option<usize> {
+    pub fn line(&self) -> Option<usize>
+        ensures { result ≡ option_map (λ s. s.start_line) (option_span self.now) }
+    {
         self.place.as_ref()?.line()
     }
 
     /// The column, counted from 0 in bytes, where the file's record says where things stand.
-    pub fn column(&self) -> Option<usize> {
+    pub fn column(&self) -> Option<usize>
+        ensures { result ≡ option_map (λ s. s.start_column) (option_span self.now) }
+    {
         self.place.as_ref()?.column()
     }
 
     /// Which part of the file's record it is, as in a record's locations.
-    pub fn path(&self) -> Option<&[i32]> {
+    pub fn path(&self) -> Option<&[i32]>
+        ensures { option_map (λ p. p.now) result ≡ option_map (λ p. p.path) (option_place self.now) }
+    {
         Some(self.place.as_ref()?.path())
     }
 }
@@ -140,12 +157,16 @@ impl fmt::Display for OptionError {
 impl Error for OptionError {}
 
 impl From<AllocError> for OptionError {
+    ghost from_gives = { λ _ e. e.place ≡ None };
+
     fn from(_error: AllocError) -> OptionError {
         OptionError::new(OptionErrorKind::Memory, None)
     }
 }
 
 impl<T: Drop> From<AllocFailed<T>> for OptionError {
+    ghost from_gives = { λ _ e. e.place ≡ None };
+
     fn from(_error: AllocFailed<T>) -> OptionError {
         OptionError::new(OptionErrorKind::Memory, None)
     }

@@ -1,6 +1,8 @@
-use Rattle.std.proofs.Common.{◌≡◌, subst, sym, rules, of_calls}
+use Rattle.std.proofs.Common.{◌≡◌, IfSome, subst, rules, of_calls}
 use Rattle.std.proofs.lemmas.Result.{err_from_is_err_and}
-use Rattle.reflect_schema.specs.Refusals.{FilesLinked}
+use Rattle.reflect_index.specs.Types.{IsSettled}
+use Rattle.reflect_text.specs.Places.{option_place, StandsFrom}
+use Rattle.reflect_schema.specs.Refusals.{FilesFit}
 use Rattle.reflect_schema.proofs.Refused.{of_link, of_options}
 use Rattle.reflect_schema.proofs.schema.Schema.add_batch.Goals as goal
 use Rattle.reflect_schema.proofs.schema.Schema.add_batch.Goals.{then-is_err, else-is_err}
@@ -14,11 +16,12 @@ pub returns-in_err-settled-clause-err : goal.returns-in_err-settled-clause-err
 returns-in_err-settled-clause-err c =
     let r = c.from_residual-in_err-settled in
     let p = err_from_is_err_and r.result r.ensures.1 in
-    let linked : FilesLinked c.args.self.now.pool c.args.files.items c.build_files.new.self = (c.copy_typed_options.new.files.items, c.copy_typed_options.ensures, (c.in_ok-build_files.ensures.added, c.in_ok-build_files.ensures.accepted)) in
-    rw p.1 (of_options c.args.self.now.pool c.args.files.items c.build_files.new.self c.in_err-settled.field-0.0 _ linked p.2)
+    let fit : FilesFit c.args.self.now.pool c.args.files.items c.build_files.new.self = (c.copy_typed_options.new.files.items, c.copy_typed_options.ensures, (c.in_ok-build_files.ensures.added, c.in_ok-build_files.ensures.accepted)) in
+    let at = subst (λ n. IfSome (option_place c.in_err-settled.field-0.0) (StandsFrom c.build_files.new.self.records n)) c.mark.ensures c.in_err-settled.ensures.place in
+    rw p.1 (of_options c.args.self.now.pool c.args.files.items c.build_files.new.self c.in_err-settled.field-0.0 _ fit at p.2)
 
 pub returns-clause-linked : goal.returns-clause-linked
 returns-clause-linked c =
-    let linked : FilesLinked c.args.self.now.pool c.args.files.items c.build_files.new.self = (c.copy_typed_options.new.files.items, c.copy_typed_options.ensures, (c.in_ok-build_files.ensures.added, c.in_ok-build_files.ensures.accepted)) in
-    let same : c.if-is_err.self.pool ≡ c.build_files.new.self = elim c.if-is_err.branch [ then-is_err w ↦ search (rules, of_calls) | else-is_err w ↦ search (rules, of_calls) ] in
-    subst (FilesLinked c.args.self.now.pool c.args.files.items) (sym same) linked
+    let fit : FilesFit c.args.self.now.pool c.args.files.items c.build_files.new.self = (c.copy_typed_options.new.files.items, c.copy_typed_options.ensures, (c.in_ok-build_files.ensures.added, c.in_ok-build_files.ensures.accepted)) in
+    let settled : IsSettled c.build_files.new.self c.if-is_err.self.pool = elim c.if-is_err.branch [ then-is_err w ↦ search (rules, of_calls) | else-is_err w ↦ search (rules, of_calls) ] in
+    (c.build_files.new.self, fit, settled)
