@@ -1,4 +1,4 @@
-use Rattle.std.proofs.Common.{◌≡◌, IfSome, subst, rules, of_calls}
+use Rattle.std.proofs.Common.{◌≡◌, IfErr, IfSome, subst, rules, of_calls}
 use Rattle.std.proofs.lemmas.Result.{err_from_is_err_and}
 use Rattle.reflect_index.specs.Types.{IsSettled}
 use Rattle.reflect_text.specs.Places.{option_place, StandsFrom}
@@ -17,7 +17,9 @@ returns-in_err-settled-clause-err c =
     let r = c.from_residual-in_err-settled in
     let p = err_from_is_err_and r.result r.ensures.1 in
     let fit : FilesFit c.args.self.now.pool c.args.files.items c.build_files.new.self = (c.copy_typed_options.new.files.items, c.copy_typed_options.ensures, (c.in_ok-build_files.ensures.added, c.in_ok-build_files.ensures.accepted)) in
-    let at = subst (λ n. IfSome (option_place c.in_err-settled.field-0.0) (StandsFrom c.build_files.new.self.records n)) c.mark.ensures c.in_err-settled.ensures.place in
+    let e = c.in_err-settled.field-0.0 in
+    let place = subst (λ s. IfErr s (λ f. IfSome (option_place f) (StandsFrom c.build_files.new.self.records c.mark-mark.result))) c.in_err-settled.was c.resolve_options-settled.ensures.place in
+    let at = subst (λ n. IfSome (option_place e) (StandsFrom c.build_files.new.self.records n)) c.mark-mark.ensures place in
     rw p.1 (of_options c.args.self.now.pool c.args.files.items c.build_files.new.self c.in_err-settled.field-0.0 _ fit at p.2)
 
 pub returns-clause-linked : goal.returns-clause-linked
