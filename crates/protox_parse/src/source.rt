@@ -1,6 +1,9 @@
 //! From a source to its record.
 
-ghost use Rattle.std.specs.Prelude.{◌<◌, IfOk, vec_len};
+ghost use Rattle.std.specs.Prelude.{◌≡◌, ◌⊎◌, ◌≤◌, ◌^◌, ◌∷◌, [], Some, IfOk, IfErr, IsErrAnd, length, option_map, string_bytes};
+ghost use Rattle.protox_parse.specs.Refusals.{IsRefusalOf, faults_of};
+ghost use Rattle.protox_tree.specs.declared.error.ParseErrorKind.TheVariants.{FileTooLarge};
+ghost use Rattle.protox_parse.specs.declared.error.ParseError.TheVariants.{Memory};
 
 use crate::error::{ParseError, Refusal};
 use crate::fault::Stop;
@@ -15,7 +18,7 @@ use protox_tree::ParseErrorKind;
 use std::alloc::{AllocError, Global};
 
 fn one(alloc: Global, fault: ParseErrorKind) -> Result<Vec<ParseErrorKind>, AllocError>
-    ensures { IfOk result (λ faults. 0 < vec_len faults) }
+    ensures { IfOk result (λ faults. faults.items ≡ fault ∷ []) }
 {
     let mut faults = Vec::with_capacity(alloc, 1)?;
     faults.push(fault)?;
@@ -25,8 +28,13 @@ fn one(alloc: Global, fault: ParseErrorKind) -> Result<Vec<ParseErrorKind>, Allo
 /// The record of a source of proto2 or proto3, under this file name, with the places and the comments of its declarations.
 ///
 /// The grammar is that of the "Language Specification" of the two. A source that has it not is refused with its first fault;
-/// one that has it and breaks other rules is refused with all its faults, in source order.
-pub fn parse(alloc: Global, name: &str, source: &str) -> Result<FileDescriptorProto, ParseError> {
+/// one that has it and breaks other rules is refused with all its faults, in source order. One of 2^31 bytes or more is refused
+/// as too large. A refusal names this file, and tells where in this source its first fault begins.
+pub fn parse(alloc: Global, name: &str, source: &str) -> Result<FileDescriptorProto, ParseError>
+    ensures named { IfOk result (λ file. option_map string_bytes file.name ≡ Some name.now) }
+    ensures refused { IfErr result (λ e. (e ≡ Memory) ⊎ IsRefusalOf name.now source.now e) }
+    ensures too_large { 2 ^ 31 ≤ length source.now → IsErrAnd result (λ e. (e ≡ Memory) ⊎ (faults_of e ≡ FileTooLarge ∷ [])) }
+{
     if source.len() > i32::MAX as usize {
         let faults = one(alloc, ParseErrorKind::FileTooLarge)?;
         return Err(ParseError::Refused(Refusal::new(alloc, name, None, faults)?));

@@ -1,6 +1,8 @@
 //! The record that a syntax tree describes.
 #![tactic(auto)]
 
+ghost use Rattle.std.specs.Prelude.{◌≡◌, IfOk, Some, option_map, string_bytes};
+
 mod declaration;
 mod field;
 mod message;
@@ -19,7 +21,9 @@ pub fn file_record(
     alloc: Global,
     name: &str,
     file: &File,
-) -> Result<FileDescriptorProto, AllocError> {
+) -> Result<FileDescriptorProto, AllocError>
+    ensures { IfOk result (λ r. option_map string_bytes r.name ≡ Some name.now) }
+{
     let mut record = FileDescriptorProto::new(alloc);
     record.name = Some(String::from_str(alloc, name)?);
     if file.syntax() == Syntax::Proto3 {
@@ -36,7 +40,9 @@ fn add_item(
     syntax: Syntax,
     item: &FileItem,
     record: &mut FileDescriptorProto,
-) -> Result<(), AllocError> {
+) -> Result<(), AllocError>
+    ensures { «record».new.name ≡ «record».old.name }
+{
     match item {
         FileItem::Import(import) => add_import(alloc, import, record)?,
         FileItem::Package(package) => record.package = Some(package.name.to_text(alloc)?),
@@ -65,7 +71,9 @@ fn add_import(
     alloc: Global,
     import: &Import,
     record: &mut FileDescriptorProto,
-) -> Result<(), AllocError> {
+) -> Result<(), AllocError>
+    ensures { «record».new.name ≡ «record».old.name }
+{
     let index = index(record.dependency.len());
     match import.kind {
         Some((ImportKind::Public, _)) => record.public_dependency.push(index)?,

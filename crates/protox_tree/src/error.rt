@@ -1,5 +1,7 @@
 //! What is wrong with a source.
 
+ghost use Rattle.std.specs.Prelude.{◌≡◌};
+
 use protox_lex::{LexError, LexErrorKind, Span, Token};
 use std::fmt;
 
@@ -231,8 +233,12 @@ impl From<LexError> for ParseErrorKind {
 }
 
 impl ParseErrorKind {
+    ghost use Rattle.protox_tree.specs.Spans.{span_of};
+
     /// The bytes at fault. A source that is too large or ends too early has none.
-    pub fn span(&self) -> Option<Span> {
+    pub fn span(&self) -> Option<Span>
+        ensures { result ≡ span_of self.now }
+    {
         match self {
             ParseErrorKind::FileTooLarge | ParseErrorKind::UnexpectedEof { .. } => None,
             ParseErrorKind::DuplicatePackage { second, .. }

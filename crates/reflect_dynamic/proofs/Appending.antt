@@ -37,9 +37,9 @@ module _ (inner : Takes) (levels : ℕ) (key : WireKey) (kind : Kind) (bytes res
 
   -- a message that was made of the record
   pub appends_message : (d : MessageDescriptor) (fresh m : DynamicMessage) (value : Value) (p : Payload) → kind ≡ kinds.Message d → fresh.descriptor ≡ d → content_of fresh ≡ nothing → m.descriptor ≡ fresh.descriptor → message_in value ≡ Some m → new ≡ old ++ value ∷ []
-      → Fronts (IsValue levels key) bytes p rest → inner fresh.descriptor (content_of fresh) (content_of m) (p ∷ []) → (p : Payload) × Fronts (IsValue levels key) bytes p rest × Appends inner kind old new p
+      → Fronts (IsValue levels key) bytes p rest → inner.message fresh.descriptor (content_of fresh) (content_of m) (p ∷ []) → (p : Payload) × Fronts (IsValue levels key) bytes p rest × Appends inner kind old new p
   appends_message d fresh m value p is type empty same there e h taken =
-      let mine = subst (λ c. inner d c (content_of m) (p ∷ [])) empty (subst (λ d. inner d (content_of fresh) (content_of m) (p ∷ [])) type taken) in
+      let mine = subst (λ c. inner.message d c (content_of m) (p ∷ [])) empty (subst (λ d. inner.message d (content_of fresh) (content_of m) (p ∷ [])) type taken) in
       (p, h, inl (value, subst (λ k. IsMade inner k p value) (sym is) (m, there, same ∙ type, mine), e))
 
 -- the last record of a list's run

@@ -10,7 +10,7 @@ use Rattle.reflect_dynamic.specs.declared.value.Value.{Value}
 
 -- payloads behind payloads leave what all of them do
 abbrev pub Joins : Takes → Type 0
-Joins inner = (m : MessageDescriptor) (a b c : Content) (ps qs : List Payload) → inner m a b ps → inner m b c qs → inner m a c (ps ++ qs)
+Joins inner = (m : MessageDescriptor) (a b c : Content) (ps qs : List Payload) → inner.message m a b ps → inner.message m b c qs → inner.message m a c (ps ++ qs)
 
 module _ (inner : Takes) (pool : PoolType) (t : KindType) where
   -- where a message was left, the one that stands there is it
@@ -22,6 +22,6 @@ module _ (inner : Takes) (pool : PoolType) (t : KindType) where
   merges_both joins a b c ps qs h k =
       let same : k.0 ≡ h.1 = still_there b h.1 k.0 h.3 k.2 in
       let type : k.0.descriptor ≡ h.0.descriptor = ap (λ (m : DynamicMessage). m.descriptor) same ∙ h.4 in
-      let behind = subst (λ d. inner d (content_of k.0) (content_of k.1) qs) type k.5 in
-      let there = subst (λ m. inner h.0.descriptor (content_of m) (content_of k.1) qs) same behind in
+      let behind = subst (λ d. inner.message d (content_of k.0) (content_of k.1) qs) type k.5 in
+      let there = subst (λ m. inner.message h.0.descriptor (content_of m) (content_of k.1) qs) same behind in
       (h.0, k.1, h.2, k.3, k.4 ∙ type, joins h.0.descriptor (content_of h.0) (content_of h.1) (content_of k.1) ps qs h.5 there)

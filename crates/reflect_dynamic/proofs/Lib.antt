@@ -2,9 +2,11 @@ pub mod Appending
 pub mod Before
 pub mod Choosing
 pub mod Copying
+pub mod Defaulting
 pub mod Extending
 pub mod Filling
 pub mod Forms
+pub mod Holding
 pub mod Joining
 pub mod Keeping
 pub mod Kept

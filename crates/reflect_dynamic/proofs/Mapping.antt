@@ -10,10 +10,8 @@ use Rattle.reflect_pool.specs.declared.kind.Kind.TheVariants as kinds
 use Rattle.reflect_pool.specs.declared.message.MessageDescriptor.{MessageDescriptor}
 use Rattle.reflect_pool.specs.declared.kind.Kind.{Kind}
 use Rattle.reflect_wire.specs.Reads.{Fronts}
-use Rattle.reflect_wire.specs.Key.{IsDelimited}
 use Rattle.reflect_wire.specs.Records.{Payload, delimited, IsValue, SpellsRecords}
 use Rattle.reflect_wire.specs.Views.{records_of}
-use Rattle.reflect_wire.specs.declared.wire_key.WireType.TheVariants.{LengthDelimited}
 use Rattle.reflect_wire.specs.declared.wire_error.WireError.{WireError}
 use Rattle.reflect_wire.specs.declared.wire_key.WireKey.{WireKey}
 use Rattle.reflect_scalar.specs.FieldTypes.{field_pool}
@@ -24,9 +22,9 @@ use Rattle.reflect_dynamic.specs.Contents.{content_of}
 use Rattle.reflect_dynamic.specs.Keeps.{payloads}
 use Rattle.reflect_dynamic.specs.Levels.{TakesAt}
 use Rattle.reflect_dynamic.specs.Known.{entry_field}
-use Rattle.reflect_dynamic.specs.Maps.{key_order, map_entries, entries_held, LeavesSingle, LeavesKey, LeavesValue, IsEntry, PutEntries, ContinuesMap, ChangesPart}
-use Rattle.reflect_dynamic.specs.Merging.{LeadsOn, IsRun}
-use Rattle.reflect_dynamic.specs.Messages.{Takes, IsStart, message_in}
+use Rattle.reflect_dynamic.specs.Maps.{key_order, map_entries, LeavesSingle, LeavesKey, LeavesValue, IsEntry, PutEntries, ContinuesMap, ChangesPart}
+use Rattle.reflect_dynamic.specs.Merging.{IsRun}
+use Rattle.reflect_dynamic.specs.Messages.{Takes, message_in}
 use Rattle.reflect_dynamic.specs.Scalars.{IsScalarType, IsLast}
 use Rattle.reflect_dynamic.specs.Singles.{single}
 use Rattle.reflect_dynamic.specs.declared.message.DynamicMessage.{DynamicMessage}
@@ -34,7 +32,7 @@ use Rattle.reflect_dynamic.specs.declared.value.Value.{Value}
 use Rattle.reflect_dynamic.proofs.Joining.{Joins, merges_both}
 use Rattle.reflect_dynamic.proofs.Keeping.{payloads_both, payloads_own, not_numbered}
 use Rattle.reflect_dynamic.proofs.Telling.{no_elements}
-use Rattle.reflect_dynamic.proofs.Running.{plain_spelled, delimited_value, run_ends}
+use Rattle.reflect_dynamic.proofs.Running.{plain_spelled}
 
 pub last_behind : (pool : PoolType) (t : KindType) (ps qs : List Payload) (v : Single) → IsLast pool t qs v → IsLast pool t (ps ++ qs) v
 last_behind pool t ps qs v h = (h.0, ps ++ h.1, h.2, h.3, ap (λ l. ps ++ l) h.4 ∙ sym (append_assoc ps h.1 (h.2 ∷ [])), h.5)
@@ -48,12 +46,7 @@ module _ (inner : Takes) (pool : PoolType) (f : FieldType) where
 
   value_more : Joins inner → (old new : Value) (ps qs : List Payload) → LeavesValue inner pool f old ps → ChangesPart inner pool f old new qs → LeavesValue inner pool f new (ps ++ qs)
   value_more joins old new ps [] h k = subst (LeavesValue inner pool f new) (sym (append-nil ps)) (subst (λ v. LeavesValue inner pool f v ps) (sym k) h)
-  value_more joins old new [] (q ∷ qs) h k = (
-    λ scalar. k.0 scalar,
-    λ type. let empty = h.1 type in let merged = k.1 type in
-        let same : merged.0 ≡ empty.0 = cc (merged.2, empty.1) in
-        (merged.0, merged.1, subst (λ m. IsStart pool f.kind None m) (sym same) empty.2, merged.3, merged.4, merged.5),
-  )
+  value_more joins old new [] (q ∷ qs) h k = (λ scalar. k.0 scalar, λ type. merges_both inner pool f.kind joins None (Some old) (Some new) [] (q ∷ qs) (h.1 type) (k.1 type))
   value_more joins old new (p ∷ ps) (q ∷ qs) h k = (λ scalar. single_more old new (p ∷ ps) (q ∷ qs) scalar (h.0 scalar) k, λ type. merges_both inner pool f.kind joins None (Some old) (Some new) (p ∷ ps) (q ∷ qs) (h.1 type) (k.1 type))
 
   module _ (n : ℕ) (rs : List (ℕ × Payload)) (r : ℕ × Payload) (old new : Value) where
@@ -80,7 +73,7 @@ module _ (inner : Takes) (pool : PoolType) (f : FieldType) where
         )
 
     pub part_message : (d : MessageDescriptor) (before after : DynamicMessage) (r : Result (Bor (List ℕ)) WireError) → IsKind pool (kinds.Message d) f.kind → message_in old ≡ Some before → message_in new ≡ Some after → after.descriptor ≡ before.descriptor
-        → IfOk r (λ rest. (p : Payload) × Fronts (IsValue levels key) bytes p rest.now × inner before.descriptor (content_of before) (content_of after) (p ∷ []))
+        → IfOk r (λ rest. (p : Payload) × Fronts (IsValue levels key) bytes p rest.now × inner.message before.descriptor (content_of before) (content_of after) (p ∷ []))
         → IfOk r (λ rest. (p : Payload) × Fronts (IsValue levels key) bytes p rest.now × ChangesPart inner pool f old new (p ∷ []))
     part_message d before after (Ok rest) is was now same h = (h.0, h.1, ((λ scalar. absurd (subst IsScalarType is.1 scalar)), λ type. (before, after, was, now, same, h.2)))
     part_message d before after (Err e) is was now same h = tt
@@ -116,5 +109,5 @@ AreFields pool t keys values = (field_pool keys ≡ pool) × (field_pool values 
 pub entry_is_read : (pool : PoolType) (t : KindType) (here levels : ℕ) (keys values : FieldDescriptor) (body : List ℕ) (k : MapKey) (v : Value) → here ≡ levels → AreFields pool t keys values → Read (TakesAt here) here keys values body k v → IsEntry (TakesAt levels) pool t (delimited body) k v
 entry_is_read pool t here levels keys values body k v same fields h =
     let entry : IsEntry (TakesAt here) pool t (delimited body) k v =
-    (field_type keys, field_type values, here, h.0, fields.2, fields.3, h.1, subst (λ p. LeavesKey p (field_type keys) k (payloads 1 h.0)) fields.0 h.2, subst (λ p. LeavesValue (TakesAt here) p (field_type values) v (payloads 2 h.0)) fields.1 h.3) in
+    (field_type keys, field_type values, h.0, fields.2, fields.3, h.1, subst (λ p. LeavesKey p (field_type keys) k (payloads 1 h.0)) fields.0 h.2, subst (λ p. LeavesValue (TakesAt here) p (field_type values) v (payloads 2 h.0)) fields.1 h.3) in
     subst (λ l. IsEntry (TakesAt l) pool t (delimited body) k v) same entry

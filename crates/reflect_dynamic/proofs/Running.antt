@@ -1,11 +1,9 @@
 -- Runs of records with one key, and the records of a message.
-use Rattle.std.proofs.Common.{◌≡◌, ℕ, ◌+◌, ◌-◌, List, [], ◌∷◌, ◌++◌, None, Some, Result, Ok, Err, IfOk, refl, sym, ap, ◌∙◌, subst, append_assoc, append-nil, arith}
-use Rattle.std.specs.Borrow.{Bor}
+use Rattle.std.proofs.Common.{◌≡◌, ℕ, ◌+◌, ◌-◌, List, [], ◌∷◌, ◌++◌, None, Some, refl, sym, ap, ◌∙◌, subst, append_assoc, append-nil, arith}
 use Rattle.reflect_wire.specs.Key.{IsKey, IsDelimited}
 use Rattle.reflect_wire.specs.Reads.{Fronts}
 use Rattle.reflect_wire.specs.Records.{Payload, varint, fixed64, delimited, group, fixed32, key_of, SpellsPayload, SpellsRecords, IsValue, IsGroup}
 use Rattle.reflect_wire.specs.Views.{records_of}
-use Rattle.reflect_wire.specs.declared.wire_error.WireError.{WireError}
 use Rattle.reflect_wire.specs.declared.wire_key.WireKey.{WireKey}
 use Rattle.reflect_wire.specs.declared.wire_key.WireType.TheVariants.{LengthDelimited, StartGroup, EndGroup}
 use Rattle.reflect_wire.proofs.Groups.{whole_group}

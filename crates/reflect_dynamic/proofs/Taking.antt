@@ -2,7 +2,7 @@
 use Rattle.std.proofs.Common.{◌≡◌, inl, inr, ℕ, Bool, true, false, List, [], ◌∷◌, ◌++◌, map, Option, None, Some, Result, Ok, Err, IfOk, refl, sym, ap, ◌∙◌, subst, unwrap_or, append_assoc, append-nil}
 use Rattle.std.proofs.lemmas.List.{map-append}
 use Rattle.std.specs.Borrow.{Bor}
-use Rattle.reflect_index.specs.Types.{PoolType, FieldType, KindType, message}
+use Rattle.reflect_index.specs.Types.{PoolType, FieldType, KindType}
 use Rattle.reflect_pool.specs.Kinds.{IsKind}
 use Rattle.reflect_pool.specs.Shapes.{holds_list, holds_map}
 use Rattle.reflect_pool.specs.declared.kind.Kind.{Kind}
@@ -17,7 +17,7 @@ use Rattle.reflect_scalar.specs.Singles.{Single}
 use Rattle.reflect_dynamic.specs.Contents.{content_of, nothing}
 use Rattle.reflect_dynamic.specs.Elements.{Appends, AppendsAll, ContinuesList, items_held}
 use Rattle.reflect_dynamic.specs.Merging.{IsRun}
-use Rattle.reflect_dynamic.specs.Messages.{Takes, IsMade, message_in, message_held, IsStart, MergesMessage}
+use Rattle.reflect_dynamic.specs.Messages.{Takes, message_in, message_held, IsStart, MergesMessage}
 use Rattle.reflect_dynamic.specs.Packed.{Continues}
 use Rattle.reflect_dynamic.specs.Singles.{single}
 use Rattle.reflect_dynamic.specs.Maps.{ContinuesMap, entries_held}
@@ -108,11 +108,11 @@ module _ (inner : Takes) (levels : ℕ) (key : WireKey) (bytes : List ℕ) (pool
   -- the message that stood there, or a new one where nothing did, has taken in the record
   pub message_leaves : (d : MessageDescriptor) (fresh before taken after : DynamicMessage) (empty slot filled : Value) (r : Result (Bor (List ℕ)) WireError) → IsKind pool (kinds.Message d) f.kind → holds_list pool f ≡ false → holds_map pool f ≡ false
       → slot ≡ unwrap_or old empty → message_in empty ≡ Some fresh → fresh.descriptor ≡ d → content_of fresh ≡ nothing → message_in slot ≡ Some before → new ≡ Some filled → message_in filled ≡ Some after → taken ≡ before → after.descriptor ≡ taken.descriptor
-      → IfOk r (λ rest. (p : Payload) × Fronts (IsValue levels key) bytes p rest.now × inner taken.descriptor (content_of taken) (content_of after) (p ∷ []))
+      → IfOk r (λ rest. (p : Payload) × Fronts (IsValue levels key) bytes p rest.now × inner.message taken.descriptor (content_of taken) (content_of after) (p ∷ []))
       → IfOk r (λ rest. (run : List Payload × Payload) × Fronts (IsRun levels key) bytes run rest.now × Leaves inner pool f old new (run.0 ++ run.1 ∷ []))
   message_leaves d fresh before taken after empty slot filled (Ok rest) is none no_map there made type holds at put now one same h =
       let run : List Payload × Payload = ([], h.0) in
-      let merges : MergesMessage inner pool f.kind old new (h.0 ∷ []) = (before, after, started old there, ap message_held put ∙ now, same ∙ ap (λ (m : DynamicMessage). m.descriptor) one, subst (λ (m : DynamicMessage). inner m.descriptor (content_of m) (content_of after) (h.0 ∷ [])) one h.2) in
+      let merges : MergesMessage inner pool f.kind old new (h.0 ∷ []) = (before, after, started old there, ap message_held put ∙ now, same ∙ ap (λ (m : DynamicMessage). m.descriptor) one, subst (λ (m : DynamicMessage). inner.message m.descriptor (content_of m) (content_of after) (h.0 ∷ [])) one h.2) in
       let value = h.1 in
       (run, (value.0, ([], value.0, refl, value.1, refl), value.2), ((λ scalar. absurd (subst IsScalarType is.1 scalar)), (λ type apart. subst (λ b. TakesAs b inner pool f.kind old new (h.0 ∷ [])) (sym none) merges), λ map. absurd (cc (map, no_map)))) where
         started : (o : Option Value) → slot ≡ unwrap_or o empty → IsStart pool f.kind o before

@@ -2,6 +2,7 @@ pub mod Bytes
 pub mod Contents
 pub mod Copies
 pub mod Declares
+pub mod Defaults
 pub mod Elements
 pub mod EntriesLeft
 pub mod Fields
@@ -11,6 +12,7 @@ pub mod Known
 pub mod Left
 pub mod Levels
 pub mod Lists
+pub mod MapKeys
 pub mod Maps
 pub mod Merging
 pub mod Messages

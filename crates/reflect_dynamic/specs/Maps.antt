@@ -1,5 +1,5 @@
 -- What records leave in maps (protobuf.dev, "Encoding", Maps): each is an entry, whose key is its field 1 and whose value its field 2.
-use Rattle.std.specs.Prelude.{◌≡◌, ℕ, List, [], ◌∷◌, ◌++◌, Option, None, Some}
+use Rattle.std.specs.Prelude.{◌≡◌, ℕ, List, [], ◌∷◌, Option, None, Some}
 use Rattle.std.specs.BTreeMap.{insert_entry}
 use Rattle.std.specs.declared.cmp.Ordering.{Ordering}
 use Rattle.reflect_index.specs.Types.{PoolType, FieldType, KindType}
@@ -11,10 +11,9 @@ use Rattle.reflect_scalar.specs.declared.map_key.MapKey.{MapKey}
 use Rattle.reflect_scalar.specs.contracts.map_key.MapKeyOrd.TheImpl.{ghosts}
 use Rattle.reflect_dynamic.specs.Keeps.{payloads}
 use Rattle.reflect_dynamic.specs.Known.{entry_field}
-use Rattle.reflect_dynamic.specs.Messages.{Takes, IsInside, IsStart, MergesMessage, message_in}
+use Rattle.reflect_dynamic.specs.Messages.{Takes, MergesMessage}
 use Rattle.reflect_dynamic.specs.Scalars.{IsScalarType, IsMessageType, IsLast}
 use Rattle.reflect_dynamic.specs.Singles.{single}
-use Rattle.reflect_dynamic.specs.declared.message.DynamicMessage.{DynamicMessage}
 use Rattle.reflect_dynamic.specs.declared.value.Value.{Value}
 use Rattle.reflect_dynamic.specs.declared.parts.Held.TheOpen.{Value-F}
 use Rattle.reflect_dynamic.specs.declared.parts.Held.TheViews.{out-Value}
@@ -53,19 +52,14 @@ LeavesSingle pool f v (p ∷ ps) = (w : Single) × (v ≡ Some w) × IsLast pool
 abbrev pub LeavesKey : PoolType → FieldType → MapKey → List Payload → Type 0
 LeavesKey pool f k ps = IsScalarType f.kind → LeavesSingle pool f (Some (key_view k)) ps
 
--- what they leave as its message: an empty one where there are none, else one that has taken in all of them
-abbrev pub LeavesMessage : Takes → PoolType → KindType → Value → List Payload → Type 0
-LeavesMessage inner pool t v [] = (m : DynamicMessage) × (message_in v ≡ Some m) × IsStart pool t None m
-LeavesMessage inner pool t v (p ∷ ps) = MergesMessage inner pool t None (Some v) (p ∷ ps)
-
--- what those of a map's value leave as it
+-- what those of a map's value leave as it: of a message type a message that has taken in all of them, also where there are none
 abbrev pub LeavesValue : Takes → PoolType → FieldType → Value → List Payload → Type 0
-LeavesValue inner pool f v ps = (IsScalarType f.kind → LeavesSingle pool f (single v) ps) × (IsMessageType f.kind → LeavesMessage inner pool f.kind v ps)
+LeavesValue inner pool f v ps = (IsScalarType f.kind → LeavesSingle pool f (single v) ps) × (IsMessageType f.kind → MergesMessage inner pool f.kind None (Some v) ps)
 
 -- a record is an entry of the type: those inside it leave this key and this value
 abbrev pub IsEntry : Takes → PoolType → KindType → Payload → MapKey → Value → Type 0
 IsEntry inner pool t p k v =
-    (keys values : FieldType) × (levels : ℕ) × (rs : List (ℕ × Payload)) × (entry_field pool t 1 ≡ Some keys) × (entry_field pool t 2 ≡ Some values) × IsInside levels p rs
+    (keys values : FieldType) × (rs : List (ℕ × Payload)) × (entry_field pool t 1 ≡ Some keys) × (entry_field pool t 2 ≡ Some values) × inner.entry p rs
     × LeavesKey pool keys k (payloads 1 rs) × LeavesValue inner pool values v (payloads 2 rs)
 
 -- each record puts its entry into the map, over the one of an equal key

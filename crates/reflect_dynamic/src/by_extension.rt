@@ -1,13 +1,14 @@
 //! Extensions by their descriptors.
 
 ghost use Rattle.std.specs.Prelude.{◌≡◌, ◌≢◌, ℕ, true, None, Some, IsTrue, IsSome, IfOk, IfSome, OnOk, OnErr};
+ghost use Rattle.std.specs.Option.{unwrap_or};
 ghost use Rattle.reflect_pool.specs.Shapes.{holds_list};
 ghost use Rattle.reflect_scalar.specs.FieldTypes.{extension_pool, extension_type};
 ghost use Rattle.reflect_entries.specs.Entries.{value_at};
 ghost use Rattle.reflect_dynamic.specs.Held.{extensions_of, fields_of, unknown_of, UpdatesExtension};
 ghost use Rattle.reflect_dynamic.specs.Lists.{Lengthens, KeepsList};
 ghost use Rattle.reflect_dynamic.specs.Present.{held_if_set, is_held};
-ghost use Rattle.reflect_dynamic.specs.Shown.{Shows};
+ghost use Rattle.reflect_dynamic.specs.Shown.{Shows, IsHeldOrDefault};
 ghost use Rattle.reflect_dynamic.specs.Spares.{Same};
 
 use crate::content;
@@ -34,7 +35,7 @@ impl<'p> DynamicMessage<'p> {
         &self,
         extension: &ExtensionDescriptor<'p>,
     ) -> Result<FieldRef<'_, 'p>, AllocError>
-        ensures { IfOk result (Shows (value_at (extensions_of self.now) (extension_type extension.now).number)) }
+        ensures { IfOk result (Shows (extension_pool extension.now) (extension_type extension.now) (value_at (extensions_of self.now) (extension_type extension.now).number)) }
     {
         content::lend(
             self.allocator(),
@@ -48,10 +49,34 @@ impl<'p> DynamicMessage<'p> {
     pub fn get_extension_mut(
         &mut self,
         extension: &ExtensionDescriptor<'p>,
-    ) -> Result<&mut Value<'p>, AllocError> {
+    ) -> Result<&mut Value<'p>, AllocError>
+        ensures { IfOk result (λ r. IsHeldOrDefault (extension_pool extension.now) (extension_type extension.now) (value_at (extensions_of self.old) (extension_type extension.now).number) r.now) }
+    {
         let default = default_of(self.allocator(), extension)?;
-        let extensions = &mut self.parts_mut()?.extensions;
-        extensions.slot(extension.number(), default)
+        self.fill_extension(extension, default)?;
+        match self.extension_value_mut(extension.number()) {
+            Some(value) => Ok(value),
+            None => unreachable!(),
+        }
+    }
+
+    /// Puts the default where the extension, one of the message's type, holds nothing: what `get_extension_mut` does before
+    /// it lends the value. A refusal leaves the message.
+    fn fill_extension(
+        &mut self,
+        extension: &ExtensionDescriptor<'p>,
+        default: Value<'p>,
+    ) -> Result<(), AllocError>
+        ensures type_stays { self.new.descriptor ≡ self.old.descriptor }
+        ensures ok { OnOk result (UpdatesExtension self.old self.new (extension_type extension.now).number (Some (unwrap_or (value_at (extensions_of self.old) (extension_type extension.now).number) default.entry))) }
+        ensures err { OnErr result (extensions_of self.new ≡ extensions_of self.old) }
+        ensures fields { fields_of self.new ≡ fields_of self.old }
+        ensures unknown { unknown_of self.new ≡ unknown_of self.old }
+    {
+        let mut parts = self.take_block()?;
+        let outcome = parts.fill_extension(extension.number(), default);
+        self.put_block(parts);
+        outcome
     }
 
     /// Sets the extension, one of the message's type, to a value that suits it, over what it held. A refusal leaves the

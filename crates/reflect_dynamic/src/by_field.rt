@@ -1,6 +1,7 @@
 //! Fields by their descriptors.
 
 ghost use Rattle.std.specs.Prelude.{◌≡◌, ◌≢◌, ℕ, true, None, Some, IsTrue, IsSome, IfOk, IfSome, OnOk, OnErr};
+ghost use Rattle.std.specs.Option.{unwrap_or};
 ghost use Rattle.reflect_pool.specs.FieldsLeft.{field_type};
 ghost use Rattle.reflect_pool.specs.Shapes.{holds_list};
 ghost use Rattle.reflect_scalar.specs.FieldTypes.{field_pool};
@@ -10,7 +11,7 @@ ghost use Rattle.reflect_dynamic.specs.Held.{fields_of, choices_of, extensions_o
 ghost use Rattle.reflect_dynamic.specs.Lists.{Lengthens, KeepsList};
 ghost use Rattle.reflect_dynamic.specs.Oneofs.{IsExclusive, SetsField, sibling};
 ghost use Rattle.reflect_dynamic.specs.Present.{held_if_set, is_held};
-ghost use Rattle.reflect_dynamic.specs.Shown.{Shows};
+ghost use Rattle.reflect_dynamic.specs.Shown.{Shows, IsHeldOrDefault};
 ghost use Rattle.reflect_dynamic.specs.Spares.{Same};
 
 use crate::content;
@@ -38,7 +39,7 @@ impl<'p> DynamicMessage<'p> {
     /// What the field, one of the message's type, holds, or its default.
     pub fn get_field(&self, field: &FieldDescriptor<'p>) -> Result<FieldRef<'_, 'p>, AllocError>
         requires { Declares self.now.descriptor field.now }
-        ensures { IfOk result (Shows (value_at (fields_of self.now) (field_type field.now).number)) }
+        ensures { IfOk result (Shows (field_pool field.now) (field_type field.now) (value_at (fields_of self.now) (field_type field.now).number)) }
     {
         content::lend(self.allocator(), self.field_value(field.number()), field)
     }
@@ -50,9 +51,34 @@ impl<'p> DynamicMessage<'p> {
         field: &FieldDescriptor<'p>,
     ) -> Result<&mut Value<'p>, AllocError>
         requires { Declares self.old.descriptor field.now }
+        ensures { IfOk result (λ r. IsHeldOrDefault (field_pool field.now) (field_type field.now) (value_at (fields_of self.old) (field_type field.now).number) r.now) }
     {
         let default = default_of(self.allocator(), field)?;
-        self.parts_mut()?.field_slot(field, default)
+        self.fill_field(field, default)?;
+        match self.field_value_mut(field.number()) {
+            Some(value) => Ok(value),
+            None => unreachable!(),
+        }
+    }
+
+    /// Puts the default where the field, one of the message's type, holds nothing, and unsets the other members of its oneof:
+    /// what `get_field_mut` does before it lends the value. A refusal leaves the message.
+    fn fill_field(
+        &mut self,
+        field: &FieldDescriptor<'p>,
+        default: Value<'p>,
+    ) -> Result<(), AllocError>
+        ensures type_stays { self.new.descriptor ≡ self.old.descriptor }
+        ensures ok { OnOk result (SetsField self.old self.new field.now (unwrap_or (value_at (fields_of self.old) (field_type field.now).number) default.entry)) }
+        ensures exclusive { Owns self.old.descriptor field.now → IsExclusive self.old → IsExclusive self.new }
+        ensures err { OnErr result (fields_of self.new ≡ fields_of self.old) }
+        ensures extensions { extensions_of self.new ≡ extensions_of self.old }
+        ensures unknown { unknown_of self.new ≡ unknown_of self.old }
+    {
+        let mut parts = self.take_block()?;
+        let outcome = parts.fill_field(field, default);
+        self.put_block(parts);
+        outcome
     }
 
     /// Sets the field, one of the message's type, to a value that suits it, over what it held; the other members of its

@@ -1,6 +1,7 @@
 //! Fields by their numbers.
 
-ghost use Rattle.std.specs.Prelude.{◌≡◌, OnErr};
+ghost use Rattle.std.specs.Prelude.{◌≡◌, IsSome, IsTrue, OnErr};
+ghost use Rattle.reflect_entries.specs.Entries.{value_at};
 ghost use Rattle.reflect_dynamic.specs.Held.{fields_of};
 
 use crate::declared::declared_field;
@@ -12,7 +13,9 @@ use std::alloc::AllocError;
 
 impl<'p> DynamicMessage<'p> {
     /// The field of the number is set. Takes no memory.
-    pub fn has_field_by_number(&self, number: u32) -> bool {
+    pub fn has_field_by_number(&self, number: u32) -> bool
+        ensures { IsTrue result → IsSome (value_at (fields_of self.now) number) }
+    {
         match declared_field(self.descriptor, number) {
             Some(field) => self.has_field(&field),
             None => false,

@@ -31,7 +31,7 @@ pub fn lend<'m, 'p, F: FieldDescriptorLike<'p>>(
     held: Option<&'m Value<'p>>,
     field: &F,
 ) -> Result<FieldRef<'m, 'p>, AllocError>
-    ensures { IfOk result (Shows (option_copied held.entry)) }
+    ensures { IfOk result (Shows (F.pool field.now) (F.says field.now) (option_copied held.entry)) }
 {
     match held {
         Some(value) => Ok(FieldRef::Borrowed(value)),

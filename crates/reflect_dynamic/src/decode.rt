@@ -17,11 +17,12 @@ ghost use Rattle.reflect_scalar.specs.FieldTypes.{field_pool, either_pool, eithe
 ghost use Rattle.reflect_scalar.specs.Singles.{Single};
 ghost use Rattle.reflect_dynamic.specs.Contents.{content_of, content_in};
 ghost use Rattle.reflect_dynamic.specs.Elements.{Appends, ContinuesList};
-ghost use Rattle.reflect_dynamic.specs.Levels.{TakesAt, MergesAt};
+ghost use Rattle.reflect_dynamic.specs.Levels.{TakenAt, TakesAt, MergesAt};
 ghost use Rattle.reflect_dynamic.specs.Keeps.{payloads};
 ghost use Rattle.reflect_dynamic.specs.Maps.{ChangesPart, ContinuesMap, LeavesKey, LeavesValue, PutEntries, key_order};
 ghost use Rattle.reflect_dynamic.specs.Merging.{IsBody, IsRun, run_records};
 ghost use Rattle.reflect_dynamic.specs.Packed.{IsPacked, PackedFault, Continues};
+ghost use Rattle.reflect_dynamic.specs.Scalars.{IsMessageType};
 ghost use Rattle.reflect_dynamic.specs.Spares.{Same};
 ghost use Rattle.reflect_dynamic.specs.Taking.{Leaves};
 
@@ -252,7 +253,7 @@ fn merge_message<'p, 'b>(
     raw: RawRecord<'b>,
 ) -> Result<&'b [u8], WireError>
     ensures same_type { message.new.descriptor ≡ message.old.descriptor }
-    ensures read { IfOk result (λ rest. (p : Payload) × Fronts (IsValue raw.entry.levels raw.entry.key) raw.entry.bytes.now p rest.now × TakesAt raw.entry.levels message.old.descriptor (content_of message.old) (content_of message.new) (p ∷ [])) }
+    ensures read { IfOk result (λ rest. (p : Payload) × Fronts (IsValue raw.entry.levels raw.entry.key) raw.entry.bytes.now p rest.now × TakenAt raw.entry.levels message.old.descriptor (content_of message.old) (content_of message.new) (p ∷ [])) }
     ensures shorter { IfOk result (λ rest. length rest.now ≤ length raw.entry.bytes.now) }
 {
     match raw.key.wire {
@@ -412,6 +413,19 @@ fn put_entry<'p>(
     Ok(())
 }
 
+/// `TooDeep` where the field holds a message and no level may lie below.
+fn check_level(field: &FieldDescriptor<'_>, levels: u32) -> Result<(), WireError>
+    ensures { OnOk result (IsMessageType (field_type field.now).kind → 0 < levels) }
+{
+    if levels > 0 {
+        return Ok(());
+    }
+    match field.kind() {
+        Kind::Message(_) => Err(WireError::TooDeep),
+        _ => Ok(()),
+    }
+}
+
 /// The key and the value of a map's entry, which is at the level of the message that holds the map. What the entry does not
 /// set is the default, and its other records are dropped.
 ///
@@ -427,9 +441,7 @@ fn entry_of<'p>(
     requires nested { levels ≤ 100 }
     ensures read { IfOk result (λ e. (rs : List (ℕ × Payload)) × SpellsRecords levels body.now (records_of rs) × LeavesKey (field_pool keys.entry) (field_type keys.entry) e.0 (payloads 1 rs) × LeavesValue (TakesAt levels) (field_pool values.entry) (field_type values.entry) e.1 (payloads 2 rs)) }
 {
-    if levels == 0 && matches!(values.kind(), Kind::Message(_)) {
-        return Err(WireError::TooDeep);
-    }
+    check_level(&values, levels)?;
     let mut held_key = default_one(alloc, &keys)?;
     let mut value = default_one(alloc, &values)?;
     let mut rest = body;

@@ -4,6 +4,7 @@ ghost use Rattle.std.specs.Prelude.{◌≡◌, ◌||◌, not, true, None, Some, 
 ghost use Rattle.reflect_scalar.specs.Defaults.{default_in};
 ghost use Rattle.reflect_scalar.specs.Singles.{scalar_view};
 ghost use Rattle.reflect_dynamic.specs.Bytes.{form_of, is_default, is_set};
+ghost use Rattle.reflect_dynamic.specs.Defaults.{IsDefault};
 ghost use Rattle.reflect_dynamic.specs.Messages.{IsStart, message_in};
 ghost use Rattle.reflect_dynamic.specs.Scalars.{IsScalarType, IsMessageType};
 ghost use Rattle.reflect_dynamic.specs.Singles.{single};
@@ -36,7 +37,9 @@ pub fn default_one<'p, F: FieldDescriptorLike<'p>>(
 pub fn default_of<'p, F: FieldDescriptorLike<'p>>(
     alloc: Global,
     field: &F,
-) -> Result<Value<'p>, AllocError> {
+) -> Result<Value<'p>, AllocError>
+    ensures { IfOk result (IsDefault (F.pool field.now) (F.says field.now)) }
+{
     if field.is_map() {
         return Ok(Value::Map(BTreeMap::new(alloc)));
     }

@@ -2,7 +2,7 @@ ghost use Rattle.std.specs.Prelude.{◌≡◌, ℕ, List, [], ◌++◌, IfOk, If
 ghost use Rattle.reflect_wire.specs.Records.{Payload, SpellsRecords};
 ghost use Rattle.reflect_wire.specs.Views.{records_of};
 ghost use Rattle.reflect_wire.specs.declared.wire_error.WireError.TheVariants.{Memory};
-ghost use Rattle.std.specs.Option.{option_copied};
+ghost use Rattle.std.specs.Option.{option_copied, option_copied_mut};
 ghost use Rattle.reflect_entries.specs.Entries.{value_at};
 ghost use Rattle.reflect_dynamic.specs.EntriesLeft.{entries_left};
 ghost use Rattle.reflect_entries.specs.Undeclared.{undeclared};
@@ -189,12 +189,32 @@ impl<'p> DynamicMessage<'p> {
         }
     }
 
+    /// What stands under the number of a declared field, to be changed.
+    pub(crate) fn field_value_mut(&mut self, number: u32) -> Option<&mut Value<'p>>
+        ensures { option_copied_mut result ≡ value_at (fields_of self.old) number }
+    {
+        match &mut self.held {
+            Held::Block(parts) => parts.fields.get_mut(number),
+            Held::Nothing => None,
+        }
+    }
+
     /// What stands under the number of an extension.
     pub(crate) fn extension_value(&self, number: u32) -> Option<&Value<'p>>
         ensures { option_copied result ≡ value_at (extensions_of self.now) number }
     {
         match &self.held {
             Held::Block(parts) => parts.extensions.get(number),
+            Held::Nothing => None,
+        }
+    }
+
+    /// What stands under the number of an extension, to be changed.
+    pub(crate) fn extension_value_mut(&mut self, number: u32) -> Option<&mut Value<'p>>
+        ensures { option_copied_mut result ≡ value_at (extensions_of self.old) number }
+    {
+        match &mut self.held {
+            Held::Block(parts) => parts.extensions.get_mut(number),
             Held::Nothing => None,
         }
     }
@@ -259,17 +279,5 @@ impl<'p> DynamicMessage<'p> {
         ensures unknown { unknown_of self.new ≡ undeclared parts.entry.value.unknown }
     {
         self.held = Held::Block(parts);
-    }
-
-    /// What the message holds, to be changed. A refusal leaves the message.
-    ///
-    /// No contract says what the message is behind such a change: where one is to, the block is taken out and put back.
-    pub(crate) fn parts_mut(&mut self) -> Result<&mut Parts<'p>, AllocError> {
-        let block = self.take_block()?;
-        self.held = Held::Block(block);
-        match &mut self.held {
-            Held::Block(parts) => Ok(parts),
-            Held::Nothing => unreachable!(),
-        }
     }
 }

@@ -1,8 +1,8 @@
 //! What a message holds, apart from its type.
 
 ghost use Rattle.std.specs.Prelude.{◌≡◌, ◌≢◌, ℕ, [], true, Some, IfOk, OnOk, OnErr};
-ghost use Rattle.std.specs.Option.{IsSome};
-ghost use Rattle.reflect_entries.specs.Entries.{value_at};
+ghost use Rattle.std.specs.Option.{IsSome, unwrap_or};
+ghost use Rattle.reflect_entries.specs.Entries.{Updates, value_at};
 ghost use Rattle.reflect_entries.specs.Members.{first_member_of};
 ghost use Rattle.reflect_entries.specs.Undeclared.{undeclared};
 ghost use Rattle.reflect_dynamic.specs.Copies.{AreCopies};
@@ -94,17 +94,37 @@ impl<'p> Parts<'p> {
         })
     }
 
-    /// What the field holds, to be changed, with the other members of its oneof unset. Where it holds nothing, the default is
-    /// put. A refusal leaves what is held.
-    pub fn field_slot(
+    /// Puts the default where the field holds nothing, and unsets the other members of its oneof. A refusal leaves what is
+    /// held.
+    pub fn fill_field(
         &mut self,
         field: &FieldDescriptor<'p>,
         default: Value<'p>,
-    ) -> Result<&mut Value<'p>, AllocError> {
+    ) -> Result<(), AllocError>
+        ensures here { OnOk result (value_at self.new.fields (field_type field.now).number ≡ Some (unwrap_or (value_at self.old.fields (field_type field.now).number) default.entry)) }
+        ensures changes { OnOk result (Changes field.now self.old.choices.members self.old.fields self.new.fields) }
+        ensures chooses { OnOk result (Chooses field.now self.old.choices.members self.new.choices.members) }
+        ensures err { OnErr result (self.new.fields ≡ self.old.fields) }
+        ensures room { OnErr result (MakesRoom field.now self.old.choices.members self.new.choices.members) }
+        ensures extensions { self.new.extensions ≡ self.old.extensions }
+        ensures unknown { self.new.unknown ≡ self.old.unknown }
+    {
         self.choices.make_room(field)?;
-        self.fields.reserve(1)?;
+        self.fields.slot(field.number(), default)?;
         self.clear_siblings(field);
-        self.fields.slot(field.number(), default)
+        Ok(())
+    }
+
+    /// Puts the default where the extension of the number holds nothing. A refusal leaves what is held.
+    pub fn fill_extension(&mut self, number: u32, default: Value<'p>) -> Result<(), AllocError>
+        ensures updates { OnOk result (Updates self.old.extensions self.new.extensions number (Some (unwrap_or (value_at self.old.extensions number) default.entry))) }
+        ensures err { OnErr result (self.new.extensions ≡ self.old.extensions) }
+        ensures fields { self.new.fields ≡ self.old.fields }
+        ensures choices { self.new.choices ≡ self.old.choices }
+        ensures unknown { self.new.unknown ≡ self.old.unknown }
+    {
+        self.extensions.slot(number, default)?;
+        Ok(())
     }
 
     /// Sets the field over what it held, and unsets the other members of its oneof. A refusal leaves what is held.

@@ -1,6 +1,7 @@
 ghost use Rattle.std.specs.Prelude.{◌≡◌, Some, IfOk, IfSome, map, option_map};
 ghost use Rattle.reflect_scalar.specs.Keys.{key_view};
 ghost use Rattle.reflect_scalar.specs.Singles.{scalar_view};
+ghost use Rattle.reflect_dynamic.specs.MapKeys.{key_of_value, value_of_key};
 ghost use Rattle.reflect_dynamic.specs.Trees.{tree};
 ghost use Rattle.reflect_dynamic.specs.Singles.{single};
 
@@ -71,7 +72,9 @@ impl<'p> Value<'p> {
 
     /// The value as a key of a map, if it can be one.
     pub fn into_map_key(self) -> Option<MapKey>
-        ensures { IfSome result (λ key. single self.entry ≡ Some (key_view key)) }
+        ensures key { result ≡ key_of_value self.entry }
+        ensures same { IfSome result (λ key. self.entry ≡ value_of_key key) }
+        ensures single { IfSome result (λ key. single self.entry ≡ Some (key_view key)) }
     {
         match self {
             Value::Bool(truth) => Some(MapKey::Bool(truth)),
@@ -128,6 +131,11 @@ fn map_clone<'p>(
 }
 
 impl<'p> From<MapKey> for Value<'p> {
+    ghost use Rattle.std.specs.Prelude.{◌≡◌, Some};
+    ghost use Rattle.reflect_dynamic.specs.MapKeys.{key_of_value, value_of_key};
+
+    ghost from_gives = { λ key v. (v ≡ value_of_key key) × (key_of_value v ≡ Some key) };
+
     fn from(key: MapKey) -> Value<'p> {
         match key {
             MapKey::Bool(truth) => Value::Bool(truth),

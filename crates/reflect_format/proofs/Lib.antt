@@ -1,1 +1,3 @@
+pub mod Among
+pub mod Stepping
 pub mod Telling

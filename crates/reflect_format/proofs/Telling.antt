@@ -7,7 +7,7 @@ use Rattle.reflect_pool.specs.declared.kind.Kind.{Kind}
 use Rattle.reflect_pool.specs.declared.kind.Kind.TheVariants as values
 use Rattle.reflect_index.specs.Types.{PoolType}
 use Rattle.reflect_format.specs.Lacks.{LacksField, LacksGroup, LacksExtension, HasFloatField, HasFloatExtension}
-use Rattle.reflect_format.specs.Refusals.{is_of_text, RefusesExtension, RefusesField, RefusesScalar, RefusesSecond, RefusesValue, TellsFloatField, Shares, TellsOneof}
+use Rattle.reflect_format.specs.Refusals.{is_of_text, RefusesExtension, RefusesField, RefusesScalar, RefusesSecond, RefusesValue, TellsFloatField, Shares, HoldsMember, TellsOneof}
 use Rattle.reflect_pool.specs.declared.oneof.OneofDescriptor.{OneofDescriptor}
 use Rattle.reflect_format.specs.Takes.{holds_many, target_pool}
 use Rattle.reflect_format.specs.declared.target.Target.{Target}
@@ -50,19 +50,20 @@ text_true pool (kinds.EnumValueNotFound value enumeration span) h = absurd (cc h
 text_true pool (kinds.FloatField field message span) h = absurd (cc h)
 text_true pool (kinds.FieldAlreadySet field span) h = absurd (cc h)
 text_true pool (kinds.OneofAlreadySet oneof span) h = absurd (cc h)
+text_true pool (kinds.InvalidTypeForAny span) h = absurd (cc h)
 text_true pool kinds.InvalidMapKey h = absurd (cc h)
 text_true pool (kinds.TooLong span) h = absurd (cc h)
 text_true pool _ h = tt
 
--- a oneof is told that has the field for a member
-pub oneof_told : (m : DynamicMessage) (t : Target) (o : OneofDescriptor) (k : ParseErrorKind) → Shares t o → TellsOneof o k → RefusesSecond m t k
-oneof_told m t o (kinds.OneofAlreadySet oneof span) shares told = (o, shares, told)
-oneof_told m t o _ shares told = absurd told
+-- a oneof is told that has the field for a member, and one of whose members is held
+pub oneof_told : (m : DynamicMessage) (t : Target) (o : OneofDescriptor) (k : ParseErrorKind) → Shares t o → HoldsMember m o → TellsOneof o k → RefusesSecond m t k
+oneof_told m t o (kinds.OneofAlreadySet oneof span) shares holds told = (o, shares, holds, told)
+oneof_told m t o _ shares holds told = absurd told
 
 -- a refusal of a second value is true of the pool that the message's type stands in
 pub second_true : (m : DynamicMessage) (t : Target) (k : ParseErrorKind) → target_pool t ≡ m.descriptor.pool.now → holds_many t ≡ false → RefusesSecond m t k → TrueOf m.descriptor.pool.now k
 second_true m t (kinds.FieldAlreadySet field span) pool one h = (t, pool, one, h.1)
-second_true m t (kinds.OneofAlreadySet oneof span) pool one h = (t, pool, one, h.0, h.1, h.2)
+second_true m t (kinds.OneofAlreadySet oneof span) pool one h = (t, pool, one, h.0, h.1, h.3)
 second_true m t kinds.Memory pool one h = tt
 second_true m t _ pool one h = absurd h
 

@@ -1,14 +1,15 @@
 -- What the refusals of names tell of the types.
 use Rattle.std.specs.Prelude.{◌≡◌, ◌⊎◌, Bool, true, false, ℕ, List, None, Some, IsSome, string_bytes}
+use Rattle.std.specs.List.{Any}
 use Rattle.reflect_index.specs.Finding.{IsFirst}
-use Rattle.reflect_index.specs.Types.{type_at, enum_at, extension_at}
+use Rattle.reflect_index.specs.Types.{FieldType, type_at, enum_at, extension_at}
 use Rattle.reflect_pool.specs.FieldsLeft.{field_type}
 use Rattle.reflect_pool.specs.declared.enums.EnumDescriptor.{EnumDescriptor}
 use Rattle.reflect_pool.specs.declared.message.MessageDescriptor.{MessageDescriptor}
 use Rattle.reflect_pool.specs.declared.kind.Kind.{Kind}
 use Rattle.reflect_pool.specs.declared.kind.Kind.TheVariants as values
 use Rattle.reflect_pool.specs.declared.oneof.OneofDescriptor.{OneofDescriptor}
-use Rattle.reflect_pool.specs.Parts.{type_of_oneof}
+use Rattle.reflect_pool.specs.Parts.{members_of, type_of_oneof}
 use Rattle.reflect_scalar.specs.FieldTypes.{extension_type}
 use Rattle.reflect_entries.specs.Entries.{value_at}
 use Rattle.reflect_dynamic.specs.Held.{fields_of, extensions_of}
@@ -113,10 +114,19 @@ abbrev pub Holds : DynamicMessage → Target → Type 0
 Holds m (targets.Field f) = IsSome (value_at (fields_of m) (field_type f).number)
 Holds m (targets.Extension x) = IsSome (value_at (extensions_of m) (extension_type x).number)
 
--- A refusal of a second value: the message holds one of what is told; or a oneof is told that has the field for a member, or memory ran out.
+-- the message holds a value of some of the fields
+abbrev pub HoldsAmong : DynamicMessage → List FieldType → Type 0
+HoldsAmong m fs = Any (λ f. IsSome (value_at (fields_of m) f.number)) fs
+
+-- and of some member of the oneof
+abbrev pub HoldsMember : DynamicMessage → OneofDescriptor → Type 0
+HoldsMember m o = HoldsAmong m (members_of o.message.pool.now o.message.index o.index)
+
+-- A refusal of a second value: the message holds one of what is told; or a oneof is told that has the field for a member, and of which the
+-- message holds one; or memory ran out.
 abbrev pub RefusesSecond : DynamicMessage → Target → ParseErrorKind → Type 0
 RefusesSecond m t (kinds.FieldAlreadySet field span) = Holds m t × IsTextName t (string_bytes field)
-RefusesSecond m t (kinds.OneofAlreadySet oneof span) = (o : OneofDescriptor) × Shares t o × TellsOneof o (kinds.OneofAlreadySet oneof span)
+RefusesSecond m t (kinds.OneofAlreadySet oneof span) = (o : OneofDescriptor) × Shares t o × HoldsMember m o × TellsOneof o (kinds.OneofAlreadySet oneof span)
 RefusesSecond m t kinds.Memory = Unit {0}
 RefusesSecond m t _ = ⊥
 

@@ -7,6 +7,7 @@ use Rattle.reflect_pool.specs.declared.enums.EnumDescriptor.{EnumDescriptor}
 use Rattle.reflect_pool.specs.declared.message.MessageDescriptor.{MessageDescriptor}
 use Rattle.reflect_pool.specs.declared.kind.Kind.{Kind}
 use Rattle.reflect_pool.specs.declared.kind.Kind.TheVariants as values
+use Rattle.reflect_print.specs.Any.{IsAny}
 use Rattle.reflect_format.specs.Lacks.{LacksField, LacksGroup, LacksExtension, HasFloatField, HasFloatExtension}
 use Rattle.reflect_format.specs.Refusals.{is_of_text, IsTextName, Shares, TellsOneof}
 use Rattle.reflect_format.specs.Takes.{holds_many, target_pool}
@@ -29,8 +30,9 @@ HasFloats m name = HasFloatField m name ⊎ HasFloatExtension m name
 
 -- What a refusal says of a pool is so: a field, an extension or a value is called unknown where the type that is told has none of the
 -- name, a message type where no type of the pool has the name, and floating-point numbers are told where a field holds them. A
--- field or extension that is told to be set is one of the pool that holds one value, and so is a member of a oneof that is told. The other
--- refusals say nothing of types. A map's key is never refused, and no message is too long.
+-- field or extension that is told to be set is one of the pool that holds one value, and so is a member of a oneof that is told. A type that
+-- is told not to keep a message of any type is one of the pool that does not. The other refusals say nothing of types. A map's key is never
+-- refused, and no message is too long.
 abbrev pub TrueOf : PoolType → ParseErrorKind → Type 0
 TrueOf pool (kinds.FieldNotFound field message span) = (m : MessageDescriptor) × IsType pool m (string_bytes message) × LacksField m (string_bytes field) × LacksGroup m (string_bytes field)
 TrueOf pool (kinds.ExtensionNotFound extension message span) = (m : MessageDescriptor) × IsType pool m (string_bytes message) × LacksExtension m (string_bytes extension)
@@ -40,6 +42,7 @@ TrueOf pool (kinds.EnumValueNotFound value enumeration span) =
 TrueOf pool (kinds.FloatField field message span) = (m : MessageDescriptor) × IsType pool m (string_bytes message) × HasFloats m (string_bytes field)
 TrueOf pool (kinds.FieldAlreadySet field span) = (t : Target) × (target_pool t ≡ pool) × (holds_many t ≡ false) × IsTextName t (string_bytes field)
 TrueOf pool (kinds.OneofAlreadySet oneof span) = (t : Target) × (target_pool t ≡ pool) × (holds_many t ≡ false) × (o : OneofDescriptor) × Shares t o × TellsOneof o (kinds.OneofAlreadySet oneof span)
+TrueOf pool (kinds.InvalidTypeForAny span) = (m : MessageDescriptor) × (m.pool.now ≡ pool) × (IsAny m → ⊥)
 TrueOf pool kinds.InvalidMapKey = ⊥
 TrueOf pool (kinds.TooLong span) = ⊥
 TrueOf pool _ = Unit {0}

@@ -1,10 +1,11 @@
 //! From text to a message.
 
 ghost use Rattle.reflect_format.specs.Left.{left};
+ghost use Rattle.reflect_format.specs.Steps.{Reaches, Refuses, Step, Stops, is_set};
 ghost use Rattle.reflect_format.specs.Takes.{Takes};
 ghost use Rattle.reflect_format.specs.Refusals.{RefusesScalar, RefusesSecond};
 ghost use Rattle.reflect_format.specs.Truth.{TrueFor, TrueOf};
-ghost use Rattle.std.specs.Prelude.{◌≡◌, ◌<◌, IfErr, IfOk, OnOk};
+ghost use Rattle.std.specs.Prelude.{◌≡◌, ◌<◌, IfErr, IfOk, OnOk, false};
 
 use crate::error::{ParseError, ParseErrorKind};
 use crate::fault::{already_set, oneof_already_set, unknown_message};
@@ -42,8 +43,13 @@ impl<'a> Parser<'a> {
     pub fn parse_message(&mut self, message: &mut DynamicMessage<'_>) -> Result<(), ParseError>
         ensures type_stays { message.new.descriptor ≡ message.old.descriptor }
         ensures refused { IfErr result (λ e. TrueOf message.old.descriptor.pool.now e.kind) }
+        ensures reached { OnOk result (Reaches message.old message.new) }
+        ensures stops { IfErr result (λ e. Stops e.kind message.old message.new) }
     {
-        fields_to_end(&mut self.tokens, message).map_err(ParseError::new)
+        match fields_to_end(&mut self.tokens, message) {
+            Ok(()) => Ok(()),
+            Err(kind) => Err(ParseError::new(kind)),
+        }
     }
 }
 
@@ -53,6 +59,8 @@ fn fields_to_end(
 ) -> Result<(), ParseErrorKind>
     ensures type_stays { message.new.descriptor ≡ message.old.descriptor }
     ensures refused { IfErr result (TrueOf message.old.descriptor.pool.now) }
+    ensures reached { OnOk result (Reaches message.old message.new) }
+    ensures stops { IfErr result (λ kind. Stops kind message.old message.new) }
 {
     'fields: while !tokens.is_empty() {
         field(tokens, message, MAX_BRACES)?;
@@ -70,6 +78,8 @@ fn field(
     ensures taken { OnOk result (left tokens.new < left tokens.old) }
     ensures type_stays { message.new.descriptor ≡ message.old.descriptor }
     ensures refused { IfErr result (TrueOf message.old.descriptor.pool.now) }
+    ensures step { OnOk result (Step message.old message.new) }
+    ensures stays { IfErr result (λ kind. Refuses kind message.old message.new) }
 {
     let (name, span) = tokens.name()?;
     tokens.separator()?;
@@ -103,6 +113,8 @@ fn assignment<'p>(
     ensures taken { OnOk result (left tokens.new < left tokens.old) }
     ensures type_stays { message.new.descriptor ≡ message.old.descriptor }
     ensures refused { IfErr result (TrueOf message.old.descriptor.pool.now) }
+    ensures step { OnOk result (Step message.old message.new) }
+    ensures stays { IfErr result (λ kind. Refuses kind message.old message.new) }
 {
     if target.holds_many() {
         let values = values(tokens, target.kind(), braces)?;
@@ -121,7 +133,8 @@ fn refuse_second<'p>(
     span: Span,
 ) -> Result<(), ParseErrorKind>
     requires { Takes message.now.descriptor target }
-    ensures { IfErr result (RefusesSecond message.now target.entry) }
+    ensures refused { IfErr result (RefusesSecond message.now target.entry) }
+    ensures none { OnOk result (is_set message.now target.entry ≡ false) }
 {
     if target.is_set(message) {
         return Err(already_set(alloc, target.text_name(), span)?);
@@ -171,6 +184,8 @@ fn expansion(
     ensures taken { OnOk result (left tokens.new < left tokens.old) }
     ensures type_stays { message.new.descriptor ≡ message.old.descriptor }
     ensures refused { IfErr result (TrueOf message.old.descriptor.pool.now) }
+    ensures step { OnOk result (Step message.old message.new) }
+    ensures stays { IfErr result (λ kind. Refuses kind message.old message.new) }
 {
     let descriptor = message.descriptor();
     let known = descriptor
@@ -193,6 +208,8 @@ fn hold(
 ) -> Result<(), ParseErrorKind>
     ensures type_stays { message.new.descriptor ≡ message.old.descriptor }
     ensures refused { IfErr result (TrueOf message.old.descriptor.pool.now) }
+    ensures step { OnOk result (Step message.old message.new) }
+    ensures stays { IfErr result (λ kind. Refuses kind message.old message.new) }
 {
     let Some(fields) = any_fields(message.descriptor()) else {
         return Err(ParseErrorKind::InvalidTypeForAny { span });

@@ -1,10 +1,11 @@
 //! Fields and extensions alike, as a text sets them.
 
-ghost use Rattle.std.specs.Prelude.{◌≡◌, IfErr, IfNone, IfOk, IfSome, IsTrue, string_bytes};
+ghost use Rattle.std.specs.Prelude.{◌≡◌, IfErr, IfNone, IfOk, IfSome, IsTrue, OnErr, OnOk, string_bytes};
 ghost use Rattle.reflect_pool.specs.FieldsLeft.{field_type};
 ghost use Rattle.reflect_pool.specs.Kinds.{IsKind};
 ghost use Rattle.reflect_format.specs.Lacks.{IsGroupCalled, LacksField, LacksGroup};
-ghost use Rattle.reflect_format.specs.Refusals.{Holds, IsTextName, RefusesExtension, RefusesField, Shares};
+ghost use Rattle.reflect_format.specs.Refusals.{Holds, HoldsMember, IsTextName, RefusesExtension, RefusesField, Shares};
+ghost use Rattle.reflect_format.specs.Steps.{Adds, AddsPart, Puts, Stays, is_set};
 ghost use Rattle.reflect_format.specs.Takes.{Takes, holds_many, target_pool, target_type};
 
 use crate::error::ParseErrorKind;
@@ -101,7 +102,8 @@ impl<'p> Target<'p> {
     /// The message holds a value of it.
     pub fn is_set(&self, message: &DynamicMessage<'p>) -> bool
         requires { Takes message.now.descriptor self.now }
-        ensures { IsTrue result → Holds message.now self.now }
+        ensures held { IsTrue result → Holds message.now self.now }
+        ensures set { result ≡ is_set message.now self.now }
     {
         match self {
             Target::Field(field) => message.has_field(field),
@@ -111,13 +113,13 @@ impl<'p> Target<'p> {
 
     /// The oneof that it shares with a field which the message holds a value of.
     pub fn rival(&self, message: &DynamicMessage<'p>) -> Option<OneofDescriptor<'p>>
-        ensures { IfSome result (Shares self.now) }
+        ensures { IfSome result (λ oneof. Shares self.now oneof × HoldsMember message.now oneof) }
     {
         let Target::Field(field) = self else {
             return None;
         };
         let oneof = field.containing_oneof()?;
-        for member in oneof.fields() {
+        'members: for member in oneof.fields() {
             if message.has_field_by_number(member.number()) {
                 return Some(oneof);
             }
@@ -125,10 +127,12 @@ impl<'p> Target<'p> {
         None
     }
 
-    /// Sets it to a value of its kind.
+    /// Sets it to a value of its kind. A refusal leaves what the message holds.
     pub fn set(&self, message: &mut DynamicMessage<'p>, value: Value<'p>) -> Result<(), AllocError>
         requires { Takes message.old.descriptor self.now }
-        ensures { message.new.descriptor ≡ message.old.descriptor }
+        ensures type_stays { message.new.descriptor ≡ message.old.descriptor }
+        ensures ok { OnOk result (Puts self.now value.entry message.old message.new) }
+        ensures left { OnErr result (Stays message.old message.new) }
     {
         match self {
             Target::Field(field) => message.set_field(field, value),
@@ -136,14 +140,17 @@ impl<'p> Target<'p> {
         }
     }
 
-    /// Puts values of its kind behind those of a list, or the entries that they are into a map.
+    /// Puts values of its kind behind those of a list, or the entries that they are into a map. A refusal leaves the values of a
+    /// list, and of a map perhaps some of the entries more.
     pub fn add(
         &self,
         message: &mut DynamicMessage<'p>,
         values: Vec<Value<'p>>,
     ) -> Result<(), AllocError>
         requires { Takes message.old.descriptor self.now }
-        ensures { message.new.descriptor ≡ message.old.descriptor }
+        ensures type_stays { message.new.descriptor ≡ message.old.descriptor }
+        ensures ok { OnOk result (Adds self.now values.entry.items message.old message.new) }
+        ensures left { OnErr result (AddsPart self.now message.old message.new) }
     {
         match self {
             Target::Field(field) => message.extend_field(field, values),

@@ -1,4 +1,5 @@
-ghost use Rattle.std.specs.Prelude.{◌≡◌, IfErr, IfOk};
+ghost use Rattle.std.specs.Prelude.{◌≡◌, IfErr, IfOk, OnOk};
+ghost use Rattle.reflect_format.specs.Steps.{Reaches, Stops};
 ghost use Rattle.reflect_format.specs.Truth.{TrueOf};
 
 use crate::error::ParseError;
@@ -10,10 +11,10 @@ use std::alloc::Global;
 
 /// Messages as text, in protobuf's text format (protobuf.dev, "Text Format Language Specification").
 pub trait TextFormat<'p>: Sized {
-    ghost use Rattle.reflect_pool.specs.declared.message.MessageDescriptor.{MessageDescriptor};
+    ghost use Rattle.reflect_dynamic.specs.declared.message.DynamicMessage.{DynamicMessage};
 
-    /// The type of the message.
-    ghost message_type: { Self → MessageDescriptor };
+    /// The message that it is.
+    ghost message: { Self → DynamicMessage };
 
     /// The message of a type that a text spells. Refused with the first fault of the text, as `merge_text_format` is.
     fn parse_text_format(
@@ -21,7 +22,7 @@ pub trait TextFormat<'p>: Sized {
         descriptor: MessageDescriptor<'p>,
         text: &str,
     ) -> Result<Self, ParseError>
-        ensures same_type { IfOk result (λ m. message_type m ≡ descriptor.entry) }
+        ensures same_type { IfOk result (λ m. (message m).descriptor ≡ descriptor.entry) }
         ensures refused { IfErr result (λ e. TrueOf descriptor.entry.pool.now e.kind) };
 
     /// Reads a text into the message. The first fault ends it; the message then has the fields at the top that were read
@@ -29,8 +30,10 @@ pub trait TextFormat<'p>: Sized {
     ///
     /// A name is called unknown only where its type, its enum or the pool has none such.
     fn merge_text_format(&mut self, alloc: Global, text: &str) -> Result<(), ParseError>
-        ensures type_stays { message_type self.new ≡ message_type self.old }
-        ensures refused { IfErr result (λ e. TrueOf (message_type self.old).pool.now e.kind) };
+        ensures type_stays { (message self.new).descriptor ≡ (message self.old).descriptor }
+        ensures refused { IfErr result (λ e. TrueOf (message self.old).descriptor.pool.now e.kind) }
+        ensures reached { OnOk result (Reaches (message self.old) (message self.new)) }
+        ensures stops { IfErr result (λ e. Stops e.kind (message self.old) (message self.new)) };
 
     /// The message's text in the form of [`FormatOptions::new`].
     fn to_text_format(&self, alloc: Global) -> Result<String, WriteError>;
@@ -44,7 +47,7 @@ pub trait TextFormat<'p>: Sized {
 }
 
 impl<'p> TextFormat<'p> for DynamicMessage<'p> {
-    ghost message_type = { λ m. m.descriptor };
+    ghost message = { λ m. m };
 
     fn parse_text_format(
         alloc: Global,

@@ -1,2 +1,3 @@
+pub mod Any
 pub mod Appends
 pub mod Pieces

@@ -1,5 +1,9 @@
 -- Which refusals the calls of a schema give.
-use Rattle.std.specs.Prelude.{◌≡◌, ℕ, List, None, Some, IfSome, length, string_bytes}
+use Rattle.std.specs.Prelude.{◌≡◌, ℕ, List, None, Some, IfSome, map, length, option_map, slice_get, string_bytes, codes}
+use Rattle.std.specs.Borrow.{Bor}
+use Rattle.protox_parse.specs.Refusals.{IsRefusalOf}
+use Rattle.protox_parse.specs.declared.error.ParseError.{ParseError}
+use Rattle.protox_parse.specs.declared.error.ParseError.TheVariants as parsed
 use Rattle.reflect_index.specs.Finding.{IsFirst}
 use Rattle.reflect_index.specs.Types.{PoolType, IsSettled}
 use Rattle.descriptor_records.specs.declared.file.FileDescriptorProto.{FileDescriptorProto}
@@ -9,10 +13,16 @@ use Rattle.reflect_pool.specs.Refusals.{FaultyFiles}
 use Rattle.reflect_wire.specs.declared.wire_error.WireError.{WireError}
 use Rattle.reflect_wire.specs.declared.wire_error.WireError.TheVariants as wire
 use Rattle.reflect_bytes.specs.Spelled.{SpellsSet, RecordsLinked}
+use Rattle.reflect_format.specs.Truth.{TrueOf}
 use Rattle.reflect_text.specs.Places.{option_place, StandsFrom}
 use Rattle.reflect_text.specs.TypedOptions.{TypedFiles}
 use Rattle.reflect_schema.specs.declared.error.SchemaError.{SchemaError}
 use Rattle.reflect_schema.specs.declared.error.SchemaError.TheVariants.{Parse, Link, Options, Wire, Text, UnknownType, Memory, TooLong}
+
+-- a refusal of a source, as one of the schema
+abbrev pub of_source : ParseError → SchemaError
+of_source parsed.Memory = Memory
+of_source e = Parse e
 
 -- a refusal of wire bytes, as one of the schema
 abbrev pub of_wire : WireError → SchemaError
@@ -42,10 +52,10 @@ BytesRefused p name TooLong = IsKnown p name
 BytesRefused p name Memory = Unit {0}
 BytesRefused p name _ = ⊥
 
--- of a text: the type is unknown, or it is known and the text is refused
+-- of a text: the type is unknown, or it is known and the text is refused with a fault that is true of the pool
 abbrev pub TextRefused : PoolType → List ℕ → SchemaError → Type 0
 TextRefused p name (UnknownType n) = (string_bytes n ≡ name) × IsUnknown p name
-TextRefused p name (Text e) = IsKnown p name
+TextRefused p name (Text e) = IsKnown p name × TrueOf p e.kind
 TextRefused p name TooLong = IsKnown p name
 TextRefused p name Memory = Unit {0}
 TextRefused p name _ = ⊥
@@ -65,17 +75,29 @@ FilesRefused p files (Options e) = (new : PoolType) × FilesFit p files new × I
 FilesRefused p files Memory = Unit {0}
 FilesRefused p files _ = ⊥
 
--- sources are added as some files
-abbrev pub SourcesLinked : PoolType → PoolType → Type 0
-SourcesLinked p new = (files : List FileDescriptorProto) × FilesLinked p files new
+-- the name under which the types of options are known
+abbrev pub descriptor_name : List ℕ
+descriptor_name = codes "google/protobuf/descriptor.proto"
 
--- of sources: one is no file, or the files are refused
-abbrev pub SourcesRefused : PoolType → SchemaError → Type 0
-SourcesRefused p (Parse e) = Unit {0}
-SourcesRefused p (Link e) = (files : List FileDescriptorProto) × FilesRefused p files (Link e)
-SourcesRefused p (Options e) = (files : List FileDescriptorProto) × FilesRefused p files (Options e)
-SourcesRefused p Memory = Unit {0}
-SourcesRefused p _ = ⊥
+-- sources as the names of their files and their texts
+abbrev pub sources_of : List (Bor (List ℕ) × Bor (List ℕ)) → List (List ℕ × List ℕ)
+sources_of sources = map (λ s. (s.0.now, s.1.now)) sources
+
+-- files, one of each source and in their order, have the names of the sources
+abbrev pub AreFilesOf : List (List ℕ × List ℕ) → List FileDescriptorProto → Type 0
+AreFilesOf sources files = map (λ f. option_map string_bytes f.name) files ≡ map (λ s. Some s.0) sources
+
+-- sources are added as such files
+abbrev pub SourcesLinked : PoolType → List (List ℕ × List ℕ) → PoolType → Type 0
+SourcesLinked p sources new = (files : List FileDescriptorProto) × AreFilesOf sources files × FilesLinked p files new
+
+-- of sources: one of them is refused under its own name and where its own text is at fault, or such files are refused
+abbrev pub SourcesRefused : PoolType → List (List ℕ × List ℕ) → SchemaError → Type 0
+SourcesRefused p sources (Parse e) = (i : ℕ) × (s : List ℕ × List ℕ) × (slice_get sources i ≡ Some s) × IsRefusalOf s.0 s.1 e
+SourcesRefused p sources (Link e) = (files : List FileDescriptorProto) × AreFilesOf sources files × FilesRefused p files (Link e)
+SourcesRefused p sources (Options e) = (files : List FileDescriptorProto) × AreFilesOf sources files × FilesRefused p files (Options e)
+SourcesRefused p sources Memory = Unit {0}
+SourcesRefused p sources _ = ⊥
 
 -- bytes are those of a descriptor set whose files are added
 abbrev pub SetLinked : PoolType → List ℕ → PoolType → Type 0

@@ -1,4 +1,4 @@
-ghost use Rattle.std.specs.Prelude.{◌≡◌, ◌⊎◌};
+ghost use Rattle.std.specs.Prelude.{◌≡◌, ◌⊎◌, option_map};
 
 use protox_parse::ParseError as SourceError;
 use reflect_link::DescriptorError;
@@ -30,11 +30,11 @@ pub enum SchemaError {
 }
 
 impl SchemaError {
-    ghost use Rattle.reflect_schema.specs.Places.{NamesFile, NamesPosition};
+    ghost use Rattle.reflect_schema.specs.Places.{told_file, told_position};
 
     /// The name of the file that is refused.
     pub fn file(&self) -> Option<&str>
-        ensures { NamesFile self.now result }
+        ensures { option_map (λ f. f.now) result ≡ told_file self.now }
     {
         match self {
             SchemaError::Parse(error) => Some(error.file()),
@@ -44,9 +44,9 @@ impl SchemaError {
         }
     }
 
-    /// Line and column, both from 1 and the column in bytes, where they are known.
+    /// Line and column of the first fault, both from 1 and the column in bytes, where they are known.
     pub fn position(&self) -> Option<(usize, usize)>
-        ensures { NamesPosition self.now result }
+        ensures { result ≡ told_position self.now }
     {
         let (line, column) = match self {
             SchemaError::Parse(error) => {
@@ -118,9 +118,9 @@ impl<T: Drop> From<AllocFailed<T>> for SchemaError {
 }
 
 impl From<SourceError> for SchemaError {
-    ghost use Rattle.reflect_schema.specs.declared.error.SchemaError.TheVariants.{Memory, Parse};
+    ghost use Rattle.reflect_schema.specs.Refusals.{of_source};
 
-    ghost from_gives = { λ error e. (e ≡ Memory) ⊎ (e ≡ Parse error) };
+    ghost from_gives = { λ error e. e ≡ of_source error };
 
     fn from(error: SourceError) -> SchemaError {
         match error {

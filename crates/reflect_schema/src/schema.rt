@@ -1,4 +1,4 @@
-ghost use Rattle.std.specs.Prelude.{◌≡◌, Some, OnOk, OnErr, IfOk, IfErr};
+ghost use Rattle.std.specs.Prelude.{◌≡◌, ◌∷◌, [], Some, OnOk, OnErr, IfOk, IfErr};
 
 use crate::error::SchemaError;
 use descriptor_records::FileDescriptorProto;
@@ -28,7 +28,7 @@ impl Schema {
     ghost use Rattle.reflect_pool.specs.Linked.{empty_pool};
     ghost use Rattle.reflect_bytes.specs.Written.{pool_bytes};
     ghost use Rattle.reflect_schema.specs.declared.error.SchemaError.TheVariants.{Memory};
-    ghost use Rattle.reflect_schema.specs.Refusals.{TypeRefused, BytesRefused, TextRefused, FilesLinked, FilesRefused, SourcesLinked, SourcesRefused, SetLinked, SetRefused};
+    ghost use Rattle.reflect_schema.specs.Refusals.{TypeRefused, BytesRefused, TextRefused, FilesLinked, FilesRefused, SourcesLinked, SourcesRefused, SetLinked, SetRefused, descriptor_name, sources_of};
 
     /// A schema without files. Takes no memory.
     pub fn bare(alloc: Global) -> Schema
@@ -44,8 +44,8 @@ impl Schema {
     ///
     /// Refused as `add_sources` is, and as `Options` where not all of the nine types are there and can be read by.
     pub fn new(alloc: Global, descriptor_source: &str) -> Result<Schema, SchemaError>
-        ensures linked { IfOk result (λ s. SourcesLinked empty_pool s.pool) }
-        ensures err { IfErr result (SourcesRefused empty_pool) }
+        ensures linked { IfOk result (λ s. SourcesLinked empty_pool ((descriptor_name, descriptor_source.now) ∷ []) s.pool) }
+        ensures err { IfErr result (SourcesRefused empty_pool ((descriptor_name, descriptor_source.now) ∷ [])) }
     {
         let mut schema = Schema::bare(alloc);
         schema.add_sources(&[(DESCRIPTOR_NAME, descriptor_source)])?;
@@ -74,14 +74,15 @@ impl Schema {
 
     /// Adds protobuf sources, each a file's name and its text, as one batch.
     ///
-    /// They are parsed in order, and the first that is refused ends it (`Parse`). Those whose names the schema has are passed
-    /// over; the others are linked with each other and with those that are there (`Link`, with all faults of the first pass
-    /// that found one), and their options are read by the types that the schema has for them (`Options`, with the first fault).
+    /// They are parsed in order, and the first that is refused ends it (`Parse`, with that file's name and the place of the first
+    /// fault in its text). Those whose names the schema has are passed over; the others are linked with each other and with those
+    /// that are there (`Link`, with all faults of the first pass that found one), and their options are read by the types that
+    /// the schema has for them (`Options`, with the first fault).
     /// Any refusal leaves the schema as it was.
     pub fn add_sources(&mut self, sources: &[(&str, &str)]) -> Result<(), SchemaError>
         ensures unchanged { OnErr result (self.new.pool ≡ self.old.pool) }
-        ensures linked { OnOk result (SourcesLinked self.old.pool self.new.pool) }
-        ensures err { IfErr result (SourcesRefused self.old.pool) }
+        ensures linked { OnOk result (SourcesLinked self.old.pool (sources_of sources.now) self.new.pool) }
+        ensures err { IfErr result (SourcesRefused self.old.pool (sources_of sources.now)) }
     {
         let mut files = Vec::new(self.alloc);
         for source in sources {
@@ -131,6 +132,7 @@ impl Schema {
 
     /// The message type of a name.
     fn message_type(&self, type_name: &str) -> Result<MessageDescriptor<'_>, SchemaError>
+        ensures pool { IfOk result (λ d. d.pool.now ≡ self.now.pool) }
         ensures ok { IfOk result (λ d. FindsMessage self.now.pool type_name.now (Some d)) }
         ensures err { IfErr result (TypeRefused self.now.pool type_name.now) }
     {

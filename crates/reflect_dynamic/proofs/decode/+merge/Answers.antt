@@ -9,19 +9,20 @@ use Rattle.reflect_pool.specs.Kinds.{IsKind}
 use Rattle.reflect_scalar.specs.FieldTypes.{field_pool, either_pool, either_type}
 use Rattle.reflect_scalar.specs.Kinds.{packs, wire_type}
 use Rattle.reflect_scalar.specs.Singles.{scalar_view}
-use Rattle.reflect_dynamic.specs.Keeps.{payloads}
+use Rattle.reflect_dynamic.specs.Contents.{content_of, content_in}
 use Rattle.reflect_dynamic.specs.Levels.{TakesAt}
-use Rattle.reflect_dynamic.specs.Maps.{LeavesSingle, map_entries}
+use Rattle.reflect_dynamic.specs.Maps.{map_entries}
 use Rattle.reflect_dynamic.specs.Messages.{message_in}
 use Rattle.reflect_dynamic.specs.Merging.{IsBody, run_records}
 use Rattle.reflect_dynamic.specs.declared.value.Value.{Message, the_lemmas}
 use Rattle.reflect_dynamic.proofs.Appending.{appends_value, appends_row, appends_message, appends_more, list_done}
 use Rattle.reflect_dynamic.proofs.Choosing.{makes_room}
+use Rattle.reflect_dynamic.proofs.Holding.{same_content, merged_in}
 use Rattle.reflect_dynamic.proofs.Keeping.{kept_if_read}
 use Rattle.reflect_dynamic.proofs.Kept.{no_longer, key_shorter}
-use Rattle.reflect_dynamic.proofs.Nesting.{appends_at, joins_at, delimited_taken, group_taken}
+use Rattle.reflect_dynamic.proofs.Nesting.{appends_at, joins_at, value_unset, delimited_taken, group_taken}
 use Rattle.reflect_dynamic.proofs.Mapping.{key_step, value_step, part_single, part_message, put_more, map_put, entry_is_read}
-use Rattle.reflect_dynamic.proofs.Running.{delimited_value, same_value, run_more, run_ends, run_behind, whole_body, group_ends}
+use Rattle.reflect_dynamic.proofs.Running.{delimited_value, same_value, run_more, run_ends, run_behind, group_ends}
 use Rattle.reflect_dynamic.proofs.Sparing.{merges_none, merges_more, merges_field, merges_kept, merges_extension}
 use Rattle.reflect_dynamic.proofs.Taking.{entries_of_slot, items_of_slot, map_leaves, message_leaves, list_leaves, single_leaves}
 use Rattle.reflect_dynamic.proofs.decode.+merge.Goals as goal
@@ -203,6 +204,16 @@ merge_records-records-preserved t c =
 pub merge_records-records-init : goal.merge_records-records-init
 merge_records-records-init t c = ([], ([], refl, refl), merges_none (TakesAt c.args.levels) c.args.descriptor _, refl, omega arith)
 
+pub merge_body-returns-clause-read : goal.merge_body-returns-clause-read
+merge_body-returns-clause-read t c =
+    let old = c.args.message.now in
+    let new = c.put_block.new.self in
+    let before = c.deref_mut.result.now in
+    let after = c.merge_records-outcome.new.parts in
+    let was : content_in before ≡ content_of old = same_content old before (search rules) (search rules) (search rules) (search rules) in
+    let is : content_in after ≡ content_of new = same_content new after (search rules) (search rules) (search rules) (search rules) in
+    merged_in c.args.levels c.args.group c.args.bytes.now old.descriptor _ (content_of old) (content_of new) (content_in before) (content_in after) c.merge_records-outcome.result (search rules) was is c.merge_records-outcome.ensures.read
+
 pub merge_body-returns-then-is_none-clause-read : goal.merge_body-returns-then-is_none-clause-read
 merge_body-returns-then-is_none-clause-read t c =
     let none : c.args.group ≡ None = search rules in
@@ -312,4 +323,7 @@ entry_of-merge_entry-requires t c =
     (omega (arith, key, so_far), tt)
 
 pub entry_of-records-init : goal.entry_of-records-init
-entry_of-records-init t c = ([], ([], refl, refl), (λ scalar. c.in_ok-held_key.ensures.scalar scalar), ((λ scalar. c.in_ok-value.ensures.scalar scalar), λ type. c.in_ok-value.ensures.message type), omega arith)
+entry_of-records-init t c =
+    let values = c.args.values in
+    let unset = value_unset c.args.levels (field_pool values) (field_type values) c.in_ok-value.value c.in_ok-value.ensures.scalar c.in_ok-value.ensures.message c.in_ok-check_level.ensures in
+    ([], ([], refl, refl), (λ scalar. c.in_ok-held_key.ensures.scalar scalar), unset, omega arith)

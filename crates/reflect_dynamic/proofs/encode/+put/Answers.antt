@@ -1,4 +1,4 @@
-use Rattle.std.proofs.Common.{rules, ◌≡◌, ℕ, List, [], ◌∷◌, ◌++◌, map, reverse, length, Option, None, Some, option_map, OnOk, sym, ap, ◌∙◌, subst}
+use Rattle.std.proofs.Common.{rules, ◌≡◌, ℕ, List, [], ◌∷◌, ◌++◌, map, reverse, length, None, Some, option_map, OnOk, sym, ap, ◌∙◌, subst}
 use Rattle.std.specs.List.{zip, flat_map}
 use Rattle.std.proofs.lemmas.List.{length-map}
 use Rattle.reflect_codec.specs.Held.{held}
@@ -7,16 +7,15 @@ use Rattle.reflect_pool.specs.Kinds.{IsKind}
 use Rattle.reflect_scalar.specs.Keys.{key_view}
 use Rattle.reflect_scalar.specs.Singles.{scalar_view}
 use Rattle.reflect_dynamic.proofs.Forms.{one_single}
-use Rattle.reflect_index.specs.Types.{FieldType}
 use Rattle.reflect_pool.specs.FieldsLeft.{field_type}
 use Rattle.reflect_pool.specs.declared.message.MessageDescriptor.{MessageDescriptor}
-use Rattle.reflect_scalar.specs.FieldTypes.{either_pool, either_type, field_pool, extension_type, extension_pool}
+use Rattle.reflect_scalar.specs.FieldTypes.{either_pool, either_type, field_pool, extension_type}
 use Rattle.reflect_entries.specs.Pairs.{on_value}
 use Rattle.reflect_entries.specs.Left.{unwritten}
-use Rattle.reflect_dynamic.specs.Bytes.{Form, form_of, forms, content_bytes, declared_bytes, extension_bytes, others_down, entry_bytes, key_part, record_in}
+use Rattle.reflect_dynamic.specs.Bytes.{form_of, forms, content_bytes, declared_bytes, others_down, entry_bytes, key_part, record_in}
 use Rattle.reflect_dynamic.specs.Known.{known_field, known_extension}
 use Rattle.reflect_dynamic.specs.declared.value.Value.{Value}
-use Rattle.reflect_dynamic.proofs.Before.{before, shorter, zip_ends, zip_parts, known_put, nothing_put, others_before, entry_put, map_known, map_unknown}
+use Rattle.reflect_dynamic.proofs.Before.{before, shorter, zip_ends, zip_parts, known_put, nothing_put, others_before, entry_put}
 use Rattle.reflect_dynamic.proofs.encode.+put.Goals as goal
 
 -- numbers and values that are the halves of entries

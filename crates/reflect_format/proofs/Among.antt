@@ -1,0 +1,14 @@
+-- Of which of some fields a message holds a value.
+use Rattle.std.proofs.Common.{ℕ, suc, List, ◌∷◌, refl, arith}
+use Rattle.std.specs.Prelude.{IsSome}
+use Rattle.reflect_entries.specs.Entries.{value_at}
+use Rattle.reflect_index.specs.Types.{FieldType}
+use Rattle.reflect_dynamic.specs.Held.{fields_of}
+use Rattle.reflect_dynamic.specs.declared.message.DynamicMessage.{DynamicMessage}
+use Rattle.reflect_format.specs.Refusals.{HoldsAmong}
+
+pub first_held : (m : DynamicMessage) (f : FieldType) (fs : List FieldType) → IsSome (value_at (fields_of m) f.number) → HoldsAmong m (f ∷ fs)
+first_held m f fs held = (0, f, omega arith, refl, held)
+
+pub held_behind : (m : DynamicMessage) (f : FieldType) (fs : List FieldType) → HoldsAmong m fs → HoldsAmong m (f ∷ fs)
+held_behind m f fs h = (suc h.0, h.1, omega (arith, h.2), h.3, h.4)

@@ -1,0 +1,47 @@
+use Rattle.std.proofs.Common.{rules, inl, inr, refl, sym, subst, ◌∙◌}
+use Rattle.reflect_dynamic.specs.Declares.{Declares}
+use Rattle.reflect_print.specs.Any.{IsAny}
+use Rattle.reflect_format.specs.Steps.{Stays}
+use Rattle.reflect_format.proofs.Stepping.{untouched, kept, unfinished, sets_kept}
+use Rattle.reflect_format.proofs.parser.hold.Goals as goal
+
+pub returns-in_default-clause-refused : goal.returns-in_default-clause-refused
+returns-in_default-clause-refused c = (c.descriptor.result, search rules, search rules)
+
+pub returns-in_default-clause-stays : goal.returns-in_default-clause-stays
+returns-in_default-clause-stays c = inl (refl, refl, refl)
+
+pub returns-in-Err-Memory-clause-stays : goal.returns-in-Err-Memory-clause-stays
+returns-in-Err-Memory-clause-stays c = inl (refl, refl, refl)
+
+pub returns-in_err-type_url-clause-stays : goal.returns-in_err-type_url-clause-stays
+returns-in_err-type_url-clause-stays c = untouched c.args.message.now c.from_residual.result
+
+pub returns-in_err-set_field-clause-stays : goal.returns-in_err-set_field-clause-stays
+returns-in_err-set_field-clause-stays c =
+    kept c.args.message.now c.set_field.new.self c.from_residual-in_err-set_field.result (c.in_err-set_field.ensures.err, c.set_field.ensures.extensions, c.set_field.ensures.unknown)
+
+pub returns-in_err-set_field-2-clause-stays : goal.returns-in_err-set_field-2-clause-stays
+returns-in_err-set_field-2-clause-stays c =
+    let m = c.args.message.now in
+    let r = c.from_residual-in_err-set_field-2 in
+    let url = c.in-Some.fields.type_url in
+    let stays : Stays c.set_field.new.self c.set_field-2.new.self = (c.in_err-set_field-2.ensures.err, c.set_field-2.ensures.extensions, c.set_field-2.ensures.unknown) in
+    unfinished m c.set_field-2.new.self r.result r.ensures.1
+    (inr (subst IsAny c.descriptor.ensures c.in-Some.ensures.any, (url, _, subst (λ d. Declares d url) c.descriptor.ensures c.in-Some.ensures.type_url.0, c.in-Some.ensures.type_url.1, sets_kept m c.set_field.new.self c.set_field-2.new.self url _ stays c.in_ok-set_field.ensures.ok)))
+
+pub returns-clause-step : goal.returns-clause-step
+returns-clause-step c =
+    let m = c.args.message.now in
+    let mid = c.set_field.new.self in
+    let url = c.in-Some.fields.type_url in
+    let value = c.in-Some.fields.value in
+    let same = c.descriptor.ensures ∙ sym c.set_field.ensures.type_stays in (
+      c.set_field-2.ensures.type_stays ∙ c.set_field.ensures.type_stays,
+      inr (
+        subst IsAny c.descriptor.ensures c.in-Some.ensures.any,
+        mid,
+        (url, _, subst (λ d. Declares d url) c.descriptor.ensures c.in-Some.ensures.type_url.0, c.in-Some.ensures.type_url.1, c.in_ok-set_field.ensures.ok),
+        (value, _, subst (λ d. Declares d value) same c.in-Some.ensures.value.0, c.in-Some.ensures.value.1, c.in_ok-set_field-2.ensures.ok),
+      ),
+    )
