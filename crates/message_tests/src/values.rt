@@ -173,3 +173,48 @@ fn defaults_are_the_declared_ones(rt: HostRuntime) -> Result<(), Fail> {
     assert!(rt; Kind::Sfixed64.wire_type() == WireType::SixtyFourBit);
     Ok(())
 }
+
+#[test]
+fn defaults_of_fields_and_extensions(rt: HostRuntime) -> Result<(), Fail> {
+    let alloc = rt.alloc();
+    let source =
+        "syntax = \"proto2\"; message M { optional int32 a = 1 [default = -7]; repeated string r = 2; optional M m = 3; extensions 10 to 20; } extend M { optional bool x = 10 [default = true]; repeated int32 y = 11; }";
+    let pool = linked(alloc, source)?;
+    let descriptor = message(&pool, "M")?;
+    let a = descriptor.get_field(1).ok_or("no a")?;
+    let declared = Value::default_value_for_field(alloc, &a)?;
+    assert_eq!(rt; declared.as_i32(), Some(-7));
+    assert!(rt; Value::I32(-7).is_default_for_field(&a));
+    assert!(rt; !Value::I32(0).is_default_for_field(&a));
+    let r = descriptor.get_field(2).ok_or("no r")?;
+    let list = Value::default_value_for_field(alloc, &r)?;
+    assert_eq!(rt; list.as_list().map(|values| values.len()), Some(0));
+    assert!(rt; list.is_default_for_field(&r));
+    let x = descriptor.get_extension(10).ok_or("no x")?;
+    let truth = Value::default_value_for_extension(alloc, &x)?;
+    assert_eq!(rt; truth.as_bool(), Some(true));
+    assert!(rt; truth.is_default_for_extension(&x));
+    assert!(rt; !Value::Bool(false).is_default_for_extension(&x));
+    let y = descriptor.get_extension(11).ok_or("no y")?;
+    let numbers = Value::default_value_for_extension(alloc, &y)?;
+    assert_eq!(rt; numbers.as_list().map(|values| values.len()), Some(0));
+    assert!(rt; numbers.is_default_for_extension(&y));
+    Ok(())
+}
+
+#[test]
+fn an_empty_message_is_the_default(rt: HostRuntime) -> Result<(), Fail> {
+    let alloc = rt.alloc();
+    let pool = linked(
+        alloc,
+        "syntax = \"proto3\"; message M { int32 a = 1; M m = 2; }",
+    )?;
+    let descriptor = message(&pool, "M")?;
+    let m = descriptor.get_field(2).ok_or("no m")?;
+    let mut value = Value::default_value_for_field(alloc, &m)?;
+    assert!(rt; value.is_default_for_field(&m));
+    let inner = value.as_message_mut().ok_or("no message")?;
+    inner.set_field_by_number(1, Value::I32(5))?;
+    assert!(rt; !value.is_default_for_field(&m));
+    Ok(())
+}
