@@ -1,4 +1,4 @@
-//! Tests of the public calls of single layers: tokens, sources, wire records, descriptor records, names, descriptors.
+//! Tests of the public calls of single layers: tokens, sources, syntax trees, wire records, descriptor records, names, descriptors.
 //!
 //! Answers are worked by hand from the published documentation of the language, the encoding and the text format.
 #![tactic(auto)]
@@ -19,3 +19,5 @@ mod sets;
 mod source_tokens;
 #[cfg(test)]
 mod text_tokens;
+#[cfg(test)]
+mod trees;

@@ -10,7 +10,7 @@ use std::alloc::Global;
 use std::test::Fail;
 
 const SOURCE: &str =
-    "syntax = \"proto3\"; package p; message M { int32 foo = 1; N nested = 3; sint64 z = 2; message Inner {} } message N { int32 bar = 2; bool yes = 1; }";
+    "syntax = \"proto3\"; package p; message M { int32 foo = 1; N nested = 3; sint64 z = 2; message Inner {} } message N { int32 bar = 2; bool yes = 1; } enum E { A = 0; B = 1; }";
 
 fn linked(alloc: Global) -> Result<DescriptorPool, Fail> {
     let mut files: Vec<FileDescriptorProto> = Vec::new(alloc);
@@ -137,6 +137,36 @@ fn text_is_parsed_merged_and_printed(rt: HostRuntime) -> Result<(), Fail> {
     let mut shown = String::new(alloc);
     Writer::new(alloc, FormatOptions::new(), &mut shown).fmt_message(&partly)?;
     assert_eq!(rt; shown.as_str(), "foo:1");
+    Ok(())
+}
+
+#[test]
+fn values_are_printed_alone(rt: HostRuntime) -> Result<(), Fail> {
+    let alloc = rt.alloc();
+    let pool = linked(alloc)?;
+    let kind = Kind::Enum(pool.get_enum_by_name("p.E").ok_or("no enum")?);
+    let mut shown = String::new(alloc);
+    let mut writer = Writer::new(alloc, FormatOptions::new(), &mut shown);
+    writer.fmt_value(&Value::EnumNumber(1), Some(&kind))?;
+    writer.fmt_value(&Value::EnumNumber(1), None)?;
+    writer.fmt_value(&Value::EnumNumber(7), Some(&kind))?;
+    writer.fmt_value(&Value::Bytes(Vec::from_slice(alloc, b"\0\"\xff")?), None)?;
+    assert_eq!(rt; shown.as_str(), "B17\"\\000\\\"\\377\"");
+    Ok(())
+}
+
+#[test]
+fn records_are_printed_alone(rt: HostRuntime) -> Result<(), Fail> {
+    let alloc = rt.alloc();
+    let pool = linked(alloc)?;
+    let bytes = [0x1a, 0x02, 0x10, 0x42];
+    let message = DynamicMessage::decode(alloc, message(&pool, "p.N")?, &bytes)?;
+    let mut records = message.unknown_fields();
+    let record = records.next().ok_or("no record")?;
+    assert!(rt; records.next().is_none());
+    let mut shown = String::new(alloc);
+    Writer::new(alloc, FormatOptions::new(), &mut shown).fmt_unknown_field(record)?;
+    assert_eq!(rt; shown.as_str(), "3{2:66}");
     Ok(())
 }
 
