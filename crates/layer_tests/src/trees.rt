@@ -25,6 +25,11 @@ fn dotted(alloc: Global) -> Result<FullIdent, AllocError> {
     Ok(FullIdent::from_idents(parts))
 }
 
+fn literal(alloc: Global, bytes: &[u8], span: Span) -> Result<Literal, AllocError> {
+    let value = Vec::from_slice(alloc, bytes)?;
+    Ok(Literal { value, span })
+}
+
 #[test]
 fn names(rt: HostRuntime) -> Result<(), Fail> {
     let alloc = rt.alloc();
@@ -68,12 +73,8 @@ fn parts_of_options(rt: HostRuntime) -> Result<(), Fail> {
     assert_eq!(rt; word.as_bool(), Some(true));
     assert_eq!(rt; word.to_token_string(alloc)?.as_str(), "true");
     let mut literals = Vec::new(alloc);
-    for (text, place) in [("a\n", span(1, 6)), ("b", span(7, 10))] {
-        literals.push(Literal {
-            value: Vec::from_slice(alloc, text.as_bytes())?,
-            span: place,
-        })?;
-    }
+    literals.push(literal(alloc, b"a\n", span(1, 6))?)?;
+    literals.push(literal(alloc, b"b", span(7, 10))?)?;
     let text = OptionValue::String(Strings::from_literals(literals));
     assert_eq!(rt; text.span(), span(1, 10));
     assert_eq!(rt; text.to_token_string(alloc)?.as_str(), "\"a\\n\" \"b\"");
@@ -101,22 +102,16 @@ fn ranges(rt: HostRuntime) {
 #[test]
 fn bytes_of_literals_as_text(rt: HostRuntime) -> Result<(), Fail> {
     let alloc = rt.alloc();
-    let literal = Literal {
-        value: Vec::from_slice(alloc, "\u{e9}".as_bytes())?,
-        span: span(0, 4),
-    };
-    match literal.into_utf8() {
+    let text = literal(alloc, "\u{e9}".as_bytes(), span(0, 4))?;
+    match text.into_utf8() {
         Ok((text, place)) => {
             assert_eq!(rt; text.as_str(), "\u{e9}");
             assert_eq!(rt; place, span(0, 4));
         }
         Err(_) => return Err(Fail::from("refused")),
     }
-    let literal = Literal {
-        value: Vec::from_slice(alloc, b"\xe9")?,
-        span: span(0, 6),
-    };
-    match literal.into_utf8() {
+    let no_text = literal(alloc, b"\xe9", span(0, 6))?;
+    match no_text.into_utf8() {
         Ok(_) => return Err(Fail::from("accepted")),
         Err(back) => assert_eq!(rt; back.value.as_slice(), b"\xe9".as_slice()),
     }
