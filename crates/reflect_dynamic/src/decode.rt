@@ -7,6 +7,7 @@ ghost use Rattle.reflect_wire.specs.Key.{IsKey};
 ghost use Rattle.reflect_wire.specs.Reads.{Fronts, Refuses, RefusesWhole};
 ghost use Rattle.reflect_wire.specs.Records.{Payload, IsValue, SpellsRecords};
 ghost use Rattle.reflect_wire.specs.Views.{field_view, records_of};
+ghost use Rattle.reflect_wire.specs.declared.wire_key.WireType.TheVariants.{Varint};
 ghost use Rattle.reflect_index.specs.Types.{PoolType, KindType};
 ghost use Rattle.reflect_pool.specs.FieldsLeft.{field_type};
 ghost use Rattle.reflect_pool.specs.Kinds.{IsKind};
@@ -14,6 +15,7 @@ ghost use Rattle.reflect_entries.specs.Entries.{value_at};
 ghost use Rattle.reflect_entries.specs.Sets.{with_record};
 ghost use Rattle.reflect_entries.specs.Undeclared.{undeclared};
 ghost use Rattle.reflect_scalar.specs.FieldTypes.{field_pool, either_pool, either_type};
+ghost use Rattle.reflect_scalar.specs.Kinds.{wire_type};
 ghost use Rattle.reflect_scalar.specs.Singles.{Single};
 ghost use Rattle.reflect_dynamic.specs.Contents.{content_of, content_in};
 ghost use Rattle.reflect_dynamic.specs.Elements.{Appends, ContinuesList};
@@ -34,8 +36,10 @@ use crate::validity::entry_fields;
 use crate::value::Value;
 use reflect_entries::{Entries, UnknownRecords};
 use reflect_link::{FieldDescriptor, Kind, MessageDescriptor};
-use reflect_scalar::{AnyField, FieldDescriptorLike, MapKey, is_packable, scalar_at, wire_type};
-use reflect_wire::{UnknownField, WireError, WireKey, WireType, delimited_at, key_at};
+use reflect_scalar::{
+    AnyField, FieldDescriptorLike, MapKey, is_packable, scalar_at, varint_scalar, wire_type,
+};
+use reflect_wire::{UnknownField, WireError, WireKey, WireType, delimited_at, key_at, varint_at};
 use std::alloc::{AllocError, Global};
 use std::collections::BTreeMap;
 
@@ -346,9 +350,50 @@ fn push_packed(
     ensures fault { IfErr result (Tells (PackedFault kind.now) body.now) }
 {
     values.reserve(packed_count(kind, body))?;
+    match wire_type(kind) {
+        WireType::Varint => push_varints(values, alloc, kind, body),
+        wire => push_fixed(values, alloc, kind, wire, body),
+    }
+}
+
+/// Adds the values of a packed record of a kind that is written as varints. Most packed records are, and this reads them fast.
+fn push_varints(
+    values: &mut Vec<Value<'_>>,
+    alloc: Global,
+    kind: &Kind<'_>,
+    body: &[u8],
+) -> Result<(), WireError>
+    requires varints { wire_type kind.now ≡ Varint }
+    ensures read { OnOk result ((vs : List Single) × IsPacked kind.now body.now vs × Continues values.old.items values.new.items vs) }
+    ensures err { IfErr result (RefusesWhole (IsPacked kind.now) body.now) }
+    ensures fault { IfErr result (Tells (PackedFault kind.now) body.now) }
+{
     let mut rest = body;
     'values: while !rest.is_empty() {
-        let (scalar, behind) = scalar_at(kind, wire_type(kind), rest)?;
+        let (n, behind) = varint_at(rest)?;
+        let scalar = varint_scalar(kind, n)?;
+        values.push(Value::from_scalar(alloc, scalar)?)?;
+        rest = behind;
+    }
+    Ok(())
+}
+
+/// Adds the values of a packed record of a kind of the wire type.
+fn push_fixed(
+    values: &mut Vec<Value<'_>>,
+    alloc: Global,
+    kind: &Kind<'_>,
+    wire: WireType,
+    body: &[u8],
+) -> Result<(), WireError>
+    requires form { wire ≡ wire_type kind.now }
+    ensures read { OnOk result ((vs : List Single) × IsPacked kind.now body.now vs × Continues values.old.items values.new.items vs) }
+    ensures err { IfErr result (RefusesWhole (IsPacked kind.now) body.now) }
+    ensures fault { IfErr result (Tells (PackedFault kind.now) body.now) }
+{
+    let mut rest = body;
+    'values: while !rest.is_empty() {
+        let (scalar, behind) = scalar_at(kind, wire, rest)?;
         values.push(Value::from_scalar(alloc, scalar)?)?;
         rest = behind;
     }

@@ -10,6 +10,6 @@ mod write_scalar;
 
 pub use field_like::{AnyField, FieldDescriptorLike, holds_floats};
 pub use map_key::MapKey;
-pub use read_scalar::{is_packable, scalar_at, wire_type};
+pub use read_scalar::{is_packable, scalar_at, varint_scalar, wire_type};
 pub use scalar::{Scalar, WireScalar, default_scalar};
 pub use write_scalar::{put_scalar, scalar_len, wire_scalar};

@@ -2,6 +2,7 @@
 
 ghost use Rattle.std.specs.Prelude.{◌≡◌, ◌<◌, length, IfOk, IfErr};
 ghost use Rattle.reflect_wire.specs.Reads.{ReadsBy};
+ghost use Rattle.reflect_wire.specs.Records.{varint};
 ghost use Rattle.reflect_scalar.specs.Kinds.{wire_type, packs};
 ghost use Rattle.reflect_scalar.specs.Meaning.{zigzag, low, Means, MeaningFault, IsPlain, PlainFault, IsScalar, ScalarFault};
 ghost use Rattle.reflect_scalar.specs.Singles.{scalar_view, wire_view};
@@ -59,7 +60,28 @@ fn unzigzag64(n: u64) -> i64
     if n % 2 == 0 { half } else { -half - 1 }
 }
 
-/// The value of a kind that is written so. Of a varint only the low 32 bits count where the kind has 32.
+/// The value of a kind that a varint stands for. Only its low 32 bits count where the kind has 32.
+///
+/// `BadWireType` where the kind is not written as a varint.
+#[inline]
+pub fn varint_scalar<'b>(kind: &Kind<'_>, n: u64) -> Result<Scalar<'b>, WireError>
+    ensures ok { IfOk result (λ s. Means kind.now (varint n) (scalar_view s)) }
+    ensures err { IfErr result (MeaningFault kind.now (varint n)) }
+{
+    match kind {
+        Kind::Int32 => Ok(Scalar::I32(low(n).cast_signed())),
+        Kind::Int64 => Ok(Scalar::I64(n.cast_signed())),
+        Kind::Uint32 => Ok(Scalar::U32(low(n))),
+        Kind::Uint64 => Ok(Scalar::U64(n)),
+        Kind::Sint32 => Ok(Scalar::I32(unzigzag32(low(n)))),
+        Kind::Sint64 => Ok(Scalar::I64(unzigzag64(n))),
+        Kind::Bool => Ok(Scalar::Bool(n != 0)),
+        Kind::Enum(_) => Ok(Scalar::EnumNumber(low(n).cast_signed())),
+        _ => Err(WireError::BadWireType),
+    }
+}
+
+/// The value of a kind that is written so.
 ///
 /// `BadWireType` where the kind is written in another form or is none of a single value, `BadUtf8` where a string is no
 /// UTF-8.
@@ -69,14 +91,7 @@ fn value_of<'b>(kind: &Kind<'_>, written: WireScalar<'b>) -> Result<Scalar<'b>, 
     ensures err { IfErr result (MeaningFault kind.now (wire_view written.entry)) }
 {
     match (kind, written) {
-        (Kind::Int32, WireScalar::Varint(n)) => Ok(Scalar::I32(low(n).cast_signed())),
-        (Kind::Int64, WireScalar::Varint(n)) => Ok(Scalar::I64(n.cast_signed())),
-        (Kind::Uint32, WireScalar::Varint(n)) => Ok(Scalar::U32(low(n))),
-        (Kind::Uint64, WireScalar::Varint(n)) => Ok(Scalar::U64(n)),
-        (Kind::Sint32, WireScalar::Varint(n)) => Ok(Scalar::I32(unzigzag32(low(n)))),
-        (Kind::Sint64, WireScalar::Varint(n)) => Ok(Scalar::I64(unzigzag64(n))),
-        (Kind::Bool, WireScalar::Varint(n)) => Ok(Scalar::Bool(n != 0)),
-        (Kind::Enum(_), WireScalar::Varint(n)) => Ok(Scalar::EnumNumber(low(n).cast_signed())),
+        (_, WireScalar::Varint(n)) => varint_scalar(kind, n),
         (Kind::Fixed32, WireScalar::ThirtyTwoBit(n)) => Ok(Scalar::U32(n)),
         (Kind::Sfixed32, WireScalar::ThirtyTwoBit(n)) => Ok(Scalar::I32(n.cast_signed())),
         (Kind::Fixed64, WireScalar::SixtyFourBit(n)) => Ok(Scalar::U64(n)),

@@ -2,7 +2,7 @@ use Rattle.std.proofs.Common.{List, length}
 use Rattle.reflect_wire.specs.Reads.{Fronts}
 use Rattle.reflect_scalar.specs.Singles.{Single}
 use Rattle.reflect_dynamic.specs.Packed.{IsPacked, Continues}
-use Rattle.reflect_dynamic.proofs.decode.push_packed.Given as goal
+use Rattle.reflect_dynamic.proofs.decode.push_fixed.Given as goal
 
 -- the values so far are those that were there and what the bytes before the rest spell
 abbrev pub invariant-values : goal.invariant-values
