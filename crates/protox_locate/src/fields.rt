@@ -8,21 +8,23 @@ use protox_tree::{Field, FieldKind, Ty};
 use std::alloc::AllocError;
 
 /// The locations of what stands in a field's statement, but for a group's body.
+///
+/// They come by ascending path, in which order all have to stand in the end.
 pub fn field_parts(
     locator: &mut Locator<'_>,
     path: &[i32],
     extendee: Option<Span>,
     field: &Field,
 ) -> Result<(), AllocError> {
+    locator.add(path, &[tag::field::NAME], field.name.span)?;
     if let Some(extendee) = extendee {
         locator.add(path, &[tag::field::EXTENDEE], extendee)?;
     }
+    locator.add(path, &[tag::field::NUMBER], field.number.span)?;
     if let Some((_, label)) = field.label {
         locator.add(path, &[tag::field::LABEL], label)?;
     }
     field_type(locator, path, field)?;
-    locator.add(path, &[tag::field::NAME], field.name.span)?;
-    locator.add(path, &[tag::field::NUMBER], field.number.span)?;
     field_options(locator, path, &field.options)
 }
 
