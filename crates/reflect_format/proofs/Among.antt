@@ -1,5 +1,5 @@
 -- Of which of some fields a message holds a value.
-use Rattle.std.proofs.Common.{ℕ, suc, List, ◌∷◌, refl, arith}
+use Rattle.std.proofs.Common.{suc, List, ◌∷◌, refl, arith}
 use Rattle.std.specs.Prelude.{IsSome}
 use Rattle.reflect_entries.specs.Entries.{value_at}
 use Rattle.reflect_index.specs.Types.{FieldType}

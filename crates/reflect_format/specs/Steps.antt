@@ -4,7 +4,9 @@ use Rattle.reflect_entries.specs.Entries.{value_at}
 use Rattle.reflect_pool.specs.FieldsLeft.{field_type}
 use Rattle.reflect_pool.specs.Shapes.{holds_list}
 use Rattle.reflect_pool.specs.declared.field.FieldDescriptor.{FieldDescriptor}
+use Rattle.reflect_pool.specs.declared.message.MessageDescriptor.{MessageDescriptor}
 use Rattle.reflect_scalar.specs.FieldTypes.{extension_type}
+use Rattle.reflect_dynamic.specs.Contents.{content_of, nothing}
 use Rattle.reflect_dynamic.specs.Declares.{Declares}
 use Rattle.reflect_dynamic.specs.Held.{fields_of, choices_of, extensions_of, unknown_of, UpdatesExtension}
 use Rattle.reflect_dynamic.specs.Lists.{Lengthens, KeepsList}
@@ -88,6 +90,10 @@ Steps (next ∷ further) old new = Step old next × Steps further next new
 -- so many fields of a text as there are were taken in
 abbrev pub Reaches : DynamicMessage → DynamicMessage → Type 0
 Reaches old new = (further : List DynamicMessage) × Steps further old new
+
+-- a message of the type, made of one in which nothing is set by the fields of a text
+abbrev pub Makes : MessageDescriptor → DynamicMessage → Type 0
+Makes d new = (blank : DynamicMessage) × (blank.descriptor ≡ d) × (content_of blank ≡ nothing) × Reaches blank new
 
 -- so many fields were taken in, and the one behind them was refused
 abbrev pub Stops : ParseErrorKind → DynamicMessage → DynamicMessage → Type 0

@@ -1,5 +1,5 @@
 ghost use Rattle.std.specs.Prelude.{◌≡◌, IfErr, IfOk, OnOk};
-ghost use Rattle.reflect_format.specs.Steps.{Reaches, Stops};
+ghost use Rattle.reflect_format.specs.Steps.{Makes, Reaches, Stops};
 ghost use Rattle.reflect_format.specs.Truth.{TrueOf};
 
 use crate::error::ParseError;
@@ -23,6 +23,7 @@ pub trait TextFormat<'p>: Sized {
         text: &str,
     ) -> Result<Self, ParseError>
         ensures same_type { IfOk result (λ m. (message m).descriptor ≡ descriptor.entry) }
+        ensures made { IfOk result (λ m. Makes descriptor.entry (message m)) }
         ensures refused { IfErr result (λ e. TrueOf descriptor.entry.pool.now e.kind) };
 
     /// Reads a text into the message. The first fault ends it; the message then has the fields at the top that were read
