@@ -1,2 +1,3 @@
+pub mod Payloads
 pub mod Places
 pub mod Refusals

@@ -28,6 +28,7 @@ impl Schema {
     ghost use Rattle.reflect_pool.specs.Linked.{empty_pool};
     ghost use Rattle.reflect_bytes.specs.Written.{pool_bytes};
     ghost use Rattle.reflect_schema.specs.declared.error.SchemaError.TheVariants.{Memory};
+    ghost use Rattle.reflect_schema.specs.Payloads.{Reads, Encoded, Decoded, Recoded};
     ghost use Rattle.reflect_schema.specs.Refusals.{TypeRefused, BytesRefused, TextRefused, FilesLinked, FilesRefused, SourcesLinked, SourcesRefused, SetLinked, SetRefused, descriptor_name, sources_of};
 
     /// A schema without files. Takes no memory.
@@ -145,12 +146,22 @@ impl Schema {
         }
     }
 
+    /// The message of a type that wire bytes spell.
+    fn read(&self, type_name: &str, bytes: &[u8]) -> Result<DynamicMessage<'_>, SchemaError>
+        ensures ok { IfOk result (Reads self.now.pool type_name.now bytes.now) }
+        ensures err { IfErr result (BytesRefused self.now.pool type_name.now) }
+    {
+        let descriptor = self.message_type(type_name)?;
+        Ok(DynamicMessage::decode(self.alloc, descriptor, bytes)?)
+    }
+
     /// The wire bytes of the message of a type that a text spells. The type's full name may have one leading dot.
     ///
     /// `UnknownType` where there is no such type, `Text` with the first fault of the text, `TooLong` where the bytes are more
     /// than a length can say.
     pub fn encode(&self, type_name: &str, text: &str) -> Result<Vec<u8>, SchemaError>
-        ensures { IfErr result (TextRefused self.now.pool type_name.now) }
+        ensures ok { IfOk result (λ written. Encoded self.now.pool type_name.now written.items) }
+        ensures err { IfErr result (TextRefused self.now.pool type_name.now) }
     {
         let descriptor = self.message_type(type_name)?;
         let message = DynamicMessage::parse_text_format(self.alloc, descriptor, text)?;
@@ -161,10 +172,10 @@ impl Schema {
     ///
     /// `UnknownType` where there is no such type, `Wire` where the bytes are no message of it.
     pub fn decode(&self, type_name: &str, bytes: &[u8]) -> Result<String, SchemaError>
-        ensures { IfErr result (BytesRefused self.now.pool type_name.now) }
+        ensures ok { OnOk result (Decoded self.now.pool type_name.now bytes.now) }
+        ensures err { IfErr result (BytesRefused self.now.pool type_name.now) }
     {
-        let descriptor = self.message_type(type_name)?;
-        let message = DynamicMessage::decode(self.alloc, descriptor, bytes)?;
+        let message = self.read(type_name, bytes)?;
         let options = FormatOptions::new().expand_any(false);
         match message.to_text_format_with_options(self.alloc, &options) {
             Ok(text) => Ok(text),
@@ -177,10 +188,9 @@ impl Schema {
     ///
     /// Refused as `decode` is, and `TooLong` where the bytes are more than a length can say.
     pub fn recode(&self, type_name: &str, bytes: &[u8]) -> Result<Vec<u8>, SchemaError>
-        ensures { IfErr result (BytesRefused self.now.pool type_name.now) }
+        ensures ok { IfOk result (λ written. Recoded self.now.pool type_name.now bytes.now written.items) }
+        ensures err { IfErr result (BytesRefused self.now.pool type_name.now) }
     {
-        let descriptor = self.message_type(type_name)?;
-        let message = DynamicMessage::decode(self.alloc, descriptor, bytes)?;
-        Ok(message.encode_to_vec()?)
+        Ok(self.read(type_name, bytes)?.encode_to_vec()?)
     }
 }

@@ -1,0 +1,43 @@
+-- What the calls answer that take payloads.
+use Rattle.std.specs.Prelude.{◌≡◌, ℕ, List, [], Some}
+use Rattle.reflect_index.specs.Types.{PoolType}
+use Rattle.reflect_pool.specs.FindsNames.{FindsMessage}
+use Rattle.reflect_pool.specs.declared.message.MessageDescriptor.{MessageDescriptor}
+use Rattle.reflect_wire.specs.Records.{Payload, SpellsRecords}
+use Rattle.reflect_wire.specs.Views.{records_of}
+use Rattle.reflect_dynamic.specs.Bytes.{message_bytes}
+use Rattle.reflect_dynamic.specs.Fields.{HoldFields, HoldExtensions}
+use Rattle.reflect_dynamic.specs.Held.{fields_of, extensions_of, unknown_of}
+use Rattle.reflect_dynamic.specs.Keeps.{Keeps}
+use Rattle.reflect_dynamic.specs.Levels.{TakesAt}
+use Rattle.reflect_dynamic.specs.Oneofs.{IsExclusive}
+use Rattle.reflect_dynamic.specs.Spares.{HoldsRead}
+use Rattle.reflect_dynamic.specs.declared.message.DynamicMessage.{DynamicMessage}
+use Rattle.reflect_format.specs.Steps.{Makes}
+
+-- the message type of the name
+abbrev pub IsType : PoolType → List ℕ → MessageDescriptor → Type 0
+IsType p name d = (d.pool.now ≡ p) × FindsMessage p name (Some d)
+
+-- the bytes spell records, at most 100 levels deep, and the message holds exactly what these leave in one of the type
+abbrev pub IsSpelled : MessageDescriptor → List ℕ → DynamicMessage → Type 0
+IsSpelled d bytes m =
+    (m.descriptor ≡ d) × IsExclusive m
+    × ((rs : List (ℕ × Payload)) × SpellsRecords 100 bytes (records_of rs) × Keeps d [] (unknown_of m) rs
+    × HoldsRead (fields_of m) rs × HoldsRead (extensions_of m) rs × HoldFields (TakesAt 100) d (fields_of m) rs × HoldExtensions (TakesAt 100) d (extensions_of m) rs)
+
+-- it is one of the named type
+abbrev pub Reads : PoolType → List ℕ → List ℕ → DynamicMessage → Type 0
+Reads p name bytes m = (d : MessageDescriptor) × IsType p name d × IsSpelled d bytes m
+
+-- from text to bytes: the one form of a message of the named type, made by the fields of a text
+abbrev pub Encoded : PoolType → List ℕ → List ℕ → Type 0
+Encoded p name written = (d : MessageDescriptor) × IsType p name d × ((m : DynamicMessage) × Makes d m × (written ≡ message_bytes m))
+
+-- from bytes to text: they spell a message of the named type
+abbrev pub Decoded : PoolType → List ℕ → List ℕ → Type 0
+Decoded p name bytes = (m : DynamicMessage) × Reads p name bytes m
+
+-- from bytes to bytes: the one form of the message of the named type that they spell
+abbrev pub Recoded : PoolType → List ℕ → List ℕ → List ℕ → Type 0
+Recoded p name bytes written = (m : DynamicMessage) × Reads p name bytes m × (written ≡ message_bytes m)
