@@ -9,7 +9,7 @@ use std::alloc::AllocError;
 
 /// The locations of what stands in a field's statement, but for a group's body.
 ///
-/// They come by ascending path, in which order all have to stand in the end.
+/// What is no option comes by ascending path, in which order all locations stand in the end.
 pub fn field_parts(
     locator: &mut Locator<'_>,
     path: &[i32],

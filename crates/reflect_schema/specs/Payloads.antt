@@ -26,18 +26,18 @@ IsSpelled d bytes m =
     × ((rs : List (ℕ × Payload)) × SpellsRecords 100 bytes (records_of rs) × Keeps d [] (unknown_of m) rs
     × HoldsRead (fields_of m) rs × HoldsRead (extensions_of m) rs × HoldFields (TakesAt 100) d (fields_of m) rs × HoldExtensions (TakesAt 100) d (extensions_of m) rs)
 
--- it is one of the named type
-abbrev pub Reads : PoolType → List ℕ → List ℕ → DynamicMessage → Type 0
-Reads p name bytes m = (d : MessageDescriptor) × IsType p name d × IsSpelled d bytes m
+-- the bytes spell the message, which is of the named type
+abbrev pub IsRead : PoolType → List ℕ → List ℕ → DynamicMessage → Type 0
+IsRead p name bytes m = (d : MessageDescriptor) × IsType p name d × IsSpelled d bytes m
 
--- from text to bytes: the one form of a message of the named type, made by the fields of a text
+-- from text to bytes: the one form of a message of the named type, which steps as a text's fields take made of one with nothing set
 abbrev pub Encoded : PoolType → List ℕ → List ℕ → Type 0
 Encoded p name written = (d : MessageDescriptor) × IsType p name d × ((m : DynamicMessage) × Makes d m × (written ≡ message_bytes m))
 
--- from bytes to text: they spell a message of the named type
+-- from bytes to text: the bytes spell a message of the named type
 abbrev pub Decoded : PoolType → List ℕ → List ℕ → Type 0
-Decoded p name bytes = (m : DynamicMessage) × Reads p name bytes m
+Decoded p name bytes = (m : DynamicMessage) × IsRead p name bytes m
 
--- from bytes to bytes: the one form of the message of the named type that they spell
+-- from bytes to bytes: the one form of the message of the named type that the bytes spell
 abbrev pub Recoded : PoolType → List ℕ → List ℕ → List ℕ → Type 0
-Recoded p name bytes written = (m : DynamicMessage) × Reads p name bytes m × (written ≡ message_bytes m)
+Recoded p name bytes written = (m : DynamicMessage) × IsRead p name bytes m × (written ≡ message_bytes m)

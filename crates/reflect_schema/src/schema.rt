@@ -28,7 +28,7 @@ impl Schema {
     ghost use Rattle.reflect_pool.specs.Linked.{empty_pool};
     ghost use Rattle.reflect_bytes.specs.Written.{pool_bytes};
     ghost use Rattle.reflect_schema.specs.declared.error.SchemaError.TheVariants.{Memory};
-    ghost use Rattle.reflect_schema.specs.Payloads.{Reads, Encoded, Decoded, Recoded};
+    ghost use Rattle.reflect_schema.specs.Payloads.{IsRead, Encoded, Decoded, Recoded};
     ghost use Rattle.reflect_schema.specs.Refusals.{TypeRefused, BytesRefused, TextRefused, FilesLinked, FilesRefused, SourcesLinked, SourcesRefused, SetLinked, SetRefused, descriptor_name, sources_of};
 
     /// A schema without files. Takes no memory.
@@ -148,7 +148,7 @@ impl Schema {
 
     /// The message of a type that wire bytes spell.
     fn read(&self, type_name: &str, bytes: &[u8]) -> Result<DynamicMessage<'_>, SchemaError>
-        ensures ok { IfOk result (Reads self.now.pool type_name.now bytes.now) }
+        ensures ok { IfOk result (IsRead self.now.pool type_name.now bytes.now) }
         ensures err { IfErr result (BytesRefused self.now.pool type_name.now) }
     {
         let descriptor = self.message_type(type_name)?;
