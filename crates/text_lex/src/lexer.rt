@@ -7,7 +7,7 @@ ghost use Rattle.protox_lex.specs.Shown as source;
 ghost use Rattle.protox_lex.specs.Token.{int};
 ghost use Rattle.protox_lex.specs.declared.class.Class.TheVariants as class;
 ghost use Rattle.protox_lex.specs.declared.error.LexErrorKind.TheVariants as kinds;
-ghost use Rattle.std.specs.Prelude.{◌≡◌, ℕ, ◌<◌, ◌≤◌, ◌+◌, ◌^◌, ◌==◌, [], ◌∷◌, length, take, drop, slice_index, option_map, IfOk, IfErr, IfSome, MatchOption, IsCharBoundary, false};
+ghost use Rattle.std.specs.Prelude.{◌≡◌, ℕ, ◌<◌, ◌≤◌, ◌+◌, ◌^◌, ◌==◌, [], ◌∷◌, length, take, drop, slice_index, option_map, IfOk, IfErr, IfSome, IfNone, MatchOption, IsCharBoundary, Ok, List, false};
 ghost use Rattle.text_lex.specs.Lex as spec;
 ghost use Rattle.text_lex.specs.Shown.{token_of};
 ghost use Rattle.text_lex.specs.Token.{token, token_at, fault};
@@ -141,22 +141,54 @@ fn refused(rest: &str, at: usize, error: SourceError) -> Result<(Token<'_>, usiz
     }
 }
 
-/// The token in the front of what is left of a text, and its length.
+/// The sign that a byte is, whatever stands behind it. A point may begin a number.
+fn lone_sign(b: u8) -> Option<Token<'static>>
+    ensures sign { IfSome result (λ t. (at : ℕ) (rest : List ℕ) → slice_index rest 0 ≡ b → spec.front at rest ≡ Ok (token (token_of t), 1)) }
+    ensures other { IfNone result ((b == 47) ≡ false) }
+{
+    match b {
+        b'-' => Some(Token::Minus),
+        b'{' => Some(Token::LeftBrace),
+        b'}' => Some(Token::RightBrace),
+        b'[' => Some(Token::LeftBracket),
+        b']' => Some(Token::RightBracket),
+        b'<' => Some(Token::LeftAngleBracket),
+        b'>' => Some(Token::RightAngleBracket),
+        b',' => Some(Token::Comma),
+        b':' => Some(Token::Colon),
+        b';' => Some(Token::Semicolon),
+        b'/' => Some(Token::ForwardSlash),
+        _ => None,
+    }
+}
+
+/// The token in the front that a source has there too, and its length.
 #[tactic(auto, unfolding(crate::specs::Lex::front))]
+fn source_token(rest: &str, at: usize) -> Result<(Token<'_>, usize), LexError>
+    requires some { 0 < length rest.now }
+    requires fits { at + length rest.now < 2 ^ 64 }
+    requires begins { (is_in class.Blank (slice_index rest.now 0) ≡ false) × ((slice_index rest.now 0 == 35) ≡ false) }
+    requires slash { (slice_index rest.now 0 == 47) ≡ false }
+    ensures { source.Gives (λ p. (token (token_of p.0), p.1)) result (spec.front at rest.now) }
+{
+    let mut source = protox_lex::Lexer::new(rest);
+    match source.next() {
+        Ok(Some(lexeme)) => taken(text_token(rest, lexeme), at, lexeme.span.end),
+        Ok(None) => taken(None, at, 1),
+        Err(error) => refused(rest, at, error),
+    }
+}
+
+/// The token in the front of what is left of a text, and its length.
 fn front(rest: &str, at: usize) -> Result<(Token<'_>, usize), LexError>
     requires some { 0 < length rest.now }
     requires fits { at + length rest.now < 2 ^ 64 }
     requires begins { (is_in class.Blank (slice_index rest.now 0) ≡ false) × ((slice_index rest.now 0 == 35) ≡ false) }
     ensures { source.Gives (λ p. (token (token_of p.0), p.1)) result (spec.front at rest.now) }
 {
-    if rest.as_bytes()[0] == b'/' {
-        return Ok((Token::ForwardSlash, 1));
-    }
-    let mut source = protox_lex::Lexer::new(rest);
-    match source.next() {
-        Ok(Some(lexeme)) => taken(text_token(rest, lexeme), at, lexeme.span.end),
-        Ok(None) => taken(None, at, 1),
-        Err(error) => refused(rest, at, error),
+    match lone_sign(rest.as_bytes()[0]) {
+        Some(sign) => Ok((sign, 1)),
+        None => source_token(rest, at),
     }
 }
 
