@@ -24,5 +24,6 @@ pub mod Scalars
 pub mod Shown
 pub mod Singles
 pub mod Spares
+pub mod Spelled
 pub mod Taking
 pub mod Trees

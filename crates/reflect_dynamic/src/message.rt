@@ -1,6 +1,4 @@
-ghost use Rattle.std.specs.Prelude.{◌≡◌, ℕ, List, [], ◌++◌, IfOk, IfErr, OnOk, OnErr, IfSome, IfNone};
-ghost use Rattle.reflect_wire.specs.Records.{Payload, SpellsRecords};
-ghost use Rattle.reflect_wire.specs.Views.{records_of};
+ghost use Rattle.std.specs.Prelude.{◌≡◌, [], ◌++◌, IfOk, IfErr, OnOk, OnErr, IfSome, IfNone};
 ghost use Rattle.reflect_wire.specs.declared.wire_error.WireError.TheVariants.{Memory};
 ghost use Rattle.std.specs.Option.{option_copied, option_copied_mut};
 ghost use Rattle.reflect_entries.specs.Entries.{value_at};
@@ -9,13 +7,10 @@ ghost use Rattle.reflect_entries.specs.Undeclared.{undeclared};
 ghost use Rattle.reflect_codec.specs.Held.{held};
 ghost use Rattle.reflect_dynamic.specs.Bytes.{message_bytes};
 ghost use Rattle.reflect_dynamic.specs.Contents.{content_of, nothing};
-ghost use Rattle.reflect_dynamic.specs.Copies.{AreCopies, MergesFields, MergesExtensions};
-ghost use Rattle.reflect_dynamic.specs.Fields.{HoldFields, HoldExtensions};
+ghost use Rattle.reflect_dynamic.specs.Copies.{AreCopies};
 ghost use Rattle.reflect_dynamic.specs.Held.{fields_of, choices_of, extensions_of, unknown_of};
-ghost use Rattle.reflect_dynamic.specs.Keeps.{Keeps};
-ghost use Rattle.reflect_dynamic.specs.Levels.{TakesAt};
 ghost use Rattle.reflect_dynamic.specs.Oneofs.{IsExclusive};
-ghost use Rattle.reflect_dynamic.specs.Spares.{HoldsRead};
+ghost use Rattle.reflect_dynamic.specs.Spelled.{IsSpelled, IsMerged};
 ghost use Rattle.reflect_dynamic.specs.Trees.{held_tree};
 
 use crate::decode::{MAX_LEVELS, merge_body};
@@ -74,7 +69,7 @@ impl<'p> DynamicMessage<'p> {
         bytes: &[u8],
     ) -> Result<DynamicMessage<'p>, WireError>
         ensures same_type { IfOk result (λ m. m.descriptor ≡ descriptor.entry) }
-        ensures read { IfOk result (λ m. (rs : List (ℕ × Payload)) × SpellsRecords 100 bytes.now (records_of rs) × Keeps descriptor.entry [] (unknown_of m) rs × HoldsRead (fields_of m) rs × HoldsRead (extensions_of m) rs × HoldFields (TakesAt 100) descriptor.entry (fields_of m) rs × HoldExtensions (TakesAt 100) descriptor.entry (extensions_of m) rs) }
+        ensures read { IfOk result (IsSpelled descriptor.entry bytes.now) }
         ensures exclusive { IfOk result IsExclusive }
     {
         let mut message = DynamicMessage::new(alloc, descriptor);
@@ -88,7 +83,7 @@ impl<'p> DynamicMessage<'p> {
     /// Refused as `decode` is; the message is then unchanged.
     pub fn merge(&mut self, bytes: &[u8]) -> Result<(), WireError>
         ensures type_stays { self.new.descriptor ≡ self.old.descriptor }
-        ensures read { OnOk result ((rs : List (ℕ × Payload)) × SpellsRecords 100 bytes.now (records_of rs) × Keeps self.old.descriptor (unknown_of self.old) (unknown_of self.new) rs × (IsExclusive self.old → MergesFields (TakesAt 100) self.old.descriptor (fields_of self.old) (fields_of self.new) rs) × MergesExtensions (TakesAt 100) self.old.descriptor (extensions_of self.old) (extensions_of self.new) rs) }
+        ensures read { OnOk result (IsMerged self.old.descriptor bytes.now self.old self.new) }
         ensures exclusive { IsExclusive self.old → IsExclusive self.new }
         ensures err { OnErr result (self.new ≡ self.old) }
     {

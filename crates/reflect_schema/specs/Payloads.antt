@@ -1,17 +1,11 @@
 -- What the calls answer that take payloads.
-use Rattle.std.specs.Prelude.{◌≡◌, ℕ, List, [], Some}
+use Rattle.std.specs.Prelude.{◌≡◌, ℕ, List, Some}
 use Rattle.reflect_index.specs.Types.{PoolType}
 use Rattle.reflect_pool.specs.FindsNames.{FindsMessage}
 use Rattle.reflect_pool.specs.declared.message.MessageDescriptor.{MessageDescriptor}
-use Rattle.reflect_wire.specs.Records.{Payload, SpellsRecords}
-use Rattle.reflect_wire.specs.Views.{records_of}
 use Rattle.reflect_dynamic.specs.Bytes.{message_bytes}
-use Rattle.reflect_dynamic.specs.Fields.{HoldFields, HoldExtensions}
-use Rattle.reflect_dynamic.specs.Held.{fields_of, extensions_of, unknown_of}
-use Rattle.reflect_dynamic.specs.Keeps.{Keeps}
-use Rattle.reflect_dynamic.specs.Levels.{TakesAt}
 use Rattle.reflect_dynamic.specs.Oneofs.{IsExclusive}
-use Rattle.reflect_dynamic.specs.Spares.{HoldsRead}
+use Rattle.reflect_dynamic.specs.Spelled.{IsSpelled}
 use Rattle.reflect_dynamic.specs.declared.message.DynamicMessage.{DynamicMessage}
 use Rattle.reflect_format.specs.Steps.{Makes}
 
@@ -19,16 +13,9 @@ use Rattle.reflect_format.specs.Steps.{Makes}
 abbrev pub IsType : PoolType → List ℕ → MessageDescriptor → Type 0
 IsType p name d = (d.pool.now ≡ p) × FindsMessage p name (Some d)
 
--- the bytes spell records, at most 100 levels deep, and the message holds exactly what these leave in one of the type
-abbrev pub IsSpelled : MessageDescriptor → List ℕ → DynamicMessage → Type 0
-IsSpelled d bytes m =
-    (m.descriptor ≡ d) × IsExclusive m
-    × ((rs : List (ℕ × Payload)) × SpellsRecords 100 bytes (records_of rs) × Keeps d [] (unknown_of m) rs
-    × HoldsRead (fields_of m) rs × HoldsRead (extensions_of m) rs × HoldFields (TakesAt 100) d (fields_of m) rs × HoldExtensions (TakesAt 100) d (extensions_of m) rs)
-
 -- the bytes spell the message, which is of the named type
 abbrev pub IsRead : PoolType → List ℕ → List ℕ → DynamicMessage → Type 0
-IsRead p name bytes m = (d : MessageDescriptor) × IsType p name d × IsSpelled d bytes m
+IsRead p name bytes m = (d : MessageDescriptor) × IsType p name d × (m.descriptor ≡ d) × IsExclusive m × IsSpelled d bytes m
 
 -- from text to bytes: the one form of a message of the named type, which steps as a text's fields take made of one with nothing set
 abbrev pub Encoded : PoolType → List ℕ → List ℕ → Type 0
