@@ -17,12 +17,16 @@ use Rattle.reflect_passes.specs.Errors.{Refuses}
 use Rattle.reflect_passes.specs.declared.error.DescriptorError.{DescriptorError}
 use Rattle.reflect_pool.specs.Refusals.{FaultyFiles}
 use Rattle.reflect_bytes.specs.Spelled.{SpellsSet}
+use Rattle.reflect_format.specs.Truth.{TrueOf}
+use Rattle.reflect_format.specs.declared.error.ParseError as text
+use Rattle.reflect_format.specs.declared.error.ParseErrorKind.{ParseErrorKind}
+use Rattle.reflect_format.specs.declared.error.ParseErrorKind.TheVariants as texts
 use Rattle.reflect_text.specs.Places.{option_place, StandsFrom}
 use Rattle.reflect_text.specs.TypedOptions.{TypedFiles}
 use Rattle.reflect_text.specs.declared.option_error.OptionError.{OptionError}
 use Rattle.reflect_schema.specs.declared.error.SchemaError.{SchemaError}
 use Rattle.reflect_schema.specs.declared.error.SchemaError.TheVariants.{Parse, Link, Options, Wire, Text, UnknownType, Memory, TooLong}
-use Rattle.reflect_schema.specs.Refusals.{of_source, of_wire, FilesFit, FilesRefused, sources_of, AreFilesOf, SourcesLinked, SourcesRefused, SetRefused}
+use Rattle.reflect_schema.specs.Refusals.{of_source, of_wire, of_text, IsKnown, TextRefused, FilesFit, FilesRefused, sources_of, AreFilesOf, SourcesLinked, SourcesRefused, SetRefused}
 
 -- a linker's refusal is one of files
 pub of_link : (p : PoolType) (files typed : List FileDescriptorProto) (d : DescriptorError) (e : SchemaError) → TypedFiles files typed → Refuses (FaultyFiles p typed) d → (e ≡ Memory) ⊎ (e ≡ Link d) → FilesRefused p files e
@@ -100,3 +104,9 @@ of_bytes p bytes wire.EndGroupMismatch h = λ files s. h.none (λ q. cc q) s.0 s
 of_bytes p bytes wire.TooDeep h = λ files s. h.none (λ q. cc q) s.0 s.1
 of_bytes p bytes wire.BadUtf8 h = λ files s. h.none (λ q. cc q) s.0 s.1
 of_bytes p bytes wire.TooLong h = λ files s. h.none (λ q. cc q) s.0 s.1
+
+-- a text of a known type is refused with what is true of its pool
+pub of_text_kind : (p : PoolType) (name : List ℕ) (e : text.ParseError) (kind : ParseErrorKind) → e.kind ≡ kind → IsKnown p name → TrueOf p kind → TextRefused p name (of_text e kind)
+of_text_kind p name e texts.Memory is known true = tt
+of_text_kind p name e (texts.TooLong span) is known true = absurd true
+of_text_kind p name e kind is known true = (known, subst (TrueOf p) (sym is) true)

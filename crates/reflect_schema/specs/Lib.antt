@@ -1,3 +1,5 @@
 pub mod Payloads
 pub mod Places
 pub mod Refusals
+pub mod Serving
+pub mod Statuses

@@ -14,6 +14,9 @@ use Rattle.reflect_wire.specs.declared.wire_error.WireError.{WireError}
 use Rattle.reflect_wire.specs.declared.wire_error.WireError.TheVariants as wire
 use Rattle.reflect_bytes.specs.Spelled.{SpellsSet, RecordsLinked}
 use Rattle.reflect_format.specs.Truth.{TrueOf}
+use Rattle.reflect_format.specs.declared.error.ParseError as text
+use Rattle.reflect_format.specs.declared.error.ParseErrorKind.{ParseErrorKind}
+use Rattle.reflect_format.specs.declared.error.ParseErrorKind.TheVariants as texts
 use Rattle.reflect_text.specs.Places.{option_place, StandsFrom}
 use Rattle.reflect_text.specs.TypedOptions.{TypedFiles}
 use Rattle.reflect_schema.specs.declared.error.SchemaError.{SchemaError}
@@ -29,6 +32,12 @@ abbrev pub of_wire : WireError → SchemaError
 of_wire wire.Memory = Memory
 of_wire wire.TooLong = TooLong
 of_wire e = Wire e
+
+-- a refusal of a text, by its kind, as one of the schema
+abbrev pub of_text : text.ParseError → ParseErrorKind → SchemaError
+of_text e texts.Memory = Memory
+of_text e (texts.TooLong span) = TooLong
+of_text e _ = Text e
 
 -- there is a message type of the name
 abbrev pub IsKnown : PoolType → List ℕ → Type 0
@@ -56,7 +65,6 @@ BytesRefused p name _ = ⊥
 abbrev pub TextRefused : PoolType → List ℕ → SchemaError → Type 0
 TextRefused p name (UnknownType n) = (string_bytes n ≡ name) × IsUnknown p name
 TextRefused p name (Text e) = IsKnown p name × TrueOf p e.kind
-TextRefused p name TooLong = IsKnown p name
 TextRefused p name Memory = Unit {0}
 TextRefused p name _ = ⊥
 

@@ -171,9 +171,9 @@ impl From<WireError> for SchemaError {
 }
 
 impl From<TextError> for SchemaError {
-    ghost use Rattle.reflect_schema.specs.declared.error.SchemaError.TheVariants.{Memory, TooLong, Text};
+    ghost use Rattle.reflect_schema.specs.Refusals.{of_text};
 
-    ghost from_gives = { λ error e. (e ≡ Memory) ⊎ (e ≡ TooLong) ⊎ (e ≡ Text error) };
+    ghost from_gives = { λ error e. e ≡ of_text error error.kind };
 
     fn from(error: TextError) -> SchemaError {
         match error.kind() {

@@ -1,5 +1,8 @@
 //! The program `schema`, over any files and any streams.
 
+ghost use Rattle.std.specs.Prelude.{◌≡◌};
+ghost use Rattle.reflect_schema.specs.Statuses.{status_of};
+
 use crate::command_line::{Request, Task, parse, requested};
 use crate::error::SchemaError;
 use crate::payload::{Fault, serve, write_bytes};
@@ -40,7 +43,9 @@ enum RunFault {
 
 impl RunFault {
     /// The status that the program ends with.
-    fn status(&self) -> u8 {
+    fn status(&self) -> u8
+        ensures { result ≡ status_of self.now }
+    {
         match self {
             RunFault::Schema(SchemaError::Memory) => 5,
             RunFault::Schema(_) | RunFault::SourceNotUtf8(_) => 1,

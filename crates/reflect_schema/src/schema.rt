@@ -157,8 +157,7 @@ impl Schema {
 
     /// The wire bytes of the message of a type that a text spells. The type's full name may have one leading dot.
     ///
-    /// `UnknownType` where there is no such type, `Text` with the first fault of the text, `TooLong` where the bytes are more
-    /// than a length can say.
+    /// `UnknownType` where there is no such type, `Text` with the first fault of the text.
     pub fn encode(&self, type_name: &str, text: &str) -> Result<Vec<u8>, SchemaError>
         ensures ok { IfOk result (λ written. Encoded self.now.pool type_name.now written.items) }
         ensures err { IfErr result (TextRefused self.now.pool type_name.now) }
@@ -186,7 +185,7 @@ impl Schema {
     /// The one form in which the message of a type is written that wire bytes spell: declared fields by ascending number, then
     /// the records of undeclared fields by ascending number. The type's full name may have one leading dot.
     ///
-    /// Refused as `decode` is, and `TooLong` where the bytes are more than a length can say.
+    /// Refused as `decode` is.
     pub fn recode(&self, type_name: &str, bytes: &[u8]) -> Result<Vec<u8>, SchemaError>
         ensures ok { IfOk result (λ written. Recoded self.now.pool type_name.now bytes.now written.items) }
         ensures err { IfErr result (BytesRefused self.now.pool type_name.now) }
