@@ -1,6 +1,6 @@
-// Measures what the program `bench` measures, by the C++ library of protobuf. `tools/measure` builds and runs it.
+// Measures what tools/bench.rattle measures, by the C++ library of protobuf. `tools/measure` builds and runs it.
 //
-// usage: peer FOLDER [SOURCE], where FOLDER holds what `bench inputs FOLDER` wrote and SOURCE is a descriptor.proto.
+// usage: peer FOLDER [SOURCE], where FOLDER holds the inputs that `tools/measure` wrote and SOURCE is a descriptor.proto.
 
 #include <google/protobuf/compiler/importer.h>
 #include <google/protobuf/compiler/parser.h>

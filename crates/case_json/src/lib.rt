@@ -1,7 +1,7 @@
-//! Cases in JSON: their members, the records that they spell, and what is said of a case that does not hold.
+//! Cases in JSON: their members, and what comes of a case beside what is wanted.
 #![tactic(auto)]
 
-pub mod json;
-pub mod records;
+pub mod members;
+mod told;
 
-pub use json::Difference;
+pub use told::Told;

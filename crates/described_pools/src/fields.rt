@@ -1,24 +1,29 @@
-//! What the readers of fields and extensions answer, as lines of text.
+//! Lines of fields and extensions.
 
-use crate::declarations::{dotted, or_dash, record_name};
+use crate::parts::{or_dash, record_name, write_path};
 use reflect_dynamic::{AnyField, FieldDescriptorLike};
 use reflect_link::{
     Cardinality, DefaultValue, ExtensionDescriptor, FieldDescriptor, FieldReaders, InFile, Kind,
 };
-use std::alloc::{AllocError, Global};
+use std::alloc::AllocError;
 
 /// A field's name, and what finds it again.
-pub fn field_line(alloc: Global, field: FieldDescriptor<'_>) -> Result<String, AllocError> {
+pub fn write_field(out: &mut String, field: FieldDescriptor<'_>) -> Result<(), AllocError> {
     let message = field.parent_message();
     let by_number = message.get_field(field.number());
     let by_name = message.get_field_by_name(field.name());
     let by_json_name = message.get_field_by_json_name(or_dash(field.json_name()));
-    let line = format!(in alloc;
-        "field {} name={} json={} path={} in={} record={} found={},{},{} required={} oneof={}{}",
+    write!(
+        out,
+        "field {} name={} json={}",
         field.full_name(),
         field.name(),
         or_dash(field.json_name()),
-        dotted(alloc, field.path())?,
+    )?;
+    write_path(out, field.path())?;
+    write!(
+        out,
+        " in={} record={} found={},{},{} required={} oneof={}",
         message.full_name(),
         record_name(&field.field_descriptor_proto().name),
         or_dash(by_number.map(|field| field.name())),
@@ -26,42 +31,41 @@ pub fn field_line(alloc: Global, field: FieldDescriptor<'_>) -> Result<String, A
         or_dash(by_json_name.map(|field| field.name())),
         field.is_required(),
         or_dash(field.containing_oneof().map(|oneof| oneof.name())),
-        form(alloc, AnyField::Field(field), field.cardinality())?,
     )?;
-    Ok(line)
+    write_form(out, AnyField::Field(field), field.cardinality())
 }
 
 /// An extension's name, and what finds it again.
-pub fn extension_line(
-    alloc: Global,
+pub fn write_extension(
+    out: &mut String,
     extension: ExtensionDescriptor<'_>,
-) -> Result<String, AllocError> {
-    let line = format!(in alloc;
-        "extension {} name={} json={} path={} file={} package={} in={} of={} record={} found={}{}",
+) -> Result<(), AllocError> {
+    write!(
+        out,
+        "extension {} name={} json={}",
         extension.full_name(),
         extension.name(),
         extension.json_name(),
-        dotted(alloc, extension.path())?,
+    )?;
+    write_path(out, extension.path())?;
+    write!(
+        out,
+        " file={} package={} in={} of={} record={}",
         extension.parent_file().name(),
         extension.package_name(),
         or_dash(extension.parent_message().map(|holder| holder.full_name())),
         extension.containing_message().full_name(),
         record_name(&extension.field_descriptor_proto().name),
-        extension_lookups(alloc, extension)?,
-        form(
-            alloc,
-            AnyField::Extension(extension),
-            extension.cardinality()
-        )?,
     )?;
-    Ok(line)
+    write_extension_lookups(out, extension)?;
+    write_form(out, AnyField::Extension(extension), extension.cardinality())
 }
 
 /// The extension of its message that has its number, its full name, its JSON name, and that of the pool with its full name.
-fn extension_lookups(
-    alloc: Global,
+fn write_extension_lookups(
+    out: &mut String,
     extension: ExtensionDescriptor<'_>,
-) -> Result<String, AllocError> {
+) -> Result<(), AllocError> {
     let message = extension.containing_message();
     let by_number = message.get_extension(extension.number());
     let by_name = message.get_extension_by_full_name(extension.full_name());
@@ -69,34 +73,47 @@ fn extension_lookups(
     let in_pool = extension
         .parent_pool()
         .get_extension_by_name(extension.full_name());
-    let found = format!(in alloc;
-        "{},{},{},{}",
+    write!(
+        out,
+        " found={},{},{},{}",
         or_dash(by_number.map(|it| it.full_name())),
         or_dash(by_name.map(|it| it.full_name())),
         or_dash(by_json_name.map(|it| it.full_name())),
         or_dash(in_pool.map(|it| it.full_name())),
-    )?;
-    Ok(found)
+    )
+}
+
+fn cardinality_name(cardinality: Cardinality) -> &'static str {
+    match cardinality {
+        Cardinality::Optional => "Optional",
+        Cardinality::Required => "Required",
+        Cardinality::Repeated => "Repeated",
+    }
 }
 
 /// What fields and extensions have in common.
-fn form(
-    alloc: Global,
+fn write_form(
+    out: &mut String,
     field: AnyField<'_>,
     cardinality: Cardinality,
-) -> Result<String, AllocError> {
-    let form = format!(in alloc;
-        " number={} {cardinality:?} kind={} default={} group={} list={} map={} packed={} presence={}\n",
+) -> Result<(), AllocError> {
+    write!(
+        out,
+        " number={} {} kind={}",
         field.number(),
+        cardinality_name(cardinality),
         kind_name(field.kind()),
-        default_text(alloc, field.default())?,
+    )?;
+    write_default(out, field.default())?;
+    writeln!(
+        out,
+        " group={} list={} map={} packed={} presence={}",
         field.is_group(),
         field.is_list(),
         field.is_map(),
         field.is_packed(),
         field.supports_presence(),
-    )?;
-    Ok(form)
+    )
 }
 
 /// The keyword of a kind, or the full name of its type.
@@ -122,20 +139,23 @@ fn kind_name<'p>(kind: Kind<'p>) -> &'p str {
     }
 }
 
-fn hex_of(alloc: Global, bytes: &[u8]) -> Result<String, AllocError> {
-    hex::encode(alloc, bytes).map_err(|_| AllocError)
+fn write_hex(out: &mut String, bytes: &[u8]) -> Result<(), AllocError> {
+    for byte in bytes {
+        write!(out, "{byte:02x}")?;
+    }
+    Ok(())
 }
 
-fn default_text(alloc: Global, default: Option<DefaultValue<'_>>) -> Result<String, AllocError> {
-    let text = match default {
-        None => String::new(alloc),
-        Some(DefaultValue::I64(number)) => format!(in alloc; "{number}")?,
-        Some(DefaultValue::U64(number)) => format!(in alloc; "{number}")?,
-        Some(DefaultValue::Bool(truth)) => format!(in alloc; "{truth}")?,
-        Some(DefaultValue::Text(text)) => hex_of(alloc, text.as_bytes())?,
-        Some(DefaultValue::Bytes(bytes)) => hex_of(alloc, bytes)?,
-        Some(DefaultValue::Enum(number)) => format!(in alloc; "enum {number}")?,
-        Some(DefaultValue::Float(text)) => format!(in alloc; "float {text}")?,
-    };
-    Ok(text)
+fn write_default(out: &mut String, default: Option<DefaultValue<'_>>) -> Result<(), AllocError> {
+    out.push_str(" default=")?;
+    match default {
+        None => Ok(()),
+        Some(DefaultValue::I64(number)) => write!(out, "{number}"),
+        Some(DefaultValue::U64(number)) => write!(out, "{number}"),
+        Some(DefaultValue::Bool(truth)) => write!(out, "{truth}"),
+        Some(DefaultValue::Text(text)) => write_hex(out, text.as_bytes()),
+        Some(DefaultValue::Bytes(bytes)) => write_hex(out, bytes),
+        Some(DefaultValue::Enum(number)) => write!(out, "enum {number}"),
+        Some(DefaultValue::Float(text)) => write!(out, "float {text}"),
+    }
 }

@@ -3,5 +3,7 @@
 
 mod declarations;
 mod fields;
+mod parts;
+mod types;
 
 pub use declarations::described;

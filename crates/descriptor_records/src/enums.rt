@@ -5,7 +5,7 @@ use crate::options::Options;
 use std::alloc::{AllocError, Global};
 
 /// An enum type.
-#[derive(PartialEq, Debug, Drop)]
+#[derive(PartialEq, Drop)]
 pub struct EnumDescriptorProto {
     pub name: Option<String>,
     pub value: Vec<EnumValueDescriptorProto>,
@@ -28,7 +28,7 @@ impl EnumDescriptorProto {
 }
 
 /// A value of an enum type.
-#[derive(PartialEq, Debug, Drop)]
+#[derive(PartialEq, Drop)]
 pub struct EnumValueDescriptorProto {
     pub name: Option<String>,
     pub number: Option<i32>,
@@ -36,7 +36,7 @@ pub struct EnumValueDescriptorProto {
 }
 
 /// Numbers that no value of an enum may take: from `start` to `end`, both included.
-#[derive(Clone, Copy, PartialEq, Eq, Debug)]
+#[derive(Clone, Copy, PartialEq, Eq)]
 pub struct EnumReservedRange {
     pub start: Option<i32>,
     pub end: Option<i32>,

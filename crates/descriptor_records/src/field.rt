@@ -6,7 +6,7 @@ use crate::options::Options;
 use std::alloc::AllocError;
 
 /// A field, or an extension.
-#[derive(PartialEq, Debug, Drop)]
+#[derive(PartialEq, Drop)]
 pub struct FieldDescriptorProto {
     pub name: Option<String>,
     pub number: Option<i32>,
@@ -48,7 +48,7 @@ impl FieldDescriptorProto {
 }
 
 /// A group of fields of which at most one is set.
-#[derive(PartialEq, Debug, Drop)]
+#[derive(PartialEq, Drop)]
 pub struct OneofDescriptorProto {
     pub name: Option<String>,
     pub options: Option<Options>,

@@ -10,13 +10,13 @@ use crate::source_info::SourceCodeInfo;
 use std::alloc::{AllocError, Global};
 
 /// Files that belong together, as `protoc --descriptor_set_out` writes them.
-#[derive(PartialEq, Debug, Drop)]
+#[derive(PartialEq, Drop)]
 pub struct FileDescriptorSet {
     pub file: Vec<FileDescriptorProto>,
 }
 
 /// One `.proto` file.
-#[derive(PartialEq, Debug, Drop)]
+#[derive(PartialEq, Drop)]
 pub struct FileDescriptorProto {
     /// The file's name, relative to the root of the sources.
     pub name: Option<String>,

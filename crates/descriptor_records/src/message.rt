@@ -7,7 +7,7 @@ use crate::options::Options;
 use std::alloc::{AllocError, Global};
 
 /// A message type, with the types that are declared in it.
-#[derive(PartialEq, Debug, Drop)]
+#[derive(PartialEq, Drop)]
 pub struct DescriptorProto {
     pub name: Option<String>,
     pub field: Vec<FieldDescriptorProto>,
@@ -75,7 +75,7 @@ pub fn clone_messages(messages: &Vec<DescriptorProto>) -> Result<Vec<DescriptorP
 }
 
 /// Field numbers that extensions may take: from `start`, below `end`.
-#[derive(PartialEq, Debug, Drop)]
+#[derive(PartialEq, Drop)]
 pub struct ExtensionRange {
     pub start: Option<i32>,
     pub end: Option<i32>,
@@ -83,7 +83,7 @@ pub struct ExtensionRange {
 }
 
 /// Field numbers that no field may take: from `start`, below `end`.
-#[derive(Clone, Copy, PartialEq, Eq, Debug)]
+#[derive(Clone, Copy, PartialEq, Eq)]
 pub struct ReservedRange {
     pub start: Option<i32>,
     pub end: Option<i32>,

@@ -8,7 +8,7 @@ use std::alloc::{AllocError, Global};
 /// A declaration's options are a message of a type that `descriptor.proto` defines and that anyone may extend. So they are
 /// kept as that message's wire bytes; beside these stand the few that linking needs, and the options that a source wrote
 /// and that no type has read yet.
-#[derive(PartialEq, Debug, Drop)]
+#[derive(PartialEq, Drop)]
 pub struct Options {
     /// The wire bytes of the settled options.
     pub encoded: Vec<u8>,
@@ -36,7 +36,7 @@ impl Options {
 }
 
 /// An option as it was written.
-#[derive(PartialEq, Debug, Drop)]
+#[derive(PartialEq, Drop)]
 pub struct UninterpretedOption {
     pub name: Vec<NamePart>,
     pub identifier_value: Option<String>,
@@ -64,7 +64,7 @@ impl UninterpretedOption {
 }
 
 /// A part of an option's name.
-#[derive(PartialEq, Debug, Drop)]
+#[derive(PartialEq, Drop)]
 pub struct NamePart {
     pub name_part: String,
     /// The part stood in parentheses, and names an extension.
@@ -72,7 +72,7 @@ pub struct NamePart {
 }
 
 /// A floating-point number that nothing has read.
-#[derive(PartialEq, Debug, Drop)]
+#[derive(PartialEq, Drop)]
 pub enum DoubleValue {
     /// A literal of a source, with its sign.
     Text(String),

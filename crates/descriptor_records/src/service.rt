@@ -5,7 +5,7 @@ use crate::options::Options;
 use std::alloc::AllocError;
 
 /// A service.
-#[derive(PartialEq, Debug, Drop)]
+#[derive(PartialEq, Drop)]
 pub struct ServiceDescriptorProto {
     pub name: Option<String>,
     pub method: Vec<MethodDescriptorProto>,
@@ -13,7 +13,7 @@ pub struct ServiceDescriptorProto {
 }
 
 /// A method of a service.
-#[derive(PartialEq, Debug, Drop)]
+#[derive(PartialEq, Drop)]
 pub struct MethodDescriptorProto {
     pub name: Option<String>,
     pub input_type: Option<String>,

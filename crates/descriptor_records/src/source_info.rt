@@ -4,13 +4,13 @@ ghost use Rattle.descriptor_records.specs.Content.{source_info_view, location_vi
 use std::alloc::AllocError;
 
 /// Where the declarations of a file stand in its source.
-#[derive(PartialEq, Debug, Drop)]
+#[derive(PartialEq, Drop)]
 pub struct SourceCodeInfo {
     pub location: Vec<Location>,
 }
 
 /// Where one part of a file stands, and its comments.
-#[derive(PartialEq, Debug, Drop)]
+#[derive(PartialEq, Drop)]
 pub struct Location {
     /// Which part it is: field numbers of the records from the file down, each of a list followed by an index.
     pub path: Vec<i32>,

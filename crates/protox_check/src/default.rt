@@ -26,7 +26,7 @@ fn suits_type(ty: &Ty, value: &OptionValue) -> bool {
 
 fn is_number(value: &OptionValue) -> bool {
     match value {
-        OptionValue::Int(_) | OptionValue::Float(_) => true,
+        OptionValue::Int(_) | OptionValue::Float { .. } | OptionValue::NegativeWord(_) => true,
         OptionValue::Ident(ident) => matches!(ident.value.as_str(), "inf" | "nan"),
         OptionValue::String(_) | OptionValue::Aggregate(_) => false,
     }

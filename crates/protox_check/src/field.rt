@@ -10,7 +10,7 @@ use std::alloc::{AllocError, Global};
 const MAX_FIELD_NUMBER: i32 = 536870911;
 
 /// What a field stands in directly.
-#[derive(Clone, Copy, PartialEq, Eq, Debug)]
+#[derive(Clone, Copy, PartialEq, Eq)]
 pub enum Holder {
     Message,
     Oneof,
@@ -148,7 +148,7 @@ fn number_fault(number: Int) -> Option<ParseErrorKind> {
 }
 
 /// The first `default` and the first `json_name` that were met.
-#[derive(Clone, Copy, Debug)]
+#[derive(Clone, Copy)]
 struct Met {
     default: Option<Span>,
     json_name: Option<Span>,

@@ -9,7 +9,7 @@ use protox_tree::{
 use std::alloc::{AllocError, Global};
 
 /// The numbers that a bound may be.
-#[derive(Clone, Copy, PartialEq, Eq, Debug)]
+#[derive(Clone, Copy)]
 enum Numbers {
     Fields,
     EnumValues,

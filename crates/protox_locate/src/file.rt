@@ -10,7 +10,7 @@ use protox_tree::{File, FileItem, Import, ImportKind};
 use std::alloc::{AllocError, Global};
 
 /// How many entries the lists of a file's record have so far.
-#[derive(Clone, Copy, Debug)]
+#[derive(Clone, Copy)]
 struct FileCounts {
     dependencies: Count,
     public_dependencies: Count,

@@ -7,7 +7,7 @@ use protox_lex::Comments;
 use std::alloc::{AllocError, Global};
 
 /// What follows a gap.
-#[derive(Clone, Copy, PartialEq, Eq, Debug)]
+#[derive(Clone, Copy, PartialEq, Eq)]
 pub enum Behind {
     Statement,
     /// The brace that closes what the gap stands in.
@@ -17,7 +17,7 @@ pub enum Behind {
 }
 
 /// The comments of a gap, by what they belong to.
-#[derive(Debug, Drop)]
+#[derive(Drop)]
 pub struct GapComments {
     /// That of the statement in front.
     pub trailing: Option<String>,

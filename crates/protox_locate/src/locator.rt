@@ -4,7 +4,7 @@ use protox_lex::{LineResolver, Span};
 use std::alloc::{AllocError, Global};
 
 /// What stands in front of a gap.
-#[derive(Clone, Copy, Debug)]
+#[derive(Clone, Copy)]
 enum Front {
     /// The start of the source, or a closing brace: no comment trails these.
     Nothing,

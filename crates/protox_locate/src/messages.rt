@@ -14,7 +14,7 @@ use protox_tree::{
 use std::alloc::AllocError;
 
 /// How many entries the lists of a message's record have so far.
-#[derive(Clone, Copy, Debug)]
+#[derive(Clone, Copy)]
 struct MessageCounts {
     fields: Count,
     extensions: Count,

@@ -32,7 +32,7 @@ pub fn extensions(
 }
 
 /// Where a record lists what is reserved in it, and how much it has listed.
-#[derive(Clone, Copy, Debug)]
+#[derive(Clone, Copy)]
 pub struct ReservedLists {
     ranges_tag: i32,
     names_tag: i32,

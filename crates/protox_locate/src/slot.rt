@@ -1,5 +1,5 @@
 /// How many entries the lists of a record have so far.
-#[derive(Clone, Copy, Debug)]
+#[derive(Clone, Copy)]
 pub struct Count {
     entries: i32,
 }
@@ -19,7 +19,7 @@ impl Count {
 }
 
 /// Where a field stands in the record that holds it, and where the type that it declares would.
-#[derive(Clone, Copy, Debug)]
+#[derive(Clone, Copy)]
 pub struct FieldTags {
     pub field: i32,
     pub nested_type: i32,

@@ -6,24 +6,15 @@ ghost use Rattle.protox_tree.specs.declared.error.ParseErrorKind.TheVariants.{Fi
 ghost use Rattle.protox_parse.specs.declared.error.ParseError.TheVariants.{Memory};
 
 use crate::error::{ParseError, Refusal};
-use crate::fault::Stop;
 use crate::file::file;
-use crate::tokens::Tokens;
 use descriptor_records::FileDescriptorProto;
 use protox_check::check_file;
 use protox_lex::LineResolver;
 use protox_locate::source_info;
 use protox_record::file_record;
+use protox_tokens::{Stop, Tokens, one};
 use protox_tree::ParseErrorKind;
-use std::alloc::{AllocError, Global};
-
-fn one(alloc: Global, fault: ParseErrorKind) -> Result<Vec<ParseErrorKind>, AllocError>
-    ensures { IfOk result (λ faults. faults.items ≡ fault ∷ []) }
-{
-    let mut faults = Vec::with_capacity(alloc, 1)?;
-    faults.push(fault)?;
-    Ok(faults)
-}
+use std::alloc::Global;
 
 /// The record of a source of proto2 or proto3, under this file name, with the places and the comments of its declarations.
 ///

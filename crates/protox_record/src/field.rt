@@ -3,7 +3,7 @@
 ghost use Rattle.std.specs.Prelude.{◌≡◌, IfOk, string_bytes};
 ghost use Rattle.protox_record.specs.FieldName.{field_name_of};
 
-use crate::option::add_option;
+use crate::option::{add_option, signed_text};
 use crate::text;
 use descriptor_records::{DescriptorProto, FieldDescriptorProto, FieldType, Label, Options};
 use protox_lex::Escaped;
@@ -103,7 +103,10 @@ fn default_text(alloc: Global, field: &Field, value: &OptionValue) -> Result<Str
     match value {
         OptionValue::Ident(ident) => ident.value.clone(),
         OptionValue::Int(int) => format!(in alloc; "{int}"),
-        OptionValue::Float(float) => float.text.clone(),
+        OptionValue::NegativeWord(word) => signed_text(alloc, true, word.value.as_str()),
+        OptionValue::Float { negative, number } => {
+            signed_text(alloc, *negative, number.text.as_str())
+        }
         OptionValue::String(strings) if is_bytes(field) => {
             let joined = strings.joined(alloc)?;
             format!(in alloc; "{}", Escaped(joined.value.as_slice()))

@@ -42,6 +42,15 @@ fn name_part(alloc: Global, part: &OptionNamePart) -> Result<NamePart, AllocErro
     }
 }
 
+/// The text of a float, or of a word for what is no number, with its sign.
+pub fn signed_text(alloc: Global, negative: bool, text: &str) -> Result<String, AllocError> {
+    if negative {
+        format!(in alloc; "-{text}")
+    } else {
+        String::from_str(alloc, text)
+    }
+}
+
 fn set_value(
     alloc: Global,
     value: &OptionValue,
@@ -51,8 +60,13 @@ fn set_value(
         OptionValue::Ident(ident) => option.identifier_value = Some(ident.value.clone()?),
         OptionValue::Int(int) if int.negative => option.negative_int_value = int.as_i64(),
         OptionValue::Int(int) => option.positive_int_value = Some(int.value),
-        OptionValue::Float(float) => {
-            option.double_value = Some(DoubleValue::Text(float.text.clone()?));
+        OptionValue::NegativeWord(word) => {
+            let text = signed_text(alloc, true, word.value.as_str())?;
+            option.double_value = Some(DoubleValue::Text(text));
+        }
+        OptionValue::Float { negative, number } => {
+            let text = signed_text(alloc, *negative, number.text.as_str())?;
+            option.double_value = Some(DoubleValue::Text(text));
         }
         OptionValue::String(strings) => option.string_value = Some(strings.joined(alloc)?.value),
         OptionValue::Aggregate(aggregate) => {

@@ -5,7 +5,7 @@ use crate::option::{OptionList, OptionStatement};
 use crate::range::Reserved;
 use protox_lex::{Int, Span};
 
-#[derive(Debug, Drop)]
+#[derive(Drop)]
 pub struct Enum {
     pub name: Ident,
     /// From the opening brace to the closing one.
@@ -14,7 +14,7 @@ pub struct Enum {
     pub span: Span,
 }
 
-#[derive(Debug, Drop)]
+#[derive(Drop)]
 pub enum EnumItem {
     Value(EnumValue),
     Option(OptionStatement),
@@ -23,7 +23,7 @@ pub enum EnumItem {
     Empty(Span),
 }
 
-#[derive(Debug, Drop)]
+#[derive(Drop)]
 pub struct EnumValue {
     pub name: Ident,
     pub number: Int,

@@ -30,21 +30,31 @@ pub enum ExpectedToken {
     MessageValue,
 }
 
+impl ExpectedToken {
+    /// The words for what is no one token.
+    fn text(&self) -> &'static str {
+        match self {
+            ExpectedToken::Token(_) => "a token",
+            ExpectedToken::Ident => "an identifier",
+            ExpectedToken::Int => "an integer",
+            ExpectedToken::String => "a string literal",
+            ExpectedToken::TypeName => "a type name",
+            ExpectedToken::OptionValue => "an option value",
+            ExpectedToken::FileItem => "a top-level statement",
+            ExpectedToken::ServiceItem => "'rpc' or 'option'",
+            ExpectedToken::Number => "a number",
+            ExpectedToken::FieldName => "a field name",
+            ExpectedToken::FieldValue => "a field value",
+            ExpectedToken::MessageValue => "':' or a message value",
+        }
+    }
+}
+
 impl fmt::Display for ExpectedToken {
     fn fmt<W: fmt::Write>(&self, f: &mut fmt::Formatter<W>) -> fmt::Result {
         match self {
             ExpectedToken::Token(token) => write!(f, "'{token}'"),
-            ExpectedToken::Ident => f.write_str("an identifier"),
-            ExpectedToken::Int => f.write_str("an integer"),
-            ExpectedToken::String => f.write_str("a string literal"),
-            ExpectedToken::TypeName => f.write_str("a type name"),
-            ExpectedToken::OptionValue => f.write_str("an option value"),
-            ExpectedToken::FileItem => f.write_str("a top-level statement"),
-            ExpectedToken::ServiceItem => f.write_str("'rpc' or 'option'"),
-            ExpectedToken::Number => f.write_str("a number"),
-            ExpectedToken::FieldName => f.write_str("a field name"),
-            ExpectedToken::FieldValue => f.write_str("a field value"),
-            ExpectedToken::MessageValue => f.write_str("':' or a message value"),
+            _ => f.write_str(self.text()),
         }
     }
 }

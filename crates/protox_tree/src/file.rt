@@ -10,7 +10,7 @@ use crate::types::Syntax;
 use protox_lex::Span;
 
 /// A source as a tree.
-#[derive(Debug, Drop)]
+#[derive(Drop)]
 pub struct File {
     pub syntax: Option<SyntaxStatement>,
     pub items: Vec<FileItem>,
@@ -29,14 +29,14 @@ impl File {
 }
 
 /// The statement `syntax = .. ;`.
-#[derive(Debug, Drop)]
+#[derive(Drop)]
 pub struct SyntaxStatement {
     pub syntax: Syntax,
     pub value: Strings,
     pub span: Span,
 }
 
-#[derive(Debug, Drop)]
+#[derive(Drop)]
 pub enum FileItem {
     Import(Import),
     Package(Package),
@@ -49,7 +49,23 @@ pub enum FileItem {
     Empty(Span),
 }
 
-#[derive(Debug, Drop)]
+impl FileItem {
+    /// From the first token of the statement to the last.
+    pub fn span(&self) -> Span {
+        match self {
+            FileItem::Import(import) => import.span,
+            FileItem::Package(package) => package.span,
+            FileItem::Option(option) => option.span,
+            FileItem::Message(message) => message.span,
+            FileItem::Enum(enumeration) => enumeration.span,
+            FileItem::Service(service) => service.span,
+            FileItem::Extend(extend) => extend.span,
+            FileItem::Empty(span) => *span,
+        }
+    }
+}
+
+#[derive(Drop)]
 pub struct Import {
     /// The word that stands behind `import`.
     pub kind: Option<(ImportKind, Span)>,
@@ -57,13 +73,13 @@ pub struct Import {
     pub span: Span,
 }
 
-#[derive(Clone, Copy, PartialEq, Eq, Debug)]
+#[derive(Clone, Copy)]
 pub enum ImportKind {
     Weak,
     Public,
 }
 
-#[derive(Debug, Drop)]
+#[derive(Drop)]
 pub struct Package {
     pub name: FullIdent,
     pub span: Span,

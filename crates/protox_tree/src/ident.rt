@@ -1,20 +1,22 @@
 //! Names.
 
-ghost use Rattle.std.specs.Prelude.{◌<◌, vec_len};
+ghost use Rattle.std.specs.Prelude.{◌≡◌, ◌<◌, vec_len};
 
 use protox_lex::Span;
 use std::alloc::{AllocError, Global};
 use std::fmt;
 
 /// A name without dots.
-#[derive(Debug, Drop)]
+#[derive(Drop)]
 pub struct Ident {
     pub value: String,
     pub span: Span,
 }
 
 impl Ident {
-    pub fn new(value: String, span: Span) -> Ident {
+    pub fn new(value: String, span: Span) -> Ident
+        ensures { result ≡ record { value = value; span = span } }
+    {
         Ident { value, span }
     }
 }
@@ -26,13 +28,15 @@ impl fmt::Display for Ident {
 }
 
 /// Names with dots between them, at least one.
-#[derive(Debug, Drop)]
+#[derive(Drop)]
 pub struct FullIdent {
     parts: Vec<Ident>,
     ghost some: { 0 < vec_len parts },
 }
 
 impl FullIdent {
+    ghost use Rattle.protox_tree.specs.View.{full_view, idents_view};
+
     /// Of one part. Refused only for want of memory.
     pub fn from_ident(alloc: Global, ident: Ident) -> Result<FullIdent, AllocError> {
         let mut parts = Vec::with_capacity(alloc, 1)?;
@@ -42,6 +46,7 @@ impl FullIdent {
 
     pub fn from_idents(parts: Vec<Ident>) -> FullIdent
         requires { 0 < vec_len parts }
+        ensures { full_view result ≡ idents_view parts.items }
     {
         FullIdent { parts }
     }
@@ -86,7 +91,7 @@ impl fmt::Display for FullIdent {
 }
 
 /// The name of a type, which may begin with a dot.
-#[derive(Debug, Drop)]
+#[derive(Drop)]
 pub struct TypeName {
     pub leading_dot: Option<Span>,
     pub name: FullIdent,

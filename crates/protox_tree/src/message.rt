@@ -8,7 +8,7 @@ use crate::types::Ty;
 use descriptor_records::Label;
 use protox_lex::{Int, Span};
 
-#[derive(Debug, Drop)]
+#[derive(Drop)]
 #[cycle(message)]
 pub struct Message {
     pub name: Ident,
@@ -18,7 +18,7 @@ pub struct Message {
     pub span: Span,
 }
 
-#[derive(Debug, Drop)]
+#[derive(Drop)]
 #[cycle(message)]
 pub enum MessageItem {
     Field(Field),
@@ -34,7 +34,7 @@ pub enum MessageItem {
 }
 
 /// A field, a group or a map.
-#[derive(Debug, Drop)]
+#[derive(Drop)]
 #[cycle(message)]
 pub struct Field {
     pub label: Option<(Label, Span)>,
@@ -45,7 +45,7 @@ pub struct Field {
     pub span: Span,
 }
 
-#[derive(Debug, Drop)]
+#[derive(Drop)]
 #[cycle(message)]
 pub enum FieldKind {
     Normal(Ty),
@@ -54,7 +54,7 @@ pub enum FieldKind {
 }
 
 /// What makes a field a group: its word and its body.
-#[derive(Debug, Drop)]
+#[derive(Drop)]
 #[cycle(message)]
 pub struct Group {
     pub word: Span,
@@ -64,7 +64,7 @@ pub struct Group {
 }
 
 /// The type of a map.
-#[derive(Debug, Drop)]
+#[derive(Drop)]
 pub struct Map {
     pub key: Ty,
     pub value: Ty,
@@ -72,7 +72,7 @@ pub struct Map {
     pub span: Span,
 }
 
-#[derive(Debug, Drop)]
+#[derive(Drop)]
 #[cycle(message)]
 pub struct Oneof {
     pub name: Ident,
@@ -82,7 +82,7 @@ pub struct Oneof {
     pub span: Span,
 }
 
-#[derive(Debug, Drop)]
+#[derive(Drop)]
 #[cycle(message)]
 pub enum OneofItem {
     Field(Field),
@@ -92,7 +92,7 @@ pub enum OneofItem {
 }
 
 /// Fields that another type is extended by.
-#[derive(Debug, Drop)]
+#[derive(Drop)]
 #[cycle(message)]
 pub struct Extend {
     pub extendee: TypeName,
@@ -102,7 +102,7 @@ pub struct Extend {
     pub span: Span,
 }
 
-#[derive(Debug, Drop)]
+#[derive(Drop)]
 #[cycle(message)]
 pub enum ExtendItem {
     Field(Field),

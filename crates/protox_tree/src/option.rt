@@ -9,7 +9,7 @@ use std::alloc::{AllocError, Global};
 use std::fmt;
 
 /// A part of an option's name.
-#[derive(Debug, Drop)]
+#[derive(Drop)]
 pub enum OptionNamePart {
     Ident(Ident),
     /// The name of an extension, in parentheses, and the span with these.
@@ -27,7 +27,7 @@ impl OptionNamePart {
 }
 
 /// The text between the outer braces of a value: its tokens, with one space between each two.
-#[derive(Debug, Drop)]
+#[derive(Drop)]
 pub struct Aggregate {
     pub text: String,
     /// With the outer braces.
@@ -35,11 +35,14 @@ pub struct Aggregate {
 }
 
 /// The value of an option.
-#[derive(Debug, Drop)]
+#[derive(Drop)]
 pub enum OptionValue {
     Ident(Ident),
+    /// The word `inf` or `nan` behind a minus. The span begins with the minus.
+    NegativeWord(Ident),
     Int(Int),
-    Float(Float),
+    /// A number with a point or an exponent. The sign stands apart from the text; the span begins with it.
+    Float { negative: bool, number: Float },
     String(Strings),
     Aggregate(Aggregate),
 }
@@ -47,9 +50,9 @@ pub enum OptionValue {
 impl OptionValue {
     pub fn span(&self) -> Span {
         match self {
-            OptionValue::Ident(ident) => ident.span,
+            OptionValue::Ident(ident) | OptionValue::NegativeWord(ident) => ident.span,
             OptionValue::Int(int) => int.span,
-            OptionValue::Float(float) => float.span,
+            OptionValue::Float { number, .. } => number.span,
             OptionValue::String(strings) => strings.span(),
             OptionValue::Aggregate(aggregate) => aggregate.span,
         }
@@ -78,13 +81,15 @@ impl fmt::Display for OptionValue {
     fn fmt<W: fmt::Write>(&self, f: &mut fmt::Formatter<W>) -> fmt::Result {
         match self {
             OptionValue::Ident(ident) => write!(f, "{ident}"),
+            OptionValue::NegativeWord(ident) => write!(f, "- {ident}"),
             OptionValue::Int(int) => {
-                if int.negative {
-                    f.write_str("- ")?;
-                }
+                write_sign(f, int.negative)?;
                 write!(f, "{}", int.value)
             }
-            OptionValue::Float(float) => write_float(f, float.text.as_str()),
+            OptionValue::Float { negative, number } => {
+                write_sign(f, *negative)?;
+                f.write_str(number.text.as_str())
+            }
             OptionValue::String(strings) => write_strings(f, strings),
             OptionValue::Aggregate(aggregate) if aggregate.text.as_str().is_empty() => {
                 f.write_str("{ }")
@@ -94,11 +99,8 @@ impl fmt::Display for OptionValue {
     }
 }
 
-fn write_float<W: fmt::Write>(f: &mut fmt::Formatter<W>, text: &str) -> fmt::Result {
-    match text.strip_prefix("-") {
-        Some(text) => write!(f, "- {text}"),
-        None => f.write_str(text),
-    }
+fn write_sign<W: fmt::Write>(f: &mut fmt::Formatter<W>, negative: bool) -> fmt::Result {
+    f.write_str(if negative { "- " } else { "" })
 }
 
 fn write_strings<W: fmt::Write>(f: &mut fmt::Formatter<W>, strings: &Strings) -> fmt::Result {
@@ -112,7 +114,7 @@ fn write_strings<W: fmt::Write>(f: &mut fmt::Formatter<W>, strings: &Strings) ->
 }
 
 /// An option's name and value.
-#[derive(Debug, Drop)]
+#[derive(Drop)]
 pub struct OptionBody {
     /// At least one part.
     pub name: Vec<OptionNamePart>,
@@ -149,14 +151,14 @@ impl OptionBody {
 }
 
 /// The statement `option .. ;`.
-#[derive(Debug, Drop)]
+#[derive(Drop)]
 pub struct OptionStatement {
     pub body: OptionBody,
     pub span: Span,
 }
 
 /// Options in brackets.
-#[derive(Debug, Drop)]
+#[derive(Drop)]
 pub struct OptionList {
     pub options: Vec<OptionBody>,
     /// With the brackets.

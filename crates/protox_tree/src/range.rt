@@ -5,7 +5,7 @@ use crate::text::Strings;
 use protox_lex::{Int, Span};
 
 /// The second bound of a range.
-#[derive(Clone, Copy, PartialEq, Eq, Debug)]
+#[derive(Clone, Copy)]
 pub enum RangeEnd {
     /// The range is one number.
     None,
@@ -15,7 +15,7 @@ pub enum RangeEnd {
 }
 
 /// Numbers from one bound to another, both included.
-#[derive(Clone, Copy, PartialEq, Eq, Debug)]
+#[derive(Clone, Copy)]
 pub struct ReservedRange {
     pub start: Int,
     pub end: RangeEnd,
@@ -44,7 +44,7 @@ impl ReservedRange {
 }
 
 /// The statement `extensions .. ;`.
-#[derive(Debug, Drop)]
+#[derive(Drop)]
 pub struct Extensions {
     pub ranges: Vec<ReservedRange>,
     pub options: Option<OptionList>,
@@ -52,14 +52,14 @@ pub struct Extensions {
 }
 
 /// What a `reserved` statement lists.
-#[derive(Debug, Drop)]
+#[derive(Drop)]
 pub enum ReservedItems {
     Ranges(Vec<ReservedRange>),
     Names(Vec<Strings>),
 }
 
 /// The statement `reserved .. ;`.
-#[derive(Debug, Drop)]
+#[derive(Drop)]
 pub struct Reserved {
     pub items: ReservedItems,
     pub span: Span,

@@ -4,7 +4,7 @@ use crate::ident::{Ident, TypeName};
 use crate::option::OptionStatement;
 use protox_lex::Span;
 
-#[derive(Debug, Drop)]
+#[derive(Drop)]
 pub struct Service {
     pub name: Ident,
     /// From the opening brace to the closing one.
@@ -13,7 +13,7 @@ pub struct Service {
     pub span: Span,
 }
 
-#[derive(Debug, Drop)]
+#[derive(Drop)]
 pub enum ServiceItem {
     Method(Method),
     Option(OptionStatement),
@@ -21,7 +21,7 @@ pub enum ServiceItem {
     Empty(Span),
 }
 
-#[derive(Debug, Drop)]
+#[derive(Drop)]
 pub struct Method {
     pub name: Ident,
     pub input: MethodType,
@@ -32,7 +32,7 @@ pub struct Method {
 }
 
 /// What stands in the braces of a method.
-#[derive(Debug, Drop)]
+#[derive(Drop)]
 pub struct MethodBody {
     /// From the opening brace to the closing one.
     pub braces: Span,
@@ -40,14 +40,14 @@ pub struct MethodBody {
 }
 
 /// What a method takes or gives.
-#[derive(Debug, Drop)]
+#[derive(Drop)]
 pub struct MethodType {
     /// The word `stream`.
     pub stream: Option<Span>,
     pub name: TypeName,
 }
 
-#[derive(Debug, Drop)]
+#[derive(Drop)]
 pub enum MethodItem {
     Option(OptionStatement),
     /// A semicolon alone.

@@ -1,20 +1,23 @@
 //! Strings that are written as several literals.
 
-ghost use Rattle.std.specs.Prelude.{◌<◌, vec_len};
+ghost use Rattle.std.specs.Prelude.{◌≡◌, ◌<◌, vec_len};
 
 use protox_lex::{Span, String as Literal};
 use std::alloc::{AllocError, Global};
 
 /// String literals that stand one after the other and mean one string, at least one.
-#[derive(Debug, Drop)]
+#[derive(Drop)]
 pub struct Strings {
     literals: Vec<Literal>,
     ghost some: { 0 < vec_len literals },
 }
 
 impl Strings {
+    ghost use Rattle.protox_tree.specs.View.{strings_view, literals_view};
+
     pub fn from_literals(literals: Vec<Literal>) -> Strings
         requires { 0 < vec_len literals }
+        ensures { strings_view result ≡ literals_view literals.items }
     {
         Strings { literals }
     }

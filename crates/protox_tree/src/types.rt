@@ -1,5 +1,9 @@
 //! Types, and the two syntaxes.
 
+ghost use Rattle.std.specs.Prelude.{◌≡◌};
+ghost use Rattle.std.specs.Str.{bytes_eq};
+ghost use Rattle.protox_tree.specs.Scalar.{scalar_of};
+
 use crate::ident::TypeName;
 use descriptor_records::FieldType;
 use protox_lex::Span;
@@ -23,33 +27,56 @@ impl fmt::Display for Syntax {
 }
 
 /// The type of a field.
-#[derive(Debug, Drop)]
+#[derive(Drop)]
 pub enum Ty {
     /// One of the types that have a word of their own.
     Scalar(FieldType, Span),
     Named(TypeName),
 }
 
+fn is_word(text: &str, word: &str) -> bool
+    ensures { result ≡ bytes_eq text.now word.now }
+{
+    text == word
+}
+
 impl Ty {
     /// The scalar type of a word, if it is the word of one.
-    pub fn scalar(word: &str) -> Option<FieldType> {
-        match word {
-            "double" => Some(FieldType::Double),
-            "float" => Some(FieldType::Float),
-            "int32" => Some(FieldType::Int32),
-            "int64" => Some(FieldType::Int64),
-            "uint32" => Some(FieldType::Uint32),
-            "uint64" => Some(FieldType::Uint64),
-            "sint32" => Some(FieldType::Sint32),
-            "sint64" => Some(FieldType::Sint64),
-            "fixed32" => Some(FieldType::Fixed32),
-            "fixed64" => Some(FieldType::Fixed64),
-            "sfixed32" => Some(FieldType::Sfixed32),
-            "sfixed64" => Some(FieldType::Sfixed64),
-            "bool" => Some(FieldType::Bool),
-            "string" => Some(FieldType::String),
-            "bytes" => Some(FieldType::Bytes),
-            _ => None,
+    pub fn scalar(word: &str) -> Option<FieldType>
+        ensures { result ≡ scalar_of word.now }
+    {
+        if is_word(word, "double") {
+            Some(FieldType::Double)
+        } else if is_word(word, "float") {
+            Some(FieldType::Float)
+        } else if is_word(word, "int32") {
+            Some(FieldType::Int32)
+        } else if is_word(word, "int64") {
+            Some(FieldType::Int64)
+        } else if is_word(word, "uint32") {
+            Some(FieldType::Uint32)
+        } else if is_word(word, "uint64") {
+            Some(FieldType::Uint64)
+        } else if is_word(word, "sint32") {
+            Some(FieldType::Sint32)
+        } else if is_word(word, "sint64") {
+            Some(FieldType::Sint64)
+        } else if is_word(word, "fixed32") {
+            Some(FieldType::Fixed32)
+        } else if is_word(word, "fixed64") {
+            Some(FieldType::Fixed64)
+        } else if is_word(word, "sfixed32") {
+            Some(FieldType::Sfixed32)
+        } else if is_word(word, "sfixed64") {
+            Some(FieldType::Sfixed64)
+        } else if is_word(word, "bool") {
+            Some(FieldType::Bool)
+        } else if is_word(word, "string") {
+            Some(FieldType::String)
+        } else if is_word(word, "bytes") {
+            Some(FieldType::Bytes)
+        } else {
+            None
         }
     }
 

@@ -5,10 +5,10 @@ use Rattle.descriptor_records.specs.declared.file.FileDescriptorSet.{FileDescrip
 use Rattle.reflect_wire.specs.declared.wire_error.WireError.{WireError}
 use Rattle.reflect_wire.specs.declared.wire_error.WireError.TheVariants as wire
 use Rattle.reflect_codec.specs.Meaning.{IsFileBytes, IsSetBytes}
-use Rattle.reflect_index.specs.Types.{PoolType}
+use Rattle.reflect_tables.specs.Types.{PoolType}
 use Rattle.reflect_passes.specs.Errors.{Refuses}
-use Rattle.reflect_pool.specs.Accepted.{AddsFiles, FaultlessFiles}
-use Rattle.reflect_pool.specs.Refusals.{FaultyFiles}
+use Rattle.reflect_build.specs.Accepted.{AddsFiles, FaultlessFiles}
+use Rattle.reflect_build.specs.Refusals.{FaultyFiles}
 use Rattle.reflect_bytes.specs.declared.pool_ext.PoolError.{PoolError}
 use Rattle.reflect_bytes.specs.declared.pool_ext.PoolError.TheVariants.{Wire, Link, Memory}
 

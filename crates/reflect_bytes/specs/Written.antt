@@ -3,7 +3,7 @@ use Rattle.std.specs.Prelude.{◌≡◌, ℕ, List, Some, slice_get}
 use Rattle.descriptor_records.specs.declared.file.FileDescriptorProto.{FileDescriptorProto}
 use Rattle.reflect_codec.specs.Fields.{records_field}
 use Rattle.reflect_codec.specs.Written.{file_bytes}
-use Rattle.reflect_index.specs.Types.{PoolType}
+use Rattle.reflect_tables.specs.Types.{PoolType}
 
 -- the bytes of the set of a pool's files
 abbrev pub pool_bytes : PoolType → List ℕ

@@ -1,13 +1,14 @@
 //! Files for a pool, from descriptor records and from the bytes of descriptor sets.
 
 ghost use Rattle.std.specs.Prelude.{◌≡◌, ◌⊎◌, ◌∷◌, [], IfOk, OnOk, OnErr, IfErr};
-ghost use Rattle.reflect_index.specs.Types.{PoolType};
+ghost use Rattle.reflect_tables.specs.Types.{PoolType};
 ghost use Rattle.reflect_pool.specs.Linked.{empty_pool};
 ghost use Rattle.reflect_bytes.specs.Spelled.{SpellsSet, SpellsFile, of_wire, RecordsLinked, RecordsRefused, BytesLinked, BytesRefused};
 
 use descriptor_records::{FileDescriptorProto, FileDescriptorSet};
+use reflect_build::{BuildFiles, DescriptorError};
 use reflect_codec::{decode_file, decode_set};
-use reflect_link::{DescriptorError, DescriptorPool};
+use reflect_link::DescriptorPool;
 use reflect_wire::WireError;
 use std::alloc::{AllocFailed, Global};
 use thiserror::Error;

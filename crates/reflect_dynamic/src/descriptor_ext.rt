@@ -1,8 +1,7 @@
 //! What descriptors say of values.
 
-use crate::defaults::default_of;
-use crate::value::Value;
 use reflect_link::{ExtensionDescriptor, FieldDescriptor, Kind};
+use reflect_message::{Value, default_of};
 use reflect_wire::WireType;
 use std::alloc::{AllocError, Global};
 

@@ -1,12 +1,13 @@
 //! The options of declarations, read by the types that a pool has for them (protobuf.dev, "Options").
 
-use crate::message::DynamicMessage;
 use descriptor_records::Options;
+use reflect_decode::DecodeMessage;
 use reflect_link::{
     DescriptorPool, EnumDescriptor, EnumReaders, EnumValueDescriptor, EnumValueReaders,
     ExtensionDescriptor, FieldDescriptor, FieldReaders, FileDescriptor, MessageDescriptor,
     MessageReaders, MethodDescriptor, OneofDescriptor, OneofReaders, ServiceDescriptor,
 };
+use reflect_message::DynamicMessage;
 use reflect_wire::WireError;
 use std::alloc::Global;
 

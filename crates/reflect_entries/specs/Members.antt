@@ -1,7 +1,7 @@
 -- The members of oneofs.
 use Rattle.std.specs.Prelude.{ℕ, ◌==◌, cond, List, [], ◌∷◌, Option, Some, None}
 use Rattle.std.specs.Option.{option_and_then}
-use Rattle.reflect_index.specs.Types.{FieldType}
+use Rattle.reflect_tables.specs.Types.{FieldType}
 use Rattle.reflect_pool.specs.FieldsLeft.{field_type}
 use Rattle.reflect_pool.specs.Parts.{members_of}
 use Rattle.reflect_pool.specs.declared.field.FieldDescriptor.{FieldDescriptor}

@@ -2,9 +2,9 @@
 use Rattle.std.proofs.Common.{suc, List, ◌∷◌, refl, arith}
 use Rattle.std.specs.Prelude.{IsSome}
 use Rattle.reflect_entries.specs.Entries.{value_at}
-use Rattle.reflect_index.specs.Types.{FieldType}
-use Rattle.reflect_dynamic.specs.Held.{fields_of}
-use Rattle.reflect_dynamic.specs.declared.message.DynamicMessage.{DynamicMessage}
+use Rattle.reflect_tables.specs.Types.{FieldType}
+use Rattle.reflect_message.specs.Held.{fields_of}
+use Rattle.reflect_message.specs.declared.message.DynamicMessage.{DynamicMessage}
 use Rattle.reflect_format.specs.Refusals.{HoldsAmong}
 
 pub first_held : (m : DynamicMessage) (f : FieldType) (fs : List FieldType) → IsSome (value_at (fields_of m) f.number) → HoldsAmong m (f ∷ fs)

@@ -3,11 +3,11 @@ use Rattle.std.proofs.Common.{◌≡◌, ◌≢◌, inl, inr, ℕ, List, [], ◌
 use Rattle.reflect_entries.specs.Entries.{value_at}
 use Rattle.reflect_pool.specs.FieldsLeft.{field_type}
 use Rattle.reflect_pool.specs.declared.field.FieldDescriptor.{FieldDescriptor}
-use Rattle.reflect_dynamic.specs.Declares.{Owns}
-use Rattle.reflect_dynamic.specs.Held.{fields_of, choices_of}
-use Rattle.reflect_dynamic.specs.Oneofs.{SetsField, Changes, IsExclusive, IsSibling}
-use Rattle.reflect_dynamic.specs.declared.message.DynamicMessage.{DynamicMessage}
-use Rattle.reflect_dynamic.specs.declared.value.Value.{Value}
+use Rattle.reflect_message.specs.Declares.{Owns}
+use Rattle.reflect_message.specs.Held.{fields_of, choices_of}
+use Rattle.reflect_message.specs.Oneofs.{SetsField, Changes, IsExclusive, IsSibling}
+use Rattle.reflect_message.specs.declared.message.DynamicMessage.{DynamicMessage}
+use Rattle.reflect_message.specs.declared.value.Value.{Value}
 use Rattle.reflect_format.specs.Steps.{Step, Steps, Reaches, Stays, Begins, Refuses}
 use Rattle.reflect_format.specs.declared.error.ParseErrorKind.{ParseErrorKind}
 use Rattle.reflect_format.specs.declared.error.ParseErrorKind.TheVariants as kinds

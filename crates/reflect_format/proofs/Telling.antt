@@ -5,13 +5,13 @@ use Rattle.reflect_pool.specs.declared.enums.EnumDescriptor.{EnumDescriptor}
 use Rattle.reflect_pool.specs.declared.message.MessageDescriptor.{MessageDescriptor}
 use Rattle.reflect_pool.specs.declared.kind.Kind.{Kind}
 use Rattle.reflect_pool.specs.declared.kind.Kind.TheVariants as values
-use Rattle.reflect_index.specs.Types.{PoolType}
+use Rattle.reflect_tables.specs.Types.{PoolType}
 use Rattle.reflect_format.specs.Lacks.{LacksField, LacksGroup, LacksExtension, HasFloatField, HasFloatExtension}
 use Rattle.reflect_format.specs.Refusals.{is_of_text, RefusesExtension, RefusesField, RefusesScalar, RefusesSecond, RefusesValue, TellsFloatField, Shares, HoldsMember, TellsOneof}
 use Rattle.reflect_pool.specs.declared.oneof.OneofDescriptor.{OneofDescriptor}
 use Rattle.reflect_format.specs.Takes.{holds_many, target_pool}
 use Rattle.reflect_format.specs.declared.target.Target.{Target}
-use Rattle.reflect_dynamic.specs.declared.message.DynamicMessage.{DynamicMessage}
+use Rattle.reflect_message.specs.declared.message.DynamicMessage.{DynamicMessage}
 use Rattle.reflect_format.specs.Truth.{TrueFor, TrueOf}
 use Rattle.reflect_format.specs.declared.error.ParseErrorKind.{ParseErrorKind}
 use Rattle.reflect_format.specs.declared.error.ParseErrorKind.TheVariants as kinds

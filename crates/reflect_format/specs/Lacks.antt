@@ -1,7 +1,7 @@
 -- What types have no field or extension of, and which of these hold floating-point numbers.
 use Rattle.std.specs.Prelude.{◌≡◌, true, ℕ, List, Option, None, IfSome, map}
 use Rattle.std.specs.Char.{to_ascii_lowercase}
-use Rattle.reflect_index.specs.Types.{message, type_at, extension_at}
+use Rattle.reflect_tables.specs.Types.{message, type_at, extension_at}
 use Rattle.reflect_pool.specs.Finds.{FindsField, FindsAny}
 use Rattle.reflect_pool.specs.FieldsLeft.{field_type}
 use Rattle.reflect_pool.specs.declared.extension.ExtensionDescriptor.{ExtensionDescriptor}
@@ -9,7 +9,7 @@ use Rattle.reflect_pool.specs.declared.field.FieldDescriptor.{FieldDescriptor}
 use Rattle.reflect_pool.specs.declared.message.MessageDescriptor.{MessageDescriptor}
 use Rattle.reflect_scalar.specs.FieldTypes.{field_pool, extension_pool, extension_type}
 use Rattle.reflect_scalar.specs.Floats.{HoldsFloats}
-use Rattle.reflect_dynamic.specs.Declares.{Declares, Extends}
+use Rattle.reflect_message.specs.Declares.{Declares, Extends}
 
 -- no field of the type has the name, or the first that has it is a group
 abbrev pub LacksField : MessageDescriptor → List ℕ → Type 0

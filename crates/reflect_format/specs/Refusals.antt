@@ -1,8 +1,8 @@
 -- What the refusals of names tell of the types.
 use Rattle.std.specs.Prelude.{◌≡◌, ◌⊎◌, Bool, true, false, ℕ, List, None, Some, IsSome, string_bytes}
 use Rattle.std.specs.List.{Any}
-use Rattle.reflect_index.specs.Finding.{IsFirst}
-use Rattle.reflect_index.specs.Types.{FieldType, type_at, enum_at, extension_at}
+use Rattle.reflect_tables.specs.Finding.{IsFirst}
+use Rattle.reflect_tables.specs.Types.{FieldType, type_at, enum_at, extension_at}
 use Rattle.reflect_pool.specs.FieldsLeft.{field_type}
 use Rattle.reflect_pool.specs.declared.enums.EnumDescriptor.{EnumDescriptor}
 use Rattle.reflect_pool.specs.declared.message.MessageDescriptor.{MessageDescriptor}
@@ -12,8 +12,8 @@ use Rattle.reflect_pool.specs.declared.oneof.OneofDescriptor.{OneofDescriptor}
 use Rattle.reflect_pool.specs.Parts.{members_of, type_of_oneof}
 use Rattle.reflect_scalar.specs.FieldTypes.{extension_type}
 use Rattle.reflect_entries.specs.Entries.{value_at}
-use Rattle.reflect_dynamic.specs.Held.{fields_of, extensions_of}
-use Rattle.reflect_dynamic.specs.declared.message.DynamicMessage.{DynamicMessage}
+use Rattle.reflect_message.specs.Held.{fields_of, extensions_of}
+use Rattle.reflect_message.specs.declared.message.DynamicMessage.{DynamicMessage}
 use Rattle.reflect_format.specs.Lacks.{IsGroupCalled, LacksField, LacksGroup, HasFloatField, LacksExtension, HasFloatExtension}
 use Rattle.reflect_format.specs.declared.target.Target.{Target}
 use Rattle.reflect_format.specs.declared.target.Target.TheVariants as targets

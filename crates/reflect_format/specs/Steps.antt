@@ -6,16 +6,15 @@ use Rattle.reflect_pool.specs.Shapes.{holds_list}
 use Rattle.reflect_pool.specs.declared.field.FieldDescriptor.{FieldDescriptor}
 use Rattle.reflect_pool.specs.declared.message.MessageDescriptor.{MessageDescriptor}
 use Rattle.reflect_scalar.specs.FieldTypes.{extension_type}
-use Rattle.reflect_dynamic.specs.Contents.{content_of, nothing}
-use Rattle.reflect_dynamic.specs.Declares.{Declares}
-use Rattle.reflect_dynamic.specs.Held.{fields_of, choices_of, extensions_of, unknown_of, UpdatesExtension}
-use Rattle.reflect_dynamic.specs.Lists.{Lengthens, KeepsList}
-use Rattle.reflect_dynamic.specs.Oneofs.{SetsField, sibling}
-use Rattle.reflect_dynamic.specs.Present.{is_held}
-use Rattle.reflect_dynamic.specs.Spares.{Same}
-use Rattle.reflect_dynamic.specs.declared.message.DynamicMessage.{DynamicMessage}
-use Rattle.reflect_dynamic.specs.declared.value.Value.{Value}
-use Rattle.reflect_print.specs.Any.{IsAny}
+use Rattle.reflect_message.specs.Contents.{content_of, nothing}
+use Rattle.reflect_message.specs.Declares.{Declares}
+use Rattle.reflect_message.specs.Held.{fields_of, choices_of, extensions_of, unknown_of, UpdatesExtension, Same}
+use Rattle.reflect_message.specs.Lists.{Lengthens, KeepsList}
+use Rattle.reflect_message.specs.Oneofs.{SetsField, sibling}
+use Rattle.reflect_message.specs.Present.{is_held}
+use Rattle.reflect_message.specs.declared.message.DynamicMessage.{DynamicMessage}
+use Rattle.reflect_message.specs.declared.value.Value.{Value}
+use Rattle.reflect_message.specs.Any.{IsAny}
 use Rattle.reflect_format.specs.Takes.{Takes, holds_many, target_pool, target_type}
 use Rattle.reflect_format.specs.declared.error.ParseErrorKind.{ParseErrorKind}
 use Rattle.reflect_format.specs.declared.error.ParseErrorKind.TheVariants as kinds

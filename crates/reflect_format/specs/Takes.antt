@@ -1,6 +1,6 @@
 -- Which fields and extensions belong to a message's type.
 use Rattle.std.specs.Prelude.{◌≡◌, ◌||◌, ℕ, Bool}
-use Rattle.reflect_index.specs.Types.{PoolType, FieldType, extension_at}
+use Rattle.reflect_tables.specs.Types.{PoolType, FieldType, extension_at}
 use Rattle.reflect_pool.specs.FieldsLeft.{field_type}
 use Rattle.reflect_pool.specs.Shapes.{holds_list, holds_map}
 use Rattle.reflect_pool.specs.declared.message.MessageDescriptor.{MessageDescriptor}

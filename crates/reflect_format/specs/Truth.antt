@@ -1,13 +1,13 @@
 -- Refusals that are true of the pool whose types a text is read by.
 use Rattle.std.specs.Prelude.{◌≡◌, ◌⊎◌, true, false, ℕ, List, None, string_bytes}
-use Rattle.reflect_index.specs.Finding.{IsFirst}
-use Rattle.reflect_index.specs.Types.{PoolType, type_at, enum_at}
+use Rattle.reflect_tables.specs.Finding.{IsFirst}
+use Rattle.reflect_tables.specs.Types.{PoolType, type_at, enum_at}
 use Rattle.reflect_pool.specs.FindsNames.{FindsMessage}
 use Rattle.reflect_pool.specs.declared.enums.EnumDescriptor.{EnumDescriptor}
 use Rattle.reflect_pool.specs.declared.message.MessageDescriptor.{MessageDescriptor}
 use Rattle.reflect_pool.specs.declared.kind.Kind.{Kind}
 use Rattle.reflect_pool.specs.declared.kind.Kind.TheVariants as values
-use Rattle.reflect_print.specs.Any.{IsAny}
+use Rattle.reflect_message.specs.Any.{IsAny}
 use Rattle.reflect_format.specs.Lacks.{LacksField, LacksGroup, LacksExtension, HasFloatField, HasFloatExtension}
 use Rattle.reflect_format.specs.Refusals.{is_of_text, IsTextName, Shares, TellsOneof}
 use Rattle.reflect_format.specs.Takes.{holds_many, target_pool}

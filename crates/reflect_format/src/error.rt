@@ -131,6 +131,25 @@ impl ParseErrorKind {
         }
     }
 
+    /// What is said of the fault, empty where that takes a name, a number or a word of the grammar.
+    fn text(&self) -> &'static str {
+        match self {
+            ParseErrorKind::InvalidToken { .. } => "invalid token",
+            ParseErrorKind::InvalidStringCharacters { .. } => "invalid string character",
+            ParseErrorKind::InvalidStringEscape { .. } => "invalid string escape",
+            ParseErrorKind::InvalidUtf8String { .. } => "string is not valid utf-8",
+            ParseErrorKind::NoSpaceBetweenIntAndIdent { .. } =>
+                "whitespace is required between an integer literal and an identifier",
+            ParseErrorKind::InvalidTypeForAny { .. } =>
+                "the field type must be 'google.protobuf.Any' to use Any expansion syntax",
+            ParseErrorKind::NestingTooDeep { .. } => "more than 100 open braces",
+            ParseErrorKind::TooLong { .. } => "encoded length too large",
+            ParseErrorKind::InvalidMapKey => "invalid value type for map key",
+            ParseErrorKind::Memory => "out of memory",
+            _ => "",
+        }
+    }
+
     /// What to write at the fault's place, empty where it has none.
     pub fn label(&self) -> &'static str {
         match self {
@@ -171,15 +190,6 @@ impl ParseErrorKind {
 impl fmt::Display for ParseErrorKind {
     fn fmt<W: fmt::Write>(&self, f: &mut fmt::Formatter<W>) -> fmt::Result {
         match self {
-            ParseErrorKind::InvalidToken { .. } => f.write_str("invalid token"),
-            ParseErrorKind::InvalidStringCharacters { .. } => {
-                f.write_str("invalid string character")
-            }
-            ParseErrorKind::InvalidStringEscape { .. } => f.write_str("invalid string escape"),
-            ParseErrorKind::InvalidUtf8String { .. } => f.write_str("string is not valid utf-8"),
-            ParseErrorKind::NoSpaceBetweenIntAndIdent { .. } => f.write_str(
-                "whitespace is required between an integer literal and an identifier",
-            ),
             ParseErrorKind::UnexpectedToken {
                 expected,
                 found,
@@ -229,10 +239,6 @@ impl fmt::Display for ParseErrorKind {
                 f,
                 "value '{value_name}' was not found for enum '{enum_name}'"
             ),
-            ParseErrorKind::InvalidTypeForAny { .. } => f.write_str(
-                "the field type must be 'google.protobuf.Any' to use Any expansion syntax",
-            ),
-            ParseErrorKind::InvalidMapKey => f.write_str("invalid value type for map key"),
             ParseErrorKind::FloatField {
                 field_name,
                 message_name,
@@ -241,9 +247,7 @@ impl fmt::Display for ParseErrorKind {
                 f,
                 "field '{field_name}' of message '{message_name}' has a floating-point type"
             ),
-            ParseErrorKind::NestingTooDeep { .. } => f.write_str("more than 100 open braces"),
-            ParseErrorKind::TooLong { .. } => f.write_str("encoded length too large"),
-            ParseErrorKind::Memory => f.write_str("out of memory"),
+            _ => f.write_str(self.text()),
         }
     }
 }

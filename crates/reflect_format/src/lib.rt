@@ -1,4 +1,4 @@
-//! The text format: text in, a message out or the first fault with its place; a message in, text out.
+//! Messages are read from text, or the first fault is told with its place.
 #![tactic(auto)]
 
 mod error;
@@ -8,11 +8,8 @@ mod number;
 mod parser;
 mod scalar;
 mod target;
-mod text_format;
 mod tokens;
 
 pub use error::{ParseError, ParseErrorKind};
 pub use parser::Parser;
-pub use reflect_print::{FormatOptions, WriteError, Writer};
-pub use text_format::TextFormat;
 pub use text_lex::{Int, Radix, Span, Token};

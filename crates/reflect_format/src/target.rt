@@ -10,10 +10,10 @@ ghost use Rattle.reflect_format.specs.Takes.{Takes, holds_many, target_pool, tar
 
 use crate::error::ParseErrorKind;
 use crate::fault::{float_field, unknown_extension, unknown_field};
-use reflect_dynamic::{DynamicMessage, Value};
 use reflect_link::{
     ExtensionDescriptor, FieldDescriptor, Kind, MessageDescriptor, OneofDescriptor,
 };
+use reflect_message::{DynamicMessage, Value};
 use reflect_scalar::holds_floats;
 use std::alloc::{AllocError, Global};
 use text_lex::Span;

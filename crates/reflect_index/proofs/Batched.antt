@@ -4,10 +4,11 @@ use Rattle.descriptor_records.specs.declared.file.FileDescriptorProto.{FileDescr
 use Rattle.reflect_walk.specs.declared.visit_parts.Offsets.{Offsets}
 use Rattle.reflect_walk.specs.Declarations.{Declaration, file_declarations, past_file}
 use Rattle.reflect_walk.specs.Batches.{batch_declarations, past_files}
-use Rattle.reflect_names.specs.Known.{Known}
+use Rattle.reflect_scope.specs.Known.{Known}
 use Rattle.reflect_names.specs.Names.{Places, known_after, faults_at}
 use Rattle.reflect_names.specs.NamePass.{known_behind, faults_along}
-use Rattle.reflect_index.specs.Names.{Sort, FullName, AreFound, AreInOrder, found, is_of, with_name, with_names}
+use Rattle.reflect_tables.specs.Names.{Sort, FullName, AreFound, AreInOrder, found}
+use Rattle.reflect_index.specs.DeclaredNames.{is_of, with_name, with_names}
 use Rattle.reflect_index.proofs.Counted.{file_next}
 use Rattle.reflect_index.proofs.Known.{offset, walked, none_left, none_right}
 use Rattle.reflect_index.proofs.Orders.{AreUpTo, up_to_more, walk_ordered}

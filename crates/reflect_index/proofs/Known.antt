@@ -9,12 +9,13 @@ use Rattle.reflect_scope.specs.declared.definition.Definition.{Definition}
 use Rattle.reflect_walk.specs.Tree.{text_of}
 use Rattle.reflect_walk.specs.declared.visit_parts.Offsets.{Offsets}
 use Rattle.reflect_walk.specs.Declarations.{Declaration, Body, of_file, of_message, of_field, of_oneof, of_enum, of_enum_value, of_service, of_method, of_extension}
-use Rattle.reflect_names.specs.Known.{Known, declared, is_taken, is_package, may_repeat}
+use Rattle.reflect_scope.specs.Known.{Known, declared, is_taken, is_package, may_repeat}
 use Rattle.reflect_names.specs.Faults.{Fault}
 use Rattle.reflect_names.specs.Names.{Places, name_faults, named, packages, package_of, faults_at, known_after}
 use Rattle.reflect_names.specs.NamePass.{known_behind, faults_along}
-use Rattle.reflect_index.specs.Names.{Sort, messages, enums, extensions, services, FullName, AreFound, found, is_of, with_file, place_in, place_of, with_name, with_names}
-use Rattle.reflect_index.proofs.Founds.{found_same, found_more}
+use Rattle.reflect_tables.specs.Names.{Sort, messages, enums, extensions, services, FullName, AreFound, found, with_file, place_in, place_of}
+use Rattle.reflect_index.specs.DeclaredNames.{is_of, with_name, with_names}
+use Rattle.reflect_tables.proofs.Founds.{found_same, found_more}
 use Rattle.reflect_index.proofs.Counted.{past_one, IsNext, AreNext}
 
 pub none_left : {X : Type 0} (xs ys : List X) → xs ++ ys ≡ [] → xs ≡ []

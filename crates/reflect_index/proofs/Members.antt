@@ -4,7 +4,7 @@ use Rattle.std.proofs.Math.ListN.{set}
 use Rattle.std.proofs.lemmas.List.{append-nil, get_or-set_other, length-set}
 use Rattle.std.proofs.lemmas.Grind.{get_or-set_at}
 use Rattle.reflect_index.specs.Members.{Joins}
-use Rattle.reflect_index.specs.Types.{FieldType, OneofType, AreListed, is_member, members_from, no_oneof}
+use Rattle.reflect_tables.specs.Types.{FieldType, OneofType, AreListed, is_member, members_from, no_oneof}
 
 -- a field that is a member of no oneof that is there
 pub joins_none : (f : FieldType) (place : ℕ) (os : List OneofType) → ((k : ℕ) → k < length os → is_member k f ≡ false) → Joins f place os os

@@ -1,12 +1,12 @@
 -- The full names of entries, and of those that are not finished.
 use Rattle.std.specs.Prelude.{string_bytes}
-use Rattle.reflect_index.specs.Names.{FullName}
+use Rattle.reflect_tables.specs.Names.{FullName}
 use Rattle.reflect_index.specs.declared.drafts.MessageDraft.{MessageDraft}
 use Rattle.reflect_index.specs.declared.drafts.EnumDraft.{EnumDraft}
-use Rattle.reflect_index.specs.declared.stored.StoredMessage.{StoredMessage}
-use Rattle.reflect_index.specs.declared.stored.StoredEnum.{StoredEnum}
-use Rattle.reflect_index.specs.declared.stored.StoredExtension.{StoredExtension}
-use Rattle.reflect_index.specs.declared.stored.StoredService.{StoredService}
+use Rattle.reflect_tables.specs.declared.stored.StoredMessage.{StoredMessage}
+use Rattle.reflect_tables.specs.declared.stored.StoredEnum.{StoredEnum}
+use Rattle.reflect_tables.specs.declared.stored.StoredExtension.{StoredExtension}
+use Rattle.reflect_tables.specs.declared.stored.StoredService.{StoredService}
 
 abbrev pub draft_name : MessageDraft → FullName
 draft_name m = (string_bytes m.full_name, m.file)

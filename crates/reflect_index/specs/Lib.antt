@@ -1,11 +1,5 @@
-pub mod Cut
 pub mod OfDeclarations
-pub mod Finding
-pub mod Growth
-pub mod Index
-pub mod Types
-pub mod Views
 pub mod DraftNames
 pub mod IndexSteps
-pub mod Names
+pub mod DeclaredNames
 pub mod Members

@@ -4,14 +4,14 @@ use Rattle.descriptor_records.specs.declared.enums.EnumDescriptorProto.{EnumDesc
 use Rattle.descriptor_records.specs.declared.enums.EnumValueDescriptorProto.{EnumValueDescriptorProto}
 use Rattle.reflect_walk.specs.Tree.{MessageParts, text_of}
 use Rattle.reflect_walk.specs.Declarations.{Declaration, Body, of_message, of_enum, of_enum_value}
-use Rattle.reflect_rules.specs.Ranges.{Range, reserved_range, extension_range}
-use Rattle.reflect_rules.specs.Walks.{ranges_of}
-use Rattle.reflect_rules.specs.MapEntries.{says_entry}
+use Rattle.reflect_tables.specs.Ranges.{Range, reserved_range, extension_range}
+use Rattle.reflect_tables.specs.Views.{ranges_of}
+use Rattle.reflect_walk.specs.MapEntries.{says_entry}
 use Rattle.reflect_index.specs.declared.drafts.MessageDraft.{MessageDraft}
 use Rattle.reflect_index.specs.declared.drafts.EnumDraft.{EnumDraft}
-use Rattle.reflect_index.specs.declared.stored.StoredMessage.{StoredMessage}
-use Rattle.reflect_index.specs.declared.stored.StoredEnum.{StoredEnum}
-use Rattle.reflect_index.specs.declared.stored.StoredValue.{StoredValue}
+use Rattle.reflect_tables.specs.declared.stored.StoredMessage.{StoredMessage}
+use Rattle.reflect_tables.specs.declared.stored.StoredEnum.{StoredEnum}
+use Rattle.reflect_tables.specs.declared.stored.StoredValue.{StoredValue}
 
 -- the numbers that are reserved in a message type, those that its extensions may take, and whether it is the type of a map's
 -- entries

@@ -1,12 +1,11 @@
 ghost use Rattle.std.specs.Prelude.{◌≡◌, map, IfOk};
-ghost use Rattle.reflect_index.specs.Views.{file_of, record_file};
+ghost use Rattle.reflect_tables.specs.Views.{file_of, record_file};
 
-use crate::stored::{
-    Declared, StoredEnum, StoredExtension, StoredFile, StoredMessage, StoredService,
-};
-use crate::tables::Tables;
 use descriptor_records::FileDescriptorProto;
 use reflect_names::VisitError;
+use reflect_tables::{
+    Declared, StoredEnum, StoredExtension, StoredFile, StoredMessage, StoredService, Tables,
+};
 use std::alloc::Global;
 
 /// The entries of new files, which have no place in a pool yet.

@@ -1,9 +1,9 @@
 //! The default of a field, read from the text of its record.
 
-use crate::stored::{StoredDefault, StoredKind};
 use descriptor_records::{FieldDescriptorProto, FieldType};
 use protox_lex::unescape;
-use reflect_rules::{DefaultText, read_default};
+use reflect_defaults::{DefaultText, read_default};
+use reflect_tables::{StoredDefault, StoredKind};
 use std::alloc::{AllocError, Global};
 
 /// The default that a text means for a scalar type, or none where it does not suit the type.

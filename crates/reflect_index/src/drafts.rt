@@ -2,11 +2,11 @@
 
 use crate::batch::Batch;
 use crate::finish::{finished_enums, finished_messages};
-use crate::stored::{
-    Children, Declared, StoredExtension, StoredField, StoredOneof, StoredService, StoredValue,
-};
 use reflect_names::VisitError;
-use reflect_rules::NumberRanges;
+use reflect_tables::{
+    Children, Declared, NumberRanges, StoredExtension, StoredField, StoredOneof, StoredService,
+    StoredValue,
+};
 use std::alloc::Global;
 
 /// A message type whose fields and oneofs may not all be there yet.
@@ -55,8 +55,8 @@ pub struct Drafts {
 impl Drafts {
     ghost use Rattle.std.specs.Prelude.{◌≡◌, [], map, IfOk};
     ghost use Rattle.std.specs.List.{AllByRecursion};
-    ghost use Rattle.reflect_index.specs.Types.{ListsMembers};
-    ghost use Rattle.reflect_index.specs.Views.{message_of};
+    ghost use Rattle.reflect_tables.specs.Types.{ListsMembers};
+    ghost use Rattle.reflect_tables.specs.Views.{message_of};
     ghost use Rattle.reflect_index.specs.OfDeclarations.{draft_ranges, draft_values, stored_ranges, stored_values};
     ghost use Rattle.reflect_index.specs.DraftNames.{draft_name, enum_draft_name, stored_message_name, stored_enum_name};
 

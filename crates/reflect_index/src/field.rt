@@ -2,23 +2,11 @@
 
 ghost use Rattle.std.specs.Prelude.{◌≡◌, IfOk, string_bytes};
 ghost use Rattle.reflect_walk.specs.Tree.{text_of as as_text};
-ghost use Rattle.reflect_index.specs.Views.{syntax_type};
 
 use crate::default::default_of;
-use crate::kind::{Cardinality, Syntax};
-use crate::stored::{StoredField, StoredKind};
-use descriptor_records::{FieldDescriptorProto, FieldType, FileDescriptorProto, Label};
+use descriptor_records::{FieldDescriptorProto, FieldType, Label};
+use reflect_tables::{Cardinality, StoredField, StoredKind, Syntax};
 use std::alloc::{AllocError, Global};
-
-/// The syntax that a file's record says.
-pub fn syntax_of(file: &FileDescriptorProto) -> Syntax
-    ensures { result ≡ syntax_type file.now.syntax }
-{
-    match &file.syntax {
-        Some(syntax) if syntax.as_str() == "proto3" => Syntax::Proto3,
-        _ => Syntax::Proto2,
-    }
-}
 
 /// What a scalar type holds.
 pub fn scalar_kind(field_type: FieldType) -> Option<StoredKind> {

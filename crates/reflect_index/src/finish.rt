@@ -3,15 +3,15 @@
 ghost use Rattle.std.specs.Prelude.{◌≡◌, [], map, OnOk, IfOk};
 ghost use Rattle.std.specs.List.{AllByRecursion};
 ghost use Rattle.reflect_index.specs.Members.{Joins};
-ghost use Rattle.reflect_index.specs.Types.{AreListed, ListsMembers};
-ghost use Rattle.reflect_index.specs.Views.{field_of, message_of, oneof_of};
+ghost use Rattle.reflect_tables.specs.Types.{AreListed, ListsMembers};
+ghost use Rattle.reflect_tables.specs.Views.{field_of, message_of, oneof_of};
 ghost use Rattle.reflect_index.specs.OfDeclarations.{draft_ranges, draft_values, stored_ranges, stored_values};
 ghost use Rattle.reflect_index.specs.DraftNames.{draft_name, enum_draft_name, stored_message_name, stored_enum_name};
 
 use crate::drafts::{EnumDraft, MessageDraft};
-use crate::lists::{FieldList, ValueList};
-use crate::stored::{StoredEntry, StoredEnum, StoredField, StoredMessage, StoredOneof};
+use crate::index::{field_list, value_list};
 use reflect_names::VisitError;
+use reflect_tables::{StoredEntry, StoredEnum, StoredField, StoredMessage, StoredOneof};
 use std::alloc::{AllocError, Global};
 
 /// The key and the value of a map's entry: its fields of the numbers 1 and 2.
@@ -107,7 +107,7 @@ fn finished_message(alloc: Global, draft: MessageDraft) -> Result<StoredMessage,
         full_name,
         is_entry,
         entry,
-        fields: FieldList::new(alloc, fields)?,
+        fields: field_list(alloc, fields)?,
         oneofs,
         children,
         reserved_numbers,
@@ -133,7 +133,7 @@ fn finished_enum(alloc: Global, draft: EnumDraft) -> Result<StoredEnum, VisitErr
         path,
         name,
         full_name,
-        values: ValueList::new(alloc, values)?,
+        values: value_list(alloc, values)?,
     })
 }
 

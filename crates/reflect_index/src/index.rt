@@ -1,44 +1,14 @@
-//! Sorted places, by which the items of a list are looked up.
+//! Sorts places, by which the items of a list are looked up, and makes lists of fields and values with them.
 
-ghost use Rattle.std.specs.Prelude.{◌≡◌, ◌≢◌, ◌<◌, IsTrue, IfOk, IfErr, All, HoldsAt, length, map, ℕ};
-ghost use Rattle.std.specs.List.Sorted.{IsSearchInRange};
-ghost use Rattle.reflect_index.specs.Finding.{IsFirst};
-ghost use Rattle.reflect_index.specs.Index.{KeyType, key_view, key_at, IsAscending, IsListed, IsIndex};
+ghost use Rattle.std.specs.Prelude.{◌≡◌, ◌<◌, ℕ, IsTrue, IfOk, All, map};
+ghost use Rattle.reflect_tables.specs.Index.{IsAscending, IsListed, IsIndex};
 
-use crate::keys::{By, Key, Keyed, compare};
-use reflect_names::VisitError;
+use reflect_tables::{
+    By, FieldList, Keyed, StoredField, StoredValue, ValueList, compare, key_of, search,
+};
+use reflect_walk::VisitError;
 use std::alloc::Global;
 use std::cmp::Ordering;
-
-/// The key of the item at a place.
-fn key_of<T: Keyed>(items: &[T], by: By, place: u32) -> Key<'_>
-    ensures { key_view result ≡ key_at (map (T.key_of by) items.now) place }
-{
-    match items.get(place as usize) {
-        Some(item) => item.key(by),
-        None => Key::of_number(0),
-    }
-}
-
-/// Where the place of an item with this key stands among the places.
-fn search<T: Keyed>(items: &[T], by: By, places: &[u32], key: Key<'_>) -> Result<usize, usize>
-    ensures in_range { IsSearchInRange result (length places.now) }
-    ensures found { IfOk result (HoldsAt (λ p. key_at (map (T.key_of by) items.now) p ≡ key_view key.entry) places.now) }
-    ensures missing { IsAscending (map (T.key_of by) items.now) places.now → IfErr result (λ at. All (λ p. key_at (map (T.key_of by) items.now) p ≢ key_view key.entry) places.now) }
-{
-    places.binary_search_by(|place| compare(key_of(items, by, *place), key))
-}
-
-/// The place of the first item with this key. Takes no memory, and a number of steps that grows with the logarithm of the
-/// items' count.
-pub fn first<T: Keyed>(items: &[T], by: By, places: &[u32], key: Key<'_>) -> Option<u32>
-    ensures { IsIndex (map (T.key_of by) items.now) places.now → IsFirst (λ k. k ≡ key_view key.entry) (map (T.key_of by) items.now) result }
-{
-    match search(items, by, places, key) {
-        Ok(at) => Some(places[at]),
-        Err(_) => None,
-    }
-}
 
 /// All places are those of items.
 fn are_places(places: &[u32], count: usize) -> bool
@@ -100,11 +70,21 @@ fn sorted<T: Keyed>(
     Ok(places)
 }
 
+/// A count as a number of the program.
+fn count_of(count: usize) -> Result<u32, VisitError>
+    ensures { IfOk result (λ n. n ≡ count) }
+{
+    match u32::try_from(count) {
+        Ok(count) => Ok(count),
+        Err(_) => Err(VisitError::TooMany),
+    }
+}
+
 /// The places of the first item of each key, by ascending key. Refused for want of memory, and where a place has no number.
-pub fn index<T: Keyed>(alloc: Global, items: &[T], by: By) -> Result<Vec<u32>, VisitError>
+fn index<T: Keyed>(alloc: Global, items: &[T], by: By) -> Result<Vec<u32>, VisitError>
     ensures { IfOk result (λ places. IsIndex (map (T.key_of by) items.now) places.items) }
 {
-    let count = u32::try_from(items.len()).map_err(|_| VisitError::TooMany)?;
+    let count = count_of(items.len())?;
     let places = sorted(alloc, items, by, count)?;
     let list = places.as_slice();
     if are_places(list, items.len())
@@ -115,4 +95,32 @@ pub fn index<T: Keyed>(alloc: Global, items: &[T], by: By) -> Result<Vec<u32>, V
     } else {
         Err(VisitError::TooMany)
     }
+}
+
+/// The list of these fields. Refused for want of memory, and where a place has no number.
+pub fn field_list(alloc: Global, list: Vec<StoredField>) -> Result<FieldList, VisitError>
+    ensures { IfOk result (λ l. l.list.items ≡ list.items) }
+{
+    let by_number = index(alloc, list.as_slice(), By::Number)?;
+    let by_name = index(alloc, list.as_slice(), By::Name)?;
+    let by_json_name = index(alloc, list.as_slice(), By::JsonName)?;
+    Ok(FieldList {
+        list,
+        by_number,
+        by_name,
+        by_json_name,
+    })
+}
+
+/// The list of these values. Refused for want of memory, and where a place has no number.
+pub fn value_list(alloc: Global, list: Vec<StoredValue>) -> Result<ValueList, VisitError>
+    ensures { IfOk result (λ l. l.list.items ≡ list.items) }
+{
+    let by_number = index(alloc, list.as_slice(), By::Number)?;
+    let by_name = index(alloc, list.as_slice(), By::Name)?;
+    Ok(ValueList {
+        list,
+        by_number,
+        by_name,
+    })
 }

@@ -1,7 +1,7 @@
 //! References written as full names behind a leading dot, and types filled in.
 
 ghost use Rattle.std.specs.Prelude.{◌≡◌, map};
-ghost use Rattle.reflect_index.specs.Views.{record_file};
+ghost use Rattle.reflect_tables.specs.Views.{record_file};
 
 use descriptor_records::{
     DescriptorProto, FieldDescriptorProto, FieldType, FileDescriptorProto, MethodDescriptorProto,

@@ -2,28 +2,25 @@
 
 ghost use Rattle.std.specs.Prelude.{◌≡◌, ◌-◌, [], map, OnOk, IfOk, string_bytes};
 ghost use Rattle.std.specs.List.{AllByRecursion};
-ghost use Rattle.reflect_index.specs.Types.{ListsMembers};
-ghost use Rattle.reflect_index.specs.Views.{message_of};
-ghost use Rattle.reflect_rules.specs.MapEntries.{says_entry};
-ghost use Rattle.reflect_walk.specs.Tree.{parts_of};
+ghost use Rattle.reflect_tables.specs.Types.{ListsMembers};
+ghost use Rattle.reflect_tables.specs.Views.{message_of};
 ghost use Rattle.reflect_index.specs.OfDeclarations.{draft_ranges, draft_values, stored_ranges, stored_value, stored_values, add_value};
 ghost use Rattle.reflect_index.specs.DraftNames.{draft_name, enum_draft_name, stored_message_name, stored_enum_name, stored_service_name};
 
 use crate::batch::Batch;
 use crate::drafts::{Drafts, EnumDraft, MessageDraft};
-use crate::field::{field_entry, scalar_kind, syntax_of, text_of};
-use crate::kind::{Cardinality, Syntax};
-use crate::stored::{
-    Child, Children, Declared, StoredExtension, StoredField, StoredKind, StoredMethod, StoredOneof,
-    StoredService, StoredValue,
-};
+use crate::field::{field_entry, scalar_kind, text_of};
 use descriptor_records::{
     DescriptorProto, EnumDescriptorProto, EnumValueDescriptorProto, FieldDescriptorProto,
     FieldType, FileDescriptorProto, MethodDescriptorProto, OneofDescriptorProto,
     ServiceDescriptorProto,
 };
 use reflect_names::{DefinitionKind, Offsets, Reference, VisitError, Visitor};
-use reflect_rules::NumberRanges;
+use reflect_tables::{
+    Cardinality, Child, Children, Declared, NumberRanges, StoredExtension, StoredField, StoredKind,
+    StoredMethod, StoredOneof, StoredService, StoredValue, Syntax, syntax_of,
+};
+use reflect_walk::says_map_entry;
 use std::alloc::Global;
 
 /// Makes the entries of the declarations that it visits.
@@ -220,15 +217,6 @@ fn local_place(index: u32, before: u32) -> Result<usize, VisitError>
     }
 }
 
-fn is_map_entry(message: &DescriptorProto) -> bool
-    ensures { result ≡ says_entry (parts_of message.now).options }
-{
-    match &message.options {
-        Some(options) => options.map_entry == Some(true),
-        None => false,
-    }
-}
-
 impl<'a> Visitor for IndexVisitor<'a> {
     ghost use Rattle.reflect_index.specs.IndexSteps.{Lists};
 
@@ -272,7 +260,7 @@ impl<'a> Visitor for IndexVisitor<'a> {
             path: Vec::from_slice(alloc, path)?,
             name: text_of(alloc, &message.name)?,
             full_name: String::from_str(alloc, full_name)?,
-            is_entry: is_map_entry(message),
+            is_entry: says_map_entry(message),
             fields: Vec::new(alloc),
             oneofs: Vec::new(alloc),
             children: Children::new(alloc),

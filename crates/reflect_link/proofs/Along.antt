@@ -2,7 +2,7 @@
 use Rattle.std.proofs.Common.{◌≡◌, ℕ, ℤ, List, Option, None, Some, Bor, unwrap_or, slice_get, ap, subst}
 use Rattle.std.specs.Option.{option_copied}
 use Rattle.descriptor_records.specs.declared.file.FileDescriptorProto.{FileDescriptorProto}
-use Rattle.reflect_index.specs.Types.{PoolType}
+use Rattle.reflect_tables.specs.Types.{PoolType}
 use Rattle.reflect_link.specs.Lent.{IsWhereThere, IsAlong}
 
 there : {X : Type 0} (o : Option (Bor X)) (d r : Bor X) (q : Option X) → option_copied o ≡ q → r ≡ unwrap_or o d → IsWhereThere q r.now

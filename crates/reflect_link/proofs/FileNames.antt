@@ -1,7 +1,7 @@
 -- The names of files at places.
 use Rattle.std.proofs.Common.{◌≡◌, ℕ, List, [], ◌∷◌, map, ap, sym, ◌∙◌, refl}
 use Rattle.std.proofs.Math.ListN.{get_or-map}
-use Rattle.reflect_index.specs.Types.{FileType, PoolType}
+use Rattle.reflect_tables.specs.Types.{FileType, PoolType}
 use Rattle.reflect_pool.specs.Imports.{name_at}
 use Rattle.reflect_link.specs.FileTypes.{file_type_at, no_file}
 

@@ -1,7 +1,7 @@
 -- A file of a pool at its place.
 use Rattle.std.specs.Prelude.{ℕ, [], slice_index_or}
-use Rattle.reflect_index.specs.Types.{FileType, PoolType}
-use Rattle.reflect_index.specs.declared.kind.Syntax.TheVariants.{Proto2}
+use Rattle.reflect_tables.specs.Types.{FileType, PoolType}
+use Rattle.reflect_tables.specs.declared.kind.Syntax.TheVariants.{Proto2}
 
 -- what stands for a place that is not there
 abbrev pub no_file : FileType

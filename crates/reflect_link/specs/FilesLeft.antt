@@ -1,8 +1,8 @@
 -- What the iterators over files and over their records have left.
 use Rattle.std.specs.Prelude.{List, drop, map}
 use Rattle.descriptor_records.specs.declared.file.FileDescriptorProto.{FileDescriptorProto}
-use Rattle.reflect_index.specs.Types.{FileType}
-use Rattle.reflect_index.specs.Views.{record_of}
+use Rattle.reflect_tables.specs.Types.{FileType}
+use Rattle.reflect_tables.specs.Views.{record_of}
 use Rattle.reflect_link.specs.FileTypes.{file_type_at}
 use Rattle.reflect_link.specs.declared.file.FileDescriptor.{FileDescriptor}
 use Rattle.reflect_link.specs.declared.pool_readers.AllFiles.{AllFiles}

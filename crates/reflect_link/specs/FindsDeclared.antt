@@ -1,8 +1,8 @@
 -- What a lookup of a file by its name, or of a service by its full name, answers: the one of this name, or none where none has
 -- it.
 use Rattle.std.specs.Prelude.{◌≡◌, ℕ, List, Option, None, Some}
-use Rattle.reflect_index.specs.Finding.{IsFirst}
-use Rattle.reflect_index.specs.Types.{PoolType}
+use Rattle.reflect_tables.specs.Finding.{IsFirst}
+use Rattle.reflect_tables.specs.Types.{PoolType}
 use Rattle.reflect_pool.specs.Dots.{without_dot}
 use Rattle.reflect_link.specs.declared.file.FileDescriptor.{FileDescriptor}
 use Rattle.reflect_link.specs.declared.service.ServiceDescriptor.{ServiceDescriptor}

@@ -1,6 +1,6 @@
 -- What the iterator over a service's methods has left.
 use Rattle.std.specs.Prelude.{List, drop}
-use Rattle.reflect_index.specs.Types.{MethodType, service_at}
+use Rattle.reflect_tables.specs.Types.{MethodType, service_at}
 use Rattle.reflect_pool.specs.Parts.{type_of_method}
 use Rattle.reflect_link.specs.declared.service.MethodDescriptor.{MethodDescriptor}
 use Rattle.reflect_link.specs.declared.service.Methods.{Methods}

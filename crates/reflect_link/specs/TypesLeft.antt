@@ -1,6 +1,6 @@
 -- What the iterators over a pool's types, extensions and services have left.
 use Rattle.std.specs.Prelude.{List, drop}
-use Rattle.reflect_index.specs.Types.{MessageType, EnumType, ExtensionType, ServiceType, type_at, enum_at, extension_at, service_at}
+use Rattle.reflect_tables.specs.Types.{MessageType, EnumType, ExtensionType, ServiceType, type_at, enum_at, extension_at, service_at}
 use Rattle.reflect_pool.specs.declared.message.MessageDescriptor.{MessageDescriptor}
 use Rattle.reflect_pool.specs.declared.enums.EnumDescriptor.{EnumDescriptor}
 use Rattle.reflect_pool.specs.declared.extension.ExtensionDescriptor.{ExtensionDescriptor}

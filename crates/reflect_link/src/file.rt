@@ -1,15 +1,15 @@
 ghost use Rattle.std.specs.Prelude.{◌≡◌, ◌<◌, All, Some, length, map, slice_get, IfSome, IsSome};
 ghost use Rattle.std.proofs.Props.{props};
-ghost use Rattle.reflect_index.specs.Types.{declared_at, type_at, enum_at, extension_at, service_at};
-ghost use Rattle.reflect_index.specs.Views.{file_of, record_file, text_of};
+ghost use Rattle.reflect_tables.specs.Types.{declared_at, type_at, enum_at, extension_at, service_at};
+ghost use Rattle.reflect_tables.specs.Views.{file_of, record_file, text_of};
 ghost use Rattle.reflect_pool.specs.Imports.{import_name, imported, imported_publicly, place_named};
 ghost use Rattle.reflect_link.specs.FileTypes.{file_type_at};
 
 use crate::lists::{Enums, Extensions, Messages};
 use crate::service::Services;
 use descriptor_records::FileDescriptorProto;
-use reflect_index::{StoredFile, syntax_of};
 use reflect_pool::{DescriptorPool, Syntax};
+use reflect_tables::{StoredFile, syntax_of};
 
 /// A file of a pool.
 #[derive(Clone, Copy)]

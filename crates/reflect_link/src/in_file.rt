@@ -1,6 +1,6 @@
 ghost use Rattle.std.specs.Prelude.{◌≡◌, ℕ, Some, slice_get};
-ghost use Rattle.reflect_index.specs.Types.{PoolType, type_at, enum_at, extension_at};
-ghost use Rattle.reflect_index.specs.Views.{record_file};
+ghost use Rattle.reflect_tables.specs.Types.{PoolType, type_at, enum_at, extension_at};
+ghost use Rattle.reflect_tables.specs.Views.{record_file};
 ghost use Rattle.reflect_link.specs.FileTypes.{file_type_at};
 
 use crate::file::FileDescriptor;

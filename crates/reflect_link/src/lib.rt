@@ -19,8 +19,8 @@ pub use pool_readers::{
 pub use ranges::{EnumReservedRanges, ExtensionRanges, ReservedNames, ReservedRanges};
 pub use readers::{EnumReaders, EnumValueReaders, FieldReaders, MessageReaders, OneofReaders};
 pub use reflect_pool::{
-    Cardinality, DefaultValue, DescriptorError, DescriptorPool, Edit, EnumDescriptor,
-    EnumValueDescriptor, EnumValues, ExtensionDescriptor, FieldDescriptor, Fields, Kind,
-    MessageDescriptor, MessageExtensions, OneofDescriptor, OneofFields, Oneofs, Syntax,
+    Cardinality, DefaultValue, DescriptorPool, EnumDescriptor, EnumValueDescriptor, EnumValues,
+    ExtensionDescriptor, FieldDescriptor, Fields, Kind, MessageDescriptor, MessageExtensions,
+    OneofDescriptor, OneofFields, Oneofs, Syntax,
 };
 pub use service::{MethodDescriptor, Methods, ServiceDescriptor, Services};

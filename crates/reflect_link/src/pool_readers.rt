@@ -1,12 +1,12 @@
 ghost use Rattle.std.specs.Prelude.{◌≡◌, length, IfSome};
-ghost use Rattle.reflect_index.specs.Types.{PoolType};
+ghost use Rattle.reflect_tables.specs.Types.{PoolType};
 ghost use Rattle.reflect_link.specs.FindsDeclared.{FindsFile, FindsService};
 
 use crate::file::{FileDescriptor, file_at};
 use crate::service::{ServiceDescriptor, service_in};
 use descriptor_records::FileDescriptorProto;
-use reflect_index::StoredFile;
 use reflect_pool::{DescriptorPool, EnumDescriptor, ExtensionDescriptor, MessageDescriptor};
+use reflect_tables::StoredFile;
 
 /// Further readers of a pool.
 pub trait PoolReaders {

@@ -1,7 +1,7 @@
 //! What the records say, and what stands in a type.
 
 ghost use Rattle.std.specs.Prelude.{◌≡◌, ℕ, map, string_bytes};
-ghost use Rattle.reflect_index.specs.Types.{PoolType, type_at, enum_at, extension_at};
+ghost use Rattle.reflect_tables.specs.Types.{PoolType, type_at, enum_at, extension_at};
 ghost use Rattle.descriptor_records.specs.declared.message.DescriptorProto.TheViews.{out-DescriptorProto};
 ghost use Rattle.descriptor_records.specs.declared.enums.EnumDescriptorProto.{EnumDescriptorProto};
 ghost use Rattle.descriptor_records.specs.declared.enums.EnumValueDescriptorProto.{EnumValueDescriptorProto};

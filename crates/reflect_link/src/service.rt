@@ -1,7 +1,7 @@
 ghost use Rattle.std.specs.Prelude.{◌≡◌, ◌<◌, ◌-◌, All, Some, length, slice_get, IfSome, IsSome};
 ghost use Rattle.std.proofs.Props.{props};
-ghost use Rattle.reflect_index.specs.Types.{service_at};
-ghost use Rattle.reflect_index.specs.Views.{service_of, method_of, record_file};
+ghost use Rattle.reflect_tables.specs.Types.{service_at};
+ghost use Rattle.reflect_tables.specs.Views.{service_of, method_of, record_file};
 ghost use Rattle.reflect_link.specs.FileTypes.{file_type_at};
 ghost use Rattle.reflect_link.specs.Lent.{IsServiceOf, IsMethodOf};
 ghost use Rattle.reflect_pool.specs.Parts.{type_of_method};
@@ -9,8 +9,8 @@ ghost use Rattle.reflect_pool.specs.Parts.{type_of_method};
 use crate::file::FileDescriptor;
 use crate::records::{method_record, service_record};
 use descriptor_records::{FileDescriptorProto, MethodDescriptorProto, ServiceDescriptorProto};
-use reflect_index::{StoredMethod, StoredService};
 use reflect_pool::{DescriptorPool, MessageDescriptor};
+use reflect_tables::{StoredMethod, StoredService};
 
 /// A service of a pool.
 #[derive(Clone, Copy)]

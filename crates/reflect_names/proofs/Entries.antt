@@ -8,7 +8,7 @@ use Rattle.std.specs.declared.cmp.Ordering.{Ordering}
 use Rattle.std.specs.declared.cmp.Ordering.TheVariants.{Less, Equal, Greater}
 use Rattle.std.specs.BTreeMap.{insert_entry, is_at}
 use Rattle.reflect_scope.specs.declared.definition.Definition.{Definition}
-use Rattle.reflect_names.specs.Known.{Known, declared, AllBelow, below}
+use Rattle.reflect_scope.specs.Known.{Known, declared, AllBelow, below}
 
 pub filter_insert : {K X : Type 0} (cmp : K → K → Ordering) (p : K × X → Bool) (es : List (K × X)) (k : K) (v : X)
     → p (k, v) ≡ false → lookup (is_at (cmp k)) es ≡ None → filter p (insert_entry cmp es k v) ≡ filter p es

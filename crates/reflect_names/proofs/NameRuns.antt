@@ -4,7 +4,7 @@ use Rattle.std.proofs.Math.Path.{fun_ext}
 use Rattle.std.specs.BTreeMap.{get_by_text}
 use Rattle.reflect_walk.specs.Declarations.{Declaration, Runs}
 use Rattle.reflect_walk.specs.Batches.{KeptBy}
-use Rattle.reflect_names.specs.Known.{known_of, below, AllBelow}
+use Rattle.reflect_scope.specs.Known.{known_of, below, AllBelow}
 use Rattle.reflect_names.specs.Faults.{Adds, place_at}
 use Rattle.reflect_names.specs.Names.{Places, known_after, faults_at}
 use Rattle.reflect_names.specs.NamePass.{known_behind, faults_along}

@@ -2,7 +2,7 @@
 use Rattle.std.proofs.Common.{◌≡◌, ℕ, ℤ, List, [], ◌∷◌, ◌++◌, length, ap, ◌∙◌, refl, pos}
 use Rattle.reflect_scope.specs.Means.{scopes, outer}
 use Rattle.reflect_scope.proofs.Scopes.{scopes_around, scopes_empty}
-use Rattle.reflect_names.specs.Known.{Known, declared}
+use Rattle.reflect_scope.specs.Known.{Known, declared}
 use Rattle.reflect_names.specs.Names.{Places, packages, package_faults, package_of, taken}
 use Rattle.reflect_names.specs.Faults.{Fault}
 

@@ -14,7 +14,7 @@ use Rattle.reflect_walk.specs.Tree.{text_of, Message, message, Messages, no_mess
 use Rattle.reflect_walk.specs.Declarations.{Declaration, Body, of_file, of_message, of_field, of_oneof, of_enum, of_enum_value, of_service, of_method, of_extension, Runs, each, entry, one_field, one_oneof, one_value, one_enum, one_method, one_service, one_extension, tree_declarations, trees_declarations, trees_of, past_message, past_tree, past_trees, past_file, file_declarations}
 use Rattle.reflect_walk.proofs.Walks.{runs_split}
 use Rattle.reflect_names.specs.Faults.{Adds, place_at}
-use Rattle.reflect_names.specs.Known.{known_of}
+use Rattle.reflect_scope.specs.Known.{known_of}
 use Rattle.reflect_names.specs.Names.{Places}
 use Rattle.reflect_names.specs.References.{View, targets_of, reference_faults_at}
 use Rattle.reflect_names.specs.ReferencePass.{AreSeen, views_of, targets_along, reference_faults_along}

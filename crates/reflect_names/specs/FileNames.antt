@@ -5,15 +5,9 @@ use Rattle.std.specs.Map.{update}
 use Rattle.std.specs.Str.{bytes_eq}
 use Rattle.std.specs.BTreeMap.{BTreeMap, get_by_text}
 use Rattle.descriptor_records.specs.declared.file.FileDescriptorProto.{FileDescriptorProto}
+use Rattle.reflect_scope.specs.FileIndexes.{Indexes}
 use Rattle.reflect_names.specs.Faults.{Fault, duplicate_file, missing}
 use Rattle.reflect_names.specs.Names.{Places}
-
--- the indexes of files by their names
-abbrev pub Indexes : Type 0
-Indexes = List ℕ → Option ℕ
-
-abbrev pub indexes_of : BTreeMap (String Global) ℕ → Indexes
-indexes_of m = λ t. get_by_text m t
 
 -- a file without a name, or with that of an earlier one
 abbrev pub file_faults : Places → Indexes → Option (String Global) → List Fault
@@ -34,7 +28,3 @@ with_files known i (f ∷ fs) = with_files (with_file known i f.name) (i + 1) fs
 abbrev pub files_faults : (ℕ → Places) → Indexes → ℕ → List FileDescriptorProto → List Fault
 files_faults at known i [] = []
 files_faults at known i (f ∷ fs) = file_faults (at i) known f.name ++ files_faults at (with_file known i f.name) (i + 1) fs
-
--- an index below the mark is that of a name in both or in neither
-abbrev pub KeepsIndexes : ℕ → Indexes → Indexes → Type 0
-KeepsIndexes mark old new = (t : List ℕ) (i : ℕ) → i < mark → (old t ≡ Some i → new t ≡ Some i) × (new t ≡ Some i → old t ≡ Some i)

@@ -1,4 +1,3 @@
-pub mod Known
 pub mod Spans
 pub mod Faults
 pub mod Names

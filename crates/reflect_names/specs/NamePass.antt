@@ -1,7 +1,7 @@
 -- The names and the faults of a list of declarations.
 use Rattle.std.specs.Prelude.{ℕ, List, [], ◌∷◌, ◌++◌, Option}
 use Rattle.reflect_walk.specs.Declarations.{Declaration}
-use Rattle.reflect_names.specs.Known.{Known}
+use Rattle.reflect_scope.specs.Known.{Known}
 use Rattle.reflect_names.specs.Faults.{Fault}
 use Rattle.reflect_names.specs.Names.{Places, known_after, faults_at}
 

@@ -5,7 +5,7 @@ use Rattle.std.proofs.Common.{◌∙◌}
 use Rattle.std.specs.BTreeMap.{get_by_text}
 use Rattle.reflect_scope.specs.declared.definition.Definition.{Definition}
 use Rattle.reflect_walk.specs.Declarations.{Declaration}
-use Rattle.reflect_names.specs.Known.{known_of, below, AllBelow}
+use Rattle.reflect_scope.specs.Known.{known_of, below, AllBelow}
 use Rattle.reflect_names.specs.Faults.{Adds, place_at}
 use Rattle.reflect_names.specs.Names.{faults_at, known_after}
 use Rattle.reflect_names.specs.declared.name_visitor.NameVisitor.{NameVisitor}

@@ -12,9 +12,10 @@ use Rattle.reflect_scope.specs.declared.definition.Definition.{Definition}
 use Rattle.reflect_scope.specs.declared.definition.DefinitionKind.{DefinitionKind}
 use Rattle.reflect_scope.specs.declared.definition.DefinitionKind.TheVariants as kind
 use Rattle.reflect_scope.specs.Means.{scopes}
+use Rattle.reflect_scope.specs.FileIndexes.{is_index}
 use Rattle.reflect_walk.specs.Tree.{text_of}
 use Rattle.reflect_walk.specs.Declarations.{Declaration, Body, of_file, of_message, of_field, of_oneof, of_enum, of_enum_value, of_service, of_method, of_extension, each, entry}
-use Rattle.reflect_names.specs.Known.{Known, declared, is_taken}
+use Rattle.reflect_scope.specs.Known.{Known, declared, is_taken}
 use Rattle.reflect_names.specs.Faults.{Place, Fault, file_not_found, duplicate_name, unknown_syntax, missing, bad_import_index}
 
 abbrev pub kind_of : Declaration → DefinitionKind
@@ -98,10 +99,6 @@ enum_range_faults at path k r = bound_faults at (entry path (pos 4) k) r.start r
 -- the names of files that stand for one
 abbrev pub import_fault : Places → (List ℕ → Option ℕ) → ℕ → String Global → List Fault
 import_fault at files k name = cond (is_some (files (string_bytes name))) [] (file_not_found (string_bytes name) (at (entry [] (pos 3) k)) ∷ [])
-
-abbrev pub is_index : ℤ → ℕ → Bool
-is_index (pos i) count = nat_lt i count
-is_index (negsuc i) count = false
 
 abbrev pub public_fault : Places → ℕ → ℕ → ℤ → List Fault
 public_fault at count k i = cond (is_index i count) [] (bad_import_index i (at (entry [] (pos 10) k)) ∷ [])

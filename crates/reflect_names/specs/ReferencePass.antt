@@ -7,7 +7,7 @@ use Rattle.reflect_walk.specs.Batches.{batch_declarations}
 use Rattle.reflect_walk.specs.Declarations.{Declaration}
 use Rattle.reflect_walk.specs.declared.visit_parts.Offsets.{Offsets}
 use Rattle.reflect_names.specs.Faults.{Fault}
-use Rattle.reflect_names.specs.Known.{Known}
+use Rattle.reflect_scope.specs.Known.{Known}
 use Rattle.reflect_names.specs.Names.{Places}
 use Rattle.reflect_names.specs.References.{View, Target, targets_of, reference_faults_at}
 

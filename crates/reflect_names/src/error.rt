@@ -277,13 +277,13 @@ impl fmt::Display for DescriptorErrorKind {
                 "message '{message}' does not define '{number}' as an extension number"
             ),
             DescriptorErrorKind::EmptyEnum { .. } => {
-                write!(f, "enums must have at least one value")
+                f.write_str("enums must have at least one value")
             }
             DescriptorErrorKind::DuplicateEnumNumber { number, .. } => {
                 write!(f, "enum number '{number}' has already been used")
             }
             DescriptorErrorKind::InvalidProto3EnumDefault { .. } => {
-                write!(f, "the first value for proto3 enums must be 0")
+                f.write_str("the first value for proto3 enums must be 0")
             }
             DescriptorErrorKind::InvalidFieldDefault { value, .. } => {
                 write!(f, "invalid default value '{value}'")
@@ -302,8 +302,8 @@ impl fmt::Display for DescriptorErrorKind {
                 f,
                 "extension number '{number}' of message '{message}' has already been used"
             ),
-            DescriptorErrorKind::TooMany => write!(f, "too many declarations"),
-            DescriptorErrorKind::Memory => write!(f, "out of memory"),
+            DescriptorErrorKind::TooMany => f.write_str("too many declarations"),
+            DescriptorErrorKind::Memory => f.write_str("out of memory"),
         }
     }
 }

@@ -3,9 +3,12 @@ ghost use Rattle.std.specs.List.{cons_option, filter_map};
 ghost use Rattle.std.specs.BTreeMap.{get_by_text};
 ghost use Rattle.reflect_walk.specs.Declarations.{each, entry};
 ghost use Rattle.reflect_names.specs.Faults.{Adds, place_at, duplicate_file};
-ghost use Rattle.reflect_names.specs.FileNames.{indexes_of, file_faults, with_file, with_files, files_faults, KeepsIndexes};
-ghost use Rattle.reflect_names.specs.ImportedFiles.{file_of, import_at as import_file, link_view, links_to};
-ghost use Rattle.reflect_names.specs.Names.{import_fault, public_fault, import_faults, is_index as is_index_of};
+ghost use Rattle.reflect_scope.specs.FileIndexes.{indexes_of, KeepsIndexes};
+ghost use Rattle.reflect_names.specs.FileNames.{file_faults, with_file, with_files, files_faults};
+ghost use Rattle.reflect_names.specs.ImportedFiles.{file_of, import_at as import_file, links_to};
+ghost use Rattle.reflect_scope.specs.FileIndexes.{link_view};
+ghost use Rattle.reflect_names.specs.Names.{import_fault, public_fault, import_faults};
+ghost use Rattle.reflect_scope.specs.FileIndexes.{is_index as is_index_of};
 
 use crate::error::DescriptorErrorKind;
 use crate::faults::Faults;

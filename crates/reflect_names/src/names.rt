@@ -1,6 +1,6 @@
 ghost use Rattle.std.specs.Prelude.{◌≡◌, ℕ, ◌<◌, ◌≤◌, OnOk, [], pos, is_some};
 ghost use Rattle.reflect_scope.specs.Means.{scopes};
-ghost use Rattle.reflect_names.specs.Known.{known_of, declared, may_repeat as repeats};
+ghost use Rattle.reflect_scope.specs.Known.{known_of, declared, may_repeat as repeats};
 ghost use Rattle.reflect_names.specs.Faults.{Adds, place_at};
 ghost use Rattle.reflect_names.specs.Names.{taken, name_faults, named, packages, package_faults, package_of, syntax_faults};
 ghost use Rattle.reflect_names.specs.NameSteps.{KeepsEntries};

@@ -15,7 +15,7 @@ use std::alloc::{AllocError, Global};
 use std::collections::BTreeMap;
 
 /// What a reference means.
-#[derive(Debug, Drop)]
+#[derive(Drop)]
 pub struct Reference {
     /// The full name behind a leading dot, as linked records write it.
     pub name: String,
@@ -73,14 +73,6 @@ fn suits(field_type: Option<i32>, kind: DefinitionKind) -> bool
     match field_type {
         Some(field_type) => !is_in(field_type, LAST_TYPE) || is_type_of(field_type, kind),
         None => true,
-    }
-}
-
-fn expected(filter: ResolveNameFilter) -> &'static str {
-    match filter {
-        ResolveNameFilter::Message => "a message type",
-        ResolveNameFilter::FieldType => "a message or enum type",
-        ResolveNameFilter::Extension => "an extension",
     }
 }
 
@@ -190,7 +182,7 @@ impl<'a> ResolveVisitor<'a> {
         ensures same { IsSame self.old self.new }
     {
         if let ResolveNameError::InvalidType = error {
-            return self.invalid_type(alloc, file, path, tag, name, expected(filter));
+            return self.invalid_type(alloc, file, path, tag, name, filter.text());
         }
         let found = self.faults.label_at(alloc, file, path, tag)?;
         let name = String::from_str(alloc, name)?;

@@ -7,9 +7,10 @@ use Rattle.std.specs.List.{list_any}
 use Rattle.reflect_names.specs.Faults.{Fault, Place, Adds, place_at}
 use Rattle.reflect_names.specs.declared.faults.Faults.{Faults}
 use Rattle.reflect_names.proofs.Added.{adds_on, same_places}
-use Rattle.reflect_index.specs.declared.stored.StoredExtension.{StoredExtension}
-use Rattle.reflect_rules.specs.Ranges.{TypesSay}
-use Rattle.reflect_passes.specs.Extensions.{KeyType, has_key, is_taken, double_faults, extension_faults}
+use Rattle.reflect_tables.specs.declared.stored.StoredExtension.{StoredExtension}
+use Rattle.reflect_rules.specs.TypesSay.{TypesSay}
+use Rattle.reflect_tables.specs.ExtensionNumbers.{KeyType}
+use Rattle.reflect_passes.specs.Extensions.{has_key, is_taken, double_faults, extension_faults}
 
 or_none : (a : Bool) → (a || false) ≡ a
 or_none true = refl

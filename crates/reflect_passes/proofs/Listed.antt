@@ -12,8 +12,9 @@ use Rattle.reflect_scope.specs.declared.seen.Links.{Links}
 use Rattle.reflect_walk.specs.Batches.{batch_declarations}
 use Rattle.reflect_walk.specs.declared.visit_parts.Offsets.{Offsets}
 use Rattle.reflect_names.specs.Faults.{Fault, Adds, another, batch_places, list_of, place_at}
-use Rattle.reflect_names.specs.FileNames.{Indexes, with_files, files_faults}
-use Rattle.reflect_names.specs.Known.{Known, known_of}
+use Rattle.reflect_scope.specs.FileIndexes.{Indexes}
+use Rattle.reflect_names.specs.FileNames.{with_files, files_faults}
+use Rattle.reflect_scope.specs.Known.{Known, known_of}
 use Rattle.reflect_names.specs.NamePass.{faults_along}
 use Rattle.reflect_names.specs.Names.{Places}
 use Rattle.reflect_names.specs.ReferencePass.{BatchReferences}

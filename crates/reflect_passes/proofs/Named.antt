@@ -3,8 +3,8 @@ use Rattle.std.proofs.Common.{ℕ, pos, List, [], Option, Some, None, get_or, is
 use Rattle.std.specs.Bool.{Decides}
 use Rattle.std.specs.List.{Any}
 use Rattle.std.proofs.lemmas.List.Elements.{Contains-get_or}
-use Rattle.reflect_index.specs.Types.{ValueType}
-use Rattle.reflect_index.specs.Finding.{IsFirst}
+use Rattle.reflect_tables.specs.Types.{ValueType}
+use Rattle.reflect_tables.specs.Finding.{IsFirst}
 
 pub first_decides : (P : ValueType → Type 0) (vs : List ValueType) (r : Option ℕ) → IsFirst P vs r → Decides (is_some r) (Any P vs)
 first_decides P vs (Some i) h =

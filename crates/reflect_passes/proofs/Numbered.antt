@@ -4,8 +4,9 @@ use Rattle.std.proofs.lemmas.List.{take_more, length-take-le}
 use Rattle.std.proofs.lemmas.Option.{same_Some}
 use Rattle.std.specs.Cmp.{both_tied, unsigned_ties}
 use Rattle.std.specs.Ordering.{is_eq, nat_cmp}
-use Rattle.reflect_index.specs.declared.stored.StoredExtension.{StoredExtension}
-use Rattle.reflect_passes.specs.Extensions.{KeyType, Numbers, KeepsNumbers, has_key, key_cmp, with_number, with_numbers}
+use Rattle.reflect_tables.specs.declared.stored.StoredExtension.{StoredExtension}
+use Rattle.reflect_tables.specs.ExtensionNumbers.{KeyType, Numbers, KeepsNumbers, key_cmp}
+use Rattle.reflect_passes.specs.Extensions.{has_key, with_number, with_numbers}
 
 with_push : (known : Numbers) (i : ℕ) (xs : List StoredExtension) (x : StoredExtension) → with_numbers known i (xs ++ x ∷ []) ≡ with_number (with_numbers known i xs) (i + length xs) x
 with_push known i [] x = let e : i ≡ i + 0 = omega arith in ap {B = Numbers} (λ n. with_number known n x) e

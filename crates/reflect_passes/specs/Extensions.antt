@@ -1,34 +1,19 @@
 -- Extensions of one message that have one number.
-use Rattle.std.specs.Prelude.{◌≡◌, ◌<◌, ◌+◌, ℕ, ℤ, pos, List, [], ◌∷◌, ◌++◌, Bool, ◌||◌, ◌&&◌, ◌==◌, cond, Option, Some, is_some}
-use Rattle.std.specs.declared.cmp.Ordering.{Ordering}
-use Rattle.std.specs.Ordering.{nat_cmp, ordering_then}
+use Rattle.std.specs.Prelude.{◌+◌, ℕ, ℤ, pos, List, [], ◌∷◌, ◌++◌, Bool, ◌||◌, ◌&&◌, ◌==◌, cond, Some, is_some}
 use Rattle.std.specs.BTreeMap.{BTreeMap, get}
 use Rattle.std.specs.List.{list_any}
 use Rattle.std.specs.Int.{w32, cast_signed}
 use Rattle.reflect_names.specs.Faults.{Fault, Place, duplicate_extension}
-use Rattle.reflect_index.specs.declared.stored.StoredExtension.{StoredExtension}
-use Rattle.reflect_rules.specs.Ranges.{TypesSay}
-
--- a message and a number
-abbrev pub KeyType : Type 0
-KeyType = ℕ × ℕ
+use Rattle.reflect_tables.specs.declared.stored.StoredExtension.{StoredExtension}
+use Rattle.reflect_tables.specs.ExtensionNumbers.{KeyType, key_cmp, Numbers}
+use Rattle.reflect_rules.specs.TypesSay.{TypesSay}
 
 abbrev pub has_key : KeyType → StoredExtension → Bool
 has_key k x = x.extendee == k.0 && x.field.number == k.1
 
-abbrev pub key_cmp : KeyType → KeyType → Ordering
-key_cmp a b = ordering_then (nat_cmp a.0 b.0) (nat_cmp a.1 b.1)
-
 -- an extension has the message and the number
 abbrev pub is_known : BTreeMap KeyType ℕ → KeyType → Bool
 is_known numbers k = is_some (get key_cmp numbers k)
-
--- the places of extensions, by their messages and numbers
-abbrev pub Numbers : Type 0
-Numbers = KeyType → Option ℕ
-
-abbrev pub numbers_of : BTreeMap KeyType ℕ → Numbers
-numbers_of m = λ k. get key_cmp m k
 
 -- the first extension of a message and a number stays
 abbrev pub with_number : Numbers → ℕ → StoredExtension → Numbers
@@ -38,10 +23,6 @@ with_number known i x = cond (is_some (known (x.extendee, x.field.number))) know
 abbrev pub with_numbers : Numbers → ℕ → List StoredExtension → Numbers
 with_numbers known i [] = known
 with_numbers known i (x ∷ xs) = with_numbers (with_number known i x) (i + 1) xs
-
--- a place below the mark is that of a message and a number in both or in neither
-abbrev pub KeepsNumbers : ℕ → Numbers → Numbers → Type 0
-KeepsNumbers mark old new = (k : KeyType) (i : ℕ) → i < mark → (old k ≡ Some i → new k ≡ Some i) × (new k ≡ Some i → old k ≡ Some i)
 
 -- a known extension has them, or one of these
 abbrev pub is_taken : (KeyType → Bool) → List StoredExtension → KeyType → Bool

@@ -2,11 +2,10 @@
 use Rattle.std.specs.Prelude.{◌≡◌, ℕ, ◌-◌, List, [], false, cond, nat_lt, length, slice_get, Option, Some, None, string_bytes}
 use Rattle.std.specs.Bool.{Decides}
 use Rattle.std.specs.List.{Any}
-use Rattle.reflect_index.specs.Views.{enum_of}
-use Rattle.reflect_index.specs.declared.stored.StoredEnum.{StoredEnum}
-use Rattle.reflect_index.specs.declared.stored.StoredMessage.{StoredMessage}
-use Rattle.reflect_rules.specs.Ranges.{TypesSay}
-use Rattle.reflect_rules.specs.Walks.{ranges_of}
+use Rattle.reflect_tables.specs.Views.{enum_of, ranges_of}
+use Rattle.reflect_tables.specs.declared.stored.StoredEnum.{StoredEnum}
+use Rattle.reflect_tables.specs.declared.stored.StoredMessage.{StoredMessage}
+use Rattle.reflect_rules.specs.TypesSay.{TypesSay}
 use Rattle.reflect_rules.specs.Rules.{Values}
 use Rattle.reflect_passes.specs.declared.linked_types.LinkedTypes.{LinkedTypes}
 

@@ -5,8 +5,9 @@ use Rattle.reflect_scope.specs.declared.seen.Links.{Links}
 use Rattle.reflect_walk.specs.Batches.{batch_declarations}
 use Rattle.reflect_walk.specs.declared.visit_parts.Offsets.{Offsets}
 use Rattle.reflect_names.specs.Faults.{Fault, batch_places}
-use Rattle.reflect_names.specs.FileNames.{Indexes, with_files, files_faults}
-use Rattle.reflect_names.specs.Known.{Known}
+use Rattle.reflect_scope.specs.FileIndexes.{Indexes}
+use Rattle.reflect_names.specs.FileNames.{with_files, files_faults}
+use Rattle.reflect_scope.specs.Known.{Known}
 use Rattle.reflect_names.specs.NamePass.{faults_along}
 use Rattle.reflect_names.specs.ReferencePass.{BatchReferences}
 use Rattle.reflect_names.specs.References.{Target}

@@ -5,7 +5,8 @@ use Rattle.reflect_walk.specs.declared.visit_parts.Offsets.{Offsets}
 use Rattle.reflect_names.specs.Faults.{Fault, Place}
 use Rattle.reflect_names.specs.declared.resolve_visitor.Reference.{Reference}
 use Rattle.reflect_rules.specs.RulePass.{BatchFaults}
-use Rattle.reflect_passes.specs.Extensions.{KeyType, extension_faults}
+use Rattle.reflect_tables.specs.ExtensionNumbers.{KeyType}
+use Rattle.reflect_passes.specs.Extensions.{extension_faults}
 use Rattle.reflect_passes.specs.Linked.{linked_says, linked_values}
 use Rattle.reflect_passes.specs.declared.linked_types.LinkedTypes.{LinkedTypes}
 

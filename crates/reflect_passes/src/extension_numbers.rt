@@ -1,19 +1,20 @@
 //! The pass over extensions: no two extensions of one message have one number.
 
-ghost use Rattle.std.specs.Prelude.{◌≡◌, ◌||◌, ◌++◌, ◌∷◌, [], pos, length, OnOk, IfErr};
+ghost use Rattle.std.specs.Prelude.{◌≡◌, ◌+◌, ◌||◌, ◌++◌, ◌∷◌, [], pos, length, OnOk, IfOk, IfErr};
 ghost use Rattle.std.specs.Int.{w32, cast_signed};
 ghost use Rattle.reflect_names.specs.Faults.{Adds, list_of, place_at, duplicate_extension};
 ghost use Rattle.reflect_passes.specs.Errors.{faults_of, Refuses};
-ghost use Rattle.reflect_passes.specs.Extensions.{KeyType, KeepsNumbers, has_key, is_known, is_taken, numbers_of, with_number, with_numbers, double_faults, extension_faults};
+ghost use Rattle.reflect_tables.specs.ExtensionNumbers.{KeyType, KeepsNumbers, numbers_of};
+ghost use Rattle.reflect_passes.specs.Extensions.{has_key, is_known, is_taken, with_number, with_numbers, double_faults, extension_faults};
 ghost use Rattle.reflect_passes.specs.Linked.{linked_says};
 
 use crate::error::DescriptorError;
 use crate::linked_types::LinkedTypes;
 use crate::passes::{walk_error, without_faults};
 use descriptor_records::tag;
-use reflect_index::StoredExtension;
 use reflect_names::{DescriptorErrorKind, Faults, VisitError};
 use reflect_rules::Types;
+use reflect_tables::StoredExtension;
 use std::alloc::{AllocError, Global};
 use std::collections::BTreeMap;
 
@@ -59,6 +60,16 @@ fn put_number(
     Ok(())
 }
 
+/// The place behind so many others of an extension at a place among the new ones.
+fn place_behind(count: usize, at: usize) -> Result<u32, VisitError>
+    ensures { IfOk result (λ place. place ≡ count + at) }
+{
+    match u32::try_from(count.saturating_add(at)) {
+        Ok(place) => Ok(place),
+        Err(_) => Err(VisitError::TooMany),
+    }
+}
+
 /// Puts the numbers of all new extensions.
 fn put_numbers(
     alloc: Global,
@@ -73,8 +84,7 @@ fn put_numbers(
 {
     let extensions = types.new.extensions.as_slice();
     'turns: for (at, extension) in extensions.iter().enumerate() {
-        let place = types.old.extensions.len().saturating_add(at);
-        let place = u32::try_from(place).map_err(|_| VisitError::TooMany)?;
+        let place = place_behind(types.old.extensions.len(), at)?;
         put_number(alloc, types, faults, numbers, place, extension)?;
     }
     Ok(())

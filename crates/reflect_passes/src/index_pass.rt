@@ -2,12 +2,13 @@
 
 ghost use Rattle.std.specs.Prelude.{◌≡◌, ◌++◌, [], length, map, take, OnOk, IfOk};
 ghost use Rattle.reflect_walk.specs.Batches.{batch_declarations};
-ghost use Rattle.reflect_names.specs.FileNames.{indexes_of};
-ghost use Rattle.reflect_names.specs.ImportedFiles.{link_view, links_to};
+ghost use Rattle.reflect_scope.specs.FileIndexes.{indexes_of, link_view};
+ghost use Rattle.reflect_names.specs.ImportedFiles.{links_to};
 ghost use Rattle.std.specs.List.{AllByRecursion};
-ghost use Rattle.reflect_index.specs.Types.{ListsMembers};
-ghost use Rattle.reflect_index.specs.Views.{message_of};
-ghost use Rattle.reflect_index.specs.Names.{messages, enums, extensions, services, with_names};
+ghost use Rattle.reflect_tables.specs.Types.{ListsMembers};
+ghost use Rattle.reflect_tables.specs.Views.{message_of};
+ghost use Rattle.reflect_tables.specs.Names.{messages, enums, extensions, services};
+ghost use Rattle.reflect_index.specs.DeclaredNames.{with_names};
 ghost use Rattle.reflect_index.specs.OfDeclarations.{AllDeclared, messages_in, enums_in, stored_ranges, stored_values, declared_values};
 ghost use Rattle.reflect_index.specs.DraftNames.{stored_message_name, stored_enum_name, stored_extension_name, stored_service_name};
 

@@ -3,8 +3,9 @@
 ghost use Rattle.std.specs.Prelude.{◌≡◌};
 ghost use Rattle.std.specs.Option.{option_copied};
 
-use reflect_index::{Batch, StoredEnum, StoredMessage, Tables};
-use reflect_rules::{NumberRanges, Types};
+use reflect_index::Batch;
+use reflect_rules::Types;
+use reflect_tables::{NumberRanges, StoredEnum, StoredMessage, Tables};
 
 /// The types of a pool, and behind them those of a batch that is not in it yet.
 #[derive(Clone, Copy)]

@@ -3,8 +3,9 @@
 ghost use Rattle.std.specs.Prelude.{◌≡◌, ◌∷◌, [], length, map, OnOk, IfOk, IfErr};
 ghost use Rattle.reflect_walk.specs.Batches.{batch_declarations};
 ghost use Rattle.reflect_names.specs.Faults.{fault_view, list_of, another, batch_places};
-ghost use Rattle.reflect_names.specs.FileNames.{indexes_of, with_files, KeepsIndexes};
-ghost use Rattle.reflect_names.specs.Known.{known_of};
+ghost use Rattle.reflect_scope.specs.FileIndexes.{indexes_of, KeepsIndexes};
+ghost use Rattle.reflect_names.specs.FileNames.{with_files};
+ghost use Rattle.reflect_scope.specs.Known.{known_of};
 ghost use Rattle.reflect_names.specs.NamePass.{known_behind};
 ghost use Rattle.reflect_names.specs.NameSteps.{KeepsFrom};
 ghost use Rattle.reflect_names.specs.ReferencePass.{BatchReferences};

@@ -1,7 +1,7 @@
 -- What a lookup of an extension by its name in brackets answers.
 use Rattle.std.proofs.Common.{◌≡◌, ℕ, List, [], ◌∷◌, ◌++◌, Option, None, Some, get_or, ap, sym, ◌∙◌}
 use Rattle.std.proofs.lemmas.List.{append_cancel_right}
-use Rattle.reflect_index.specs.Types.{PoolType, ExtensionType}
+use Rattle.reflect_tables.specs.Types.{PoolType, ExtensionType}
 use Rattle.reflect_pool.specs.Brackets.{in_brackets}
 use Rattle.reflect_pool.specs.Finds.{FindsAny}
 use Rattle.reflect_pool.specs.declared.extension.ExtensionDescriptor.{ExtensionDescriptor}

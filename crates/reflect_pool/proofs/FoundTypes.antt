@@ -1,8 +1,8 @@
 -- The descriptor at a place that a full name stands for.
 use Rattle.std.specs.Prelude.{◌≡◌, ℕ, List, Option, None, Some, IsSome, IfSome}
 use Rattle.std.proofs.Common.{sym, subst}
-use Rattle.reflect_index.specs.Finding.{IsFirst}
-use Rattle.reflect_index.specs.Types.{PoolType}
+use Rattle.reflect_tables.specs.Finding.{IsFirst}
+use Rattle.reflect_tables.specs.Types.{PoolType}
 use Rattle.reflect_pool.specs.Dots.{without_dot}
 use Rattle.reflect_pool.specs.FindsNames.{FindsMessage, FindsEnum, FindsExtension}
 use Rattle.reflect_pool.specs.declared.message.MessageDescriptor.{MessageDescriptor}

@@ -10,19 +10,20 @@ use Rattle.std.specs.List.{All, AllByRecursion, Contains, cons_option, filter_ma
 use Rattle.std.specs.BTreeMap.{BTreeMap}
 use Rattle.reflect_scope.specs.declared.definition.Definition.{Definition}
 use Rattle.reflect_scope.specs.declared.seen.Links.{Links}
-use Rattle.reflect_names.specs.FileNames.{Indexes, indexes_of}
-use Rattle.reflect_names.specs.ImportedFiles.{link_view}
-use Rattle.reflect_names.specs.Names.{is_index}
-use Rattle.reflect_index.specs.Types.{FileType, PoolType}
-use Rattle.reflect_index.specs.declared.kind.Syntax.TheVariants.{Proto2}
-use Rattle.reflect_index.proofs.Founds.{no_some}
-use Rattle.reflect_passes.specs.Extensions.{KeyType}
+use Rattle.reflect_scope.specs.FileIndexes.{Indexes, indexes_of, link_view, is_index}
+use Rattle.reflect_tables.specs.Types.{FileType, PoolType}
+use Rattle.reflect_tables.specs.declared.kind.Syntax.TheVariants.{Proto2}
+use Rattle.reflect_tables.proofs.Founds.{no_some}
+use Rattle.reflect_tables.specs.ExtensionNumbers.{KeyType}
 use Rattle.reflect_pool.specs.Imports.{import_at, import_name, imported, imported_places, imported_publicly, ImportsAmong, name_at, names_of_files, place_named}
 use Rattle.reflect_pool.specs.Linked.{AreIndexed, IsLinked}
 use Rattle.reflect_pool.proofs.Grown.{all_through}
 use Rattle.reflect_pool.proofs.Indexed.{at_first}
-use Rattle.reflect_pool.proofs.Places.{at_place, view_there}
-use Rattle.reflect_pool.proofs.Imported.{all_get, of_name}
+use Rattle.reflect_pool.proofs.Places.{all_get, at_place, view_there}
+
+-- what the name of an import stands for, if there is one
+abbrev pub of_name : Indexes → Option (List ℕ) → Option ℕ
+of_name indexes o = elim o [ None ↦ None | Some name ↦ indexes name ]
 
 -- all that is given from a list has what each that is given has
 all_given : {X Y : Type 0} (P : Y → Type 0) (h : X → Option Y) → ((x : X) (y : Y) → h x ≡ Some y → P y) → (xs : List X) → All P (filter_map h xs)

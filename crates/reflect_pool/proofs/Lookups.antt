@@ -3,10 +3,10 @@ use Rattle.std.proofs.Common.{◌≡◌, ◌<◌, ℕ, zero, suc, List, [], ◌�
 use Rattle.std.proofs.Math.ListN.{length-map}
 use Rattle.std.proofs.lemmas.List as lists
 use Rattle.std.proofs.lemmas.Option.{some_pair_parts, slice_get-get_or, get_or_from_slice_get}
-use Rattle.reflect_index.specs.Finding.{IsFirst}
+use Rattle.reflect_tables.specs.Finding.{IsFirst}
 use Rattle.reflect_pool.specs.Finds.{IsOnly}
-use Rattle.reflect_index.specs.Names.{FullName, AreFound, Sort, messages, enums, extensions, services, place_of, place_in, found, with_file}
-use Rattle.reflect_names.specs.Known.{Known}
+use Rattle.reflect_tables.specs.Names.{FullName, AreFound, Sort, messages, enums, extensions, services, place_of, place_in, found, with_file}
+use Rattle.reflect_scope.specs.Known.{Known}
 use Rattle.reflect_scope.specs.declared.definition.Definition.{Definition}
 use Rattle.reflect_scope.specs.declared.definition.DefinitionKind.{DefinitionKind}
 use Rattle.reflect_scope.specs.declared.definition.DefinitionKind.TheVariants as kind

@@ -1,7 +1,7 @@
 -- The members of a oneof are the fields that name it.
 use Rattle.std.proofs.Common.{◌≡◌, ℕ, zero, suc, ◌+◌, ◌<◌, List, [], ◌∷◌, Bool, true, false, cond, map, length, get_or, ap, ◌∙◌, arith, refl}
 use Rattle.std.specs.List.{AllByRecursion, filter}
-use Rattle.reflect_index.specs.Types.{FieldType, MessageType, PoolType, ListsMembers, is_member, members_from, no_field, no_type, type_of_field}
+use Rattle.reflect_tables.specs.Types.{FieldType, MessageType, PoolType, ListsMembers, is_member, members_from, no_field, no_type, type_of_field}
 use Rattle.reflect_pool.specs.Parts.{type_of_oneof, members_of}
 
 -- the fields at the places of members, where the list goes on from a place of the whole

@@ -1,5 +1,6 @@
 -- What the pool's invariant says at a place.
-use Rattle.std.proofs.Common.{◌≡◌, ℕ, zero, suc, ◌<◌, List, [], ◌∷◌, map, length, get_or, arith, sym, ap, ◌∙◌, subst}
+use Rattle.std.proofs.Common.{◌≡◌, ℕ, zero, suc, ◌<◌, List, [], ◌∷◌, map, length, get_or, arith, sym, ap, ◌∙◌, subst, Some, slice_get}
+use Rattle.std.proofs.lemmas.Option.{slice_get_within, get_or_from_slice_get}
 use Rattle.std.proofs.Math.ListN.{get_or-map, length-map}
 use Rattle.std.proofs.lemmas.List as lists
 use Rattle.std.specs.List.{AllByRecursion}
@@ -18,3 +19,7 @@ pub view_there : {X Y : Type 0} (f : X → Y) (xs : List X) (i : ℕ) (x : X) (d
 view_there f xs i x d lt e =
     let long : length (map f xs) ≡ length xs = length-map xs f in
     lists.get_or-map f xs i x d (omega (arith, lt, long)) ∙ ap f (sym e)
+
+-- what holds of each element holds of the one at a place
+pub all_get : {X : Type 0} (P : X → Type 0) (xs : List X) (i : ℕ) (x : X) → AllByRecursion P xs → slice_get xs i ≡ Some x → P x
+all_get P xs i x all e = subst P (get_or_from_slice_get xs i x x e) (at_place P xs i x all (slice_get_within xs i x e))

@@ -18,8 +18,8 @@ use Rattle.std.specs.Ordering.{nat_cmp, ordering_then}
 use Rattle.std.specs.declared.cmp.Ordering.{Ordering}
 use Rattle.std.specs.declared.ops.Bound.TheVariants.{Included, Excluded}
 use Rattle.std.specs.declared.cmp.Ordering.TheVariants.{Less, Equal}
-use Rattle.reflect_index.specs.Types.{PoolType, ExtensionType, extension_at, no_extension}
-use Rattle.reflect_passes.specs.Extensions.{KeyType, key_cmp, numbers_of}
+use Rattle.reflect_tables.specs.Types.{PoolType, ExtensionType, extension_at, no_extension}
+use Rattle.reflect_tables.specs.ExtensionNumbers.{KeyType, key_cmp, numbers_of}
 use Rattle.reflect_pool.specs.ExtensionsLeft.{AreExtensions, extension_type}
 use Rattle.reflect_pool.specs.Linked.{AreNumbered, key_of}
 use Rattle.reflect_pool.specs.declared.extension.ExtensionDescriptor.{ExtensionDescriptor}

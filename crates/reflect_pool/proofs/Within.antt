@@ -2,17 +2,17 @@
 use Rattle.std.proofs.Common.{◌≡◌, ℕ, ◌<◌, ◌^◌, map, length, get_or, arith, ap, ◌∙◌, sym, subst}
 use Rattle.std.proofs.Math.ListN.{length-map}
 use Rattle.std.specs.List.{All}
-use Rattle.reflect_index.specs.Types.{PoolType, MessageType, OneofType, ServiceType, ArePooled, IsWithin, ChildrenWithin, HoldsWithin, FileWithin, MessageWithin, EnumWithin, ExtensionWithin, MethodWithin, ServiceWithin, counts_of, no_type, no_oneof, no_enum, no_service}
-use Rattle.reflect_index.specs.Views.{pool_of, file_of, places_of, children_of, message_of, enum_of, extension_of, service_of, method_of, field_of, oneof_of, kind_of}
-use Rattle.reflect_index.specs.declared.tables.Tables.{Tables}
-use Rattle.reflect_index.specs.declared.stored.StoredFile.{StoredFile}
-use Rattle.reflect_index.specs.declared.stored.StoredMessage.{StoredMessage}
-use Rattle.reflect_index.specs.declared.stored.StoredField.{StoredField}
-use Rattle.reflect_index.specs.declared.stored.StoredOneof.{StoredOneof}
-use Rattle.reflect_index.specs.declared.stored.StoredEnum.{StoredEnum}
-use Rattle.reflect_index.specs.declared.stored.StoredExtension.{StoredExtension}
-use Rattle.reflect_index.specs.declared.stored.StoredService.{StoredService}
-use Rattle.reflect_index.specs.declared.stored.StoredMethod.{StoredMethod}
+use Rattle.reflect_tables.specs.Types.{PoolType, MessageType, OneofType, ServiceType, ArePooled, IsWithin, ChildrenWithin, HoldsWithin, FileWithin, MessageWithin, EnumWithin, ExtensionWithin, MethodWithin, ServiceWithin, counts_of, no_type, no_oneof, no_enum, no_service}
+use Rattle.reflect_tables.specs.Views.{pool_of, file_of, places_of, children_of, message_of, enum_of, extension_of, service_of, method_of, field_of, oneof_of, kind_of}
+use Rattle.reflect_tables.specs.declared.tables.Tables.{Tables}
+use Rattle.reflect_tables.specs.declared.stored.StoredFile.{StoredFile}
+use Rattle.reflect_tables.specs.declared.stored.StoredMessage.{StoredMessage}
+use Rattle.reflect_tables.specs.declared.stored.StoredField.{StoredField}
+use Rattle.reflect_tables.specs.declared.stored.StoredOneof.{StoredOneof}
+use Rattle.reflect_tables.specs.declared.stored.StoredEnum.{StoredEnum}
+use Rattle.reflect_tables.specs.declared.stored.StoredExtension.{StoredExtension}
+use Rattle.reflect_tables.specs.declared.stored.StoredService.{StoredService}
+use Rattle.reflect_tables.specs.declared.stored.StoredMethod.{StoredMethod}
 use Rattle.reflect_pool.proofs.Places.{at_place, at_view, view_there}
 
 pub message_within : (t : Tables) (pool : PoolType) (i : ℕ) (m : StoredMessage) → pool_of t ≡ pool → ArePooled (pool_of t)

@@ -1,7 +1,7 @@
 -- The defaults that descriptors lend.
 use Rattle.std.specs.Prelude.{◌≡◌, ℕ, ℤ, List, Option, None, Some, slice_index_or}
-use Rattle.reflect_index.specs.Finding.{IsFirst}
-use Rattle.reflect_index.specs.Types.{PoolType, FieldType, KindType, enumeration, DefaultType, signed, unsigned, truth, text, octets, named, fraction, enum_at}
+use Rattle.reflect_tables.specs.Finding.{IsFirst}
+use Rattle.reflect_tables.specs.Types.{PoolType, FieldType, KindType, enumeration, DefaultType, signed, unsigned, truth, text, octets, named, fraction, enum_at}
 use Rattle.reflect_pool.specs.Parts.{no_value}
 use Rattle.reflect_pool.specs.declared.kind.DefaultValue.{DefaultValue}
 use Rattle.reflect_pool.specs.declared.kind.DefaultValue.TheVariants as defaults

@@ -2,7 +2,7 @@
 use Rattle.std.specs.Prelude.{◌≡◌, ℕ, List, All, Contains, map}
 use Rattle.std.specs.List.Sorted.{IsStrictlySortedBy}
 use Rattle.std.specs.Ordering.{nat_cmp}
-use Rattle.reflect_index.specs.Types.{PoolType, ExtensionType, extension_at}
+use Rattle.reflect_tables.specs.Types.{PoolType, ExtensionType, extension_at}
 use Rattle.reflect_pool.specs.declared.extension.ExtensionDescriptor.{ExtensionDescriptor}
 use Rattle.reflect_pool.specs.declared.extension.MessageExtensions.{MessageExtensions}
 

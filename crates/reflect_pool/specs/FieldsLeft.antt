@@ -1,6 +1,6 @@
 -- What an iterator over fields has left.
 use Rattle.std.specs.Prelude.{List, drop}
-use Rattle.reflect_index.specs.Types.{FieldType, type_at, type_of_field}
+use Rattle.reflect_tables.specs.Types.{FieldType, type_at, type_of_field}
 use Rattle.reflect_pool.specs.declared.field.FieldDescriptor.{FieldDescriptor}
 use Rattle.reflect_pool.specs.declared.message.Fields.{Fields}
 

@@ -1,7 +1,7 @@
 -- What a lookup among the parts of a type, or among the extensions of a pool, answers.
 use Rattle.std.specs.Prelude.{◌≡◌, ◌<◌, ℕ, List, Option, None, Some, All, HoldsAt, length, slice_index_or}
-use Rattle.reflect_index.specs.Finding.{IsFirst}
-use Rattle.reflect_index.specs.Types.{PoolType, FieldType, ValueType, ExtensionType, type_at, enum_at}
+use Rattle.reflect_tables.specs.Finding.{IsFirst}
+use Rattle.reflect_tables.specs.Types.{PoolType, FieldType, ValueType, ExtensionType, type_at, enum_at}
 use Rattle.reflect_pool.specs.declared.message.MessageDescriptor.{MessageDescriptor}
 use Rattle.reflect_pool.specs.declared.field.FieldDescriptor.{FieldDescriptor}
 use Rattle.reflect_pool.specs.declared.enums.EnumDescriptor.{EnumDescriptor}

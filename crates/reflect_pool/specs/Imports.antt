@@ -1,9 +1,8 @@
 -- Which files of a pool its files import.
 use Rattle.std.specs.Prelude.{◌≡◌, ℕ, ℤ, pos, negsuc, List, [], map, length, true, Option, Some, None, slice_get, slice_index_or, bytes_eq}
 use Rattle.std.specs.List.{AllByRecursion, Contains, filter_map, position}
-use Rattle.reflect_names.specs.FileNames.{Indexes}
-use Rattle.reflect_names.specs.Names.{is_index}
-use Rattle.reflect_index.specs.Types.{FileType, PoolType, ArePooled}
+use Rattle.reflect_scope.specs.FileIndexes.{Indexes, is_index}
+use Rattle.reflect_tables.specs.Types.{FileType, PoolType, ArePooled}
 
 -- the names of files
 abbrev pub names_of_files : List FileType → List (List ℕ)

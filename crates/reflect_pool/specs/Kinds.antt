@@ -1,6 +1,6 @@
 -- What a public kind says.
 use Rattle.std.specs.Prelude.{◌≡◌}
-use Rattle.reflect_index.specs.Types.{KindType, PoolType, double, float, int32, int64, uint32, uint64, sint32, sint64, fixed32, fixed64, sfixed32, sfixed64, bool, string, bytes, message, enumeration}
+use Rattle.reflect_tables.specs.Types.{KindType, PoolType, double, float, int32, int64, uint32, uint64, sint32, sint64, fixed32, fixed64, sfixed32, sfixed64, bool, string, bytes, message, enumeration}
 use Rattle.reflect_pool.specs.declared.kind.Kind.{Kind}
 use Rattle.reflect_pool.specs.declared.kind.Kind.TheVariants as kinds
 

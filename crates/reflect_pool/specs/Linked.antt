@@ -1,16 +1,14 @@
 -- What holds of a pool with the names of its types.
 use Rattle.std.specs.Prelude.{◌≡◌, ℕ, List, [], Some, map, length, slice_get, String}
-use Rattle.reflect_walk.specs.declared.visit_parts.Offsets.{Offsets}
 use Rattle.std.specs.declared.alloc.Global.{Global}
 use Rattle.std.specs.BTreeMap.{BTreeMap}
 use Rattle.reflect_scope.specs.declared.definition.Definition.{Definition}
 use Rattle.reflect_scope.specs.declared.seen.Links.{Links}
-use Rattle.reflect_names.specs.FileNames.{Indexes, indexes_of}
-use Rattle.reflect_names.specs.ImportedFiles.{link_view}
-use Rattle.reflect_names.specs.Known.{known_of, AllBelow}
-use Rattle.reflect_index.specs.Types.{PoolType, ExtensionType, ArePooled}
-use Rattle.reflect_index.specs.Names.{AreNamed, names_of}
-use Rattle.reflect_passes.specs.Extensions.{KeyType, Numbers, numbers_of}
+use Rattle.reflect_scope.specs.FileIndexes.{Indexes, indexes_of, link_view}
+use Rattle.reflect_scope.specs.Known.{known_of, AllBelow}
+use Rattle.reflect_tables.specs.Types.{PoolType, ExtensionType, ArePooled}
+use Rattle.reflect_tables.specs.Names.{AreNamed, names_of}
+use Rattle.reflect_tables.specs.ExtensionNumbers.{KeyType, Numbers, numbers_of}
 use Rattle.reflect_pool.specs.Imports.{ImportsAreThere, imported_places, names_of_files}
 
 -- a pool that holds nothing
@@ -40,10 +38,3 @@ pub record IsLinked (p : PoolType) (names : BTreeMap (String Global) Definition)
   pub numbers : AreNumbered (numbers_of places) (map key_of p.extensions)
   pub imports : ImportsAreThere p
   pub to_imports : map link_view links ≡ map (imported_places (indexes_of file_names)) p.files
-
--- how many of each sort there are
-pub record CountsOf (p : PoolType) (o : Offsets) : Type 0 where
-  pub messages : o.messages ≡ length p.messages
-  pub enums : o.enums ≡ length p.enums
-  pub extensions : o.extensions ≡ length p.extensions
-  pub services : o.services ≡ length p.services

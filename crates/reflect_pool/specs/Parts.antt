@@ -1,6 +1,6 @@
 -- The parts of types at their places.
 use Rattle.std.specs.Prelude.{ℕ, pos, false, List, [], filter, slice_index_or}
-use Rattle.reflect_index.specs.Types.{PoolType, FieldType, OneofType, ValueType, type_at, enum_at, is_member, no_oneof, MethodType, service_at}
+use Rattle.reflect_tables.specs.Types.{PoolType, FieldType, OneofType, ValueType, type_at, enum_at, is_member, no_oneof, MethodType, service_at}
 
 -- what stands for a value that is not there
 abbrev pub no_value : ValueType

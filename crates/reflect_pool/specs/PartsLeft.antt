@@ -1,6 +1,6 @@
 -- What the iterators over oneofs, over their members and over values have left.
 use Rattle.std.specs.Prelude.{List, drop, map}
-use Rattle.reflect_index.specs.Types.{FieldType, OneofType, ValueType, type_at, type_of_field, enum_at}
+use Rattle.reflect_tables.specs.Types.{FieldType, OneofType, ValueType, type_at, type_of_field, enum_at}
 use Rattle.reflect_pool.specs.Parts.{type_of_oneof, type_of_value}
 use Rattle.reflect_pool.specs.declared.enums.EnumValueDescriptor.{EnumValueDescriptor}
 use Rattle.reflect_pool.specs.declared.enums.EnumValues.{EnumValues}

@@ -1,6 +1,6 @@
 -- Descriptors are the same where they stand at one place, under one full name.
 use Rattle.std.specs.Prelude.{◌==◌, ◌&&◌, Bool, bytes_eq}
-use Rattle.reflect_index.specs.Types.{type_at, enum_at, extension_at}
+use Rattle.reflect_tables.specs.Types.{type_at, enum_at, extension_at}
 use Rattle.reflect_pool.specs.declared.message.MessageDescriptor.{MessageDescriptor}
 use Rattle.reflect_pool.specs.declared.field.FieldDescriptor.{FieldDescriptor}
 use Rattle.reflect_pool.specs.declared.oneof.OneofDescriptor.{OneofDescriptor}

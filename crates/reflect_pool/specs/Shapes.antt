@@ -1,8 +1,8 @@
 -- Whether fields hold one value, a list or a map (protobuf.dev, "Language Guide", Maps).
 use Rattle.std.specs.Prelude.{Bool, true, false, not, ◌&&◌, is_some}
-use Rattle.reflect_index.specs.Types.{PoolType, FieldType, KindType, message, type_at}
-use Rattle.reflect_index.specs.declared.kind.Cardinality.{Cardinality}
-use Rattle.reflect_index.specs.declared.kind.Cardinality.TheVariants.{Repeated, Required}
+use Rattle.reflect_tables.specs.Types.{PoolType, FieldType, KindType, message, type_at}
+use Rattle.reflect_tables.specs.declared.kind.Cardinality.{Cardinality}
+use Rattle.reflect_tables.specs.declared.kind.Cardinality.TheVariants.{Repeated, Required}
 
 -- the field has to be set
 abbrev pub is_required : Cardinality → Bool

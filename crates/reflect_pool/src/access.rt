@@ -1,12 +1,12 @@
 //! What the readers of the crate above take from a pool.
 
 ghost use Rattle.std.specs.Prelude.{◌≡◌, ◌<◌, All, HoldsAt, length, map};
-ghost use Rattle.reflect_index.specs.Types.{FileWithin, ChildrenWithin, counts_of, declared_at, type_at, enum_at, extension_at, service_at};
-ghost use Rattle.reflect_index.specs.Views.{children_of, declared_of, pool_of};
-ghost use Rattle.reflect_index.specs.Finding.{IsFirst};
-ghost use Rattle.reflect_index.specs.Names.{AreNamed, names_of};
-ghost use Rattle.reflect_names.specs.ImportedFiles.{link_view};
-ghost use Rattle.reflect_names.specs.Known.{known_of};
+ghost use Rattle.reflect_tables.specs.Types.{FileWithin, ChildrenWithin, counts_of, declared_at, type_at, enum_at, extension_at, service_at};
+ghost use Rattle.reflect_tables.specs.Views.{children_of, declared_of, pool_of};
+ghost use Rattle.reflect_tables.specs.Finding.{IsFirst};
+ghost use Rattle.reflect_tables.specs.Names.{AreNamed, names_of};
+ghost use Rattle.reflect_scope.specs.FileIndexes.{link_view};
+ghost use Rattle.reflect_scope.specs.Known.{known_of};
 ghost use Rattle.reflect_pool.specs.Dots.{without_dot};
 ghost use Rattle.reflect_pool.specs.Imports.{import_name, imported, imported_places, imported_publicly, name_at, place_named};
 ghost use Rattle.reflect_pool.specs.Parts.{type_of_method};
@@ -16,8 +16,8 @@ use crate::enums::EnumDescriptor;
 use crate::extension::ExtensionDescriptor;
 use crate::message::MessageDescriptor;
 use crate::pool::{DescriptorPool, kind_of};
-use reflect_index::{Children, Counts, Declared, Tables};
-use reflect_names::{Definition, DefinitionKind, Links};
+use reflect_scope::{Definition, DefinitionKind, Links};
+use reflect_tables::{Children, Counts, Declared, Tables};
 use std::collections::BTreeMap;
 
 impl DescriptorPool {
@@ -40,6 +40,13 @@ impl DescriptorPool {
             extensions: tables.extensions.len() as u32,
             services: tables.services.len() as u32,
         }
+    }
+
+    /// How many files there are.
+    pub fn mark(&self) -> u32
+        ensures { result ≡ length self.now.files }
+    {
+        self.tables.files.len() as u32
     }
 
     /// How many methods a service has.

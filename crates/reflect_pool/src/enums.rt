@@ -1,5 +1,5 @@
 ghost use Rattle.std.specs.Prelude.{◌≡◌, ◌<◌, ◌^◌, length, None, Some, IfSome, IsSome, MatchOption};
-ghost use Rattle.reflect_index.specs.Types.{enum_at};
+ghost use Rattle.reflect_tables.specs.Types.{enum_at};
 ghost use Rattle.reflect_pool.specs.Parts.{type_of_value};
 
 use crate::message::MessageDescriptor;

@@ -1,12 +1,12 @@
 ghost use Rattle.std.specs.Prelude.{◌≡◌, ◌<◌, All, length, None, Some, IfSome, MatchOption};
 ghost use Rattle.std.proofs.Props.{props};
-ghost use Rattle.reflect_index.specs.Types.{extension_at};
+ghost use Rattle.reflect_tables.specs.Types.{extension_at};
 
 use crate::kind::{DefaultValue, Kind};
 use crate::message::MessageDescriptor;
 use crate::pool::DescriptorPool;
 use crate::reading::{default_value, is_map, kind_in};
-use reflect_index::Cardinality;
+use reflect_tables::Cardinality;
 use std::collections::btree_map;
 
 /// An extension of a pool: a field of a message type that is declared elsewhere.

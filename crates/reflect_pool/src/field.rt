@@ -1,12 +1,12 @@
 ghost use Rattle.std.specs.Prelude.{◌≡◌, ◌<◌, ℕ, length, None, Some, IfSome, IsSome, MatchOption};
-ghost use Rattle.reflect_index.specs.Types.{type_at, type_of_field};
+ghost use Rattle.reflect_tables.specs.Types.{type_at, type_of_field};
 
 use crate::kind::{DefaultValue, Kind};
 use crate::message::MessageDescriptor;
 use crate::oneof::OneofDescriptor;
 use crate::pool::DescriptorPool;
 use crate::reading::{default_value, is_map, kind_in};
-use reflect_index::Cardinality;
+use reflect_tables::Cardinality;
 
 /// A field of a message type.
 #[derive(Clone, Copy)]

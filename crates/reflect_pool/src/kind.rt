@@ -42,7 +42,7 @@ impl<'p> Kind<'p> {
 }
 
 /// The default that a field's declaration gives.
-#[derive(Clone, Copy, PartialEq, Debug)]
+#[derive(Clone, Copy, PartialEq)]
 pub enum DefaultValue<'p> {
     /// Of a signed integer kind.
     I64(i64),

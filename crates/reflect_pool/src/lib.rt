@@ -1,15 +1,15 @@
-//! Linked files in one pool, and descriptors that borrow it: what was linked stays as it is when more is added or refused.
+//! Linked files in one pool, and descriptors that borrow it.
 #![tactic(auto)]
 
 mod access;
 mod blank;
-mod build;
 mod enums;
 mod extension;
 mod field;
 mod kind;
 mod message;
 mod oneof;
+mod parts;
 mod pool;
 mod reading;
 
@@ -20,6 +20,6 @@ pub use field::FieldDescriptor;
 pub use kind::{DefaultValue, Kind};
 pub use message::{Fields, MessageDescriptor};
 pub use oneof::{OneofDescriptor, OneofFields, Oneofs};
+pub use parts::PoolParts;
 pub use pool::DescriptorPool;
-pub use reflect_index::{Cardinality, Edit, Syntax};
-pub use reflect_passes::DescriptorError;
+pub use reflect_tables::{Cardinality, Syntax};

@@ -1,5 +1,5 @@
 ghost use Rattle.std.specs.Prelude.{◌≡◌, ◌<◌, ◌^◌, ◌↔◌, length, None, Some, IfSome, IsSome, IsTrue, MatchOption};
-ghost use Rattle.reflect_index.specs.Types.{type_at, extension_at};
+ghost use Rattle.reflect_tables.specs.Types.{type_at, extension_at};
 
 use crate::extension::{ExtensionDescriptor, MessageExtensions};
 use crate::field::FieldDescriptor;

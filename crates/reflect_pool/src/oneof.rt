@@ -1,6 +1,6 @@
 ghost use Rattle.std.specs.Prelude.{◌≡◌, ◌<◌, All, length, IfSome};
 ghost use Rattle.std.proofs.Props.{props};
-ghost use Rattle.reflect_index.specs.Types.{type_at};
+ghost use Rattle.reflect_tables.specs.Types.{type_at};
 ghost use Rattle.reflect_pool.specs.Parts.{type_of_oneof, members_of};
 
 use crate::field::FieldDescriptor;

@@ -1,9 +1,9 @@
 ghost use Rattle.std.specs.Prelude.{◌≡◌, ◌<◌, map, length, Contains, IfSome, IsSome};
 ghost use Rattle.std.specs.Bool.{Decides};
 ghost use Rattle.std.specs.Option.{option_map};
-ghost use Rattle.reflect_index.specs.Finding.{IsFirst};
-ghost use Rattle.reflect_index.specs.Types.{PoolType};
-ghost use Rattle.reflect_names.specs.Known.{known_of};
+ghost use Rattle.reflect_tables.specs.Finding.{IsFirst};
+ghost use Rattle.reflect_tables.specs.Types.{PoolType};
+ghost use Rattle.reflect_scope.specs.Known.{known_of};
 ghost use Rattle.reflect_pool.specs.Dots.{without_dot};
 ghost use Rattle.reflect_pool.specs.Linked.{empty_pool};
 
@@ -11,8 +11,8 @@ use crate::blank::Blanks;
 use crate::enums::EnumDescriptor;
 use crate::extension::ExtensionDescriptor;
 use crate::message::MessageDescriptor;
-use reflect_index::Tables;
-use reflect_names::{Definition, DefinitionKind, Links};
+use reflect_scope::{Definition, DefinitionKind, Links};
+use reflect_tables::Tables;
 use std::alloc::Global;
 use std::collections::BTreeMap;
 use std::marker::Model;
@@ -37,8 +37,8 @@ pub struct DescriptorPool {
 impl Model for DescriptorPool {
     ghost use Rattle.std.specs.Coded.{codes};
     ghost use Rattle.descriptor_records.specs.contracts.message.DescriptorProto as nested;
-    ghost use Rattle.reflect_index.specs.Types.{PoolType};
-    ghost use Rattle.reflect_index.specs.Views.{pool_of};
+    ghost use Rattle.reflect_tables.specs.Types.{PoolType};
+    ghost use Rattle.reflect_tables.specs.Views.{pool_of};
     ghost use Rattle.reflect_pool.specs.Linked.{IsLinked};
 
     ghost Value = { PoolType };

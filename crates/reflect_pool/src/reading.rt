@@ -1,8 +1,8 @@
 //! What fields and extensions have in common.
 
 ghost use Rattle.std.specs.Prelude.{◌≡◌, length};
-ghost use Rattle.reflect_index.specs.Types.{IsWithin, counts_of};
-ghost use Rattle.reflect_index.specs.Views.{field_of, kind_of};
+ghost use Rattle.reflect_tables.specs.Types.{IsWithin, counts_of};
+ghost use Rattle.reflect_tables.specs.Views.{field_of, kind_of};
 ghost use Rattle.reflect_pool.specs.Defaults.{HasNumber, IsDefault};
 ghost use Rattle.reflect_pool.specs.Kinds.{IsKind};
 ghost use Rattle.reflect_pool.specs.Shapes.{holds_map};
@@ -11,7 +11,7 @@ use crate::enums::EnumDescriptor;
 use crate::kind::{DefaultValue, Kind};
 use crate::message::MessageDescriptor;
 use crate::pool::DescriptorPool;
-use reflect_index::{Cardinality, StoredDefault, StoredField, StoredKind};
+use reflect_tables::{Cardinality, StoredDefault, StoredField, StoredKind};
 
 /// A kind whose types stand in the pool.
 pub fn kind_in<'p>(pool: &'p DescriptorPool, kind: StoredKind) -> Kind<'p>

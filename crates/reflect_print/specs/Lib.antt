@@ -1,3 +1,2 @@
-pub mod Any
 pub mod Appends
 pub mod Pieces

@@ -13,12 +13,18 @@ pub enum WriteError {
     Memory,
 }
 
+impl WriteError {
+    fn text(&self) -> &'static str {
+        match self {
+            WriteError::Format => "the writer refused the text",
+            WriteError::Memory => "out of memory",
+        }
+    }
+}
+
 impl fmt::Display for WriteError {
     fn fmt<W: fmt::Write>(&self, f: &mut fmt::Formatter<W>) -> fmt::Result {
-        match self {
-            WriteError::Format => f.write_str("the writer refused the text"),
-            WriteError::Memory => f.write_str("out of memory"),
-        }
+        f.write_str(self.text())
     }
 }
 

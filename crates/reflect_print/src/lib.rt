@@ -10,7 +10,6 @@ mod place;
 mod unknown;
 mod writer;
 
-pub use any::{AnyFields, any_fields};
 pub use error::WriteError;
 pub use options::FormatOptions;
 pub use writer::Writer;

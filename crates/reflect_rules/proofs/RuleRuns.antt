@@ -6,7 +6,7 @@ use Rattle.std.specs.Ordering.{nat_cmp}
 use Rattle.reflect_walk.specs.Declarations.{Declaration, Runs}
 use Rattle.reflect_names.specs.Faults.{Fault, Adds, place_at}
 use Rattle.reflect_names.proofs.Added.{adds_on, adds_none, same_places}
-use Rattle.reflect_rules.specs.Ranges.{TypesSay}
+use Rattle.reflect_rules.specs.TypesSay.{TypesSay}
 use Rattle.reflect_rules.specs.Walks.{Facts, Place, place_behind}
 use Rattle.reflect_rules.specs.Rules.{Values}
 use Rattle.reflect_rules.specs.RulePass.{FaultsAlong}

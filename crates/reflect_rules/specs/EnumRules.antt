@@ -6,7 +6,8 @@ use Rattle.descriptor_records.specs.declared.options.Options.{Options}
 use Rattle.reflect_walk.specs.Declarations.{entry}
 use Rattle.reflect_names.specs.Faults.{Fault, empty_enum, duplicate_enum_number, bad_first_value}
 use Rattle.reflect_names.specs.Names.{Places}
-use Rattle.reflect_rules.specs.MapEntries.{is_true, is_equal}
+use Rattle.reflect_walk.specs.MapEntries.{is_true}
+use Rattle.reflect_rules.specs.MapEntries.{is_equal}
 use Rattle.reflect_rules.specs.Repeats.{repeat_faults}
 
 abbrev pub allows_aliases : Option Options → Bool

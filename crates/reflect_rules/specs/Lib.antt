@@ -1,10 +1,7 @@
-pub mod Defaults
 pub mod EnumRules
-pub mod Furthest
 pub mod MapEntries
 pub mod Meanings
 pub mod Numbers
-pub mod Ranges
 pub mod Repeats
 pub mod RulePass
 pub mod RuleSteps
@@ -12,3 +9,4 @@ pub mod Rules
 pub mod UseSteps
 pub mod Uses
 pub mod Walks
+pub mod TypesSay

@@ -3,15 +3,6 @@ use Rattle.std.specs.Prelude.{ℕ, ℤ, pos, List, [], ◌∷◌, Bool, true, fa
 use Rattle.std.specs.Ordering.{int_eq}
 use Rattle.std.specs.Str.{bytes_eq}
 use Rattle.descriptor_records.specs.declared.field.FieldDescriptorProto.{FieldDescriptorProto}
-use Rattle.descriptor_records.specs.declared.options.Options.{Options}
-
-abbrev pub is_true : Option Bool → Bool
-is_true None = false
-is_true (Some b) = b
-
-abbrev pub says_entry : Option Options → Bool
-says_entry None = false
-says_entry (Some o) = is_true o.map_entry
 
 abbrev pub has_name : FieldDescriptorProto → List ℕ → Bool
 has_name f name = elim f.name [ None ↦ false | Some s ↦ bytes_eq (string_bytes s) name ]

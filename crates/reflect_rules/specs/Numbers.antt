@@ -1,8 +1,9 @@
 -- The rules of the numbers of fields and extensions, and of the oneofs of fields.
 use Rattle.std.specs.Prelude.{ℕ, ℤ, pos, negsuc, List, [], ◌∷◌, ◌++◌, Bool, false, not, ◌&&◌, cond, nat_le, Option, Some, None}
 use Rattle.reflect_names.specs.Faults.{Fault, invalid_number, reserved_number, number_of_extensions, no_extension_number, bad_oneof_index}
-use Rattle.reflect_names.specs.Names.{Places, is_index}
-use Rattle.reflect_rules.specs.Ranges.{Range}
+use Rattle.reflect_names.specs.Names.{Places}
+use Rattle.reflect_scope.specs.FileIndexes.{is_index}
+use Rattle.reflect_tables.specs.Ranges.{Range}
 
 -- 1 to 536,870,911, but for those that protobuf keeps for itself, 19,000 to 19,999
 abbrev pub is_field_number : ℤ → Bool

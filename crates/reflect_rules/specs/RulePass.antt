@@ -7,7 +7,7 @@ use Rattle.reflect_walk.specs.Declarations.{Declaration}
 use Rattle.reflect_names.specs.Faults.{Fault, batch_places}
 use Rattle.reflect_names.specs.Names.{Places}
 use Rattle.reflect_names.specs.declared.resolve_visitor.Reference.{Reference}
-use Rattle.reflect_rules.specs.Ranges.{TypesSay}
+use Rattle.reflect_rules.specs.TypesSay.{TypesSay}
 use Rattle.reflect_rules.specs.Walks.{Facts, Place, place_behind}
 use Rattle.reflect_rules.specs.Rules.{Values, FaultsOf}
 use Rattle.reflect_rules.specs.Uses.{users, use_by}

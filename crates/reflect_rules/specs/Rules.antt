@@ -8,13 +8,15 @@ use Rattle.reflect_walk.specs.Tree.{MessageParts}
 use Rattle.reflect_walk.specs.Declarations.{Declaration, of_file, of_message, of_field, of_oneof, of_enum, of_enum_value, of_service, of_method, of_extension}
 use Rattle.reflect_names.specs.Faults.{Fault, duplicate_number, bad_default, bad_map_entry}
 use Rattle.reflect_names.specs.Names.{Places}
-use Rattle.reflect_rules.specs.Ranges.{Range, IsRangeOf, TypesSay}
+use Rattle.reflect_tables.specs.Ranges.{Range, IsRangeOf}
+use Rattle.reflect_rules.specs.TypesSay.{TypesSay}
 use Rattle.reflect_rules.specs.Meanings.{meaning, behind}
 use Rattle.reflect_rules.specs.Numbers.{number_faults, reserved_faults, kept_faults, outside_faults, oneof_faults}
 use Rattle.reflect_rules.specs.Repeats.{repeat_faults}
-use Rattle.reflect_rules.specs.MapEntries.{says_entry, has_entry_shape}
+use Rattle.reflect_walk.specs.MapEntries.{says_entry}
+use Rattle.reflect_rules.specs.MapEntries.{has_entry_shape}
 use Rattle.reflect_rules.specs.EnumRules.{enum_faults}
-use Rattle.reflect_rules.specs.Defaults.{IsScalarSuited}
+use Rattle.reflect_defaults.specs.Defaults.{IsScalarSuited}
 use Rattle.reflect_rules.specs.Walks.{Facts, Place}
 use Rattle.reflect_rules.specs.declared.uses.EntryUse.{EntryUse}
 use Rattle.reflect_rules.specs.declared.uses.EntryUse.TheVariants as use_kind

@@ -9,7 +9,7 @@ use Rattle.reflect_walk.specs.Declarations.{Declaration, of_file, of_message, of
 use Rattle.reflect_names.specs.declared.resolve_visitor.Reference.{Reference}
 use Rattle.reflect_rules.specs.MapEntries.{is_equal}
 use Rattle.reflect_rules.specs.Meanings.{meaning, behind}
-use Rattle.reflect_rules.specs.Ranges.{TypesSay}
+use Rattle.reflect_rules.specs.TypesSay.{TypesSay}
 use Rattle.reflect_rules.specs.Walks.{rest_behind}
 use Rattle.reflect_rules.specs.Rules.{message_of}
 use Rattle.reflect_rules.specs.declared.uses.EntryUse.{EntryUse}

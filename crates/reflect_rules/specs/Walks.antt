@@ -4,15 +4,14 @@ use Rattle.std.specs.Borrow.{Bor}
 use Rattle.std.specs.Str.{bytes_eq}
 use Rattle.reflect_names.specs.declared.resolve_visitor.Reference.{Reference}
 use Rattle.descriptor_records.specs.declared.file.FileDescriptorProto.{FileDescriptorProto}
-use Rattle.std.specs.Prelude.{length, map, []}
+use Rattle.std.specs.Prelude.{length, []}
 use Rattle.reflect_walk.specs.Declarations.{Declaration, of_file, of_message, of_field, of_oneof, of_enum, of_enum_value, of_service, of_method, of_extension}
-use Rattle.reflect_rules.specs.Ranges.{Range, TypesSay}
+use Rattle.reflect_tables.specs.Ranges.{Range}
+use Rattle.reflect_tables.specs.Views.{ranges_of}
+use Rattle.reflect_rules.specs.TypesSay.{TypesSay}
 use Rattle.reflect_rules.specs.Meanings.{behind}
-use Rattle.reflect_rules.specs.declared.ranges.NumberRanges.{NumberRanges}
+use Rattle.reflect_tables.specs.declared.ranges.NumberRanges.{NumberRanges}
 use Rattle.reflect_rules.specs.declared.uses.EntryUse.{EntryUse}
-
-abbrev pub ranges_of : NumberRanges → List Range
-ranges_of r = map (λ x. (x.start, x.end)) r.ranges.items
 
 abbrev pub ranges_in : Option (Bor NumberRanges) → List Range
 ranges_in None = []

@@ -2,12 +2,12 @@
 
 ghost use Rattle.std.specs.Prelude.{◌≡◌, OnOk};
 ghost use Rattle.reflect_names.specs.Faults.{Adds, place_at};
-ghost use Rattle.reflect_rules.specs.Defaults.{IsScalarSuited};
+ghost use Rattle.reflect_defaults.specs.Defaults.{IsScalarSuited};
 ghost use Rattle.reflect_rules.specs.Rules.{IsSuited, IsDefaultOf, default_faults};
 
-use crate::default::read_default;
 use crate::types::Types;
 use descriptor_records::{FieldDescriptorProto, FieldType, tag};
+use reflect_defaults::read_default;
 use reflect_names::{DefinitionKind, DescriptorErrorKind, Faults};
 use std::alloc::{AllocError, Global};
 

@@ -5,11 +5,12 @@ ghost use Rattle.reflect_walk.specs.Tree.{parts_of};
 ghost use Rattle.reflect_names.specs.Faults.{Adds, place_at};
 ghost use Rattle.reflect_rules.specs.Rules.{is_one_map as is_one, message_of, entry_faults, older_faults};
 
-use crate::map_entry::{has_entry_shape, says_map_entry};
+use crate::map_entry::has_entry_shape;
 use crate::types::Types;
 use crate::uses::EntryUse;
 use descriptor_records::DescriptorProto;
 use reflect_names::{DefinitionKind, DescriptorErrorKind, Faults};
+use reflect_walk::says_map_entry;
 use std::alloc::{AllocError, Global};
 
 /// The type of a map's entries is the type of one repeated field, and of no other.

@@ -3,20 +3,16 @@
 #![tactic(auto)]
 
 mod check;
-mod default;
 mod default_rules;
 mod entry_rules;
 mod enums;
 mod extension_number;
 mod map_entry;
 mod numbers;
-mod ranges;
 mod references;
 mod rule_visitor;
 mod types;
 mod uses;
 
 pub use check::check_rules;
-pub use default::{DefaultText, read_default};
-pub use ranges::NumberRanges;
 pub use types::Types;

@@ -2,19 +2,9 @@
 
 ghost use Rattle.std.specs.Prelude.{◌≡◌};
 ghost use Rattle.reflect_walk.specs.Tree.{parts_of};
-ghost use Rattle.reflect_rules.specs.MapEntries.{says_entry, has_name as is_named_so, is_optional as may_be_optional, is_equal as is_number_so, is_part as is_part_so, is_key_type as may_be_key, share_oneof as share_one, are_key_and_value as are_parts, has_entry_shape as is_shaped};
+ghost use Rattle.reflect_rules.specs.MapEntries.{has_name as is_named_so, is_optional as may_be_optional, is_equal as is_number_so, is_part as is_part_so, is_key_type as may_be_key, share_oneof as share_one, are_key_and_value as are_parts, has_entry_shape as is_shaped};
 
 use descriptor_records::{DescriptorProto, FieldDescriptorProto};
-
-/// The message type says that it is the type of a map's entries.
-pub fn says_map_entry(message: &DescriptorProto) -> bool
-    ensures { result ≡ says_entry (parts_of message.now).options }
-{
-    match &message.options {
-        Some(options) => options.map_entry.unwrap_or(false),
-        None => false,
-    }
-}
 
 /// The number of an optional field's label.
 const OPTIONAL: i32 = 1;

@@ -1,8 +1,9 @@
 ghost use Rattle.std.specs.Prelude.{◌≡◌, ℕ, List, Bool};
-ghost use Rattle.reflect_rules.specs.Ranges.{IsRangeOf, TypesSay};
+ghost use Rattle.reflect_tables.specs.Ranges.{IsRangeOf};
+ghost use Rattle.reflect_rules.specs.TypesSay.{TypesSay};
 ghost use Rattle.reflect_rules.specs.Walks.{ranges_in};
 
-use crate::ranges::NumberRanges;
+use reflect_tables::NumberRanges;
 
 /// What the rules ask about message types and enums, those of the files and older ones, by index.
 pub trait Types {

@@ -3,8 +3,8 @@ use Rattle.std.proofs.Common.{◌≡◌, ℕ, ℤ, List, Option, Some, None, ref
 use Rattle.std.specs.Cmp.Lexicographic.{bytes_decides}
 use Rattle.std.specs.Prelude.{option_map, bytes_eq}
 use Rattle.std.specs.Option.{option_and_then, option_or}
-use Rattle.reflect_index.specs.Types.{PoolType, FieldType, KindType, DefaultType, ValueType, enum_at}
-use Rattle.reflect_index.specs.Types as types
+use Rattle.reflect_tables.specs.Types.{PoolType, FieldType, KindType, DefaultType, ValueType, enum_at}
+use Rattle.reflect_tables.specs.Types as types
 use Rattle.reflect_pool.specs.Parts.{no_value}
 use Rattle.reflect_pool.specs.Kinds.{IsKind}
 use Rattle.reflect_pool.specs.Defaults.{HasNumber, HasNone}

@@ -1,7 +1,7 @@
 -- The first of a list that passes a test, and the first with a property.
 use Rattle.std.proofs.Common.{◌≡◌, ℕ, ◌<◌, ◌≤◌, suc, zero, Bool, true, false, cond, List, [], ◌∷◌, Some, None, refl, sym, ap, ◌∙◌, arith}
 use Rattle.std.specs.Prelude.{slice_index_or}
-use Rattle.reflect_index.specs.Finding.{IsFirst}
+use Rattle.reflect_tables.specs.Finding.{IsFirst}
 use Rattle.std.specs.List.{find}
 
 hit : {X : Type 0} → (b : Bool) (x y : X) → b ≡ true → cond b x y ≡ x

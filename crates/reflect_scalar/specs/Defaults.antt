@@ -4,8 +4,8 @@ use Rattle.std.specs.Bool.{beq}
 use Rattle.std.specs.List.{find}
 use Rattle.std.specs.Option.{option_and_then, option_or}
 use Rattle.std.specs.Ordering.{int_eq}
-use Rattle.reflect_index.specs.Types.{PoolType, FieldType, KindType, DefaultType, enum_at}
-use Rattle.reflect_index.specs.Types as types
+use Rattle.reflect_tables.specs.Types.{PoolType, FieldType, KindType, DefaultType, enum_at}
+use Rattle.reflect_tables.specs.Types as types
 use Rattle.reflect_pool.specs.Parts.{type_of_value}
 use Rattle.reflect_pool.specs.declared.kind.DefaultValue.{DefaultValue}
 use Rattle.reflect_pool.specs.declared.kind.DefaultValue.TheVariants as defaults

@@ -1,5 +1,5 @@
 -- What the pool holds of fields and extensions.
-use Rattle.reflect_index.specs.Types.{FieldType, PoolType, extension_at}
+use Rattle.reflect_tables.specs.Types.{FieldType, PoolType, extension_at}
 use Rattle.reflect_pool.specs.FieldsLeft.{field_type}
 use Rattle.reflect_pool.specs.declared.field.FieldDescriptor.{FieldDescriptor}
 use Rattle.reflect_pool.specs.declared.extension.ExtensionDescriptor.{ExtensionDescriptor}

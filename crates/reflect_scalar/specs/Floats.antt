@@ -1,7 +1,7 @@
 -- Which fields hold floating-point numbers.
 use Rattle.std.specs.Prelude.{◌≡◌, ◌⊎◌, ℕ, Bool, true, false, Some}
-use Rattle.reflect_index.specs.Finding.{IsFirst}
-use Rattle.reflect_index.specs.Types.{PoolType, FieldType, KindType, double, float, message, type_at, type_of_field}
+use Rattle.reflect_tables.specs.Finding.{IsFirst}
+use Rattle.reflect_tables.specs.Types.{PoolType, FieldType, KindType, double, float, message, type_at, type_of_field}
 use Rattle.reflect_pool.specs.Shapes.{holds_map}
 use Rattle.reflect_pool.specs.declared.kind.Kind.{Kind}
 use Rattle.reflect_pool.specs.declared.kind.Kind.TheVariants as kinds

@@ -1,7 +1,7 @@
 -- What the kinds of single values are written in, and which values they have.
 use Rattle.std.specs.Prelude.{◌≡◌, pos, Bool, true, false, [], Option, Some, None}
-use Rattle.reflect_index.specs.Types.{KindType}
-use Rattle.reflect_index.specs.Types as types
+use Rattle.reflect_tables.specs.Types.{KindType}
+use Rattle.reflect_tables.specs.Types as types
 use Rattle.reflect_pool.specs.Parts.{type_of_value}
 use Rattle.reflect_wire.specs.declared.wire_key.WireType.{WireType}
 use Rattle.reflect_wire.specs.declared.wire_key.WireType.TheVariants.{Varint, SixtyFourBit, LengthDelimited, StartGroup, EndGroup, ThirtyTwoBit}

@@ -1,7 +1,7 @@
 //! What fields and extensions have in common.
 
 ghost use Rattle.std.specs.Prelude.{◌≡◌, ◌↔◌, IsTrue};
-ghost use Rattle.reflect_index.specs.Types.{FieldType, PoolType};
+ghost use Rattle.reflect_tables.specs.Types.{FieldType, PoolType};
 ghost use Rattle.reflect_pool.specs.Defaults.{IsDefault};
 ghost use Rattle.reflect_pool.specs.Kinds.{IsKind};
 ghost use Rattle.reflect_pool.specs.Shapes.{holds_list, holds_map};

@@ -7,7 +7,7 @@ use reflect_link::Kind;
 use std::alloc::{AllocError, Global};
 
 /// A key of a map field.
-#[derive(PartialEq, Eq, PartialOrd, Ord, Hash, Debug, Drop)]
+#[derive(PartialEq, Eq, PartialOrd, Ord, Hash, Drop)]
 pub enum MapKey {
     Bool(bool),
     I32(i32),

@@ -11,19 +11,19 @@ use Rattle.reflect_codec.specs.Meaning.{IsSetBytes}
 use Rattle.protox_parse.specs.Refusals.{IsRefusalOf}
 use Rattle.protox_parse.specs.declared.error.ParseError.{ParseError}
 use Rattle.protox_parse.specs.declared.error.ParseError.TheVariants as parsed
-use Rattle.reflect_index.specs.Types.{PoolType}
+use Rattle.reflect_tables.specs.Types.{PoolType}
 use Rattle.reflect_names.specs.Faults.{Place, place_of}
 use Rattle.reflect_passes.specs.Errors.{Refuses}
 use Rattle.reflect_passes.specs.declared.error.DescriptorError.{DescriptorError}
-use Rattle.reflect_pool.specs.Refusals.{FaultyFiles}
+use Rattle.reflect_build.specs.Refusals.{FaultyFiles}
 use Rattle.reflect_bytes.specs.Spelled.{SpellsSet}
 use Rattle.reflect_format.specs.Truth.{TrueOf}
 use Rattle.reflect_format.specs.declared.error.ParseError as text
 use Rattle.reflect_format.specs.declared.error.ParseErrorKind.{ParseErrorKind}
 use Rattle.reflect_format.specs.declared.error.ParseErrorKind.TheVariants as texts
-use Rattle.reflect_text.specs.Places.{option_place, StandsFrom}
-use Rattle.reflect_text.specs.TypedOptions.{TypedFiles}
-use Rattle.reflect_text.specs.declared.option_error.OptionError.{OptionError}
+use Rattle.reflect_options.specs.Places.{option_place, StandsFrom}
+use Rattle.reflect_options.specs.TypedOptions.{TypedFiles}
+use Rattle.reflect_options.specs.declared.option_error.OptionError.{OptionError}
 use Rattle.reflect_schema.specs.declared.error.SchemaError.{SchemaError}
 use Rattle.reflect_schema.specs.declared.error.SchemaError.TheVariants.{Parse, Link, Options, Wire, Text, UnknownType, Memory, TooLong}
 use Rattle.reflect_schema.specs.Refusals.{of_source, of_wire, of_text, IsKnown, TextRefused, FilesFit, FilesRefused, sources_of, AreFilesOf, SourcesLinked, SourcesRefused, SetRefused}

@@ -1,12 +1,12 @@
 -- What the calls answer that take payloads.
 use Rattle.std.specs.Prelude.{◌≡◌, ℕ, List, Some}
-use Rattle.reflect_index.specs.Types.{PoolType}
+use Rattle.reflect_tables.specs.Types.{PoolType}
 use Rattle.reflect_pool.specs.FindsNames.{FindsMessage}
 use Rattle.reflect_pool.specs.declared.message.MessageDescriptor.{MessageDescriptor}
-use Rattle.reflect_dynamic.specs.Bytes.{message_bytes}
-use Rattle.reflect_dynamic.specs.Oneofs.{IsExclusive}
-use Rattle.reflect_dynamic.specs.Spelled.{IsSpelled}
-use Rattle.reflect_dynamic.specs.declared.message.DynamicMessage.{DynamicMessage}
+use Rattle.reflect_message.specs.Bytes.{message_bytes}
+use Rattle.reflect_message.specs.Oneofs.{IsExclusive}
+use Rattle.reflect_decode.specs.Spelled.{IsSpelled}
+use Rattle.reflect_message.specs.declared.message.DynamicMessage.{DynamicMessage}
 use Rattle.reflect_format.specs.Steps.{Makes}
 
 -- the message type of the name

@@ -4,12 +4,12 @@ use Rattle.std.specs.Borrow.{Bor}
 use Rattle.protox_parse.specs.Refusals.{IsRefusalOf}
 use Rattle.protox_parse.specs.declared.error.ParseError.{ParseError}
 use Rattle.protox_parse.specs.declared.error.ParseError.TheVariants as parsed
-use Rattle.reflect_index.specs.Finding.{IsFirst}
-use Rattle.reflect_index.specs.Types.{PoolType, IsSettled}
+use Rattle.reflect_tables.specs.Finding.{IsFirst}
+use Rattle.reflect_tables.specs.Types.{PoolType, IsSettled}
 use Rattle.descriptor_records.specs.declared.file.FileDescriptorProto.{FileDescriptorProto}
 use Rattle.reflect_passes.specs.Errors.{Refuses}
 use Rattle.reflect_pool.specs.Dots.{without_dot}
-use Rattle.reflect_pool.specs.Refusals.{FaultyFiles}
+use Rattle.reflect_build.specs.Refusals.{FaultyFiles}
 use Rattle.reflect_wire.specs.declared.wire_error.WireError.{WireError}
 use Rattle.reflect_wire.specs.declared.wire_error.WireError.TheVariants as wire
 use Rattle.reflect_bytes.specs.Spelled.{SpellsSet, RecordsLinked}
@@ -17,8 +17,8 @@ use Rattle.reflect_format.specs.Truth.{TrueOf}
 use Rattle.reflect_format.specs.declared.error.ParseError as text
 use Rattle.reflect_format.specs.declared.error.ParseErrorKind.{ParseErrorKind}
 use Rattle.reflect_format.specs.declared.error.ParseErrorKind.TheVariants as texts
-use Rattle.reflect_text.specs.Places.{option_place, StandsFrom}
-use Rattle.reflect_text.specs.TypedOptions.{TypedFiles}
+use Rattle.reflect_options.specs.Places.{option_place, StandsFrom}
+use Rattle.reflect_options.specs.TypedOptions.{TypedFiles}
 use Rattle.reflect_schema.specs.declared.error.SchemaError.{SchemaError}
 use Rattle.reflect_schema.specs.declared.error.SchemaError.TheVariants.{Parse, Link, Options, Wire, Text, UnknownType, Memory, TooLong}
 

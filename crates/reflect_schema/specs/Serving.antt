@@ -1,7 +1,7 @@
 -- What `serve` writes for an input, and how it refuses one.
 use Rattle.std.specs.Prelude.{◌≡◌, ℕ, Bool, true, false, ◌||◌, ◌==◌, ◌-◌, List, [], ◌∷◌, ◌++◌, length, slice_index, Ok, IsErr, IsUtf8}
 use Rattle.std.specs.List.{AllPass}
-use Rattle.reflect_index.specs.Types.{PoolType}
+use Rattle.reflect_tables.specs.Types.{PoolType}
 use Rattle.hex.specs.Hex.{encode_lower, decode_of}
 use Rattle.reflect_schema.specs.Payloads.{Encoded, Decoded, Recoded}
 use Rattle.reflect_schema.specs.Refusals.{BytesRefused, TextRefused}

@@ -27,23 +27,32 @@ pub struct Request<'a> {
     pub names: &'a [&'a str],
 }
 
-/// The command line that `schema` takes.
-fn command<'a>(alloc: Global) -> Result<Command<'a>, AllocError> {
-    let action = Arg::new(alloc, "action")
+/// What is done.
+fn action<'a>(alloc: Global) -> Arg<'a> {
+    Arg::new(alloc, "action")
         .value_name("ACTION")
         .required(true)
         .value_parser(["encode", "decode", "recode", "set"].as_slice())
         .help(
             "encode: text to wire bytes; decode: wire bytes to text; recode: wire bytes to their one written form; set: the schema's descriptor set",
-        );
-    let descriptor = Arg::new(alloc, "descriptor")
+        )
+}
+
+fn descriptor<'a>(alloc: Global) -> Arg<'a> {
+    Arg::new(alloc, "descriptor")
         .long("descriptor")
         .value_name("FILE")
-        .help("A descriptor.proto whose types the options are read by");
-    let set = Arg::new(alloc, "set")
+        .help("A descriptor.proto whose types the options are read by")
+}
+
+fn set<'a>(alloc: Global) -> Arg<'a> {
+    Arg::new(alloc, "set")
         .long("set")
         .value_name("FILE")
-        .help("A descriptor set whose files come before the sources");
+        .help("A descriptor set whose files come before the sources")
+}
+
+fn type_name<'a>(alloc: Global) -> Result<Arg<'a>, AllocError> {
     let type_name = Arg::new(alloc, "type")
         .long("type")
         .value_name("NAME")
@@ -51,34 +60,48 @@ fn command<'a>(alloc: Global) -> Result<Command<'a>, AllocError> {
         .required_if_eq("action", "decode")?
         .required_if_eq("action", "recode")?
         .help("The full name of the message type; set does without");
-    let root = Arg::new(alloc, "root")
+    Ok(type_name)
+}
+
+fn root<'a>(alloc: Global) -> Arg<'a> {
+    Arg::new(alloc, "root")
         .long("root")
         .value_name("DIR")
         .default_value(".")
-        .help("The folder that the sources stand in");
-    let hex = Arg::new(alloc, "hex")
+        .help("The folder that the sources stand in")
+}
+
+fn hex<'a>(alloc: Global) -> Arg<'a> {
+    Arg::new(alloc, "hex")
         .long("hex")
         .action(ArgAction::SetTrue)
-        .help("Reads and writes wire bytes as hexadecimal text");
-    let names = Arg::new(alloc, "names")
+        .help("Reads and writes wire bytes as hexadecimal text")
+}
+
+fn names<'a>(alloc: Global) -> Arg<'a> {
+    Arg::new(alloc, "names")
         .value_name("NAMES")
         .num_args(0..)
         .help(
             "The .proto files, by their names under the folder; imports are not loaded by themselves",
-        );
+        )
+}
+
+/// The command line that `schema` takes.
+fn command<'a>(alloc: Global) -> Result<Command<'a>, AllocError> {
     Command::new(alloc, "schema")
         .no_binary_name(true)
         .about(
             "Translates protobuf messages between text and wire bytes, from standard input to standard output, or writes the descriptor set of a schema",
         )
         .after_help("Example: schema encode --type p.M --hex a.proto < message.txt")
-        .arg(action)?
-        .arg(descriptor)?
-        .arg(set)?
-        .arg(type_name)?
-        .arg(root)?
-        .arg(hex)?
-        .arg(names)
+        .arg(action(alloc))?
+        .arg(descriptor(alloc))?
+        .arg(set(alloc))?
+        .arg(type_name(alloc)?)?
+        .arg(root(alloc))?
+        .arg(hex(alloc))?
+        .arg(names(alloc))
 }
 
 /// Reads the words, without the program's name.

@@ -1,7 +1,7 @@
 ghost use Rattle.std.specs.Prelude.{◌≡◌, ◌⊎◌, option_map};
 
 use protox_parse::ParseError as SourceError;
-use reflect_link::DescriptorError;
+use reflect_build::DescriptorError;
 use reflect_text::{OptionError, OptionErrorKind, ParseError as TextError, ParseErrorKind};
 use reflect_wire::WireError;
 use std::alloc::{AllocError, AllocFailed};

@@ -15,7 +15,7 @@ use std::io::{ErrorKind, Read, Write};
 use thiserror::Error;
 
 /// What is done with a payload.
-#[derive(Clone, Copy, PartialEq, Eq, Debug)]
+#[derive(Clone, Copy, PartialEq, Eq)]
 pub enum Action {
     /// Text to wire bytes.
     Encode,

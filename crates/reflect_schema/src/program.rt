@@ -57,6 +57,18 @@ impl RunFault {
     }
 }
 
+impl From<SchemaError> for RunFault {
+    fn from(error: SchemaError) -> RunFault {
+        RunFault::Schema(error)
+    }
+}
+
+impl From<Fault> for RunFault {
+    fn from(fault: Fault) -> RunFault {
+        RunFault::Payload(fault)
+    }
+}
+
 impl From<AllocError> for RunFault {
     fn from(_error: AllocError) -> RunFault {
         RunFault::Memory
@@ -124,7 +136,7 @@ fn first_schema<F: SourceFiles>(
     };
     let bytes = read_file(alloc, files, path)?;
     match str::from_utf8(bytes.as_slice()) {
-        Ok(text) => Schema::new(alloc, text).map_err(RunFault::Schema),
+        Ok(text) => Ok(Schema::new(alloc, text)?),
         Err(_) => Err(RunFault::SourceNotUtf8(String::from_str(alloc, path)?)),
     }
 }
@@ -138,15 +150,11 @@ fn read_schema<F: SourceFiles>(
     let mut schema = first_schema(alloc, files, wanted.descriptor)?;
     if let Some(path) = wanted.set {
         let bytes = read_file(alloc, files, path)?;
-        schema
-            .add_descriptor_set(bytes.as_slice())
-            .map_err(RunFault::Schema)?;
+        schema.add_descriptor_set(bytes.as_slice())?;
     }
     let contents = read_sources(alloc, files, wanted)?;
     let sources = sources(alloc, wanted.names, contents.as_slice())?;
-    schema
-        .add_sources(sources.as_slice())
-        .map_err(RunFault::Schema)?;
+    schema.add_sources(sources.as_slice())?;
     Ok(schema)
 }
 
@@ -157,8 +165,8 @@ fn write_set<W: Write>(
     is_hex: bool,
     output: &mut W,
 ) -> Result<(), RunFault> {
-    let bytes = schema.to_descriptor_set().map_err(RunFault::Schema)?;
-    write_bytes(alloc, is_hex, bytes.as_slice(), output).map_err(RunFault::Payload)
+    let bytes = schema.to_descriptor_set()?;
+    Ok(write_bytes(alloc, is_hex, bytes.as_slice(), output)?)
 }
 
 /// Reads the schema, and does with it what is asked.
@@ -174,9 +182,8 @@ fn answer<F: SourceFiles, R: Read, W: Write>(
     match wanted.task {
         Task::Set => write_set(alloc, &schema, is_hex, output),
         Task::Payload(action, type_name) => {
-            serve(alloc, &schema, action, type_name, is_hex, input, output).map_err(
-                RunFault::Payload,
-            )
+            serve(alloc, &schema, action, type_name, is_hex, input, output)?;
+            Ok(())
         }
     }
 }

@@ -3,9 +3,10 @@ ghost use Rattle.std.specs.Prelude.{◌≡◌, ◌∷◌, [], Some, OnOk, OnErr,
 use crate::error::SchemaError;
 use descriptor_records::FileDescriptorProto;
 use protox_parse::parse;
+use reflect_build::BuildFiles;
 use reflect_bytes::PoolBytes;
 use reflect_codec::decode_set;
-use reflect_dynamic::DynamicMessage;
+use reflect_dynamic::{DecodeMessage, DynamicMessage, EncodeMessage};
 use reflect_link::{DescriptorPool, MessageDescriptor};
 use reflect_text::{
     FormatOptions, OptionError, ResolveOptions, TextFormat, WriteError, copy_typed_options,

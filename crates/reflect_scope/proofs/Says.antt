@@ -3,7 +3,7 @@ use Rattle.std.proofs.Common.{◌≡◌, ℕ, zero, suc, ◌≤◌, List, [], �
 use Rattle.std.specs.Prelude.{MatchBool}
 use Rattle.std.proofs.lemmas.List.{length-append}
 use Rattle.reflect_scope.specs.Means.{Meaning, means, not_found, wrong_kind, shadowed, has_dot, outer, scopes, undotted, dotted, settled, marks, missing, join, resolve, standing, rooted, is_holder, first_part, Answers, by_dots}
-use Rattle.reflect_scope.specs.Says.{IsScope, NoneWanted, SaysUndotted, SaysDotted, IsSettledAt, SaysPlain, Means, Tells}
+use Rattle.reflect_scope.specs.Says.{IsScope, NoneWanted, SaysUndotted, SaysDotted, SaysPlain, Means, Tells}
 use Rattle.reflect_scope.proofs.Scopes.{scopes_more, scopes_last, outer_shorter}
 use Rattle.reflect_scope.proofs.Steps.{has_dot-append}
 use Rattle.reflect_scope.specs.declared.definition.Definition.{Definition}

@@ -12,7 +12,7 @@ use Rattle.reflect_scope.specs.Sees.{imports_at, publics_at}
 use Rattle.std.specs.List.{Contains}
 use Rattle.std.proofs.lemmas.List.Elements.{Contains-append_left, Contains-append_cases, Contains-push, Contains-push_cases, Contains-get_or}
 use Rattle.reflect_scope.specs.Sees.{IsChain, Reached}
-use Rattle.reflect_scope.specs.Marks.{IsMarked, Extends, AreListed, AllClear, is_listed}
+use Rattle.reflect_scope.specs.Marks.{IsMarked, Extends}
 
 pub no_elements : {A : Type 0} (x : A) → Contains [] x → ⊥
 no_elements x (k, lt, e) = omega arith

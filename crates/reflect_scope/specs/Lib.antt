@@ -3,3 +3,5 @@ pub mod Marks
 pub mod Means
 pub mod Says
 pub mod Seen
+pub mod Known
+pub mod FileIndexes

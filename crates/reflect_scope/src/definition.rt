@@ -1,7 +1,7 @@
 use std::fmt;
 
 /// What kind of thing a full name stands for. The numbers are indexes among all messages, enums, extensions or services.
-#[derive(Clone, Copy, PartialEq, Eq, Debug)]
+#[derive(Clone, Copy, PartialEq, Eq)]
 pub enum DefinitionKind {
     Package,
     Message(u32),
@@ -15,14 +15,14 @@ pub enum DefinitionKind {
 }
 
 /// What a full name stands for, and the index of the file that defines it. A package's file is the first that bears it.
-#[derive(Clone, Copy, PartialEq, Eq, Debug)]
+#[derive(Clone, Copy, PartialEq, Eq)]
 pub struct Definition {
     pub file: u32,
     pub kind: DefinitionKind,
 }
 
 /// Which kinds a reference may mean.
-#[derive(Clone, Copy, PartialEq, Eq, Debug)]
+#[derive(Clone, Copy, PartialEq, Eq)]
 pub enum ResolveNameFilter {
     /// A message.
     Message,
@@ -32,12 +32,19 @@ pub enum ResolveNameFilter {
     Extension,
 }
 
+impl ResolveNameFilter {
+    /// What is wanted, as a refusal says it.
+    pub fn text(self) -> &'static str {
+        match self {
+            ResolveNameFilter::Message => "a message type",
+            ResolveNameFilter::FieldType => "a message or enum type",
+            ResolveNameFilter::Extension => "an extension",
+        }
+    }
+}
+
 impl fmt::Display for ResolveNameFilter {
     fn fmt<W: fmt::Write>(&self, f: &mut fmt::Formatter<W>) -> fmt::Result {
-        match self {
-            ResolveNameFilter::Message => f.write_str("a message type"),
-            ResolveNameFilter::FieldType => f.write_str("a message or enum type"),
-            ResolveNameFilter::Extension => f.write_str("an extension"),
-        }
+        f.write_str(self.text())
     }
 }

@@ -10,7 +10,7 @@ use std::alloc::{AllocError, Global};
 use std::collections::BTreeMap;
 
 /// What a name means: a full name, without a leading dot, and what is defined there.
-#[derive(Debug, Drop)]
+#[derive(Drop)]
 pub struct Resolved {
     pub full_name: String,
     pub definition: Definition,

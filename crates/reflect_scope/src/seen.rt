@@ -6,7 +6,7 @@ ghost use Rattle.reflect_scope.specs.Marks.{IsMarked, Extends, AreListed, AllCle
 use std::alloc::{AllocError, Global};
 
 /// What a file imports, and what of that publicly, as indexes of files.
-#[derive(Debug, Drop)]
+#[derive(Drop)]
 pub struct Links {
     pub imports: Vec<u32>,
     pub public: Vec<u32>,

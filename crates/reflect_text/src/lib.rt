@@ -1,24 +1,13 @@
-//! Text format and options: options are read by the types of the pool alone, and settled as a whole or not at all.
+//! Text format and options: a text is read into a message or refused with its first fault, and a message is written as text;
+//! options are read by the types of the pool alone, and settled as a whole or not at all.
 #![tactic(auto)]
 
-mod moved_locations;
-mod option_error;
-mod option_scope;
-mod option_setter;
-mod option_target;
-mod option_types;
-mod option_value;
-mod options_visitor;
-mod resolve;
-mod settled_options;
-mod typed_options;
+mod text_format;
 
-pub use option_error::{OptionError, OptionErrorKind};
-pub use option_types::require_option_types;
-pub use options_visitor::OptionsVisitor;
-pub use reflect_format::{
-    FormatOptions, Int, ParseError, ParseErrorKind, Parser, Radix, Span, TextFormat, Token,
-    WriteError, Writer,
+pub use reflect_format::{Int, ParseError, ParseErrorKind, Parser, Radix, Span, Token};
+pub use reflect_options::{
+    OptionError, OptionErrorKind, OptionsVisitor, ResolveOptions, copy_typed_options,
+    require_option_types,
 };
-pub use resolve::ResolveOptions;
-pub use typed_options::copy_typed_options;
+pub use reflect_print::{FormatOptions, WriteError, Writer};
+pub use text_format::TextFormat;

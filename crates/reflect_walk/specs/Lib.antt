@@ -1,3 +1,4 @@
 pub mod Tree
 pub mod Declarations
 pub mod Batches
+pub mod MapEntries

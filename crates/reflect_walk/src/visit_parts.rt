@@ -1,4 +1,4 @@
-ghost use Rattle.std.specs.Prelude.{◌≡◌, ℕ, ◌+◌, ◌<◌, ◌^◌, ◌++◌, ◌∷◌, [], map, length, OnOk, IfOk, pos, Some, None};
+ghost use Rattle.std.specs.Prelude.{◌≡◌, ℕ, ◌+◌, ◌<◌, ◌^◌, ◌++◌, ◌∷◌, [], map, length, OnOk, IfOk, pos, Some, None, string_bytes};
 ghost use Rattle.reflect_walk.specs.Tree.{text_of as content_of, tree_of, messages_of};
 ghost use Rattle.reflect_walk.specs.Declarations.{Runs, each, entry, one_field, one_oneof, one_value, one_enum, one_method, one_service, one_extension, past_enums, past_extensions, past_services, past_tree, past_trees, past_file, tree_declarations, trees_declarations, file_declarations, enum_declaration, extension_declaration, service_declaration};
 ghost use Rattle.reflect_scope.specs.Means.{join};
@@ -11,10 +11,10 @@ use descriptor_records::{
     join_path, tag,
 };
 use reflect_scope::joined;
-use std::alloc::{AllocError, Global};
+use std::alloc::Global;
 
 /// How many messages, enums, extensions and services are declared before, in all files.
-#[derive(Clone, Copy, PartialEq, Eq, Debug)]
+#[derive(Clone, Copy, PartialEq, Eq)]
 pub struct Offsets {
     pub messages: u32,
     pub enums: u32,
@@ -56,11 +56,18 @@ fn next_index(count: &mut u32) -> Result<u32, VisitError>
     Ok(index)
 }
 
-fn item_path(alloc: Global, path: &[i32], tag: i32, index: u32) -> Result<Vec<i32>, AllocError>
+fn item_path(alloc: Global, path: &[i32], tag: i32, index: u32) -> Result<Vec<i32>, VisitError>
     requires { index < 2 ^ 31 }
     ensures { IfOk result (λ place. place.items ≡ entry path.now tag index) }
 {
-    join_path(alloc, path, &[tag, index as i32])
+    Ok(join_path(alloc, path, &[tag, index as i32])?)
+}
+
+/// The full name of what has a name in a scope.
+fn name_in(alloc: Global, scope: &str, name: &Option<String>) -> Result<String, VisitError>
+    ensures { IfOk result (λ full. string_bytes full ≡ join scope.now (content_of name.now)) }
+{
+    Ok(joined(alloc, scope, text_of(name))?)
 }
 
 fn visit_field<V: Visitor>(
@@ -78,7 +85,7 @@ fn visit_field<V: Visitor>(
     ensures keeps { V.kept file visitor.old visitor.new }
 {
     let place = item_path(alloc, path, tag::message::FIELD, index)?;
-    let full_name = joined(alloc, scope, text_of(&field.name))?;
+    let full_name = name_in(alloc, scope, &field.name)?;
     visitor.visit_field(
         alloc,
         place.as_slice(),
@@ -124,7 +131,7 @@ fn visit_oneof<V: Visitor>(
     ensures keeps { V.kept file visitor.old visitor.new }
 {
     let place = item_path(alloc, path, tag::message::ONEOF_DECL, index)?;
-    let full_name = joined(alloc, scope, text_of(&oneof.name))?;
+    let full_name = name_in(alloc, scope, &oneof.name)?;
     visitor.visit_oneof(
         alloc,
         place.as_slice(),
@@ -170,7 +177,7 @@ fn visit_enum_value<V: Visitor>(
     ensures keeps { V.kept file visitor.old visitor.new }
 {
     let place = item_path(alloc, path, tag::enumeration::VALUE, index)?;
-    let full_name = joined(alloc, scope, text_of(&value.name))?;
+    let full_name = name_in(alloc, scope, &value.name)?;
     visitor.visit_enum_value(
         alloc,
         place.as_slice(),
@@ -216,7 +223,7 @@ fn visit_method<V: Visitor>(
     ensures keeps { V.kept file visitor.old visitor.new }
 {
     let place = item_path(alloc, path, tag::service::METHOD, index)?;
-    let full_name = joined(alloc, scope, text_of(&method.name))?;
+    let full_name = name_in(alloc, scope, &method.name)?;
     visitor.visit_method(
         alloc,
         place.as_slice(),
@@ -261,7 +268,7 @@ fn visit_enum<V: Visitor>(
     ensures runs { OnOk result (Runs V.steps visitor.old (enum_declaration path.now (join scope.now (content_of enumeration.now.name)) file parent index enumeration.now ∷ each (one_value path.now scope.now file index) 0 enumeration.now.value.items) visitor.new) }
     ensures keeps { V.kept file visitor.old visitor.new }
 {
-    let full_name = joined(alloc, scope, text_of(&enumeration.name))?;
+    let full_name = name_in(alloc, scope, &enumeration.name)?;
     let inner = full_name.as_str();
     visitor.visit_enum(alloc, path, inner, file, parent, index, enumeration)?;
     visit_values(alloc, visitor, path, scope, file, index, &enumeration.value)
@@ -313,7 +320,7 @@ fn visit_extension<V: Visitor>(
     ensures runs { OnOk result (Runs V.steps visitor.old (extension_declaration path.now (join scope.now (content_of extension.now.name)) file parent index extension.now ∷ []) visitor.new) }
     ensures keeps { V.kept file visitor.old visitor.new }
 {
-    let full_name = joined(alloc, scope, text_of(&extension.name))?;
+    let full_name = name_in(alloc, scope, &extension.name)?;
     let inner = full_name.as_str();
     visitor.visit_extension(alloc, path, inner, file, parent, index, extension)
 }
@@ -363,7 +370,7 @@ fn visit_service<V: Visitor>(
     ensures runs { OnOk result (Runs V.steps visitor.old (service_declaration path.now (join scope.now (content_of service.now.name)) file index service.now ∷ each (one_method path.now (join scope.now (content_of service.now.name)) file index) 0 service.now.method.items) visitor.new) }
     ensures keeps { V.kept file visitor.old visitor.new }
 {
-    let full_name = joined(alloc, scope, text_of(&service.name))?;
+    let full_name = name_in(alloc, scope, &service.name)?;
     let inner = full_name.as_str();
     visitor.visit_service(alloc, path, inner, file, index, service)?;
     visit_methods(alloc, visitor, path, inner, file, index, &service.method)
@@ -412,7 +419,7 @@ fn visit_message<V: Visitor>(
     ensures counts { OnOk result (offsets.new ≡ past_tree offsets.old (tree_of message.now)) }
     ensures keeps { V.kept file visitor.old visitor.new }
 {
-    let full_name = joined(alloc, scope, text_of(&message.name))?;
+    let full_name = name_in(alloc, scope, &message.name)?;
     let inner = full_name.as_str();
     let number = next_index(&mut offsets.messages)?;
     visitor.visit_message(alloc, path, inner, file, parent, number, message)?;

@@ -21,7 +21,7 @@ use std::slice;
 const MAX_LEVELS: u32 = 100;
 
 /// A record of a field that no descriptor declares.
-#[derive(Debug, Drop)]
+#[derive(Drop)]
 #[cycle(unknown)]
 pub struct UnknownField {
     number: u32,
@@ -29,7 +29,7 @@ pub struct UnknownField {
 }
 
 /// What such a record holds, by its wire type.
-#[derive(Debug, Drop)]
+#[derive(Drop)]
 #[cycle(unknown)]
 pub enum UnknownFieldValue {
     Varint(u64),
@@ -42,7 +42,7 @@ pub enum UnknownFieldValue {
 }
 
 /// Records in the order in which they came.
-#[derive(Debug, Drop)]
+#[derive(Drop)]
 #[cycle(unknown)]
 pub struct UnknownFieldSet {
     fields: Vec<UnknownField>,

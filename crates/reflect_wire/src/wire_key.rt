@@ -10,7 +10,7 @@ pub enum WireType {
 }
 
 /// What stands before a record's value: the field's number and the value's form.
-#[derive(Clone, Copy, Debug, PartialEq, Eq)]
+#[derive(Clone, Copy, PartialEq, Eq)]
 pub struct WireKey {
     pub number: u32,
     pub wire: WireType,

@@ -1,184 +1,73 @@
-//! Refusals of each layer against what a case says of them.
+//! What is told of refusals, layer by layer.
 
-use case_json::Difference;
-use case_json::json::{items, same, text};
-use protox_lex::Span;
-use protox_parse::{ParseError as SourceError, ParseErrorKind as SourceFault};
-use reflect_link::DescriptorError;
+use case_json::Told;
+use reflect_build::DescriptorError;
 use reflect_schema::SchemaError;
 use reflect_text::{OptionError, OptionErrorKind, ParseError as TextError};
-use serde_json::Value;
-use std::alloc::Global;
-use std::fmt::Debug;
+use source_cases::{case_name, tell_case, tell_source_refusal};
+use std::alloc::{AllocError, Global};
+use std::collections::BTreeSet;
 
-/// The name of an enum's case: the word that its debug text begins with.
-fn case_name<T: Debug>(alloc: Global, value: &T) -> Result<String, Difference> {
-    let shown = format!(in alloc; "{value:?}")?;
-    let mut name = String::new(alloc);
-    for letter in shown.chars() {
-        if !letter.is_ascii_alphanumeric() {
-            return Ok(name);
-        }
-        name.push(letter)?;
-    }
-    Ok(name)
-}
-
-/// A member of the refusal, where there is one, is the same as this text.
-fn same_member(
+/// Files do not fit together: the names of the faults, each once and by the alphabet, and what the faults say.
+fn tell_link_refusal(
     alloc: Global,
-    refused: &Value,
-    name: &'static str,
-    came: &str,
-) -> Result<(), Difference> {
-    match refused.get(name) {
-        Some(_) => same(alloc, came, text(refused, name)?),
-        None => Ok(()),
-    }
-}
-
-/// The start and end of a fault are those of the refusal, where it says them.
-fn same_span(alloc: Global, refused: &Value, start: usize, end: usize) -> Result<(), Difference> {
-    let [first, last] = items(refused, "span") else {
-        return Ok(());
-    };
-    let wanted = format!(in alloc; "{first}..{last}")?;
-    same(
-        alloc,
-        format!(in alloc; "{start}..{end}")?.as_str(),
-        wanted.as_str(),
-    )
-}
-
-/// The names of the refusal's faults in their order, a space behind each.
-fn codes(alloc: Global, refused: &Value) -> Result<String, Difference> {
-    let mut codes = String::new(alloc);
-    for code in items(refused, "codes") {
-        codes.push_str(code.as_str().ok_or(Difference::Member("codes"))?)?;
-        codes.push_str(" ")?;
-    }
-    Ok(codes)
-}
-
-/// The spans of all faults of a source are those of the refusal, where it says them.
-fn same_spans(alloc: Global, refused: &Value, error: &SourceError) -> Result<(), Difference> {
-    let Some(wanted) = refused.get("spans") else {
-        return Ok(());
-    };
-    let mut came = String::new(alloc);
-    for fault in error.faults() {
-        if let Some(Span { start, end }) = fault.span() {
-            let comma = if came.is_empty() { "" } else { "," };
-            came.push_str(format!(in alloc; "{comma}[{start},{end}]")?.as_str())?;
-        }
-    }
-    let came = format!(in alloc; "[{came}]")?;
-    same(alloc, came.as_str(), wanted.to_string(alloc)?.as_str())
-}
-
-/// A source is refused with these faults, in this order, the first at this place.
-pub fn same_source_refusal(
-    alloc: Global,
-    refused: &Value,
-    error: &SourceError,
-) -> Result<(), Difference> {
-    let mut came = String::new(alloc);
-    for fault in error.faults() {
-        came.push_str(case_name(alloc, fault)?.as_str())?;
-        came.push_str(" ")?;
-    }
-    same(alloc, came.as_str(), codes(alloc, refused)?.as_str())?;
-    if let Some(Span { start, end }) = error.span() {
-        same_span(alloc, refused, start, end)?;
-    }
-    same_spans(alloc, refused, error)?;
-    same_member(
-        alloc,
-        refused,
-        "debug",
-        format!(in alloc; "{error:?}")?.as_str(),
-    )?;
-    if let Some(SourceFault::UnexpectedToken { found, .. }) = error.kind() {
-        same_member(alloc, refused, "found", found.as_str())?;
-    }
-    Ok(())
-}
-
-/// The refusal lists a fault of this name.
-fn is_wanted(refused: &Value, name: &str) -> bool {
-    for code in items(refused, "codes") {
-        if code.as_str() == Some(name) {
-            return true;
-        }
-    }
-    false
-}
-
-/// Files are refused with faults of just these names, in any order and number.
-fn same_link_refusal(
-    alloc: Global,
-    refused: &Value,
+    told: &mut Told<'_>,
     error: &DescriptorError,
-) -> Result<(), Difference> {
-    let mut came = Vec::new(alloc);
+) -> Result<(), AllocError> {
+    let mut names = BTreeSet::new(alloc);
+    let mut texts = String::new(alloc);
     for fault in error.errors() {
-        let name = case_name(alloc, fault)?;
-        if !is_wanted(refused, name.as_str()) {
-            same(alloc, name.as_str(), codes(alloc, refused)?.as_str())?;
-        }
-        came.push(name)?;
+        names.insert(case_name(alloc, fault)?)?;
+        writeln!(&mut texts, "{fault}")?;
     }
-    for code in items(refused, "codes") {
-        let code = code.as_str().ok_or(Difference::Member("codes"))?;
-        if !came.iter().any(|name| name.as_str() == code) {
-            return Err(Difference::Answer(format!(in alloc; "no {code}")?));
-        }
-    }
-    Ok(())
+    told.tell("faults", texts.as_str())?;
+    tell_codes(alloc, told, &names)
 }
 
-/// Options are refused with this fault, and where text is at fault, with the text's.
-fn same_option_refusal(
+/// The names of faults, with spaces between them.
+fn tell_codes(
     alloc: Global,
-    refused: &Value,
+    told: &mut Told<'_>,
+    names: &BTreeSet<String>,
+) -> Result<(), AllocError> {
+    let mut codes = String::new(alloc);
+    for name in names {
+        let gap = if codes.is_empty() { "" } else { " " };
+        write!(&mut codes, "{gap}{name}")?;
+    }
+    told.tell("codes", codes.as_str())
+}
+
+/// Options are refused with a fault, and where text or stored bytes are at fault, with theirs.
+fn tell_option_refusal(
+    alloc: Global,
+    told: &mut Told<'_>,
     error: &OptionError,
-) -> Result<(), Difference> {
-    same_first(alloc, refused, case_name(alloc, error.kind())?.as_str())?;
+) -> Result<(), AllocError> {
+    tell_case(alloc, told, "codes", error.kind())?;
     match error.kind() {
         OptionErrorKind::InvalidMessageOption { error, .. } => {
-            same_member(
-                alloc,
-                refused,
-                "inner",
-                case_name(alloc, error.kind())?.as_str(),
-            )
+            tell_case(alloc, told, "inner", error.kind())
+        }
+        OptionErrorKind::UndecodableOptions { error: Some(error) } => {
+            tell_case(alloc, told, "inner", error)
         }
         _ => Ok(()),
     }
 }
 
-/// The first of the refusal's faults has this name.
-fn same_first(alloc: Global, refused: &Value, came: &str) -> Result<(), Difference> {
-    let wanted = items(refused, "codes").first().and_then(Value::as_str);
-    same(alloc, came, wanted.ok_or(Difference::Member("codes"))?)
-}
-
-/// A text is refused with this fault at this place and in these words.
-pub fn same_text_refusal(
+/// A text is refused with a fault at a place and in words.
+pub fn tell_text_refusal(
     alloc: Global,
-    refused: &Value,
+    told: &mut Told<'_>,
     error: &TextError,
-) -> Result<(), Difference> {
-    same_first(alloc, refused, case_name(alloc, error.kind())?.as_str())?;
+) -> Result<(), AllocError> {
+    tell_case(alloc, told, "codes", error.kind())?;
     if let Some(span) = error.span() {
-        same_span(alloc, refused, span.start, span.end)?;
+        let shown = format!(in alloc; "{}..{}", span.start, span.end)?;
+        told.tell("span", shown.as_str())?;
     }
-    same_member(
-        alloc,
-        refused,
-        "text",
-        format!(in alloc; "{error}")?.as_str(),
-    )
+    told.tell("text", error)
 }
 
 /// The name of a schema's refusal.
@@ -195,39 +84,25 @@ fn schema_code(error: &SchemaError) -> &'static str {
     }
 }
 
-/// The file and the position of a refusal are those of the case, where it says them.
-fn same_place(alloc: Global, refused: &Value, error: &SchemaError) -> Result<(), Difference> {
-    same_member(alloc, refused, "file", error.file().unwrap_or(""))?;
-    let [line, column] = items(refused, "position") else {
-        return Ok(());
-    };
-    let wanted = format!(in alloc; "{line}:{column}")?;
-    let (line, column) = error.position().ok_or(Difference::Member("position"))?;
-    same(
-        alloc,
-        format!(in alloc; "{line}:{column}")?.as_str(),
-        wanted.as_str(),
-    )
-}
-
-/// A schema refuses with this name and place, for the reason of the layer that refused.
-pub fn same_refusal(alloc: Global, refused: &Value, error: &SchemaError) -> Result<(), Difference> {
-    same(alloc, schema_code(error), text(refused, "code")?)?;
-    same_place(alloc, refused, error)?;
-    same_member(
-        alloc,
-        refused,
-        "display",
-        format!(in alloc; "{error}")?.as_str(),
-    )?;
+/// A schema refuses: the layer, the place, what is said of it, and the layer's reason.
+pub fn tell_refusal(
+    alloc: Global,
+    told: &mut Told<'_>,
+    error: &SchemaError,
+) -> Result<(), AllocError> {
+    told.tell("code", schema_code(error))?;
+    told.tell("file", error.file().unwrap_or(""))?;
+    if let Some((line, column)) = error.position() {
+        let shown = format!(in alloc; "{line}:{column}")?;
+        told.tell("position", shown.as_str())?;
+    }
+    told.tell("display", error)?;
     match error {
-        SchemaError::Parse(error) => same_source_refusal(alloc, refused, error),
-        SchemaError::Link(error) => same_link_refusal(alloc, refused, error),
-        SchemaError::Options(error) => same_option_refusal(alloc, refused, error),
-        SchemaError::Text(error) => same_text_refusal(alloc, refused, error),
-        SchemaError::Wire(error) => {
-            same_member(alloc, refused, "wire", case_name(alloc, error)?.as_str())
-        }
+        SchemaError::Parse(error) => tell_source_refusal(alloc, told, error),
+        SchemaError::Link(error) => tell_link_refusal(alloc, told, error),
+        SchemaError::Options(error) => tell_option_refusal(alloc, told, error),
+        SchemaError::Text(error) => tell_text_refusal(alloc, told, error),
+        SchemaError::Wire(error) => tell_case(alloc, told, "wire", error),
         _ => Ok(()),
     }
 }

@@ -16,7 +16,7 @@ use crate::token::{Int, Token};
 use protox_lex::{LexError as SourceError, LexErrorKind, Span};
 
 /// A token, and where it stands.
-#[derive(Clone, Copy, Debug)]
+#[derive(Clone, Copy)]
 pub struct Lexeme<'a> {
     pub token: Token<'a>,
     pub span: Span,
@@ -197,7 +197,7 @@ fn front(rest: &str, at: usize) -> Result<(Token<'_>, usize), LexError>
 /// In contracts `stream` is the list of what is left: the tokens with their places, and at the first fault that fault and no more. `new` says
 /// that the list of a whole text is one that the longest match cuts it into (`Lexes` of specs/Longest.antt), by `laws::one_reading` there is no
 /// other such list, and `next` takes the first of what is left.
-#[derive(Clone, Copy, Debug)]
+#[derive(Clone, Copy)]
 pub struct Lexer<'a> {
     text: &'a str,
     at: usize,

@@ -5,7 +5,7 @@ use protox_lex::Sign;
 use std::fmt;
 
 /// What the digits of an integer count in.
-#[derive(Clone, Copy, PartialEq, Eq, Debug)]
+#[derive(Clone, Copy, PartialEq, Eq)]
 pub enum Radix {
     Octal,
     Decimal,
@@ -13,7 +13,7 @@ pub enum Radix {
 }
 
 /// An integer as it is written, of any length.
-#[derive(Clone, Copy, PartialEq, Debug)]
+#[derive(Clone, Copy, PartialEq)]
 pub struct Int<'a> {
     /// The digits without a prefix.
     pub digits: &'a str,
@@ -52,7 +52,7 @@ impl<'a> Int<'a> {
 /// A token of the text format, lent from its text.
 ///
 /// It prints as it is written, but an integer without its prefix, and a string in `"` with its bytes escaped.
-#[derive(Clone, Copy, PartialEq, Debug)]
+#[derive(Clone, Copy, PartialEq)]
 pub enum Token<'a> {
     Ident(&'a str),
     IntLiteral(Int<'a>),
@@ -100,28 +100,38 @@ impl Token<'static> {
     }
 }
 
+impl Token<'_> {
+    /// What the token prints; nothing of a string, which prints its bytes.
+    fn text(&self) -> &str {
+        match self {
+            Token::Ident(text) | Token::FloatLiteral(text) => text,
+            Token::IntLiteral(int) => int.digits,
+            Token::StringLiteral(_) => "",
+            Token::Dot => ".",
+            Token::Minus => "-",
+            Token::LeftBrace => "{",
+            Token::RightBrace => "}",
+            Token::LeftBracket => "[",
+            Token::RightBracket => "]",
+            Token::LeftAngleBracket => "<",
+            Token::RightAngleBracket => ">",
+            Token::Comma => ",",
+            Token::Colon => ":",
+            Token::Semicolon => ";",
+            Token::ForwardSlash => "/",
+        }
+    }
+}
+
 impl fmt::Display for Token<'_> {
     fn fmt<W: fmt::Write>(&self, f: &mut fmt::Formatter<W>) -> fmt::Result {
         match self {
-            Token::Ident(text) | Token::FloatLiteral(text) => f.write_str(text),
-            Token::IntLiteral(int) => f.write_str(int.digits),
             Token::StringLiteral(raw) => {
                 f.write_str("\"")?;
                 write_contents(f, raw)?;
                 f.write_str("\"")
             }
-            Token::Dot => f.write_str("."),
-            Token::Minus => f.write_str("-"),
-            Token::LeftBrace => f.write_str("{"),
-            Token::RightBrace => f.write_str("}"),
-            Token::LeftBracket => f.write_str("["),
-            Token::RightBracket => f.write_str("]"),
-            Token::LeftAngleBracket => f.write_str("<"),
-            Token::RightAngleBracket => f.write_str(">"),
-            Token::Comma => f.write_str(","),
-            Token::Colon => f.write_str(":"),
-            Token::Semicolon => f.write_str(";"),
-            Token::ForwardSlash => f.write_str("/"),
+            _ => f.write_str(self.text()),
         }
     }
 }

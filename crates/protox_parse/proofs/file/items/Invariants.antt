@@ -1,5 +1,5 @@
 use Rattle.std.proofs.Common.{◌≤◌}
-use Rattle.protox_parse.specs.Left.{left}
+use Rattle.protox_tokens.specs.Left.{left}
 use Rattle.protox_parse.proofs.file.items.Given as goal
 
 abbrev pub invariant-items : goal.invariant-items

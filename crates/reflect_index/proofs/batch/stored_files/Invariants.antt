@@ -1,5 +1,5 @@
 use Rattle.std.proofs.Common.{◌≡◌, map}
-use Rattle.reflect_index.specs.Views.{file_of, record_file}
+use Rattle.reflect_tables.specs.Views.{file_of, record_file}
 use Rattle.reflect_index.proofs.batch.stored_files.Given as goal
 
 abbrev pub invariant-loop-record : goal.invariant-loop-record

@@ -3,9 +3,9 @@ use Rattle.std.proofs.Math.ListN.{length-map}
 use Rattle.std.proofs.lemmas.List.{map-set}
 use Rattle.std.proofs.lemmas.List as lists
 use Rattle.reflect_index.specs.Members.{Joins}
-use Rattle.reflect_index.specs.Types.{OneofType, no_oneof}
-use Rattle.reflect_index.specs.Views.{field_of, oneof_of}
-use Rattle.reflect_index.specs.declared.stored.StoredOneof.{StoredOneof}
+use Rattle.reflect_tables.specs.Types.{OneofType, no_oneof}
+use Rattle.reflect_tables.specs.Views.{field_of, oneof_of}
+use Rattle.reflect_tables.specs.declared.stored.StoredOneof.{StoredOneof}
 use Rattle.reflect_index.proofs.Members.{joins_none, joins_one}
 use Rattle.reflect_index.proofs.finish.add_member.Goals as goal
 

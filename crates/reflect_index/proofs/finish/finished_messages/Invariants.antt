@@ -2,8 +2,8 @@ use Rattle.std.proofs.Common.{◌≡◌, map}
 use Rattle.std.specs.List.{AllByRecursion}
 use Rattle.reflect_index.specs.OfDeclarations.{stored_ranges, draft_ranges}
 use Rattle.reflect_index.specs.DraftNames.{stored_message_name, draft_name}
-use Rattle.reflect_index.specs.Types.{ListsMembers}
-use Rattle.reflect_index.specs.Views.{message_of}
+use Rattle.reflect_tables.specs.Types.{ListsMembers}
+use Rattle.reflect_tables.specs.Views.{message_of}
 use Rattle.reflect_index.proofs.finish.finished_messages.Given as goal
 
 abbrev pub invariant-loop-draft : goal.invariant-loop-draft

@@ -1,9 +1,9 @@
 use Rattle.std.proofs.Common.{◌≡◌, ◌<◌, ◌∙◌, [], map, length, get_or, ap, arith, rules}
 use Rattle.std.proofs.Math.ListN.{length-map}
 use Rattle.std.proofs.lemmas.List.{map-set}
-use Rattle.reflect_index.specs.Types.{no_oneof}
-use Rattle.reflect_index.specs.Views.{oneof_of}
-use Rattle.reflect_index.specs.declared.stored.StoredOneof.{StoredOneof}
+use Rattle.reflect_tables.specs.Types.{no_oneof}
+use Rattle.reflect_tables.specs.Views.{oneof_of}
+use Rattle.reflect_tables.specs.declared.stored.StoredOneof.{StoredOneof}
 use Rattle.reflect_index.proofs.Members.{emptied}
 use Rattle.reflect_index.proofs.finish.forget_members.Goals as goal
 

@@ -1,6 +1,6 @@
 use Rattle.std.proofs.Common.{◌≡◌, ◌<◌, ℕ, [], map, length, get_or}
-use Rattle.reflect_index.specs.Types.{no_oneof}
-use Rattle.reflect_index.specs.Views.{oneof_of}
+use Rattle.reflect_tables.specs.Types.{no_oneof}
+use Rattle.reflect_tables.specs.Views.{oneof_of}
 use Rattle.reflect_index.proofs.finish.forget_members.Given as goal
 
 abbrev pub invariant-turns : goal.invariant-turns

@@ -1,8 +1,8 @@
 use Rattle.std.proofs.Common.{◌≡◌, ◌<◌, ◌+◌, ◌++◌, ◌∷◌, [], ◌∙◌, map, take, length, ap, sym, subst, arith, rules}
 use Rattle.std.proofs.Math.ListN.{length-map}
 use Rattle.std.proofs.lemmas.List.{map_more, length-take-le}
-use Rattle.reflect_index.specs.Types.{AreListed}
-use Rattle.reflect_index.specs.Views.{field_of, oneof_of}
+use Rattle.reflect_tables.specs.Types.{AreListed}
+use Rattle.reflect_tables.specs.Views.{field_of, oneof_of}
 use Rattle.reflect_index.proofs.Members.{listed_more}
 use Rattle.reflect_index.proofs.finish.list_members.Goals as goal
 

@@ -1,6 +1,6 @@
 use Rattle.std.proofs.Common.{◌≡◌, map, take}
-use Rattle.reflect_index.specs.Types.{AreListed}
-use Rattle.reflect_index.specs.Views.{field_of, oneof_of}
+use Rattle.reflect_tables.specs.Types.{AreListed}
+use Rattle.reflect_tables.specs.Views.{field_of, oneof_of}
 use Rattle.reflect_index.proofs.finish.list_members.Given as goal
 
 abbrev pub invariant-turns : goal.invariant-turns

@@ -1,6 +1,6 @@
 use Rattle.std.proofs.Common.{◌≡◌, Less, map}
 use Rattle.std.specs.List.{AllAdjacentBelow}
-use Rattle.reflect_index.specs.Index.{key_order, key_at}
+use Rattle.reflect_tables.specs.Index.{key_order, key_at}
 use Rattle.reflect_index.proofs.index.are_ascending.Given as goal
 
 abbrev pub invariant-loop-at : goal.invariant-loop-at

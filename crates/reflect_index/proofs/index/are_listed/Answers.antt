@@ -1,6 +1,6 @@
 use Rattle.std.proofs.Common.{rules, map, sym, subst, ⊎_elim, arith}
 use Rattle.std.proofs.lemmas.Bool.Decides.{eqb_tells}
-use Rattle.reflect_index.specs.Index.{IsListed}
+use Rattle.reflect_tables.specs.Index.{IsListed}
 use Rattle.reflect_index.proofs.index.are_listed.Goals as goal
 
 pub loop-place-preserved : goal.loop-place-preserved

@@ -1,5 +1,5 @@
 use Rattle.std.proofs.Common.{ℕ, ◌<◌, map}
-use Rattle.reflect_index.specs.Index.{IsListed}
+use Rattle.reflect_tables.specs.Index.{IsListed}
 use Rattle.reflect_index.proofs.index.are_listed.Given as goal
 
 abbrev pub invariant-loop-place : goal.invariant-loop-place

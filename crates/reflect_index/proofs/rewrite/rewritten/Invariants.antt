@@ -1,5 +1,5 @@
 use Rattle.std.proofs.Common.{◌≡◌, map, length}
-use Rattle.reflect_index.specs.Views.{record_file}
+use Rattle.reflect_tables.specs.Views.{record_file}
 use Rattle.reflect_index.proofs.rewrite.rewritten.Given as goal
 
 abbrev pub invariant-loop-place : goal.invariant-loop-place

@@ -1,6 +1,6 @@
 use Rattle.std.proofs.Common.{◌≡◌, [], ◌++◌, ap, ◌∙◌, rules}
 use Rattle.std.specs.List.{cons_option}
-use Rattle.reflect_names.specs.FileNames.{indexes_of}
+use Rattle.reflect_scope.specs.FileIndexes.{indexes_of}
 use Rattle.reflect_names.specs.ImportedFiles.{file_of}
 use Rattle.reflect_names.proofs.ImportRuns.{found_more}
 use Rattle.reflect_names.proofs.imports.imports_of.Goals as goal

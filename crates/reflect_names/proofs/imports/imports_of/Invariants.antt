@@ -1,6 +1,6 @@
 use Rattle.std.proofs.Common.{◌≡◌, take}
 use Rattle.std.specs.List.{filter_map}
-use Rattle.reflect_names.specs.FileNames.{indexes_of}
+use Rattle.reflect_scope.specs.FileIndexes.{indexes_of}
 use Rattle.reflect_names.specs.ImportedFiles.{file_of}
 use Rattle.reflect_names.proofs.imports.imports_of.Given as goal
 

@@ -1,5 +1,5 @@
 use Rattle.std.proofs.Common.{◌∙◌, arith}
-use Rattle.reflect_names.specs.FileNames.{indexes_of}
+use Rattle.reflect_scope.specs.FileIndexes.{indexes_of}
 use Rattle.reflect_names.proofs.FileRuns.{with_more, faults_more, keeps_on}
 use Rattle.reflect_names.proofs.imports.name_files.Goals as goal
 

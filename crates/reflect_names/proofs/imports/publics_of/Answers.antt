@@ -1,6 +1,6 @@
 use Rattle.std.proofs.Common.{◌≡◌, ℤ, pos, [], ◌++◌, get_or, to_z, of_z, w32, ap, ◌∙◌, rules}
 use Rattle.std.specs.List.{cons_option}
-use Rattle.reflect_names.specs.FileNames.{indexes_of}
+use Rattle.reflect_scope.specs.FileIndexes.{indexes_of}
 use Rattle.reflect_names.specs.ImportedFiles.{import_at}
 use Rattle.reflect_names.proofs.ImportRuns.{found_more}
 use Rattle.reflect_names.proofs.imports.publics_of.Goals as goal

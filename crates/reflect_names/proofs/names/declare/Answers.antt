@@ -5,7 +5,7 @@ use Rattle.std.specs.Map.{update, lookup}
 use Rattle.std.specs.BTreeMap.{is_at, get_by_text}
 use Rattle.std.specs.Str.{bytes_eq}
 use Rattle.std.specs.String.{string_cmp}
-use Rattle.reflect_names.specs.Known.{known_of, below, AllBelow}
+use Rattle.reflect_scope.specs.Known.{known_of, below, AllBelow}
 use Rattle.reflect_names.proofs.Entries.{filter_insert, declared_new, insert_below}
 use Rattle.reflect_names.proofs.names.declare.Goals as goal
 

@@ -2,7 +2,7 @@ use Rattle.std.proofs.Common.{◌≡◌, ◌++◌, [], length, ap, sym, subst, �
 use Rattle.std.proofs.lemmas.List.{append-nil}
 use Rattle.reflect_scope.specs.Means.{scopes, outer}
 use Rattle.reflect_scope.proofs.Scopes.{outer_less}
-use Rattle.reflect_names.specs.Known.{known_of, declared}
+use Rattle.reflect_scope.specs.Known.{known_of, declared}
 use Rattle.reflect_names.specs.Faults.{Adds, place_at, list_of}
 use Rattle.reflect_names.specs.Names.{packages, package_faults, package_of, taken}
 use Rattle.reflect_names.specs.NameSteps.{entries-on}

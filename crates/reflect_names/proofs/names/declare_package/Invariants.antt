@@ -2,7 +2,7 @@ use Rattle.std.proofs.Common.{◌≡◌, ◌++◌, length}
 use denote.Shadow.{shadow}
 use denote.Text.{Utf8}
 use Rattle.reflect_scope.specs.Means.{scopes}
-use Rattle.reflect_names.specs.Known.{known_of}
+use Rattle.reflect_scope.specs.Known.{known_of}
 use Rattle.reflect_names.specs.Faults.{place_at, list_of}
 use Rattle.reflect_names.specs.Names.{packages, package_faults}
 use Rattle.reflect_names.specs.NameSteps.{KeepsEntries}

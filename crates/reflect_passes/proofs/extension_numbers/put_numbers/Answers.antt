@@ -1,5 +1,6 @@
 use Rattle.std.proofs.Common.{◌≡◌, ◌+◌, ◌||◌, ◌<◌, ◌∙◌, ap, sym, take, length, arith, rules}
-use Rattle.reflect_passes.specs.Extensions.{has_key, is_known, is_taken, numbers_of}
+use Rattle.reflect_passes.specs.Extensions.{has_key, is_known, is_taken}
+use Rattle.reflect_tables.specs.ExtensionNumbers.{numbers_of}
 use Rattle.reflect_passes.specs.Linked.{linked_says}
 use Rattle.reflect_passes.proofs.Doubled.{taken_more, faults_more}
 use Rattle.reflect_passes.proofs.Numbered.{keeps_on, places_more}

@@ -1,6 +1,7 @@
 use Rattle.std.proofs.Common.{◌≡◌, take, length}
 use Rattle.reflect_names.specs.Faults.{Adds, place_at}
-use Rattle.reflect_passes.specs.Extensions.{KeyType, KeepsNumbers, is_known, is_taken, numbers_of, with_numbers, extension_faults}
+use Rattle.reflect_tables.specs.ExtensionNumbers.{KeyType, KeepsNumbers, numbers_of}
+use Rattle.reflect_passes.specs.Extensions.{is_known, is_taken, with_numbers, extension_faults}
 use Rattle.reflect_passes.specs.Linked.{linked_says}
 use Rattle.reflect_passes.proofs.extension_numbers.put_numbers.Given as goal
 

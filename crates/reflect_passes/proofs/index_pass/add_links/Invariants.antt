@@ -1,6 +1,6 @@
 use Rattle.std.proofs.Common.{◌≡◌, ◌++◌, map, take, length}
-use Rattle.reflect_names.specs.FileNames.{indexes_of}
-use Rattle.reflect_names.specs.ImportedFiles.{link_view, links_to}
+use Rattle.reflect_scope.specs.FileIndexes.{indexes_of, link_view}
+use Rattle.reflect_names.specs.ImportedFiles.{links_to}
 use Rattle.reflect_passes.proofs.index_pass.add_links.Given as goal
 
 abbrev pub invariant-turns : goal.invariant-turns

@@ -1,7 +1,7 @@
 use Rattle.std.proofs.Common.{◌≡◌, Some, ◌++◌, subst, refl, to_z, of_z, w32, rules}
 use Rattle.reflect_names.specs.Faults.{Adds, place_at}
 use Rattle.reflect_rules.specs.Numbers.{reserved_faults, outside_faults}
-use Rattle.reflect_rules.specs.Ranges.{IsRangeOf}
+use Rattle.reflect_tables.specs.Ranges.{IsRangeOf}
 use Rattle.reflect_rules.specs.Rules.{ExtensionNumber}
 use Rattle.reflect_rules.proofs.Then.{adds_then}
 use Rattle.reflect_rules.proofs.extension_number.check_extension_number.Goals as goal

@@ -1,4 +1,4 @@
-use Rattle.std.proofs.Common.{◌≡◌, ℕ, List, length, ap, sym, subst, ◌∙◌, rules, Err, string_bytes}
+use Rattle.std.proofs.Common.{◌≡◌, ℕ, List, length, ap, sym, subst, ◌∙◌, rules, Err}
 use Rattle.std.specs.BTreeMap.{get_by_text}
 use Rattle.reflect_scope.specs.Seen.{tells}
 use Rattle.reflect_scope.specs.Means.{means, join, standing, undotted, scopes, outer, missing, Answers}

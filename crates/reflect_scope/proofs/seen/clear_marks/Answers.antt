@@ -1,4 +1,4 @@
-use Rattle.std.proofs.Common.{◌≡◌, ℕ, take, subst, sym, ◌∙◌, arith, rules, length}
+use Rattle.std.proofs.Common.{◌≡◌, take, subst, ◌∙◌, arith}
 use Rattle.std.proofs.lemmas.List.{take_all}
 use Rattle.reflect_scope.proofs.Listed.{cleared_more, all_clear, IsCleared}
 use Rattle.reflect_scope.proofs.seen.clear_marks.Goals as goal

@@ -1,4 +1,4 @@
-use Rattle.std.proofs.Common.{◌≡◌, ◌≤◌, ◌-◌, length, take}
+use Rattle.std.proofs.Common.{◌≤◌, ◌-◌, length, take}
 use Rattle.reflect_scope.specs.Sees.{publics_at, imports_at}
 use Rattle.reflect_scope.specs.Marks.{IsMarked, AreListed}
 use Rattle.reflect_scope.proofs.Search.{Searching}

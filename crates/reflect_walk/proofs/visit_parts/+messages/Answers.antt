@@ -1,9 +1,9 @@
-use Rattle.std.proofs.Common.{◌≡◌, ℕ, ℤ, pos, ◌+◌, List, [], ◌∷◌, ◌++◌, ap, map, take, length, arith, subst, sym, ◌∙◌, to_z, of_z, w32, Some}
+use Rattle.std.proofs.Common.{◌≡◌, ℤ, pos, ap, map, take, length, arith, subst, sym, ◌∙◌, to_z, of_z, w32, Some}
 use Rattle.reflect_scope.specs.Means.{join}
 use Rattle.descriptor_records.specs.declared.message.DescriptorProto.TheViews.{out-DescriptorProto}
 use Rattle.reflect_walk.specs.declared.visit_parts.Offsets.{Offsets}
 use Rattle.reflect_walk.specs.Tree.{text_of, message, parts_of, messages_of, tree_of}
-use Rattle.reflect_walk.specs.Declarations.{Runs, each, entry, one_field, one_enum, one_extension, one_oneof, message_declaration, tree_declarations, trees_declarations, past_tree, past_trees, past_message, past_enums, past_extensions}
+use Rattle.reflect_walk.specs.Declarations.{Runs, each, entry, one_field, one_enum, one_extension, one_oneof, message_declaration, tree_declarations, trees_declarations, past_tree, past_trees, past_message, past_enums}
 use Rattle.reflect_walk.proofs.Walks.{run_tree, past_more, runs_append, tree_of-out}
 use Rattle.reflect_walk.proofs.visit_parts.+messages.Goals as goal
 
@@ -42,7 +42,7 @@ visit_message-returns-clause-runs g t c =
     let o = c.args.offsets.now in
     let given = c.as_str-inner.result.now in
     let full = join scope (text_of own.name) in
-    let name : given ≡ full = c.as_str-inner.ensures.value ∙ c.in_ok-full_name.ensures ∙ ap (join scope) c.text_of.ensures in
+    let name : given ≡ full = c.as_str-inner.ensures.value ∙ c.in_ok-full_name.ensures in
     let number : c.in_ok-number.number ≡ o.messages = c.in_ok-number.ensures.index in
     let i = c.in_ok-number.number in
     let counted : Offsets = record o { messages = c.next_index.new.count } in

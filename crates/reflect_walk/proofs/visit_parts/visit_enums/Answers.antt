@@ -1,4 +1,4 @@
-use Rattle.std.proofs.Common.{◌≡◌, ℕ, ℤ, pos, ◌+◌, List, [], ◌∷◌, ap, arith, subst, ◌∙◌, to_z, of_z, w32}
+use Rattle.std.proofs.Common.{◌≡◌, ℕ, ℤ, ◌+◌, List, ◌∷◌, ap, arith, subst, ◌∙◌, to_z, of_z, w32}
 use Rattle.reflect_scope.specs.Means.{join}
 use Rattle.reflect_walk.specs.Tree.{text_of}
 use Rattle.reflect_walk.specs.Declarations.{Declaration, Runs, each, entry, one_enum, enum_declaration, one_value}

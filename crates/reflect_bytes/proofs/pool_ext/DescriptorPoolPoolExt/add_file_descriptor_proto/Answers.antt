@@ -1,7 +1,7 @@
 use Rattle.std.proofs.Common.{◌≡◌, [], ◌∷◌, subst, rules}
 use Rattle.std.proofs.lemmas.Result.{err_from_is_err_and}
 use Rattle.reflect_passes.specs.Errors.{Refuses}
-use Rattle.reflect_pool.specs.Refusals.{FaultyFiles}
+use Rattle.reflect_build.specs.Refusals.{FaultyFiles}
 use Rattle.reflect_bytes.specs.Spelled.{RecordsLinked}
 use Rattle.reflect_bytes.proofs.Refused.{of_link}
 use Rattle.reflect_bytes.proofs.pool_ext.DescriptorPoolPoolExt.add_file_descriptor_proto.Goals as goal

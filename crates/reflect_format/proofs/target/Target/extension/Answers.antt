@@ -1,5 +1,5 @@
 use Rattle.std.proofs.Common.{rules, sym, ap, ◌∙◌, string_bytes}
-use Rattle.reflect_index.specs.Types.{extension_at}
+use Rattle.reflect_tables.specs.Types.{extension_at}
 use Rattle.reflect_scalar.specs.FieldTypes.{extension_pool, extension_type}
 use Rattle.reflect_scalar.specs.Floats.{HoldsFloats}
 use Rattle.reflect_format.proofs.Telling.{float_extension_told}

@@ -3,7 +3,7 @@ use Rattle.std.specs.Prelude.{IsSome}
 use Rattle.reflect_entries.specs.Entries.{value_at}
 use Rattle.reflect_pool.specs.FieldsLeft.{field_type}
 use Rattle.reflect_pool.specs.PartsLeft.{members_left}
-use Rattle.reflect_dynamic.specs.Held.{fields_of}
+use Rattle.reflect_message.specs.Held.{fields_of}
 use Rattle.reflect_format.specs.Refusals.{HoldsAmong}
 use Rattle.reflect_format.proofs.Among.{first_held, held_behind}
 use Rattle.reflect_format.proofs.target.Target.rival.Goals as goal

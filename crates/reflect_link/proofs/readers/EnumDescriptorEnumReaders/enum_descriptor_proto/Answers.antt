@@ -1,4 +1,4 @@
-use Rattle.reflect_index.specs.Types.{enum_at}
+use Rattle.reflect_tables.specs.Types.{enum_at}
 use Rattle.reflect_link.specs.Records.{enum_along}
 use Rattle.reflect_link.proofs.Along.{along}
 use Rattle.reflect_link.proofs.readers.EnumDescriptorEnumReaders.enum_descriptor_proto.Goals as goal

@@ -1,4 +1,4 @@
-use Rattle.reflect_index.specs.Types.{enum_at}
+use Rattle.reflect_tables.specs.Types.{enum_at}
 use Rattle.reflect_pool.specs.Parts.{type_of_value}
 use Rattle.reflect_link.specs.Records.{value_along}
 use Rattle.reflect_link.proofs.Along.{along}

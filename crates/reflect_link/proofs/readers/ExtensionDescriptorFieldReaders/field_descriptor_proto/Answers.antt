@@ -1,4 +1,4 @@
-use Rattle.reflect_index.specs.Types.{extension_at}
+use Rattle.reflect_tables.specs.Types.{extension_at}
 use Rattle.reflect_link.specs.Records.{extension_along}
 use Rattle.reflect_link.proofs.Along.{along}
 use Rattle.reflect_link.proofs.readers.ExtensionDescriptorFieldReaders.field_descriptor_proto.Goals as goal

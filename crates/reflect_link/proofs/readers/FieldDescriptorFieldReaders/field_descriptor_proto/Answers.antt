@@ -1,4 +1,4 @@
-use Rattle.reflect_index.specs.Types.{type_at, type_of_field}
+use Rattle.reflect_tables.specs.Types.{type_at, type_of_field}
 use Rattle.reflect_link.specs.Records.{field_along}
 use Rattle.reflect_link.proofs.Along.{along}
 use Rattle.reflect_link.proofs.readers.FieldDescriptorFieldReaders.field_descriptor_proto.Goals as goal

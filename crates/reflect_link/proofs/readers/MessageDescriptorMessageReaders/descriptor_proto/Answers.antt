@@ -1,4 +1,4 @@
-use Rattle.reflect_index.specs.Types.{type_at}
+use Rattle.reflect_tables.specs.Types.{type_at}
 use Rattle.reflect_link.specs.Records.{message_along}
 use Rattle.reflect_link.proofs.Along.{along}
 use Rattle.reflect_link.proofs.readers.MessageDescriptorMessageReaders.descriptor_proto.Goals as goal

@@ -1,4 +1,4 @@
-use Rattle.reflect_index.specs.Types.{type_at}
+use Rattle.reflect_tables.specs.Types.{type_at}
 use Rattle.reflect_pool.specs.Parts.{type_of_oneof}
 use Rattle.reflect_link.specs.Records.{oneof_along}
 use Rattle.reflect_link.proofs.Along.{along}

@@ -1,4 +1,4 @@
-use Rattle.reflect_index.specs.Types.{service_at}
+use Rattle.reflect_tables.specs.Types.{service_at}
 use Rattle.reflect_pool.specs.Parts.{type_of_method}
 use Rattle.reflect_link.specs.Records.{method_along}
 use Rattle.reflect_link.proofs.Along.{along}

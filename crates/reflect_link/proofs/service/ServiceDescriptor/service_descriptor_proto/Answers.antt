@@ -1,4 +1,4 @@
-use Rattle.reflect_index.specs.Types.{service_at}
+use Rattle.reflect_tables.specs.Types.{service_at}
 use Rattle.reflect_link.specs.Records.{service_along}
 use Rattle.reflect_link.proofs.Along.{along}
 use Rattle.reflect_link.proofs.service.ServiceDescriptor.service_descriptor_proto.Goals as goal

@@ -1,6 +1,6 @@
 use Rattle.std.proofs.Common.{◌≡◌, Some, map, subst, sym, rules}
 use Rattle.std.specs.Bool.{Decides}
-use Rattle.reflect_index.specs.Views.{value_of}
+use Rattle.reflect_tables.specs.Views.{value_of}
 use Rattle.reflect_passes.specs.Linked.{HasValue, enum_at}
 use Rattle.reflect_passes.proofs.Named.{first_decides}
 use Rattle.reflect_passes.proofs.linked_types.LinkedTypesTypes.has_value.Goals as goal

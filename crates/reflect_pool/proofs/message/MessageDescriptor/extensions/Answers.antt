@@ -1,7 +1,7 @@
 use Rattle.std.proofs.Common.{◌≡◌, ◌<◌, All, List, length, map, sym, subst}
 use Rattle.std.specs.List.{filter}
-use Rattle.reflect_index.specs.Types.{PoolType, extension_at}
-use Rattle.reflect_index.specs.Views.{pool_of}
+use Rattle.reflect_tables.specs.Types.{PoolType, extension_at}
+use Rattle.reflect_tables.specs.Views.{pool_of}
 use Rattle.reflect_pool.specs.ExtensionsLeft.{AreExtensions}
 use Rattle.reflect_pool.proofs.Ranged.{Entry, extensions_of, in_message, inside}
 use Rattle.reflect_pool.proofs.message.MessageDescriptor.extensions.Goals as goal

@@ -1,6 +1,6 @@
 use Rattle.std.proofs.Common.{◌≡◌, ◌∙◌, ◌<◌, All, map, length, List, ℕ, ap, sym, subst}
 use Rattle.std.specs.List.{AllByRecursion}
-use Rattle.reflect_index.specs.Types.{PoolType, OneofType, ListsMembers, type_at, type_of_field}
+use Rattle.reflect_tables.specs.Types.{PoolType, OneofType, ListsMembers, type_at, type_of_field}
 use Rattle.reflect_pool.specs.Parts.{type_of_oneof}
 use Rattle.reflect_pool.proofs.OneofMembers.{members_are}
 use Rattle.reflect_pool.proofs.Within.{members_within, oneof_there}

@@ -1,6 +1,6 @@
 use Rattle.std.proofs.Common.{◌<◌, All, List, ℕ, length, subst}
 use Rattle.std.proofs.lemmas.List.Elements.{All-tail}
-use Rattle.reflect_index.specs.Types.{type_at}
+use Rattle.reflect_tables.specs.Types.{type_at}
 use Rattle.reflect_pool.proofs.oneof.OneofFieldsIterator.next.Goals as goal
 
 pub invariant_of-self : goal.invariant_of-self

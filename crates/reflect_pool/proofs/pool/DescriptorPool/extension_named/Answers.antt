@@ -1,9 +1,9 @@
 -- The full name stands for the type that has it.
 use Rattle.std.proofs.Common.{◌≡◌, None, Some, sym, subst, ◌∙◌, refl, rules}
 use Rattle.reflect_pool.specs.Finds.{IsOnly}
-use Rattle.reflect_index.specs.Names.{extensions, extension_name}
-use Rattle.reflect_index.specs.Views.{pool_of}
-use Rattle.reflect_names.specs.Known.{known_of}
+use Rattle.reflect_tables.specs.Names.{extensions, extension_name}
+use Rattle.reflect_tables.specs.Views.{pool_of}
+use Rattle.reflect_scope.specs.Known.{known_of}
 use Rattle.reflect_scope.specs.declared.definition.DefinitionKind.TheVariants as kind
 use Rattle.reflect_pool.proofs.Lookups.{stands_only, stands_not, not_extensions}
 use Rattle.reflect_pool.proofs.pool.DescriptorPool.extension_named.Goals as goal

@@ -1,8 +1,8 @@
 -- The message and the number stand for the extension that has them.
 use Rattle.std.proofs.Common.{◌≡◌, subst, rules}
-use Rattle.reflect_index.specs.Finding.{IsFirst}
-use Rattle.reflect_index.specs.Views.{pool_of}
-use Rattle.reflect_passes.specs.Extensions.{numbers_of}
+use Rattle.reflect_tables.specs.Finding.{IsFirst}
+use Rattle.reflect_tables.specs.Views.{pool_of}
+use Rattle.reflect_tables.specs.ExtensionNumbers.{numbers_of}
 use Rattle.reflect_pool.proofs.Numbered.{first_numbered}
 use Rattle.reflect_pool.proofs.pool.DescriptorPool.extension_place.Goals as goal
 

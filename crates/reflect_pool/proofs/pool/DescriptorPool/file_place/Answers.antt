@@ -1,8 +1,8 @@
 -- The name stands for the file that has it.
 use Rattle.std.proofs.Common.{◌≡◌, subst, rules}
-use Rattle.reflect_index.specs.Finding.{IsFirst}
-use Rattle.reflect_index.specs.Views.{pool_of}
-use Rattle.reflect_names.specs.FileNames.{indexes_of}
+use Rattle.reflect_tables.specs.Finding.{IsFirst}
+use Rattle.reflect_tables.specs.Views.{pool_of}
+use Rattle.reflect_scope.specs.FileIndexes.{indexes_of}
 use Rattle.reflect_pool.proofs.Indexed.{first_file}
 use Rattle.reflect_pool.proofs.pool.DescriptorPool.file_place.Goals as goal
 

@@ -1,9 +1,9 @@
 -- The full name stands for the type that has it.
 use Rattle.std.proofs.Common.{◌≡◌, None, Some, sym, subst, ◌∙◌, refl, rules}
-use Rattle.reflect_index.specs.Finding.{IsFirst}
-use Rattle.reflect_index.specs.Names.{enums, enum_name}
-use Rattle.reflect_index.specs.Views.{pool_of}
-use Rattle.reflect_names.specs.Known.{known_of}
+use Rattle.reflect_tables.specs.Finding.{IsFirst}
+use Rattle.reflect_tables.specs.Names.{enums, enum_name}
+use Rattle.reflect_tables.specs.Views.{pool_of}
+use Rattle.reflect_scope.specs.Known.{known_of}
 use Rattle.reflect_pool.specs.Dots.{without_dot}
 use Rattle.reflect_pool.specs.FindsNames.{FindsEnum}
 use Rattle.reflect_scope.specs.declared.definition.DefinitionKind.TheVariants as kind

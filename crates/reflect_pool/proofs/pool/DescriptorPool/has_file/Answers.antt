@@ -1,8 +1,8 @@
 use Rattle.std.proofs.Common.{◌≡◌, is_some, map, subst, rules}
 use Rattle.std.specs.Bool.{Decides}
 use Rattle.std.specs.List.{Contains}
-use Rattle.reflect_index.specs.Views.{pool_of}
-use Rattle.reflect_names.specs.FileNames.{indexes_of}
+use Rattle.reflect_tables.specs.Views.{pool_of}
+use Rattle.reflect_scope.specs.FileIndexes.{indexes_of}
 use Rattle.reflect_pool.proofs.Indexed.{has_name}
 use Rattle.reflect_pool.proofs.pool.DescriptorPool.has_file.Goals as goal
 

@@ -1,6 +1,6 @@
 use Rattle.std.proofs.Common.{◌∙◌, map, ap}
-use Rattle.reflect_names.specs.ImportedFiles.{link_view}
-use Rattle.reflect_index.specs.Views.{pool_of}
+use Rattle.reflect_scope.specs.FileIndexes.{link_view}
+use Rattle.reflect_tables.specs.Views.{pool_of}
 use Rattle.reflect_pool.proofs.ImportsAt.{links_are}
 use Rattle.reflect_pool.proofs.pool.DescriptorPool.links.Goals as goal
 

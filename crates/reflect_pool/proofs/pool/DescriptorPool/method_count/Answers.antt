@@ -1,6 +1,6 @@
 use Rattle.std.proofs.Common.{◌≡◌, length, map, arith}
 use Rattle.std.proofs.Math.ListN.{length-map}
-use Rattle.reflect_index.specs.Views.{method_of}
+use Rattle.reflect_tables.specs.Views.{method_of}
 use Rattle.reflect_pool.proofs.Within.{service_within}
 use Rattle.reflect_pool.proofs.pool.DescriptorPool.method_count.Goals as goal
 

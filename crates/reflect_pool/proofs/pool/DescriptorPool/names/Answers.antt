@@ -1,6 +1,6 @@
 use Rattle.std.proofs.Common.{subst}
-use Rattle.reflect_index.specs.Names.{AreNamed, names_of}
-use Rattle.reflect_names.specs.Known.{known_of}
+use Rattle.reflect_tables.specs.Names.{AreNamed, names_of}
+use Rattle.reflect_scope.specs.Known.{known_of}
 use Rattle.reflect_pool.proofs.pool.DescriptorPool.names.Goals as goal
 
 pub returns : goal.returns

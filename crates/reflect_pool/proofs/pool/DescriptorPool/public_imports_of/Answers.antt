@@ -1,5 +1,5 @@
 use Rattle.std.proofs.Common.{◌<◌, ◌∙◌, ℕ, List, All, length, map, ap, sym, subst}
-use Rattle.reflect_index.specs.Views.{pool_of}
+use Rattle.reflect_tables.specs.Views.{pool_of}
 use Rattle.reflect_pool.specs.Imports.{name_at}
 use Rattle.reflect_pool.proofs.ImportsAt.{public_inside, links_at, public_names_at}
 use Rattle.reflect_pool.proofs.pool.DescriptorPool.public_imports_of.Goals as goal

@@ -2,7 +2,7 @@ use Rattle.std.proofs.Common.{◌≡◌, ℤ, Option, ◌++◌, subst, refl, to_
 use Rattle.reflect_names.specs.Faults.{Adds, place_at}
 use Rattle.reflect_scope.specs.declared.definition.DefinitionKind.{DefinitionKind}
 use Rattle.reflect_rules.specs.Numbers.{number_faults, reserved_faults, kept_faults, oneof_faults}
-use Rattle.reflect_rules.specs.Ranges.{IsRangeOf}
+use Rattle.reflect_tables.specs.Ranges.{IsRangeOf}
 use Rattle.reflect_rules.specs.Rules.{message_of, older_faults, default_faults, number_of, FieldFindings, FieldFaults}
 use Rattle.reflect_rules.specs.RuleSteps.{facts_of}
 use Rattle.reflect_rules.proofs.Then.{adds_then}

@@ -1,7 +1,7 @@
 use Rattle.std.proofs.Common.{◌≡◌, IfErr, IfSome, subst, rules, of_calls}
 use Rattle.std.proofs.lemmas.Result.{err_from_is_err_and}
-use Rattle.reflect_index.specs.Types.{IsSettled}
-use Rattle.reflect_text.specs.Places.{option_place, StandsFrom}
+use Rattle.reflect_tables.specs.Types.{IsSettled}
+use Rattle.reflect_options.specs.Places.{option_place, StandsFrom}
 use Rattle.reflect_schema.specs.Refusals.{FilesFit}
 use Rattle.reflect_schema.proofs.Refused.{of_link, of_options}
 use Rattle.reflect_schema.proofs.schema.Schema.add_batch.Goals as goal

@@ -1,0 +1,115 @@
+-- The laws of records as laws of bytes.
+use Rattle.std.proofs.Common.{◌≡◌, ◌↔◌, ℕ, zero, suc, ◌<◌, ◌^◌, List, [], ◌∷◌, ◌++◌, length, refl, sym, ap, ◌∙◌, subst, append_assoc}
+use Rattle.std.specs.List.{AllByRecursion}
+use Rattle.reflect_wire.specs.declared.wire_key.WireKey.{WireKey}
+use Rattle.reflect_wire.specs.Key.{IsKey}
+use Rattle.reflect_wire.specs.Records.{Payload, Records, no_records, more_records, SpellsPayload, SpellsRecords}
+use Rattle.reflect_wire.specs.Views.{records_of}
+use Rattle.reflect_wire.proofs.Spelling.{one_list, records_spelled}
+use Rattle.reflect_wire.proofs.Unique.{one_key, one_payload}
+use Rattle.protobuf_model.specs.Values.{Message, nothing}
+use Rattle.protobuf_model.specs.Types.{Name, Types}
+use Rattle.protobuf_model.specs.Reader.{inside_of, list_of}
+use Rattle.protobuf_model.specs.Meaning.{meaning}
+use Rattle.protobuf_model.specs.Accepts.{IsFramed, AcceptsRecord, Accepts}
+use Rattle.protobuf_model.specs.Typed.{HaveDefaults}
+use Rattle.protobuf_model.specs.Bytes.{written, bytes_of}
+use Rattle.protobuf_model.specs.Coded.{AreRead, IsAccepted, AreMerged, Mean, SuitsType}
+use Rattle.protobuf_model.proofs.Pieces.{meaning_in_pieces}
+use Rattle.protobuf_model.proofs.Arranged.{all_append}
+use Rattle.protobuf_model.proofs.Reading.{listed_back, records_back}
+use Rattle.protobuf_model.proofs.RoundTrip.{accepted_fits, round_trip}
+use Rattle.protobuf_model.proofs.Merging.{merged_typed}
+
+abbrev join : Records → Records → Records
+join no_records ts = ts
+join (more_records n p rs) ts = more_records n p (join rs ts)
+
+join_lists : (rs ts : List (ℕ × Payload)) → records_of (rs ++ ts) ≡ join (records_of rs) (records_of ts)
+join_lists [] ts = refl
+join_lists (r ∷ rs) ts = ap (more_records r.0 r.1) (join_lists rs ts)
+
+regrouped : (key value rest more : List ℕ) → (key ++ (value ++ rest)) ++ more ≡ key ++ (value ++ (rest ++ more))
+regrouped key value rest more = simp append_assoc
+
+spells_join : (levels : ℕ) (a b : List ℕ) (rs ts : Records) → SpellsRecords levels a rs → SpellsRecords levels b ts → SpellsRecords levels (a ++ b) (join rs ts)
+spells_join levels a b no_records ts h k = subst (λ a. SpellsRecords levels (a ++ b) ts) (sym h) k
+spells_join levels a b (more_records n p rs) ts h k = (h.0, h.1, h.2 ++ b, h.3, h.4, spells_join levels h.2 b rs ts h.5 k, ap (λ a. a ++ b) h.6 ∙ regrouped h.0 h.1 h.2 b)
+
+key_there : (key more : List ℕ) (k : WireKey) → IsKey key k → key ++ more ≡ [] → ⊥
+key_there [] more k h e = h.spelled.spelled
+key_there (b ∷ bs) more k h e = cc
+
+-- behind the records that were read stand the others
+spells_rest : (levels : ℕ) (a b whole : List ℕ) (rs ts : Records) → SpellsRecords levels a rs → SpellsRecords levels whole ts → a ++ b ≡ whole → (us : Records) × SpellsRecords levels b us × (ts ≡ join rs us)
+spells_rest levels a b whole no_records ts h k w = (ts, subst (λ x. SpellsRecords levels x ts) (sym w ∙ ap (λ a. a ++ b) h) k, refl)
+spells_rest levels a b whole (more_records m p rs) no_records h k w =
+    let none : h.0 ++ (h.1 ++ (h.2 ++ b)) ≡ [] = cc (w, k, h.6, regrouped h.0 h.1 h.2 b) in
+    absurd (key_there h.0 (h.1 ++ (h.2 ++ b)) _ h.3 none)
+spells_rest levels a b whole (more_records m p rs) (more_records o q ts) h k w =
+    let all : h.0 ++ (h.1 ++ (h.2 ++ b)) ≡ k.0 ++ (k.1 ++ k.2) = cc (w, h.6, regrouped h.0 h.1 h.2 b, k.6) in
+    let one = one_key h.0 k.0 _ _ _ _ h.3 k.3 all in
+    let number : m ≡ o = ap (λ (c : WireKey). c.number) one.1 in
+    let value = one_payload levels m h.1 k.1 _ _ p q (ap (λ (c : WireKey). c.wire) one.1) h.4 (subst (λ v. SpellsPayload levels v k.1 q) (sym number) k.4) one.2 in
+    let more = spells_rest levels h.2 b k.2 rs ts h.5 k.5 value.2 in
+    (more.0, more.1, cc (number, value.1, more.2))
+
+listed_join : (rs us : Records) → list_of (join rs us) ≡ list_of rs ++ list_of us
+listed_join no_records us = refl
+listed_join (more_records n p rs) us = ap (λ ts. (n, p) ∷ ts) (listed_join rs us)
+
+second_all : {X : Type 0} (P : X → Type 0) (a b : List X) → AllByRecursion P (a ++ b) → AllByRecursion P b
+second_all P [] b h = h
+second_all P (x ∷ a) b h = second_all P a b h.1
+
+accepts_join : (levels : ℕ) (types : Types) (i : Name) (a b : List (ℕ × Payload)) → Accepts levels types i a → Accepts levels types i b → Accepts levels types i (a ++ b)
+accepts_join zero types i a b h k = all_append (AcceptsRecord (λ frame j p. ⊥) zero (types i)) a b h k
+accepts_join (suc levels) types i a b h k = all_append (AcceptsRecord (λ frame j p. IsFramed levels frame p × Accepts levels types j (inside_of p)) (suc levels) (types i)) a b h k
+
+accepts_second : (levels : ℕ) (types : Types) (i : Name) (a b : List (ℕ × Payload)) → Accepts levels types i (a ++ b) → Accepts levels types i b
+accepts_second zero types i a b h = second_all (AcceptsRecord (λ frame j p. ⊥) zero (types i)) a b h
+accepts_second (suc levels) types i a b h = second_all (AcceptsRecord (λ frame j p. IsFramed levels frame p × Accepts levels types j (inside_of p)) (suc levels) (types i)) a b h
+
+read_both : (types : Types) (i : Name) (a b : List ℕ) (rs ts : List (ℕ × Payload)) → AreRead types i a rs → AreRead types i b ts → AreRead types i (a ++ b) (rs ++ ts)
+read_both types i a b rs ts h k = record {
+  spelled = subst (SpellsRecords 100 (a ++ b)) (sym (join_lists rs ts)) (spells_join 100 a b (records_of rs) (records_of ts) h.spelled k.spelled);
+  accepted = accepts_join 100 types i rs ts h.accepted k.accepted;
+}
+
+read_second : (types : Types) (i : Name) (a b : List ℕ) (rs ts : List (ℕ × Payload)) → AreRead types i a rs → AreRead types i (a ++ b) ts → IsAccepted types i b
+read_second types i a b rs ts h k =
+    let rest = spells_rest 100 a b (a ++ b) (records_of rs) (records_of ts) h.spelled k.spelled refl in
+    let split : ts ≡ rs ++ list_of rest.0 = sym (listed_back ts) ∙ ap list_of rest.2 ∙ listed_join (records_of rs) rest.0 ∙ ap (λ xs. xs ++ list_of rest.0) (listed_back rs) in (
+      list_of rest.0,
+      record {
+        spelled = subst (SpellsRecords 100 b) (sym (records_back rest.0)) rest.1;
+        accepted = accepts_second 100 types i rs (list_of rest.0) (subst (Accepts 100 types i) split k.accepted);
+      },
+    )
+
+pub accepted_in_pieces : (types : Types) (i : Name) (a b : List ℕ) → IsAccepted types i a → IsAccepted types i (a ++ b) ↔ IsAccepted types i b
+accepted_in_pieces types i a b h = ((λ k. read_second types i a b h.0 k.0 h.1 k.1), (λ k. (h.0 ++ k.0, read_both types i a b h.0 k.0 h.1 k.1)))
+
+pub merged_in_pieces : (types : Types) (i : Name) (a b : List ℕ) (start m n : Message) → AreMerged types i start a m → AreMerged types i m b n → AreMerged types i start (a ++ b) n
+merged_in_pieces types i a b start m n h k =
+    (h.0 ++ k.0, read_both types i a b h.0 k.0 h.1 k.1, sym ((meaning_in_pieces 100 types).pieces i start h.0 k.0) ∙ ap (λ s. meaning 100 types i s k.0) h.2 ∙ k.2)
+
+pub one_reading : (types : Types) (i : Name) (bytes : List ℕ) (rs ts : List (ℕ × Payload)) → AreRead types i bytes rs → AreRead types i bytes ts → rs ≡ ts
+one_reading types i bytes rs ts h k = sym (listed_back rs) ∙ ap list_of (one_list 100 bytes (records_of rs) (records_of ts) h.spelled k.spelled) ∙ listed_back ts
+
+pub one_meaning : (types : Types) (i : Name) (start : Message) (bytes : List ℕ) (m n : Message) → AreMerged types i start bytes m → AreMerged types i start bytes n → m ≡ n
+one_meaning types i start bytes m n h k = sym h.2 ∙ ap (meaning 100 types i start) (one_reading types i bytes h.0 k.0 h.1 k.1) ∙ k.2
+
+pub bytes_mean : (types : Types) (i : Name) (m : Message) → SuitsType types i m → length (bytes_of types i m) < 2 ^ 64 → Mean types i (bytes_of types i m) m
+bytes_mean types i m t z =
+    let r = round_trip 100 types i m t z in
+    (written types i m, record { spelled = records_spelled 100 (records_of (written types i m)) (accepted_fits 100 types i (written types i m) r.accepted); accepted = r.accepted }, r.means)
+
+pub one_form : (types : Types) (i : Name) (m n : Message) → SuitsType types i m → SuitsType types i n → length (bytes_of types i m) < 2 ^ 64 → length (bytes_of types i n) < 2 ^ 64 → (bytes_of types i m ≡ bytes_of types i n) ↔ (m ≡ n)
+one_form types i m n s t y z = (
+  (λ e. one_meaning types i nothing (bytes_of types i m) m n (bytes_mean types i m s y) (subst (λ b. Mean types i b n) (sym e) (bytes_mean types i n t z))),
+  (λ e. ap (bytes_of types i) e),
+)
+
+pub merged_well : (types : Types) → HaveDefaults types → (i : Name) (start m : Message) (bytes : List ℕ) → SuitsType types i start → AreMerged types i start bytes m → SuitsType types i m
+merged_well types d i start m bytes t h = subst (SuitsType types i) h.2 (merged_typed 100 types d i start h.0 t h.1.accepted)

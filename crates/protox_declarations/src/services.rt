@@ -1,0 +1,127 @@
+//! Services.
+
+ghost use Rattle.std.specs.Prelude.{◌<◌, ◌≤◌, OnOk};
+ghost use Rattle.protox_tokens.specs.Left.{left};
+
+use protox_lex::{Sign, Span, token};
+use protox_options::{option, type_name};
+use protox_tokens::{Stop, Tokens, across};
+use protox_tree::{
+    ExpectedToken, Method, MethodBody, MethodItem, MethodType, Service, ServiceItem,
+};
+use std::alloc::Global;
+
+/// What a method takes or gives: the word `stream` comes first where it is the keyword.
+fn method_type<'a>(alloc: Global, tokens: &mut Tokens<'a>) -> Result<MethodType, Stop<'a>>
+    ensures { OnOk result (left tokens.new < left tokens.old) }
+{
+    tokens.expect_sign(Sign::LeftParen)?;
+    let stream = tokens.eat(token::STREAM);
+    let name = type_name(alloc, tokens)?;
+    tokens.expect_sign(Sign::RightParen)?;
+    Ok(MethodType { stream, name })
+}
+
+fn method_item<'a>(alloc: Global, tokens: &mut Tokens<'a>) -> Result<MethodItem, Stop<'a>>
+    ensures { OnOk result (left tokens.new < left tokens.old) }
+{
+    if let Some(span) = tokens.eat_sign(Sign::Semicolon) {
+        return Ok(MethodItem::Empty(span));
+    }
+    let option = option(alloc, tokens)?;
+    Ok(MethodItem::Option(option))
+}
+
+fn method_items<'a>(alloc: Global, tokens: &mut Tokens<'a>) -> Result<Vec<MethodItem>, Stop<'a>>
+    ensures { OnOk result (left tokens.new ≤ left tokens.old) }
+{
+    let mut items = Vec::new(alloc);
+    'items: while !tokens.sees_sign(Sign::RightBrace) {
+        let item = method_item(alloc, tokens)?;
+        items.push(item)?;
+    }
+    Ok(items)
+}
+
+/// What stands in the braces of a method, or the semicolon in their place, and where that ends.
+fn method_body<'a>(
+    alloc: Global,
+    tokens: &mut Tokens<'a>,
+) -> Result<(Option<MethodBody>, usize), Stop<'a>>
+    ensures { OnOk result (left tokens.new < left tokens.old) }
+{
+    let Some(open) = tokens.eat_sign(Sign::LeftBrace) else {
+        let last = tokens.expect_sign(Sign::Semicolon)?;
+        return Ok((None, last.end));
+    };
+    let items = method_items(alloc, tokens)?;
+    let close = tokens.expect_sign(Sign::RightBrace)?;
+    let braces = across(open, close);
+    Ok((Some(MethodBody { braces, items }), close.end))
+}
+
+fn method<'a>(alloc: Global, tokens: &mut Tokens<'a>) -> Result<Method, Stop<'a>>
+    ensures { OnOk result (left tokens.new < left tokens.old) }
+{
+    let first = tokens.expect(token::RPC)?;
+    let name = tokens.ident(alloc)?;
+    let input = method_type(alloc, tokens)?;
+    tokens.expect(token::RETURNS)?;
+    let output = method_type(alloc, tokens)?;
+    let (body, end) = method_body(alloc, tokens)?;
+    Ok(Method {
+        name,
+        input,
+        output,
+        body,
+        span: Span {
+            start: first.start,
+            end,
+        },
+    })
+}
+
+fn item<'a>(alloc: Global, tokens: &mut Tokens<'a>) -> Result<ServiceItem, Stop<'a>>
+    ensures { OnOk result (left tokens.new < left tokens.old) }
+{
+    if let Some(span) = tokens.eat_sign(Sign::Semicolon) {
+        return Ok(ServiceItem::Empty(span));
+    }
+    if tokens.sees(token::OPTION) {
+        let option = option(alloc, tokens)?;
+        return Ok(ServiceItem::Option(option));
+    }
+    if tokens.sees(token::RPC) {
+        let method = method(alloc, tokens)?;
+        return Ok(ServiceItem::Method(method));
+    }
+    Err(tokens.refuse(ExpectedToken::ServiceItem))
+}
+
+fn items<'a>(alloc: Global, tokens: &mut Tokens<'a>) -> Result<Vec<ServiceItem>, Stop<'a>>
+    ensures { OnOk result (left tokens.new ≤ left tokens.old) }
+{
+    let mut items = Vec::new(alloc);
+    'items: while !tokens.sees_sign(Sign::RightBrace) {
+        let item = item(alloc, tokens)?;
+        items.push(item)?;
+    }
+    Ok(items)
+}
+
+/// A service from its keyword on.
+pub fn service<'a>(alloc: Global, tokens: &mut Tokens<'a>) -> Result<Service, Stop<'a>>
+    ensures { OnOk result (left tokens.new < left tokens.old) }
+{
+    let first = tokens.expect(token::SERVICE)?;
+    let name = tokens.ident(alloc)?;
+    let open = tokens.expect_sign(Sign::LeftBrace)?;
+    let items = items(alloc, tokens)?;
+    let close = tokens.expect_sign(Sign::RightBrace)?;
+    Ok(Service {
+        name,
+        braces: across(open, close),
+        items,
+        span: across(first, close),
+    })
+}

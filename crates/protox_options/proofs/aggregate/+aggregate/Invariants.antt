@@ -1,0 +1,33 @@
+use Rattle.std.proofs.Common.{◌≤◌, ◌*◌, ◌+◌}
+use Rattle.protox_tokens.specs.Left.{left}
+use Rattle.protox_options.proofs.aggregate.+aggregate.Given as goal
+
+abbrev pub decreases-braces : goal.decreases-braces
+decreases-braces l = 6 * left l.tokens.now
+
+abbrev pub decreases-value : goal.decreases-value
+decreases-value l = 6 * left l.tokens.now + 1
+
+abbrev pub decreases-list : goal.decreases-list
+decreases-list l = 6 * left l.tokens.now + 2
+
+abbrev pub decreases-field_value : goal.decreases-field_value
+decreases-field_value l = 6 * left l.tokens.now + 3
+
+abbrev pub decreases-field : goal.decreases-field
+decreases-field l = 6 * left l.tokens.now + 4
+
+abbrev pub decreases-fields : goal.decreases-fields
+decreases-fields l = 6 * left l.tokens.now + 5
+
+abbrev pub invariant-list-elements : goal.invariant-list-elements
+invariant-list-elements l = left l.tokens ≤ left l.initial.tokens
+
+abbrev pub decreases-list-elements : goal.decreases-list-elements
+decreases-list-elements l = left l.tokens
+
+abbrev pub invariant-fields-fields : goal.invariant-fields-fields
+invariant-fields-fields l = left l.tokens ≤ left l.initial.tokens
+
+abbrev pub decreases-fields-fields : goal.decreases-fields-fields
+decreases-fields-fields l = left l.tokens

@@ -1,0 +1,278 @@
+//! The braces of an option's value, where text format stands.
+
+ghost use Rattle.std.specs.Prelude.{◌≡◌, ◌<◌, ◌≤◌, OnOk, IfOk, true, false};
+ghost use Rattle.protox_tokens.specs.Left.{left};
+
+use protox_lex::{Lexeme, Sign, Token};
+use protox_tokens::{Fault, Stop, Tokens, across};
+use protox_tree::{Aggregate, ExpectedToken};
+use std::alloc::{AllocError, Global};
+
+/// The braces that may be open at once inside the outer pair.
+const MAX_BRACES: u8 = 100;
+
+/// Adds a token to the text of those before it.
+fn add(text: &mut String, token: Token<'_>) -> Result<(), AllocError> {
+    if !text.is_empty() {
+        text.push_str(" ")?;
+    }
+    write!(text, "{token}")
+}
+
+/// Takes the next token, if it is this sign.
+fn eat<'a>(tokens: &mut Tokens<'a>, text: &mut String, sign: Sign) -> Result<bool, Stop<'a>>
+    ensures taken { IfOk result (λ b. b ≡ true → left tokens.new < left tokens.old) }
+    ensures not { IfOk result (λ b. b ≡ false → left tokens.new ≡ left tokens.old) }
+{
+    if !tokens.passes_in_text(sign) {
+        return Ok(false);
+    }
+    add(text, Token::Sign(sign))?;
+    Ok(true)
+}
+
+fn expect<'a>(tokens: &mut Tokens<'a>, text: &mut String, sign: Sign) -> Result<(), Stop<'a>>
+    ensures { OnOk result (left tokens.new < left tokens.old) }
+{
+    tokens.expect_in_text(sign)?;
+    add(text, Token::Sign(sign))?;
+    Ok(())
+}
+
+fn ident<'a>(
+    tokens: &mut Tokens<'a>,
+    text: &mut String,
+    expected: ExpectedToken,
+) -> Result<(), Stop<'a>>
+    ensures { OnOk result (left tokens.new < left tokens.old) }
+{
+    if let Some(
+        Lexeme {
+            token: token @ Token::Ident(_),
+            ..
+        },
+    ) = tokens.peek_in_text()
+    {
+        tokens.advance();
+        add(text, token)?;
+        Ok(())
+    } else {
+        Err(tokens.refuse_in_text(expected))
+    }
+}
+
+fn full_ident<'a>(tokens: &mut Tokens<'a>, text: &mut String) -> Result<(), Stop<'a>>
+    ensures { OnOk result (left tokens.new < left tokens.old) }
+{
+    ident(tokens, text, ExpectedToken::Ident)?;
+    'parts: while eat(tokens, text, Sign::Dot)? {
+        ident(tokens, text, ExpectedToken::Ident)?;
+    }
+    Ok(())
+}
+
+/// The name behind a slash, if there is one.
+fn behind_slash<'a>(tokens: &mut Tokens<'a>, text: &mut String) -> Result<(), Stop<'a>>
+    ensures { OnOk result (left tokens.new ≤ left tokens.old) }
+{
+    if eat(tokens, text, Sign::ForwardSlash)? {
+        full_ident(tokens, text)?;
+    }
+    Ok(())
+}
+
+/// A field's name, or the name of an extension or of an `Any`'s type in brackets.
+fn name<'a>(tokens: &mut Tokens<'a>, text: &mut String) -> Result<(), Stop<'a>>
+    ensures { OnOk result (left tokens.new < left tokens.old) }
+{
+    if !eat(tokens, text, Sign::LeftBracket)? {
+        return ident(tokens, text, ExpectedToken::FieldName);
+    }
+    full_ident(tokens, text)?;
+    behind_slash(tokens, text)?;
+    expect(tokens, text, Sign::RightBracket)
+}
+
+fn is_string(tokens: &Tokens<'_>) -> bool {
+    match tokens.peek_in_text() {
+        Some(lexeme) => matches!(lexeme.token, Token::String(_)),
+        None => false,
+    }
+}
+
+/// One string literal.
+fn literal<'a>(tokens: &mut Tokens<'a>, text: &mut String) -> Result<(), Stop<'a>>
+    ensures { OnOk result (left tokens.new < left tokens.old) }
+{
+    if let Some(
+        Lexeme {
+            token: token @ Token::String(_),
+            ..
+        },
+    ) = tokens.peek_in_text()
+    {
+        tokens.advance();
+        add(text, token)?;
+        Ok(())
+    } else {
+        Err(tokens.refuse_in_text(ExpectedToken::String))
+    }
+}
+
+/// String literals, one or more.
+fn strings<'a>(tokens: &mut Tokens<'a>, text: &mut String) -> Result<(), Stop<'a>>
+    ensures { OnOk result (left tokens.new < left tokens.old) }
+{
+    literal(tokens, text)?;
+    'literals: while is_string(tokens) {
+        literal(tokens, text)?;
+    }
+    Ok(())
+}
+
+/// A number or an identifier.
+fn plain<'a>(tokens: &mut Tokens<'a>, text: &mut String) -> Result<(), Stop<'a>>
+    ensures { OnOk result (left tokens.new < left tokens.old) }
+{
+    if let Some(
+        Lexeme {
+            token: token @ (Token::Ident(_) | Token::Int(_) | Token::Float(_)),
+            ..
+        },
+    ) = tokens.peek_in_text()
+    {
+        tokens.advance();
+        add(text, token)?;
+        Ok(())
+    } else {
+        Err(tokens.refuse_in_text(ExpectedToken::FieldValue))
+    }
+}
+
+fn scalar<'a>(tokens: &mut Tokens<'a>, text: &mut String) -> Result<(), Stop<'a>>
+    ensures { OnOk result (left tokens.new < left tokens.old) }
+{
+    if is_string(tokens) {
+        return strings(tokens, text);
+    }
+    eat(tokens, text, Sign::Minus)?;
+    plain(tokens, text)
+}
+
+/// The brace that would close one that opens here.
+fn closing(tokens: &Tokens<'_>) -> Option<(Sign, Sign)> {
+    if tokens.sees_in_text(Sign::LeftBrace) {
+        Some((Sign::LeftBrace, Sign::RightBrace))
+    } else if tokens.sees_in_text(Sign::LeftAngleBracket) {
+        Some((Sign::LeftAngleBracket, Sign::RightAngleBracket))
+    } else {
+        None
+    }
+}
+
+#[cycle(aggregate)]
+fn value<'a>(tokens: &mut Tokens<'a>, text: &mut String, levels: u8) -> Result<(), Stop<'a>>
+    ensures { OnOk result (left tokens.new < left tokens.old) }
+{
+    if closing(tokens).is_some() {
+        braces(tokens, text, levels)
+    } else {
+        scalar(tokens, text)
+    }
+}
+
+/// The elements of a list, behind its opening bracket, and the closing one.
+#[cycle(aggregate)]
+fn list<'a>(tokens: &mut Tokens<'a>, text: &mut String, levels: u8) -> Result<(), Stop<'a>>
+    ensures { OnOk result (left tokens.new < left tokens.old) }
+{
+    if eat(tokens, text, Sign::RightBracket)? {
+        return Ok(());
+    }
+    value(tokens, text, levels)?;
+    'elements: while eat(tokens, text, Sign::Comma)? {
+        value(tokens, text, levels)?;
+    }
+    expect(tokens, text, Sign::RightBracket)
+}
+
+/// Fields in braces of either kind.
+#[cycle(aggregate)]
+fn braces<'a>(tokens: &mut Tokens<'a>, text: &mut String, levels: u8) -> Result<(), Stop<'a>>
+    ensures { OnOk result (left tokens.new < left tokens.old) }
+{
+    let Some((open, close)) = closing(tokens) else {
+        return Err(tokens.refuse_in_text(ExpectedToken::MessageValue));
+    };
+    let span = tokens.expect_in_text(open)?;
+    if levels == 0 {
+        return Err(Stop::Refused(Fault::TooDeep { span }));
+    }
+    add(text, Token::Sign(open))?;
+    fields(tokens, text, close, levels - 1)?;
+    expect(tokens, text, close)
+}
+
+/// Fields up to a closing brace.
+#[cycle(aggregate)]
+fn fields<'a>(
+    tokens: &mut Tokens<'a>,
+    text: &mut String,
+    close: Sign,
+    levels: u8,
+) -> Result<(), Stop<'a>>
+    ensures { OnOk result (left tokens.new ≤ left tokens.old) }
+{
+    'fields: while !tokens.sees_in_text(close) {
+        field(tokens, text, levels)?;
+    }
+    Ok(())
+}
+
+/// The value of a field behind its name: only braces may stand there without a colon.
+#[cycle(aggregate)]
+fn field_value<'a>(tokens: &mut Tokens<'a>, text: &mut String, levels: u8) -> Result<(), Stop<'a>>
+    ensures { OnOk result (left tokens.new < left tokens.old) }
+{
+    if !eat(tokens, text, Sign::Colon)? {
+        return braces(tokens, text, levels);
+    }
+    if eat(tokens, text, Sign::LeftBracket)? {
+        return list(tokens, text, levels);
+    }
+    value(tokens, text, levels)
+}
+
+/// The comma or the semicolon that may follow a field.
+fn separator<'a>(tokens: &mut Tokens<'a>, text: &mut String) -> Result<(), Stop<'a>>
+    ensures { OnOk result (left tokens.new ≤ left tokens.old) }
+{
+    if eat(tokens, text, Sign::Comma)? {
+        return Ok(());
+    }
+    eat(tokens, text, Sign::Semicolon)?;
+    Ok(())
+}
+
+#[cycle(aggregate)]
+fn field<'a>(tokens: &mut Tokens<'a>, text: &mut String, levels: u8) -> Result<(), Stop<'a>>
+    ensures { OnOk result (left tokens.new < left tokens.old) }
+{
+    name(tokens, text)?;
+    field_value(tokens, text, levels)?;
+    separator(tokens, text)
+}
+
+/// A value in braces: the text of its tokens.
+pub fn aggregate<'a>(alloc: Global, tokens: &mut Tokens<'a>) -> Result<Aggregate, Stop<'a>>
+    ensures { OnOk result (left tokens.new < left tokens.old) }
+{
+    let open = tokens.expect_sign(Sign::LeftBrace)?;
+    let mut text = String::new(alloc);
+    fields(tokens, &mut text, Sign::RightBrace, MAX_BRACES)?;
+    let close = tokens.expect_in_text(Sign::RightBrace)?;
+    Ok(Aggregate {
+        text,
+        span: across(open, close),
+    })
+}

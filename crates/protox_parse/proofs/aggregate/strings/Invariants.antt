@@ -1,9 +1,0 @@
-use Rattle.std.proofs.Common.{◌≤◌}
-use Rattle.protox_parse.specs.Left.{left}
-use Rattle.protox_parse.proofs.aggregate.strings.Given as goal
-
-abbrev pub invariant-literals : goal.invariant-literals
-invariant-literals l = left l.tokens ≤ left l.initial.tokens
-
-abbrev pub decreases-literals : goal.decreases-literals
-decreases-literals l = left l.tokens

@@ -1,0 +1,6 @@
+pub mod Both
+mod Left
+pub mod Lists
+pub mod Local
+pub mod Loops
+pub mod Steps

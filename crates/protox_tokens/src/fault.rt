@@ -1,0 +1,75 @@
+//! Why the tokens of a source are not read on.
+
+ghost use Rattle.std.specs.Prelude.{◌≡◌};
+
+use protox_lex::{LexError, Span, Token};
+use protox_tree::{ExpectedToken, ParseErrorKind};
+use std::alloc::{AllocError, AllocFailed, Global};
+
+/// The first fault of a source that cannot be read as a tree.
+#[derive(Clone, Copy)]
+pub enum Fault<'a> {
+    Unexpected {
+        expected: ExpectedToken,
+        found: Token<'a>,
+        span: Span,
+    },
+    Eof {
+        expected: ExpectedToken,
+    },
+    Lexical(LexError),
+    UnknownSyntax {
+        span: Span,
+    },
+    TooDeep {
+        span: Span,
+    },
+}
+
+impl Fault<'_> {
+    /// The fault as users see it. Refused only for want of memory.
+    pub fn to_kind(&self, alloc: Global) -> Result<ParseErrorKind, AllocError> {
+        Ok(match *self {
+            Fault::Unexpected {
+                expected,
+                found,
+                span,
+            } => ParseErrorKind::UnexpectedToken {
+                expected,
+                found: format!(in alloc; "{found}")?,
+                span,
+            },
+            Fault::Eof { expected } => ParseErrorKind::UnexpectedEof { expected },
+            Fault::Lexical(error) => ParseErrorKind::from(error),
+            Fault::UnknownSyntax { span } => ParseErrorKind::UnknownSyntax { span },
+            Fault::TooDeep { span } => ParseErrorKind::NestingTooDeep { span },
+        })
+    }
+}
+
+/// Why a rule of the grammar gives no tree.
+#[derive(Clone, Copy)]
+pub enum Stop<'a> {
+    Memory,
+    Refused(Fault<'a>),
+}
+
+impl From<AllocError> for Stop<'_> {
+    ghost use Rattle.protox_tokens.specs.declared.fault.Stop.TheVariants.{Memory};
+
+    ghost from_gives = { λ _ e. e ≡ Memory };
+
+    fn from(_e: AllocError) -> Self {
+        Stop::Memory
+    }
+}
+
+impl<T: Drop> From<AllocFailed<T>> for Stop<'_> {
+    ghost use Rattle.protox_tokens.specs.declared.fault.Stop.TheVariants.{Memory};
+
+    ghost from_gives = { λ _ e. e ≡ Memory };
+
+    fn from(_e: AllocFailed<T>) -> Self {
+        Stop::Memory
+    }
+}

@@ -1,0 +1,111 @@
+-- The tree of a source: what the values of `src/` say, without the memory that they take.
+use Rattle.std.specs.Prelude.{Bool, List, Option}
+use Rattle.protox_lex.specs.Class.{Text}
+use Rattle.protox_lex.specs.declared.span.Span.{Span}
+use Rattle.protox_lex.specs.declared.literal.Int.{Int}
+use Rattle.descriptor_records.specs.declared.field.FieldType.{FieldType}
+use Rattle.protox_tree.specs.declared.range.ReservedRange.{ReservedRange}
+
+-- a name, a number as it is written, or the bytes of a literal, and where it stands
+pub record Word : Type 0 where
+  pub text : Text
+  pub span : Span
+
+pub record TypeName : Type 0 where
+  pub leading_dot : Option Span
+  pub parts : List Word
+
+pub data Ty : Type 0 where
+  scalar : FieldType → Span → Ty
+  named : TypeName → Ty
+
+-- ---- options
+
+pub data NamePart : Type 0 where
+  plain : Word → NamePart
+  extension : TypeName → Span → NamePart
+
+pub data Value : Type 0 where
+  word_value : Word → Value
+  -- `inf` or `nan` behind a minus, which stands in the span alone
+  minus_word : Word → Value
+  int_value : Int → Value
+  -- whether a minus stands before a float, and what stands behind it; the span begins with the minus
+  float_value : Bool → Word → Value
+  strings_value : List Word → Value
+  -- braces, and what stands in them, of which their text tells more
+  braces_value : Span → Value
+
+pub record Body : Type 0 where
+  pub name : List NamePart
+  pub value : Value
+
+pub record OptionStatement : Type 0 where
+  pub body : Body
+  pub span : Span
+
+pub record OptionList : Type 0 where
+  pub options : List Body
+  pub span : Span
+
+-- ---- ranges
+
+pub data ReservedItems : Type 0 where
+  reserved_ranges : List ReservedRange → ReservedItems
+  reserved_names : List (List Word) → ReservedItems
+
+pub record Reserved : Type 0 where
+  pub items : ReservedItems
+  pub span : Span
+
+-- ---- enums
+
+pub record EnumValue : Type 0 where
+  pub name : Word
+  pub number : Int
+  pub options : Option OptionList
+  pub span : Span
+
+pub data EnumItem : Type 0 where
+  enum_value : EnumValue → EnumItem
+  enum_option : OptionStatement → EnumItem
+  enum_reserved : Reserved → EnumItem
+  enum_empty : Span → EnumItem
+
+pub record Enum : Type 0 where
+  pub name : Word
+  pub braces : Span
+  pub items : List EnumItem
+  pub span : Span
+
+-- ---- services
+
+pub record MethodType : Type 0 where
+  pub stream : Option Span
+  pub name : TypeName
+
+pub data MethodItem : Type 0 where
+  method_option : OptionStatement → MethodItem
+  method_empty : Span → MethodItem
+
+pub record MethodBody : Type 0 where
+  pub braces : Span
+  pub items : List MethodItem
+
+pub record Method : Type 0 where
+  pub name : Word
+  pub input : MethodType
+  pub output : MethodType
+  pub body : Option MethodBody
+  pub span : Span
+
+pub data ServiceItem : Type 0 where
+  service_method : Method → ServiceItem
+  service_option : OptionStatement → ServiceItem
+  service_empty : Span → ServiceItem
+
+pub record Service : Type 0 where
+  pub name : Word
+  pub braces : Span
+  pub items : List ServiceItem
+  pub span : Span

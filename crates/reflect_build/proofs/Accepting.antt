@@ -1,0 +1,53 @@
+-- What an accepted batch adds, where no pass found a fault.
+use Rattle.std.proofs.Common.{◌≡◌, ◌++◌, List, [], Result, OnOk, map, ap, sym, subst, ◌∙◌}
+use Rattle.std.proofs.lemmas.Result.{on_ok_weaker}
+use Rattle.descriptor_records.specs.declared.file.FileDescriptorProto.{FileDescriptorProto}
+use Rattle.reflect_names.specs.Faults.{batch_places, list_of, place_at}
+use Rattle.reflect_names.specs.declared.faults.Faults.{Faults}
+use Rattle.reflect_names.specs.declared.resolve_visitor.Reference.{Reference}
+use Rattle.reflect_tables.specs.Types.{PoolType}
+use Rattle.reflect_tables.specs.Views.{file_of, record_file, message_of, enum_of, extension_of, pool_of}
+use Rattle.reflect_growth.specs.Growth.{Appended}
+use Rattle.reflect_index.specs.declared.batch.Batch.{Batch}
+use Rattle.reflect_tables.specs.declared.tables.Tables.{Tables}
+use Rattle.reflect_index.proofs.Known.{none_right}
+use Rattle.reflect_passes.specs.NumberFaults.{NumberFaults, doubled}
+use Rattle.reflect_passes.specs.declared.linked_types.LinkedTypes.{LinkedTypes}
+use Rattle.reflect_build.specs.Refusals.{Linking, Means, AreTypes, IsOf, new_files}
+use Rattle.reflect_build.specs.Accepted.{AreAdded, FaultlessBatch, Faultless, FaultlessFiles, AddsNames, AddsFiles}
+use Rattle.reflect_build.proofs.Pooled.{map-append}
+use Rattle.reflect_build.proofs.Refused.{types_with}
+
+goes_behind : {X Y : Type 0} (f : X → Y) (olds mores news : List X) (batch : List Y) → news ≡ olds ++ mores → map f mores ≡ batch → map f news ≡ map f olds ++ batch
+goes_behind f olds mores news batch a b = ap (map f) a ∙ map-append f olds mores ∙ ap (λ l. map f olds ++ l) b
+
+pub added_behind : (old more new : Tables) (b : Batch) (fs : List FileDescriptorProto) (w : Linking) → Appended old more new
+    → map file_of more.files.items ≡ map record_file fs → more.messages.items ≡ b.messages.items → more.enums.items ≡ b.enums.items → more.extensions.items ≡ b.extensions.items
+    → AreAdded (pool_of old) fs (types_with w b) (pool_of new)
+added_behind old more new b fs w a files messages enums extensions = record {
+  files = goes_behind file_of old.files.items more.files.items new.files.items (map record_file fs) a.files files;
+  messages = goes_behind message_of old.messages.items more.messages.items new.messages.items (map message_of b.messages.items) a.messages (ap (map message_of) messages);
+  enums = goes_behind enum_of old.enums.items more.enums.items new.enums.items (map enum_of b.enums.items) a.enums (ap (map enum_of) enums);
+  extensions = goes_behind extension_of old.extensions.items more.extensions.items new.extensions.items (map extension_of b.extensions.items) a.extensions (ap (map extension_of) extensions);
+}
+
+pub faultless : (w : Linking) (fs : List FileDescriptorProto) (new : PoolType) (rs : List Reference) (t : LinkedTypes) → Means w fs rs → AreTypes w fs t → AreAdded (pool_of w.tables) fs t new
+    → NumberFaults t w.before w.first fs rs [] → (f : Faults) → place_at f ≡ batch_places fs w.first → list_of f ++ doubled w.numbers t (place_at f) ≡ [] → FaultlessBatch w fs new
+faultless w fs new rs t means types added numbers f at none = record {
+  references = rs;
+  types = t;
+  means = means;
+  declared = types;
+  added = added;
+  numbers = numbers;
+  apart = ap (doubled w.numbers t) (sym at) ∙ none_right (list_of f) (doubled w.numbers t (place_at f)) none;
+}
+
+-- files that a pool has not yet are faultless with what it knows
+pub faultless_files : {T E : Type 0} (p : PoolType) (w : Linking) (fs news : List FileDescriptorProto) (new : PoolType) (r : Result T E) → IsOf p w → news ≡ new_files w.indexes fs
+    → OnOk r (Faultless w news new) → OnOk r (FaultlessFiles p fs new)
+faultless_files p w fs news new r of same h = on_ok_weaker r (λ b. (w, of, subst (λ l. Faultless w l new) same b)) h
+
+pub adds_files : {T E : Type 0} (p : PoolType) (w : Linking) (fs news : List FileDescriptorProto) (new : PoolType) (r : Result T E) → IsOf p w → news ≡ new_files w.indexes fs
+    → OnOk r (AddsNames w news new) → OnOk r (AddsFiles p fs new)
+adds_files p w fs news new r of same h = on_ok_weaker r (λ b. (w, of, subst (λ l. AddsNames w l new) same b)) h

@@ -1,0 +1,10 @@
+pub mod Accepting
+pub mod Back
+pub mod Imported
+pub mod Indexed
+pub mod Named
+pub mod Numbered
+pub mod Pooled
+pub mod Refused
+pub mod Settled
+pub mod Stands

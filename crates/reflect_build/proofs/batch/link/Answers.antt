@@ -1,0 +1,83 @@
+use Rattle.std.proofs.Common.{◌≡◌, [], Result, Ok, Err, OnOk, length, ap, sym, subst, ◌∙◌, rules}
+use Rattle.std.proofs.lemmas.Result.{err_from_is_err_and, on_ok_weaker}
+use Rattle.reflect_passes.specs.Errors.{Refuses}
+use Rattle.reflect_passes.specs.declared.error.DescriptorError.{DescriptorError}
+use Rattle.reflect_build.specs.Refusals.{Linking, linking, with_declared}
+use Rattle.reflect_build.specs.Accepted.{FaultlessBatch}
+use Rattle.reflect_build.proofs.Refused.{refused_names, refused_behind}
+use Rattle.reflect_scope.specs.Known.{known_of}
+use Rattle.reflect_names.specs.NamePass.{known_behind}
+use Rattle.reflect_names.specs.NameSteps.{KeepsFrom}
+use Rattle.reflect_passes.specs.NameFaults.{name_faults}
+use Rattle.reflect_walk.specs.Batches.{batch_declarations}
+use Rattle.reflect_names.specs.Faults.{batch_places}
+use Rattle.reflect_scope.specs.FileIndexes.{indexes_of}
+use Rattle.reflect_names.specs.FileNames.{with_files, files_faults}
+use Rattle.reflect_tables.specs.Views.{pool_of}
+use Rattle.reflect_index.proofs.Known.{none_left, none_right}
+use Rattle.reflect_build.proofs.Stands.{all_go_on, linked_more}
+use Rattle.reflect_build.proofs.batch.link.Goals as goal
+
+by : {A E P Q R S T U V W X : Type 0} (r : Result A E) → OnOk r P → OnOk r Q → OnOk r R → OnOk r S → OnOk r T → OnOk r U → OnOk r V → OnOk r W → (P → Q → R → S → T → U → V → W → X) → OnOk r X
+by (Ok x) p q r s t u v w f = f p q r s t u v w
+by (Err e) p q r s t u v w f = p
+
+pub returns-clause-linked : goal.returns-clause-linked
+returns-clause-linked c =
+    let fs = c.args.files.items in
+    let had = c.args.file_names.now in
+    let has = c.declare_names.new.file_names in
+    let indexes = indexes_of had in
+    let at = batch_places fs c.args.first in
+    let were = c.args.names.now in
+    let are = c.declare_names.new.names in
+    let same : c.as_slice.result.now ≡ fs = search rules in
+    let placed = subst (λ l. indexes_of has ≡ with_files indexes c.args.first l) same c.in_ok-declare_names.ensures.files in
+    let named = subst (λ l. known_of are ≡ known_behind (known_of were) (batch_declarations c.args.before c.args.first l)) same c.in_ok-declare_names.ensures.names in
+    let none = subst (λ l. name_faults indexes (known_of were) c.args.before c.args.first l ≡ []) same c.in_ok-declare_names.ensures.ok in
+    let keeps = subst (λ l. KeepsFrom c.args.first (length l) were.entries are.entries) same c.in_ok-declare_names.ensures.keeps in
+    by c.link_declared.result c.link_declared.ensures.pooled c.link_declared.ensures.files c.link_declared.ensures.messages c.link_declared.ensures.enums c.link_declared.ensures.extensions c.link_declared.ensures.services c.link_declared.ensures.numbered
+    c.link_declared.ensures.linked
+    (λ pooled files ms es xs ss numbered links. linked_more c.args.tables.now c.link_declared.new.tables were are had has c.args.extension_numbers.now c.link_declared.new.extension_numbers c.args.links.now.items c.link_declared.new.links.items at c.args.before c.args.first fs
+    c.requires.linked c.requires.before c.requires.first placed (none_left (files_faults at indexes c.args.first fs) _ none)
+    named (none_right (files_faults at indexes c.args.first fs) _ none) keeps pooled files (record { messages = ms; enums = es; extensions = xs; services = ss }) numbered links)
+
+pub returns-in_err-declare_names-clause-refused : goal.returns-in_err-declare_names-clause-refused
+returns-in_err-declare_names-clause-refused c =
+    let w = linking c.args.file_names.now c.args.names.now c.args.links.now.items c.args.tables.now c.args.extension_numbers.now c.args.before c.args.first in
+    let p = err_from_is_err_and c.from_residual.result c.from_residual.ensures.1 in
+    let names = λ (e : DescriptorError). Refuses (λ xs. xs ≡ name_faults w.indexes w.known w.before w.first c.as_slice.result.now) e in
+    refused_names w c.args.files.items c.from_residual.result c.as_slice.result.now p.0 p.1 c.as_slice.ensures.value (subst names (sym p.2) c.in_err-declare_names.ensures.err)
+
+pub returns-clause-refused : goal.returns-clause-refused
+returns-clause-refused c =
+    let fs = c.args.files.items in
+    let w = linking c.args.file_names.now c.args.names.now c.args.links.now.items c.args.tables.now c.args.extension_numbers.now c.args.before c.args.first in
+    let v = linking c.declare_names.new.file_names c.declare_names.new.names c.args.links.now.items c.args.tables.now c.args.extension_numbers.now c.args.before c.args.first in
+    let same = c.as_slice.ensures.value in
+    let none = subst (λ l. name_faults w.indexes w.known w.before w.first l ≡ []) same c.in_ok-declare_names.ensures.ok in
+    let placed = subst (λ l. v.indexes ≡ with_files w.indexes w.first l) same c.in_ok-declare_names.ensures.files in
+    let named = subst (λ l. v.known ≡ known_behind w.known (batch_declarations w.before w.first l)) same c.in_ok-declare_names.ensures.names in
+    let is : v ≡ with_declared w fs = ap {B = Linking} (λ i. record v { indexes = i }) placed ∙ ap {B = Linking} (λ k. record (with_declared w fs) { known = k }) named in
+    refused_behind w fs c.link_declared.result v none is c.link_declared.ensures.refused
+
+pub returns-clause-added : goal.returns-clause-added
+returns-clause-added c =
+    let fs = c.args.files.items in
+    by c.link_declared.result c.link_declared.ensures.pooled c.link_declared.ensures.files c.link_declared.ensures.messages c.link_declared.ensures.enums c.link_declared.ensures.extensions c.link_declared.ensures.services c.link_declared.ensures.numbered c.link_declared.ensures.linked
+    (λ pooled files ms es xs ss numbered links. record {
+      files = files;
+      names = all_go_on c.args.tables.now c.link_declared.new.tables (batch_declarations c.args.before c.args.first fs) (record { messages = ms; enums = es; extensions = xs; services = ss });
+    })
+
+pub returns-clause-accepted : goal.returns-clause-accepted
+returns-clause-accepted c =
+    let fs = c.args.files.items in
+    let w = linking c.args.file_names.now c.args.names.now c.args.links.now.items c.args.tables.now c.args.extension_numbers.now c.args.before c.args.first in
+    let v = linking c.declare_names.new.file_names c.declare_names.new.names c.args.links.now.items c.args.tables.now c.args.extension_numbers.now c.args.before c.args.first in
+    let same = c.as_slice.ensures.value in
+    let none = subst (λ l. name_faults w.indexes w.known w.before w.first l ≡ []) same c.in_ok-declare_names.ensures.ok in
+    let placed = subst (λ l. v.indexes ≡ with_files w.indexes w.first l) same c.in_ok-declare_names.ensures.files in
+    let named = subst (λ l. v.known ≡ known_behind w.known (batch_declarations w.before w.first l)) same c.in_ok-declare_names.ensures.names in
+    let is : v ≡ with_declared w fs = ap {B = Linking} (λ i. record v { indexes = i }) placed ∙ ap {B = Linking} (λ k. record (with_declared w fs) { known = k }) named in
+    on_ok_weaker c.link_declared.result (λ b. (none, subst (λ u. FaultlessBatch u fs (pool_of c.link_declared.new.tables)) is b)) c.link_declared.ensures.accepted

@@ -1,0 +1,3 @@
+pub mod Accepted
+pub mod Refusals
+pub mod Parts

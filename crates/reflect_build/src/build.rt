@@ -1,0 +1,157 @@
+//! The calls that change a pool.
+
+ghost use Rattle.std.specs.Prelude.{◌≡◌, OnOk, OnErr, IfErr, length};
+ghost use Rattle.reflect_scope.specs.FileIndexes.{indexes_of};
+ghost use Rattle.reflect_tables.specs.Types.{PoolType, IsSettled};
+ghost use Rattle.reflect_growth.specs.Cut.{cut_to};
+ghost use Rattle.reflect_passes.specs.Errors.{Refuses};
+ghost use Rattle.reflect_pool.specs.Imports.{StandsAlone};
+ghost use Rattle.reflect_build.specs.Accepted.{FaultlessFiles, AddsFiles};
+ghost use Rattle.reflect_build.specs.Parts.{AreParts, holds_of};
+ghost use Rattle.reflect_build.specs.Refusals.{is_unknown, FaultyFiles};
+
+use crate::batch::{link, next_place, offsets};
+use crate::forget::{forget_files, forget_names, forget_numbers};
+use descriptor_records::FileDescriptorProto;
+use reflect_growth::{Edit, cut, settle_all};
+use reflect_passes::{DescriptorError, walk_error};
+use reflect_pool::{DescriptorPool, PoolParts};
+use std::alloc::Global;
+use std::collections::BTreeMap;
+use std::mem;
+
+/// No known file has the file's name.
+fn is_new(known: &BTreeMap<String, u32>, file: &FileDescriptorProto) -> bool
+    ensures { result ≡ is_unknown (indexes_of known.now) file.now }
+{
+    match &file.name {
+        Some(name) => !known.contains_key(name.as_str()),
+        None => true,
+    }
+}
+
+/// Adds files to the parts of a pool, and leaves parts of the same entries where they are refused.
+fn add_files(
+    alloc: Global,
+    parts: &mut PoolParts,
+    mut files: Vec<FileDescriptorProto>,
+) -> Result<(), DescriptorError>
+    requires fit { AreParts parts.old }
+    ensures fit { AreParts parts.new }
+    ensures unchanged { OnErr result (holds_of parts.new ≡ holds_of parts.old) }
+    ensures grown { OnOk result (cut_to (holds_of parts.new) (length (holds_of parts.old).files) ≡ holds_of parts.old) }
+    ensures can_cut { OnOk result (StandsAlone (cut_to (holds_of parts.new) (length (holds_of parts.old).files))) }
+    ensures added { OnOk result (AddsFiles (holds_of parts.old) files.items (holds_of parts.new)) }
+    ensures accepted { OnOk result (FaultlessFiles (holds_of parts.old) files.items (holds_of parts.new)) }
+    ensures refused { IfErr result (λ e. Refuses (FaultyFiles (holds_of parts.old) files.items) e) }
+{
+    let known = &parts.file_names;
+    files.retain(|file| is_new(known, file));
+    let before = offsets(&parts.tables).map_err(|error| walk_error(alloc, error))?;
+    let first = next_place(parts.tables.files.len()).map_err(|error| walk_error(alloc, error))?;
+    let outcome = link(
+        alloc,
+        before,
+        first,
+        files,
+        &mut parts.tables,
+        &mut parts.links,
+        &mut parts.file_names,
+        &mut parts.names,
+        &mut parts.extension_numbers,
+    );
+    if outcome.is_err() {
+        forget_names(&mut parts.names, first);
+        forget_files(&mut parts.file_names, first);
+        let extensions = parts.tables.extensions.len();
+        forget_numbers(&mut parts.extension_numbers, extensions);
+        parts.links.truncate(first as usize);
+    }
+    outcome
+}
+
+/// Leaves the parts of the first so many files.
+fn cut_parts(parts: &mut PoolParts, mark: u32)
+    requires fit { AreParts parts.old }
+    requires alone { StandsAlone (cut_to (holds_of parts.old) mark) }
+    ensures fit { AreParts parts.new }
+    ensures cut { holds_of parts.new ≡ cut_to (holds_of parts.old) mark }
+{
+    cut(&mut parts.tables, mark);
+    forget_names(&mut parts.names, mark);
+    forget_files(&mut parts.file_names, mark);
+    let extensions = parts.tables.extensions.len();
+    forget_numbers(&mut parts.extension_numbers, extensions);
+    parts.links.truncate(mark as usize);
+}
+
+/// Takes the parts out of a pool, which is empty then. Takes no memory.
+fn take_parts(pool: &mut DescriptorPool) -> PoolParts
+    ensures fit { AreParts result }
+    ensures holds { holds_of result ≡ pool.old }
+{
+    let alloc = *pool.tables().files.allocator();
+    mem::replace(pool, DescriptorPool::new(alloc)).into_parts()
+}
+
+/// Calls that add files to a pool, take the last ones back, and settle the options of their records.
+pub trait BuildFiles {
+    /// What the pool holds.
+    ghost holds: { Self → PoolType };
+
+    /// Adds files, linked with each other and with those that are there. Files whose names the pool has are passed over.
+    ///
+    /// Files are accepted only where no pass finds a fault. The error lists exactly the faults of the first faulty pass; `Memory`
+    /// and `TooMany` may come in any pass. After a refusal the pool is as it was.
+    fn build_files(
+        &mut self,
+        alloc: Global,
+        files: Vec<FileDescriptorProto>,
+    ) -> Result<(), DescriptorError>
+        ensures unchanged { OnErr result (holds self.new ≡ holds self.old) }
+        ensures grown { OnOk result (cut_to (holds self.new) (length (holds self.old).files) ≡ holds self.old) }
+        ensures can_cut { OnOk result (StandsAlone (cut_to (holds self.new) (length (holds self.old).files))) }
+        ensures added { OnOk result (AddsFiles (holds self.old) files.items (holds self.new)) }
+        ensures accepted { OnOk result (FaultlessFiles (holds self.old) files.items (holds self.new)) }
+        ensures refused { IfErr result (λ e. Refuses (FaultyFiles (holds self.old) files.items) e) };
+
+    /// Leaves the first so many files as they stand, and their names. Takes no memory.
+    ///
+    /// None of them may name a type of a file behind them, or import one, as is so of the files that were there before a call
+    /// of `build_files`.
+    fn cut(&mut self, mark: u32)
+        requires { StandsAlone (cut_to (holds self.old) mark) }
+        ensures { holds self.new ≡ cut_to (holds self.old) mark };
+
+    /// Moves settled options, and the paths of locations that speak of them, into the files' records. One that names no
+    /// place of the pool is passed over. Takes no memory; the types stay as they are.
+    fn settle(&mut self, edits: Vec<Edit>)
+        ensures { IsSettled (holds self.old) (holds self.new) };
+}
+
+impl BuildFiles for DescriptorPool {
+    ghost holds = { λ p. p };
+
+    fn build_files(
+        &mut self,
+        alloc: Global,
+        files: Vec<FileDescriptorProto>,
+    ) -> Result<(), DescriptorError> {
+        let mut parts = take_parts(self);
+        let outcome = add_files(alloc, &mut parts, files);
+        *self = DescriptorPool::from_parts(parts);
+        outcome
+    }
+
+    fn cut(&mut self, mark: u32) {
+        let mut parts = take_parts(self);
+        cut_parts(&mut parts, mark);
+        *self = DescriptorPool::from_parts(parts);
+    }
+
+    fn settle(&mut self, edits: Vec<Edit>) {
+        let mut parts = take_parts(self);
+        settle_all(&mut parts.tables, edits);
+        *self = DescriptorPool::from_parts(parts);
+    }
+}

@@ -1,0 +1,34 @@
+//! Takes the names and numbers of files out of a pool's maps.
+
+ghost use Rattle.std.specs.Prelude.{◌≡◌, nat_lt, string_cmp};
+ghost use Rattle.std.specs.List.{filter};
+ghost use Rattle.std.specs.BTreeMap.{IsOrdered};
+ghost use Rattle.reflect_scope.specs.Known.{below};
+ghost use Rattle.reflect_tables.specs.ExtensionNumbers.{key_cmp};
+
+use reflect_scope::Definition;
+use std::collections::BTreeMap;
+
+/// Leaves only the names of the first so many files.
+pub fn forget_names(names: &mut BTreeMap<String, Definition>, mark: u32)
+    ensures entries { names.new.entries ≡ below mark names.old.entries }
+    ensures was_ordered { IsOrdered string_cmp names.old }
+{
+    names.retain(|_, definition| definition.file < mark);
+}
+
+/// Leaves only the names of the first so many files, as names of files.
+pub fn forget_files(file_names: &mut BTreeMap<String, u32>, mark: u32)
+    ensures entries { file_names.new.entries ≡ filter (λ e. nat_lt e.1 mark) file_names.old.entries }
+    ensures was_ordered { IsOrdered string_cmp file_names.old }
+{
+    file_names.retain(|_, file| *file < mark);
+}
+
+/// Leaves only the messages and numbers of the first so many extensions.
+pub fn forget_numbers(numbers: &mut BTreeMap<(u32, u32), u32>, count: usize)
+    ensures entries { numbers.new.entries ≡ filter (λ e. nat_lt e.1 count) numbers.old.entries }
+    ensures was_ordered { IsOrdered key_cmp numbers.old }
+{
+    numbers.retain(|_, place| (*place as usize) < count);
+}

@@ -1,0 +1,31 @@
+-- What a message holds is what its parts hold.
+use Rattle.std.proofs.Common.{◌≡◌, ℕ, List, Option, Result, Ok, Err, IfOk, ap, ◌∙◌, subst}
+use Rattle.std.specs.Borrow.{Bor}
+use Rattle.reflect_pool.specs.declared.message.MessageDescriptor.{MessageDescriptor}
+use Rattle.reflect_wire.specs.Reads.{Fronts}
+use Rattle.reflect_wire.specs.Records.{Payload}
+use Rattle.reflect_wire.specs.declared.wire_error.WireError.{WireError}
+use Rattle.reflect_entries.specs.Undeclared.{undeclared}
+use Rattle.reflect_message.specs.Contents.{Content, content_of, content_in}
+use Rattle.reflect_message.specs.Held.{fields_of, choices_of, extensions_of, unknown_of}
+use Rattle.reflect_decode.specs.Levels.{MergesAt}
+use Rattle.reflect_decode.specs.Merging.{IsBody}
+use Rattle.reflect_message.specs.declared.message.DynamicMessage.{DynamicMessage}
+use Rattle.reflect_message.specs.declared.parts.Parts.{Parts}
+use Rattle.reflect_message.specs.declared.value.Value.{Value}
+
+abbrev holding : List (ℕ × Value) → List (ℕ × ℕ) → List (ℕ × Value) → List (ℕ × Payload) → Content
+holding fields choices extensions unknown = record { fields = fields; choices = choices; extensions = extensions; unknown = unknown }
+
+pub same_content : (m : DynamicMessage) (p : Parts) → p.fields ≡ fields_of m → p.choices.members ≡ choices_of m → p.extensions ≡ extensions_of m → undeclared p.unknown ≡ unknown_of m → content_in p ≡ content_of m
+same_content m p fields choices extensions unknown =
+    ap (λ l. holding l p.choices.members p.extensions (undeclared p.unknown)) fields
+    ∙ (ap (λ l. holding (fields_of m) l p.extensions (undeclared p.unknown)) choices
+    ∙ (ap (λ l. holding (fields_of m) (choices_of m) l (undeclared p.unknown)) extensions ∙ ap (λ l. holding (fields_of m) (choices_of m) (extensions_of m) l) unknown))
+
+pub merged_in : (levels : ℕ) (group : Option ℕ) (bytes : List ℕ) (m type : MessageDescriptor) (old new before after : Content) (r : Result (Bor (List ℕ)) WireError) → type ≡ m → before ≡ old → after ≡ new
+    → IfOk r (λ rest. (rs : List (ℕ × Payload)) × Fronts (IsBody group levels) bytes rs rest.now × MergesAt levels type before after rs)
+    → IfOk r (λ rest. (rs : List (ℕ × Payload)) × Fronts (IsBody group levels) bytes rs rest.now × MergesAt levels m old new rs)
+merged_in levels group bytes m type old new before after (Ok rest) same was is h =
+    (h.0, h.1, subst (λ t. MergesAt levels t old new h.0) same (subst (λ c. MergesAt levels type c new h.0) was (subst (λ c. MergesAt levels type before c h.0) is h.2)))
+merged_in levels group bytes m type old new before after (Err e) same was is h = tt

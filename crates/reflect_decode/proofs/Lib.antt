@@ -1,0 +1,16 @@
+pub mod Appending
+pub mod Copying
+pub mod Extending
+pub mod Filling
+pub mod Holding
+pub mod Joining
+pub mod Keeping
+pub mod Kept
+pub mod Mapping
+pub mod Nesting
+pub mod Owning
+pub mod Packing
+pub mod Running
+pub mod Sparing
+pub mod Taking
+pub mod Telling

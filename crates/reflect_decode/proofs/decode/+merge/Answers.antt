@@ -1,0 +1,330 @@
+use Rattle.std.proofs.Common.{rules, ◌≡◌, [], true, Some, None, refl, sym, ap, ◌∙◌, subst, arith}
+use Rattle.reflect_wire.specs.Reads.{Fronts}
+use Rattle.reflect_wire.specs.Key.{IsKey, IsDelimited}
+use Rattle.reflect_wire.specs.Records.{delimited}
+use Rattle.reflect_wire.specs.declared.wire_key.WireType.TheVariants.{LengthDelimited, EndGroup}
+use Rattle.reflect_entries.specs.Undeclared.{undeclared}
+use Rattle.reflect_pool.specs.FieldsLeft.{field_type}
+use Rattle.reflect_pool.specs.Kinds.{IsKind}
+use Rattle.reflect_scalar.specs.FieldTypes.{field_pool, either_pool, either_type}
+use Rattle.reflect_scalar.specs.Kinds.{packs, wire_type}
+use Rattle.reflect_scalar.specs.Singles.{scalar_view}
+use Rattle.reflect_message.specs.Contents.{content_of, content_in}
+use Rattle.reflect_decode.specs.Levels.{TakesAt}
+use Rattle.reflect_message.specs.Maps.{map_entries}
+use Rattle.reflect_message.specs.Messages.{message_in}
+use Rattle.reflect_decode.specs.Merging.{IsBody, run_records}
+use Rattle.reflect_message.specs.declared.value.Value.{Message, the_lemmas}
+use Rattle.reflect_decode.proofs.Appending.{appends_value, appends_row, appends_message, appends_more, list_done}
+use Rattle.reflect_message.proofs.Choosing.{makes_room}
+use Rattle.reflect_decode.proofs.Holding.{same_content, merged_in}
+use Rattle.reflect_decode.proofs.Keeping.{kept_if_read}
+use Rattle.reflect_decode.proofs.Kept.{no_longer, key_shorter}
+use Rattle.reflect_decode.proofs.Nesting.{appends_at, joins_at, value_unset, delimited_taken, group_taken}
+use Rattle.reflect_decode.proofs.Mapping.{key_step, value_step, part_single, part_message, put_more, map_put, entry_is_read}
+use Rattle.reflect_decode.proofs.Running.{delimited_value, same_value, run_more, run_ends, run_behind, group_ends}
+use Rattle.reflect_decode.proofs.Sparing.{merges_none, merges_more, merges_field, merges_kept, merges_extension}
+use Rattle.reflect_decode.proofs.Taking.{entries_of_slot, map_leaves, message_leaves, list_leaves, single_leaves}
+use Rattle.reflect_message.proofs.Lengthening.{items_of_slot}
+use Rattle.reflect_decode.proofs.decode.+merge.Goals as goal
+
+pub merge_element-returns-then-is_packable : goal.merge_element-returns-then-is_packable
+merge_element-returns-then-is_packable t c =
+    let raw = c.args.raw in
+    let wire : raw.key.wire ≡ LengthDelimited = search rules in
+    let packed : packs (wire_type c.args.kind.now) ≡ true = search rules in
+    let read = c.in_ok-body.ensures.read in
+    let row = c.in_ok-push_packed.ensures.read in
+    record {
+      read = appends_row (TakesAt raw.levels) raw.levels raw.key c.args.kind.now raw.bytes.now c.in_ok-body.rest.now _ _ c.in_ok-body.body.now row.0 wire packed read row.1 row.2;
+      shorter = no_longer IsDelimited raw.bytes.now c.in_ok-body.rest.now c.in_ok-body.body.now read;
+    }
+
+pub merge_element-returns : goal.merge_element-returns
+merge_element-returns t c =
+    let raw = c.args.raw in
+    let found = c.in_ok-scalar in
+    let lt = found.ensures.shorter in
+    let value = c.in_ok-from_scalar in
+    record {
+      read = appends_value (TakesAt raw.levels) raw.levels raw.key c.args.kind.now raw.bytes.now found.rest.now _ _ (scalar_view found.scalar) value.field-0 found.ensures.read c.in_ok-push-2.ensures.items value.ensures;
+      shorter = omega (arith, lt);
+    }
+
+pub merge_element-returns-in-Message-clause-read : goal.merge_element-returns-in-Message-clause-read
+merge_element-returns-in-Message-clause-read t c =
+    let raw = c.args.raw in
+    let fresh = c.new-message in
+    let found = c.in_ok-rest in
+    let read = found.ensures.read in
+    appends_message (TakesAt raw.levels) raw.levels raw.key c.args.kind.now raw.bytes.now found.rest.now _ _ c.in-Message.inner fresh.result c.merge_message.new.message _ read.0 (search rules) fresh.ensures.same_type fresh.ensures.empty found.ensures.same_type
+    (search (rules, the_lemmas)) c.in_ok-push.ensures.items read.1 read.2
+
+pub merge_field-returns-in-Message-2-clause-read : goal.merge_field-returns-in-Message-2-clause-read
+merge_field-returns-in-Message-2-clause-read t c =
+    let raw = c.args.raw in
+    let pool = either_pool c.args.field in
+    let type = either_type c.args.field in
+    let kind = c.in-Message in
+    let fresh = c.new-in-Message in
+    let slot = c.in_ok-message-in-Message in
+    let merged = c.merge_message in
+    let is = subst (λ k. IsKind pool k type.kind) kind.is c.kind-kind.ensures in
+    message_leaves (TakesAt raw.levels) raw.levels raw.key raw.bytes.now pool type _ _ kind.inner fresh.result c.in-Message-2.message _ merged.new.message (Message fresh.result) slot.field-0.now (Message merged.new.message) merged.result is (search rules) (search rules) (search rules)
+    (search (rules, the_lemmas)) fresh.ensures.same_type fresh.ensures.empty (search (rules, the_lemmas)) (search rules) (search (rules, the_lemmas)) c.in-Message-2.message-is merged.ensures.same_type merged.ensures.read
+
+pub merge_field-returns-then-is_map-clause-read : goal.merge_field-returns-then-is_map-clause-read
+merge_field-returns-then-is_map-clause-read t c =
+    let raw = c.args.raw in
+    map_leaves (TakesAt raw.levels) raw.levels raw.key raw.bytes.now (either_pool c.args.field) (either_type c.args.field) _ _ c.kind-kind.result _ _ c.merge_map.result c.kind-kind.ensures (search rules) (entries_of_slot _ _ _ c.in_ok-map.ensures.value (search (rules, the_lemmas))) (search rules) c.merge_map.ensures.read
+
+pub merge_field-returns-then-is_list-clause-read : goal.merge_field-returns-then-is_list-clause-read
+merge_field-returns-then-is_list-clause-read t c =
+    let raw = c.args.raw in
+    list_leaves (TakesAt raw.levels) raw.levels raw.key raw.bytes.now (either_pool c.args.field) (either_type c.args.field) _ _ c.kind-kind.result _ _ c.merge_list.result c.kind-kind.ensures (search rules) (items_of_slot _ _ _ c.in_ok-list.ensures.value (search (rules, the_lemmas))) (search rules) c.merge_list.ensures.read
+
+pub merge_field-returns-in_ok-set-in_default-clause-read : goal.merge_field-returns-in_ok-set-in_default-clause-read
+merge_field-returns-in_ok-set-in_default-clause-read t c =
+    let raw = c.args.raw in
+    let found = c.in_ok-scalar-in_default in
+    let value = c.in_ok-from_scalar-in_default in
+    let put = c.in_ok-set-in_default.ensures.updates in
+    single_leaves (TakesAt raw.levels) raw.levels raw.key raw.bytes.now (either_pool c.args.field) (either_type c.args.field) _ _ c.kind-kind.result found.rest.now _ (scalar_view found.scalar) c.kind-kind.ensures (search rules) found.ensures.read put.here value.ensures
+
+pub merge_list-returns-in-None-clause-read : goal.merge_list-returns-in-None-clause-read
+merge_list-returns-in-None-clause-read t c =
+    let raw = c.args.raw in
+    let here = c.records.record in
+    let inv = c.records.invariant in
+    let rest = c.in_ok-rest.rest.now in
+    let read = c.in_ok-rest.ensures.read in
+    let added = appends_at here.levels raw.levels c.args.kind.now _ _ read.0 inv.4 read.2 in
+    list_done (TakesAt raw.levels) raw.levels raw.key c.args.kind.now raw.bytes.now here.bytes.now rest _ _ _ _ _ inv.0 read.0 (search (rules, the_lemmas)) (search (rules, the_lemmas)) inv.1 (same_value raw.levels raw.key here.levels here.key here.bytes.now rest read.0 inv.4 inv.3 read.1) inv.2 added
+
+pub merge_message-returns-in_ok-merge_body-in-LengthDelimited-clause-read : goal.merge_message-returns-in_ok-merge_body-in-LengthDelimited-clause-read
+merge_message-returns-in_ok-merge_body-in-LengthDelimited-clause-read t c =
+    let raw = c.args.raw in
+    let found = c.in_ok-body-in-LengthDelimited in
+    let below = c.in_ok-levels_below-in-LengthDelimited in
+    let merged = c.in_ok-merge_body-in-LengthDelimited in
+    delimited_taken below.field-0 raw.levels below.ensures.below _ _ _ raw.key raw.bytes.now found.body.now merged.field-0.now found.rest.now c.in-LengthDelimited.is found.ensures.read (merged.ensures.whole refl) merged.ensures.read
+
+pub merge_message-returns-in_ok-levels-in-StartGroup-clause-read : goal.merge_message-returns-in_ok-levels-in-StartGroup-clause-read
+merge_message-returns-in_ok-levels-in-StartGroup-clause-read t c =
+    let raw = c.args.raw in
+    let below = c.in_ok-levels-in-StartGroup in
+    let merged = c.merge_body-in-StartGroup in
+    group_taken below.levels raw.levels below.ensures.below _ _ _ raw.key raw.bytes.now merged.result c.in-StartGroup.is merged.ensures.read
+
+pub merge_records-returns-in-Some-clause-read : goal.merge_records-returns-in-Some-clause-read
+merge_records-returns-in-Some-clause-read t c =
+    let inv = c.records.invariant in
+    let next = c.in_ok-key in
+    let wire : next.key.wire ≡ EndGroup = search rules in
+    let is : Some c.in-Some.number ≡ c.args.group = sym c.in-Some.is ∙ inv.3 in
+    let ends = group_ends c.args.levels c.args.bytes.now c.records.rest.now inv.0 inv.1 c.in-Some.number next.key next.behind.now next.ensures.read wire (sym c.if-number-key.true) in
+    (inv.0, subst (λ g. Fronts (IsBody g c.args.levels) c.args.bytes.now inv.0 next.behind.now) is ends, inv.2)
+
+pub merge_records-returns-in-Some-clause-whole : goal.merge_records-returns-in-Some-clause-whole
+merge_records-returns-in-Some-clause-whole t c = λ none. absurd (cc (c.in-Some.is, c.records.invariant.3, none))
+
+pub merge_records-returns-in-None-clause-read : goal.merge_records-returns-in-None-clause-read
+merge_records-returns-in-None-clause-read t c =
+    let inv = c.records.invariant in
+    let is : None ≡ c.args.group = sym c.in-None.is ∙ inv.3 in
+    (inv.0, subst (λ g. Fronts (IsBody g c.args.levels) c.args.bytes.now inv.0 c.records.rest.now) is inv.1, inv.2)
+
+pub merge_list-records-init : goal.merge_list-records-init
+merge_list-records-init t c = ([], ([], refl, refl), refl, refl, refl, omega arith)
+
+pub merge_list-records-preserved : goal.merge_list-records-preserved
+merge_list-records-preserved t c =
+    let raw = c.args.raw in
+    let here = c.records.record in
+    let inv = c.records.invariant in
+    let rest = c.in_ok-rest.rest.now in
+    let next = c.in-Some.next in
+    let read = c.in_ok-rest.ensures.read in
+    let value = same_value raw.levels raw.key here.levels here.key here.bytes.now rest read.0 inv.4 inv.3 read.1 in
+    let key = subst (λ k. Fronts IsKey rest k next.bytes.now) inv.3 c.in-Some.ensures.read in
+    let before = c.in_ok-rest.ensures.shorter in
+    let behind = c.in-Some.ensures.shorter in
+    let so_far = inv.5 in (
+      _,
+      run_more raw.levels raw.key raw.bytes.now here.bytes.now rest next.bytes.now inv.0 read.0 inv.1 value key,
+      appends_more (TakesAt raw.levels) c.args.kind.now _ _ _ inv.0 read.0 inv.2 (appends_at here.levels raw.levels c.args.kind.now _ _ read.0 inv.4 read.2),
+      c.in-Some.ensures.key ∙ inv.3,
+      c.in-Some.ensures.levels ∙ inv.4,
+      omega (arith, before, behind, so_far),
+    )
+
+pub merge_record-returns-in-Some-clause-read : goal.merge_record-returns-in-Some-clause-read
+merge_record-returns-in-Some-clause-read t c =
+    let raw = c.args.raw in
+    let type = c.args.descriptor in
+    let run = c.in_ok-rest.ensures.read in
+    let found = c.in-Some in
+    let room = c.in_ok-make_room.ensures in
+    let cleared = c.clear_siblings.ensures in
+    let made = makes_room found.field _ _ room.first room.stays room.others in (
+      run.0,
+      run.1,
+      merges_field (TakesAt raw.levels) type found.field found.ensures.owns raw.key.number found.ensures.number _ _ _ _ run.0 made c.in_ok-rest.ensures.others run.2 cleared.unsets (cleared.chooses room.room) cleared.extensions (ap undeclared cleared.unknown),
+    )
+
+pub merge_record-returns-in-Some-declared_extension-clause-read : goal.merge_record-returns-in-Some-declared_extension-clause-read
+merge_record-returns-in-Some-declared_extension-clause-read t c =
+    let raw = c.args.raw in
+    let found = c.in-Some-declared_extension in
+    let merged = c.merge_field-in-Some-declared_extension in
+    merges_extension (TakesAt raw.levels) c.args.descriptor raw.levels raw.key raw.bytes.now _ _ merged.result c.in_default.ensures.none found.extension found.ensures.owns found.ensures.number refl refl refl merged.ensures.others merged.ensures.read
+
+pub merge_record-returns-clause-read : goal.merge_record-returns-clause-read
+merge_record-returns-clause-read t c =
+    let raw = c.args.raw in
+    let kept = kept_if_read c.args.descriptor raw.levels raw.key raw.bytes.now _ _ c.keep_unknown.result c.keep_unknown.ensures.kept in
+    merges_kept (TakesAt raw.levels) c.args.descriptor raw.levels raw.key raw.bytes.now _ _ c.keep_unknown.result c.in_default.ensures.none c.in_default-declared_extension.ensures.none refl refl refl kept
+
+pub merge_records-records-preserved : goal.merge_records-records-preserved
+merge_records-records-preserved t c =
+    let inv = c.records.invariant in
+    let here = c.records.rest.now in
+    let next = c.in_ok-key in
+    let rest = c.in_ok-rest.rest.now in
+    let merged = c.in_ok-rest.ensures.read in
+    let key = no_longer IsKey here next.behind.now next.key next.ensures.read in
+    let behind = c.in_ok-rest.ensures.shorter in
+    let so_far = inv.4 in (
+      _,
+      run_behind c.args.levels c.args.bytes.now here inv.0 inv.1 next.key next.behind.now rest merged.0 next.ensures.read merged.1,
+      merges_more (TakesAt c.args.levels) c.args.descriptor (joins_at c.args.levels) _ _ _ inv.0 (run_records next.key.number merged.0) inv.2 merged.2,
+      inv.3,
+      omega (arith, key, behind, so_far),
+    )
+
+pub merge_records-records-init : goal.merge_records-records-init
+merge_records-records-init t c = ([], ([], refl, refl), merges_none (TakesAt c.args.levels) c.args.descriptor _, refl, omega arith)
+
+pub merge_body-returns-clause-read : goal.merge_body-returns-clause-read
+merge_body-returns-clause-read t c =
+    let old = c.args.message.now in
+    let new = c.put_block.new.self in
+    let before = c.deref_mut.result.now in
+    let after = c.merge_records-outcome.new.parts in
+    let was : content_in before ≡ content_of old = same_content old before (search rules) (search rules) (search rules) (search rules) in
+    let is : content_in after ≡ content_of new = same_content new after (search rules) (search rules) (search rules) (search rules) in
+    merged_in c.args.levels c.args.group c.args.bytes.now old.descriptor _ (content_of old) (content_of new) (content_in before) (content_in after) c.merge_records-outcome.result (search rules) was is c.merge_records-outcome.ensures.read
+
+pub merge_body-returns-then-is_none-clause-read : goal.merge_body-returns-then-is_none-clause-read
+merge_body-returns-then-is_none-clause-read t c =
+    let none : c.args.group ≡ None = search rules in
+    ([], ([], subst (λ g. IsBody g c.args.levels [] []) (sym none) refl, refl), merges_none (TakesAt c.args.levels) _ _)
+
+pub merge_part-returns : goal.merge_part-returns
+merge_part-returns t c =
+    let raw = c.args.raw in
+    let found = c.in_ok-scalar in
+    let lt = found.ensures.shorter in
+    record {
+      read = part_single (TakesAt raw.levels) (field_pool c.args.field.now) (field_type c.args.field.now) raw.levels raw.key raw.bytes.now _ _ c.kind-kind.result found.rest.now (scalar_view found.scalar) c.kind-kind.ensures found.ensures.read c.in_ok-held.ensures;
+      shorter = omega (arith, lt);
+    }
+
+pub merge_part-returns-in-Message-held-clause-read : goal.merge_part-returns-in-Message-held-clause-read
+merge_part-returns-in-Message-held-clause-read t c =
+    let raw = c.args.raw in
+    let field = c.args.field.now in
+    let kind = c.in-Message in
+    let held = c.in-Message-held in
+    let merged = c.merge_message in
+    let is = subst (λ k. IsKind (field_pool field) k (field_type field).kind) kind.is c.kind-kind.ensures in
+    let was : message_in c.args.held.now ≡ Some held.message = search (rules, the_lemmas) in
+    part_message (TakesAt raw.levels) (field_pool field) (field_type field) raw.levels raw.key raw.bytes.now c.args.held.now _ kind._inner _ merged.new.message merged.result is (was ∙ ap Some (sym held.message-is)) (search (rules, the_lemmas)) merged.ensures.same_type merged.ensures.read
+
+pub merge_map-returns-in-Map-clause-read : goal.merge_map-returns-in-Map-clause-read
+merge_map-returns-in-Map-clause-read t c =
+    let raw = c.args.raw in
+    let merged = c.merge_entries in
+    let was : map_entries c.args.map.now ≡ Some c.in-Map.entries.entries = search (rules, the_lemmas) in
+    map_put (TakesAt raw.levels) raw.levels raw.key raw.bytes.now c.args.map.now _ _ merged.new.entries.entries c.args.kind.now merged.result (was ∙ ap (λ m. Some m.entries) (sym c.in-Map.entries-is)) (search (rules, the_lemmas)) merged.ensures.read
+
+pub merge_entries-returns-in-None-clause-read : goal.merge_entries-returns-in-None-clause-read
+merge_entries-returns-in-None-clause-read t c =
+    let raw = c.args.raw in
+    let here = c.records.record in
+    let inv = c.records.invariant in
+    let rest = c.in_ok-body.rest.now in
+    let body = c.in_ok-body.body.now in
+    let entry = c.in_ok-key in
+    let fields = c.in-Some in
+    let wire : raw.key.wire ≡ LengthDelimited = search rules in
+    let value = delimited_value raw.levels raw.key here.bytes.now rest body wire c.in_ok-body.ensures.read in (
+      (inv.0, delimited body),
+      run_ends raw.levels raw.key raw.bytes.now here.bytes.now rest inv.0 (delimited body) inv.1 value,
+      λ pool kind is. put_more (TakesAt raw.levels) pool kind _ _ _ inv.0 (delimited body) entry.key entry.value (inv.2 pool kind is)
+          (entry_is_read pool kind here.levels raw.levels fields.keys fields.values body entry.key entry.value inv.4 (fields.ensures.some pool kind is) entry.ensures.read) c.in_ok-put_entry.ensures,
+    )
+
+pub merge_entries-records-init : goal.merge_entries-records-init
+merge_entries-records-init t c = ([], ([], refl, refl), (λ pool kind is. refl), refl, refl, omega arith)
+
+pub merge_entries-records-preserved : goal.merge_entries-records-preserved
+merge_entries-records-preserved t c =
+    let raw = c.args.raw in
+    let here = c.records.record in
+    let inv = c.records.invariant in
+    let rest = c.in_ok-body.rest.now in
+    let body = c.in_ok-body.body.now in
+    let entry = c.in_ok-key in
+    let fields = c.in-Some in
+    let found = c.in-Some-another_at in
+    let wire : raw.key.wire ≡ LengthDelimited = search rules in
+    let read = c.in_ok-body.ensures.read in
+    let value = delimited_value raw.levels raw.key here.bytes.now rest body wire read in
+    let key = subst (λ k. Fronts IsKey rest k found.next.bytes.now) inv.3 found.ensures.read in
+    let before = no_longer IsDelimited here.bytes.now rest body read in
+    let behind = found.ensures.shorter in
+    let so_far = inv.5 in (
+      _,
+      run_more raw.levels raw.key raw.bytes.now here.bytes.now rest found.next.bytes.now inv.0 (delimited body) inv.1 value key,
+      (λ pool kind is. put_more (TakesAt raw.levels) pool kind _ _ _ inv.0 (delimited body) entry.key entry.value (inv.2 pool kind is)
+          (entry_is_read pool kind here.levels raw.levels fields.keys fields.values body entry.key entry.value inv.4 (fields.ensures.some pool kind is) entry.ensures.read) c.in_ok-put_entry.ensures),
+      found.ensures.key ∙ inv.3,
+      found.ensures.levels ∙ inv.4,
+      omega (arith, before, behind, so_far),
+    )
+
+pub entry_of-records-preserved : goal.entry_of-records-preserved
+entry_of-records-preserved t c =
+    let inv = c.records.invariant in
+    let here = c.records.rest.now in
+    let next = c.in_ok-key in
+    let rest = c.in_ok-rest.rest.now in
+    let read = c.in_ok-rest.ensures.read in
+    let p = read.0 in
+    let value = read.1 in
+    let levels = c.args.levels in
+    let keys = c.args.keys in
+    let values = c.args.values in
+    let key = no_longer IsKey here next.bytes.now next.key next.ensures.read in
+    let behind = c.in_ok-rest.ensures.shorter in
+    let so_far = inv.4 in (
+      _,
+      run_behind levels c.args.body.now here inv.0 inv.1 next.key next.bytes.now rest ([], p) next.ensures.read (value.0, ([], value.0, refl, value.1, refl), value.2),
+      key_step (TakesAt levels) (field_pool keys) (field_type keys) 1 inv.0 (next.key.number, p) _ _ inv.2 read.2,
+      value_step (TakesAt levels) (field_pool values) (field_type values) 2 inv.0 (next.key.number, p) _ _ (joins_at levels) inv.3 read.3,
+      omega (arith, key, behind, so_far),
+    )
+
+pub entry_of-merge_entry-requires : goal.entry_of-merge_entry-requires
+entry_of-merge_entry-requires t c =
+    let next = c.in_ok-key in
+    let key = key_shorter c.records.rest.now next.bytes.now next.key next.ensures.read in
+    let so_far = c.records.invariant.4 in
+    (omega (arith, key, so_far), tt)
+
+pub entry_of-records-init : goal.entry_of-records-init
+entry_of-records-init t c =
+    let values = c.args.values in
+    let unset = value_unset c.args.levels (field_pool values) (field_type values) c.in_ok-value.value c.in_ok-value.ensures.scalar c.in_ok-value.ensures.message c.in_ok-check_level.ensures in
+    ([], ([], refl, refl), (λ scalar. c.in_ok-held_key.ensures.scalar scalar), unset, omega arith)

@@ -1,0 +1,13 @@
+pub mod Elements
+pub mod Fields
+pub mod Keeps
+pub mod Levels
+pub mod Maps
+pub mod Merged
+pub mod Merging
+pub mod Messages
+pub mod Packed
+pub mod Scalars
+pub mod Spares
+pub mod Spelled
+pub mod Taking

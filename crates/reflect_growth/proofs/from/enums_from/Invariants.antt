@@ -1,0 +1,7 @@
+use Rattle.std.proofs.Common.{◌≤◌, map, take}
+use Rattle.std.specs.List.{AllByRecursion}
+use Rattle.reflect_tables.specs.Views.{enum_of}
+use Rattle.reflect_growth.proofs.from.enums_from.Given as goal
+
+abbrev pub invariant-loop-enumeration : goal.invariant-loop-enumeration
+invariant-loop-enumeration l = AllByRecursion (λ x. l.first ≤ x.file) (map enum_of (take l.enumeration-index l.items))

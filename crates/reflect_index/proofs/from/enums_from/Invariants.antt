@@ -1,7 +1,0 @@
-use Rattle.std.proofs.Common.{◌≤◌, map, take}
-use Rattle.std.specs.List.{AllByRecursion}
-use Rattle.reflect_index.specs.Views.{enum_of}
-use Rattle.reflect_index.proofs.from.enums_from.Given as goal
-
-abbrev pub invariant-loop-enumeration : goal.invariant-loop-enumeration
-invariant-loop-enumeration l = AllByRecursion (λ x. l.first ≤ x.file) (map enum_of (take l.enumeration-index l.items))

@@ -1,7 +1,0 @@
-use Rattle.std.proofs.Common.{◌≤◌, map, take}
-use Rattle.std.specs.List.{AllByRecursion}
-use Rattle.reflect_index.specs.Views.{message_of}
-use Rattle.reflect_index.proofs.from.messages_from.Given as goal
-
-abbrev pub invariant-loop-message : goal.invariant-loop-message
-invariant-loop-message l = AllByRecursion (λ x. l.first ≤ x.file) (map message_of (take l.message-index l.items))

@@ -1,8 +1,0 @@
-use Rattle.std.proofs.Common.{map, take}
-use Rattle.std.specs.List.{AllByRecursion}
-use Rattle.reflect_index.specs.Types.{EnumWithin}
-use Rattle.reflect_index.specs.Views.{enum_of}
-use Rattle.reflect_index.proofs.within.enums_within.Given as goal
-
-abbrev pub invariant-loop-enumeration : goal.invariant-loop-enumeration
-invariant-loop-enumeration l = AllByRecursion (EnumWithin l.counts) (map enum_of (take l.enumeration-index l.items))

@@ -1,8 +1,0 @@
-use Rattle.std.proofs.Common.{map, take}
-use Rattle.std.specs.List.{AllByRecursion}
-use Rattle.reflect_index.specs.Types.{MethodWithin}
-use Rattle.reflect_index.specs.Views.{method_of}
-use Rattle.reflect_index.proofs.within.methods_within.Given as goal
-
-abbrev pub invariant-loop-method : goal.invariant-loop-method
-invariant-loop-method l = AllByRecursion (MethodWithin l.counts) (map method_of (take l.method-index l.items))

@@ -1,0 +1,11 @@
+use Rattle.std.proofs.Common.{◌≡◌, take, length, map}
+use Rattle.reflect_message.specs.Copies.{AreCopies}
+use Rattle.reflect_message.specs.Trees.{tree}
+use Rattle.reflect_message.proofs.+clone.Given as goal
+
+-- the entries so far are copied
+abbrev pub invariant-parts::entries_clone-entries : goal.invariant-parts::entries_clone-entries
+invariant-parts::entries_clone-entries l = AreCopies (take (length l.yielded) l.entries) l.copy
+
+abbrev pub invariant-value::list_clone-values : goal.invariant-value::list_clone-values
+invariant-value::list_clone-values l = map tree l.copy.items ≡ map tree (take l.value-index l.value-items)

@@ -1,0 +1,9 @@
+-- What copies have of what they are copies of.
+use Rattle.std.specs.Prelude.{◌≡◌, ℕ, List, option_map}
+use Rattle.reflect_entries.specs.Entries.{value_at}
+use Rattle.reflect_message.specs.Trees.{tree}
+use Rattle.reflect_message.specs.declared.value.Value.{Value}
+
+-- under each number stands a value with the same content, or nothing, as in the old ones
+abbrev pub AreCopies : List (ℕ × Value) → List (ℕ × Value) → Type 0
+AreCopies old new = (n : ℕ) → option_map tree (value_at new n) ≡ option_map tree (value_at old n)

@@ -1,0 +1,33 @@
+-- Keys of maps as values, and values as keys.
+use Rattle.std.specs.Prelude.{Option, Some, None}
+use Rattle.reflect_scalar.specs.declared.map_key.MapKey.{MapKey}
+use Rattle.reflect_scalar.specs.declared.map_key.MapKey.TheVariants as keys
+use Rattle.reflect_message.specs.declared.value.Value.{Value}
+use Rattle.reflect_message.specs.declared.value.Value as values
+use Rattle.reflect_message.specs.declared.parts.Held.TheOpen.{Value-F}
+use Rattle.reflect_message.specs.declared.parts.Held.TheViews.{out-Value}
+
+-- the value that a key is
+abbrev pub value_of_key : MapKey → Value
+value_of_key (keys.Bool b) = values.Bool b
+value_of_key (keys.I32 z) = values.I32 z
+value_of_key (keys.I64 z) = values.I64 z
+value_of_key (keys.U32 n) = values.U32 n
+value_of_key (keys.U64 n) = values.U64 n
+value_of_key (keys.String t) = values.String t
+
+-- the key that a value is, if it can be one
+abbrev pub key_of_value : Value → Option MapKey
+key_of_value v = elim (out-Value v) [
+  | Value-F.Bool b ↦ Some (keys.Bool b)
+  | Value-F.I32 z ↦ Some (keys.I32 z)
+  | Value-F.I64 z ↦ Some (keys.I64 z)
+  | Value-F.U32 n ↦ Some (keys.U32 n)
+  | Value-F.U64 n ↦ Some (keys.U64 n)
+  | Value-F.String t ↦ Some (keys.String t)
+  | Value-F.Bytes b ↦ None
+  | Value-F.EnumNumber z ↦ None
+  | Value-F.Message m ↦ None
+  | Value-F.List vs ↦ None
+  | Value-F.Map es ↦ None
+]

@@ -1,0 +1,183 @@
+//! Fields by their descriptors.
+
+ghost use Rattle.std.specs.Prelude.{◌≡◌, ◌≢◌, ℕ, true, None, Some, IsTrue, IsSome, IfOk, IfSome, OnOk, OnErr};
+ghost use Rattle.std.specs.Option.{unwrap_or};
+ghost use Rattle.reflect_pool.specs.FieldsLeft.{field_type};
+ghost use Rattle.reflect_pool.specs.Shapes.{holds_list};
+ghost use Rattle.reflect_scalar.specs.FieldTypes.{field_pool};
+ghost use Rattle.reflect_entries.specs.Entries.{value_at};
+ghost use Rattle.reflect_message.specs.Declares.{Declares, Owns};
+ghost use Rattle.reflect_message.specs.Held.{fields_of, choices_of, extensions_of, unknown_of, UpdatesField, Same};
+ghost use Rattle.reflect_message.specs.Lists.{Lengthens, KeepsList};
+ghost use Rattle.reflect_message.specs.Oneofs.{IsExclusive, SetsField, sibling};
+ghost use Rattle.reflect_message.specs.Present.{held_if_set, is_held};
+ghost use Rattle.reflect_message.specs.Shown.{Shows, IsHeldOrDefault};
+
+use crate::content;
+use crate::defaults::default_of;
+use crate::field_ref::FieldRef;
+use crate::message::DynamicMessage;
+use crate::message_parts::MessageParts;
+use crate::set_field_error::SetFieldError;
+use crate::validity::is_valid_for;
+use crate::value::Value;
+use reflect_link::FieldDescriptor;
+use std::alloc::AllocError;
+
+impl<'p> DynamicMessage<'p> {
+    /// The field, one of the message's type, is set: it has presence and was set, or it holds something else than its
+    /// default. Takes no memory.
+    pub fn has_field(&self, field: &FieldDescriptor<'p>) -> bool
+        requires { Declares self.now.descriptor field.now }
+        ensures held { IsTrue result → IsSome (value_at (fields_of self.now) (field_type field.now).number) }
+        ensures presence { (field_type field.now).presence ≡ true → IsSome (value_at (fields_of self.now) (field_type field.now).number) → IsTrue result }
+        ensures set { result ≡ is_held (field_pool field.now) (field_type field.now) (value_at (fields_of self.now) (field_type field.now).number) }
+    {
+        content::is_set(self.field_value(field.number()), field)
+    }
+
+    /// What the field, one of the message's type, holds, or its default.
+    pub fn get_field(&self, field: &FieldDescriptor<'p>) -> Result<FieldRef<'_, 'p>, AllocError>
+        requires { Declares self.now.descriptor field.now }
+        ensures { IfOk result (Shows (field_pool field.now) (field_type field.now) (value_at (fields_of self.now) (field_type field.now).number)) }
+    {
+        content::lend(self.allocator(), self.field_value(field.number()), field)
+    }
+
+    /// What the field, one of the message's type, holds, to be changed. A field that is not set gets its default, and the
+    /// other members of its oneof are unset. A refusal leaves the message.
+    pub fn get_field_mut(
+        &mut self,
+        field: &FieldDescriptor<'p>,
+    ) -> Result<&mut Value<'p>, AllocError>
+        requires { Declares self.old.descriptor field.now }
+        ensures { IfOk result (λ r. IsHeldOrDefault (field_pool field.now) (field_type field.now) (value_at (fields_of self.old) (field_type field.now).number) r.now) }
+    {
+        let default = default_of(self.allocator(), field)?;
+        self.fill_field(field, default)?;
+        match self.field_value_mut(field.number()) {
+            Some(value) => Ok(value),
+            None => unreachable!(),
+        }
+    }
+
+    /// Puts the default where the field, one of the message's type, holds nothing, and unsets the other members of its oneof:
+    /// what `get_field_mut` does before it lends the value. A refusal leaves the message.
+    fn fill_field(
+        &mut self,
+        field: &FieldDescriptor<'p>,
+        default: Value<'p>,
+    ) -> Result<(), AllocError>
+        ensures type_stays { self.new.descriptor ≡ self.old.descriptor }
+        ensures ok { OnOk result (SetsField self.old self.new field.now (unwrap_or (value_at (fields_of self.old) (field_type field.now).number) default.entry)) }
+        ensures exclusive { Owns self.old.descriptor field.now → IsExclusive self.old → IsExclusive self.new }
+        ensures err { OnErr result (fields_of self.new ≡ fields_of self.old) }
+        ensures extensions { extensions_of self.new ≡ extensions_of self.old }
+        ensures unknown { unknown_of self.new ≡ unknown_of self.old }
+    {
+        let mut parts = self.take_block()?;
+        let outcome = parts.fill_field(field, default);
+        self.put_block(parts);
+        outcome
+    }
+
+    /// Sets the field, one of the message's type, to a value that suits it, over what it held; the other members of its
+    /// oneof are unset. A refusal leaves the message.
+    pub fn set_field(
+        &mut self,
+        field: &FieldDescriptor<'p>,
+        value: Value<'p>,
+    ) -> Result<(), AllocError>
+        requires { Declares self.old.descriptor field.now }
+        ensures type_stays { self.new.descriptor ≡ self.old.descriptor }
+        ensures ok { OnOk result (SetsField self.old self.new field.now value.entry) }
+        ensures exclusive { Owns self.old.descriptor field.now → IsExclusive self.old → IsExclusive self.new }
+        ensures err { OnErr result (fields_of self.new ≡ fields_of self.old) }
+        ensures extensions { extensions_of self.new ≡ extensions_of self.old }
+        ensures unknown { unknown_of self.new ≡ unknown_of self.old }
+    {
+        let mut parts = self.take_block()?;
+        let outcome = parts.set_field(field, value);
+        self.put_block(parts);
+        outcome
+    }
+
+    /// Sets the field, one of the message's type, as `set_field` does.
+    ///
+    /// `InvalidType` hands field and value back where the field does not take the value; then, and for want of memory,
+    /// the message is unchanged.
+    pub fn try_set_field(
+        &mut self,
+        field: &FieldDescriptor<'p>,
+        value: Value<'p>,
+    ) -> Result<(), SetFieldError<'p>>
+        requires { Declares self.old.descriptor field.now }
+        ensures type_stays { self.new.descriptor ≡ self.old.descriptor }
+        ensures ok { OnOk result (SetsField self.old self.new field.now value.entry) }
+        ensures exclusive { Owns self.old.descriptor field.now → IsExclusive self.old → IsExclusive self.new }
+        ensures err { OnErr result (fields_of self.new ≡ fields_of self.old) }
+        ensures extensions { extensions_of self.new ≡ extensions_of self.old }
+        ensures unknown { unknown_of self.new ≡ unknown_of self.old }
+    {
+        if !is_valid_for(&value, field) {
+            return Err(SetFieldError::InvalidType {
+                field: *field,
+                value,
+            });
+        }
+        self.set_field(field, value)?;
+        Ok(())
+    }
+
+    /// Puts values that suit it behind those of the field, one of the message's type: of a list as its elements, and of a map
+    /// as its entries, which are messages of the entries' type, each over what stood under its key. The other members of its
+    /// oneof are unset. Of a field that holds one value nothing happens.
+    ///
+    /// A refusal leaves the values of a list, and of a map perhaps some of the entries more.
+    pub fn extend_field(
+        &mut self,
+        field: &FieldDescriptor<'p>,
+        values: Vec<Value<'p>>,
+    ) -> Result<(), AllocError>
+        requires { Declares self.old.descriptor field.now }
+        ensures type_stays { self.new.descriptor ≡ self.old.descriptor }
+        ensures list { holds_list (field_pool field.now) (field_type field.now) ≡ true → OnOk result (Lengthens (value_at (fields_of self.old) (field_type field.now).number) (value_at (fields_of self.new) (field_type field.now).number) values.entry.items) }
+        ensures left { holds_list (field_pool field.now) (field_type field.now) ≡ true → OnErr result (KeepsList (value_at (fields_of self.old) (field_type field.now).number) (value_at (fields_of self.new) (field_type field.now).number)) }
+        ensures others { (n : ℕ) → n ≢ (field_type field.now).number → sibling field.now (choices_of self.old) ≢ Some n → Same (fields_of self.old) (fields_of self.new) n }
+        ensures extensions { extensions_of self.new ≡ extensions_of self.old }
+        ensures unknown { unknown_of self.new ≡ unknown_of self.old }
+    {
+        let alloc = self.allocator();
+        let mut parts = self.take_block()?;
+        let outcome = parts.extend_field(alloc, field, values);
+        self.put_block(parts);
+        outcome
+    }
+
+    /// Unsets the field, one of the message's type. Takes no memory.
+    pub fn clear_field(&mut self, field: &FieldDescriptor<'p>)
+        requires { Declares self.old.descriptor field.now }
+        ensures updates { UpdatesField self.old self.new (field_type field.now).number None }
+        ensures exclusive { IsExclusive self.old → IsExclusive self.new }
+    {
+        if let Some(mut parts) = self.block() {
+            parts.fields.take(field.number());
+            self.put_block(parts);
+        }
+    }
+
+    /// Unsets the field, one of the message's type, and gives what it held, if it was set. Takes no memory.
+    pub fn take_field(&mut self, field: &FieldDescriptor<'p>) -> Option<Value<'p>>
+        requires { Declares self.old.descriptor field.now }
+        ensures updates { UpdatesField self.old self.new (field_type field.now).number None }
+        ensures exclusive { IsExclusive self.old → IsExclusive self.new }
+        ensures held { IfSome result (λ v. value_at (fields_of self.old) (field_type field.now).number ≡ Some v) }
+        ensures presence { (field_type field.now).presence ≡ true → result ≡ value_at (fields_of self.old) (field_type field.now).number }
+        ensures taken { result ≡ held_if_set (field_pool field.now) (field_type field.now) (value_at (fields_of self.old) (field_type field.now).number) }
+    {
+        let mut parts = self.block()?;
+        let taken = content::take(&mut parts.fields, field);
+        self.put_block(parts);
+        taken
+    }
+}

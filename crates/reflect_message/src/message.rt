@@ -1,0 +1,170 @@
+ghost use Rattle.std.specs.Prelude.{◌≡◌, [], IfOk, IfSome, IfNone};
+ghost use Rattle.std.specs.Option.{option_copied, option_copied_mut};
+ghost use Rattle.reflect_entries.specs.Entries.{value_at};
+ghost use Rattle.reflect_message.specs.EntriesLeft.{entries_left};
+ghost use Rattle.reflect_entries.specs.Undeclared.{undeclared};
+ghost use Rattle.reflect_message.specs.Contents.{content_of, nothing};
+ghost use Rattle.reflect_message.specs.Copies.{AreCopies};
+ghost use Rattle.reflect_message.specs.Held.{fields_of, choices_of, extensions_of, unknown_of};
+ghost use Rattle.reflect_message.specs.Oneofs.{IsExclusive};
+ghost use Rattle.reflect_message.specs.Trees.{held_tree};
+
+use crate::parts::{Held, Parts};
+use crate::value::Value;
+use reflect_entries::entries;
+use reflect_link::{ExtensionDescriptor, FieldDescriptor, MessageDescriptor};
+use reflect_scalar::holds_floats;
+use std::alloc::{AllocError, Global};
+use std::mem;
+
+/// A message of a type that is known at run time.
+#[derive(Drop)]
+#[cycle(value)]
+pub struct DynamicMessage<'p> {
+    pub(crate) descriptor: MessageDescriptor<'p>,
+    pub(crate) alloc: Global,
+    pub(crate) held: Held<'p>,
+}
+
+impl<'p> DynamicMessage<'p> {
+    /// A message in which no field is set. Takes no memory.
+    pub fn new(alloc: Global, descriptor: MessageDescriptor<'p>) -> DynamicMessage<'p>
+        ensures same_type { result.descriptor ≡ descriptor.entry }
+        ensures fields { fields_of result ≡ [] }
+        ensures exclusive { IsExclusive result }
+        ensures extensions { extensions_of result ≡ [] }
+        ensures unknown { unknown_of result ≡ [] }
+        ensures empty { content_of result ≡ nothing }
+    {
+        DynamicMessage {
+            descriptor,
+            alloc,
+            held: Held::Nothing,
+        }
+    }
+
+    /// The message's type.
+    pub fn descriptor(&self) -> MessageDescriptor<'p>
+        ensures { result ≡ self.now.descriptor }
+    {
+        self.descriptor
+    }
+
+    /// Unsets all fields and extensions, and drops the other records. Takes no memory.
+    pub fn clear(&mut self)
+        ensures type_stays { self.new.descriptor ≡ self.old.descriptor }
+        ensures empty { content_of self.new ≡ nothing }
+    {
+        self.held = Held::Nothing;
+    }
+
+    /// A copy.
+    #[cycle(clone)]
+    pub fn clone(&self) -> Result<DynamicMessage<'p>, AllocError>
+        ensures same_type { IfOk result (λ m. m.descriptor ≡ self.now.descriptor) }
+        ensures fields { IfOk result (λ m. AreCopies (fields_of self.now) (fields_of m)) }
+        ensures choices { IfOk result (λ m. choices_of m ≡ choices_of self.now) }
+        ensures content { IfOk result (λ m. held_tree m.held ≡ held_tree self.now.held) }
+        ensures extensions { IfOk result (λ m. AreCopies (extensions_of self.now) (extensions_of m)) }
+        ensures unknown { IfOk result (λ m. unknown_of m ≡ unknown_of self.now) }
+    {
+        Ok(DynamicMessage {
+            descriptor: self.descriptor,
+            alloc: self.alloc,
+            held: self.held.clone(self.alloc)?,
+        })
+    }
+
+    /// No field or extension is set, and there are no other records. Takes no memory.
+    pub fn is_empty(&self) -> bool {
+        self.unknown_fields().next().is_none()
+            && self.fields().next().is_none()
+            && self.extensions().next().is_none()
+    }
+
+    /// The field is one of the message's type, and one that messages hold: no floating-point number, and no map of such.
+    pub fn declares(&self, field: &FieldDescriptor<'p>) -> bool {
+        field.parent_message().is_same(&self.descriptor) && !holds_floats(field)
+    }
+
+    /// The extension is one of the message's type, and one that messages hold, as for fields.
+    pub fn declares_extension(&self, extension: &ExtensionDescriptor<'p>) -> bool {
+        extension.containing_message().is_same(&self.descriptor) && !holds_floats(extension)
+    }
+
+    /// What stands under the number of a declared field.
+    pub(crate) fn field_value(&self, number: u32) -> Option<&Value<'p>>
+        ensures { option_copied result ≡ value_at (fields_of self.now) number }
+    {
+        match &self.held {
+            Held::Block(parts) => parts.fields.get(number),
+            Held::Nothing => None,
+        }
+    }
+
+    /// What stands under the number of a declared field, to be changed.
+    pub(crate) fn field_value_mut(&mut self, number: u32) -> Option<&mut Value<'p>>
+        ensures { option_copied_mut result ≡ value_at (fields_of self.old) number }
+    {
+        match &mut self.held {
+            Held::Block(parts) => parts.fields.get_mut(number),
+            Held::Nothing => None,
+        }
+    }
+
+    /// What stands under the number of an extension.
+    pub(crate) fn extension_value(&self, number: u32) -> Option<&Value<'p>>
+        ensures { option_copied result ≡ value_at (extensions_of self.now) number }
+    {
+        match &self.held {
+            Held::Block(parts) => parts.extensions.get(number),
+            Held::Nothing => None,
+        }
+    }
+
+    /// What stands under the number of an extension, to be changed.
+    pub(crate) fn extension_value_mut(&mut self, number: u32) -> Option<&mut Value<'p>>
+        ensures { option_copied_mut result ≡ value_at (extensions_of self.old) number }
+    {
+        match &mut self.held {
+            Held::Block(parts) => parts.extensions.get_mut(number),
+            Held::Nothing => None,
+        }
+    }
+
+    /// What the declared fields hold, by ascending number, if the message holds anything.
+    pub(crate) fn field_entries(&self) -> Option<entries::Iter<'_, Value<'p>>>
+        ensures { entries_left result ≡ fields_of self.now }
+    {
+        match &self.held {
+            Held::Block(parts) => Some(parts.fields.iter()),
+            Held::Nothing => None,
+        }
+    }
+
+    /// What the extensions hold, by ascending number, if the message holds anything.
+    pub(crate) fn extension_entries(&self) -> Option<entries::Iter<'_, Value<'p>>>
+        ensures { entries_left result ≡ extensions_of self.now }
+    {
+        match &self.held {
+            Held::Block(parts) => Some(parts.extensions.iter()),
+            Held::Nothing => None,
+        }
+    }
+
+    /// The block of what the message holds, taken out, if it holds anything. Takes no memory.
+    pub(crate) fn block(&mut self) -> Option<Box<Parts<'p>>>
+        ensures type_stays { self.new.descriptor ≡ self.old.descriptor }
+        ensures fields { IfSome result (λ block. block.value.fields ≡ fields_of self.old) }
+        ensures choices { IfSome result (λ block. block.value.choices.members ≡ choices_of self.old) }
+        ensures extensions { IfSome result (λ block. block.value.extensions ≡ extensions_of self.old) }
+        ensures unknown { IfSome result (λ block. undeclared block.value.unknown ≡ unknown_of self.old) }
+        ensures nothing { IfNone result ((fields_of self.old ≡ []) × (choices_of self.old ≡ []) × (extensions_of self.old ≡ []) × (unknown_of self.old ≡ [])) }
+        ensures none { IfNone result (self.new ≡ self.old) }
+    {
+        match mem::replace(&mut self.held, Held::Nothing) {
+            Held::Block(block) => Some(block),
+            Held::Nothing => None,
+        }
+    }
+}

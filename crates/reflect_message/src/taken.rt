@@ -1,0 +1,109 @@
+//! What was taken out of a message.
+
+use crate::defaults::is_present;
+use crate::message::DynamicMessage;
+use crate::message_parts::MessageParts;
+use crate::parts::Held;
+use crate::value::Value;
+use reflect_entries::{Entries, entries};
+use reflect_link::{ExtensionDescriptor, FieldDescriptor, MessageDescriptor};
+use reflect_wire::UnknownField;
+use std::alloc::AllocError;
+use std::mem;
+
+impl<'p> DynamicMessage<'p> {
+    /// Unsets all fields, and gives those that were set with what they held, by ascending number. Takes no memory.
+    pub fn take_fields(&mut self) -> TakenFields<'p> {
+        let mut taken = Entries::new(self.allocator());
+        if let Held::Block(parts) = &mut self.held {
+            mem::swap(&mut taken, &mut parts.fields);
+        }
+        TakenFields {
+            descriptor: self.descriptor,
+            entries: taken.into_iter(),
+        }
+    }
+
+    /// Unsets all extensions, and gives those that were set with what they held, by ascending number. Takes no memory.
+    pub fn take_extensions(&mut self) -> TakenExtensions<'p> {
+        let mut taken = Entries::new(self.allocator());
+        if let Held::Block(parts) = &mut self.held {
+            mem::swap(&mut taken, &mut parts.extensions);
+        }
+        TakenExtensions {
+            descriptor: self.descriptor,
+            entries: taken.into_iter(),
+        }
+    }
+
+    /// Drops the records of numbers that the type does not declare, and gives copies of them in the order of
+    /// `unknown_fields`. A refusal leaves the message.
+    pub fn take_unknown_fields(&mut self) -> Result<Vec<UnknownField>, AllocError> {
+        let mut fields = Vec::new(self.allocator());
+        for field in self.unknown_fields() {
+            fields.push(field.clone()?)?;
+        }
+        if let Held::Block(parts) = &mut self.held {
+            parts.unknown.clear();
+        }
+        Ok(fields)
+    }
+}
+
+/// The fields that were taken out of a message, by ascending number.
+#[derive(Drop)]
+pub struct TakenFields<'p> {
+    descriptor: MessageDescriptor<'p>,
+    entries: entries::IntoIter<Value<'p>>,
+}
+
+impl<'p> Iterator for TakenFields<'p> {
+    ghost use Rattle.std.specs.Iterator.{at_most};
+    ghost use Rattle.std.specs.Prelude.{length};
+    ghost use Rattle.reflect_entries.specs.Ahead.{taken};
+
+    type Item = (FieldDescriptor<'p>, Value<'p>);
+
+    ghost remaining = { λ s. at_most (length (taken s.entries)) };
+
+    fn next(&mut self) -> Option<(FieldDescriptor<'p>, Value<'p>)> {
+        let descriptor = self.descriptor;
+        'entries: while let Some((number, value)) = self.entries.next() {
+            if let Some(field) = descriptor.get_field(number) {
+                if is_present(&value, &field) {
+                    return Some((field, value));
+                }
+            }
+        }
+        None
+    }
+}
+
+/// The extensions that were taken out of a message, by ascending number.
+#[derive(Drop)]
+pub struct TakenExtensions<'p> {
+    descriptor: MessageDescriptor<'p>,
+    entries: entries::IntoIter<Value<'p>>,
+}
+
+impl<'p> Iterator for TakenExtensions<'p> {
+    ghost use Rattle.std.specs.Iterator.{at_most};
+    ghost use Rattle.std.specs.Prelude.{length};
+    ghost use Rattle.reflect_entries.specs.Ahead.{taken};
+
+    type Item = (ExtensionDescriptor<'p>, Value<'p>);
+
+    ghost remaining = { λ s. at_most (length (taken s.entries)) };
+
+    fn next(&mut self) -> Option<(ExtensionDescriptor<'p>, Value<'p>)> {
+        let descriptor = self.descriptor;
+        'entries: while let Some((number, value)) = self.entries.next() {
+            if let Some(extension) = descriptor.get_extension(number) {
+                if is_present(&value, &extension) {
+                    return Some((extension, value));
+                }
+            }
+        }
+        None
+    }
+}

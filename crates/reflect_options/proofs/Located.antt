@@ -1,0 +1,39 @@
+-- The span of a path among locations, and faults that are passed on with their places.
+use Rattle.std.proofs.Common.{◌≡◌, ◌∙◌, ◌≤◌, ℕ, ℤ, List, ◌∷◌, Bool, true, false, cond, Option, None, Some, IfSome, Result, IfErr, IsErrAnd, slice_get, int_cmp, int_eq, ap, sym, subst, refl}
+use Rattle.std.proofs.lemmas.Result.{err_from_is_err_and}
+use Rattle.std.specs.Cmp.Lexicographic.{pointwise, lists_ties}
+use Rattle.std.specs.Option.{option_or}
+use Rattle.descriptor_records.specs.declared.source_info.Location.{Location}
+use Rattle.descriptor_records.specs.declared.file.FileDescriptorProto.{FileDescriptorProto}
+use Rattle.reflect_names.specs.Faults.{Place}
+use Rattle.reflect_names.specs.Spans.{same_path, span_among, span_of}
+use Rattle.reflect_names.specs.declared.label.SourceSpan.{SourceSpan}
+use Rattle.reflect_options.specs.Places.{IsPlaceIn, StandsFrom}
+use Rattle.reflect_options.specs.declared.option_error.OptionError.{OptionError}
+
+as_path : (xs ys : List ℤ) → pointwise int_eq xs ys ≡ same_path xs ys
+as_path = lists_ties int_cmp (λ x y. refl)
+
+own : (l : Location) (ls : List Location) (path : List ℤ) (b : Bool) → pointwise int_eq l.path.items path ≡ b → span_among (l ∷ ls) path ≡ option_or (cond b (span_of l.span.items) None) (span_among ls path)
+own l ls path b is = ap (λ t. option_or (cond t (span_of l.span.items) None) (span_among ls path)) (sym (as_path l.path.items path) ∙ is)
+
+-- the first location has the path and a span
+pub here : (l : Location) (ls : List Location) (path : List ℤ) (s : SourceSpan) → pointwise int_eq l.path.items path ≡ true → span_of l.span.items ≡ Some s → span_among (l ∷ ls) path ≡ Some s
+here l ls path s is told = own l ls path true is ∙ ap (λ o. option_or o (span_among ls path)) told
+
+-- it has another path
+pub further : (l : Location) (ls : List Location) (path : List ℤ) → pointwise int_eq l.path.items path ≡ false → span_among ls path ≡ span_among (l ∷ ls) path
+further l ls path is = sym (own l ls path false is)
+
+-- it has the path, and no span
+pub untold : (l : Location) (ls : List Location) (path : List ℤ) → pointwise int_eq l.path.items path ≡ true → span_of l.span.items ≡ None → span_among ls path ≡ span_among (l ∷ ls) path
+untold l ls path is none = sym (own l ls path true is ∙ ap (λ o. option_or o (span_among ls path)) none)
+
+-- a place in a file at an index is one from each index before it on
+pub in_file : (files : List FileDescriptorProto) (first i : ℕ) (f : FileDescriptorProto) → first ≤ i → slice_get files i ≡ Some f → (p : Option Place) → IfSome p (IsPlaceIn f) → IfSome p (StandsFrom files first)
+in_file files first i f from at None place = tt
+in_file files first i f from at (Some p) place = (i, f, from, at, place)
+
+-- what holds of a fault holds of the refusal that passes it on
+pub passed : {T : Type 0} (r : Result T OptionError) (Q : OptionError → Type 0) (fault : OptionError) → IsErrAnd r (λ e. e ≡ fault) → Q fault → IfErr r Q
+passed r Q fault err q = let p = err_from_is_err_and r err in rw p.1 (subst Q (sym p.2) q)

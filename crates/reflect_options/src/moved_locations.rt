@@ -1,0 +1,60 @@
+//! Where the locations of options move.
+
+use descriptor_records::{FileDescriptorProto, join_path, tag};
+use reflect_build::Edit;
+use std::alloc::{AllocError, Global};
+use std::collections::BTreeMap;
+
+/// The path with its front, which is that of an option up to so many numbers, replaced by where the option was set.
+fn moved_front(
+    alloc: Global,
+    path: &[i32],
+    len: usize,
+    moved: &BTreeMap<Vec<i32>, Vec<i32>>,
+) -> Result<Option<Vec<i32>>, AllocError> {
+    let (Some(front), Some(rest)) = (path.get(..len), path.get(len..)) else {
+        return Ok(None);
+    };
+    match moved.get(front) {
+        Some(target) => Ok(Some(join_path(alloc, target.as_slice(), rest)?)),
+        None => Ok(None),
+    }
+}
+
+/// The path with the part that names an option replaced by where that option was set.
+fn moved_path(
+    alloc: Global,
+    path: &[i32],
+    moved: &BTreeMap<Vec<i32>, Vec<i32>>,
+) -> Result<Option<Vec<i32>>, AllocError> {
+    for (at, number) in path.iter().enumerate() {
+        if *number == tag::UNINTERPRETED_OPTION {
+            let found = moved_front(alloc, path, at.saturating_add(2), moved)?;
+            if found.is_some() {
+                return Ok(found);
+            }
+        }
+    }
+    Ok(None)
+}
+
+/// Adds the edits of a file's locations: those of options move to where these were set.
+pub fn move_locations(
+    alloc: Global,
+    file: u32,
+    record: &FileDescriptorProto,
+    moved: &BTreeMap<Vec<i32>, Vec<i32>>,
+    edits: &mut Vec<Edit>,
+) -> Result<(), AllocError> {
+    let Some(info) = &record.source_code_info else {
+        return Ok(());
+    };
+    let mut place = 0u32;
+    for location in &info.location {
+        if let Some(path) = moved_path(alloc, location.path.as_slice(), moved)? {
+            edits.push(Edit::Location { file, place, path })?;
+        }
+        place = place.saturating_add(1);
+    }
+    Ok(())
+}

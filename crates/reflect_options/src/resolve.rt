@@ -1,0 +1,116 @@
+ghost use Rattle.std.specs.Prelude.{◌≡◌, OnErr, IfOk, IfErr, IfSome};
+ghost use Rattle.reflect_tables.specs.Types.{PoolType, IsSettled};
+ghost use Rattle.reflect_names.specs.Faults.{place_of};
+ghost use Rattle.reflect_names.specs.Spans.{span_among};
+ghost use Rattle.reflect_options.specs.Places.{option_place, IsPlaceIn, StandsFrom};
+
+use crate::option_error::{OptionError, OptionErrorKind};
+use crate::option_types::check_option_types;
+use crate::options_visitor::OptionsVisitor;
+use descriptor_records::{FileDescriptorProto, Location};
+use reflect_build::{BuildFiles, Edit};
+use reflect_link::{DescriptorPool, FileDescriptor};
+use reflect_names::{Label, Offsets, SourceSpan, VisitError, visit};
+use std::alloc::{AllocError, Global};
+
+/// Options, read by the types of the pool that they stand in.
+pub trait ResolveOptions {
+    /// What the pool holds.
+    ghost holds: { Self → PoolType };
+
+    /// Settles the options of the files from index `first` on: each record's stored bytes and what a source wrote become the
+    /// bytes of the pool's type for them, what linking reads of them follows the bytes, and the locations of options move to
+    /// where these were set (protobuf.dev, "Custom Options").
+    ///
+    /// The error is the first fault that was met. After a refusal the pool is as it was; else nothing but records changes.
+    fn resolve_options(&mut self, alloc: Global, first: u32) -> Result<(), OptionError>
+        ensures unchanged { OnErr result (holds self.new ≡ holds self.old) }
+        ensures place { IfErr result (λ e. IfSome (option_place e) (StandsFrom (holds self.old).records first)) }
+        ensures settled { IsSettled (holds self.old) (holds self.new) };
+}
+
+impl ResolveOptions for DescriptorPool {
+    ghost holds = { λ p. p };
+
+    fn resolve_options(&mut self, alloc: Global, first: u32) -> Result<(), OptionError> {
+        let edits = collect_edits(alloc, self, first)?;
+        self.settle(edits);
+        Ok(())
+    }
+}
+
+/// The place of a path in a file, with its span where the file's record has one.
+fn label_of(alloc: Global, file: &FileDescriptorProto, path: Vec<i32>) -> Result<Label, AllocError>
+    ensures { IfOk result (λ l. IsPlaceIn file.now (place_of l)) }
+{
+    let name = match &file.name {
+        Some(name) => name.as_str(),
+        None => "",
+    };
+    let span = match &file.source_code_info {
+        Some(info) => span_of_path(info.location.as_slice(), path.as_slice()),
+        None => None,
+    };
+    Label::new(alloc, name, path, span)
+}
+
+/// The span of a path: that of the first location of the path that has one.
+fn span_of_path(locations: &[Location], path: &[i32]) -> Option<SourceSpan>
+    ensures { result ≡ span_among locations.now path.now }
+{
+    let mut rest = locations;
+    'locations: while let Some((location, others)) = rest.split_first() {
+        if location.path.as_slice() == path {
+            if let Some(span) = SourceSpan::from_location(location.span.as_slice()) {
+                return Some(span);
+            }
+        }
+        rest = others;
+    }
+    None
+}
+
+/// The edits of one file, put behind the others.
+fn collect_file<'p>(
+    alloc: Global,
+    index: u32,
+    file: &FileDescriptorProto,
+    visitor: &mut OptionsVisitor<'p>,
+) -> Result<(), OptionError>
+    ensures { IfErr result (λ e. IfSome (option_place e) (IsPlaceIn file.now)) }
+{
+    let none = Offsets {
+        messages: 0,
+        enums: 0,
+        extensions: 0,
+        services: 0,
+    };
+    match visit(alloc, none, index, file, visitor) {
+        Ok(_) => {}
+        Err(VisitError::TooMany | VisitError::Memory) => {
+            return Err(OptionError::new(OptionErrorKind::Memory, None));
+        }
+    }
+    match visitor.take_fault() {
+        Some((kind, path)) => {
+            let place = label_of(alloc, file, path)?;
+            Err(OptionError::new(kind, Some(place)))
+        }
+        None => Ok(visitor.move_locations(alloc, index, file)?),
+    }
+}
+
+/// The edits that settle the options of the files from index `first` on.
+fn collect_edits(alloc: Global, pool: &DescriptorPool, first: u32) -> Result<Vec<Edit>, OptionError>
+    ensures { IfErr result (λ e. IfSome (option_place e) (StandsFrom pool.now.records first)) }
+{
+    if let Some(kind) = check_option_types(alloc, pool)? {
+        return Err(OptionError::new(kind, None));
+    }
+    let mut visitor = OptionsVisitor::new(alloc, pool);
+    'files: for index in first..pool.mark() {
+        let file = FileDescriptor::new(pool, index);
+        collect_file(alloc, index, file.file_descriptor_proto(), &mut visitor)?;
+    }
+    Ok(visitor.into_edits())
+}

@@ -1,0 +1,72 @@
+//! What a pool consists of, given away and taken back.
+
+ghost use Rattle.std.specs.Prelude.{◌≡◌};
+ghost use Rattle.reflect_tables.specs.Views.{pool_of};
+ghost use Rattle.reflect_pool.specs.Linked.{IsLinked};
+
+use crate::blank::Blanks;
+use crate::pool::DescriptorPool;
+use reflect_scope::{Definition, Links};
+use reflect_tables::Tables;
+use std::collections::BTreeMap;
+
+/// The tables of a pool, which hold its entries and what these are found by.
+#[derive(Drop)]
+pub struct PoolParts {
+    pub tables: Tables,
+    /// What each file imports.
+    pub links: Vec<Links>,
+    /// The places of the files, by their names.
+    pub file_names: BTreeMap<String, u32>,
+    /// What the full names stand for.
+    pub names: BTreeMap<String, Definition>,
+    /// The places of the extensions, by the message that they extend and their number.
+    pub extension_numbers: BTreeMap<(u32, u32), u32>,
+}
+
+impl DescriptorPool {
+    /// The pool of these parts, which have to fit together as those of a pool do. Takes no memory.
+    pub fn from_parts(parts: PoolParts) -> DescriptorPool
+        requires { IsLinked (pool_of parts.tables) parts.names parts.file_names parts.extension_numbers parts.links.items }
+        ensures { result ≡ pool_of parts.tables }
+    {
+        let PoolParts {
+            tables,
+            links,
+            file_names,
+            names,
+            extension_numbers,
+        } = parts;
+        let alloc = *tables.files.allocator();
+        DescriptorPool {
+            tables,
+            links,
+            file_names,
+            names,
+            extension_numbers,
+            blanks: Blanks::new(alloc),
+        }
+    }
+
+    /// The parts of the pool. Takes no memory.
+    pub fn into_parts(self) -> PoolParts
+        ensures holds { pool_of result.tables ≡ self }
+        ensures linked { IsLinked (pool_of result.tables) result.names result.file_names result.extension_numbers result.links.items }
+    {
+        let DescriptorPool {
+            tables,
+            links,
+            file_names,
+            names,
+            extension_numbers,
+            blanks: _,
+        } = self;
+        PoolParts {
+            tables,
+            links,
+            file_names,
+            names,
+            extension_numbers,
+        }
+    }
+}

@@ -1,0 +1,4 @@
+pub mod Alike
+pub mod Indexes
+pub mod Founds
+pub mod Furthest

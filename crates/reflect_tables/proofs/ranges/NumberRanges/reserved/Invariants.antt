@@ -1,0 +1,8 @@
+-- The ranges so far are those of the records so far.
+use Rattle.std.proofs.Common.{◌≡◌, map, take}
+use Rattle.reflect_tables.specs.Ranges.{reserved_range}
+use Rattle.reflect_tables.proofs.Furthest.{pair_of}
+use Rattle.reflect_tables.proofs.ranges.NumberRanges.reserved.Given as goal
+
+abbrev pub invariant-turns : goal.invariant-turns
+invariant-turns l = map pair_of l.ranges.items ≡ map reserved_range (take l.record-index l.records)

@@ -1,0 +1,79 @@
+ghost use Rattle.std.specs.Prelude.{◌≡◌, IfErr, IfOk, OnOk};
+ghost use Rattle.reflect_format.specs.Steps.{Makes, Reaches, Stops};
+ghost use Rattle.reflect_format.specs.Truth.{TrueOf};
+
+use reflect_format::{ParseError, Parser};
+use reflect_link::MessageDescriptor;
+use reflect_message::DynamicMessage;
+use reflect_print::{FormatOptions, WriteError, Writer};
+use std::alloc::Global;
+
+/// Messages as text, in protobuf's text format (protobuf.dev, "Text Format Language Specification").
+pub trait TextFormat<'p>: Sized {
+    ghost use Rattle.reflect_message.specs.declared.message.DynamicMessage.{DynamicMessage};
+
+    /// The message that it is.
+    ghost message: { Self → DynamicMessage };
+
+    /// The message of a type that a text spells. Refused with the first fault of the text, as `merge_text_format` is.
+    fn parse_text_format(
+        alloc: Global,
+        descriptor: MessageDescriptor<'p>,
+        text: &str,
+    ) -> Result<Self, ParseError>
+        ensures same_type { IfOk result (λ m. (message m).descriptor ≡ descriptor.entry) }
+        ensures made { IfOk result (λ m. Makes descriptor.entry (message m)) }
+        ensures refused { IfErr result (λ e. TrueOf descriptor.entry.pool.now e.kind) };
+
+    /// Reads a text into the message. The first fault ends it; the message then has the fields at the top that were read
+    /// before the fault, and for want of memory perhaps a part of the map or the `google.protobuf.Any` that was to be set.
+    ///
+    /// A name is called unknown only where its type, its enum or the pool has none such.
+    fn merge_text_format(&mut self, alloc: Global, text: &str) -> Result<(), ParseError>
+        ensures type_stays { (message self.new).descriptor ≡ (message self.old).descriptor }
+        ensures refused { IfErr result (λ e. TrueOf (message self.old).descriptor.pool.now e.kind) }
+        ensures reached { OnOk result (Reaches (message self.old) (message self.new)) }
+        ensures stops { IfErr result (λ e. Stops e.kind (message self.old) (message self.new)) };
+
+    /// The message's text in the form of [`FormatOptions::new`].
+    fn to_text_format(&self, alloc: Global) -> Result<String, WriteError>;
+
+    /// The message's text in the form of the options.
+    fn to_text_format_with_options(
+        &self,
+        alloc: Global,
+        options: &FormatOptions,
+    ) -> Result<String, WriteError>;
+}
+
+impl<'p> TextFormat<'p> for DynamicMessage<'p> {
+    ghost message = { λ m. m };
+
+    fn parse_text_format(
+        alloc: Global,
+        descriptor: MessageDescriptor<'p>,
+        text: &str,
+    ) -> Result<DynamicMessage<'p>, ParseError> {
+        let mut message = DynamicMessage::new(alloc, descriptor);
+        Parser::new(alloc, text).parse_message(&mut message)?;
+        Ok(message)
+    }
+
+    fn merge_text_format(&mut self, alloc: Global, text: &str) -> Result<(), ParseError> {
+        Parser::new(alloc, text).parse_message(self)
+    }
+
+    fn to_text_format(&self, alloc: Global) -> Result<String, WriteError> {
+        self.to_text_format_with_options(alloc, &FormatOptions::new())
+    }
+
+    fn to_text_format_with_options(
+        &self,
+        alloc: Global,
+        options: &FormatOptions,
+    ) -> Result<String, WriteError> {
+        let mut text = String::new(alloc);
+        Writer::new(alloc, *options, &mut text).fmt_message(self)?;
+        Ok(text)
+    }
+}

@@ -1,0 +1,13 @@
+pub mod Files
+pub mod Scalars
+pub mod Declarations
+pub mod References
+pub mod Outlines
+pub mod Means
+pub mod Rules
+pub mod Lawful
+pub mod Plain
+pub mod Views
+pub mod Fields
+pub mod Types
+pub mod Example
