@@ -1,5 +1,1 @@
-pub mod Payloads
-pub mod Places
-pub mod Refusals
-pub mod Serving
 pub mod Statuses

@@ -1,7 +1,7 @@
 -- The statuses that the program ends with.
 use Rattle.std.specs.Prelude.{ℕ}
-use Rattle.reflect_schema.specs.declared.error.SchemaError.TheVariants as schema
-use Rattle.reflect_schema.specs.declared.payload.Fault.TheVariants as fault
+use Rattle.schema_core.specs.declared.error.SchemaError.TheVariants as schema
+use Rattle.schema_core.specs.declared.payload.Fault.TheVariants as fault
 use Rattle.reflect_schema.specs.declared.program.RunFault.{RunFault}
 use Rattle.reflect_schema.specs.declared.program.RunFault.TheVariants as run
 

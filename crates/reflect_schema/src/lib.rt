@@ -1,13 +1,7 @@
-//! Schemas: sources in, refused or added as one batch; text to bytes and bytes to text of a type named at run time.
+//! Schemas, and the program over any files and any streams.
 #![tactic(auto)]
 
-mod command_line;
-mod error;
-mod payload;
 mod program;
-mod schema;
 
-pub use error::SchemaError;
-pub use payload::{Action, Fault, serve};
 pub use program::{ReadFault, SourceFiles, run};
-pub use schema::Schema;
+pub use schema_core::{Action, Fault, Schema, SchemaError, serve};

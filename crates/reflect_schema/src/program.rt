@@ -3,11 +3,9 @@
 ghost use Rattle.std.specs.Prelude.{◌≡◌};
 ghost use Rattle.reflect_schema.specs.Statuses.{status_of};
 
-use crate::command_line::{Request, Task, parse, requested};
-use crate::error::SchemaError;
-use crate::payload::{Fault, serve, write_bytes};
-use crate::schema::Schema;
 use clap::error::ErrorKind;
+use schema_core::{Fault, Schema, SchemaError, serve, write_bytes};
+use schema_words::{Request, Task, parse, requested};
 use std::alloc::{AllocError, AllocFailed, Global};
 use std::fmt::Display;
 use std::io::{Read, Write};

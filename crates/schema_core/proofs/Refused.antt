@@ -1,0 +1,112 @@
+-- How files, sources and descriptor sets are refused.
+use Rattle.std.proofs.Common.{◌≡◌, ◌⊎◌, ◌≤◌, ◌<◌, inl, inr, ℕ, List, [], ◌∷◌, None, Some, IfSome, length, map, take, get_or, slice_get, option_map, string_bytes, refl, ap, ◌∙◌, sym, subst}
+use Rattle.std.specs.Borrow.{Bor}
+use Rattle.std.proofs.lemmas.List.{take_all}
+use Rattle.std.proofs.lemmas.Option.{slice_get-map, slice_get-get_or}
+use Rattle.descriptor_records.specs.declared.file.FileDescriptorProto.{FileDescriptorProto}
+use Rattle.reflect_wire.specs.declared.wire_error.WireError.{WireError}
+use Rattle.reflect_wire.specs.declared.wire_error.WireError.TheVariants as wire
+use Rattle.reflect_codec.specs.Reading.{Rejects}
+use Rattle.reflect_codec.specs.Meaning.{IsSetBytes}
+use Rattle.protox_parse.specs.Refusals.{IsRefusalOf}
+use Rattle.protox_parse.specs.declared.error.ParseError.{ParseError}
+use Rattle.protox_parse.specs.declared.error.ParseError.TheVariants as parsed
+use Rattle.reflect_tables.specs.Types.{PoolType}
+use Rattle.reflect_names.specs.Faults.{Place, place_of}
+use Rattle.reflect_passes.specs.Errors.{Refuses}
+use Rattle.reflect_passes.specs.declared.error.DescriptorError.{DescriptorError}
+use Rattle.reflect_build.specs.Refusals.{FaultyFiles}
+use Rattle.reflect_bytes.specs.Spelled.{SpellsSet}
+use Rattle.reflect_format.specs.Truth.{TrueOf}
+use Rattle.reflect_format.specs.declared.error.ParseError as text
+use Rattle.reflect_format.specs.declared.error.ParseErrorKind.{ParseErrorKind}
+use Rattle.reflect_format.specs.declared.error.ParseErrorKind.TheVariants as texts
+use Rattle.reflect_options.specs.Places.{option_place, StandsFrom}
+use Rattle.reflect_options.specs.TypedOptions.{TypedFiles}
+use Rattle.reflect_options.specs.declared.option_error.OptionError.{OptionError}
+use Rattle.schema_core.specs.declared.error.SchemaError.{SchemaError}
+use Rattle.schema_core.specs.declared.error.SchemaError.TheVariants.{Parse, Link, Options, Wire, Text, UnknownType, Memory, TooLong}
+use Rattle.schema_core.specs.Refusals.{of_source, of_wire, of_text, IsKnown, TextRefused, FilesFit, FilesRefused, sources_of, AreFilesOf, SourcesLinked, SourcesRefused, SetRefused}
+
+-- a linker's refusal is one of files
+pub of_link : (p : PoolType) (files typed : List FileDescriptorProto) (d : DescriptorError) (e : SchemaError) → TypedFiles files typed → Refuses (FaultyFiles p typed) d → (e ≡ Memory) ⊎ (e ≡ Link d) → FilesRefused p files e
+of_link p files typed d e t r (inl m) = rw m tt
+of_link p files typed d e t r (inr l) = rw l (typed, t, r)
+
+-- files that fit together are refused for their options
+pub of_options : (p : PoolType) (files : List FileDescriptorProto) (new : PoolType) (o : OptionError) (e : SchemaError) → FilesFit p files new → IfSome (option_place o) (StandsFrom new.records (length p.files)) → (e ≡ Memory) ⊎ (e ≡ Options o)
+    → FilesRefused p files e
+of_options p files new o e fit at (inl m) = rw m tt
+of_options p files new o e fit at (inr x) = rw x (new, fit, at)
+
+-- files that are refused are refused as the set that they stand in
+pub of_set : (p : PoolType) (bytes : List ℕ) (files : List FileDescriptorProto) (e : SchemaError) → SpellsSet bytes files → FilesRefused p files e → SetRefused p bytes e
+of_set p bytes files (Link e) s r = (files, s, r)
+of_set p bytes files (Options e) s r = (files, s, r)
+of_set p bytes files Memory s r = tt
+of_set p bytes files (Parse e) s r = absurd r
+of_set p bytes files (Wire e) s r = absurd r
+of_set p bytes files (Text e) s r = absurd r
+of_set p bytes files (UnknownType n) s r = absurd r
+of_set p bytes files TooLong s r = absurd r
+
+-- a source as its file's name and its text
+abbrev view : Bor (List ℕ) × Bor (List ℕ) → List ℕ × List ℕ
+view s = (s.0.now, s.1.now)
+
+-- a source that is lent is one of the batch
+pub lent : (lends : List (Bor (List ℕ) × Bor (List ℕ))) (i : ℕ) (d : Bor (List ℕ) × Bor (List ℕ)) → i < length lends → slice_get (sources_of lends) i ≡ Some (view (get_or lends i d))
+lent lends i d inside = slice_get-map view lends i ∙ ap (option_map view) (slice_get-get_or lends i d inside)
+
+-- the names of the sources that are lent
+names : (lends : List (Bor (List ℕ) × Bor (List ℕ))) → map (λ s. Some s.0.now) lends ≡ map (λ s. Some s.0) (sources_of lends)
+names [] = refl
+names (s ∷ lends) = ap (λ xs. Some s.0.now ∷ xs) (names lends)
+
+-- files under the names of all sources that are lent are those of the batch
+pub all_read : (lends : List (Bor (List ℕ) × Bor (List ℕ))) (i : ℕ) (files : List FileDescriptorProto) → length lends ≤ i → map (λ f. option_map string_bytes f.name) files ≡ map (λ s. Some s.0.now) (take i lends)
+    → AreFilesOf (sources_of lends) files
+all_read lends i files end read = read ∙ ap (map (λ s. Some s.0.now)) (take_all i lends end) ∙ names lends
+
+-- a source that is refused is one of its batch
+pub of_refused : (p : PoolType) (batch : List (List ℕ × List ℕ)) (i : ℕ) (s : List ℕ × List ℕ) (x : ParseError) → slice_get batch i ≡ Some s → (x ≡ parsed.Memory) ⊎ IsRefusalOf s.0 s.1 x → SourcesRefused p batch (of_source x)
+of_refused p batch i s parsed.Memory at h = tt
+of_refused p batch i s (parsed.Refused r) at (inl m) = absurd (cc m)
+of_refused p batch i s (parsed.Refused r) at (inr h) = (i, s, at, h)
+
+-- files that are refused are refused as the sources that they are read from
+pub of_sources : (p : PoolType) (batch : List (List ℕ × List ℕ)) (files : List FileDescriptorProto) (e : SchemaError) → AreFilesOf batch files → FilesRefused p files e → SourcesRefused p batch e
+of_sources p batch files (Link e) a r = (files, a, r)
+of_sources p batch files (Options e) a r = (files, a, r)
+of_sources p batch files Memory a r = tt
+of_sources p batch files (Parse e) a r = absurd r
+of_sources p batch files (Wire e) a r = absurd r
+of_sources p batch files (Text e) a r = absurd r
+of_sources p batch files (UnknownType n) a r = absurd r
+of_sources p batch files TooLong a r = absurd r
+
+-- of an error without a place nothing is said
+nowhere : (o : OptionError) (Q : Place → Type 0) → o.place ≡ None → IfSome (option_place o) Q
+nowhere o Q none = subst (λ l. IfSome (option_map place_of l) Q) (sym none) tt
+
+-- sources that fit together are refused for their options, at no place
+pub sources_options : (p : PoolType) (batch : List (List ℕ × List ℕ)) (new : PoolType) (o : OptionError) (e : SchemaError) → SourcesLinked p batch new → o.place ≡ None → (e ≡ Memory) ⊎ (e ≡ Options o) → SourcesRefused p batch e
+sources_options p batch new o e (files, read, (linked, fit, settled)) none x = of_sources p batch files e read (of_options p files linked o e fit (nowhere o (StandsFrom linked.records (length p.files)) none) x)
+
+-- bytes that are read as no set spell none
+pub of_bytes : (p : PoolType) (bytes : List ℕ) (e : WireError) → Rejects IsSetBytes bytes e → SetRefused p bytes (of_wire e)
+of_bytes p bytes wire.Memory h = tt
+of_bytes p bytes wire.Truncated h = λ files s. h.none (λ q. cc q) s.0 s.1
+of_bytes p bytes wire.BadVarint h = λ files s. h.none (λ q. cc q) s.0 s.1
+of_bytes p bytes wire.BadKey h = λ files s. h.none (λ q. cc q) s.0 s.1
+of_bytes p bytes wire.BadWireType h = λ files s. h.none (λ q. cc q) s.0 s.1
+of_bytes p bytes wire.EndGroupMismatch h = λ files s. h.none (λ q. cc q) s.0 s.1
+of_bytes p bytes wire.TooDeep h = λ files s. h.none (λ q. cc q) s.0 s.1
+of_bytes p bytes wire.BadUtf8 h = λ files s. h.none (λ q. cc q) s.0 s.1
+of_bytes p bytes wire.TooLong h = λ files s. h.none (λ q. cc q) s.0 s.1
+
+-- a text of a known type is refused with what is true of its pool
+pub of_text_kind : (p : PoolType) (name : List ℕ) (e : text.ParseError) (kind : ParseErrorKind) → e.kind ≡ kind → IsKnown p name → TrueOf p kind → TextRefused p name (of_text e kind)
+of_text_kind p name e texts.Memory is known true = tt
+of_text_kind p name e (texts.TooLong span) is known true = absurd true
+of_text_kind p name e kind is known true = (known, subst (TrueOf p) (sym is) true)

@@ -1,0 +1,24 @@
+use Rattle.std.proofs.Common.{refl, subst, string_bytes, IsUtf8}
+use Rattle.schema_core.specs.Payloads.{Decoded, Recoded}
+use Rattle.schema_core.specs.Serving.{Answers, shown}
+use Rattle.schema_core.proofs.Answered.{answered}
+use Rattle.schema_core.proofs.payload.serve.Goals as goal
+
+pub returns-in_ok-bytes-in-Encode-clause-answered : goal.returns-in_ok-bytes-in-Encode-clause-answered
+returns-in_ok-bytes-in-Encode-clause-answered g c =
+    let text = c.in_ok-utf8-in-Encode.ensures.ok in
+    let bytes = c.in_ok-bytes-in-Encode in
+    answered (Answers c.args.action c.args.schema.now.pool c.args.type_name.now c.args.is_hex) _ _ _ _ c.in_ok-input.input.items (shown c.args.is_hex bytes.bytes.items) c.in_ok-input.ensures.bytes (rw c.in-Encode.is (subst IsUtf8 c.as_slice.ensures.value text.1, (bytes.bytes.items, bytes.ensures.ok, refl))) (rw c.as_slice-in-Encode.ensures.value at c.write_bytes.ensures.ok)
+
+pub returns-in_ok-text-in-Decode-clause-answered : goal.returns-in_ok-text-in-Decode-clause-answered
+returns-in_ok-text-in-Decode-clause-answered g c =
+    let bytes = c.in_ok-bytes-in-Decode in
+    answered (Answers c.args.action c.args.schema.now.pool c.args.type_name.now c.args.is_hex) _ _ _ _ c.in_ok-input.input.items (string_bytes c.in_ok-text-in-Decode.text) c.in_ok-input.ensures.bytes
+    (rw c.in-Decode.is (bytes.bytes.items, bytes.ensures.ok, subst (Decoded c.args.schema.now.pool c.args.type_name.now) c.as_slice-in-Decode.ensures.value c.in_ok-decode-in-Decode.ensures.ok, (string_bytes c.in_ok-decode-in-Decode.field-0, c.in_ok-text-in-Decode.ensures.ok))) (rw (c.as_bytes.ensures.value, c.as_str.ensures.value) at c.write_all.ensures.ok)
+
+pub returns-in_ok-bytes-in-Recode-2-clause-answered : goal.returns-in_ok-bytes-in-Recode-2-clause-answered
+returns-in_ok-bytes-in-Recode-2-clause-answered g c =
+    let bytes = c.in_ok-bytes-in-Recode in
+    let recoded = c.in_ok-bytes-in-Recode-2 in
+    answered (Answers c.args.action c.args.schema.now.pool c.args.type_name.now c.args.is_hex) _ _ _ _ c.in_ok-input.input.items (shown c.args.is_hex recoded.bytes.items) c.in_ok-input.ensures.bytes
+    (rw c.in-Recode.is (bytes.bytes.items, bytes.ensures.ok, (recoded.bytes.items, subst (λ b. Recoded c.args.schema.now.pool c.args.type_name.now b recoded.bytes.items) c.as_slice-in-Recode.ensures.value recoded.ensures.ok, refl))) (rw c.as_slice-in-Recode-2.ensures.value at c.write_bytes-in-Recode.ensures.ok)

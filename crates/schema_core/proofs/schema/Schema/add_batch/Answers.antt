@@ -1,0 +1,29 @@
+use Rattle.std.proofs.Common.{◌≡◌, IfErr, IfSome, subst, rules, of_calls}
+use Rattle.std.proofs.lemmas.Result.{err_from_is_err_and}
+use Rattle.reflect_tables.specs.Types.{IsSettled}
+use Rattle.reflect_options.specs.Places.{option_place, StandsFrom}
+use Rattle.schema_core.specs.Refusals.{FilesFit}
+use Rattle.schema_core.proofs.Refused.{of_link, of_options}
+use Rattle.schema_core.proofs.schema.Schema.add_batch.Goals as goal
+use Rattle.schema_core.proofs.schema.Schema.add_batch.Goals.{then-is_err, else-is_err}
+
+pub returns-in_err-build_files-clause-err : goal.returns-in_err-build_files-clause-err
+returns-in_err-build_files-clause-err c =
+    let p = err_from_is_err_and c.from_residual.result c.from_residual.ensures.1 in
+    rw p.1 (of_link c.args.self.now.pool c.args.files.items c.copy_typed_options.new.files.items c.in_err-build_files.field-0.0 _ c.copy_typed_options.ensures c.in_err-build_files.ensures.refused p.2)
+
+pub returns-in_err-settled-clause-err : goal.returns-in_err-settled-clause-err
+returns-in_err-settled-clause-err c =
+    let r = c.from_residual-in_err-settled in
+    let p = err_from_is_err_and r.result r.ensures.1 in
+    let fit : FilesFit c.args.self.now.pool c.args.files.items c.build_files.new.self = (c.copy_typed_options.new.files.items, c.copy_typed_options.ensures, (c.in_ok-build_files.ensures.added, c.in_ok-build_files.ensures.accepted)) in
+    let e = c.in_err-settled.field-0.0 in
+    let place = subst (λ s. IfErr s (λ f. IfSome (option_place f) (StandsFrom c.build_files.new.self.records c.mark-mark.result))) c.in_err-settled.was c.resolve_options-settled.ensures.place in
+    let at = subst (λ n. IfSome (option_place e) (StandsFrom c.build_files.new.self.records n)) c.mark-mark.ensures place in
+    rw p.1 (of_options c.args.self.now.pool c.args.files.items c.build_files.new.self c.in_err-settled.field-0.0 _ fit at p.2)
+
+pub returns-clause-linked : goal.returns-clause-linked
+returns-clause-linked c =
+    let fit : FilesFit c.args.self.now.pool c.args.files.items c.build_files.new.self = (c.copy_typed_options.new.files.items, c.copy_typed_options.ensures, (c.in_ok-build_files.ensures.added, c.in_ok-build_files.ensures.accepted)) in
+    let settled : IsSettled c.build_files.new.self c.if-is_err.self.pool = elim c.if-is_err.branch [ then-is_err w ↦ search (rules, of_calls) | else-is_err w ↦ search (rules, of_calls) ] in
+    (c.build_files.new.self, fit, settled)

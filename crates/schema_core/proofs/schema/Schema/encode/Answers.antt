@@ -1,0 +1,18 @@
+use Rattle.std.proofs.Common.{refl, subst}
+use Rattle.std.proofs.lemmas.Result.{err_from_is_err_and}
+use Rattle.reflect_format.specs.Truth.{TrueOf}
+use Rattle.schema_core.proofs.Refused.{of_text_kind}
+use Rattle.schema_core.proofs.schema.Schema.encode.Goals as goal
+
+pub returns-in_err-message-clause-err : goal.returns-in_err-message-clause-err
+returns-in_err-message-clause-err c =
+    let r = c.from_residual-in_err-message in
+    let p = err_from_is_err_and r.result r.ensures.1 in
+    let type = c.in_ok-descriptor.ensures in
+    let e = c.in_err-message.field-0.0 in
+    rw (p.1, p.2) (of_text_kind c.args.self.now.pool c.args.type_name.now e e.kind refl (c.in_ok-descriptor.descriptor.index, type.ok) (subst (λ pool. TrueOf pool e.kind) type.pool c.in_err-message.ensures.refused))
+
+pub returns-clause-ok : goal.returns-clause-ok
+returns-clause-ok c =
+    let type = c.in_ok-descriptor.ensures in
+    (c.in_ok-descriptor.descriptor, (type.pool, type.ok), (c.in_ok-message.message, c.in_ok-message.ensures.made, c.in_ok-encode_to_vec.ensures.ok))

@@ -1,0 +1,4 @@
+pub mod Payloads
+pub mod Places
+pub mod Refusals
+pub mod Serving

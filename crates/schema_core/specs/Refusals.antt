@@ -1,0 +1,121 @@
+-- Which refusals the calls of a schema give.
+use Rattle.std.specs.Prelude.{◌≡◌, ℕ, List, None, Some, IfSome, map, length, option_map, slice_get, string_bytes, codes}
+use Rattle.std.specs.Borrow.{Bor}
+use Rattle.protox_parse.specs.Refusals.{IsRefusalOf}
+use Rattle.protox_parse.specs.declared.error.ParseError.{ParseError}
+use Rattle.protox_parse.specs.declared.error.ParseError.TheVariants as parsed
+use Rattle.reflect_tables.specs.Finding.{IsFirst}
+use Rattle.reflect_tables.specs.Types.{PoolType, IsSettled}
+use Rattle.descriptor_records.specs.declared.file.FileDescriptorProto.{FileDescriptorProto}
+use Rattle.reflect_passes.specs.Errors.{Refuses}
+use Rattle.reflect_pool.specs.Dots.{without_dot}
+use Rattle.reflect_build.specs.Refusals.{FaultyFiles}
+use Rattle.reflect_wire.specs.declared.wire_error.WireError.{WireError}
+use Rattle.reflect_wire.specs.declared.wire_error.WireError.TheVariants as wire
+use Rattle.reflect_bytes.specs.Spelled.{SpellsSet, RecordsLinked}
+use Rattle.reflect_format.specs.Truth.{TrueOf}
+use Rattle.reflect_format.specs.declared.error.ParseError as text
+use Rattle.reflect_format.specs.declared.error.ParseErrorKind.{ParseErrorKind}
+use Rattle.reflect_format.specs.declared.error.ParseErrorKind.TheVariants as texts
+use Rattle.reflect_options.specs.Places.{option_place, StandsFrom}
+use Rattle.reflect_options.specs.TypedOptions.{TypedFiles}
+use Rattle.schema_core.specs.declared.error.SchemaError.{SchemaError}
+use Rattle.schema_core.specs.declared.error.SchemaError.TheVariants.{Parse, Link, Options, Wire, Text, UnknownType, Memory, TooLong}
+
+-- a refusal of a source, as one of the schema
+abbrev pub of_source : ParseError → SchemaError
+of_source parsed.Memory = Memory
+of_source e = Parse e
+
+-- a refusal of wire bytes, as one of the schema
+abbrev pub of_wire : WireError → SchemaError
+of_wire wire.Memory = Memory
+of_wire wire.TooLong = TooLong
+of_wire e = Wire e
+
+-- a refusal of a text, by its kind, as one of the schema
+abbrev pub of_text : text.ParseError → ParseErrorKind → SchemaError
+of_text e texts.Memory = Memory
+of_text e (texts.TooLong span) = TooLong
+of_text e _ = Text e
+
+-- there is a message type of the name
+abbrev pub IsKnown : PoolType → List ℕ → Type 0
+IsKnown p name = (i : ℕ) × IsFirst (λ m. m.full_name ≡ without_dot name) p.messages (Some i)
+
+-- there is none
+abbrev pub IsUnknown : PoolType → List ℕ → Type 0
+IsUnknown p name = IsFirst (λ m. m.full_name ≡ without_dot name) p.messages None
+
+-- no message type has the name, which the refusal gives back, or memory ran out
+abbrev pub TypeRefused : PoolType → List ℕ → SchemaError → Type 0
+TypeRefused p name (UnknownType n) = (string_bytes n ≡ name) × IsUnknown p name
+TypeRefused p name Memory = Unit {0}
+TypeRefused p name _ = ⊥
+
+-- of bytes: the type is unknown, or it is known and the bytes are refused
+abbrev pub BytesRefused : PoolType → List ℕ → SchemaError → Type 0
+BytesRefused p name (UnknownType n) = (string_bytes n ≡ name) × IsUnknown p name
+BytesRefused p name (Wire e) = IsKnown p name
+BytesRefused p name TooLong = IsKnown p name
+BytesRefused p name Memory = Unit {0}
+BytesRefused p name _ = ⊥
+
+-- of a text: the type is unknown, or it is known and the text is refused with a fault that is true of the pool
+abbrev pub TextRefused : PoolType → List ℕ → SchemaError → Type 0
+TextRefused p name (UnknownType n) = (string_bytes n ≡ name) × IsUnknown p name
+TextRefused p name (Text e) = IsKnown p name × TrueOf p e.kind
+TextRefused p name Memory = Unit {0}
+TextRefused p name _ = ⊥
+
+-- files fit together and with a pool, which becomes the new one, with the options that linking reads where it reads them
+abbrev pub FilesFit : PoolType → List FileDescriptorProto → PoolType → Type 0
+FilesFit p files new = (typed : List FileDescriptorProto) × TypedFiles files typed × RecordsLinked p typed new
+
+-- files are added to a pool, and what settles their options changes records alone
+abbrev pub FilesLinked : PoolType → List FileDescriptorProto → PoolType → Type 0
+FilesLinked p files new = (linked : PoolType) × FilesFit p files linked × IsSettled linked new
+
+-- of files: they do not fit together; or they do and options of one of them, where the fault stands, do not suit their types
+abbrev pub FilesRefused : PoolType → List FileDescriptorProto → SchemaError → Type 0
+FilesRefused p files (Link e) = (typed : List FileDescriptorProto) × TypedFiles files typed × Refuses (FaultyFiles p typed) e
+FilesRefused p files (Options e) = (new : PoolType) × FilesFit p files new × IfSome (option_place e) (StandsFrom new.records (length p.files))
+FilesRefused p files Memory = Unit {0}
+FilesRefused p files _ = ⊥
+
+-- the name under which the types of options are known
+abbrev pub descriptor_name : List ℕ
+descriptor_name = codes "google/protobuf/descriptor.proto"
+
+-- sources as the names of their files and their texts
+abbrev pub sources_of : List (Bor (List ℕ) × Bor (List ℕ)) → List (List ℕ × List ℕ)
+sources_of sources = map (λ s. (s.0.now, s.1.now)) sources
+
+-- files, one of each source and in their order, have the names of the sources
+abbrev pub AreFilesOf : List (List ℕ × List ℕ) → List FileDescriptorProto → Type 0
+AreFilesOf sources files = map (λ f. option_map string_bytes f.name) files ≡ map (λ s. Some s.0) sources
+
+-- sources are added as such files
+abbrev pub SourcesLinked : PoolType → List (List ℕ × List ℕ) → PoolType → Type 0
+SourcesLinked p sources new = (files : List FileDescriptorProto) × AreFilesOf sources files × FilesLinked p files new
+
+-- of sources: one of them is refused under its own name and where its own text is at fault, or such files are refused
+abbrev pub SourcesRefused : PoolType → List (List ℕ × List ℕ) → SchemaError → Type 0
+SourcesRefused p sources (Parse e) = (i : ℕ) × (s : List ℕ × List ℕ) × (slice_get sources i ≡ Some s) × IsRefusalOf s.0 s.1 e
+SourcesRefused p sources (Link e) = (files : List FileDescriptorProto) × AreFilesOf sources files × FilesRefused p files (Link e)
+SourcesRefused p sources (Options e) = (files : List FileDescriptorProto) × AreFilesOf sources files × FilesRefused p files (Options e)
+SourcesRefused p sources Memory = Unit {0}
+SourcesRefused p sources _ = ⊥
+
+-- bytes are those of a descriptor set whose files are added
+abbrev pub SetLinked : PoolType → List ℕ → PoolType → Type 0
+SetLinked p bytes new = (files : List FileDescriptorProto) × SpellsSet bytes files × FilesLinked p files new
+
+-- of a descriptor set: the bytes are none, or they are one whose files are refused
+abbrev pub SetRefused : PoolType → List ℕ → SchemaError → Type 0
+SetRefused p bytes (Wire e) = (files : List FileDescriptorProto) → SpellsSet bytes files → ⊥
+SetRefused p bytes TooLong = (files : List FileDescriptorProto) → SpellsSet bytes files → ⊥
+SetRefused p bytes (Link e) = (files : List FileDescriptorProto) × SpellsSet bytes files × FilesRefused p files (Link e)
+SetRefused p bytes (Options e) = (files : List FileDescriptorProto) × SpellsSet bytes files × FilesRefused p files (Options e)
+SetRefused p bytes Memory = Unit {0}
+SetRefused p bytes _ = ⊥

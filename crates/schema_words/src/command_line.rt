@@ -1,0 +1,144 @@
+//! The words of the command line.
+
+use clap::{Arg, ArgAction, ArgMatches, Command, Error};
+use std::alloc::{AllocError, Global};
+
+/// What is done with a payload.
+#[derive(Clone, Copy, PartialEq, Eq)]
+pub enum Action {
+    /// Text to wire bytes.
+    Encode,
+    /// Wire bytes to text.
+    Decode,
+    /// Wire bytes to the one form in which the type's messages are written.
+    Recode,
+}
+
+/// What a run is to do with the schema.
+#[derive(Clone, Copy)]
+pub enum Task<'a> {
+    /// It translates a payload of the type of this name.
+    Payload(Action, &'a str),
+    /// It writes the schema's descriptor set.
+    Set,
+}
+
+/// What the command line asks for.
+#[derive(Clone, Copy)]
+pub struct Request<'a> {
+    pub task: Task<'a>,
+    /// The file that declares the types of options.
+    pub descriptor: Option<&'a str>,
+    /// The file that holds a descriptor set.
+    pub set: Option<&'a str>,
+    pub root: &'a str,
+    pub is_hex: bool,
+    /// The names of the sources.
+    pub names: &'a [&'a str],
+}
+
+/// What is done.
+fn action<'a>(alloc: Global) -> Arg<'a> {
+    Arg::new(alloc, "action")
+        .value_name("ACTION")
+        .required(true)
+        .value_parser(["encode", "decode", "recode", "set"].as_slice())
+        .help(
+            "encode: text to wire bytes; decode: wire bytes to text; recode: wire bytes to their one written form; set: the schema's descriptor set",
+        )
+}
+
+fn descriptor<'a>(alloc: Global) -> Arg<'a> {
+    Arg::new(alloc, "descriptor")
+        .long("descriptor")
+        .value_name("FILE")
+        .help("A descriptor.proto whose types the options are read by")
+}
+
+fn set<'a>(alloc: Global) -> Arg<'a> {
+    Arg::new(alloc, "set")
+        .long("set")
+        .value_name("FILE")
+        .help("A descriptor set whose files come before the sources")
+}
+
+fn type_name<'a>(alloc: Global) -> Result<Arg<'a>, AllocError> {
+    let type_name = Arg::new(alloc, "type")
+        .long("type")
+        .value_name("NAME")
+        .required_if_eq("action", "encode")?
+        .required_if_eq("action", "decode")?
+        .required_if_eq("action", "recode")?
+        .help("The full name of the message type; set does without");
+    Ok(type_name)
+}
+
+fn root<'a>(alloc: Global) -> Arg<'a> {
+    Arg::new(alloc, "root")
+        .long("root")
+        .value_name("DIR")
+        .default_value(".")
+        .help("The folder that the sources stand in")
+}
+
+fn hex<'a>(alloc: Global) -> Arg<'a> {
+    Arg::new(alloc, "hex")
+        .long("hex")
+        .action(ArgAction::SetTrue)
+        .help("Reads and writes wire bytes as hexadecimal text")
+}
+
+fn names<'a>(alloc: Global) -> Arg<'a> {
+    Arg::new(alloc, "names")
+        .value_name("NAMES")
+        .num_args(0..)
+        .help(
+            "The .proto files, by their names under the folder; imports are not loaded by themselves",
+        )
+}
+
+/// The command line that `schema` takes.
+fn command<'a>(alloc: Global) -> Result<Command<'a>, AllocError> {
+    Command::new(alloc, "schema")
+        .no_binary_name(true)
+        .about(
+            "Translates protobuf messages between text and wire bytes, from standard input to standard output, or writes the descriptor set of a schema",
+        )
+        .after_help("Example: schema encode --type p.M --hex a.proto < message.txt")
+        .arg(action(alloc))?
+        .arg(descriptor(alloc))?
+        .arg(set(alloc))?
+        .arg(type_name(alloc)?)?
+        .arg(root(alloc))?
+        .arg(hex(alloc))?
+        .arg(names(alloc))
+}
+
+/// Reads the words, without the program's name.
+pub fn parse<'a>(alloc: Global, words: &'a [&'a str]) -> Result<ArgMatches<'a>, Error> {
+    command(alloc)?.try_get_matches_from(words)
+}
+
+/// What is asked of the payload, or of the schema itself; nothing where a word is missing that the command line requires.
+fn asked_task<'m, 'a>(matches: &'m ArgMatches<'a>) -> Option<Task<'m>> {
+    let action = match matches.get_str("action")? {
+        "encode" => Action::Encode,
+        "decode" => Action::Decode,
+        "recode" => Action::Recode,
+        "set" => return Some(Task::Set),
+        _ => return None,
+    };
+    Some(Task::Payload(action, matches.get_str("type")?))
+}
+
+/// What the words that were read ask for; nothing where a word is missing that the command line requires.
+pub fn requested<'m, 'a>(matches: &'m ArgMatches<'a>) -> Option<Request<'m>> {
+    Some(Request {
+        task: asked_task(matches)?,
+        descriptor: matches.get_str("descriptor"),
+        set: matches.get_str("set"),
+        root: matches.get_str("root")?,
+        is_hex: matches.get_flag("hex"),
+        names: matches.get_strs("names").unwrap_or(&[]),
+    })
+}
