@@ -1,67 +1,19 @@
-//! What the types of options must have, so that options can be read by them.
+//! Why options cannot be read by the types that a pool has for them.
 
-use crate::option_error::OptionErrorKind;
-use crate::option_scope::OptionScope;
-use reflect_link::{DescriptorPool, FieldDescriptor, Kind, MessageDescriptor, MessageReaders};
+use option_parts::{bad_option_type, missing_option_type};
+use option_setter::OptionErrorKind;
+use reflect_link::DescriptorPool;
 use std::alloc::{AllocError, Global};
 
-/// The number of the list of uninterpreted options in each type of options.
-pub const UNINTERPRETED_OPTION: u32 = 999;
-
-/// Extensions have the numbers from this one on.
-const FIRST_EXTENSION: u32 = 1000;
-
-/// The number behind the last one.
-const BEHIND_EXTENSIONS: u32 = 536_870_912;
-
-/// The type has its list of uninterpreted options.
-fn has_uninterpreted(options: MessageDescriptor<'_>) -> bool {
-    let Some(field) = options.get_field(UNINTERPRETED_OPTION) else {
-        return false;
-    };
-    field.name() == "uninterpreted_option"
-        && field.is_list()
-        && !field.is_group()
-        && matches!(field.kind(), Kind::Message(_))
-}
-
-/// The type keeps all numbers from 1000 on for extensions.
-fn has_extensions(options: MessageDescriptor<'_>) -> bool {
-    for range in options.extension_ranges() {
-        if range.start == FIRST_EXTENSION && range.end == BEHIND_EXTENSIONS {
-            return true;
+/// The fault of the type of options that has the name, if one is at fault.
+fn fault_of(alloc: Global, name: Option<&str>) -> Result<Option<OptionErrorKind>, AllocError> {
+    match name {
+        Some(name) => {
+            let name = String::from_str(alloc, name)?;
+            Ok(Some(OptionErrorKind::BadDescriptorProto { name }))
         }
+        None => Ok(None),
     }
-    false
-}
-
-/// The field is a truth value of this name that may be set or not.
-fn is_plain_truth(field: FieldDescriptor<'_>, name: &str) -> bool {
-    field.name() == name
-        && matches!(field.kind(), Kind::Bool)
-        && field.supports_presence()
-        && field.containing_oneof().is_none()
-}
-
-/// The type has the option that linking reads itself, if there is one in its scope.
-fn has_typed_option(scope: OptionScope, options: MessageDescriptor<'_>) -> bool {
-    let Some((name, number)) = scope.typed_option() else {
-        return true;
-    };
-    match options.get_field(number) {
-        Some(field) => is_plain_truth(field, name),
-        None => false,
-    }
-}
-
-/// Options of the scope can be read by the type.
-fn is_good(scope: OptionScope, options: MessageDescriptor<'_>) -> bool {
-    has_uninterpreted(options) && has_extensions(options) && has_typed_option(scope, options)
-}
-
-fn bad(alloc: Global, name: &str) -> Result<OptionErrorKind, AllocError> {
-    let name = String::from_str(alloc, name)?;
-    Ok(OptionErrorKind::BadDescriptorProto { name })
 }
 
 /// What is wrong with the pool's types of options, if there is something: each that is there must have a repeated message field
@@ -71,14 +23,7 @@ pub fn check_option_types(
     alloc: Global,
     pool: &DescriptorPool,
 ) -> Result<Option<OptionErrorKind>, AllocError> {
-    for scope in OptionScope::ALL {
-        if let Some(options) = pool.get_message_by_name(scope.type_name()) {
-            if !is_good(scope, options) {
-                return Ok(Some(bad(alloc, scope.type_name())?));
-            }
-        }
-    }
-    Ok(None)
+    fault_of(alloc, bad_option_type(pool))
 }
 
 /// What is wrong with the pool's types of options, where all of them must be there.
@@ -86,10 +31,5 @@ pub fn require_option_types(
     alloc: Global,
     pool: &DescriptorPool,
 ) -> Result<Option<OptionErrorKind>, AllocError> {
-    for scope in OptionScope::ALL {
-        if pool.get_message_by_name(scope.type_name()).is_none() {
-            return Ok(Some(bad(alloc, scope.type_name())?));
-        }
-    }
-    check_option_types(alloc, pool)
+    fault_of(alloc, missing_option_type(pool).or(bad_option_type(pool)))
 }

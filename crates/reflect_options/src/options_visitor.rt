@@ -1,13 +1,11 @@
-use crate::moved_locations::move_locations;
-use crate::option_error::OptionErrorKind;
-use crate::option_scope::OptionScope;
-use crate::option_setter::NameScope;
 use crate::settled_options::{OptionFault, SettledOptions, settled_options};
 use descriptor_records::{
     DescriptorProto, EnumDescriptorProto, EnumValueDescriptorProto, FieldDescriptorProto,
     FileDescriptorProto, MethodDescriptorProto, OneofDescriptorProto, Options,
     ServiceDescriptorProto, join_path, tag,
 };
+use option_parts::{OptionScope, move_locations};
+use option_setter::{NameScope, OptionErrorKind};
 use reflect_build::Edit;
 use reflect_link::DescriptorPool;
 use reflect_names::{SeenFiles, VisitError, Visitor};

@@ -1,10 +1,8 @@
 //! The options of one record, read by their type.
 
-use crate::option_error::OptionErrorKind;
-use crate::option_scope::OptionScope;
-use crate::option_setter::{NameScope, OptionSetter, option_name};
-use crate::option_types::UNINTERPRETED_OPTION;
 use descriptor_records::{Options, UninterpretedOption};
+use option_parts::{OptionScope, UNINTERPRETED_OPTION};
+use option_setter::{NameScope, OptionErrorKind, OptionSetter, option_name};
 use reflect_decode::DecodeMessage;
 use reflect_encode::EncodeMessage;
 use reflect_link::MessageDescriptor;

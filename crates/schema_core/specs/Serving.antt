@@ -5,8 +5,8 @@ use Rattle.reflect_tables.specs.Types.{PoolType}
 use Rattle.hex.specs.Hex.{encode_lower, decode_of}
 use Rattle.schema_core.specs.Payloads.{Encoded, Decoded, Recoded}
 use Rattle.schema_core.specs.Refusals.{BytesRefused, TextRefused}
-use Rattle.schema_words.specs.declared.command_line.Action.{Action}
-use Rattle.schema_words.specs.declared.command_line.Action.TheVariants.{Encode, Decode, Recode}
+use Rattle.schema_words.specs.declared.request.Action.{Action}
+use Rattle.schema_words.specs.declared.request.Action.TheVariants.{Encode, Decode, Recode}
 use Rattle.schema_core.specs.declared.payload.Fault.{Fault}
 use Rattle.schema_core.specs.declared.payload.Fault.TheVariants as fault
 use Rattle.schema_core.specs.declared.error.SchemaError.{SchemaError}

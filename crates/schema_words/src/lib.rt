@@ -2,5 +2,7 @@
 #![tactic(auto)]
 
 mod command_line;
+mod request;
 
-pub use command_line::{Action, Request, Task, parse, requested};
+pub use command_line::{parse, requested};
+pub use request::{Action, Request, Task};

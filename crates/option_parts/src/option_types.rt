@@ -1,0 +1,82 @@
+//! What the types of options must have, so that options can be read by them.
+
+use crate::option_scope::OptionScope;
+use reflect_link::{DescriptorPool, FieldDescriptor, Kind, MessageDescriptor, MessageReaders};
+
+/// The number of the list of uninterpreted options in each type of options.
+pub const UNINTERPRETED_OPTION: u32 = 999;
+
+/// Extensions have the numbers from this one on.
+const FIRST_EXTENSION: u32 = 1000;
+
+/// The number behind the last one.
+const BEHIND_EXTENSIONS: u32 = 536_870_912;
+
+/// The type has its list of uninterpreted options.
+fn has_uninterpreted(options: MessageDescriptor<'_>) -> bool {
+    let Some(field) = options.get_field(UNINTERPRETED_OPTION) else {
+        return false;
+    };
+    field.name() == "uninterpreted_option"
+        && field.is_list()
+        && !field.is_group()
+        && matches!(field.kind(), Kind::Message(_))
+}
+
+/// The type keeps all numbers from 1000 on for extensions.
+fn has_extensions(options: MessageDescriptor<'_>) -> bool {
+    for range in options.extension_ranges() {
+        if range.start == FIRST_EXTENSION && range.end == BEHIND_EXTENSIONS {
+            return true;
+        }
+    }
+    false
+}
+
+/// The field is a truth value of this name that may be set or not.
+fn is_plain_truth(field: FieldDescriptor<'_>, name: &str) -> bool {
+    field.name() == name
+        && matches!(field.kind(), Kind::Bool)
+        && field.supports_presence()
+        && field.containing_oneof().is_none()
+}
+
+/// The type has the option that linking reads itself, if there is one in its scope.
+fn has_typed_option(scope: OptionScope, options: MessageDescriptor<'_>) -> bool {
+    let Some((name, number)) = scope.typed_option() else {
+        return true;
+    };
+    match options.get_field(number) {
+        Some(field) => is_plain_truth(field, name),
+        None => false,
+    }
+}
+
+/// Options of the scope can be read by the type.
+fn is_good(scope: OptionScope, options: MessageDescriptor<'_>) -> bool {
+    has_uninterpreted(options) && has_extensions(options) && has_typed_option(scope, options)
+}
+
+/// The name of the first type of options that the pool has and by which options cannot be read, if there is one: each must have
+/// a repeated message field `uninterpreted_option` of number 999 and keep the numbers from 1000 on for extensions; those of
+/// fields, enums and messages must have a singular truth value `packed` 2, `allow_alias` 2 and `map_entry` 7.
+pub fn bad_option_type(pool: &DescriptorPool) -> Option<&'static str> {
+    for scope in OptionScope::ALL {
+        if let Some(options) = pool.get_message_by_name(scope.type_name()) {
+            if !is_good(scope, options) {
+                return Some(scope.type_name());
+            }
+        }
+    }
+    None
+}
+
+/// The name of the first type of options that the pool does not have, if there is one.
+pub fn missing_option_type(pool: &DescriptorPool) -> Option<&'static str> {
+    for scope in OptionScope::ALL {
+        if pool.get_message_by_name(scope.type_name()).is_none() {
+            return Some(scope.type_name());
+        }
+    }
+    None
+}

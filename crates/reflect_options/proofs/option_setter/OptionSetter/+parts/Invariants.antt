@@ -1,4 +1,0 @@
-use Rattle.reflect_options.proofs.option_setter.OptionSetter.+parts.Given as goal
-
-abbrev pub decreases-set_parts : goal.decreases-set_parts
-decreases-set_parts l = l.levels
