@@ -1,7 +1,9 @@
 //! What the types of options must have, so that options can be read by them.
 
+use crate::option_error::OptionErrorKind;
 use crate::option_scope::OptionScope;
 use reflect_link::{DescriptorPool, FieldDescriptor, Kind, MessageDescriptor, MessageReaders};
+use std::alloc::{AllocError, Global};
 
 /// The number of the list of uninterpreted options in each type of options.
 pub const UNINTERPRETED_OPTION: u32 = 999;
@@ -57,26 +59,37 @@ fn is_good(scope: OptionScope, options: MessageDescriptor<'_>) -> bool {
     has_uninterpreted(options) && has_extensions(options) && has_typed_option(scope, options)
 }
 
-/// The name of the first type of options that the pool has and by which options cannot be read, if there is one: each must have
-/// a repeated message field `uninterpreted_option` of number 999 and keep the numbers from 1000 on for extensions; those of
-/// fields, enums and messages must have a singular truth value `packed` 2, `allow_alias` 2 and `map_entry` 7.
-pub fn bad_option_type(pool: &DescriptorPool) -> Option<&'static str> {
+fn bad(alloc: Global, name: &str) -> Result<OptionErrorKind, AllocError> {
+    let name = String::from_str(alloc, name)?;
+    Ok(OptionErrorKind::BadDescriptorProto { name })
+}
+
+/// What is wrong with the pool's types of options, if there is something: each that is there must have a repeated message field
+/// `uninterpreted_option` of number 999 and keep the numbers from 1000 on for extensions; those of fields, enums and messages
+/// must have a singular truth value `packed` 2, `allow_alias` 2 and `map_entry` 7.
+pub fn check_option_types(
+    alloc: Global,
+    pool: &DescriptorPool,
+) -> Result<Option<OptionErrorKind>, AllocError> {
     for scope in OptionScope::ALL {
         if let Some(options) = pool.get_message_by_name(scope.type_name()) {
             if !is_good(scope, options) {
-                return Some(scope.type_name());
+                return Ok(Some(bad(alloc, scope.type_name())?));
             }
         }
     }
-    None
+    Ok(None)
 }
 
-/// The name of the first type of options that the pool does not have, if there is one.
-pub fn missing_option_type(pool: &DescriptorPool) -> Option<&'static str> {
+/// What is wrong with the pool's types of options, where all of them must be there.
+pub fn require_option_types(
+    alloc: Global,
+    pool: &DescriptorPool,
+) -> Result<Option<OptionErrorKind>, AllocError> {
     for scope in OptionScope::ALL {
         if pool.get_message_by_name(scope.type_name()).is_none() {
-            return Some(scope.type_name());
+            return Ok(Some(bad(alloc, scope.type_name())?));
         }
     }
-    None
+    check_option_types(alloc, pool)
 }

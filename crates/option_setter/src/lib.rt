@@ -1,9 +1,7 @@
 //! One option that a source wrote, set in a message of options, or what is wrong with it.
 #![tactic(auto)]
 
-mod option_error;
 mod option_setter;
 mod option_value;
 
-pub use option_error::{OptionError, OptionErrorKind};
 pub use option_setter::{NameScope, OptionSetter, option_name};

@@ -1,9 +1,8 @@
 //! One option, set in a message of options.
 
-use crate::option_error::OptionErrorKind;
 use crate::option_value::{aggregate, option_value};
 use descriptor_records::{NamePart, UninterpretedOption};
-use option_parts::OptionTarget;
+use option_parts::{OptionErrorKind, OptionTarget};
 use reflect_link::{DescriptorPool, Kind, MessageDescriptor};
 use reflect_message::{DynamicMessage, MapKey, Value};
 use reflect_names::{Links, ResolveNameError, ResolveNameFilter, SeenFiles, resolve_name};

@@ -1,11 +1,12 @@
 //! What an option's value says to a field of a kind.
 
-use crate::option_error::OptionErrorKind;
 use descriptor_records::UninterpretedOption;
-use reflect_format::{ParseErrorKind, Parser};
+use option_parts::OptionErrorKind;
+use reflect_format::Parser;
 use reflect_link::{EnumDescriptor, Kind, MessageDescriptor};
 use reflect_message::{DynamicMessage, Value};
 use std::alloc::{AllocError, Global};
+use text_error::{ParseError, ParseErrorKind};
 
 /// Why an option's value is none of its field.
 #[derive(Drop)]
@@ -13,7 +14,7 @@ pub enum ValueFault {
     /// It is no value of the field's kind.
     Unsuited,
     /// The text in its braces is refused.
-    Text(reflect_format::ParseError),
+    Text(ParseError),
     Memory,
 }
 

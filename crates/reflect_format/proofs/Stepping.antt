@@ -9,8 +9,8 @@ use Rattle.reflect_message.specs.Oneofs.{SetsField, Changes, IsExclusive, IsSibl
 use Rattle.reflect_message.specs.declared.message.DynamicMessage.{DynamicMessage}
 use Rattle.reflect_message.specs.declared.value.Value.{Value}
 use Rattle.reflect_format.specs.Steps.{Step, Steps, Reaches, Stays, Begins, Refuses}
-use Rattle.reflect_format.specs.declared.error.ParseErrorKind.{ParseErrorKind}
-use Rattle.reflect_format.specs.declared.error.ParseErrorKind.TheVariants as kinds
+use Rattle.text_error.specs.declared.error.ParseErrorKind.{ParseErrorKind}
+use Rattle.text_error.specs.declared.error.ParseErrorKind.TheVariants as kinds
 
 steps_on : (further : List DynamicMessage) (old reached new : DynamicMessage) → Steps further old reached → Step reached new → Steps (further ++ new ∷ []) old new
 steps_on [] old reached new h s = (subst (λ m. Step m new) h s, refl)

@@ -13,8 +13,8 @@ use Rattle.reflect_format.specs.Takes.{holds_many, target_pool}
 use Rattle.reflect_format.specs.declared.target.Target.{Target}
 use Rattle.reflect_message.specs.declared.message.DynamicMessage.{DynamicMessage}
 use Rattle.reflect_format.specs.Truth.{TrueFor, TrueOf}
-use Rattle.reflect_format.specs.declared.error.ParseErrorKind.{ParseErrorKind}
-use Rattle.reflect_format.specs.declared.error.ParseErrorKind.TheVariants as kinds
+use Rattle.text_error.specs.declared.error.ParseErrorKind.{ParseErrorKind}
+use Rattle.text_error.specs.declared.error.ParseErrorKind.TheVariants as kinds
 
 module _ (m : MessageDescriptor) (name : List ℕ) where
   -- a field is told to hold floating-point numbers

@@ -17,8 +17,8 @@ use Rattle.reflect_message.specs.declared.message.DynamicMessage.{DynamicMessage
 use Rattle.reflect_format.specs.Lacks.{IsGroupCalled, LacksField, LacksGroup, HasFloatField, LacksExtension, HasFloatExtension}
 use Rattle.reflect_format.specs.declared.target.Target.{Target}
 use Rattle.reflect_format.specs.declared.target.Target.TheVariants as targets
-use Rattle.reflect_format.specs.declared.error.ParseErrorKind.{ParseErrorKind}
-use Rattle.reflect_format.specs.declared.error.ParseErrorKind.TheVariants as kinds
+use Rattle.text_error.specs.declared.error.ParseErrorKind.{ParseErrorKind}
+use Rattle.text_error.specs.declared.error.ParseErrorKind.TheVariants as kinds
 
 -- It is a fault of the text alone, or want of memory, and tells of no type.
 abbrev pub is_of_text : ParseErrorKind → Bool

@@ -13,8 +13,8 @@ use Rattle.reflect_format.specs.Refusals.{is_of_text, IsTextName, Shares, TellsO
 use Rattle.reflect_format.specs.Takes.{holds_many, target_pool}
 use Rattle.reflect_pool.specs.declared.oneof.OneofDescriptor.{OneofDescriptor}
 use Rattle.reflect_format.specs.declared.target.Target.{Target}
-use Rattle.reflect_format.specs.declared.error.ParseErrorKind.{ParseErrorKind}
-use Rattle.reflect_format.specs.declared.error.ParseErrorKind.TheVariants as kinds
+use Rattle.text_error.specs.declared.error.ParseErrorKind.{ParseErrorKind}
+use Rattle.text_error.specs.declared.error.ParseErrorKind.TheVariants as kinds
 
 -- the type is one of the pool, and has the full name
 abbrev pub IsType : PoolType → MessageDescriptor → List ℕ → Type 0

@@ -3,10 +3,10 @@
 ghost use Rattle.std.specs.Prelude.{◌≡◌, IfOk, true, string_bytes};
 ghost use Rattle.reflect_format.specs.Refusals.{is_of_text, TellsExtension, TellsField, TellsFloatField, TellsMessage, TellsOneof, TellsSet, TellsValue};
 
-use crate::error::ParseErrorKind;
 use crate::number::{IntegerRange, Literal};
 use reflect_link::{EnumDescriptor, MessageDescriptor, OneofDescriptor};
 use std::alloc::{AllocError, Global};
+use text_error::ParseErrorKind;
 use text_lex::Span;
 
 /// The message's type has no field of this name.

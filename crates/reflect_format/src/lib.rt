@@ -1,7 +1,6 @@
 //! Messages are read from text, or the first fault is told with its place.
 #![tactic(auto)]
 
-mod error;
 mod fault;
 mod names;
 mod number;
@@ -10,6 +9,6 @@ mod scalar;
 mod target;
 mod tokens;
 
-pub use error::{ParseError, ParseErrorKind};
 pub use parser::Parser;
+pub use text_error::{ParseError, ParseErrorKind};
 pub use text_lex::{Int, Radix, Span, Token};

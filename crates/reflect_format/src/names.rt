@@ -3,8 +3,8 @@
 ghost use Rattle.std.specs.Prelude.{◌≡◌, ◌<◌, ◌≤◌, IfErr, IfOk, true};
 ghost use Rattle.reflect_format.specs.Refusals.{is_of_text};
 
-use crate::error::ParseErrorKind;
 use crate::tokens::{Tokens, through};
+use text_error::ParseErrorKind;
 use text_lex::{Span, Token};
 
 /// What stands before a value.

@@ -7,7 +7,6 @@ ghost use Rattle.reflect_format.specs.Refusals.{RefusesScalar, RefusesSecond};
 ghost use Rattle.reflect_format.specs.Truth.{TrueFor, TrueOf};
 ghost use Rattle.std.specs.Prelude.{◌≡◌, ◌<◌, IfErr, IfOk, OnOk, false};
 
-use crate::error::{ParseError, ParseErrorKind};
 use crate::fault::{already_set, oneof_already_set, unknown_message};
 use crate::names::{AnyName, Name};
 use crate::target::Target;
@@ -17,6 +16,7 @@ use reflect_link::{Kind, MessageDescriptor};
 use reflect_message::{DynamicMessage, Value, any_fields};
 use reflect_wire::WireError;
 use std::alloc::Global;
+use text_error::{ParseError, ParseErrorKind};
 use text_lex::{Span, Token};
 
 /// How many braces may be open at once.

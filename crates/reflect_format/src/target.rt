@@ -8,7 +8,6 @@ ghost use Rattle.reflect_format.specs.Refusals.{Holds, HoldsMember, IsTextName, 
 ghost use Rattle.reflect_format.specs.Steps.{Adds, AddsPart, Puts, Stays, is_set};
 ghost use Rattle.reflect_format.specs.Takes.{Takes, holds_many, target_pool, target_type};
 
-use crate::error::ParseErrorKind;
 use crate::fault::{float_field, unknown_extension, unknown_field};
 use reflect_link::{
     ExtensionDescriptor, FieldDescriptor, Kind, MessageDescriptor, OneofDescriptor,
@@ -16,6 +15,7 @@ use reflect_link::{
 use reflect_message::{DynamicMessage, Value};
 use reflect_scalar::holds_floats;
 use std::alloc::{AllocError, Global};
+use text_error::ParseErrorKind;
 use text_lex::Span;
 
 /// What a name stands for.

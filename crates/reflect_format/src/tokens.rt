@@ -3,8 +3,8 @@
 ghost use Rattle.std.specs.Prelude.{◌≡◌, ◌<◌, ◌≤◌, ◌-◌, IfErr, IfSome, Some, Ok, true};
 ghost use Rattle.reflect_format.specs.Refusals.{is_of_text};
 
-use crate::error::ParseErrorKind;
 use std::alloc::Global;
+use text_error::ParseErrorKind;
 use text_lex::{LexError, Lexeme, Lexer, Span, Token};
 
 /// What ends a message that a brace opens.

@@ -8,8 +8,8 @@ use Rattle.descriptor_records.specs.declared.file.FileDescriptorProto.{FileDescr
 use Rattle.reflect_names.specs.Faults.{Place}
 use Rattle.reflect_names.specs.Spans.{same_path, span_among, span_of}
 use Rattle.reflect_names.specs.declared.label.SourceSpan.{SourceSpan}
-use Rattle.option_setter.specs.Places.{IsPlaceIn, StandsFrom}
-use Rattle.option_setter.specs.declared.option_error.OptionError.{OptionError}
+use Rattle.option_parts.specs.Places.{IsPlaceIn, StandsFrom}
+use Rattle.option_parts.specs.declared.option_error.OptionError.{OptionError}
 
 as_path : (xs ys : List ℤ) → pointwise int_eq xs ys ≡ same_path xs ys
 as_path = lists_ties int_cmp (λ x y. refl)

@@ -4,8 +4,8 @@ use descriptor_records::{
     FileDescriptorProto, MethodDescriptorProto, OneofDescriptorProto, Options,
     ServiceDescriptorProto, join_path, tag,
 };
-use option_parts::{OptionScope, move_locations};
-use option_setter::{NameScope, OptionErrorKind};
+use option_parts::{OptionErrorKind, OptionScope, move_locations};
+use option_setter::NameScope;
 use reflect_build::Edit;
 use reflect_link::DescriptorPool;
 use reflect_names::{SeenFiles, VisitError, Visitor};

@@ -2,12 +2,11 @@ ghost use Rattle.std.specs.Prelude.{◌≡◌, OnErr, IfOk, IfErr, IfSome};
 ghost use Rattle.reflect_tables.specs.Types.{PoolType, IsSettled};
 ghost use Rattle.reflect_names.specs.Faults.{place_of};
 ghost use Rattle.reflect_names.specs.Spans.{span_among};
-ghost use Rattle.option_setter.specs.Places.{option_place, IsPlaceIn, StandsFrom};
+ghost use Rattle.option_parts.specs.Places.{option_place, IsPlaceIn, StandsFrom};
 
-use crate::option_types::check_option_types;
 use crate::options_visitor::OptionsVisitor;
 use descriptor_records::{FileDescriptorProto, Location};
-use option_setter::{OptionError, OptionErrorKind};
+use option_parts::{OptionError, OptionErrorKind, check_option_types};
 use reflect_build::{BuildFiles, Edit};
 use reflect_link::{DescriptorPool, FileDescriptor};
 use reflect_names::{Label, Offsets, SourceSpan, VisitError, visit};

@@ -1,8 +1,8 @@
 //! The options of one record, read by their type.
 
 use descriptor_records::{Options, UninterpretedOption};
-use option_parts::{OptionScope, UNINTERPRETED_OPTION};
-use option_setter::{NameScope, OptionErrorKind, OptionSetter, option_name};
+use option_parts::{OptionErrorKind, OptionScope, UNINTERPRETED_OPTION};
+use option_setter::{NameScope, OptionSetter, option_name};
 use reflect_decode::DecodeMessage;
 use reflect_encode::EncodeMessage;
 use reflect_link::MessageDescriptor;

@@ -18,12 +18,12 @@ use Rattle.reflect_passes.specs.declared.error.DescriptorError.{DescriptorError}
 use Rattle.reflect_build.specs.Refusals.{FaultyFiles}
 use Rattle.reflect_bytes.specs.Spelled.{SpellsSet}
 use Rattle.reflect_format.specs.Truth.{TrueOf}
-use Rattle.reflect_format.specs.declared.error.ParseError as text
-use Rattle.reflect_format.specs.declared.error.ParseErrorKind.{ParseErrorKind}
-use Rattle.reflect_format.specs.declared.error.ParseErrorKind.TheVariants as texts
-use Rattle.option_setter.specs.Places.{option_place, StandsFrom}
+use Rattle.text_error.specs.declared.error.ParseError as text
+use Rattle.text_error.specs.declared.error.ParseErrorKind.{ParseErrorKind}
+use Rattle.text_error.specs.declared.error.ParseErrorKind.TheVariants as texts
+use Rattle.option_parts.specs.Places.{option_place, StandsFrom}
 use Rattle.option_parts.specs.TypedOptions.{TypedFiles}
-use Rattle.option_setter.specs.declared.option_error.OptionError.{OptionError}
+use Rattle.option_parts.specs.declared.option_error.OptionError.{OptionError}
 use Rattle.schema_core.specs.declared.error.SchemaError.{SchemaError}
 use Rattle.schema_core.specs.declared.error.SchemaError.TheVariants.{Parse, Link, Options, Wire, Text, UnknownType, Memory, TooLong}
 use Rattle.schema_core.specs.Refusals.{of_source, of_wire, of_text, IsKnown, TextRefused, FilesFit, FilesRefused, sources_of, AreFilesOf, SourcesLinked, SourcesRefused, SetRefused}

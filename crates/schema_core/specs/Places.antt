@@ -4,7 +4,7 @@ use Rattle.std.specs.Option.{option_and_then}
 use Rattle.protox_parse.specs.Refusals.{file_of, position_of}
 use Rattle.reflect_names.specs.declared.label.SourceSpan.{SourceSpan}
 use Rattle.reflect_passes.specs.Errors.{first_place, first_span}
-use Rattle.option_setter.specs.Places.{option_place, option_span}
+use Rattle.option_parts.specs.Places.{option_place, option_span}
 use Rattle.schema_core.specs.declared.error.SchemaError.{SchemaError}
 use Rattle.schema_core.specs.declared.error.SchemaError.TheVariants.{Parse, Link, Options}
 

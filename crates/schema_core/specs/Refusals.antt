@@ -14,10 +14,10 @@ use Rattle.reflect_wire.specs.declared.wire_error.WireError.{WireError}
 use Rattle.reflect_wire.specs.declared.wire_error.WireError.TheVariants as wire
 use Rattle.reflect_bytes.specs.Spelled.{SpellsSet, RecordsLinked}
 use Rattle.reflect_format.specs.Truth.{TrueOf}
-use Rattle.reflect_format.specs.declared.error.ParseError as text
-use Rattle.reflect_format.specs.declared.error.ParseErrorKind.{ParseErrorKind}
-use Rattle.reflect_format.specs.declared.error.ParseErrorKind.TheVariants as texts
-use Rattle.option_setter.specs.Places.{option_place, StandsFrom}
+use Rattle.text_error.specs.declared.error.ParseError as text
+use Rattle.text_error.specs.declared.error.ParseErrorKind.{ParseErrorKind}
+use Rattle.text_error.specs.declared.error.ParseErrorKind.TheVariants as texts
+use Rattle.option_parts.specs.Places.{option_place, StandsFrom}
 use Rattle.option_parts.specs.TypedOptions.{TypedFiles}
 use Rattle.schema_core.specs.declared.error.SchemaError.{SchemaError}
 use Rattle.schema_core.specs.declared.error.SchemaError.TheVariants.{Parse, Link, Options, Wire, Text, UnknownType, Memory, TooLong}

@@ -1,7 +1,7 @@
 use Rattle.std.proofs.Common.{◌≡◌, IfErr, IfSome, subst, rules, of_calls}
 use Rattle.std.proofs.lemmas.Result.{err_from_is_err_and}
 use Rattle.reflect_tables.specs.Types.{IsSettled}
-use Rattle.option_setter.specs.Places.{option_place, StandsFrom}
+use Rattle.option_parts.specs.Places.{option_place, StandsFrom}
 use Rattle.schema_core.specs.Refusals.{FilesFit}
 use Rattle.schema_core.proofs.Refused.{of_link, of_options}
 use Rattle.schema_core.proofs.schema.Schema.add_batch.Goals as goal

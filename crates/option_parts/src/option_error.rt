@@ -1,11 +1,11 @@
 ghost use Rattle.std.specs.Prelude.{◌≡◌, None, option_map};
 
-use reflect_format::ParseError;
 use reflect_names::Label;
 use reflect_wire::WireError;
 use std::alloc::{AllocError, AllocFailed};
 use std::error::Error;
 use std::fmt;
+use text_error::ParseError;
 
 /// What is wrong with an option.
 #[derive(PartialEq, Debug, Drop)]
@@ -109,7 +109,7 @@ pub struct OptionError {
 }
 
 impl OptionError {
-    ghost use Rattle.option_setter.specs.Places.{option_place, option_span};
+    ghost use Rattle.option_parts.specs.Places.{option_place, option_span};
 
     /// The error of a fault at a place, if it has one.
     pub fn new(kind: OptionErrorKind, place: Option<Label>) -> OptionError

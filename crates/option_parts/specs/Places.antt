@@ -6,7 +6,7 @@ use Rattle.reflect_names.specs.Faults.{Place, place_of}
 use Rattle.reflect_names.specs.Spans.{locations, span_among}
 use Rattle.reflect_tables.specs.Views.{text_of}
 use Rattle.reflect_names.specs.declared.label.SourceSpan.{SourceSpan}
-use Rattle.option_setter.specs.declared.option_error.OptionError.{OptionError}
+use Rattle.option_parts.specs.declared.option_error.OptionError.{OptionError}
 
 -- where an error's fault stands, and where in its source, if that is told
 abbrev pub option_place : OptionError → Option Place

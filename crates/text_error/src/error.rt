@@ -1,4 +1,6 @@
-ghost use Rattle.std.specs.Prelude.{◌≡◌};
+ghost use Rattle.std.specs.Prelude.{◌≡◌, Some, IfOk, option_map, string_bytes};
+ghost use Rattle.text_error.specs.Places.{bytes_of, label_of, place_of};
+ghost use Rattle.text_error.specs.Texts.{help_of, plain_words, said};
 
 use std::alloc::{AllocError, AllocFailed, Global};
 use std::error::Error;
@@ -106,7 +108,9 @@ pub enum ParseErrorKind {
 
 impl ParseErrorKind {
     /// Where the fault is, unless it is at the end of the text or nowhere in it.
-    fn place(&self) -> Option<Span> {
+    fn place(&self) -> Option<Span>
+        ensures { result ≡ place_of self.now }
+    {
         match self {
             ParseErrorKind::InvalidToken { span }
             | ParseErrorKind::InvalidStringCharacters { span }
@@ -132,7 +136,9 @@ impl ParseErrorKind {
     }
 
     /// What is said of the fault, empty where that takes a name, a number or a word of the grammar.
-    fn text(&self) -> &'static str {
+    fn text(&self) -> &'static str
+        ensures { result.now ≡ plain_words self.now }
+    {
         match self {
             ParseErrorKind::InvalidToken { .. } => "invalid token",
             ParseErrorKind::InvalidStringCharacters { .. } => "invalid string character",
@@ -151,7 +157,9 @@ impl ParseErrorKind {
     }
 
     /// What to write at the fault's place, empty where it has none.
-    pub fn label(&self) -> &'static str {
+    pub fn label(&self) -> &'static str
+        ensures { result.now ≡ label_of self.now }
+    {
         match self {
             ParseErrorKind::InvalidToken { .. }
             | ParseErrorKind::NoSpaceBetweenIntAndIdent { .. }
@@ -177,7 +185,9 @@ impl ParseErrorKind {
     }
 
     /// How to mend the fault, where there is more to say than its text does.
-    pub fn help(&self, alloc: Global) -> Result<Option<String>, AllocError> {
+    pub fn help(&self, alloc: Global) -> Result<Option<String>, AllocError>
+        ensures { IfOk result (λ h. option_map string_bytes h ≡ help_of self.now) }
+    {
         match self {
             ParseErrorKind::IntegerValueOutOfRange { min, max, .. } => Ok(Some(format!(in alloc;
                 "the value must be between {min} and {max} inclusive"
@@ -188,6 +198,8 @@ impl ParseErrorKind {
 }
 
 impl fmt::Display for ParseErrorKind {
+    ghost output = { λ k. Some (said k) };
+
     fn fmt<W: fmt::Write>(&self, f: &mut fmt::Formatter<W>) -> fmt::Result {
         match self {
             ParseErrorKind::UnexpectedToken {
@@ -253,7 +265,7 @@ impl fmt::Display for ParseErrorKind {
 }
 
 impl From<AllocError> for ParseErrorKind {
-    ghost use Rattle.reflect_format.specs.declared.error.ParseErrorKind.TheVariants.{Memory};
+    ghost use Rattle.text_error.specs.declared.error.ParseErrorKind.TheVariants.{Memory};
 
     ghost from_gives = { λ _ e. e ≡ Memory };
 
@@ -263,7 +275,7 @@ impl From<AllocError> for ParseErrorKind {
 }
 
 impl<T: Drop> From<AllocFailed<T>> for ParseErrorKind {
-    ghost use Rattle.reflect_format.specs.declared.error.ParseErrorKind.TheVariants.{Memory};
+    ghost use Rattle.text_error.specs.declared.error.ParseErrorKind.TheVariants.{Memory};
 
     ghost from_gives = { λ _ e. e ≡ Memory };
 
@@ -294,23 +306,31 @@ impl ParseError {
     }
 
     /// Where it is, in bytes from the start of the text; nothing where the text ended too early, and for what is nowhere in it.
-    pub fn span(&self) -> Option<Range<usize>> {
+    pub fn span(&self) -> Option<Range<usize>>
+        ensures { result ≡ option_map bytes_of (place_of self.now.kind) }
+    {
         let span = self.kind.place()?;
         Some(span.start..span.end)
     }
 
     /// What to write at that place, empty where there is none.
-    pub fn label(&self) -> &'static str {
+    pub fn label(&self) -> &'static str
+        ensures { result.now ≡ label_of self.now.kind }
+    {
         self.kind.label()
     }
 
     /// How to mend the fault, where there is more to say than its text does.
-    pub fn help(&self, alloc: Global) -> Result<Option<String>, AllocError> {
+    pub fn help(&self, alloc: Global) -> Result<Option<String>, AllocError>
+        ensures { IfOk result (λ h. option_map string_bytes h ≡ help_of self.now.kind) }
+    {
         self.kind.help(alloc)
     }
 }
 
 impl fmt::Display for ParseError {
+    ghost output = { λ e. Some (said e.kind) };
+
     fn fmt<W: fmt::Write>(&self, f: &mut fmt::Formatter<W>) -> fmt::Result {
         let kind = &self.kind;
         write!(f, "{kind}")
