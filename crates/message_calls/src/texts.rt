@@ -21,7 +21,7 @@ fn text_is_parsed_merged_and_printed(rt: HostRuntime) {
     let m = type_m(&rt, &pool);
     let parsed = DynamicMessage::parse_text_format(alloc, m, "z: -0x10 # sixteen");
     let mut message = parsed.expect(&rt, "a message");
-    let merged = message.merge_text_format(alloc, "nested: { yes: t }, foo: 07;");
+    let merged = message.merge_text_format("nested: { yes: t }, foo: 07;");
     assert!(rt; merged.is_ok());
     let text = message.to_text_format(alloc).expect(&rt, "room");
     assert_eq!(rt; text.as_str(), "foo:7,z:-16,nested{yes:true}");

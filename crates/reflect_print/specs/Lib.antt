@@ -1,2 +1,4 @@
 pub mod Appends
+pub mod Errors
+pub mod Forms
 pub mod Pieces

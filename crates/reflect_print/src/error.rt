@@ -1,4 +1,5 @@
-ghost use Rattle.std.specs.Prelude.{◌≡◌};
+ghost use Rattle.std.specs.Prelude.{◌≡◌, Some};
+ghost use Rattle.reflect_print.specs.Errors.{said};
 
 use std::alloc::{AllocError, AllocFailed};
 use std::error::Error;
@@ -14,7 +15,9 @@ pub enum WriteError {
 }
 
 impl WriteError {
-    fn text(&self) -> &'static str {
+    fn text(&self) -> &'static str
+        ensures { result.now ≡ said self.now }
+    {
         match self {
             WriteError::Format => "the writer refused the text",
             WriteError::Memory => "out of memory",
@@ -23,6 +26,8 @@ impl WriteError {
 }
 
 impl fmt::Display for WriteError {
+    ghost output = { λ e. Some (said e) };
+
     fn fmt<W: fmt::Write>(&self, f: &mut fmt::Formatter<W>) -> fmt::Result {
         f.write_str(self.text())
     }

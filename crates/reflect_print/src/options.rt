@@ -1,4 +1,5 @@
 ghost use Rattle.std.specs.Prelude.{◌≡◌};
+ghost use Rattle.reflect_print.specs.Forms.{usual_form};
 
 /// In which form a message is printed.
 #[derive(Clone, Copy, Debug)]
@@ -12,7 +13,9 @@ pub struct FormatOptions {
 
 impl FormatOptions {
     /// One line without spaces, of the fields that are set, by ascending number, with each `google.protobuf.Any` expanded.
-    pub fn new() -> FormatOptions {
+    pub fn new() -> FormatOptions
+        ensures { result ≡ usual_form }
+    {
         FormatOptions {
             pretty: false,
             skip_unknown_fields: true,
@@ -64,6 +67,8 @@ impl FormatOptions {
 }
 
 impl Default for FormatOptions {
+    ghost is_default = { λ form. form ≡ usual_form };
+
     fn default() -> FormatOptions {
         FormatOptions::new()
     }

@@ -4,7 +4,7 @@ ghost use Rattle.reflect_format.specs.Truth.{TrueOf};
 
 use reflect_format::{ParseError, Parser};
 use reflect_link::MessageDescriptor;
-use reflect_message::DynamicMessage;
+use reflect_message::{DynamicMessage, MessageParts};
 use reflect_print::{FormatOptions, WriteError, Writer};
 use std::alloc::Global;
 
@@ -29,7 +29,7 @@ pub trait TextFormat<'p>: Sized {
     /// before the fault, and for want of memory perhaps a part of the map or the `google.protobuf.Any` that was to be set.
     ///
     /// A name is called unknown only where its type, its enum or the pool has none such.
-    fn merge_text_format(&mut self, alloc: Global, text: &str) -> Result<(), ParseError>
+    fn merge_text_format(&mut self, text: &str) -> Result<(), ParseError>
         ensures type_stays { (message self.new).descriptor ≡ (message self.old).descriptor }
         ensures refused { IfErr result (λ e. TrueOf (message self.old).descriptor.pool.now e.kind) }
         ensures reached { OnOk result (Reaches (message self.old) (message self.new)) }
@@ -59,8 +59,8 @@ impl<'p> TextFormat<'p> for DynamicMessage<'p> {
         Ok(message)
     }
 
-    fn merge_text_format(&mut self, alloc: Global, text: &str) -> Result<(), ParseError> {
-        Parser::new(alloc, text).parse_message(self)
+    fn merge_text_format(&mut self, text: &str) -> Result<(), ParseError> {
+        Parser::new(self.allocator(), text).parse_message(self)
     }
 
     fn to_text_format(&self, alloc: Global) -> Result<String, WriteError> {

@@ -87,7 +87,7 @@ pub fn tell_merged(
         return Ok(());
     };
     let mut message = DynamicMessage::new(alloc, descriptor);
-    if let Err(error) = message.merge_text_format(alloc, text(case, "text")) {
+    if let Err(error) = message.merge_text_format(text(case, "text")) {
         tell_text_refusal(alloc, told, &error)?;
     }
     match message.encode_to_vec() {
