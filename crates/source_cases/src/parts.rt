@@ -1,5 +1,7 @@
 //! Integers with a sign in all types that hold them, and places of a source as lines and columns.
 
+ghost use Rattle.std.specs.Prelude.{◌<◌, ◌^◌};
+
 use case_json::Told;
 use case_json::members::{items, number, text, truth};
 use protox_lex::{Int, LineResolver, Span};
