@@ -18,7 +18,7 @@ use Rattle.reflect_message.specs.declared.value.Value.{Message, the_lemmas}
 use Rattle.reflect_decode.proofs.Appending.{appends_value, appends_row, appends_message, appends_more, list_done}
 use Rattle.reflect_message.proofs.Choosing.{makes_room}
 use Rattle.reflect_decode.proofs.Holding.{same_content, merged_in}
-use Rattle.reflect_decode.proofs.Keeping.{kept_if_read}
+use Rattle.reflect_decode.proofs.Keeping.{kept_if_read, not_declared}
 use Rattle.reflect_decode.proofs.Kept.{no_longer, key_shorter}
 use Rattle.reflect_decode.proofs.Nesting.{appends_at, joins_at, value_unset, delimited_taken, group_taken}
 use Rattle.reflect_decode.proofs.Mapping.{key_step, value_step, part_single, part_message, put_more, map_put, entry_is_read}
@@ -182,7 +182,8 @@ merge_record-returns-in-Some-declared_extension-clause-read t c =
 pub merge_record-returns-clause-read : goal.merge_record-returns-clause-read
 merge_record-returns-clause-read t c =
     let raw = c.args.raw in
-    let kept = kept_if_read c.args.descriptor raw.levels raw.key raw.bytes.now _ _ c.keep_unknown.result c.keep_unknown.ensures.kept in
+    let none = not_declared c.args.descriptor raw.key.number c.in_default.ensures.none c.in_default-declared_extension.ensures.none in
+    let kept = kept_if_read c.args.descriptor raw.levels raw.key raw.bytes.now _ _ c.keep_unknown.result none c.keep_unknown.ensures.kept in
     merges_kept (TakesAt raw.levels) c.args.descriptor raw.levels raw.key raw.bytes.now _ _ c.keep_unknown.result c.in_default.ensures.none c.in_default-declared_extension.ensures.none refl refl refl kept
 
 pub merge_records-records-preserved : goal.merge_records-records-preserved
