@@ -16,11 +16,13 @@ same_place : (r s : Stream) → SameHead r s → span_of (peek source r) ≡ spa
 same_place r s h = same_start (λ ts. span_of (peek source ts)) r s (λ x t u. refl) h
 
 pub Local-here : Local here
-Local-here = record { at = λ ts. record {
-  front = [];
-  whole = refl;
-  stable = λ s h. ap (λ p. Ok (p, s)) (sym (same_place ts s h));
-} }
+Local-here = record {
+  at = λ ts. record {
+    front = [];
+    whole = refl;
+    stable = λ s h. ap (λ p. Ok (p, s)) (sym (same_place ts s h));
+  };
+}
 
 Local-ty_of : (w : Word) (o : Option FieldType) → Local (ty_of w o)
 Local-ty_of w (Some t) = Local-pure _

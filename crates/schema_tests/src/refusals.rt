@@ -67,7 +67,8 @@ pub fn tell_text_refusal(
         let shown = format!(in alloc; "{}..{}", span.start, span.end)?;
         told.tell("span", shown.as_str())?;
     }
-    told.tell("text", error)
+    let shown = format!(in alloc; "{error}")?;
+    told.tell("text", shown.as_str())
 }
 
 /// The name of a schema's refusal.
@@ -96,7 +97,8 @@ pub fn tell_refusal(
         let shown = format!(in alloc; "{line}:{column}")?;
         told.tell("position", shown.as_str())?;
     }
-    told.tell("display", error)?;
+    let shown = format!(in alloc; "{error}")?;
+    told.tell("display", shown.as_str())?;
     match error {
         SchemaError::Parse(error) => tell_source_refusal(alloc, told, error),
         SchemaError::Link(error) => tell_link_refusal(alloc, told, error),

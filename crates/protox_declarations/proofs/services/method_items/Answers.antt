@@ -20,29 +20,29 @@ returns-in_err-item-clause-reads c =
     let l = c.items in
     let p = err_from_is_err_and c.from_residual.result c.from_residual.ensures.1 in
     let e : not (sees (sign s.RightBrace) (stream l.tokens)) ≡ true =
-        ap not (sym c.sees_sign.ensures ∙ c.items-test.true) in
+    ap not (sym c.sees_sign.ensures ∙ c.items-test.true) in
     rw (p.1, p.2) (when_stops (λ ts. not (sees (sign s.RightBrace) ts)) method_item method_turns (method_items_view l.items.items)
-        (stream l.tokens) _ l.invariant.so_far
-        c.in_err-item.field-0.0 e c.in_err-item.ensures.reads)
+    (stream l.tokens) _ l.invariant.so_far
+    c.in_err-item.field-0.0 e c.in_err-item.ensures.reads)
 
 pub items-preserved : goal.items-preserved
 items-preserved c =
     let l = c.items in
     let e : not (sees (sign s.RightBrace) (stream l.tokens)) ≡ true =
-        ap not (sym c.sees_sign.ensures ∙ c.items-test.true) in
+    ap not (sym c.sees_sign.ensures ∙ c.items-test.true) in
     let pushed : method_items_view c.push.new.self.items ≡ method_items_view l.items.items ++ method_item_view c.in_ok-item.item ∷ [] =
-        rw c.in_ok-push.ensures.items (map_push _ l.items.items c.in_ok-item.item) in
+    rw c.in_ok-push.ensures.items (map_push _ l.items.items c.in_ok-item.item) in
     record {
       moves = omega (arith, l.invariant.moves, c.in_ok-item.ensures.moves);
       so_far = rw pushed (when_goes (λ ts. not (sees (sign s.RightBrace) ts)) method_item method_turns (method_items_view l.items.items)
-        (stream l.tokens) _ l.invariant.so_far
-        _ _ e c.in_ok-item.ensures.reads);
+          (stream l.tokens) _ l.invariant.so_far
+          _ _ e c.in_ok-item.ensures.reads);
     }
 
 pub returns-clause-reads : goal.returns-clause-reads
 returns-clause-reads c =
     let l = c.items in
     let e : not (sees (sign s.RightBrace) (stream l.tokens)) ≡ false =
-        ap not (sym c.sees_sign.ensures ∙ c.items-test.false) in
+    ap not (sym c.sees_sign.ensures ∙ c.items-test.false) in
     when_ends (λ ts. not (sees (sign s.RightBrace) ts)) method_item method_turns (method_items_view l.items.items)
-        (stream l.tokens) _ l.invariant.so_far e
+    (stream l.tokens) _ l.invariant.so_far e
