@@ -1,4 +1,5 @@
 ghost use Rattle.std.specs.Prelude.{◌≡◌, None, option_map};
+ghost use Rattle.option_parts.specs.Texts.{plain_words, said};
 
 use reflect_names::Label;
 use reflect_wire::WireError;
@@ -38,7 +39,9 @@ pub enum OptionErrorKind {
 
 impl OptionErrorKind {
     /// What is said of the fault, empty where that takes a name or an error.
-    fn text(&self) -> &'static str {
+    fn text(&self) -> &'static str
+        ensures { result.now ≡ plain_words self.now }
+    {
         match self {
             OptionErrorKind::OptionTooDeep => "options nest more than 100 levels deep",
             OptionErrorKind::NoDescriptorProto => {
@@ -54,6 +57,8 @@ impl OptionErrorKind {
 }
 
 impl fmt::Display for OptionErrorKind {
+    ghost output = { λ k. said k };
+
     fn fmt<W: fmt::Write>(&self, f: &mut fmt::Formatter<W>) -> fmt::Result {
         match self {
             OptionErrorKind::OptionNotFound { name } => write!(f, "option '{name}' not found"),
@@ -156,6 +161,8 @@ impl OptionError {
 }
 
 impl fmt::Display for OptionError {
+    ghost output = { λ e. said e.kind };
+
     fn fmt<W: fmt::Write>(&self, f: &mut fmt::Formatter<W>) -> fmt::Result {
         let kind = &self.kind;
         write!(f, "{kind}")

@@ -1,7 +1,11 @@
 //! Services.
 
-ghost use Rattle.std.specs.Prelude.{◌<◌, ◌≤◌, OnOk};
+ghost use Rattle.std.specs.Prelude.{◌<◌, ◌≤◌, OnOk, option_map};
+ghost use Rattle.protox_declarations.specs.ServiceGrammar as spec;
 ghost use Rattle.protox_tokens.specs.Left.{left};
+ghost use Rattle.protox_tokens.specs.Reads.{Reads};
+ghost use Rattle.protox_tokens.specs.Stream.{stream};
+ghost use Rattle.protox_tree.specs.View.{method_type_view, method_item_view, method_items_view, method_body_view, method_view, service_item_view, service_items_view, service_view};
 
 use protox_lex::{Sign, Span, token};
 use protox_options::{option, type_name};
@@ -12,8 +16,10 @@ use protox_tree::{
 use std::alloc::Global;
 
 /// What a method takes or gives: the word `stream` comes first where it is the keyword.
+#[tactic(auto, unfolding(crate::specs::ServiceGrammar::method_type))]
 fn method_type<'a>(alloc: Global, tokens: &mut Tokens<'a>) -> Result<MethodType, Stop<'a>>
-    ensures { OnOk result (left tokens.new < left tokens.old) }
+    ensures reads { Reads method_type_view (spec.method_type (stream tokens.old)) result tokens.new }
+    ensures moves { OnOk result (left tokens.new < left tokens.old) }
 {
     tokens.expect_sign(Sign::LeftParen)?;
     let stream = tokens.eat(token::STREAM);
@@ -22,8 +28,10 @@ fn method_type<'a>(alloc: Global, tokens: &mut Tokens<'a>) -> Result<MethodType,
     Ok(MethodType { stream, name })
 }
 
+#[tactic(auto, unfolding(crate::specs::ServiceGrammar::method_item))]
 fn method_item<'a>(alloc: Global, tokens: &mut Tokens<'a>) -> Result<MethodItem, Stop<'a>>
-    ensures { OnOk result (left tokens.new < left tokens.old) }
+    ensures reads { Reads method_item_view (spec.method_item (stream tokens.old)) result tokens.new }
+    ensures moves { OnOk result (left tokens.new < left tokens.old) }
 {
     if let Some(span) = tokens.eat_sign(Sign::Semicolon) {
         return Ok(MethodItem::Empty(span));
@@ -32,8 +40,10 @@ fn method_item<'a>(alloc: Global, tokens: &mut Tokens<'a>) -> Result<MethodItem,
     Ok(MethodItem::Option(option))
 }
 
+#[tactic(auto, unfolding(crate::specs::ServiceGrammar::method_items))]
 fn method_items<'a>(alloc: Global, tokens: &mut Tokens<'a>) -> Result<Vec<MethodItem>, Stop<'a>>
-    ensures { OnOk result (left tokens.new ≤ left tokens.old) }
+    ensures reads { Reads (λ v. method_items_view v.items) (spec.method_items (stream tokens.old)) result tokens.new }
+    ensures moves { OnOk result (left tokens.new ≤ left tokens.old) }
 {
     let mut items = Vec::new(alloc);
     'items: while !tokens.sees_sign(Sign::RightBrace) {
@@ -44,11 +54,13 @@ fn method_items<'a>(alloc: Global, tokens: &mut Tokens<'a>) -> Result<Vec<Method
 }
 
 /// What stands in the braces of a method, or the semicolon in their place, and where that ends.
+#[tactic(auto, unfolding(crate::specs::ServiceGrammar::method_body))]
 fn method_body<'a>(
     alloc: Global,
     tokens: &mut Tokens<'a>,
 ) -> Result<(Option<MethodBody>, usize), Stop<'a>>
-    ensures { OnOk result (left tokens.new < left tokens.old) }
+    ensures reads { Reads (λ b. (option_map method_body_view b.0, b.1)) (spec.method_body (stream tokens.old)) result tokens.new }
+    ensures moves { OnOk result (left tokens.new < left tokens.old) }
 {
     let Some(open) = tokens.eat_sign(Sign::LeftBrace) else {
         let last = tokens.expect_sign(Sign::Semicolon)?;
@@ -60,8 +72,10 @@ fn method_body<'a>(
     Ok((Some(MethodBody { braces, items }), close.end))
 }
 
+#[tactic(auto, unfolding(crate::specs::ServiceGrammar::a_method))]
 fn method<'a>(alloc: Global, tokens: &mut Tokens<'a>) -> Result<Method, Stop<'a>>
-    ensures { OnOk result (left tokens.new < left tokens.old) }
+    ensures reads { Reads method_view (spec.a_method (stream tokens.old)) result tokens.new }
+    ensures moves { OnOk result (left tokens.new < left tokens.old) }
 {
     let first = tokens.expect(token::RPC)?;
     let name = tokens.ident(alloc)?;
@@ -81,8 +95,10 @@ fn method<'a>(alloc: Global, tokens: &mut Tokens<'a>) -> Result<Method, Stop<'a>
     })
 }
 
+#[tactic(auto, unfolding(crate::specs::ServiceGrammar::service_item))]
 fn item<'a>(alloc: Global, tokens: &mut Tokens<'a>) -> Result<ServiceItem, Stop<'a>>
-    ensures { OnOk result (left tokens.new < left tokens.old) }
+    ensures reads { Reads service_item_view (spec.service_item (stream tokens.old)) result tokens.new }
+    ensures moves { OnOk result (left tokens.new < left tokens.old) }
 {
     if let Some(span) = tokens.eat_sign(Sign::Semicolon) {
         return Ok(ServiceItem::Empty(span));
@@ -98,8 +114,10 @@ fn item<'a>(alloc: Global, tokens: &mut Tokens<'a>) -> Result<ServiceItem, Stop<
     Err(tokens.refuse(ExpectedToken::ServiceItem))
 }
 
+#[tactic(auto, unfolding(crate::specs::ServiceGrammar::service_items))]
 fn items<'a>(alloc: Global, tokens: &mut Tokens<'a>) -> Result<Vec<ServiceItem>, Stop<'a>>
-    ensures { OnOk result (left tokens.new ≤ left tokens.old) }
+    ensures reads { Reads (λ v. service_items_view v.items) (spec.service_items (stream tokens.old)) result tokens.new }
+    ensures moves { OnOk result (left tokens.new ≤ left tokens.old) }
 {
     let mut items = Vec::new(alloc);
     'items: while !tokens.sees_sign(Sign::RightBrace) {
@@ -110,8 +128,10 @@ fn items<'a>(alloc: Global, tokens: &mut Tokens<'a>) -> Result<Vec<ServiceItem>,
 }
 
 /// A service from its keyword on.
+#[tactic(auto, unfolding(crate::specs::ServiceGrammar::service))]
 pub fn service<'a>(alloc: Global, tokens: &mut Tokens<'a>) -> Result<Service, Stop<'a>>
-    ensures { OnOk result (left tokens.new < left tokens.old) }
+    ensures reads { Reads service_view (spec.service (stream tokens.old)) result tokens.new }
+    ensures moves { OnOk result (left tokens.new < left tokens.old) }
 {
     let first = tokens.expect(token::SERVICE)?;
     let name = tokens.ident(alloc)?;

@@ -1,7 +1,12 @@
 //! What stands before a field's name.
 
-ghost use Rattle.std.specs.Prelude.{◌<◌, ◌≤◌, OnOk};
+ghost use Rattle.std.specs.Prelude.{◌≡◌, ◌<◌, ◌≤◌, OnOk, Ok};
+ghost use Rattle.protox_messages.specs.FieldGrammar as spec;
 ghost use Rattle.protox_tokens.specs.Left.{left};
+ghost use Rattle.protox_tokens.specs.Reads.{Reads};
+ghost use Rattle.protox_tokens.specs.Stream.{stream};
+ghost use Rattle.protox_tree.specs.NestView.{map_view, kind_view, extensions_view};
+ghost use Rattle.protox_tree.specs.View.{ty_view};
 
 use descriptor_records::Label;
 use protox_lex::{Sign, Span, token};
@@ -11,8 +16,10 @@ use protox_tree::{Extensions, FieldKind, Map, Ty, TypeName};
 use std::alloc::Global;
 
 /// The type of a field: the word of a scalar type is always that type.
+#[tactic(auto, unfolding(crate::specs::FieldGrammar::ty))]
 pub fn ty<'a>(alloc: Global, tokens: &mut Tokens<'a>) -> Result<Ty, Stop<'a>>
-    ensures { OnOk result (left tokens.new < left tokens.old) }
+    ensures reads { Reads ty_view (spec.ty (stream tokens.old)) result tokens.new }
+    ensures moves { OnOk result (left tokens.new < left tokens.old) }
 {
     let leading_dot = tokens.eat_sign(Sign::Dot);
     let first = tokens.ident(alloc)?;
@@ -26,8 +33,10 @@ pub fn ty<'a>(alloc: Global, tokens: &mut Tokens<'a>) -> Result<Ty, Stop<'a>>
 }
 
 /// A map's types, behind its opening bracket, and the closing one.
+#[tactic(auto, unfolding(crate::specs::FieldGrammar::map_type))]
 fn map<'a>(alloc: Global, tokens: &mut Tokens<'a>, first: Span) -> Result<Map, Stop<'a>>
-    ensures { OnOk result (left tokens.new < left tokens.old) }
+    ensures reads { Reads map_view (spec.map_type first (stream tokens.old)) result tokens.new }
+    ensures moves { OnOk result (left tokens.new < left tokens.old) }
 {
     let key = ty(alloc, tokens)?;
     tokens.expect_sign(Sign::Comma)?;
@@ -41,8 +50,10 @@ fn map<'a>(alloc: Global, tokens: &mut Tokens<'a>, first: Span) -> Result<Map, S
 }
 
 /// Where a type begins with the word `map`: that begins a map before `<` alone.
+#[tactic(auto, unfolding(crate::specs::FieldGrammar::map_or_name))]
 fn map_or_name<'a>(alloc: Global, tokens: &mut Tokens<'a>) -> Result<FieldKind, Stop<'a>>
-    ensures { OnOk result (left tokens.new < left tokens.old) }
+    ensures reads { Reads kind_view (spec.map_or_name (stream tokens.old)) result tokens.new }
+    ensures moves { OnOk result (left tokens.new < left tokens.old) }
 {
     let first = tokens.ident(alloc)?;
     if tokens.eat_sign(Sign::LeftAngleBracket).is_some() {
@@ -57,8 +68,10 @@ fn map_or_name<'a>(alloc: Global, tokens: &mut Tokens<'a>) -> Result<FieldKind, 
 }
 
 /// A field's type.
+#[tactic(auto, unfolding(crate::specs::FieldGrammar::field_type))]
 pub fn field_type<'a>(alloc: Global, tokens: &mut Tokens<'a>) -> Result<FieldKind, Stop<'a>>
-    ensures { OnOk result (left tokens.new < left tokens.old) }
+    ensures reads { Reads kind_view (spec.field_type (stream tokens.old)) result tokens.new }
+    ensures moves { OnOk result (left tokens.new < left tokens.old) }
 {
     if tokens.sees(token::MAP) {
         let kind = map_or_name(alloc, tokens)?;
@@ -68,8 +81,11 @@ pub fn field_type<'a>(alloc: Global, tokens: &mut Tokens<'a>) -> Result<FieldKin
     Ok(FieldKind::Normal(ty))
 }
 
+/// The label of a field, if it has one.
+#[tactic(auto, unfolding(crate::specs::FieldGrammar::label))]
 pub fn label(tokens: &mut Tokens<'_>) -> Option<(Label, Span)>
-    ensures { left tokens.new ≤ left tokens.old }
+    ensures reads { spec.label (stream tokens.old) ≡ Ok (result, stream tokens.new) }
+    ensures moves { left tokens.new ≤ left tokens.old }
 {
     if let Some(span) = tokens.eat(token::OPTIONAL) {
         return Some((Label::Optional, span));
@@ -84,8 +100,10 @@ pub fn label(tokens: &mut Tokens<'_>) -> Option<(Label, Span)>
 }
 
 /// The statement `extensions .. ;`.
+#[tactic(auto, unfolding(crate::specs::FieldGrammar::extensions))]
 pub fn extensions<'a>(alloc: Global, tokens: &mut Tokens<'a>) -> Result<Extensions, Stop<'a>>
-    ensures { OnOk result (left tokens.new < left tokens.old) }
+    ensures reads { Reads extensions_view (spec.extensions (stream tokens.old)) result tokens.new }
+    ensures moves { OnOk result (left tokens.new < left tokens.old) }
 {
     let first = tokens.expect(token::EXTENSIONS)?;
     let ranges = ranges(alloc, tokens)?;

@@ -1,7 +1,13 @@
 //! Messages, and what may stand in them.
 
-ghost use Rattle.std.specs.Prelude.{◌<◌, ◌≤◌, OnOk};
+ghost use Rattle.std.specs.Prelude.{◌≡◌, ◌<◌, ◌≤◌, OnOk};
+ghost use Rattle.protox_messages.specs.FieldGrammar as fields;
+ghost use Rattle.protox_messages.specs.MessageGrammar as spec;
 ghost use Rattle.protox_tokens.specs.Left.{left};
+ghost use Rattle.protox_tokens.specs.Reads.{Reads};
+ghost use Rattle.protox_tokens.specs.Stream.{stream};
+ghost use Rattle.protox_tree.specs.Nest as nest;
+ghost use Rattle.protox_tree.specs.NestView.{kind_view, message_view, item_view, items_view, field_view, member_view, members_view, oneof_view, added_view, added_items_view, extend_view};
 
 use crate::field::{extensions, field_type, label};
 use descriptor_records::Label;
@@ -16,12 +22,14 @@ use std::alloc::Global;
 
 /// What stands in the braces of a message or a group, and these, of which so many may be open at most.
 #[cycle(message)]
+#[tactic(auto, unfolding(crate::specs::MessageGrammar::block))]
 fn block<'a>(
     alloc: Global,
     tokens: &mut Tokens<'a>,
     levels: u8,
 ) -> Result<(Vec<MessageItem>, Span), Stop<'a>>
-    ensures { OnOk result (left tokens.new < left tokens.old) }
+    ensures reads { Reads (λ b. (items_view b.0.items, b.1)) (spec.block levels (stream tokens.old)) result tokens.new }
+    ensures moves { OnOk result (left tokens.new < left tokens.old) }
 {
     let open = tokens.expect_sign(Sign::LeftBrace)?;
     if levels == 0 {
@@ -33,12 +41,14 @@ fn block<'a>(
 
 /// What stands behind an opening brace, and the closing one.
 #[cycle(message)]
+#[tactic(auto, unfolding(crate::specs::MessageGrammar::inside_with))]
 fn inside<'a>(
     alloc: Global,
     tokens: &mut Tokens<'a>,
     levels: u8,
 ) -> Result<(Vec<MessageItem>, Span), Stop<'a>>
-    ensures { OnOk result (left tokens.new < left tokens.old) }
+    ensures reads { Reads (λ b. (items_view b.0.items, b.1)) (spec.inside_with (spec.block levels) (stream tokens.old)) result tokens.new }
+    ensures moves { OnOk result (left tokens.new < left tokens.old) }
 {
     let items = items(alloc, tokens, levels)?;
     let close = tokens.expect_sign(Sign::RightBrace)?;
@@ -46,12 +56,14 @@ fn inside<'a>(
 }
 
 #[cycle(message)]
+#[tactic(auto, unfolding(crate::specs::MessageGrammar::items_with))]
 fn items<'a>(
     alloc: Global,
     tokens: &mut Tokens<'a>,
     levels: u8,
 ) -> Result<Vec<MessageItem>, Stop<'a>>
-    ensures { OnOk result (left tokens.new ≤ left tokens.old) }
+    ensures reads { Reads (λ v. items_view v.items) (spec.items_with (spec.block levels) (stream tokens.old)) result tokens.new }
+    ensures moves { OnOk result (left tokens.new ≤ left tokens.old) }
 {
     let mut items = Vec::new(alloc);
     'items: while !tokens.sees_sign(Sign::RightBrace) {
@@ -63,8 +75,10 @@ fn items<'a>(
 
 /// A keyword that begins a statement of messages begins it wherever it comes first.
 #[cycle(message)]
+#[tactic(auto, unfolding(crate::specs::MessageGrammar::item_with))]
 fn item<'a>(alloc: Global, tokens: &mut Tokens<'a>, levels: u8) -> Result<MessageItem, Stop<'a>>
-    ensures { OnOk result (left tokens.new < left tokens.old) }
+    ensures reads { Reads item_view (spec.item_with (spec.block levels) (stream tokens.old)) result tokens.new }
+    ensures moves { OnOk result (left tokens.new < left tokens.old) }
 {
     if let Some(span) = tokens.eat_sign(Sign::Semicolon) {
         return Ok(MessageItem::Empty(span));
@@ -103,8 +117,10 @@ fn item<'a>(alloc: Global, tokens: &mut Tokens<'a>, levels: u8) -> Result<Messag
 
 /// A message from its keyword on.
 #[cycle(message)]
+#[tactic(auto, unfolding(crate::specs::MessageGrammar::message_with))]
 pub fn message<'a>(alloc: Global, tokens: &mut Tokens<'a>, levels: u8) -> Result<Message, Stop<'a>>
-    ensures { OnOk result (left tokens.new < left tokens.old) }
+    ensures reads { Reads message_view (spec.message_with (spec.block levels) (stream tokens.old)) result tokens.new }
+    ensures moves { OnOk result (left tokens.new < left tokens.old) }
 {
     let first = tokens.expect(token::MESSAGE)?;
     let name = tokens.ident(alloc)?;
@@ -118,13 +134,15 @@ pub fn message<'a>(alloc: Global, tokens: &mut Tokens<'a>, levels: u8) -> Result
 }
 
 /// A field or a map.
+#[tactic(auto, unfolding(crate::specs::FieldGrammar::plain_field))]
 fn plain_field<'a>(
     alloc: Global,
     tokens: &mut Tokens<'a>,
     start: Span,
     label: Option<(Label, Span)>,
 ) -> Result<Field, Stop<'a>>
-    ensures { OnOk result (left tokens.new < left tokens.old) }
+    ensures reads { Reads field_view (fields.plain_field start label (stream tokens.old)) result tokens.new }
+    ensures moves { OnOk result (left tokens.new < left tokens.old) }
 {
     let kind = field_type(alloc, tokens)?;
     let name = tokens.ident(alloc)?;
@@ -144,8 +162,10 @@ fn plain_field<'a>(
 
 /// A field, a group or a map.
 #[cycle(message)]
+#[tactic(auto, unfolding(crate::specs::MessageGrammar::field_with))]
 fn field<'a>(alloc: Global, tokens: &mut Tokens<'a>, levels: u8) -> Result<Field, Stop<'a>>
-    ensures { OnOk result (left tokens.new < left tokens.old) }
+    ensures reads { Reads field_view (spec.field_with (spec.block levels) (stream tokens.old)) result tokens.new }
+    ensures moves { OnOk result (left tokens.new < left tokens.old) }
 {
     let start = tokens.next_span();
     let label = label(tokens);
@@ -157,7 +177,9 @@ fn field<'a>(alloc: Global, tokens: &mut Tokens<'a>, levels: u8) -> Result<Field
     Ok(field)
 }
 
-fn group_kind(word: Span, braces: Span, items: Vec<MessageItem>) -> FieldKind {
+fn group_kind(word: Span, braces: Span, items: Vec<MessageItem>) -> FieldKind
+    ensures { kind_view result ≡ nest.group (nest.a_group word braces (nest.items_of (items_view items.items))) }
+{
     FieldKind::Group(Group {
         word,
         braces,
@@ -167,6 +189,7 @@ fn group_kind(word: Span, braces: Span, items: Vec<MessageItem>) -> FieldKind {
 
 /// A group behind its word.
 #[cycle(message)]
+#[tactic(auto, unfolding(crate::specs::MessageGrammar::group_with))]
 fn group<'a>(
     alloc: Global,
     tokens: &mut Tokens<'a>,
@@ -175,7 +198,8 @@ fn group<'a>(
     label: Option<(Label, Span)>,
     word: Span,
 ) -> Result<Field, Stop<'a>>
-    ensures { OnOk result (left tokens.new < left tokens.old) }
+    ensures reads { Reads field_view (spec.group_with (spec.block levels) start label word (stream tokens.old)) result tokens.new }
+    ensures moves { OnOk result (left tokens.new < left tokens.old) }
 {
     let name = tokens.ident(alloc)?;
     tokens.expect_sign(Sign::Equals)?;
@@ -193,8 +217,10 @@ fn group<'a>(
 }
 
 #[cycle(message)]
+#[tactic(auto, unfolding(crate::specs::MessageGrammar::member_with))]
 fn member<'a>(alloc: Global, tokens: &mut Tokens<'a>, levels: u8) -> Result<OneofItem, Stop<'a>>
-    ensures { OnOk result (left tokens.new < left tokens.old) }
+    ensures reads { Reads member_view (spec.member_with (spec.block levels) (stream tokens.old)) result tokens.new }
+    ensures moves { OnOk result (left tokens.new < left tokens.old) }
 {
     if let Some(span) = tokens.eat_sign(Sign::Semicolon) {
         return Ok(OneofItem::Empty(span));
@@ -208,12 +234,14 @@ fn member<'a>(alloc: Global, tokens: &mut Tokens<'a>, levels: u8) -> Result<Oneo
 }
 
 #[cycle(message)]
+#[tactic(auto, unfolding(crate::specs::MessageGrammar::members_with))]
 fn members<'a>(
     alloc: Global,
     tokens: &mut Tokens<'a>,
     levels: u8,
 ) -> Result<Vec<OneofItem>, Stop<'a>>
-    ensures { OnOk result (left tokens.new ≤ left tokens.old) }
+    ensures reads { Reads (λ v. members_view v.items) (spec.members_with (spec.block levels) (stream tokens.old)) result tokens.new }
+    ensures moves { OnOk result (left tokens.new ≤ left tokens.old) }
 {
     let mut items = Vec::new(alloc);
     'items: while !tokens.sees_sign(Sign::RightBrace) {
@@ -225,8 +253,10 @@ fn members<'a>(
 
 /// A oneof from its keyword on.
 #[cycle(message)]
+#[tactic(auto, unfolding(crate::specs::MessageGrammar::oneof_with))]
 fn oneof<'a>(alloc: Global, tokens: &mut Tokens<'a>, levels: u8) -> Result<Oneof, Stop<'a>>
-    ensures { OnOk result (left tokens.new < left tokens.old) }
+    ensures reads { Reads oneof_view (spec.oneof_with (spec.block levels) (stream tokens.old)) result tokens.new }
+    ensures moves { OnOk result (left tokens.new < left tokens.old) }
 {
     let first = tokens.expect(token::ONEOF)?;
     let name = tokens.ident(alloc)?;
@@ -242,8 +272,10 @@ fn oneof<'a>(alloc: Global, tokens: &mut Tokens<'a>, levels: u8) -> Result<Oneof
 }
 
 #[cycle(message)]
+#[tactic(auto, unfolding(crate::specs::MessageGrammar::added_with))]
 fn added<'a>(alloc: Global, tokens: &mut Tokens<'a>, levels: u8) -> Result<ExtendItem, Stop<'a>>
-    ensures { OnOk result (left tokens.new < left tokens.old) }
+    ensures reads { Reads added_view (spec.added_with (spec.block levels) (stream tokens.old)) result tokens.new }
+    ensures moves { OnOk result (left tokens.new < left tokens.old) }
 {
     if let Some(span) = tokens.eat_sign(Sign::Semicolon) {
         return Ok(ExtendItem::Empty(span));
@@ -253,12 +285,14 @@ fn added<'a>(alloc: Global, tokens: &mut Tokens<'a>, levels: u8) -> Result<Exten
 }
 
 #[cycle(message)]
+#[tactic(auto, unfolding(crate::specs::MessageGrammar::all_added_with))]
 fn all_added<'a>(
     alloc: Global,
     tokens: &mut Tokens<'a>,
     levels: u8,
 ) -> Result<Vec<ExtendItem>, Stop<'a>>
-    ensures { OnOk result (left tokens.new ≤ left tokens.old) }
+    ensures reads { Reads (λ v. added_items_view v.items) (spec.all_added_with (spec.block levels) (stream tokens.old)) result tokens.new }
+    ensures moves { OnOk result (left tokens.new ≤ left tokens.old) }
 {
     let mut items = Vec::new(alloc);
     'items: while !tokens.sees_sign(Sign::RightBrace) {
@@ -270,8 +304,10 @@ fn all_added<'a>(
 
 /// An `extend` statement from its keyword on.
 #[cycle(message)]
+#[tactic(auto, unfolding(crate::specs::MessageGrammar::extend_with))]
 pub fn extend<'a>(alloc: Global, tokens: &mut Tokens<'a>, levels: u8) -> Result<Extend, Stop<'a>>
-    ensures { OnOk result (left tokens.new < left tokens.old) }
+    ensures reads { Reads extend_view (spec.extend_with (spec.block levels) (stream tokens.old)) result tokens.new }
+    ensures moves { OnOk result (left tokens.new < left tokens.old) }
 {
     let first = tokens.expect(token::EXTEND)?;
     let extendee = type_name(alloc, tokens)?;

@@ -1,7 +1,12 @@
 //! The braces of an option's value, where text format stands.
 
 ghost use Rattle.std.specs.Prelude.{◌≡◌, ◌<◌, ◌≤◌, OnOk, IfOk, true, false};
+ghost use Rattle.protox_options.specs.AggregateGrammar as spec;
 ghost use Rattle.protox_tokens.specs.Left.{left};
+ghost use Rattle.protox_tokens.specs.Parser as parser;
+ghost use Rattle.protox_tokens.specs.Reads.{Reads};
+ghost use Rattle.protox_tokens.specs.Refusal.{expected_view};
+ghost use Rattle.protox_tokens.specs.Stream.{stream, text as text_format};
 
 use protox_lex::{Lexeme, Sign, Token};
 use protox_tokens::{Fault, Stop, Tokens, across};
@@ -21,6 +26,7 @@ fn add(text: &mut String, token: Token<'_>) -> Result<(), AllocError> {
 
 /// Takes the next token, if it is this sign.
 fn eat<'a>(tokens: &mut Tokens<'a>, text: &mut String, sign: Sign) -> Result<bool, Stop<'a>>
+    ensures reads { Reads (λ x. x) (spec.passes sign (stream tokens.old)) result tokens.new }
     ensures taken { IfOk result (λ b. b ≡ true → left tokens.new < left tokens.old) }
     ensures not { IfOk result (λ b. b ≡ false → left tokens.new ≡ left tokens.old) }
 {
@@ -32,19 +38,22 @@ fn eat<'a>(tokens: &mut Tokens<'a>, text: &mut String, sign: Sign) -> Result<boo
 }
 
 fn expect<'a>(tokens: &mut Tokens<'a>, text: &mut String, sign: Sign) -> Result<(), Stop<'a>>
-    ensures { OnOk result (left tokens.new < left tokens.old) }
+    ensures reads { Reads (λ x. x) (spec.must sign (stream tokens.old)) result tokens.new }
+    ensures moves { OnOk result (left tokens.new < left tokens.old) }
 {
     tokens.expect_in_text(sign)?;
     add(text, Token::Sign(sign))?;
     Ok(())
 }
 
+#[tactic(auto, unfolding(crate::specs::AggregateGrammar::an_ident_as))]
 fn ident<'a>(
     tokens: &mut Tokens<'a>,
     text: &mut String,
     expected: ExpectedToken,
 ) -> Result<(), Stop<'a>>
-    ensures { OnOk result (left tokens.new < left tokens.old) }
+    ensures reads { Reads (λ x. x) (spec.an_ident_as (expected_view expected) (stream tokens.old)) result tokens.new }
+    ensures moves { OnOk result (left tokens.new < left tokens.old) }
 {
     if let Some(
         Lexeme {
@@ -61,8 +70,10 @@ fn ident<'a>(
     }
 }
 
+#[tactic(auto, unfolding(crate::specs::AggregateGrammar::dotted))]
 fn full_ident<'a>(tokens: &mut Tokens<'a>, text: &mut String) -> Result<(), Stop<'a>>
-    ensures { OnOk result (left tokens.new < left tokens.old) }
+    ensures reads { Reads (λ x. x) (spec.dotted (stream tokens.old)) result tokens.new }
+    ensures moves { OnOk result (left tokens.new < left tokens.old) }
 {
     ident(tokens, text, ExpectedToken::Ident)?;
     'parts: while eat(tokens, text, Sign::Dot)? {
@@ -72,8 +83,10 @@ fn full_ident<'a>(tokens: &mut Tokens<'a>, text: &mut String) -> Result<(), Stop
 }
 
 /// The name behind a slash, if there is one.
+#[tactic(auto, unfolding(crate::specs::AggregateGrammar::behind_slash))]
 fn behind_slash<'a>(tokens: &mut Tokens<'a>, text: &mut String) -> Result<(), Stop<'a>>
-    ensures { OnOk result (left tokens.new ≤ left tokens.old) }
+    ensures reads { Reads (λ x. x) (spec.behind_slash (stream tokens.old)) result tokens.new }
+    ensures moves { OnOk result (left tokens.new ≤ left tokens.old) }
 {
     if eat(tokens, text, Sign::ForwardSlash)? {
         full_ident(tokens, text)?;
@@ -82,8 +95,10 @@ fn behind_slash<'a>(tokens: &mut Tokens<'a>, text: &mut String) -> Result<(), St
 }
 
 /// A field's name, or the name of an extension or of an `Any`'s type in brackets.
+#[tactic(auto, unfolding(crate::specs::AggregateGrammar::field_name))]
 fn name<'a>(tokens: &mut Tokens<'a>, text: &mut String) -> Result<(), Stop<'a>>
-    ensures { OnOk result (left tokens.new < left tokens.old) }
+    ensures reads { Reads (λ x. x) (spec.field_name (stream tokens.old)) result tokens.new }
+    ensures moves { OnOk result (left tokens.new < left tokens.old) }
 {
     if !eat(tokens, text, Sign::LeftBracket)? {
         return ident(tokens, text, ExpectedToken::FieldName);
@@ -93,7 +108,9 @@ fn name<'a>(tokens: &mut Tokens<'a>, text: &mut String) -> Result<(), Stop<'a>>
     expect(tokens, text, Sign::RightBracket)
 }
 
-fn is_string(tokens: &Tokens<'_>) -> bool {
+fn is_string(tokens: &Tokens<'_>) -> bool
+    ensures { result ≡ parser.is_string_in text_format (stream tokens.now) }
+{
     match tokens.peek_in_text() {
         Some(lexeme) => matches!(lexeme.token, Token::String(_)),
         None => false,
@@ -101,8 +118,10 @@ fn is_string(tokens: &Tokens<'_>) -> bool {
 }
 
 /// One string literal.
+#[tactic(auto, unfolding(crate::specs::AggregateGrammar::a_literal))]
 fn literal<'a>(tokens: &mut Tokens<'a>, text: &mut String) -> Result<(), Stop<'a>>
-    ensures { OnOk result (left tokens.new < left tokens.old) }
+    ensures reads { Reads (λ x. x) (spec.a_literal (stream tokens.old)) result tokens.new }
+    ensures moves { OnOk result (left tokens.new < left tokens.old) }
 {
     if let Some(
         Lexeme {
@@ -120,8 +139,10 @@ fn literal<'a>(tokens: &mut Tokens<'a>, text: &mut String) -> Result<(), Stop<'a
 }
 
 /// String literals, one or more.
+#[tactic(auto, unfolding(crate::specs::AggregateGrammar::literals))]
 fn strings<'a>(tokens: &mut Tokens<'a>, text: &mut String) -> Result<(), Stop<'a>>
-    ensures { OnOk result (left tokens.new < left tokens.old) }
+    ensures reads { Reads (λ x. x) (spec.literals (stream tokens.old)) result tokens.new }
+    ensures moves { OnOk result (left tokens.new < left tokens.old) }
 {
     literal(tokens, text)?;
     'literals: while is_string(tokens) {
@@ -131,8 +152,10 @@ fn strings<'a>(tokens: &mut Tokens<'a>, text: &mut String) -> Result<(), Stop<'a
 }
 
 /// A number or an identifier.
+#[tactic(auto, unfolding(crate::specs::AggregateGrammar::a_plain))]
 fn plain<'a>(tokens: &mut Tokens<'a>, text: &mut String) -> Result<(), Stop<'a>>
-    ensures { OnOk result (left tokens.new < left tokens.old) }
+    ensures reads { Reads (λ x. x) (spec.a_plain (stream tokens.old)) result tokens.new }
+    ensures moves { OnOk result (left tokens.new < left tokens.old) }
 {
     if let Some(
         Lexeme {
@@ -149,8 +172,10 @@ fn plain<'a>(tokens: &mut Tokens<'a>, text: &mut String) -> Result<(), Stop<'a>>
     }
 }
 
+#[tactic(auto, unfolding(crate::specs::AggregateGrammar::scalar))]
 fn scalar<'a>(tokens: &mut Tokens<'a>, text: &mut String) -> Result<(), Stop<'a>>
-    ensures { OnOk result (left tokens.new < left tokens.old) }
+    ensures reads { Reads (λ x. x) (spec.scalar (stream tokens.old)) result tokens.new }
+    ensures moves { OnOk result (left tokens.new < left tokens.old) }
 {
     if is_string(tokens) {
         return strings(tokens, text);
@@ -160,7 +185,9 @@ fn scalar<'a>(tokens: &mut Tokens<'a>, text: &mut String) -> Result<(), Stop<'a>
 }
 
 /// The brace that would close one that opens here.
-fn closing(tokens: &Tokens<'_>) -> Option<(Sign, Sign)> {
+fn closing(tokens: &Tokens<'_>) -> Option<(Sign, Sign)>
+    ensures { result ≡ spec.braces_at (stream tokens.now) }
+{
     if tokens.sees_in_text(Sign::LeftBrace) {
         Some((Sign::LeftBrace, Sign::RightBrace))
     } else if tokens.sees_in_text(Sign::LeftAngleBracket) {
@@ -171,8 +198,10 @@ fn closing(tokens: &Tokens<'_>) -> Option<(Sign, Sign)> {
 }
 
 #[cycle(aggregate)]
+#[tactic(auto, unfolding(crate::specs::AggregateGrammar::value_with))]
 fn value<'a>(tokens: &mut Tokens<'a>, text: &mut String, levels: u8) -> Result<(), Stop<'a>>
-    ensures { OnOk result (left tokens.new < left tokens.old) }
+    ensures reads { Reads (λ x. x) (spec.value_with (spec.braces levels) (stream tokens.old)) result tokens.new }
+    ensures moves { OnOk result (left tokens.new < left tokens.old) }
 {
     if closing(tokens).is_some() {
         braces(tokens, text, levels)
@@ -183,8 +212,10 @@ fn value<'a>(tokens: &mut Tokens<'a>, text: &mut String, levels: u8) -> Result<(
 
 /// The elements of a list, behind its opening bracket, and the closing one.
 #[cycle(aggregate)]
+#[tactic(auto, unfolding(crate::specs::AggregateGrammar::list_with))]
 fn list<'a>(tokens: &mut Tokens<'a>, text: &mut String, levels: u8) -> Result<(), Stop<'a>>
-    ensures { OnOk result (left tokens.new < left tokens.old) }
+    ensures reads { Reads (λ x. x) (spec.list_with (spec.braces levels) (stream tokens.old)) result tokens.new }
+    ensures moves { OnOk result (left tokens.new < left tokens.old) }
 {
     if eat(tokens, text, Sign::RightBracket)? {
         return Ok(());
@@ -198,8 +229,10 @@ fn list<'a>(tokens: &mut Tokens<'a>, text: &mut String, levels: u8) -> Result<()
 
 /// Fields in braces of either kind.
 #[cycle(aggregate)]
+#[tactic(auto, unfolding(crate::specs::AggregateGrammar::braces))]
 fn braces<'a>(tokens: &mut Tokens<'a>, text: &mut String, levels: u8) -> Result<(), Stop<'a>>
-    ensures { OnOk result (left tokens.new < left tokens.old) }
+    ensures reads { Reads (λ x. x) (spec.braces levels (stream tokens.old)) result tokens.new }
+    ensures moves { OnOk result (left tokens.new < left tokens.old) }
 {
     let Some((open, close)) = closing(tokens) else {
         return Err(tokens.refuse_in_text(ExpectedToken::MessageValue));
@@ -215,13 +248,15 @@ fn braces<'a>(tokens: &mut Tokens<'a>, text: &mut String, levels: u8) -> Result<
 
 /// Fields up to a closing brace.
 #[cycle(aggregate)]
+#[tactic(auto, unfolding(crate::specs::AggregateGrammar::fields_with))]
 fn fields<'a>(
     tokens: &mut Tokens<'a>,
     text: &mut String,
     close: Sign,
     levels: u8,
 ) -> Result<(), Stop<'a>>
-    ensures { OnOk result (left tokens.new ≤ left tokens.old) }
+    ensures reads { Reads (λ x. x) (spec.fields_with (spec.braces levels) close (stream tokens.old)) result tokens.new }
+    ensures moves { OnOk result (left tokens.new ≤ left tokens.old) }
 {
     'fields: while !tokens.sees_in_text(close) {
         field(tokens, text, levels)?;
@@ -231,8 +266,10 @@ fn fields<'a>(
 
 /// The value of a field behind its name: only braces may stand there without a colon.
 #[cycle(aggregate)]
+#[tactic(auto, unfolding(crate::specs::AggregateGrammar::field_value_with))]
 fn field_value<'a>(tokens: &mut Tokens<'a>, text: &mut String, levels: u8) -> Result<(), Stop<'a>>
-    ensures { OnOk result (left tokens.new < left tokens.old) }
+    ensures reads { Reads (λ x. x) (spec.field_value_with (spec.braces levels) (stream tokens.old)) result tokens.new }
+    ensures moves { OnOk result (left tokens.new < left tokens.old) }
 {
     if !eat(tokens, text, Sign::Colon)? {
         return braces(tokens, text, levels);
@@ -244,8 +281,10 @@ fn field_value<'a>(tokens: &mut Tokens<'a>, text: &mut String, levels: u8) -> Re
 }
 
 /// The comma or the semicolon that may follow a field.
+#[tactic(auto, unfolding(crate::specs::AggregateGrammar::separator))]
 fn separator<'a>(tokens: &mut Tokens<'a>, text: &mut String) -> Result<(), Stop<'a>>
-    ensures { OnOk result (left tokens.new ≤ left tokens.old) }
+    ensures reads { Reads (λ x. x) (spec.separator (stream tokens.old)) result tokens.new }
+    ensures moves { OnOk result (left tokens.new ≤ left tokens.old) }
 {
     if eat(tokens, text, Sign::Comma)? {
         return Ok(());
@@ -255,8 +294,10 @@ fn separator<'a>(tokens: &mut Tokens<'a>, text: &mut String) -> Result<(), Stop<
 }
 
 #[cycle(aggregate)]
+#[tactic(auto, unfolding(crate::specs::AggregateGrammar::field_with))]
 fn field<'a>(tokens: &mut Tokens<'a>, text: &mut String, levels: u8) -> Result<(), Stop<'a>>
-    ensures { OnOk result (left tokens.new < left tokens.old) }
+    ensures reads { Reads (λ x. x) (spec.field_with (spec.braces levels) (stream tokens.old)) result tokens.new }
+    ensures moves { OnOk result (left tokens.new < left tokens.old) }
 {
     name(tokens, text)?;
     field_value(tokens, text, levels)?;
@@ -264,8 +305,10 @@ fn field<'a>(tokens: &mut Tokens<'a>, text: &mut String, levels: u8) -> Result<(
 }
 
 /// A value in braces: the text of its tokens.
+#[tactic(auto, unfolding(crate::specs::AggregateGrammar::aggregate))]
 pub fn aggregate<'a>(alloc: Global, tokens: &mut Tokens<'a>) -> Result<Aggregate, Stop<'a>>
-    ensures { OnOk result (left tokens.new < left tokens.old) }
+    ensures reads { Reads (λ a. a.span) (spec.aggregate (stream tokens.old)) result tokens.new }
+    ensures moves { OnOk result (left tokens.new < left tokens.old) }
 {
     let open = tokens.expect_sign(Sign::LeftBrace)?;
     let mut text = String::new(alloc);

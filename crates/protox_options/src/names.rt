@@ -1,7 +1,12 @@
 //! Names, numbers and strings.
 
-ghost use Rattle.std.specs.Prelude.{◌<◌, ◌≤◌, OnOk};
+ghost use Rattle.std.specs.Prelude.{◌≡◌, ◌<◌, ◌≤◌, OnOk};
+ghost use Rattle.protox_options.specs.NameGrammar as spec;
 ghost use Rattle.protox_tokens.specs.Left.{left};
+ghost use Rattle.protox_tokens.specs.Parser as parser;
+ghost use Rattle.protox_tokens.specs.Reads.{Reads};
+ghost use Rattle.protox_tokens.specs.Stream.{stream};
+ghost use Rattle.protox_tree.specs.View.{ident_view, full_view, type_name_view, strings_view};
 
 use protox_lex::{Int, Sign, Span, Token};
 use protox_tokens::{Stop, Tokens, across, one};
@@ -14,7 +19,8 @@ pub fn parts_after<'a>(
     tokens: &mut Tokens<'a>,
     first: Ident,
 ) -> Result<FullIdent, Stop<'a>>
-    ensures { OnOk result (left tokens.new ≤ left tokens.old) }
+    ensures reads { Reads full_view (spec.parts_after (ident_view first) (stream tokens.old)) result tokens.new }
+    ensures moves { OnOk result (left tokens.new ≤ left tokens.old) }
 {
     let mut list = one(alloc, first)?;
     'rest: while tokens.passes(Sign::Dot) {
@@ -24,23 +30,29 @@ pub fn parts_after<'a>(
     Ok(FullIdent::from_idents(list))
 }
 
+#[tactic(auto, unfolding(crate::specs::NameGrammar::full_ident))]
 pub fn full_ident<'a>(alloc: Global, tokens: &mut Tokens<'a>) -> Result<FullIdent, Stop<'a>>
-    ensures { OnOk result (left tokens.new < left tokens.old) }
+    ensures reads { Reads full_view (spec.full_ident (stream tokens.old)) result tokens.new }
+    ensures moves { OnOk result (left tokens.new < left tokens.old) }
 {
     let first = tokens.ident(alloc)?;
     let name = parts_after(alloc, tokens, first)?;
     Ok(name)
 }
 
+#[tactic(auto, unfolding(crate::specs::NameGrammar::type_name))]
 pub fn type_name<'a>(alloc: Global, tokens: &mut Tokens<'a>) -> Result<TypeName, Stop<'a>>
-    ensures { OnOk result (left tokens.new < left tokens.old) }
+    ensures reads { Reads type_name_view (spec.type_name (stream tokens.old)) result tokens.new }
+    ensures moves { OnOk result (left tokens.new < left tokens.old) }
 {
     let leading_dot = tokens.eat_sign(Sign::Dot);
     let name = full_ident(alloc, tokens)?;
     Ok(TypeName { leading_dot, name })
 }
 
-fn from_sign(minus: Option<Span>, digits: Span) -> Span {
+fn from_sign(minus: Option<Span>, digits: Span) -> Span
+    ensures { result ≡ spec.from_sign minus digits }
+{
     match minus {
         Some(minus) => across(minus, digits),
         None => digits,
@@ -48,8 +60,10 @@ fn from_sign(minus: Option<Span>, digits: Span) -> Span {
 }
 
 /// An integer, which may have a sign.
+#[tactic(auto, unfolding(crate::specs::NameGrammar::an_int))]
 pub fn int<'a>(tokens: &mut Tokens<'a>) -> Result<Int, Stop<'a>>
-    ensures { OnOk result (left tokens.new < left tokens.old) }
+    ensures reads { Reads (λ n. n) (spec.an_int (stream tokens.old)) result tokens.new }
+    ensures moves { OnOk result (left tokens.new < left tokens.old) }
 {
     let minus = tokens.eat_sign(Sign::Minus);
     let (value, digits) = tokens.digits()?;
@@ -61,8 +75,10 @@ pub fn int<'a>(tokens: &mut Tokens<'a>) -> Result<Int, Stop<'a>>
 }
 
 /// String literals, one or more.
+#[tactic(auto, unfolding(crate::specs::NameGrammar::strings))]
 pub fn strings<'a>(alloc: Global, tokens: &mut Tokens<'a>) -> Result<Strings, Stop<'a>>
-    ensures { OnOk result (left tokens.new < left tokens.old) }
+    ensures reads { Reads strings_view (spec.strings (stream tokens.old)) result tokens.new }
+    ensures moves { OnOk result (left tokens.new < left tokens.old) }
 {
     let first = tokens.literal(alloc)?;
     let mut list = one(alloc, first)?;
@@ -73,7 +89,9 @@ pub fn strings<'a>(alloc: Global, tokens: &mut Tokens<'a>) -> Result<Strings, St
     Ok(Strings::from_literals(list))
 }
 
-pub fn is_string(tokens: &Tokens<'_>) -> bool {
+pub fn is_string(tokens: &Tokens<'_>) -> bool
+    ensures { result ≡ parser.is_string (stream tokens.now) }
+{
     match tokens.peek() {
         Some(lexeme) => matches!(lexeme.token, Token::String(_)),
         None => false,

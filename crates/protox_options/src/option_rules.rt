@@ -1,7 +1,15 @@
 //! Options.
 
-ghost use Rattle.std.specs.Prelude.{◌<◌, ◌≤◌, OnOk, IfOk, vec_len};
+ghost use Rattle.std.specs.Prelude.{◌≡◌, ◌<◌, ◌≤◌, OnOk, IfOk, option_map, vec_len, true};
+ghost use Rattle.protox_lex.specs.Shown.{token_of};
+ghost use Rattle.protox_lex.specs.declared.span.Span as spans;
+ghost use Rattle.protox_options.specs.Negation.{IsInt, IsNegative, IsValue, negated_value};
+ghost use Rattle.protox_options.specs.OptionGrammar as spec;
 ghost use Rattle.protox_tokens.specs.Left.{left};
+ghost use Rattle.protox_tokens.specs.Reads.{Reads};
+ghost use Rattle.protox_tokens.specs.Stream.{stream};
+ghost use Rattle.protox_tree.specs.Tree.{float_value, minus_word};
+ghost use Rattle.protox_tree.specs.View.{name_part_view, name_view, value_view, body_view, bodies_view, option_view, option_list_view};
 
 use crate::aggregate::aggregate;
 use crate::names::{is_string, strings, type_name};
@@ -12,8 +20,10 @@ use protox_tree::{
 };
 use std::alloc::Global;
 
+#[tactic(auto, unfolding(crate::specs::OptionGrammar::name_part, crate::specs::OptionGrammar::in_parens))]
 fn name_part<'a>(alloc: Global, tokens: &mut Tokens<'a>) -> Result<OptionNamePart, Stop<'a>>
-    ensures { OnOk result (left tokens.new < left tokens.old) }
+    ensures reads { Reads name_part_view (spec.name_part (stream tokens.old)) result tokens.new }
+    ensures moves { OnOk result (left tokens.new < left tokens.old) }
 {
     let Some(open) = tokens.eat_sign(Sign::LeftParen) else {
         let ident = tokens.ident(alloc)?;
@@ -24,7 +34,9 @@ fn name_part<'a>(alloc: Global, tokens: &mut Tokens<'a>) -> Result<OptionNamePar
     Ok(OptionNamePart::Extension(name, across(open, close)))
 }
 
+#[tactic(auto, unfolding(crate::specs::OptionGrammar::name))]
 fn name<'a>(alloc: Global, tokens: &mut Tokens<'a>) -> Result<Vec<OptionNamePart>, Stop<'a>>
+    ensures reads { Reads (λ v. name_view v.items) (spec.name (stream tokens.old)) result tokens.new }
     ensures moves { OnOk result (left tokens.new < left tokens.old) }
     ensures some { IfOk result (λ parts. 0 < vec_len parts) }
 {
@@ -46,7 +58,9 @@ enum Negated<'a> {
     Word(&'a str),
 }
 
-fn behind_minus(token: Token<'_>) -> Option<Negated<'_>> {
+fn behind_minus(token: Token<'_>) -> Option<Negated<'_>>
+    ensures { (at : spans.Span) → option_map (λ n. negated_value n at) result ≡ spec.negative_of (token_of token.entry) at }
+{
     match token {
         Token::Int(value) => Some(Negated::Int(value)),
         Token::Float(text) => Some(Negated::Float(text)),
@@ -55,24 +69,25 @@ fn behind_minus(token: Token<'_>) -> Option<Negated<'_>> {
     }
 }
 
-fn float<'a>(
-    alloc: Global,
-    negative: bool,
-    text: &str,
-    span: Span,
-) -> Result<OptionValue, Stop<'a>> {
+fn float<'a>(alloc: Global, negative: bool, text: &str, span: Span) -> Result<OptionValue, Stop<'a>>
+    ensures { IsValue (float_value negative (record { text = text.now; span = span })) result }
+{
     let text = String::from_str(alloc, text)?;
     let number = Float { text, span };
     Ok(OptionValue::Float { negative, number })
 }
 
-fn negative_word<'a>(alloc: Global, text: &str, span: Span) -> Result<OptionValue, Stop<'a>> {
+fn negative_word<'a>(alloc: Global, text: &str, span: Span) -> Result<OptionValue, Stop<'a>>
+    ensures { IsValue (minus_word (record { text = text.now; span = span })) result }
+{
     let text = String::from_str(alloc, text)?;
     Ok(OptionValue::NegativeWord(Ident::new(text, span)))
 }
 
 /// An integer of at least -2^63.
-fn negative_int<'a>(value: u64, span: Span) -> Result<OptionValue, Stop<'a>> {
+fn negative_int<'a>(value: u64, span: Span) -> Result<OptionValue, Stop<'a>>
+    ensures { IsInt (record { negative = true; value = value; span = span }) result }
+{
     if value > 1 << 63 {
         let kind = LexErrorKind::IntegerOutOfRange;
         return Err(Stop::Refused(Fault::Lexical(LexError { kind, span })));
@@ -88,7 +103,9 @@ fn negative_value<'a>(
     alloc: Global,
     negated: Negated<'_>,
     span: Span,
-) -> Result<OptionValue, Stop<'a>> {
+) -> Result<OptionValue, Stop<'a>>
+    ensures { IsNegative negated.entry span result }
+{
     match negated {
         Negated::Int(value) => negative_int(value, span),
         Negated::Float(text) => float(alloc, true, text, span),
@@ -97,12 +114,14 @@ fn negative_value<'a>(
 }
 
 /// What stands behind a minus: an integer of at least -2^63, a float, or the word `inf` or `nan`.
+#[tactic(auto, unfolding(crate::specs::OptionGrammar::negative))]
 fn negative<'a>(
     alloc: Global,
     tokens: &mut Tokens<'a>,
     minus: Span,
 ) -> Result<OptionValue, Stop<'a>>
-    ensures { OnOk result (left tokens.new < left tokens.old) }
+    ensures reads { Reads value_view (spec.negative minus (stream tokens.old)) result tokens.new }
+    ensures moves { OnOk result (left tokens.new < left tokens.old) }
 {
     let Some(Lexeme { span, token }) = tokens.peek() else {
         return Err(tokens.refuse(ExpectedToken::Number));
@@ -116,8 +135,10 @@ fn negative<'a>(
 }
 
 /// A word, or a number without a sign.
+#[tactic(auto, unfolding(crate::specs::OptionGrammar::plain_value))]
 fn plain_value<'a>(alloc: Global, tokens: &mut Tokens<'a>) -> Result<OptionValue, Stop<'a>>
-    ensures { OnOk result (left tokens.new < left tokens.old) }
+    ensures reads { Reads value_view (spec.plain_value (stream tokens.old)) result tokens.new }
+    ensures moves { OnOk result (left tokens.new < left tokens.old) }
 {
     match tokens.peek() {
         Some(
@@ -157,8 +178,10 @@ fn plain_value<'a>(alloc: Global, tokens: &mut Tokens<'a>) -> Result<OptionValue
     }
 }
 
+#[tactic(auto, unfolding(crate::specs::OptionGrammar::value))]
 fn value<'a>(alloc: Global, tokens: &mut Tokens<'a>) -> Result<OptionValue, Stop<'a>>
-    ensures { OnOk result (left tokens.new < left tokens.old) }
+    ensures reads { Reads value_view (spec.value (stream tokens.old)) result tokens.new }
+    ensures moves { OnOk result (left tokens.new < left tokens.old) }
 {
     if is_string(tokens) {
         let strings = strings(alloc, tokens)?;
@@ -176,8 +199,10 @@ fn value<'a>(alloc: Global, tokens: &mut Tokens<'a>) -> Result<OptionValue, Stop
     Ok(value)
 }
 
+#[tactic(auto, unfolding(crate::specs::OptionGrammar::body))]
 fn body<'a>(alloc: Global, tokens: &mut Tokens<'a>) -> Result<OptionBody, Stop<'a>>
-    ensures { OnOk result (left tokens.new < left tokens.old) }
+    ensures reads { Reads body_view (spec.body (stream tokens.old)) result tokens.new }
+    ensures moves { OnOk result (left tokens.new < left tokens.old) }
 {
     let name = name(alloc, tokens)?;
     tokens.expect_sign(Sign::Equals)?;
@@ -186,8 +211,10 @@ fn body<'a>(alloc: Global, tokens: &mut Tokens<'a>) -> Result<OptionBody, Stop<'
 }
 
 /// The statement `option .. ;`.
+#[tactic(auto, unfolding(crate::specs::OptionGrammar::option))]
 pub fn option<'a>(alloc: Global, tokens: &mut Tokens<'a>) -> Result<OptionStatement, Stop<'a>>
-    ensures { OnOk result (left tokens.new < left tokens.old) }
+    ensures reads { Reads option_view (spec.option (stream tokens.old)) result tokens.new }
+    ensures moves { OnOk result (left tokens.new < left tokens.old) }
 {
     let first = tokens.expect(token::OPTION)?;
     let body = body(alloc, tokens)?;
@@ -198,8 +225,10 @@ pub fn option<'a>(alloc: Global, tokens: &mut Tokens<'a>) -> Result<OptionStatem
     })
 }
 
+#[tactic(auto, unfolding(crate::specs::OptionGrammar::bodies))]
 fn bodies<'a>(alloc: Global, tokens: &mut Tokens<'a>) -> Result<Vec<OptionBody>, Stop<'a>>
-    ensures { OnOk result (left tokens.new < left tokens.old) }
+    ensures reads { Reads (λ v. bodies_view v.items) (spec.bodies (stream tokens.old)) result tokens.new }
+    ensures moves { OnOk result (left tokens.new < left tokens.old) }
 {
     let first = body(alloc, tokens)?;
     let mut list = one(alloc, first)?;
@@ -211,8 +240,10 @@ fn bodies<'a>(alloc: Global, tokens: &mut Tokens<'a>) -> Result<Vec<OptionBody>,
 }
 
 /// Options in brackets, if there are any.
+#[tactic(auto, unfolding(crate::specs::OptionGrammar::options, crate::specs::OptionGrammar::in_brackets))]
 pub fn options<'a>(alloc: Global, tokens: &mut Tokens<'a>) -> Result<Option<OptionList>, Stop<'a>>
-    ensures { OnOk result (left tokens.new ≤ left tokens.old) }
+    ensures reads { Reads (λ o. option_map option_list_view o) (spec.options (stream tokens.old)) result tokens.new }
+    ensures moves { OnOk result (left tokens.new ≤ left tokens.old) }
 {
     let Some(open) = tokens.eat_sign(Sign::LeftBracket) else {
         return Ok(None);

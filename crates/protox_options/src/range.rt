@@ -1,7 +1,11 @@
 //! Ranges of numbers, and the statements that list them.
 
 ghost use Rattle.std.specs.Prelude.{◌<◌, ◌≤◌, OnOk};
+ghost use Rattle.protox_options.specs.RangeGrammar as spec;
 ghost use Rattle.protox_tokens.specs.Left.{left};
+ghost use Rattle.protox_tokens.specs.Reads.{Reads};
+ghost use Rattle.protox_tokens.specs.Stream.{stream};
+ghost use Rattle.protox_tree.specs.View.{names_view, reserved_items_view, reserved_view};
 
 use crate::names::{int, is_string, strings};
 use protox_lex::{Sign, token};
@@ -9,8 +13,10 @@ use protox_tokens::{Stop, Tokens, across, one};
 use protox_tree::{RangeEnd, Reserved, ReservedItems, ReservedRange, Strings};
 use std::alloc::Global;
 
+#[tactic(auto, unfolding(crate::specs::RangeGrammar::range_end))]
 fn end<'a>(tokens: &mut Tokens<'a>) -> Result<RangeEnd, Stop<'a>>
-    ensures { OnOk result (left tokens.new ≤ left tokens.old) }
+    ensures reads { Reads (λ e. e) (spec.range_end (stream tokens.old)) result tokens.new }
+    ensures moves { OnOk result (left tokens.new ≤ left tokens.old) }
 {
     if tokens.eat(token::TO).is_none() {
         return Ok(RangeEnd::None);
@@ -22,16 +28,20 @@ fn end<'a>(tokens: &mut Tokens<'a>) -> Result<RangeEnd, Stop<'a>>
     Ok(RangeEnd::Int(int))
 }
 
+#[tactic(auto, unfolding(crate::specs::RangeGrammar::range))]
 fn range<'a>(tokens: &mut Tokens<'a>) -> Result<ReservedRange, Stop<'a>>
-    ensures { OnOk result (left tokens.new < left tokens.old) }
+    ensures reads { Reads (λ r. r) (spec.range (stream tokens.old)) result tokens.new }
+    ensures moves { OnOk result (left tokens.new < left tokens.old) }
 {
     let start = int(tokens)?;
     let end = end(tokens)?;
     Ok(ReservedRange { start, end })
 }
 
+#[tactic(auto, unfolding(crate::specs::RangeGrammar::ranges))]
 pub fn ranges<'a>(alloc: Global, tokens: &mut Tokens<'a>) -> Result<Vec<ReservedRange>, Stop<'a>>
-    ensures { OnOk result (left tokens.new < left tokens.old) }
+    ensures reads { Reads (λ v. v.items) (spec.ranges (stream tokens.old)) result tokens.new }
+    ensures moves { OnOk result (left tokens.new < left tokens.old) }
 {
     let first = range(tokens)?;
     let mut list = one(alloc, first)?;
@@ -42,8 +52,10 @@ pub fn ranges<'a>(alloc: Global, tokens: &mut Tokens<'a>) -> Result<Vec<Reserved
     Ok(list)
 }
 
+#[tactic(auto, unfolding(crate::specs::RangeGrammar::names))]
 fn names<'a>(alloc: Global, tokens: &mut Tokens<'a>) -> Result<Vec<Strings>, Stop<'a>>
-    ensures { OnOk result (left tokens.new < left tokens.old) }
+    ensures reads { Reads (λ v. names_view v.items) (spec.names (stream tokens.old)) result tokens.new }
+    ensures moves { OnOk result (left tokens.new < left tokens.old) }
 {
     let first = strings(alloc, tokens)?;
     let mut list = one(alloc, first)?;
@@ -54,8 +66,10 @@ fn names<'a>(alloc: Global, tokens: &mut Tokens<'a>) -> Result<Vec<Strings>, Sto
     Ok(list)
 }
 
+#[tactic(auto, unfolding(crate::specs::RangeGrammar::reserved_items))]
 fn reserved_items<'a>(alloc: Global, tokens: &mut Tokens<'a>) -> Result<ReservedItems, Stop<'a>>
-    ensures { OnOk result (left tokens.new < left tokens.old) }
+    ensures reads { Reads reserved_items_view (spec.reserved_items (stream tokens.old)) result tokens.new }
+    ensures moves { OnOk result (left tokens.new < left tokens.old) }
 {
     if is_string(tokens) {
         let names = names(alloc, tokens)?;
@@ -66,8 +80,10 @@ fn reserved_items<'a>(alloc: Global, tokens: &mut Tokens<'a>) -> Result<Reserved
 }
 
 /// The statement `reserved .. ;`.
+#[tactic(auto, unfolding(crate::specs::RangeGrammar::reserved))]
 pub fn reserved<'a>(alloc: Global, tokens: &mut Tokens<'a>) -> Result<Reserved, Stop<'a>>
-    ensures { OnOk result (left tokens.new < left tokens.old) }
+    ensures reads { Reads reserved_view (spec.reserved (stream tokens.old)) result tokens.new }
+    ensures moves { OnOk result (left tokens.new < left tokens.old) }
 {
     let first = tokens.expect(token::RESERVED)?;
     let items = reserved_items(alloc, tokens)?;

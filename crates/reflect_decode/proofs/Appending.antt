@@ -15,7 +15,7 @@ use Rattle.reflect_message.specs.Contents.{content_of, nothing}
 use Rattle.reflect_decode.specs.Elements.{Appends, AppendsAll, ContinuesList}
 use Rattle.reflect_message.specs.Lists.{list_items}
 use Rattle.reflect_decode.specs.Merging.{LeadsOn, IsRun}
-use Rattle.reflect_decode.specs.Messages.{Takes, IsMade}
+use Rattle.reflect_decode.specs.Messages.{Taken, IsMade}
 use Rattle.reflect_message.specs.Messages.{message_in}
 use Rattle.reflect_decode.specs.Packed.{IsPacked, Continues}
 use Rattle.reflect_message.specs.Singles.{single}
@@ -24,11 +24,11 @@ use Rattle.reflect_message.specs.declared.value.Value.{Value}
 use Rattle.reflect_decode.proofs.Running.{plain_spelled, run_ends}
 
 -- one record more
-pub appends_more : (inner : Takes) (kind : Kind) (old mid new : List Value) (ps : List Payload) (p : Payload) → AppendsAll inner kind old mid ps → Appends inner kind mid new p → AppendsAll inner kind old new (ps ++ p ∷ [])
+pub appends_more : (inner : Taken) (kind : Kind) (old mid new : List Value) (ps : List Payload) (p : Payload) → AppendsAll inner kind old mid ps → Appends inner kind mid new p → AppendsAll inner kind old new (ps ++ p ∷ [])
 appends_more inner kind old mid new [] p h k = (new, subst (λ l. Appends inner kind l new p) h k, refl)
 appends_more inner kind old mid new (q ∷ ps) p h k = (h.0, h.1, appends_more inner kind h.0 mid new ps p h.2 k)
 
-module _ (inner : Takes) (levels : ℕ) (key : WireKey) (kind : Kind) (bytes rest : List ℕ) (old new : List Value) where
+module _ (inner : Taken) (levels : ℕ) (key : WireKey) (kind : Kind) (bytes rest : List ℕ) (old new : List Value) where
   pub appends_value : (v : Single) (value : Value) → Fronts (IsScalar kind key.wire) bytes v rest → new ≡ old ++ value ∷ [] → single value ≡ Some v
       → (p : Payload) × Fronts (IsValue levels key) bytes p rest × Appends inner kind old new p
   appends_value v value h e s = (h.1.0, (h.0, (h.1.1.0, plain_spelled levels key.number h.0 h.1.0 h.1.1.1), h.2), inr (v ∷ [], inl (v, refl, h.1.2), (value ∷ [], e, cc (s))))
@@ -39,13 +39,13 @@ module _ (inner : Takes) (levels : ℕ) (key : WireKey) (kind : Kind) (bytes res
 
   -- a message that was made of the record
   pub appends_message : (d : MessageDescriptor) (fresh m : DynamicMessage) (value : Value) (p : Payload) → kind ≡ kinds.Message d → fresh.descriptor ≡ d → content_of fresh ≡ nothing → m.descriptor ≡ fresh.descriptor → message_in value ≡ Some m → new ≡ old ++ value ∷ []
-      → Fronts (IsValue levels key) bytes p rest → inner.message fresh.descriptor (content_of fresh) (content_of m) (p ∷ []) → (p : Payload) × Fronts (IsValue levels key) bytes p rest × Appends inner kind old new p
+      → Fronts (IsValue levels key) bytes p rest → inner fresh.descriptor (content_of fresh) (content_of m) (p ∷ []) → (p : Payload) × Fronts (IsValue levels key) bytes p rest × Appends inner kind old new p
   appends_message d fresh m value p is type empty same there e h taken =
-      let mine = subst (λ c. inner.message d c (content_of m) (p ∷ [])) empty (subst (λ d. inner.message d (content_of fresh) (content_of m) (p ∷ [])) type taken) in
+      let mine = subst (λ c. inner d c (content_of m) (p ∷ [])) empty (subst (λ d. inner d (content_of fresh) (content_of m) (p ∷ [])) type taken) in
       (p, h, inl (value, subst (λ k. IsMade inner k p value) (sym is) (m, there, same ∙ type, mine), e))
 
 -- the last record of a list's run
-pub list_done : (inner : Takes) (levels : ℕ) (key : WireKey) (kind : Kind) (bytes here rest : List ℕ) (old new : Value) (before mid after : List Value) (ps : List Payload) (p : Payload)
+pub list_done : (inner : Taken) (levels : ℕ) (key : WireKey) (kind : Kind) (bytes here rest : List ℕ) (old new : Value) (before mid after : List Value) (ps : List Payload) (p : Payload)
     → list_items old ≡ Some before → list_items new ≡ Some after → Fronts (LeadsOn levels key) bytes ps here → Fronts (IsValue levels key) here p rest → AppendsAll inner kind before mid ps → Appends inner kind mid after p
     → (run : List Payload × Payload) × Fronts (IsRun levels key) bytes run rest × ContinuesList inner kind (Some old) (Some new) (run.0 ++ run.1 ∷ [])
 list_done inner levels key kind bytes here rest old new before mid after ps p e f h v so_far last = ((ps, p), run_ends levels key bytes here rest ps p h v, (before, after, e, f, appends_more inner kind before mid after ps p so_far last))

@@ -1,5 +1,5 @@
 -- Records of undeclared numbers, record by record.
-use Rattle.std.proofs.Common.{◌≡◌, ◌≢◌, inl, Result, Ok, Err, IfOk, ℕ, ◌==◌, Bool, true, false, true≢false, cond, nat_lt, nat_le, List, [], ◌∷◌, ◌++◌, map, refl, sym, ap, ◌∙◌, subst, append_assoc, append-nil, arith}
+use Rattle.std.proofs.Common.{◌≡◌, ◌≢◌, inl, inr, Result, Ok, Err, IfOk, ℕ, ◌==◌, Bool, true, false, true≢false, cond, nat_lt, nat_le, List, [], ◌∷◌, ◌++◌, map, refl, sym, ap, ◌∙◌, subst, append_assoc, append-nil, arith}
 use Rattle.std.specs.Borrow.{Bor}
 use Rattle.std.specs.List.{filter}
 use Rattle.std.proofs.lemmas.List.{map-append}
@@ -12,7 +12,9 @@ use Rattle.reflect_wire.specs.Records.{Payload, IsValue}
 use Rattle.reflect_wire.specs.declared.wire_error.WireError.{WireError}
 use Rattle.reflect_wire.specs.declared.wire_key.WireKey.{WireKey}
 use Rattle.reflect_entries.specs.Sets.{up_to, above, with_record}
-use Rattle.reflect_message.specs.Declares.{Owns, IsDeclared}
+use Rattle.reflect_pool.specs.declared.extension.ExtensionDescriptor.{ExtensionDescriptor}
+use Rattle.reflect_scalar.specs.FieldTypes.{extension_type}
+use Rattle.reflect_message.specs.Declares.{Owns, OwnsExtension, NoField, IsDeclared}
 use Rattle.reflect_decode.specs.Keeps.{numbered, payloads, Keeps}
 use Rattle.reflect_decode.specs.Merging.{IsRun, run_records}
 
@@ -73,35 +75,47 @@ payloads_own n (p ∷ ps) =
 
 module _ (m : MessageDescriptor) where
   pub keeps_none : (old : List (ℕ × Payload)) → Keeps m old old []
-  keeps_none old = record { behind = λ n u. sym (append-nil (numbered n old)); others = λ n e. refl }
+  keeps_none old = record { behind = λ n u. sym (append-nil (numbered n old)); declared = λ n is. refl; others = λ n e. refl }
 
   pub keeps_more : (a b c rs ts : List (ℕ × Payload)) → Keeps m a b rs → Keeps m b c ts → Keeps m a c (rs ++ ts)
   keeps_more a b c rs ts h k = record {
     behind = λ n u. k.behind n u ∙ ap (λ l. l ++ numbered n ts) (h.behind n u) ∙ append_assoc (numbered n a) (numbered n rs) (numbered n ts)
         ∙ ap (λ l. numbered n a ++ l) (sym (filter-append (λ r. r.0 == n) rs ts));
+    declared = λ n is. k.declared n is ∙ h.declared n is;
     others = λ n e. let both = two_empty (numbered n rs) (numbered n ts) (sym (filter-append (λ r. r.0 == n) rs ts) ∙ e) in k.others n both.1 ∙ h.others n both.0;
   }
 
-  -- a record that is put
-  pub keeps_record : (old new : List (ℕ × Payload)) (n : ℕ) (p : Payload) → new ≡ with_record old (n, p) → Keeps m old new ((n, p) ∷ [])
-  keeps_record old new n p e = record {
+  -- a record of an undeclared number that is put
+  pub keeps_record : (old new : List (ℕ × Payload)) (n : ℕ) (p : Payload) → (IsDeclared m n → ⊥) → new ≡ with_record old (n, p)
+      → Keeps m old new ((n, p) ∷ [])
+  keeps_record old new n p undeclared e = record {
     behind = λ k u. ap (numbered k) e ∙ placed k n p old;
-    others = λ k none. ap (numbered k) e ∙ placed k n p old ∙ ap (λ l. numbered k old ++ l) none ∙ append-nil (numbered k old);
-  }
+    declared = λ k is. unread k (not_numbered k n (p ∷ []) (λ same. undeclared (subst (IsDeclared m) (sym same) is)));
+    others = unread;
+  } where
+    unread : (k : ℕ) → numbered k ((n, p) ∷ []) ≡ [] → numbered k new ≡ numbered k old
+    unread k none = ap (numbered k) e ∙ placed k n p old ∙ ap (λ l. numbered k old ++ l) none ∙ append-nil (numbered k old)
 
   -- records of a declared number, of which none is put
   pub keeps_declared : (old new : List (ℕ × Payload)) (n : ℕ) (run : List Payload × Payload) → new ≡ old → IsDeclared m n → Keeps m old new (run_records n run)
   keeps_declared old new n run e is = record {
     behind = λ k u. ap (numbered k) e ∙ sym (ap (λ l. numbered k old ++ l) (not_numbered k n (run.0 ++ run.1 ∷ []) (λ same. u (subst (IsDeclared m) same is))) ∙ append-nil (numbered k old));
+    declared = λ k is. ap (numbered k) e;
     others = λ k none. ap (numbered k) e;
   }
 
   pub field_declared : (f : FieldDescriptor) (n : ℕ) → Owns m f → (field_type f).number ≡ n → IsDeclared m n
   field_declared f n owns is = inl (f, owns, is)
 
+  -- a number that neither a field nor an extension has
+  pub not_declared : (n : ℕ) → NoField m n → ((x : ExtensionDescriptor) → OwnsExtension m x → (extension_type x).number ≢ n) → IsDeclared m n → ⊥
+  not_declared n none apart (inl (f, owns, is)) = none f owns is
+  not_declared n none apart (inr (x, owns, is)) = apart x owns is
+
   module _ (levels : ℕ) (key : WireKey) (bytes : List ℕ) where
-    pub kept_if_read : (old new : List (ℕ × Payload)) (r : Result (Bor (List ℕ)) WireError)
+    pub kept_if_read : (old new : List (ℕ × Payload)) (r : Result (Bor (List ℕ)) WireError) → (IsDeclared m key.number → ⊥)
         → IfOk r (λ rest. (p : Payload) × Fronts (IsValue levels key) bytes p rest.now × (new ≡ with_record old (key.number, p)))
         → IfOk r (λ rest. (run : List Payload × Payload) × Fronts (IsRun levels key) bytes run rest.now × Keeps m old new (run_records key.number run))
-    kept_if_read old new (Ok rest) h = (([], h.0), (h.1.0, ([], h.1.0, refl, h.1.1, refl), h.1.2), keeps_record old new key.number h.0 h.2)
-    kept_if_read old new (Err e) h = tt
+    kept_if_read old new (Ok rest) none h =
+        (([], h.0), (h.1.0, ([], h.1.0, refl, h.1.1, refl), h.1.2), keeps_record old new key.number h.0 none h.2)
+    kept_if_read old new (Err e) none h = tt

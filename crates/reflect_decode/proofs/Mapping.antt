@@ -1,5 +1,5 @@
 -- What records leave in maps, record by record.
-use Rattle.std.proofs.Common.{◌≡◌, ◌≢◌, inl, ℕ, List, [], ◌∷◌, ◌++◌, map, Option, None, Some, Result, Ok, Err, IfOk, refl, sym, ap, ◌∙◌, subst, append_assoc, append-nil}
+use Rattle.std.proofs.Common.{◌≡◌, ◌≢◌, inl, ℕ, Bool, List, [], ◌∷◌, ◌++◌, map, Option, None, Some, Result, Ok, Err, IfOk, refl, sym, ap, ◌∙◌, subst, append_assoc, append-nil}
 use Rattle.std.specs.BTreeMap.{insert_entry}
 use Rattle.std.specs.Borrow.{Bor}
 use Rattle.reflect_tables.specs.Types.{PoolType, FieldType, KindType}
@@ -49,8 +49,8 @@ module _ (inner : Takes) (pool : PoolType) (f : FieldType) where
 
   value_more : Joins inner → (old new : Value) (ps qs : List Payload) → LeavesValue inner pool f old ps → ChangesPart inner pool f old new qs → LeavesValue inner pool f new (ps ++ qs)
   value_more joins old new ps [] h k = subst (LeavesValue inner pool f new) (sym (append-nil ps)) (subst (λ v. LeavesValue inner pool f v ps) (sym k) h)
-  value_more joins old new [] (q ∷ qs) h k = (λ scalar. k.0 scalar, λ type. merges_both inner pool f.kind joins None (Some old) (Some new) [] (q ∷ qs) (h.1 type) (k.1 type))
-  value_more joins old new (p ∷ ps) (q ∷ qs) h k = (λ scalar. single_more old new (p ∷ ps) (q ∷ qs) scalar (h.0 scalar) k, λ type. merges_both inner pool f.kind joins None (Some old) (Some new) (p ∷ ps) (q ∷ qs) (h.1 type) (k.1 type))
+  value_more joins old new [] (q ∷ qs) h k = (λ scalar. k.0 scalar, λ type. merges_both (inner.message f.group) pool f.kind (joins f.group) None (Some old) (Some new) [] (q ∷ qs) (h.1 type) (k.1 type))
+  value_more joins old new (p ∷ ps) (q ∷ qs) h k = (λ scalar. single_more old new (p ∷ ps) (q ∷ qs) scalar (h.0 scalar) k, λ type. merges_both (inner.message f.group) pool f.kind (joins f.group) None (Some old) (Some new) (p ∷ ps) (q ∷ qs) (h.1 type) (k.1 type))
 
   module _ (n : ℕ) (rs : List (ℕ × Payload)) (r : ℕ × Payload) (old new : Value) where
     pub key_step : (IsScalarType f.kind → LeavesSingle pool f (single old) (payloads n rs)) → ChangesPart inner pool f old new (payloads n (r ∷ [])) → IsScalarType f.kind → LeavesSingle pool f (single new) (payloads n (rs ++ r ∷ []))
@@ -75,11 +75,13 @@ module _ (inner : Takes) (pool : PoolType) (f : FieldType) where
           ((λ scalar. (w, means, (kind, [], p, is, refl, h.1.2))), λ type. absurd (no_elements pool f.kind kind p (w ∷ []) is type (inl (w, refl, h.1.2)))),
         )
 
-    pub part_message : (d : MessageDescriptor) (before after : DynamicMessage) (r : Result (Bor (List ℕ)) WireError) → IsKind pool (kinds.Message d) f.kind → message_in old ≡ Some before → message_in new ≡ Some after → after.descriptor ≡ before.descriptor
-        → IfOk r (λ rest. (p : Payload) × Fronts (IsValue levels key) bytes p rest.now × inner.message before.descriptor (content_of before) (content_of after) (p ∷ []))
+    pub part_message : (grouped : Bool) → grouped ≡ f.group → (d : MessageDescriptor) (before after : DynamicMessage) (r : Result (Bor (List ℕ)) WireError) → IsKind pool (kinds.Message d) f.kind → message_in old ≡ Some before → message_in new ≡ Some after → after.descriptor ≡ before.descriptor
+        → IfOk r (λ rest. (p : Payload) × Fronts (IsValue levels key) bytes p rest.now × inner.message grouped before.descriptor (content_of before) (content_of after) (p ∷ []))
         → IfOk r (λ rest. (p : Payload) × Fronts (IsValue levels key) bytes p rest.now × ChangesPart inner pool f old new (p ∷ []))
-    part_message d before after (Ok rest) is was now same h = (h.0, h.1, ((λ scalar. absurd (subst IsScalarType is.1 scalar)), λ type. (before, after, was, now, same, h.2)))
-    part_message d before after (Err e) is was now same h = tt
+    part_message grouped form d before after (Ok rest) is was now same h =
+        let taken = subst (λ g. inner.message g before.descriptor (content_of before) (content_of after) (h.0 ∷ [])) form h.2 in
+        (h.0, h.1, ((λ scalar. absurd (subst IsScalarType is.1 scalar)), λ type. (before, after, was, now, same, taken)))
+    part_message grouped form d before after (Err e) is was now same h = tt
 
 module _ (inner : Takes) (pool : PoolType) (t : KindType) where
   put_both : (a b c : List (MapKey × Value)) (ps qs : List Payload) → PutEntries inner pool t a b ps → PutEntries inner pool t b c qs → PutEntries inner pool t a c (ps ++ qs)

@@ -1,5 +1,5 @@
 -- Messages inside records, level by level.
-use Rattle.std.proofs.Common.{◌≡◌, ◌<◌, ℕ, zero, suc, ◌+◌, List, [], ◌∷◌, ◌++◌, None, Some, Result, Ok, Err, IfOk, refl, sym, ap, ◌∙◌, subst, append_assoc, append-nil, arith}
+use Rattle.std.proofs.Common.{◌≡◌, ◌<◌, Bool, true, false, ℕ, zero, suc, ◌+◌, List, [], ◌∷◌, ◌++◌, None, Some, Result, Ok, Err, IfOk, refl, sym, ap, ◌∙◌, subst, append_assoc, append-nil, arith}
 use Rattle.std.specs.Borrow.{Bor}
 use Rattle.reflect_tables.specs.Types.{PoolType, FieldType}
 use Rattle.reflect_pool.specs.declared.kind.Kind.{Kind}
@@ -27,50 +27,54 @@ use Rattle.reflect_decode.proofs.Joining.{Joins}
 use Rattle.reflect_decode.proofs.Running.{delimited_value, group_value, whole_body}
 use Rattle.reflect_decode.proofs.Sparing.{merges_none, merges_more}
 
-inside_both : (levels : ℕ) (ps qs : List Payload) (rs ts : List (ℕ × Payload)) → AreInside levels ps rs → AreInside levels qs ts → AreInside levels (ps ++ qs) (rs ++ ts)
-inside_both levels [] qs rs ts h k = subst (λ l. AreInside levels qs (l ++ ts)) (sym h) k
-inside_both levels (p ∷ ps) qs rs ts h k = (h.0, h.1 ++ ts, h.2, inside_both levels ps qs h.1 ts h.3 k, ap (λ l. l ++ ts) h.4 ∙ append_assoc h.0 h.1 ts)
+inside_both : (grouped : Bool) (levels : ℕ) (ps qs : List Payload) (rs ts : List (ℕ × Payload)) → AreInside grouped levels ps rs → AreInside grouped levels qs ts → AreInside grouped levels (ps ++ qs) (rs ++ ts)
+inside_both grouped levels [] qs rs ts h k = subst (λ l. AreInside grouped levels qs (l ++ ts)) (sym h) k
+inside_both grouped levels (p ∷ ps) qs rs ts h k = (h.0, h.1 ++ ts, h.2, inside_both grouped levels ps qs h.1 ts h.3 k, ap (λ l. l ++ ts) h.4 ∙ append_assoc h.0 h.1 ts)
 
 -- what payloads leave, and others behind them, all of them leave
 pub joins_at : (levels : ℕ) → Joins (TakesAt levels)
 unfolding TakenAt
-joins_at zero m a b c ps qs h k = absurd h
-joins_at (suc levels) m a b c ps qs h k = (h.0 ++ k.0, inside_both levels ps qs h.0 k.0 h.1 k.1, merges_more (TakesAt levels) m (joins_at levels) a b c h.0 k.0 h.2 k.2)
+joins_at zero grouped m a b c ps qs h k = absurd h
+joins_at (suc levels) grouped m a b c ps qs h k = (h.0 ++ k.0, inside_both grouped levels ps qs h.0 k.0 h.1 k.1, merges_more (TakesAt levels) m (joins_at levels) a b c h.0 k.0 h.2 k.2)
 
 -- where a level is left, a message may have taken in nothing
-pub taken_none : (levels : ℕ) → 0 < levels → (m : MessageDescriptor) (a : Content) → TakenAt levels m a a []
+pub taken_none : (levels : ℕ) → 0 < levels → (grouped : Bool) (m : MessageDescriptor) (a : Content) → TakenAt levels grouped m a a []
 unfolding TakenAt
-taken_none zero left m a = absurd (omega (arith, left))
-taken_none (suc levels) left m a = ([], refl, merges_none (TakesAt levels) m a)
+taken_none zero left grouped m a = absurd (omega (arith, left))
+taken_none (suc levels) left grouped m a = ([], refl, merges_none (TakesAt levels) m a)
 
 -- the value of an entry without records of it
 pub value_unset : (levels : ℕ) (pool : PoolType) (f : FieldType) (v : Value) → (IsScalarType f.kind → single v ≡ default_in pool f) → (IsMessageType f.kind → (m : DynamicMessage) × (message_in v ≡ Some m) × IsStart pool f.kind None m)
     → (IsMessageType f.kind → 0 < levels) → LeavesValue (TakesAt levels) pool f v []
-value_unset levels pool f v scalar empty left = (λ type. scalar type, λ type. let start = empty type in (start.0, start.0, start.2, start.1, refl, taken_none levels (left type) start.0.descriptor (content_of start.0)))
+value_unset levels pool f v scalar empty left = (λ type. scalar type, λ type. let start = empty type in (start.0, start.0, start.2, start.1, refl, taken_none levels (left type) f.group start.0.descriptor (content_of start.0)))
 
 module _ (below levels : ℕ) (e : below + 1 ≡ levels) (m : MessageDescriptor) (a b : Content) where
-  one_inside : (p : Payload) (rs : List (ℕ × Payload)) → AreInside below (p ∷ []) rs → MergesAt below m a b rs → TakenAt levels m a b (p ∷ [])
+  one_inside : (grouped : Bool) (p : Payload) (rs : List (ℕ × Payload)) → AreInside grouped below (p ∷ []) rs → MergesAt below m a b rs
+      → TakenAt levels grouped m a b (p ∷ [])
   unfolding TakenAt
-  one_inside p rs inside merges =
+  one_inside grouped p rs inside merges =
       let above : suc below ≡ levels = omega (arith, e) in
-      subst (λ l. TakenAt l m a b (p ∷ [])) above (rs, inside, merges)
+      subst (λ l. TakenAt l grouped m a b (p ∷ [])) above (rs, inside, merges)
 
   module _ (key : WireKey) (bytes : List ℕ) where
     -- the records inside a length and its bytes
-    pub delimited_taken : (body inside rest : List ℕ) → key.wire ≡ LengthDelimited → Fronts IsDelimited bytes body rest → inside ≡ [] → (rs : List (ℕ × Payload)) × Fronts (IsBody None below) body rs inside × MergesAt below m a b rs
-        → (p : Payload) × Fronts (IsValue levels key) bytes p rest × TakenAt levels m a b (p ∷ [])
-    delimited_taken body inside rest wire h whole (rs, read, merges) =
+    pub delimited_taken : (grouped : Bool) (body inside rest : List ℕ) → grouped ≡ false → key.wire ≡ LengthDelimited → Fronts IsDelimited bytes body rest → inside ≡ [] → (rs : List (ℕ × Payload)) × Fronts (IsBody None below) body rs inside × MergesAt below m a b rs
+        → (p : Payload) × Fronts (IsValue levels key) bytes p rest × TakenAt levels grouped m a b (p ∷ [])
+    delimited_taken grouped body inside rest form wire h whole (rs, read, merges) =
         let value = delimited_value levels key bytes rest body wire h in
-        (delimited body, value, one_inside (delimited body) rs (rs, [], whole_body below body inside rs read whole, refl, sym (append-nil rs)) merges)
+        let taken = one_inside false (delimited body) rs (rs, [], whole_body below body inside rs read whole, refl, sym (append-nil rs)) merges in
+        (delimited body, value, subst (λ g. TakenAt levels g m a b (delimited body ∷ [])) (sym form) taken)
 
     -- the records inside a group
-    pub group_taken : (r : Result (Bor (List ℕ)) WireError) → key.wire ≡ StartGroup → IfOk r (λ rest. (rs : List (ℕ × Payload)) × Fronts (IsBody (Some key.number) below) bytes rs rest.now × MergesAt below m a b rs)
-        → IfOk r (λ rest. (p : Payload) × Fronts (IsValue levels key) bytes p rest.now × TakenAt levels m a b (p ∷ []))
-    group_taken (Ok rest) wire (rs, read, merges) =
+    pub group_taken : (grouped : Bool) (r : Result (Bor (List ℕ)) WireError) → grouped ≡ true → key.wire ≡ StartGroup → IfOk r (λ rest. (rs : List (ℕ × Payload)) × Fronts (IsBody (Some key.number) below) bytes rs rest.now × MergesAt below m a b rs)
+        → IfOk r (λ rest. (p : Payload) × Fronts (IsValue levels key) bytes p rest.now × TakenAt levels grouped m a b (p ∷ []))
+    group_taken grouped (Ok rest) form wire (rs, read, merges) =
         let value = group_value levels key below bytes rest.now rs wire e read in
-        (group (records_of rs), value, one_inside (group (records_of rs)) rs (rs, [], refl, refl, sym (append-nil rs)) merges)
-    group_taken (Err f) wire h = tt
+        let taken = one_inside true (group (records_of rs)) rs (rs, [], refl, refl, sym (append-nil rs)) merges in
+        (group (records_of rs), value, subst (λ g. TakenAt levels g m a b (group (records_of rs) ∷ [])) (sym form) taken)
+    group_taken grouped (Err f) form wire h = tt
 
 -- what a record adds at the same level
-pub appends_at : (here levels : ℕ) (kind : Kind) (old new : List Value) (p : Payload) → here ≡ levels → Appends (TakesAt here) kind old new p → Appends (TakesAt levels) kind old new p
-appends_at here levels kind old new p e h = subst (λ l. Appends (TakesAt l) kind old new p) e h
+pub appends_at : (here levels : ℕ) (grouped : Bool) (kind : Kind) (old new : List Value) (p : Payload) → here ≡ levels
+    → Appends (TakenAt here grouped) kind old new p → Appends (TakenAt levels grouped) kind old new p
+appends_at here levels grouped kind old new p e h = subst (λ l. Appends (TakenAt l grouped) kind old new p) e h

@@ -18,7 +18,7 @@ use Rattle.reflect_message.specs.Contents.{content_of, nothing}
 use Rattle.reflect_decode.specs.Elements.{Appends, AppendsAll, ContinuesList}
 use Rattle.reflect_message.specs.Lists.{items_held}
 use Rattle.reflect_decode.specs.Merging.{IsRun}
-use Rattle.reflect_decode.specs.Messages.{Takes, MergesMessage}
+use Rattle.reflect_decode.specs.Messages.{Taken, Takes, MergesMessage}
 use Rattle.reflect_message.specs.Messages.{message_in, message_held, IsStart}
 use Rattle.reflect_decode.specs.Packed.{Continues}
 use Rattle.reflect_message.specs.Singles.{single}
@@ -52,19 +52,19 @@ module _ (pool : PoolType) (t : KindType) where
   values_both (p ∷ ps) qs vs ws h k = (h.0, h.1, h.2 ++ ws, h.3, h.4, values_both ps qs h.2 ws h.5 k, ap (λ l. l ++ ws) h.6 ∙ append_assoc h.1 h.2 ws)
 
   -- the values that a list of a scalar kind gets
-  appended : (inner : Takes) (kind : Kind) → IsKind pool kind t → IsScalarType t → (old new : List Value) (ps : List Payload) → AppendsAll inner kind old new ps → (vs : List Single) × AreValues pool t ps vs × Continues old new vs
+  appended : (inner : Taken) (kind : Kind) → IsKind pool kind t → IsScalarType t → (old new : List Value) (ps : List Payload) → AppendsAll inner kind old new ps → (vs : List Single) × AreValues pool t ps vs × Continues old new vs
   appended inner kind is scalar old new [] h = ([], refl, ([], h ∙ sym (append-nil old), refl))
   appended inner kind is scalar old new (p ∷ ps) h = by h.1 (appended inner kind is scalar h.0 new ps h.2) where
     by : Appends inner kind old h.0 p → (vs : List Single) × AreValues pool t ps vs × Continues h.0 new vs → (vs : List Single) × AreValues pool t (p ∷ ps) vs × Continues old new vs
     by (inl m) rest = absurd (no_message inner pool t kind p m.0 is scalar m.1)
     by (inr (vs, elements, more)) rest = (vs ++ rest.0, (kind, vs, rest.0, is, elements, rest.1, refl), continues_both old h.0 new vs rest.0 more rest.2)
 
-  made_both : (inner : Takes) (ps qs : List Payload) (vs ws : List Value) → AreMade inner pool t ps vs → AreMade inner pool t qs ws → AreMade inner pool t (ps ++ qs) (vs ++ ws)
+  made_both : (inner : Taken) (ps qs : List Payload) (vs ws : List Value) → AreMade inner pool t ps vs → AreMade inner pool t qs ws → AreMade inner pool t (ps ++ qs) (vs ++ ws)
   made_both inner [] qs vs ws h k = subst (λ l. AreMade inner pool t qs (l ++ ws)) (sym h) k
   made_both inner (p ∷ ps) qs vs ws h k = (h.0, h.1, h.2 ++ ws, h.3, h.4, made_both inner ps qs h.2 ws h.5 k, ap (λ l. l ++ ws) h.6)
 
   -- the messages that a list of a message kind gets
-  made : (inner : Takes) (kind : Kind) → IsKind pool kind t → IsMessageType t → (old new : List Value) (ps : List Payload) → AppendsAll inner kind old new ps → (vs : List Value) × AreMade inner pool t ps vs × (new ≡ old ++ vs)
+  made : (inner : Taken) (kind : Kind) → IsKind pool kind t → IsMessageType t → (old new : List Value) (ps : List Payload) → AppendsAll inner kind old new ps → (vs : List Value) × AreMade inner pool t ps vs × (new ≡ old ++ vs)
   made inner kind is type old new [] h = ([], refl, h ∙ sym (append-nil old))
   made inner kind is type old new (p ∷ ps) h = by h.1 (made inner kind is type h.0 new ps h.2) where
     by : Appends inner kind old h.0 p → (vs : List Value) × AreMade inner pool t ps vs × (new ≡ h.0 ++ vs) → (vs : List Value) × AreMade inner pool t (p ∷ ps) vs × (new ≡ old ++ vs)
@@ -73,7 +73,7 @@ module _ (pool : PoolType) (t : KindType) where
 
 module _ (inner : Takes) (pool : PoolType) (f : FieldType) where
   leaves_some : (old new : Option Value) (ps : List Payload) (p : Payload) → (IsScalarType f.kind → LeavesAs (holds_list pool f) pool f.kind old new (ps ++ p ∷ []))
-      → (IsMessageType f.kind → holds_map pool f ≡ false → TakesAs (holds_list pool f) inner pool f.kind old new (ps ++ p ∷ [])) → (holds_map pool f ≡ true → ContinuesMap inner pool f.kind old new (ps ++ p ∷ [])) → Leaves inner pool f old new (ps ++ p ∷ [])
+      → (IsMessageType f.kind → holds_map pool f ≡ false → TakesAs (holds_list pool f) (inner.message f.group) pool f.kind old new (ps ++ p ∷ [])) → (holds_map pool f ≡ true → ContinuesMap inner pool f.kind old new (ps ++ p ∷ [])) → Leaves inner pool f old new (ps ++ p ∷ [])
   leaves_some old new [] p h k l = (h, k, l)
   leaves_some old new (q ∷ ps) p h k l = (h, k, l)
 
@@ -88,11 +88,12 @@ module _ (inner : Takes) (pool : PoolType) (f : FieldType) where
         (h.0, k.1, h.2 ++ k.2, h.3, k.4, values_both pool f.kind (p ∷ ps) (q ∷ qs) h.2 k.2 h.5 k.5, continues_both h.0 h.1 k.1 h.2 k.2 h.6 (subst (λ l. Continues l k.1 k.2) same k.6))
     by false h k = (k.0, k.1, k.2, k.3, last_behind pool f.kind (p ∷ ps) (q ∷ qs) k.1 k.4)
 
-    within : (list : Bool) → TakesAs list inner pool f.kind a b (p ∷ ps) → TakesAs list inner pool f.kind b c (q ∷ qs) → TakesAs list inner pool f.kind a c (p ∷ (ps ++ q ∷ qs))
+    within : (list : Bool) → TakesAs list (inner.message f.group) pool f.kind a b (p ∷ ps) → TakesAs list (inner.message f.group) pool f.kind b c (q ∷ qs)
+        → TakesAs list (inner.message f.group) pool f.kind a c (p ∷ (ps ++ q ∷ qs))
     within true h k =
         let same : k.0 ≡ h.1 = cc in
-        (h.0, k.1, h.2 ++ k.2, h.3, k.4, made_both pool f.kind inner (p ∷ ps) (q ∷ qs) h.2 k.2 h.5 k.5, k.6 ∙ ap (λ l. l ++ k.2) (same ∙ h.6) ∙ append_assoc h.0 h.2 k.2)
-    within false h k = merges_both inner pool f.kind joins a b c (p ∷ ps) (q ∷ qs) h k
+        (h.0, k.1, h.2 ++ k.2, h.3, k.4, made_both pool f.kind (inner.message f.group) (p ∷ ps) (q ∷ qs) h.2 k.2 h.5 k.5, k.6 ∙ ap (λ l. l ++ k.2) (same ∙ h.6) ∙ append_assoc h.0 h.2 k.2)
+    within false h k = merges_both (inner.message f.group) pool f.kind (joins f.group) a b c (p ∷ ps) (q ∷ qs) h k
 
 module _ (inner : Takes) (levels : ℕ) (key : WireKey) (bytes : List ℕ) (pool : PoolType) (f : FieldType) (old new : Option Value) where
   -- a map's entries are put
@@ -105,33 +106,33 @@ module _ (inner : Takes) (levels : ℕ) (key : WireKey) (bytes : List ℕ) (pool
   map_leaves kind slot filled (Err e) is map same put h = tt
 
   -- the message that stood there, or a new one where nothing did, has taken in the record
-  pub message_leaves : (d : MessageDescriptor) (fresh before taken after : DynamicMessage) (empty slot filled : Value) (r : Result (Bor (List ℕ)) WireError) → IsKind pool (kinds.Message d) f.kind → holds_list pool f ≡ false → holds_map pool f ≡ false
+  pub message_leaves : (grouped : Bool) → grouped ≡ f.group → (d : MessageDescriptor) (fresh before taken after : DynamicMessage) (empty slot filled : Value) (r : Result (Bor (List ℕ)) WireError) → IsKind pool (kinds.Message d) f.kind → holds_list pool f ≡ false → holds_map pool f ≡ false
       → slot ≡ unwrap_or old empty → message_in empty ≡ Some fresh → fresh.descriptor ≡ d → content_of fresh ≡ nothing → message_in slot ≡ Some before → new ≡ Some filled → message_in filled ≡ Some after → taken ≡ before → after.descriptor ≡ taken.descriptor
-      → IfOk r (λ rest. (p : Payload) × Fronts (IsValue levels key) bytes p rest.now × inner.message taken.descriptor (content_of taken) (content_of after) (p ∷ []))
+      → IfOk r (λ rest. (p : Payload) × Fronts (IsValue levels key) bytes p rest.now × inner.message grouped taken.descriptor (content_of taken) (content_of after) (p ∷ []))
       → IfOk r (λ rest. (run : List Payload × Payload) × Fronts (IsRun levels key) bytes run rest.now × Leaves inner pool f old new (run.0 ++ run.1 ∷ []))
-  message_leaves d fresh before taken after empty slot filled (Ok rest) is none no_map there made type holds at put now one same h =
+  message_leaves grouped form d fresh before taken after empty slot filled (Ok rest) is none no_map there made type holds at put now one same h =
       let run : List Payload × Payload = ([], h.0) in
-      let merges : MergesMessage inner pool f.kind old new (h.0 ∷ []) = (before, after, started old there, ap message_held put ∙ now, same ∙ ap (λ (m : DynamicMessage). m.descriptor) one, subst (λ (m : DynamicMessage). inner.message m.descriptor (content_of m) (content_of after) (h.0 ∷ [])) one h.2) in
+      let merges : MergesMessage (inner.message grouped) pool f.kind old new (h.0 ∷ []) = (before, after, started old there, ap message_held put ∙ now, same ∙ ap (λ (m : DynamicMessage). m.descriptor) one, subst (λ (m : DynamicMessage). inner.message grouped m.descriptor (content_of m) (content_of after) (h.0 ∷ [])) one h.2) in
       let value = h.1 in
-      (run, (value.0, ([], value.0, refl, value.1, refl), value.2), ((λ scalar. absurd (subst IsScalarType is.1 scalar)), (λ type apart. subst (λ b. TakesAs b inner pool f.kind old new (h.0 ∷ [])) (sym none) merges), λ map. absurd (cc (map, no_map)))) where
+      (run, (value.0, ([], value.0, refl, value.1, refl), value.2), ((λ scalar. absurd (subst IsScalarType is.1 scalar)), (λ type apart. subst (λ g. TakesAs (holds_list pool f) (inner.message g) pool f.kind old new (h.0 ∷ [])) form (subst (λ b. TakesAs b (inner.message grouped) pool f.kind old new (h.0 ∷ [])) (sym none) merges)), λ map. absurd (cc (map, no_map)))) where
         started : (o : Option Value) → slot ≡ unwrap_or o empty → IsStart pool f.kind o before
         started None e =
             let made_now : before ≡ fresh = cc (at, ap message_in e, made) in
             subst (λ m. IsStart pool f.kind None m) (sym made_now) (subst (λ d. IsKind pool (kinds.Message d) f.kind) (sym type) is, holds)
         started (Some v) e = sym (ap message_in e) ∙ at
-  message_leaves d fresh before taken after empty slot filled (Err e) is none no_map there made type holds at put now one same h = tt
+  message_leaves grouped form d fresh before taken after empty slot filled (Err e) is none no_map there made type holds at put now one same h = tt
 
-  pub list_leaves : (kind : Kind) (slot filled : Value) (r : Result (Bor (List ℕ)) WireError) → IsKind pool kind f.kind → holds_list pool f ≡ true
+  pub list_leaves : (grouped : Bool) → grouped ≡ f.group → (kind : Kind) (slot filled : Value) (r : Result (Bor (List ℕ)) WireError) → IsKind pool kind f.kind → holds_list pool f ≡ true
       → items_held (Some slot) ≡ items_held old → new ≡ Some filled
-      → IfOk r (λ rest. (run : List Payload × Payload) × Fronts (IsRun levels key) bytes run rest.now × ContinuesList inner kind (Some slot) (Some filled) (run.0 ++ run.1 ∷ []))
+      → IfOk r (λ rest. (run : List Payload × Payload) × Fronts (IsRun levels key) bytes run rest.now × ContinuesList (inner.message grouped) kind (Some slot) (Some filled) (run.0 ++ run.1 ∷ []))
       → IfOk r (λ rest. (run : List Payload × Payload) × Fronts (IsRun levels key) bytes run rest.now × Leaves inner pool f old new (run.0 ++ run.1 ∷ []))
-  list_leaves kind slot filled (Ok rest) is list same put h =
+  list_leaves grouped form kind slot filled (Ok rest) is list same put h =
       let more = h.2 in
       let run = h.0.0 ++ h.0.1 ∷ [] in
-      let values : IsScalarType f.kind → LeavesAs true pool f.kind old new run = λ scalar. let added = appended pool f.kind inner kind is scalar more.0 more.1 run more.4 in (more.0, more.1, added.0, sym same ∙ more.2, ap items_held put ∙ more.3, added.1, added.2) in
-      let messages : IsMessageType f.kind → TakesAs true inner pool f.kind old new run = λ type. let added = made pool f.kind inner kind is type more.0 more.1 run more.4 in (more.0, more.1, added.0, sym same ∙ more.2, ap items_held put ∙ more.3, added.1, added.2) in
-      (h.0, h.1, leaves_some inner pool f old new h.0.0 h.0.1 (λ scalar. subst (λ b. LeavesAs b pool f.kind old new run) (sym list) (values scalar)) (λ type none. subst (λ b. TakesAs b inner pool f.kind old new run) (sym list) (messages type)) (λ map. absurd (list_no_map pool f list map)))
-  list_leaves kind slot filled (Err e) is list same put h = tt
+      let values : IsScalarType f.kind → LeavesAs true pool f.kind old new run = λ scalar. let added = appended pool f.kind (inner.message grouped) kind is scalar more.0 more.1 run more.4 in (more.0, more.1, added.0, sym same ∙ more.2, ap items_held put ∙ more.3, added.1, added.2) in
+      let messages : IsMessageType f.kind → TakesAs true (inner.message grouped) pool f.kind old new run = λ type. let added = made pool f.kind (inner.message grouped) kind is type more.0 more.1 run more.4 in (more.0, more.1, added.0, sym same ∙ more.2, ap items_held put ∙ more.3, added.1, added.2) in
+      (h.0, h.1, leaves_some inner pool f old new h.0.0 h.0.1 (λ scalar. subst (λ b. LeavesAs b pool f.kind old new run) (sym list) (values scalar)) (λ type none. subst (λ g. TakesAs (holds_list pool f) (inner.message g) pool f.kind old new run) form (subst (λ b. TakesAs b (inner.message grouped) pool f.kind old new run) (sym list) (messages type))) (λ map. absurd (list_no_map pool f list map)))
+  list_leaves grouped form kind slot filled (Err e) is list same put h = tt
 
   pub single_leaves : (kind : Kind) (rest : List ℕ) (v : Value) (w : Single) → IsKind pool kind f.kind → holds_list pool f ≡ false → Fronts (IsScalar kind key.wire) bytes w rest → new ≡ Some v → single v ≡ Some w
       → (run : List Payload × Payload) × Fronts (IsRun levels key) bytes run rest × Leaves inner pool f old new (run.0 ++ run.1 ∷ [])

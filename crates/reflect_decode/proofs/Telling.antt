@@ -8,7 +8,7 @@ use Rattle.reflect_pool.specs.declared.kind.Kind.TheVariants as kinds
 use Rattle.reflect_wire.specs.Records.{Payload}
 use Rattle.reflect_scalar.specs.Singles.{Single}
 use Rattle.reflect_decode.specs.Elements.{AreElements}
-use Rattle.reflect_decode.specs.Messages.{Takes, IsMade}
+use Rattle.reflect_decode.specs.Messages.{Taken, IsMade}
 use Rattle.reflect_message.specs.KindTypes.{IsScalarType, IsMessageType}
 use Rattle.reflect_message.specs.declared.value.Value.{Value}
 
@@ -33,7 +33,7 @@ both_kinds bytes scalar type = type
 both_kinds (enumeration i) scalar type = type
 
 -- of a scalar kind no message is made
-pub no_message : (inner : Takes) (pool : PoolType) (t : KindType) (kind : Kind) (p : Payload) (v : Value) → IsKind pool kind t → IsScalarType t → IsMade inner kind p v → ⊥
+pub no_message : (inner : Taken) (pool : PoolType) (t : KindType) (kind : Kind) (p : Payload) (v : Value) → IsKind pool kind t → IsScalarType t → IsMade inner kind p v → ⊥
 no_message inner pool t kinds.Double p v is scalar h = h
 no_message inner pool t kinds.Float p v is scalar h = h
 no_message inner pool t kinds.Int32 p v is scalar h = h

@@ -5,7 +5,7 @@ use Rattle.reflect_pool.specs.declared.kind.Kind.{Kind}
 use Rattle.reflect_scalar.specs.Kinds.{wire_type, packs}
 use Rattle.reflect_scalar.specs.Meaning.{Means}
 use Rattle.reflect_scalar.specs.Singles.{Single}
-use Rattle.reflect_decode.specs.Messages.{Takes, IsMade}
+use Rattle.reflect_decode.specs.Messages.{Taken, IsMade}
 use Rattle.reflect_decode.specs.Packed.{IsPacked, Continues}
 use Rattle.reflect_message.specs.Lists.{items_held}
 use Rattle.reflect_message.specs.declared.value.Value.{Value}
@@ -19,14 +19,14 @@ abbrev pub AreElements : Kind → Payload → List Single → Type 0
 AreElements kind p vs = ((v : Single) × (vs ≡ v ∷ []) × Means kind p v) ⊎ IsRow kind p vs
 
 -- behind the old values stands the record's message, or, of another kind, the values that it spells
-abbrev pub Appends : Takes → Kind → List Value → List Value → Payload → Type 0
-Appends inner kind old new p = ((v : Value) × IsMade inner kind p v × (new ≡ old ++ v ∷ [])) ⊎ ((vs : List Single) × AreElements kind p vs × Continues old new vs)
+abbrev pub Appends : Taken → Kind → List Value → List Value → Payload → Type 0
+Appends taken kind old new p = ((v : Value) × IsMade taken kind p v × (new ≡ old ++ v ∷ [])) ⊎ ((vs : List Single) × AreElements kind p vs × Continues old new vs)
 
 -- the same for records one behind the other
-abbrev pub AppendsAll : Takes → Kind → List Value → List Value → List Payload → Type 0
-AppendsAll inner kind old new [] = new ≡ old
-AppendsAll inner kind old new (p ∷ ps) = (between : List Value) × Appends inner kind old between p × AppendsAll inner kind between new ps
+abbrev pub AppendsAll : Taken → Kind → List Value → List Value → List Payload → Type 0
+AppendsAll taken kind old new [] = new ≡ old
+AppendsAll taken kind old new (p ∷ ps) = (between : List Value) × Appends taken kind old between p × AppendsAll taken kind between new ps
 
 -- a list is continued by the values of the records
-abbrev pub ContinuesList : Takes → Kind → Option Value → Option Value → List Payload → Type 0
-ContinuesList inner kind old new ps = (before after : List Value) × (items_held old ≡ Some before) × (items_held new ≡ Some after) × AppendsAll inner kind before after ps
+abbrev pub ContinuesList : Taken → Kind → Option Value → Option Value → List Payload → Type 0
+ContinuesList taken kind old new ps = (before after : List Value) × (items_held old ≡ Some before) × (items_held new ≡ Some after) × AppendsAll taken kind before after ps

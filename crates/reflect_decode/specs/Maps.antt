@@ -33,7 +33,7 @@ LeavesKey pool f k ps = IsScalarType f.kind → LeavesSingle pool f (Some (key_v
 
 -- what those of a map's value leave as it: of a message type a message that has taken in all of them, also where there are none
 abbrev pub LeavesValue : Takes → PoolType → FieldType → Value → List Payload → Type 0
-LeavesValue inner pool f v ps = (IsScalarType f.kind → LeavesSingle pool f (single v) ps) × (IsMessageType f.kind → MergesMessage inner pool f.kind None (Some v) ps)
+LeavesValue inner pool f v ps = (IsScalarType f.kind → LeavesSingle pool f (single v) ps) × (IsMessageType f.kind → MergesMessage (inner.message f.group) pool f.kind None (Some v) ps)
 
 -- a record is an entry of the type: those inside it leave this key and this value
 abbrev pub IsEntry : Takes → PoolType → KindType → Payload → MapKey → Value → Type 0
@@ -53,4 +53,4 @@ ContinuesMap inner pool t old new ps = (before after : List (MapKey × Value)) �
 -- what an entry's records make of the value that stands for their field, which stays where there are none
 abbrev pub ChangesPart : Takes → PoolType → FieldType → Value → Value → List Payload → Type 0
 ChangesPart inner pool f old new [] = new ≡ old
-ChangesPart inner pool f old new (p ∷ ps) = (IsScalarType f.kind → LeavesSingle pool f (single new) (p ∷ ps)) × (IsMessageType f.kind → MergesMessage inner pool f.kind (Some old) (Some new) (p ∷ ps))
+ChangesPart inner pool f old new (p ∷ ps) = (IsScalarType f.kind → LeavesSingle pool f (single new) (p ∷ ps)) × (IsMessageType f.kind → MergesMessage (inner.message f.group) pool f.kind (Some old) (Some new) (p ∷ ps))

@@ -262,7 +262,7 @@ fn merge_message<'p, 'b>(
     raw: RawRecord<'b>,
 ) -> Result<&'b [u8], WireError>
     ensures same_type { message.new.descriptor ≡ message.old.descriptor }
-    ensures read { IfOk result (λ rest. (p : Payload) × Fronts (IsValue raw.entry.levels raw.entry.key) raw.entry.bytes.now p rest.now × TakenAt raw.entry.levels message.old.descriptor (content_of message.old) (content_of message.new) (p ∷ [])) }
+    ensures read { IfOk result (λ rest. (p : Payload) × Fronts (IsValue raw.entry.levels raw.entry.key) raw.entry.bytes.now p rest.now × TakenAt raw.entry.levels is_group message.old.descriptor (content_of message.old) (content_of message.new) (p ∷ [])) }
     ensures shorter { IfOk result (λ rest. length rest.now ≤ length raw.entry.bytes.now) }
 {
     match raw.key.wire {
@@ -289,7 +289,7 @@ fn merge_list<'p, 'b>(
     is_group: bool,
     raw: RawRecord<'b>,
 ) -> Result<&'b [u8], WireError>
-    ensures read { IfOk result (λ rest. (run : List Payload × Payload) × Fronts (IsRun raw.entry.levels raw.entry.key) raw.entry.bytes.now run rest.now × ContinuesList (TakesAt raw.entry.levels) kind.now (Some list.old) (Some list.new) (run.0 ++ run.1 ∷ [])) }
+    ensures read { IfOk result (λ rest. (run : List Payload × Payload) × Fronts (IsRun raw.entry.levels raw.entry.key) raw.entry.bytes.now run rest.now × ContinuesList (TakenAt raw.entry.levels is_group) kind.now (Some list.old) (Some list.new) (run.0 ++ run.1 ∷ [])) }
     ensures shorter { IfOk result (λ rest. length rest.now ≤ length raw.entry.bytes.now) }
 {
     let Value::List(values) = list else {
@@ -314,7 +314,7 @@ fn merge_element<'p, 'b>(
     is_group: bool,
     raw: RawRecord<'b>,
 ) -> Result<&'b [u8], WireError>
-    ensures read { IfOk result (λ rest. (p : Payload) × Fronts (IsValue raw.entry.levels raw.entry.key) raw.entry.bytes.now p rest.now × Appends (TakesAt raw.entry.levels) kind.now values.old.items values.new.items p) }
+    ensures read { IfOk result (λ rest. (p : Payload) × Fronts (IsValue raw.entry.levels raw.entry.key) raw.entry.bytes.now p rest.now × Appends (TakenAt raw.entry.levels is_group) kind.now values.old.items values.new.items p) }
     ensures shorter { IfOk result (λ rest. length rest.now ≤ length raw.entry.bytes.now) }
 {
     if let Kind::Message(inner) = kind {

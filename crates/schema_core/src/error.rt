@@ -1,4 +1,6 @@
 ghost use Rattle.std.specs.Prelude.{◌≡◌, ◌⊎◌, option_map};
+ghost use Rattle.std.specs.Fmt.{DisplaysOnOk};
+ghost use Rattle.schema_core.specs.Texts.{said};
 
 use protox_parse::ParseError as SourceError;
 use reflect_build::DescriptorError;
@@ -61,7 +63,9 @@ impl SchemaError {
     }
 
     /// The text without a place.
-    fn write_text<W: fmt::Write>(&self, f: &mut fmt::Formatter<W>) -> fmt::Result {
+    fn write_text<W: fmt::Write>(&self, f: &mut fmt::Formatter<W>) -> fmt::Result
+        ensures { DisplaysOnOk W.write_str_gives f.old result (said self.now) f.new }
+    {
         match self {
             SchemaError::Parse(error) => write!(f, "{error}"),
             SchemaError::Link(error) => write!(f, "{error}"),
@@ -77,6 +81,8 @@ impl SchemaError {
 
 /// `file:line:column: text` where the place is known, else `file: text` where the file is, else the text.
 impl fmt::Display for SchemaError {
+    ghost output = { λ e. said e };
+
     fn fmt<W: fmt::Write>(&self, f: &mut fmt::Formatter<W>) -> fmt::Result {
         if let Some(file) = self.file() {
             write!(f, "{file}:")?;

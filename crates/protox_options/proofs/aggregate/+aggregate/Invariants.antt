@@ -1,5 +1,10 @@
-use Rattle.std.proofs.Common.{◌≤◌, ◌*◌, ◌+◌}
+use Rattle.protox_lex.specs.Token.{sign}
+use Rattle.protox_options.specs.AggregateGrammar.{braces, value_with, field_with}
 use Rattle.protox_tokens.specs.Left.{left}
+use Rattle.protox_tokens.specs.Parser.{behind_in, until_in, many}
+use Rattle.protox_tokens.specs.Stream.{stream, text}
+use Rattle.std.proofs.Common.{◌≡◌, ◌≤◌, ◌*◌, ◌+◌}
+use Rattle.protox_lex.specs.declared.token.Sign.TheVariants as s
 use Rattle.protox_options.proofs.aggregate.+aggregate.Given as goal
 
 abbrev pub decreases-braces : goal.decreases-braces
@@ -21,13 +26,23 @@ abbrev pub decreases-fields : goal.decreases-fields
 decreases-fields l = 6 * left l.tokens.now + 5
 
 abbrev pub invariant-list-elements : goal.invariant-list-elements
-invariant-list-elements l = left l.tokens ≤ left l.initial.tokens
+invariant-list-elements l =
+    let rest = many (behind_in text (sign s.Comma) (value_with (braces l.levels))) in
+    record {
+      moves : left l.tokens ≤ left l.initial.tokens;
+      so_far : rest (stream l.tokens) ≡ rest (stream l.initial.tokens);
+    }
 
 abbrev pub decreases-list-elements : goal.decreases-list-elements
 decreases-list-elements l = left l.tokens
 
 abbrev pub invariant-fields-fields : goal.invariant-fields-fields
-invariant-fields-fields l = left l.tokens ≤ left l.initial.tokens
+invariant-fields-fields l =
+    let rest = many (until_in text (sign l.close) (field_with (braces l.levels))) in
+    record {
+      moves : left l.tokens ≤ left l.initial.tokens;
+      so_far : rest (stream l.tokens) ≡ rest (stream l.initial.tokens);
+    }
 
 abbrev pub decreases-fields-fields : goal.decreases-fields-fields
 decreases-fields-fields l = left l.tokens

@@ -1,9 +1,17 @@
-use Rattle.std.proofs.Common.{◌≤◌}
+use Rattle.protox_options.specs.AggregateGrammar.{a_literal}
 use Rattle.protox_tokens.specs.Left.{left}
+use Rattle.protox_tokens.specs.Parser.{when, many, is_string_in}
+use Rattle.protox_tokens.specs.Stream.{stream, text}
+use Rattle.std.proofs.Common.{◌≡◌, ◌≤◌}
 use Rattle.protox_options.proofs.aggregate.strings.Given as goal
 
 abbrev pub invariant-literals : goal.invariant-literals
-invariant-literals l = left l.tokens ≤ left l.initial.tokens
+invariant-literals l =
+    let rest = many (when (is_string_in text) a_literal) in
+    record {
+      moves : left l.tokens ≤ left l.initial.tokens;
+      so_far : rest (stream l.tokens) ≡ rest (stream l.initial.tokens);
+    }
 
 abbrev pub decreases-literals : goal.decreases-literals
 decreases-literals l = left l.tokens

@@ -1,4 +1,4 @@
-use Rattle.std.proofs.Common.{rules, ◌≡◌, [], true, Some, None, refl, sym, ap, ◌∙◌, subst, arith}
+use Rattle.std.proofs.Common.{rules, ◌≡◌, [], true, false, Some, None, refl, sym, ap, ◌∙◌, subst, arith}
 use Rattle.reflect_wire.specs.Reads.{Fronts}
 use Rattle.reflect_wire.specs.Key.{IsKey, IsDelimited}
 use Rattle.reflect_wire.specs.Records.{delimited}
@@ -10,7 +10,7 @@ use Rattle.reflect_scalar.specs.FieldTypes.{field_pool, either_pool, either_type
 use Rattle.reflect_scalar.specs.Kinds.{packs, wire_type}
 use Rattle.reflect_scalar.specs.Singles.{scalar_view}
 use Rattle.reflect_message.specs.Contents.{content_of, content_in}
-use Rattle.reflect_decode.specs.Levels.{TakesAt}
+use Rattle.reflect_decode.specs.Levels.{TakenAt, TakesAt}
 use Rattle.reflect_message.specs.Maps.{map_entries}
 use Rattle.reflect_message.specs.Messages.{message_in}
 use Rattle.reflect_decode.specs.Merging.{IsBody, run_records}
@@ -18,7 +18,7 @@ use Rattle.reflect_message.specs.declared.value.Value.{Message, the_lemmas}
 use Rattle.reflect_decode.proofs.Appending.{appends_value, appends_row, appends_message, appends_more, list_done}
 use Rattle.reflect_message.proofs.Choosing.{makes_room}
 use Rattle.reflect_decode.proofs.Holding.{same_content, merged_in}
-use Rattle.reflect_decode.proofs.Keeping.{kept_if_read}
+use Rattle.reflect_decode.proofs.Keeping.{kept_if_read, not_declared}
 use Rattle.reflect_decode.proofs.Kept.{no_longer, key_shorter}
 use Rattle.reflect_decode.proofs.Nesting.{appends_at, joins_at, value_unset, delimited_taken, group_taken}
 use Rattle.reflect_decode.proofs.Mapping.{key_step, value_step, part_single, part_message, put_more, map_put, entry_is_read}
@@ -36,7 +36,7 @@ merge_element-returns-then-is_packable t c =
     let read = c.in_ok-body.ensures.read in
     let row = c.in_ok-push_packed.ensures.read in
     record {
-      read = appends_row (TakesAt raw.levels) raw.levels raw.key c.args.kind.now raw.bytes.now c.in_ok-body.rest.now _ _ c.in_ok-body.body.now row.0 wire packed read row.1 row.2;
+      read = appends_row (TakenAt raw.levels c.args.is_group) raw.levels raw.key c.args.kind.now raw.bytes.now c.in_ok-body.rest.now _ _ c.in_ok-body.body.now row.0 wire packed read row.1 row.2;
       shorter = no_longer IsDelimited raw.bytes.now c.in_ok-body.rest.now c.in_ok-body.body.now read;
     }
 
@@ -47,7 +47,7 @@ merge_element-returns t c =
     let lt = found.ensures.shorter in
     let value = c.in_ok-from_scalar in
     record {
-      read = appends_value (TakesAt raw.levels) raw.levels raw.key c.args.kind.now raw.bytes.now found.rest.now _ _ (scalar_view found.scalar) value.field-0 found.ensures.read c.in_ok-push-2.ensures.items value.ensures;
+      read = appends_value (TakenAt raw.levels c.args.is_group) raw.levels raw.key c.args.kind.now raw.bytes.now found.rest.now _ _ (scalar_view found.scalar) value.field-0 found.ensures.read c.in_ok-push-2.ensures.items value.ensures;
       shorter = omega (arith, lt);
     }
 
@@ -57,7 +57,7 @@ merge_element-returns-in-Message-clause-read t c =
     let fresh = c.new-message in
     let found = c.in_ok-rest in
     let read = found.ensures.read in
-    appends_message (TakesAt raw.levels) raw.levels raw.key c.args.kind.now raw.bytes.now found.rest.now _ _ c.in-Message.inner fresh.result c.merge_message.new.message _ read.0 (search rules) fresh.ensures.same_type fresh.ensures.empty found.ensures.same_type
+    appends_message (TakenAt raw.levels c.args.is_group) raw.levels raw.key c.args.kind.now raw.bytes.now found.rest.now _ _ c.in-Message.inner fresh.result c.merge_message.new.message _ read.0 (search rules) fresh.ensures.same_type fresh.ensures.empty found.ensures.same_type
     (search (rules, the_lemmas)) c.in_ok-push.ensures.items read.1 read.2
 
 pub merge_field-returns-in-Message-2-clause-read : goal.merge_field-returns-in-Message-2-clause-read
@@ -70,7 +70,7 @@ merge_field-returns-in-Message-2-clause-read t c =
     let slot = c.in_ok-message-in-Message in
     let merged = c.merge_message in
     let is = subst (λ k. IsKind pool k type.kind) kind.is c.kind-kind.ensures in
-    message_leaves (TakesAt raw.levels) raw.levels raw.key raw.bytes.now pool type _ _ kind.inner fresh.result c.in-Message-2.message _ merged.new.message (Message fresh.result) slot.field-0.now (Message merged.new.message) merged.result is (search rules) (search rules) (search rules)
+    message_leaves (TakesAt raw.levels) raw.levels raw.key raw.bytes.now pool type _ _ _ (search rules) kind.inner fresh.result c.in-Message-2.message _ merged.new.message (Message fresh.result) slot.field-0.now (Message merged.new.message) merged.result is (search rules) (search rules) (search rules)
     (search (rules, the_lemmas)) fresh.ensures.same_type fresh.ensures.empty (search (rules, the_lemmas)) (search rules) (search (rules, the_lemmas)) c.in-Message-2.message-is merged.ensures.same_type merged.ensures.read
 
 pub merge_field-returns-then-is_map-clause-read : goal.merge_field-returns-then-is_map-clause-read
@@ -81,7 +81,7 @@ merge_field-returns-then-is_map-clause-read t c =
 pub merge_field-returns-then-is_list-clause-read : goal.merge_field-returns-then-is_list-clause-read
 merge_field-returns-then-is_list-clause-read t c =
     let raw = c.args.raw in
-    list_leaves (TakesAt raw.levels) raw.levels raw.key raw.bytes.now (either_pool c.args.field) (either_type c.args.field) _ _ c.kind-kind.result _ _ c.merge_list.result c.kind-kind.ensures (search rules) (items_of_slot _ _ _ c.in_ok-list.ensures.value (search (rules, the_lemmas))) (search rules) c.merge_list.ensures.read
+    list_leaves (TakesAt raw.levels) raw.levels raw.key raw.bytes.now (either_pool c.args.field) (either_type c.args.field) _ _ _ (search rules) c.kind-kind.result _ _ c.merge_list.result c.kind-kind.ensures (search rules) (items_of_slot _ _ _ c.in_ok-list.ensures.value (search (rules, the_lemmas))) (search rules) c.merge_list.ensures.read
 
 pub merge_field-returns-in_ok-set-in_default-clause-read : goal.merge_field-returns-in_ok-set-in_default-clause-read
 merge_field-returns-in_ok-set-in_default-clause-read t c =
@@ -98,8 +98,8 @@ merge_list-returns-in-None-clause-read t c =
     let inv = c.records.invariant in
     let rest = c.in_ok-rest.rest.now in
     let read = c.in_ok-rest.ensures.read in
-    let added = appends_at here.levels raw.levels c.args.kind.now _ _ read.0 inv.4 read.2 in
-    list_done (TakesAt raw.levels) raw.levels raw.key c.args.kind.now raw.bytes.now here.bytes.now rest _ _ _ _ _ inv.0 read.0 (search (rules, the_lemmas)) (search (rules, the_lemmas)) inv.1 (same_value raw.levels raw.key here.levels here.key here.bytes.now rest read.0 inv.4 inv.3 read.1) inv.2 added
+    let added = appends_at here.levels raw.levels c.args.is_group c.args.kind.now _ _ read.0 inv.4 read.2 in
+    list_done (TakenAt raw.levels c.args.is_group) raw.levels raw.key c.args.kind.now raw.bytes.now here.bytes.now rest _ _ _ _ _ inv.0 read.0 (search (rules, the_lemmas)) (search (rules, the_lemmas)) inv.1 (same_value raw.levels raw.key here.levels here.key here.bytes.now rest read.0 inv.4 inv.3 read.1) inv.2 added
 
 pub merge_message-returns-in_ok-merge_body-in-LengthDelimited-clause-read : goal.merge_message-returns-in_ok-merge_body-in-LengthDelimited-clause-read
 merge_message-returns-in_ok-merge_body-in-LengthDelimited-clause-read t c =
@@ -107,14 +107,16 @@ merge_message-returns-in_ok-merge_body-in-LengthDelimited-clause-read t c =
     let found = c.in_ok-body-in-LengthDelimited in
     let below = c.in_ok-levels_below-in-LengthDelimited in
     let merged = c.in_ok-merge_body-in-LengthDelimited in
-    delimited_taken below.field-0 raw.levels below.ensures.below _ _ _ raw.key raw.bytes.now found.body.now merged.field-0.now found.rest.now c.in-LengthDelimited.is found.ensures.read (merged.ensures.whole refl) merged.ensures.read
+    let form : c.args.is_group ≡ false = search rules in
+    delimited_taken below.field-0 raw.levels below.ensures.below _ _ _ raw.key raw.bytes.now c.args.is_group found.body.now merged.field-0.now found.rest.now form c.in-LengthDelimited.is found.ensures.read (merged.ensures.whole refl) merged.ensures.read
 
 pub merge_message-returns-in_ok-levels-in-StartGroup-clause-read : goal.merge_message-returns-in_ok-levels-in-StartGroup-clause-read
 merge_message-returns-in_ok-levels-in-StartGroup-clause-read t c =
     let raw = c.args.raw in
     let below = c.in_ok-levels-in-StartGroup in
     let merged = c.merge_body-in-StartGroup in
-    group_taken below.levels raw.levels below.ensures.below _ _ _ raw.key raw.bytes.now merged.result c.in-StartGroup.is merged.ensures.read
+    let form : c.args.is_group ≡ true = search rules in
+    group_taken below.levels raw.levels below.ensures.below _ _ _ raw.key raw.bytes.now c.args.is_group merged.result form c.in-StartGroup.is merged.ensures.read
 
 pub merge_records-returns-in-Some-clause-read : goal.merge_records-returns-in-Some-clause-read
 merge_records-returns-in-Some-clause-read t c =
@@ -152,7 +154,7 @@ merge_list-records-preserved t c =
     let so_far = inv.5 in (
       _,
       run_more raw.levels raw.key raw.bytes.now here.bytes.now rest next.bytes.now inv.0 read.0 inv.1 value key,
-      appends_more (TakesAt raw.levels) c.args.kind.now _ _ _ inv.0 read.0 inv.2 (appends_at here.levels raw.levels c.args.kind.now _ _ read.0 inv.4 read.2),
+      appends_more (TakenAt raw.levels c.args.is_group) c.args.kind.now _ _ _ inv.0 read.0 inv.2 (appends_at here.levels raw.levels c.args.is_group c.args.kind.now _ _ read.0 inv.4 read.2),
       c.in-Some.ensures.key ∙ inv.3,
       c.in-Some.ensures.levels ∙ inv.4,
       omega (arith, before, behind, so_far),
@@ -182,7 +184,8 @@ merge_record-returns-in-Some-declared_extension-clause-read t c =
 pub merge_record-returns-clause-read : goal.merge_record-returns-clause-read
 merge_record-returns-clause-read t c =
     let raw = c.args.raw in
-    let kept = kept_if_read c.args.descriptor raw.levels raw.key raw.bytes.now _ _ c.keep_unknown.result c.keep_unknown.ensures.kept in
+    let none = not_declared c.args.descriptor raw.key.number c.in_default.ensures.none c.in_default-declared_extension.ensures.none in
+    let kept = kept_if_read c.args.descriptor raw.levels raw.key raw.bytes.now _ _ c.keep_unknown.result none c.keep_unknown.ensures.kept in
     merges_kept (TakesAt raw.levels) c.args.descriptor raw.levels raw.key raw.bytes.now _ _ c.keep_unknown.result c.in_default.ensures.none c.in_default-declared_extension.ensures.none refl refl refl kept
 
 pub merge_records-records-preserved : goal.merge_records-records-preserved
@@ -239,7 +242,7 @@ merge_part-returns-in-Message-held-clause-read t c =
     let merged = c.merge_message in
     let is = subst (λ k. IsKind (field_pool field) k (field_type field).kind) kind.is c.kind-kind.ensures in
     let was : message_in c.args.held.now ≡ Some held.message = search (rules, the_lemmas) in
-    part_message (TakesAt raw.levels) (field_pool field) (field_type field) raw.levels raw.key raw.bytes.now c.args.held.now _ kind._inner _ merged.new.message merged.result is (was ∙ ap Some (sym held.message-is)) (search (rules, the_lemmas)) merged.ensures.same_type merged.ensures.read
+    part_message (TakesAt raw.levels) (field_pool field) (field_type field) raw.levels raw.key raw.bytes.now c.args.held.now _ _ (search rules) kind._inner _ merged.new.message merged.result is (was ∙ ap Some (sym held.message-is)) (search (rules, the_lemmas)) merged.ensures.same_type merged.ensures.read
 
 pub merge_map-returns-in-Map-clause-read : goal.merge_map-returns-in-Map-clause-read
 merge_map-returns-in-Map-clause-read t c =

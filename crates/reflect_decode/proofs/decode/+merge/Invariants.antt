@@ -8,7 +8,7 @@ use Rattle.reflect_scalar.specs.FieldTypes.{field_pool}
 use Rattle.reflect_message.specs.Contents.{content_in}
 use Rattle.reflect_decode.specs.Elements.{AppendsAll}
 use Rattle.reflect_decode.specs.Keeps.{payloads}
-use Rattle.reflect_decode.specs.Levels.{TakesAt, MergesAt}
+use Rattle.reflect_decode.specs.Levels.{TakenAt, TakesAt, MergesAt}
 use Rattle.reflect_decode.specs.Maps.{LeavesSingle, LeavesValue, PutEntries}
 use Rattle.reflect_decode.specs.Merging.{IsBody, LeadsOn}
 use Rattle.reflect_message.specs.KindTypes.{IsScalarType}
@@ -42,7 +42,7 @@ decreases-merge_list-records l = length l.record.bytes.now
 abbrev pub invariant-merge_list-records : goal.invariant-merge_list-records
 invariant-merge_list-records l =
     (ps : List Payload) × Fronts (LeadsOn l.initial.record.levels l.initial.record.key) l.initial.record.bytes.now ps l.record.bytes.now
-    × AppendsAll (TakesAt l.initial.record.levels) l.kind l.initial.values.items l.values.items ps × (l.record.key ≡ l.initial.record.key) × (l.record.levels ≡ l.initial.record.levels) × (length l.record.bytes.now ≤ length l.initial.record.bytes.now)
+    × AppendsAll (TakenAt l.initial.record.levels l.is_group) l.kind l.initial.values.items l.values.items ps × (l.record.key ≡ l.initial.record.key) × (l.record.levels ≡ l.initial.record.levels) × (length l.record.bytes.now ≤ length l.initial.record.bytes.now)
 
 abbrev pub decreases-merge_map : goal.decreases-merge_map
 decreases-merge_map l = 10 * length l.raw.bytes.now + 8

@@ -1,0 +1,2 @@
+pub mod EnumGrammar
+pub mod ServiceGrammar

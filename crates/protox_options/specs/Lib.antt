@@ -1,0 +1,5 @@
+pub mod AggregateGrammar
+pub mod NameGrammar
+pub mod Negation
+pub mod OptionGrammar
+pub mod RangeGrammar
