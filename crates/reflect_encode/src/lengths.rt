@@ -1,6 +1,6 @@
 //! How many bytes a message and its parts are written in, `None` past `usize::MAX`. Measuring takes no memory.
 
-use reflect_link::{FieldDescriptor, Kind, MessageDescriptor};
+use reflect_pool::{FieldDescriptor, Kind, MessageDescriptor};
 use reflect_message::{
     DynamicMessage, Held, MessageParts, Parts, ScalarValue, Value, declared_extension,
     declared_field, entry_fields, is_present, is_present_scalar,

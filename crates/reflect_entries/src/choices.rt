@@ -7,7 +7,7 @@ ghost use Rattle.reflect_entries.specs.Members.{other_than, first_member_of};
 ghost use Rattle.reflect_pool.specs.FieldsLeft.{field_type};
 
 use crate::entries::Entries;
-use reflect_link::FieldDescriptor;
+use reflect_pool::FieldDescriptor;
 use std::alloc::{AllocError, Global};
 use std::mem;
 

@@ -4,7 +4,7 @@ ghost use Rattle.std.specs.Prelude.{◌≡◌, IfOk, true, string_bytes};
 ghost use Rattle.reflect_format.specs.Refusals.{is_of_text, TellsExtension, TellsField, TellsFloatField, TellsMessage, TellsOneof, TellsSet, TellsValue};
 
 use crate::number::{IntegerRange, Literal};
-use reflect_link::{EnumDescriptor, MessageDescriptor, OneofDescriptor};
+use reflect_pool::{EnumDescriptor, MessageDescriptor, OneofDescriptor};
 use std::alloc::{AllocError, Global};
 use text_error::ParseErrorKind;
 use text_lex::Span;

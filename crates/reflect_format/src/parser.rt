@@ -12,7 +12,7 @@ use crate::names::{AnyName, Name};
 use crate::target::Target;
 use crate::tokens::{Brace, Tokens, through};
 use reflect_encode::EncodeMessage;
-use reflect_link::{Kind, MessageDescriptor};
+use reflect_pool::{Kind, MessageDescriptor};
 use reflect_message::{DynamicMessage, Value, any_fields};
 use reflect_wire::WireError;
 use std::alloc::Global;

@@ -6,7 +6,7 @@ ghost use Rattle.reflect_pool.specs.FieldsLeft.{field_type};
 ghost use Rattle.reflect_message.specs.Any.{IsAny, StandsAlone, shares};
 ghost use Rattle.reflect_message.specs.Declares.{Declares};
 
-use reflect_link::{FieldDescriptor, Kind, MessageDescriptor};
+use reflect_pool::{FieldDescriptor, Kind, MessageDescriptor};
 
 /// The two fields of a `google.protobuf.Any`.
 #[derive(Clone, Copy)]

@@ -17,7 +17,7 @@ use crate::field_ref::FieldRef;
 use crate::message::DynamicMessage;
 use crate::message_parts::MessageParts;
 use crate::value::Value;
-use reflect_link::ExtensionDescriptor;
+use reflect_pool::ExtensionDescriptor;
 use std::alloc::AllocError;
 
 impl<'p> DynamicMessage<'p> {

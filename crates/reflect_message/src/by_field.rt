@@ -21,7 +21,7 @@ use crate::message_parts::MessageParts;
 use crate::set_field_error::SetFieldError;
 use crate::validity::is_valid_for;
 use crate::value::Value;
-use reflect_link::FieldDescriptor;
+use reflect_pool::FieldDescriptor;
 use std::alloc::AllocError;
 
 impl<'p> DynamicMessage<'p> {

@@ -6,7 +6,7 @@ ghost use Rattle.reflect_scalar.specs.FieldTypes.{extension_type};
 ghost use Rattle.reflect_message.specs.Declares.{Owns, OwnsExtension};
 ghost use Rattle.reflect_message.specs.Known.{known_field, known_extension};
 
-use reflect_link::{ExtensionDescriptor, FieldDescriptor, MessageDescriptor};
+use reflect_pool::{ExtensionDescriptor, FieldDescriptor, MessageDescriptor};
 use reflect_scalar::holds_floats;
 
 /// The field of a number that messages of the type hold.

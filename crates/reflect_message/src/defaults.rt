@@ -12,7 +12,7 @@ ghost use Rattle.reflect_message.specs.Singles.{single};
 use crate::message::DynamicMessage;
 use crate::scalar_value::ScalarValue;
 use crate::value::Value;
-use reflect_link::{ExtensionDescriptor, FieldDescriptor, Kind};
+use reflect_pool::{ExtensionDescriptor, FieldDescriptor, Kind};
 use reflect_scalar::{FieldDescriptorLike, Scalar, default_scalar};
 use std::alloc::{AllocError, Global};
 use std::collections::BTreeMap;

@@ -11,7 +11,7 @@ use crate::defaults::default_of;
 use crate::message::DynamicMessage;
 use crate::value::Value;
 use reflect_entries::Entries;
-use reflect_link::FieldDescriptor;
+use reflect_pool::FieldDescriptor;
 use reflect_scalar::{FieldDescriptorLike, MapKey};
 use std::alloc::{AllocError, Global};
 use std::collections::BTreeMap;

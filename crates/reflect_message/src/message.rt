@@ -12,7 +12,7 @@ ghost use Rattle.reflect_message.specs.Trees.{held_tree};
 use crate::parts::{Held, Parts};
 use crate::value::Value;
 use reflect_entries::entries;
-use reflect_link::{ExtensionDescriptor, FieldDescriptor, MessageDescriptor};
+use reflect_pool::{ExtensionDescriptor, FieldDescriptor, MessageDescriptor};
 use reflect_scalar::holds_floats;
 use std::alloc::{AllocError, Global};
 use std::mem;

@@ -17,7 +17,7 @@ ghost use Rattle.reflect_message.specs.Trees.{held_tree, parts_tree};
 use crate::extend::extend;
 use crate::value::Value;
 use reflect_entries::{Choices, Entries, UnknownRecords};
-use reflect_link::FieldDescriptor;
+use reflect_pool::FieldDescriptor;
 use std::alloc::{AllocError, Global};
 
 /// Where a message keeps its parts: in a block of their own, so that a value of a list takes little room, and none before

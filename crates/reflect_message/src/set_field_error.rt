@@ -1,5 +1,5 @@
 use crate::value::Value;
-use reflect_link::FieldDescriptor;
+use reflect_pool::FieldDescriptor;
 use std::alloc::AllocError;
 use std::fmt;
 use thiserror::Error;

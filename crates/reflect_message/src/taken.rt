@@ -6,7 +6,7 @@ use crate::message_parts::MessageParts;
 use crate::parts::Held;
 use crate::value::Value;
 use reflect_entries::{Entries, entries};
-use reflect_link::{ExtensionDescriptor, FieldDescriptor, MessageDescriptor};
+use reflect_pool::{ExtensionDescriptor, FieldDescriptor, MessageDescriptor};
 use reflect_wire::UnknownField;
 use std::alloc::AllocError;
 use std::mem;

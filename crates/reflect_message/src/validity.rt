@@ -12,7 +12,7 @@ use crate::message::DynamicMessage;
 use crate::parts::{Held, Parts};
 use crate::scalar_value::ScalarValue;
 use crate::value::Value;
-use reflect_link::{ExtensionDescriptor, FieldDescriptor, Kind, MessageDescriptor};
+use reflect_pool::{ExtensionDescriptor, FieldDescriptor, Kind, MessageDescriptor};
 use reflect_scalar::{AnyField, FieldDescriptorLike, MapKey, holds_floats};
 use std::collections::BTreeMap;
 

@@ -5,7 +5,7 @@ use crate::message::DynamicMessage;
 use crate::parts::Held;
 use crate::value::Value;
 use reflect_entries::entries;
-use reflect_link::{ExtensionDescriptor, FieldDescriptor, MessageDescriptor};
+use reflect_pool::{ExtensionDescriptor, FieldDescriptor, MessageDescriptor};
 use reflect_wire::UnknownField;
 
 impl<'p> DynamicMessage<'p> {

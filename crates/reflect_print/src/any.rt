@@ -2,7 +2,7 @@
 
 use crate::error::WriteError;
 use reflect_decode::DecodeMessage;
-use reflect_link::MessageDescriptor;
+use reflect_pool::MessageDescriptor;
 use reflect_message::{DynamicMessage, FieldRef, any_fields};
 use reflect_wire::WireError;
 use std::alloc::Global;

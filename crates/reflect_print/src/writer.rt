@@ -10,7 +10,7 @@ use crate::error::WriteError;
 use crate::options::FormatOptions;
 use crate::output::{put, put_bracketed, put_quoted, put_shown};
 use crate::place::Place;
-use reflect_link::{ExtensionDescriptor, FieldDescriptor, Kind};
+use reflect_pool::{ExtensionDescriptor, FieldDescriptor, Kind};
 use reflect_message::{DynamicMessage, MapKey, Value};
 use reflect_wire::UnknownField;
 use std::alloc::Global;

@@ -7,7 +7,7 @@ ghost use Rattle.reflect_pool.specs.Kinds.{IsKind};
 ghost use Rattle.reflect_pool.specs.Shapes.{holds_list, holds_map};
 ghost use Rattle.reflect_scalar.specs.Floats.{is_float_kind, HoldsFloats};
 
-use reflect_link::{DefaultValue, ExtensionDescriptor, FieldDescriptor, Kind, OneofDescriptor};
+use reflect_pool::{DefaultValue, ExtensionDescriptor, FieldDescriptor, Kind, OneofDescriptor};
 
 /// A field of a message type, or an extension of one.
 pub trait FieldDescriptorLike<'p> {

@@ -3,7 +3,7 @@ ghost use Rattle.reflect_scalar.specs.Keys.{key_view};
 ghost use Rattle.reflect_scalar.specs.Singles.{scalar_view};
 
 use crate::scalar::Scalar;
-use reflect_link::Kind;
+use reflect_pool::Kind;
 use std::alloc::{AllocError, Global};
 
 /// A key of a map field.

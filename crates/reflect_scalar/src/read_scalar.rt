@@ -8,7 +8,7 @@ ghost use Rattle.reflect_scalar.specs.Meaning.{zigzag, low, Means, MeaningFault,
 ghost use Rattle.reflect_scalar.specs.Singles.{scalar_view, wire_view};
 
 use crate::scalar::{Scalar, WireScalar};
-use reflect_link::Kind;
+use reflect_pool::Kind;
 use reflect_wire::{WireError, WireType, delimited_at, fixed32_at, fixed64_at, varint_at};
 
 /// The wire type of one value of a kind: a message's is that of a length and its bytes.

@@ -9,7 +9,7 @@ ghost use Rattle.reflect_scalar.specs.Kinds.{suits, kind_type, IsDefault};
 ghost use Rattle.reflect_scalar.specs.Singles.{scalar_view};
 
 use crate::field_like::FieldDescriptorLike;
-use reflect_link::{DefaultValue, Kind};
+use reflect_pool::{DefaultValue, Kind};
 
 /// One value that is no message, list or map. Text and bytes are lent.
 #[derive(Clone, Copy, PartialEq)]

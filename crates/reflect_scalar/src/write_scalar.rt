@@ -10,7 +10,7 @@ ghost use Rattle.reflect_scalar.specs.Written.{written, plain_bytes, IsFormOf, I
 
 use crate::scalar::{Scalar, WireScalar};
 use reflect_codec::Backward;
-use reflect_link::Kind;
+use reflect_pool::Kind;
 use reflect_wire::{delimited_len, varint_len};
 use std::alloc::AllocError;
 

@@ -5,16 +5,13 @@
 //! `protoc` or from an independent model. docs/TESTS.md says what each file asserts.
 #![tactic(auto)]
 
-mod messages;
-mod refusals;
-mod replay;
 mod runs;
-mod schemas;
 mod streams;
 
 use case_json::Told;
 use case_json::members::text;
-use replay::Replay;
+use runs::tell_run;
+use schema_cases::Replay;
 use serde_json::Value;
 use std::alloc::{AllocError, Global};
 use std::collections::BTreeMap;
@@ -57,7 +54,10 @@ fn difference(alloc: Global, replay: &mut Replay, case: &Value) -> Result<String
         return String::from_str(alloc, "nothing is wanted ");
     };
     let mut told = Told::new(alloc, wanted);
-    replay.run(case, &mut told)?;
+    match text(case, "op") {
+        "run" => tell_run(alloc, case, &mut told)?,
+        _ => replay.run(case, &mut told)?,
+    }
     told.into_difference()
 }
 

@@ -5,8 +5,8 @@ use case_json::Told;
 use case_json::members::{bytes, text, truth};
 use reflect_dynamic::{DecodeMessage, DynamicMessage, EncodeMessage};
 use reflect_link::PoolReaders;
-use reflect_schema::{Schema, SchemaError};
 use reflect_text::{FormatOptions, TextFormat};
+use schema_core::{Schema, SchemaError};
 use serde_json::Value;
 use std::alloc::{AllocError, Global};
 

@@ -6,7 +6,7 @@ use case_json::members::{bytes, items, number, text};
 use descriptor_records::{DescriptorProto, FileDescriptorProto, Options};
 use reflect_codec::{decode_set, encode_set};
 use reflect_link::{MessageReaders, PoolReaders};
-use reflect_schema::{Schema, SchemaError};
+use schema_core::{Schema, SchemaError};
 use serde_json::Value;
 use sha2::{Digest, Sha256};
 use std::alloc::{AllocError, Global};

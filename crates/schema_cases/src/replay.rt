@@ -5,12 +5,11 @@
 
 use crate::messages::{tell_asked, tell_merged, tell_printed};
 use crate::refusals::tell_refusal;
-use crate::runs::tell_run;
 use crate::schemas::{tell_options, tell_steps};
 use case_json::Told;
 use case_json::members::{items, number, text, truth};
 use described_pools::described;
-use reflect_schema::Schema;
+use schema_core::Schema;
 use serde_json::Value;
 use source_cases::{
     tell_int, tell_lines, tell_parsed, tell_records, tell_set, tell_text_tokens, tell_tokens,
@@ -50,7 +49,6 @@ impl Replay {
             "parse" => tell_parsed(alloc, case, told),
             "records" => tell_records(alloc, case, told),
             "set" => tell_set(alloc, case, told),
-            "run" => tell_run(alloc, case, told),
             op => match self.schemas.get(&number(case, "schema")) {
                 Some(schema) => tell_of_schema(alloc, op, schema, case, told),
                 None => Ok(()),

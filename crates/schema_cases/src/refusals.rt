@@ -2,8 +2,8 @@
 
 use case_json::Told;
 use reflect_build::DescriptorError;
-use reflect_schema::SchemaError;
 use reflect_text::{OptionError, OptionErrorKind, ParseError as TextError};
+use schema_core::SchemaError;
 use source_cases::{case_name, tell_case, tell_source_refusal};
 use std::alloc::{AllocError, Global};
 use std::collections::BTreeSet;
