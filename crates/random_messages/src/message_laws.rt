@@ -6,8 +6,9 @@ use protox_parse::parse;
 use reflect_build::BuildFiles;
 use reflect_dynamic::{DecodeMessage, DynamicMessage, EncodeMessage};
 use reflect_link::{DescriptorPool, MessageDescriptor, PoolReaders};
-use reflect_text::{FormatOptions, TextFormat};
+use reflect_print::FormatOptions;
 use std::alloc::{AllocError, Global};
+use text_format::TextFormat;
 
 /// The bytes of a message.
 fn written(message: &DynamicMessage<'_>) -> Result<Vec<u8>, AllocError> {

@@ -2,8 +2,6 @@
 //! options are read by the types of the pool alone, and settled as a whole or not at all.
 #![tactic(auto)]
 
-mod text_format;
-
 pub use reflect_format::{Int, ParseError, ParseErrorKind, Parser, Radix, Span, Token};
 pub use reflect_options::{
     OptionError, OptionErrorKind, OptionsVisitor, ResolveOptions, copy_typed_options,

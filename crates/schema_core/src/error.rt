@@ -2,13 +2,14 @@ ghost use Rattle.std.specs.Prelude.{◌≡◌, ◌⊎◌, option_map};
 ghost use Rattle.std.specs.Fmt.{DisplaysOnOk};
 ghost use Rattle.schema_core.specs.Texts.{said};
 
+use option_parts::{OptionError, OptionErrorKind};
 use protox_parse::ParseError as SourceError;
 use reflect_build::DescriptorError;
-use reflect_text::{OptionError, OptionErrorKind, ParseError as TextError, ParseErrorKind};
 use reflect_wire::WireError;
 use std::alloc::{AllocError, AllocFailed};
 use std::error::Error;
 use std::fmt;
+use text_error::{ParseError as TextError, ParseErrorKind};
 
 /// Why a schema refused something.
 #[derive(Drop)]

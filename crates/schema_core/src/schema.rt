@@ -8,11 +8,10 @@ use reflect_bytes::PoolBytes;
 use reflect_codec::decode_set;
 use reflect_dynamic::{DecodeMessage, DynamicMessage, EncodeMessage};
 use reflect_link::{DescriptorPool, MessageDescriptor};
-use reflect_text::{
-    FormatOptions, OptionError, ResolveOptions, TextFormat, WriteError, copy_typed_options,
-    require_option_types,
-};
+use reflect_options::{OptionError, ResolveOptions, copy_typed_options, require_option_types};
+use reflect_print::{FormatOptions, WriteError};
 use std::alloc::Global;
+use text_format::TextFormat;
 
 /// The name under which the types of options are known.
 const DESCRIPTOR_NAME: &str = "google/protobuf/descriptor.proto";

@@ -3,8 +3,8 @@ ghost use Rattle.reflect_format.specs.Steps.{Makes, Reaches, Stops};
 ghost use Rattle.reflect_format.specs.Truth.{TrueOf};
 
 use reflect_format::{ParseError, Parser};
-use reflect_link::MessageDescriptor;
 use reflect_message::{DynamicMessage, MessageParts};
+use reflect_pool::MessageDescriptor;
 use reflect_print::{FormatOptions, WriteError, Writer};
 use std::alloc::Global;
 
