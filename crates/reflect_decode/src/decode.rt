@@ -29,11 +29,11 @@ ghost use Rattle.reflect_message.specs.Held.{Same};
 ghost use Rattle.reflect_decode.specs.Taking.{Leaves};
 
 use reflect_entries::{Entries, UnknownRecords};
-use reflect_pool::{FieldDescriptor, Kind, MessageDescriptor};
 use reflect_message::{
     DynamicMessage, MessageParts, Parts, ScalarValue, Value, declared_extension, declared_field,
     default_one, entry_fields,
 };
+use reflect_pool::{FieldDescriptor, Kind, MessageDescriptor};
 use reflect_scalar::{
     AnyField, FieldDescriptorLike, MapKey, is_packable, scalar_at, varint_scalar, wire_type,
 };

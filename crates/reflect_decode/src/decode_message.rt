@@ -3,8 +3,8 @@ ghost use Rattle.reflect_message.specs.Oneofs.{IsExclusive};
 ghost use Rattle.reflect_decode.specs.Spelled.{IsSpelled, IsMerged};
 
 use crate::decode::{MAX_LEVELS, merge_body};
-use reflect_pool::MessageDescriptor;
 use reflect_message::{DynamicMessage, MessageParts};
+use reflect_pool::MessageDescriptor;
 use reflect_wire::WireError;
 use std::alloc::Global;
 

@@ -8,6 +8,7 @@ pub use descriptor_ext::{FieldDefault, KindExt};
 pub use read_options::ReadOptions;
 pub use reflect_decode::DecodeMessage;
 pub use reflect_encode::EncodeMessage;
+pub use reflect_extend::ExtendMessage;
 pub use reflect_message::{
     AnyField, DynamicMessage, ExtensionValues, FieldDescriptorLike, FieldRef, FieldValues, MapKey,
     SetFieldError, TakenExtensions, TakenFields, UnknownFields, Value,

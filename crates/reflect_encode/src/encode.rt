@@ -17,11 +17,11 @@ ghost use Rattle.reflect_encode.specs.Puts.{form, bare_bytes, single_bytes, row_
 ghost use Rattle.reflect_message.specs.Singles.{single};
 
 use reflect_codec::Backward;
-use reflect_pool::{FieldDescriptor, Kind, MessageDescriptor};
 use reflect_message::{
     DynamicMessage, Held, MessageParts, Parts, ScalarValue, Value, declared_extension,
     declared_field, entry_fields, is_present, is_present_scalar,
 };
+use reflect_pool::{FieldDescriptor, Kind, MessageDescriptor};
 use reflect_scalar::{
     AnyField, FieldDescriptorLike, MapKey, Scalar, put_scalar, wire_scalar, wire_type,
 };

@@ -1,10 +1,10 @@
 //! How many bytes a message and its parts are written in, `None` past `usize::MAX`. Measuring takes no memory.
 
-use reflect_pool::{FieldDescriptor, Kind, MessageDescriptor};
 use reflect_message::{
     DynamicMessage, Held, MessageParts, Parts, ScalarValue, Value, declared_extension,
     declared_field, entry_fields, is_present, is_present_scalar,
 };
+use reflect_pool::{FieldDescriptor, Kind, MessageDescriptor};
 use reflect_scalar::{AnyField, FieldDescriptorLike, MapKey, Scalar, scalar_len, wire_scalar};
 use reflect_wire::{WireKey, WireType, delimited_len, key_len};
 use std::collections::BTreeMap;

@@ -14,7 +14,7 @@ use Rattle.reflect_message.specs.Oneofs.{SetsField, sibling}
 use Rattle.reflect_message.specs.Present.{is_held}
 use Rattle.reflect_message.specs.declared.message.DynamicMessage.{DynamicMessage}
 use Rattle.reflect_message.specs.declared.value.Value.{Value}
-use Rattle.reflect_message.specs.Any.{IsAny}
+use Rattle.reflect_any.specs.Any.{IsAny}
 use Rattle.reflect_format.specs.Takes.{Takes, holds_many, target_pool, target_type}
 use Rattle.text_error.specs.declared.error.ParseErrorKind.{ParseErrorKind}
 use Rattle.text_error.specs.declared.error.ParseErrorKind.TheVariants as kinds

@@ -7,7 +7,7 @@ use Rattle.reflect_pool.specs.declared.enums.EnumDescriptor.{EnumDescriptor}
 use Rattle.reflect_pool.specs.declared.message.MessageDescriptor.{MessageDescriptor}
 use Rattle.reflect_pool.specs.declared.kind.Kind.{Kind}
 use Rattle.reflect_pool.specs.declared.kind.Kind.TheVariants as values
-use Rattle.reflect_message.specs.Any.{IsAny}
+use Rattle.reflect_any.specs.Any.{IsAny}
 use Rattle.reflect_format.specs.Lacks.{LacksField, LacksGroup, LacksExtension, HasFloatField, HasFloatExtension}
 use Rattle.reflect_format.specs.Refusals.{is_of_text, IsTextName, Shares, TellsOneof}
 use Rattle.reflect_format.specs.Takes.{holds_many, target_pool}

@@ -7,8 +7,8 @@ use crate::fault::{out_of_range, unknown_enum_value};
 use crate::number::{Literal, SIGNED_32, SIGNED_64, UNSIGNED_32, UNSIGNED_64, magnitude_of};
 use crate::tokens::{Tokens, through};
 use protox_lex::unescape;
-use reflect_pool::EnumDescriptor;
 use reflect_message::Value;
+use reflect_pool::EnumDescriptor;
 use text_error::ParseErrorKind;
 use text_lex::{Span, Token};
 

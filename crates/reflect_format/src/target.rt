@@ -9,10 +9,11 @@ ghost use Rattle.reflect_format.specs.Steps.{Adds, AddsPart, Puts, Stays, is_set
 ghost use Rattle.reflect_format.specs.Takes.{Takes, holds_many, target_pool, target_type};
 
 use crate::fault::{float_field, unknown_extension, unknown_field};
+use reflect_extend::ExtendMessage;
+use reflect_message::{DynamicMessage, Value};
 use reflect_pool::{
     ExtensionDescriptor, FieldDescriptor, Kind, MessageDescriptor, OneofDescriptor,
 };
-use reflect_message::{DynamicMessage, Value};
 use reflect_scalar::holds_floats;
 use std::alloc::{AllocError, Global};
 use text_error::ParseErrorKind;

@@ -3,7 +3,6 @@ pub mod Copying
 pub mod Defaulting
 pub mod Known
 pub mod Lengthening
-pub mod Lone
 pub mod Owning
 pub mod Setting
 pub mod Trees

@@ -1,4 +1,3 @@
-pub mod Any
 pub mod Bytes
 pub mod Contents
 pub mod Copies

@@ -1,18 +1,15 @@
 //! Extensions by their descriptors.
 
-ghost use Rattle.std.specs.Prelude.{◌≡◌, ◌≢◌, ℕ, true, None, Some, IsTrue, IsSome, IfOk, IfSome, OnOk, OnErr};
+ghost use Rattle.std.specs.Prelude.{◌≡◌, true, None, Some, IsTrue, IsSome, IfOk, IfSome, OnOk, OnErr};
 ghost use Rattle.std.specs.Option.{unwrap_or};
-ghost use Rattle.reflect_pool.specs.Shapes.{holds_list};
 ghost use Rattle.reflect_scalar.specs.FieldTypes.{extension_pool, extension_type};
 ghost use Rattle.reflect_entries.specs.Entries.{value_at};
-ghost use Rattle.reflect_message.specs.Held.{extensions_of, fields_of, unknown_of, UpdatesExtension, Same};
-ghost use Rattle.reflect_message.specs.Lists.{Lengthens, KeepsList};
+ghost use Rattle.reflect_message.specs.Held.{extensions_of, fields_of, unknown_of, UpdatesExtension};
 ghost use Rattle.reflect_message.specs.Present.{held_if_set, is_held};
 ghost use Rattle.reflect_message.specs.Shown.{Shows, IsHeldOrDefault};
 
 use crate::content;
 use crate::defaults::default_of;
-use crate::extend::extend;
 use crate::field_ref::FieldRef;
 use crate::message::DynamicMessage;
 use crate::message_parts::MessageParts;
@@ -94,26 +91,6 @@ impl<'p> DynamicMessage<'p> {
     {
         let mut parts = self.take_block()?;
         let outcome = parts.extensions.set(extension.number(), value);
-        self.put_block(parts);
-        outcome
-    }
-
-    /// Puts values that suit it behind those of the extension, one of the message's type, as `extend_field` does.
-    pub fn extend_extension(
-        &mut self,
-        extension: &ExtensionDescriptor<'p>,
-        values: Vec<Value<'p>>,
-    ) -> Result<(), AllocError>
-        ensures type_stays { self.new.descriptor ≡ self.old.descriptor }
-        ensures list { holds_list (extension_pool extension.now) (extension_type extension.now) ≡ true → OnOk result (Lengthens (value_at (extensions_of self.old) (extension_type extension.now).number) (value_at (extensions_of self.new) (extension_type extension.now).number) values.entry.items) }
-        ensures left { holds_list (extension_pool extension.now) (extension_type extension.now) ≡ true → OnErr result (KeepsList (value_at (extensions_of self.old) (extension_type extension.now).number) (value_at (extensions_of self.new) (extension_type extension.now).number)) }
-        ensures others { (n : ℕ) → n ≢ (extension_type extension.now).number → Same (extensions_of self.old) (extensions_of self.new) n }
-        ensures fields { fields_of self.new ≡ fields_of self.old }
-        ensures unknown { unknown_of self.new ≡ unknown_of self.old }
-    {
-        let alloc = self.allocator();
-        let mut parts = self.take_block()?;
-        let outcome = extend(alloc, &mut parts.extensions, extension, values);
         self.put_block(parts);
         outcome
     }

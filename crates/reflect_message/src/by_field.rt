@@ -1,15 +1,13 @@
 //! Fields by their descriptors.
 
-ghost use Rattle.std.specs.Prelude.{◌≡◌, ◌≢◌, ℕ, true, None, Some, IsTrue, IsSome, IfOk, IfSome, OnOk, OnErr};
+ghost use Rattle.std.specs.Prelude.{◌≡◌, true, None, Some, IsTrue, IsSome, IfOk, IfSome, OnOk, OnErr};
 ghost use Rattle.std.specs.Option.{unwrap_or};
 ghost use Rattle.reflect_pool.specs.FieldsLeft.{field_type};
-ghost use Rattle.reflect_pool.specs.Shapes.{holds_list};
 ghost use Rattle.reflect_scalar.specs.FieldTypes.{field_pool};
 ghost use Rattle.reflect_entries.specs.Entries.{value_at};
 ghost use Rattle.reflect_message.specs.Declares.{Declares, Owns};
-ghost use Rattle.reflect_message.specs.Held.{fields_of, choices_of, extensions_of, unknown_of, UpdatesField, Same};
-ghost use Rattle.reflect_message.specs.Lists.{Lengthens, KeepsList};
-ghost use Rattle.reflect_message.specs.Oneofs.{IsExclusive, SetsField, sibling};
+ghost use Rattle.reflect_message.specs.Held.{fields_of, choices_of, extensions_of, unknown_of, UpdatesField};
+ghost use Rattle.reflect_message.specs.Oneofs.{IsExclusive, SetsField};
 ghost use Rattle.reflect_message.specs.Present.{held_if_set, is_held};
 ghost use Rattle.reflect_message.specs.Shown.{Shows, IsHeldOrDefault};
 
@@ -127,31 +125,6 @@ impl<'p> DynamicMessage<'p> {
         }
         self.set_field(field, value)?;
         Ok(())
-    }
-
-    /// Puts values that suit it behind those of the field, one of the message's type: of a list as its elements, and of a map
-    /// as its entries, which are messages of the entries' type, each over what stood under its key. The other members of its
-    /// oneof are unset. Of a field that holds one value nothing happens.
-    ///
-    /// A refusal leaves the values of a list, and of a map perhaps some of the entries more.
-    pub fn extend_field(
-        &mut self,
-        field: &FieldDescriptor<'p>,
-        values: Vec<Value<'p>>,
-    ) -> Result<(), AllocError>
-        requires { Declares self.old.descriptor field.now }
-        ensures type_stays { self.new.descriptor ≡ self.old.descriptor }
-        ensures list { holds_list (field_pool field.now) (field_type field.now) ≡ true → OnOk result (Lengthens (value_at (fields_of self.old) (field_type field.now).number) (value_at (fields_of self.new) (field_type field.now).number) values.entry.items) }
-        ensures left { holds_list (field_pool field.now) (field_type field.now) ≡ true → OnErr result (KeepsList (value_at (fields_of self.old) (field_type field.now).number) (value_at (fields_of self.new) (field_type field.now).number)) }
-        ensures others { (n : ℕ) → n ≢ (field_type field.now).number → sibling field.now (choices_of self.old) ≢ Some n → Same (fields_of self.old) (fields_of self.new) n }
-        ensures extensions { extensions_of self.new ≡ extensions_of self.old }
-        ensures unknown { unknown_of self.new ≡ unknown_of self.old }
-    {
-        let alloc = self.allocator();
-        let mut parts = self.take_block()?;
-        let outcome = parts.extend_field(alloc, field, values);
-        self.put_block(parts);
-        outcome
     }
 
     /// Unsets the field, one of the message's type. Takes no memory.

@@ -2,7 +2,6 @@
 #![tactic(auto)]
 
 mod accessors;
-mod any;
 mod by_extension;
 mod by_field;
 mod by_name;
@@ -10,7 +9,6 @@ mod by_number;
 mod content;
 mod declared;
 mod defaults;
-mod extend;
 mod field_ref;
 mod message;
 mod message_parts;
@@ -22,7 +20,6 @@ mod validity;
 mod value;
 mod walks;
 
-pub use any::{AnyFields, any_fields};
 pub use declared::{declared_extension, declared_field};
 pub use defaults::{default_of, default_one, is_present, is_present_scalar};
 pub use field_ref::FieldRef;

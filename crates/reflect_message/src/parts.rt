@@ -1,20 +1,16 @@
 //! What a message holds, apart from its type.
 
-ghost use Rattle.std.specs.Prelude.{◌≡◌, ◌≢◌, ℕ, [], true, Some, IfOk, OnOk, OnErr};
+ghost use Rattle.std.specs.Prelude.{◌≡◌, ℕ, [], Some, IfOk, OnOk, OnErr};
 ghost use Rattle.std.specs.Option.{IsSome, unwrap_or};
 ghost use Rattle.reflect_entries.specs.Entries.{Updates, value_at};
 ghost use Rattle.reflect_entries.specs.Members.{first_member_of};
 ghost use Rattle.reflect_entries.specs.Undeclared.{undeclared};
 ghost use Rattle.reflect_message.specs.Copies.{AreCopies};
-ghost use Rattle.reflect_message.specs.Held.{fields_in, choices_in, extensions_in, unknown_in, Same};
-ghost use Rattle.reflect_message.specs.Lists.{Lengthens, KeepsList};
+ghost use Rattle.reflect_message.specs.Held.{fields_in, choices_in, extensions_in, unknown_in};
 ghost use Rattle.reflect_pool.specs.FieldsLeft.{field_type};
-ghost use Rattle.reflect_pool.specs.Shapes.{holds_list};
-ghost use Rattle.reflect_scalar.specs.FieldTypes.{field_pool};
-ghost use Rattle.reflect_message.specs.Oneofs.{MakesRoom, Changes, Chooses, Unsets, sibling};
+ghost use Rattle.reflect_message.specs.Oneofs.{MakesRoom, Changes, Chooses, Unsets};
 ghost use Rattle.reflect_message.specs.Trees.{held_tree, parts_tree};
 
-use crate::extend::extend;
 use crate::value::Value;
 use reflect_entries::{Choices, Entries, UnknownRecords};
 use reflect_pool::FieldDescriptor;
@@ -142,29 +138,6 @@ impl<'p> Parts<'p> {
     {
         self.choices.make_room(field)?;
         self.fields.set(field.number(), value)?;
-        self.clear_siblings(field);
-        Ok(())
-    }
-
-    /// Puts values behind those of a list, or entries into a map, and unsets the other members of the field's oneof, as
-    /// `extend` does. Of a field that is neither nothing happens.
-    pub fn extend_field(
-        &mut self,
-        alloc: Global,
-        field: &FieldDescriptor<'p>,
-        values: Vec<Value<'p>>,
-    ) -> Result<(), AllocError>
-        ensures others { (n : ℕ) → n ≢ (field_type field.now).number → sibling field.now self.old.choices.members ≢ Some n → Same self.old.fields self.new.fields n }
-        ensures list { holds_list (field_pool field.now) (field_type field.now) ≡ true → OnOk result (Lengthens (value_at self.old.fields (field_type field.now).number) (value_at self.new.fields (field_type field.now).number) values.entry.items) }
-        ensures left { holds_list (field_pool field.now) (field_type field.now) ≡ true → OnErr result (KeepsList (value_at self.old.fields (field_type field.now).number) (value_at self.new.fields (field_type field.now).number)) }
-        ensures extensions { self.new.extensions ≡ self.old.extensions }
-        ensures unknown { self.new.unknown ≡ self.old.unknown }
-    {
-        if !field.is_list() && !field.is_map() {
-            return Ok(());
-        }
-        self.choices.make_room(field)?;
-        extend(alloc, &mut self.fields, field, values)?;
         self.clear_siblings(field);
         Ok(())
     }

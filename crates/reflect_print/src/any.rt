@@ -1,9 +1,10 @@
 //! Messages that hold a message of any type (protobuf.dev, "Any").
 
 use crate::error::WriteError;
+use reflect_any::any_fields;
 use reflect_decode::DecodeMessage;
+use reflect_message::{DynamicMessage, FieldRef};
 use reflect_pool::MessageDescriptor;
-use reflect_message::{DynamicMessage, FieldRef, any_fields};
 use reflect_wire::WireError;
 use std::alloc::Global;
 

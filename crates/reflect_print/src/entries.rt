@@ -2,8 +2,8 @@
 
 use crate::error::WriteError;
 use crate::options::FormatOptions;
-use reflect_pool::{ExtensionDescriptor, FieldDescriptor};
 use reflect_message::{DynamicMessage, FieldRef, Value};
+use reflect_pool::{ExtensionDescriptor, FieldDescriptor};
 use reflect_wire::UnknownField;
 use std::alloc::Global;
 

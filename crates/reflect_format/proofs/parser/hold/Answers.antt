@@ -1,6 +1,6 @@
 use Rattle.std.proofs.Common.{rules, inl, inr, refl, sym, subst, ◌∙◌}
 use Rattle.reflect_message.specs.Declares.{Declares}
-use Rattle.reflect_message.specs.Any.{IsAny}
+use Rattle.reflect_any.specs.Any.{IsAny}
 use Rattle.reflect_format.specs.Steps.{Stays}
 use Rattle.reflect_format.proofs.Stepping.{untouched, kept, unfinished, sets_kept}
 use Rattle.reflect_format.proofs.parser.hold.Goals as goal

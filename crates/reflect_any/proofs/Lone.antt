@@ -8,7 +8,7 @@ use Rattle.reflect_pool.specs.declared.message.MessageDescriptor.{MessageDescrip
 use Rattle.reflect_pool.specs.declared.field.FieldDescriptor.{FieldDescriptor}
 use Rattle.reflect_message.specs.Known.{numbered_field}
 use Rattle.reflect_message.proofs.Known.{field_found, field_missing}
-use Rattle.reflect_message.specs.Any.{IsLone, StandsAlone}
+use Rattle.reflect_any.specs.Any.{IsLone, StandsAlone}
 
 -- a fact is so where there is no value
 pub where_none : {T : Type 0} (o : Option T) (P : Type 0) → P → IfNone o P

@@ -7,10 +7,8 @@ ghost use Rattle.reflect_message.specs.Declares.{Declares};
 ghost use Rattle.reflect_message.specs.Lists.{list_items, Lengthens, KeepsList};
 ghost use Rattle.reflect_message.specs.Held.{Same};
 
-use crate::defaults::default_of;
-use crate::message::DynamicMessage;
-use crate::value::Value;
 use reflect_entries::Entries;
+use reflect_message::{DynamicMessage, Value, default_of};
 use reflect_pool::FieldDescriptor;
 use reflect_scalar::{FieldDescriptorLike, MapKey};
 use std::alloc::{AllocError, Global};

@@ -3,7 +3,7 @@ use Rattle.reflect_entries.specs.Entries.{value_at}
 use Rattle.reflect_message.specs.Lists.{items_held}
 use Rattle.reflect_message.specs.declared.value.Value.{the_lemmas}
 use Rattle.reflect_message.proofs.Lengthening.{lengthens_slot, items_of_slot}
-use Rattle.reflect_message.proofs.extend.extend.Goals as goal
+use Rattle.reflect_extend.proofs.extend.extend.Goals as goal
 
 pub returns-then-is_list-clause-list : goal.returns-then-is_list-clause-list
 returns-then-is_list-clause-list g c = λ list.

@@ -1,8 +1,8 @@
 use Rattle.std.proofs.Common.{rules, true, false}
 use Rattle.reflect_tables.specs.Types.{bytes, string}
-use Rattle.reflect_message.proofs.Lone.{where_none, lone_missing, lone_found, found_lone}
-use Rattle.reflect_message.proofs.any.any_fields.Goals as goal
-use Rattle.reflect_message.proofs.any.any_fields.Goals.{else-holds_strings-via-then-holds_strings+then-stands_alone+then-holds_bytes+else-stands_alone-2, else-holds_strings-via-then-holds_strings+then-stands_alone+else-holds_bytes, else-holds_strings-via-then-holds_strings+else-stands_alone, else-holds_strings-via-else-holds_strings}
+use Rattle.reflect_any.proofs.Lone.{where_none, lone_missing, lone_found, found_lone}
+use Rattle.reflect_any.proofs.any.any_fields.Goals as goal
+use Rattle.reflect_any.proofs.any.any_fields.Goals.{else-holds_strings-via-then-holds_strings+then-stands_alone+then-holds_bytes+else-stands_alone-2, else-holds_strings-via-then-holds_strings+then-stands_alone+else-holds_bytes, else-holds_strings-via-then-holds_strings+else-stands_alone, else-holds_strings-via-else-holds_strings}
 
 pub returns-in_err-type_url-clause-other : goal.returns-in_err-type_url-clause-other
 returns-in_err-type_url-clause-other c =

@@ -3,7 +3,7 @@
 ghost use Rattle.std.specs.Prelude.{◌≡◌, IfNone, IfSome, IsTrue};
 ghost use Rattle.reflect_tables.specs.Types.{bytes, string};
 ghost use Rattle.reflect_pool.specs.FieldsLeft.{field_type};
-ghost use Rattle.reflect_message.specs.Any.{IsAny, StandsAlone, shares};
+ghost use Rattle.reflect_any.specs.Any.{IsAny, StandsAlone, shares};
 ghost use Rattle.reflect_message.specs.Declares.{Declares};
 
 use reflect_pool::{FieldDescriptor, Kind, MessageDescriptor};
