@@ -7,9 +7,8 @@ use clap::error::ErrorKind;
 use schema_core::{Fault, Schema, SchemaError, serve, write_bytes};
 use schema_words::{Request, Task, parse, requested};
 use std::alloc::{AllocError, AllocFailed, Global};
-use std::fmt::Display;
+use std::fmt;
 use std::io::{Read, Write};
-use thiserror::Error;
 
 /// Why a file was not read.
 #[derive(Clone, Copy, PartialEq, Eq, Debug)]
@@ -25,17 +24,12 @@ pub trait SourceFiles {
 }
 
 /// Why a run ended without an answer.
-#[derive(Debug, Drop, Error)]
+#[derive(Drop)]
 enum RunFault {
-    #[error("{0}")]
     Schema(SchemaError),
-    #[error("'{0}' cannot be read")]
     File(String),
-    #[error("'{0}' is not UTF-8")]
     SourceNotUtf8(String),
-    #[error("{0}")]
     Payload(Fault),
-    #[error("out of memory")]
     Memory,
 }
 
@@ -51,6 +45,18 @@ impl RunFault {
             RunFault::Payload(Fault::Schema(_) | Fault::NotHex | Fault::NotUtf8) => 3,
             RunFault::Payload(Fault::Read | Fault::Write) => 4,
             RunFault::Payload(Fault::Memory) | RunFault::Memory => 5,
+        }
+    }
+}
+
+impl fmt::Display for RunFault {
+    fn fmt<W: fmt::Write>(&self, f: &mut fmt::Formatter<W>) -> fmt::Result {
+        match self {
+            RunFault::Schema(error) => write!(f, "{error}"),
+            RunFault::File(path) => write!(f, "'{path}' cannot be read"),
+            RunFault::SourceNotUtf8(path) => write!(f, "'{path}' is not UTF-8"),
+            RunFault::Payload(fault) => write!(f, "{fault}"),
+            RunFault::Memory => f.write_str("out of memory"),
         }
     }
 }
@@ -187,7 +193,7 @@ fn answer<F: SourceFiles, R: Read, W: Write>(
 }
 
 /// Writes a text to a stream, with a line end; a stream that refuses it gets no more.
-fn write_line<W: Write>(alloc: Global, stream: &mut W, text: impl Display + Drop) {
+fn write_line<W: Write>(alloc: Global, stream: &mut W, text: impl fmt::Display + Drop) {
     if let Ok(line) = format!(in alloc; "{text}\n") {
         let _ = stream.write_all(line.as_str().as_bytes());
     }
