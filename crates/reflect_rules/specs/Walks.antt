@@ -9,7 +9,7 @@ use Rattle.reflect_walk.specs.Declarations.{Declaration, of_file, of_message, of
 use Rattle.reflect_tables.specs.Ranges.{Range}
 use Rattle.reflect_tables.specs.Views.{ranges_of}
 use Rattle.reflect_rules.specs.TypesSay.{TypesSay}
-use Rattle.reflect_rules.specs.Meanings.{behind}
+use Rattle.reflect_references.specs.Meanings.{rest_behind}
 use Rattle.reflect_tables.specs.declared.ranges.NumberRanges.{NumberRanges}
 use Rattle.reflect_rules.specs.declared.uses.EntryUse.{EntryUse}
 
@@ -31,19 +31,6 @@ pub record Place : Type 0 where
 
 abbrev pub is_proto3_of : FileDescriptorProto → Bool
 is_proto3_of f = elim f.syntax [ None ↦ false | Some s ↦ bytes_eq (string_bytes s) (codes "proto3") ]
-
-abbrev pub rest_behind : Declaration → List Reference → List Reference
-rest_behind d rest = elim d.body [
-  | of_file f ↦ rest
-  | of_message m ↦ rest
-  | of_field f ↦ behind f.type_name rest
-  | of_oneof o ↦ rest
-  | of_enum e ↦ rest
-  | of_enum_value v ↦ rest
-  | of_service s ↦ rest
-  | of_method m ↦ behind m.output_type (behind m.input_type rest)
-  | of_extension x ↦ behind x.type_name (behind x.extendee rest)
-]
 
 abbrev pub proto3_behind : Declaration → Bool → Bool
 proto3_behind d is_proto3 = elim d.body [ of_file f ↦ is_proto3_of f | _ ↦ is_proto3 ]

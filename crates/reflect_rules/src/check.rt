@@ -2,7 +2,7 @@ ghost use Rattle.std.specs.Prelude.{IfOk, map};
 ghost use Rattle.reflect_names.specs.Faults.{fault_view};
 ghost use Rattle.reflect_rules.specs.RulePass.{BatchFaults};
 
-use crate::references::References;
+use reflect_references::References;
 use crate::rule_visitor::RuleVisitor;
 use crate::types::Types;
 use crate::uses::UseVisitor;

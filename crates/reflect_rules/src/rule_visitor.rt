@@ -7,7 +7,7 @@ use crate::extension_number::check_extension_number;
 use crate::numbers::{
     check_distinct, check_not_extension, check_number, check_oneof, check_reserved,
 };
-use crate::references::References;
+use reflect_references::References;
 use crate::types::{Types, find_in};
 use crate::uses::EntryUse;
 use descriptor_records::{
