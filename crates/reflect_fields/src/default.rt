@@ -1,6 +1,6 @@
 //! The default of a field, read from the text of its record.
 
-ghost use Rattle.std.specs.Prelude.{◌≡◌, IfOk};
+ghost use Rattle.std.specs.Prelude.{IfOk};
 ghost use Rattle.reflect_tables.specs.Views.{kind_of, default_of as default_view};
 ghost use Rattle.reflect_fields.specs.FieldDefaults.{IsScalarDefault, IsDefault};
 

@@ -1,9 +1,9 @@
 //! What a field's record says about it, in the words of the pool.
 
-ghost use Rattle.std.specs.Prelude.{◌≡◌, ℕ, IfOk, option_map, string_bytes, unwrap_or, not};
+ghost use Rattle.std.specs.Prelude.{◌≡◌, IfOk, option_map, string_bytes, unwrap_or, not};
 ghost use Rattle.reflect_walk.specs.Tree.{text_of as as_text};
 ghost use Rattle.reflect_tables.specs.Views.{field_of, kind_of, name_of};
-ghost use Rattle.reflect_fields.specs.Fields.{is_proto3 as says_proto3, label_of, scalar_type, is_packable as may_pack, is_packed as packs, has_presence, is_number, natural, IsField, IsExtension};
+ghost use Rattle.reflect_fields.specs.Fields.{label_of, scalar_type, is_packable as may_pack, is_packed as packs, has_presence, is_number, natural, IsField, IsExtension};
 ghost use Rattle.descriptor_records.specs.FieldNumbers.{type_number};
 ghost use Rattle.descriptor_records.specs.declared.field.FieldType.TheVariants as types;
 

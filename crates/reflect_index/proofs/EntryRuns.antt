@@ -3,12 +3,11 @@ use Rattle.std.proofs.Common.{◌≡◌, ℕ, ◌+◌, List, [], ◌∷◌, Bool
 use Rattle.std.specs.List.{filter, AllZip}
 use Rattle.std.proofs.lemmas.List.Elements.{filter-append}
 use Rattle.reflect_names.specs.declared.resolve_visitor.Reference.{Reference}
-use Rattle.reflect_references.specs.Meanings.{rest_behind}
-use Rattle.reflect_walk.specs.Declarations.{Declaration, Body, of_file, of_message, of_field, of_oneof, of_enum, of_enum_value, of_service, of_method, of_extension, Runs}
+use Rattle.reflect_walk.specs.Declarations.{Declaration, Body, of_field, of_oneof, of_method, Runs}
 use Rattle.reflect_walk.specs.declared.visit_parts.Offsets.{Offsets}
 use Rattle.reflect_tables.specs.Types.{FieldType, MethodType, ExtensionType}
 use Rattle.reflect_tables.specs.Views.{extension_of}
-use Rattle.reflect_index.specs.Along.{AtHand, Met, before_files, syntax_behind, hand_behind, along, is_message, is_field, is_oneof, is_enum, is_service, is_method, is_extension, is_part, parts, all_of}
+use Rattle.reflect_index.specs.Along.{AtHand, Met, before_files, syntax_behind, hand_behind, along, is_message, is_field, is_oneof, is_enum, is_service, is_method, is_extension, is_part, all_of}
 use Rattle.reflect_index.specs.Entries.{OneofName, Head, IsHeadOf, IsFieldOf, IsOneofOf, IsMethodOf, IsExtensionOf}
 use Rattle.reflect_index.specs.Grown.{draft_head, enum_draft_head, message_head, enum_head, service_head, draft_fields, draft_oneofs, stored_fields, stored_oneofs, stored_methods, list_at, Behind}
 use Rattle.reflect_index.specs.BatchEntries.{IsBatchOf}

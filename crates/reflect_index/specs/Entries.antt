@@ -1,5 +1,5 @@
 -- What the entries of declarations are, by their records and by what the references at hand mean.
-use Rattle.std.specs.Prelude.{◌≡◌, ℕ, ℤ, List, [], ◌∷◌, ◌++◌, Bool, false, Option, None, Some, unwrap_or}
+use Rattle.std.specs.Prelude.{◌≡◌, ℕ, ℤ, List, [], ◌∷◌, ◌++◌, false, Option, None, Some, unwrap_or}
 use Rattle.descriptor_records.specs.declared.field.FieldDescriptorProto.{FieldDescriptorProto}
 use Rattle.descriptor_records.specs.declared.field.OneofDescriptorProto.{OneofDescriptorProto}
 use Rattle.descriptor_records.specs.declared.field.FieldType.{FieldType as TypeNumber}
@@ -10,7 +10,7 @@ use Rattle.reflect_scope.specs.declared.definition.DefinitionKind.TheVariants as
 use Rattle.reflect_references.specs.Meanings.{meaning, behind}
 use Rattle.reflect_fields.specs.Fields.{scalar_type, IsField, IsExtension}
 use Rattle.reflect_tables.specs.Types.{KindType, message, enumeration, FieldType, ExtensionType, MethodType}
-use Rattle.reflect_walk.specs.Declarations.{Declaration, Body, of_message, of_field, of_oneof, of_enum, of_service, of_method, of_extension}
+use Rattle.reflect_walk.specs.Declarations.{Body, of_message, of_field, of_oneof, of_enum, of_service, of_method, of_extension}
 use Rattle.reflect_walk.specs.Tree.{text_of}
 use Rattle.reflect_index.specs.Along.{Met}
 

@@ -1,12 +1,12 @@
 //! From the records of a batch to what the pool keeps of them.
 
-ghost use Rattle.std.specs.Prelude.{◌≡◌, ◌+◌, ◌-◌, [], Some, map, OnOk, IfOk, string_bytes};
+ghost use Rattle.std.specs.Prelude.{◌≡◌, ◌+◌, ◌-◌, [], Some, map, OnOk, IfOk};
 ghost use Rattle.std.specs.List.{AllByRecursion};
 ghost use Rattle.reflect_tables.specs.Types.{ListsMembers};
 ghost use Rattle.reflect_tables.specs.Views.{message_of};
 ghost use Rattle.reflect_index.specs.OfDeclarations.{draft_ranges, draft_values, stored_ranges, stored_value, stored_values, add_value};
 ghost use Rattle.reflect_index.specs.DraftNames.{draft_name, enum_draft_name, stored_message_name, stored_enum_name, stored_service_name};
-ghost use Rattle.reflect_tables.specs.Views.{extension_of, field_of, method_of};
+ghost use Rattle.reflect_tables.specs.Views.{field_of, method_of};
 ghost use Rattle.reflect_index.specs.Grown.{draft_fields, draft_oneofs, draft_head, enum_draft_head, message_head, enum_head, service_head, stored_fields, stored_oneofs, stored_methods, oneof_name, GrowsAt};
 
 use crate::batch::Batch;
@@ -275,7 +275,12 @@ impl<'a> Visitor for IndexVisitor<'a> {
     ) -> Result<(), VisitError> {
         let kind = kind_of(&mut self.references, field)?;
         let entry = field_entry(alloc, self.syntax, path, full_name, kind, field)?;
-        push_field(&mut self.drafts.messages, self.before.messages, message, entry)?;
+        push_field(
+            &mut self.drafts.messages,
+            self.before.messages,
+            message,
+            entry,
+        )?;
         Ok(())
     }
 
@@ -296,7 +301,12 @@ impl<'a> Visitor for IndexVisitor<'a> {
             fields: Vec::new(alloc),
             is_synthetic: false,
         };
-        push_oneof(&mut self.drafts.messages, self.before.messages, message, entry)?;
+        push_oneof(
+            &mut self.drafts.messages,
+            self.before.messages,
+            message,
+            entry,
+        )?;
         Ok(())
     }
 
@@ -386,7 +396,12 @@ impl<'a> Visitor for IndexVisitor<'a> {
             is_client_streaming: method.client_streaming.unwrap_or(false),
             is_server_streaming: method.server_streaming.unwrap_or(false),
         };
-        push_method(&mut self.drafts.services, self.before.services, service, entry)?;
+        push_method(
+            &mut self.drafts.services,
+            self.before.services,
+            service,
+            entry,
+        )?;
         Ok(())
     }
 

@@ -81,6 +81,6 @@ returns-clause-entries c =
     ap {B = AtHand} (λ x. record { syntax = x; rest = v.references.rest.now }) begun.syntax ∙ ap {B = AtHand} (λ l. record { syntax = Proto2; rest = l }) begun.rest in
     six_with _ _ _ _ _ _ _ c.into_batch.result
     (λ b fields oneofs heads enums services extensions.
-      batch_of rs c.args.before ds v c.visit_all.new.visitor b begun.before hand begun.messages begun.enums begun.services begun.extensions
-      c.in_ok-visit_all.ensures.runs fields oneofs heads enums services extensions)
+    batch_of rs c.args.before ds v c.visit_all.new.visitor b begun.before hand begun.messages begun.enums begun.services begun.extensions
+    c.in_ok-visit_all.ensures.runs fields oneofs heads enums services extensions)
     made.fields made.oneofs made.heads made.enum_heads made.services made.extensions

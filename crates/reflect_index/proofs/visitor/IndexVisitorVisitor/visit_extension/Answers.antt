@@ -29,7 +29,7 @@ returns-clause-step c =
     record {
       messages = search rules;
       enums = search rules;
-      extensions = 
+      extensions =
           ap (map stored_extension_name) c.in_ok-push.ensures.items
           ∙ map-append stored_extension_name mid _
           ∙ ap {B = List FullName} (λ l. l ++ (string_bytes e.full_name, c.args.file) ∷ []) kept.extensions
