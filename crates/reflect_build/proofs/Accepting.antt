@@ -6,7 +6,7 @@ use Rattle.reflect_names.specs.Faults.{batch_places, list_of, place_at}
 use Rattle.reflect_names.specs.declared.faults.Faults.{Faults}
 use Rattle.reflect_names.specs.declared.resolve_visitor.Reference.{Reference}
 use Rattle.reflect_tables.specs.Types.{PoolType}
-use Rattle.reflect_tables.specs.Views.{file_of, record_file, message_of, enum_of, extension_of, pool_of}
+use Rattle.reflect_tables.specs.Views.{file_of, record_file, message_of, enum_of, extension_of, service_of, pool_of}
 use Rattle.reflect_growth.specs.Growth.{Appended}
 use Rattle.reflect_index.specs.declared.batch.Batch.{Batch}
 use Rattle.reflect_tables.specs.declared.tables.Tables.{Tables}
@@ -23,15 +23,17 @@ goes_behind f olds mores news batch a b = ap (map f) a ∙ map-append f olds mor
 
 pub added_behind : (old more new : Tables) (b : Batch) (fs : List FileDescriptorProto) (w : Linking) → Appended old more new
     → map file_of more.files.items ≡ map record_file fs → more.messages.items ≡ b.messages.items → more.enums.items ≡ b.enums.items → more.extensions.items ≡ b.extensions.items
+    → more.services.items ≡ b.services.items
     → AreAdded (pool_of old) fs (types_with w b) (pool_of new)
-added_behind old more new b fs w a files messages enums extensions = record {
+added_behind old more new b fs w a files messages enums extensions services = record {
   files = goes_behind file_of old.files.items more.files.items new.files.items (map record_file fs) a.files files;
   messages = goes_behind message_of old.messages.items more.messages.items new.messages.items (map message_of b.messages.items) a.messages (ap (map message_of) messages);
   enums = goes_behind enum_of old.enums.items more.enums.items new.enums.items (map enum_of b.enums.items) a.enums (ap (map enum_of) enums);
   extensions = goes_behind extension_of old.extensions.items more.extensions.items new.extensions.items (map extension_of b.extensions.items) a.extensions (ap (map extension_of) extensions);
+  services = goes_behind service_of old.services.items more.services.items new.services.items (map service_of b.services.items) a.services (ap (map service_of) services);
 }
 
-pub faultless : (w : Linking) (fs : List FileDescriptorProto) (new : PoolType) (rs : List Reference) (t : LinkedTypes) → Means w fs rs → AreTypes w fs t → AreAdded (pool_of w.tables) fs t new
+pub faultless : (w : Linking) (fs : List FileDescriptorProto) (new : PoolType) (rs : List Reference) (t : LinkedTypes) → Means w fs rs → AreTypes w fs rs t → AreAdded (pool_of w.tables) fs t new
     → NumberFaults t w.before w.first fs rs [] → (f : Faults) → place_at f ≡ batch_places fs w.first → list_of f ++ doubled w.numbers t (place_at f) ≡ [] → FaultlessBatch w fs new
 faultless w fs new rs t means types added numbers f at none = record {
   references = rs;

@@ -10,7 +10,7 @@ use Rattle.reflect_tables.specs.declared.tables.Tables.{Tables}
 use Rattle.reflect_tables.specs.ExtensionNumbers.{KeyType, numbers_of}
 use Rattle.reflect_passes.specs.Extensions.{is_known}
 use Rattle.reflect_pool.specs.Linked.{IsLinked}
-use Rattle.reflect_build.specs.Refusals.{CountsOf, Linking, linking, with_declared, AreLinked, Means, AreTypes, FaultyNumbers, FaultyBatch, Faulty, IsOf, new_files, FaultyFiles}
+use Rattle.reflect_build.specs.Refusals.{CountsOf, Linking, linking, with_declared, AreLinked, Means, AreTypes, FaultyBatch, Faulty, IsOf, new_files, FaultyFiles}
 use Rattle.reflect_pool.proofs.Numbered.{has_number}
 use Rattle.std.proofs.lemmas.Result.{err_from_is_err_and, IfErr-weaker}
 use Rattle.descriptor_records.specs.declared.file.FileDescriptorProto.{FileDescriptorProto}
@@ -20,6 +20,7 @@ use Rattle.reflect_scope.specs.FileIndexes.{link_view}
 use Rattle.reflect_names.specs.ImportedFiles.{links_to}
 use Rattle.reflect_names.specs.ReferencePass.{BatchReferences}
 use Rattle.reflect_names.specs.ReferenceSteps.{target_of}
+use Rattle.reflect_index.specs.BatchEntries.{IsBatchOf}
 use Rattle.reflect_index.specs.DraftNames.{stored_message_name, stored_enum_name, stored_extension_name}
 use Rattle.reflect_tables.specs.Names.{messages, enums, extensions}
 use Rattle.reflect_index.specs.DeclaredNames.{with_names}
@@ -66,22 +67,24 @@ refused_with Q r e is h = subst (λ x. IfErr x (λ y. Refuses Q y)) (sym is) h
 abbrev pub types_with : Linking → Batch → LinkedTypes
 types_with w b = record { old = record { ref_ptr = (0, 0); now = w.tables }; new = record { ref_ptr = (0, 0); now = b } }
 
-pub types_of : {V : Type 0} (w : Linking) (fs files : List FileDescriptorProto) (Gives : V → DescriptorError → Type 0) (r : Result Batch V) (s : Result Batch DescriptorError) → files ≡ fs
+pub types_of : {V : Type 0} (w : Linking) (fs files : List FileDescriptorProto) (rs given : List Reference) (Gives : V → DescriptorError → Type 0) (r : Result Batch V) (s : Result Batch DescriptorError) → files ≡ fs → given ≡ rs
     → MatchResult r (λ x. s ≡ Ok x) (λ e. IsErrAnd s (Gives e))
     → IfOk r (λ b. map stored_message_name b.messages.items ≡ with_names messages [] (batch_declarations w.before w.first files))
     → IfOk r (λ b. AllDeclared (messages_in (batch_declarations w.before w.first files)) (map stored_ranges b.messages.items))
     → IfOk r (λ b. map stored_enum_name b.enums.items ≡ with_names enums [] (batch_declarations w.before w.first files))
     → IfOk r (λ b. map stored_values b.enums.items ≡ map declared_values (enums_in (batch_declarations w.before w.first files)))
     → IfOk r (λ b. map stored_extension_name b.extensions.items ≡ with_names extensions [] (batch_declarations w.before w.first files))
-    → (b : Batch) → s ≡ Ok b → AreTypes w fs (types_with w b)
-types_of w fs files Gives r s same cases ms rs es vs xs b is =
-    subst (λ l. AreTypes w l (types_with w b)) same (record {
+    → IfOk r (IsBatchOf given w.before (batch_declarations w.before w.first files))
+    → (b : Batch) → s ≡ Ok b → AreTypes w fs rs (types_with w b)
+types_of w fs files rs given Gives r s same used cases ms ranges es vs xs entries b is =
+    subst (λ l. AreTypes w l rs (types_with w b)) same (record {
       old = refl;
       messages = mapped _ Gives r s cases ms b is;
-      ranges = mapped _ Gives r s cases rs b is;
+      ranges = mapped _ Gives r s cases ranges b is;
       enums = mapped _ Gives r s cases es b is;
       values = mapped _ Gives r s cases vs b is;
       extensions = mapped _ Gives r s cases xs b is;
+      entries = subst (λ l. IsBatchOf l w.before (batch_declarations w.before w.first files) b) used (mapped _ Gives r s cases entries b is);
     })
 
 pub means_of : (w : Linking) (fs : List FileDescriptorProto) (rs : List Reference) (linked found : List FileDescriptorProto) (links seen : List Links) → linked ≡ fs → found ≡ fs → seen ≡ links
@@ -94,15 +97,17 @@ means_of w fs rs linked found links seen a b e added right = record {
       (subst (λ l. BatchReferences w.known l (batch_places found w.first) w.before w.first found (map target_of rs) []) e right);
 }
 
-module _ {T : Type 0} (w : Linking) (fs : List FileDescriptorProto) (t : LinkedTypes) (types : AreTypes w fs t) (r : Result T DescriptorError) (e : DescriptorError) (is : r ≡ Err e) where
-  pub refused_numbers : (rs : List Reference) → Means w fs rs → Refuses (NumberFaults t w.before w.first fs rs) e → IfErr r (λ x. Refuses (FaultyBatch w fs) x)
-  refused_numbers rs means h = refused_with (FaultyBatch w fs) r e is (refuses_as {P = NumberFaults t w.before w.first fs rs} {Q = FaultyBatch w fs} e (λ xs n. inr (inl (rs, t, means, types, n))) h)
+module _ {T : Type 0} (w : Linking) (fs : List FileDescriptorProto) (rs : List Reference) (t : LinkedTypes) (means : Means w fs rs) (types : AreTypes w fs rs t)
+    (r : Result T DescriptorError) (e : DescriptorError) (is : r ≡ Err e) where
+  pub refused_numbers : Refuses (NumberFaults t w.before w.first fs rs) e → IfErr r (λ x. Refuses (FaultyBatch w fs) x)
+  refused_numbers h = refused_with (FaultyBatch w fs) r e is (refuses_as {P = NumberFaults t w.before w.first fs rs} {Q = FaultyBatch w fs} e (λ xs n. inr (inl (rs, t, means, types, n))) h)
 
-  pub refused_extensions : (f : Faults) → FaultyNumbers w fs [] → list_of f ≡ [] → place_at f ≡ batch_places fs w.first → Refuses (λ xs. xs ≡ list_of f ++ doubled w.numbers t (place_at f)) e
-      → IfErr r (λ x. Refuses (FaultyBatch w fs) x)
+  pub refused_extensions : (f : Faults) → NumberFaults t w.before w.first fs rs [] → list_of f ≡ [] → place_at f ≡ batch_places fs w.first
+      → Refuses (λ xs. xs ≡ list_of f ++ doubled w.numbers t (place_at f)) e → IfErr r (λ x. Refuses (FaultyBatch w fs) x)
   refused_extensions f none empty at h =
       refused_with (FaultyBatch w fs) r e is
-      (refuses_as {P = λ xs. xs ≡ list_of f ++ doubled w.numbers t (place_at f)} {Q = FaultyBatch w fs} e (λ xs n. inr (inr (t, types, none, n ∙ ap (λ l. l ++ doubled w.numbers t (place_at f)) empty ∙ ap (doubled w.numbers t) at))) h)
+      (refuses_as {P = λ xs. xs ≡ list_of f ++ doubled w.numbers t (place_at f)} {Q = FaultyBatch w fs} e
+      (λ xs n. inr (inr (rs, t, means, types, none, n ∙ ap (λ l. l ++ doubled w.numbers t (place_at f)) empty ∙ ap (doubled w.numbers t) at))) h)
 
 module _ {T : Type 0} (w : Linking) (fs : List FileDescriptorProto) (r : Result T DescriptorError) where
   pub refused_names : (files : List FileDescriptorProto) (e : DescriptorError) → r ≡ Err e → files ≡ fs → Refuses (λ xs. xs ≡ name_faults w.indexes w.known w.before w.first files) e → IfErr r (λ x. Refuses (Faulty w fs) x)

@@ -7,7 +7,7 @@ use Rattle.reflect_walk.specs.Batches.{batch_declarations}
 use Rattle.reflect_tables.specs.Types.{PoolType}
 use Rattle.reflect_tables.specs.Names.{Sort, names_of}
 use Rattle.reflect_index.specs.DeclaredNames.{with_names}
-use Rattle.reflect_tables.specs.Views.{record_file, message_of, enum_of, extension_of, pool_of}
+use Rattle.reflect_tables.specs.Views.{record_file, message_of, enum_of, extension_of, service_of, pool_of}
 use Rattle.reflect_passes.specs.NameFaults.{name_faults}
 use Rattle.reflect_passes.specs.NumberFaults.{NumberFaults, doubled}
 use Rattle.reflect_passes.specs.declared.linked_types.LinkedTypes.{LinkedTypes}
@@ -19,14 +19,15 @@ pub record AreAdded (old : PoolType) (fs : List FileDescriptorProto) (t : Linked
   pub messages : new.messages ≡ old.messages ++ map message_of t.new.now.messages.items
   pub enums : new.enums ≡ old.enums ++ map enum_of t.new.now.enums.items
   pub extensions : new.extensions ≡ old.extensions ++ map extension_of t.new.now.extensions.items
+  pub services : new.services ≡ old.services ++ map service_of t.new.now.services.items
 
--- each reference of files whose names are declared means something; by these meanings and the types that the pool then has, no
--- number is faulty, and no extension has the message and the number of another
+-- each reference of files whose names are declared means something; by these meanings the pool's new entries are those of the
+-- declarations, no number is faulty, and no extension has the message and the number of another
 pub record FaultlessBatch (w : Linking) (fs : List FileDescriptorProto) (new : PoolType) : Type 0 where
   pub references : List Reference
   pub types : LinkedTypes
   pub means : Means w fs references
-  pub declared : AreTypes w fs types
+  pub declared : AreTypes w fs references types
   pub added : AreAdded (pool_of w.tables) fs types new
   pub numbers : NumberFaults types w.before w.first fs references []
   pub apart : doubled w.numbers types (batch_places fs w.first) ≡ []

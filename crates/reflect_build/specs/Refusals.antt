@@ -18,6 +18,7 @@ use Rattle.reflect_names.specs.NamePass.{known_behind}
 use Rattle.reflect_names.specs.ReferencePass.{BatchReferences}
 use Rattle.reflect_names.specs.ReferenceSteps.{target_of}
 use Rattle.reflect_names.specs.declared.resolve_visitor.Reference.{Reference}
+use Rattle.reflect_index.specs.BatchEntries.{IsBatchOf}
 use Rattle.reflect_index.specs.DraftNames.{stored_message_name, stored_enum_name, stored_extension_name}
 use Rattle.reflect_tables.specs.Names.{AreNamed, names_of, messages, enums, extensions}
 use Rattle.reflect_index.specs.DeclaredNames.{with_names}
@@ -67,14 +68,16 @@ pub record Means (w : Linking) (fs : List FileDescriptorProto) (references : Lis
   pub linked : AreLinked w fs links
   pub right : BatchReferences w.known links (batch_places fs w.first) w.before w.first fs (map target_of references) []
 
--- the types of the pool, and behind them those of the files: of the declared names, ranges and values
-pub record AreTypes (w : Linking) (fs : List FileDescriptorProto) (t : LinkedTypes) : Type 0 where
+-- the types of the pool, and behind them those of the files, whose references mean this: of the declared names, ranges and values,
+-- and each entry that of its declaration
+pub record AreTypes (w : Linking) (fs : List FileDescriptorProto) (rs : List Reference) (t : LinkedTypes) : Type 0 where
   pub old : t.old.now ≡ w.tables
   pub messages : map stored_message_name t.new.now.messages.items ≡ with_names messages [] (batch_declarations w.before w.first fs)
   pub ranges : AllDeclared (messages_in (batch_declarations w.before w.first fs)) (map stored_ranges t.new.now.messages.items)
   pub enums : map stored_enum_name t.new.now.enums.items ≡ with_names enums [] (batch_declarations w.before w.first fs)
   pub values : map stored_values t.new.now.enums.items ≡ map declared_values (enums_in (batch_declarations w.before w.first fs))
   pub extensions : map stored_extension_name t.new.now.extensions.items ≡ with_names extensions [] (batch_declarations w.before w.first fs)
+  pub entries : IsBatchOf rs w.before (batch_declarations w.before w.first fs) t.new.now
 
 -- the faults of references that mean nothing of the kind that they need
 abbrev pub FaultyReferences : Linking → List FileDescriptorProto → List Fault → Type 0
@@ -82,11 +85,13 @@ FaultyReferences w fs xs = (links : List Links) × AreLinked w fs links × Refer
 
 -- where all of them mean something, the faults by the rules of numbers
 abbrev pub FaultyNumbers : Linking → List FileDescriptorProto → List Fault → Type 0
-FaultyNumbers w fs xs = (rs : List Reference) × (t : LinkedTypes) × Means w fs rs × AreTypes w fs t × NumberFaults t w.before w.first fs rs xs
+FaultyNumbers w fs xs = (rs : List Reference) × (t : LinkedTypes) × Means w fs rs × AreTypes w fs rs t × NumberFaults t w.before w.first fs rs xs
 
 -- where there are none, the extensions whose message and number are taken
 abbrev pub FaultyExtensions : Linking → List FileDescriptorProto → List Fault → Type 0
-FaultyExtensions w fs xs = (t : LinkedTypes) × AreTypes w fs t × FaultyNumbers w fs [] × (xs ≡ doubled w.numbers t (batch_places fs w.first))
+FaultyExtensions w fs xs =
+    (rs : List Reference) × (t : LinkedTypes) × Means w fs rs × AreTypes w fs rs t × NumberFaults t w.before w.first fs rs []
+    × (xs ≡ doubled w.numbers t (batch_places fs w.first))
 
 -- the faults of files whose names are declared
 abbrev pub FaultyBatch : Linking → List FileDescriptorProto → List Fault → Type 0

@@ -5,3 +5,5 @@ pub mod IndexRuns
 pub mod Batched
 pub mod Members
 pub mod Valued
+pub mod Grown
+pub mod EntryRuns

@@ -3,3 +3,7 @@ pub mod DraftNames
 pub mod IndexSteps
 pub mod DeclaredNames
 pub mod Members
+pub mod Along
+pub mod Entries
+pub mod Grown
+pub mod BatchEntries

@@ -59,6 +59,7 @@ impl Drafts {
     ghost use Rattle.reflect_tables.specs.Views.{message_of};
     ghost use Rattle.reflect_index.specs.OfDeclarations.{draft_ranges, draft_values, stored_ranges, stored_values};
     ghost use Rattle.reflect_index.specs.DraftNames.{draft_name, enum_draft_name, stored_message_name, stored_enum_name};
+    ghost use Rattle.reflect_index.specs.Grown.{draft_fields, draft_oneofs, draft_head, enum_draft_head, message_head, enum_head, stored_fields, stored_oneofs};
 
     /// No entries. Takes no memory.
     pub fn new(alloc: Global) -> Drafts
@@ -85,6 +86,10 @@ impl Drafts {
         ensures services { IfOk result (λ b. b.services.items ≡ self.services.items) }
         ensures ranges { IfOk result (λ b. map stored_ranges b.messages.items ≡ map draft_ranges self.messages.items) }
         ensures values { IfOk result (λ b. map stored_values b.enums.items ≡ map draft_values self.enums.items) }
+        ensures fields { IfOk result (λ b. map stored_fields b.messages.items ≡ map draft_fields self.messages.items) }
+        ensures oneofs { IfOk result (λ b. map stored_oneofs b.messages.items ≡ map draft_oneofs self.messages.items) }
+        ensures heads { IfOk result (λ b. map message_head b.messages.items ≡ map draft_head self.messages.items) }
+        ensures enum_heads { IfOk result (λ b. map enum_head b.enums.items ≡ map enum_draft_head self.enums.items) }
     {
         let Drafts {
             files,

@@ -7,6 +7,7 @@ ghost use Rattle.reflect_tables.specs.Types.{AreListed, ListsMembers};
 ghost use Rattle.reflect_tables.specs.Views.{field_of, message_of, oneof_of};
 ghost use Rattle.reflect_index.specs.OfDeclarations.{draft_ranges, draft_values, stored_ranges, stored_values};
 ghost use Rattle.reflect_index.specs.DraftNames.{draft_name, enum_draft_name, stored_message_name, stored_enum_name};
+ghost use Rattle.reflect_index.specs.Grown.{draft_fields, draft_oneofs, draft_head, enum_draft_head, message_head, enum_head, stored_fields, stored_oneofs, oneof_name};
 
 use crate::drafts::{EnumDraft, MessageDraft};
 use crate::index::{field_list, value_list};
@@ -35,7 +36,8 @@ fn entry_of(fields: &[StoredField]) -> Option<StoredEntry> {
 
 /// Leaves the oneofs without members.
 fn forget_members(oneofs: &mut Vec<StoredOneof>)
-    ensures { AreListed (map oneof_of oneofs.new.items) [] }
+    ensures listed { AreListed (map oneof_of oneofs.new.items) [] }
+    ensures names { map oneof_name oneofs.new.items ≡ map oneof_name oneofs.old.items }
 {
     'turns: for place in 0..oneofs.len() {
         oneofs[place].fields.clear();
@@ -48,7 +50,8 @@ fn add_member(
     field: &StoredField,
     place: u32,
 ) -> Result<(), AllocError>
-    ensures { OnOk result (Joins (field_of field.now) place (map oneof_of oneofs.old.items) (map oneof_of oneofs.new.items)) }
+    ensures joins { OnOk result (Joins (field_of field.now) place (map oneof_of oneofs.old.items) (map oneof_of oneofs.new.items)) }
+    ensures names { OnOk result (map oneof_name oneofs.new.items ≡ map oneof_name oneofs.old.items) }
 {
     let Some(index) = field.oneof else {
         return Ok(());
@@ -64,7 +67,8 @@ fn add_member(
 
 /// Lists the members of each oneof.
 fn list_members(fields: &[StoredField], oneofs: &mut Vec<StoredOneof>) -> Result<(), VisitError>
-    ensures { OnOk result (AreListed (map oneof_of oneofs.new.items) (map field_of fields.now)) }
+    ensures listed { OnOk result (AreListed (map oneof_of oneofs.new.items) (map field_of fields.now)) }
+    ensures names { OnOk result (map oneof_name oneofs.new.items ≡ map oneof_name oneofs.old.items) }
 {
     forget_members(oneofs);
     let mut place: u32 = 0;
@@ -79,6 +83,9 @@ fn finished_message(alloc: Global, draft: MessageDraft) -> Result<StoredMessage,
     ensures name { IfOk result (λ m. stored_message_name m ≡ draft_name draft) }
     ensures listed { IfOk result (λ m. ListsMembers (message_of m)) }
     ensures ranges { IfOk result (λ m. stored_ranges m ≡ draft_ranges draft) }
+    ensures fields { IfOk result (λ m. stored_fields m ≡ draft_fields draft) }
+    ensures oneofs { IfOk result (λ m. stored_oneofs m ≡ draft_oneofs draft) }
+    ensures head { IfOk result (λ m. message_head m ≡ draft_head draft) }
 {
     let MessageDraft {
         file,
@@ -118,6 +125,7 @@ fn finished_message(alloc: Global, draft: MessageDraft) -> Result<StoredMessage,
 fn finished_enum(alloc: Global, draft: EnumDraft) -> Result<StoredEnum, VisitError>
     ensures name { IfOk result (λ e. stored_enum_name e ≡ enum_draft_name draft) }
     ensures values { IfOk result (λ e. stored_values e ≡ draft_values draft) }
+    ensures head { IfOk result (λ e. enum_head e ≡ enum_draft_head draft) }
 {
     let EnumDraft {
         file,
@@ -145,6 +153,9 @@ pub fn finished_messages(
     ensures names { IfOk result (λ v. map stored_message_name v.items ≡ map draft_name drafts.items) }
     ensures listed { IfOk result (λ v. AllByRecursion ListsMembers (map message_of v.items)) }
     ensures ranges { IfOk result (λ v. map stored_ranges v.items ≡ map draft_ranges drafts.items) }
+    ensures fields { IfOk result (λ v. map stored_fields v.items ≡ map draft_fields drafts.items) }
+    ensures oneofs { IfOk result (λ v. map stored_oneofs v.items ≡ map draft_oneofs drafts.items) }
+    ensures heads { IfOk result (λ v. map message_head v.items ≡ map draft_head drafts.items) }
 {
     let mut messages = Vec::with_capacity(alloc, drafts.len())?;
     for draft in drafts {
@@ -157,6 +168,7 @@ pub fn finished_messages(
 pub fn finished_enums(alloc: Global, drafts: Vec<EnumDraft>) -> Result<Vec<StoredEnum>, VisitError>
     ensures names { IfOk result (λ v. map stored_enum_name v.items ≡ map enum_draft_name drafts.items) }
     ensures values { IfOk result (λ v. map stored_values v.items ≡ map draft_values drafts.items) }
+    ensures heads { IfOk result (λ v. map enum_head v.items ≡ map enum_draft_head drafts.items) }
 {
     let mut enums = Vec::with_capacity(alloc, drafts.len())?;
     for draft in drafts {

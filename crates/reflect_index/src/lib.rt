@@ -2,11 +2,10 @@
 #![tactic(auto)]
 
 mod batch;
-mod default;
 mod drafts;
-mod field;
 mod finish;
 mod index;
+mod kind;
 mod rewrite;
 mod visitor;
 

@@ -1,24 +1,27 @@
 //! From the records of a batch to what the pool keeps of them.
 
-ghost use Rattle.std.specs.Prelude.{◌≡◌, ◌-◌, [], map, OnOk, IfOk, string_bytes};
+ghost use Rattle.std.specs.Prelude.{◌≡◌, ◌+◌, ◌-◌, [], Some, map, OnOk, IfOk};
 ghost use Rattle.std.specs.List.{AllByRecursion};
 ghost use Rattle.reflect_tables.specs.Types.{ListsMembers};
 ghost use Rattle.reflect_tables.specs.Views.{message_of};
 ghost use Rattle.reflect_index.specs.OfDeclarations.{draft_ranges, draft_values, stored_ranges, stored_value, stored_values, add_value};
 ghost use Rattle.reflect_index.specs.DraftNames.{draft_name, enum_draft_name, stored_message_name, stored_enum_name, stored_service_name};
+ghost use Rattle.reflect_tables.specs.Views.{field_of, method_of};
+ghost use Rattle.reflect_index.specs.Grown.{draft_fields, draft_oneofs, draft_head, enum_draft_head, message_head, enum_head, service_head, stored_fields, stored_oneofs, stored_methods, oneof_name, GrowsAt};
 
 use crate::batch::Batch;
 use crate::drafts::{Drafts, EnumDraft, MessageDraft};
-use crate::field::{field_entry, scalar_kind, text_of};
+use crate::kind::{kind_of, message_meant};
 use descriptor_records::{
     DescriptorProto, EnumDescriptorProto, EnumValueDescriptorProto, FieldDescriptorProto,
-    FieldType, FileDescriptorProto, MethodDescriptorProto, OneofDescriptorProto,
-    ServiceDescriptorProto,
+    FileDescriptorProto, MethodDescriptorProto, OneofDescriptorProto, ServiceDescriptorProto,
 };
-use reflect_names::{DefinitionKind, Offsets, Reference, VisitError, Visitor};
+use reflect_fields::{extension_entry, field_entry, text_of};
+use reflect_names::{Offsets, Reference, VisitError, Visitor};
+use reflect_references::References;
 use reflect_tables::{
-    Cardinality, Child, Children, Declared, NumberRanges, StoredExtension, StoredField, StoredKind,
-    StoredMethod, StoredOneof, StoredService, StoredValue, Syntax, syntax_of,
+    Child, Children, Declared, NumberRanges, StoredExtension, StoredField, StoredMethod,
+    StoredOneof, StoredService, StoredValue, Syntax, syntax_of,
 };
 use reflect_walk::says_map_entry;
 use std::alloc::Global;
@@ -30,12 +33,13 @@ pub struct IndexVisitor<'a> {
     /// How much there was before.
     before: Offsets,
     /// What the references mean that were not met yet.
-    references: &'a [Reference],
+    references: References<'a>,
     syntax: Syntax,
 }
 
 impl<'a> IndexVisitor<'a> {
     ghost use Rattle.reflect_index.specs.IndexSteps.{IsSame};
+    ghost use Rattle.reflect_tables.specs.declared.kind.Syntax.TheVariants.{Proto2};
 
     /// A visitor of files whose references mean this, in the order in which a walk meets them. Takes no memory.
     pub fn new(alloc: Global, before: Offsets, references: &'a [Reference]) -> IndexVisitor<'a>
@@ -44,11 +48,13 @@ impl<'a> IndexVisitor<'a> {
         ensures extensions { result.drafts.extensions.items ≡ [] }
         ensures services { result.drafts.services.items ≡ [] }
         ensures before { result.before ≡ before }
+        ensures rest { result.references.rest.now ≡ references.now }
+        ensures syntax { result.syntax ≡ Proto2 }
     {
         IndexVisitor {
             drafts: Drafts::new(alloc),
             before,
-            references,
+            references: References::new(references),
             syntax: Syntax::Proto2,
         }
     }
@@ -62,6 +68,10 @@ impl<'a> IndexVisitor<'a> {
         ensures services { IfOk result (λ b. b.services.items ≡ self.entry.drafts.services.items) }
         ensures ranges { IfOk result (λ b. map stored_ranges b.messages.items ≡ map draft_ranges self.entry.drafts.messages.items) }
         ensures values { IfOk result (λ b. map stored_values b.enums.items ≡ map draft_values self.entry.drafts.enums.items) }
+        ensures fields { IfOk result (λ b. map stored_fields b.messages.items ≡ map draft_fields self.entry.drafts.messages.items) }
+        ensures oneofs { IfOk result (λ b. map stored_oneofs b.messages.items ≡ map draft_oneofs self.entry.drafts.messages.items) }
+        ensures heads { IfOk result (λ b. map message_head b.messages.items ≡ map draft_head self.entry.drafts.messages.items) }
+        ensures enum_heads { IfOk result (λ b. map enum_head b.enums.items ≡ map enum_draft_head self.entry.drafts.enums.items) }
     {
         let IndexVisitor {
             drafts,
@@ -70,42 +80,6 @@ impl<'a> IndexVisitor<'a> {
             syntax: _,
         } = self;
         drafts.finished(alloc)
-    }
-
-    /// What the next reference means.
-    fn next_reference(&mut self) -> Option<DefinitionKind>
-        ensures drafts { self.new.drafts ≡ self.old.drafts }
-        ensures before { self.new.before ≡ self.old.before }
-    {
-        let (first, others) = self.references.split_first()?;
-        self.references = others;
-        Some(first.definition.kind)
-    }
-
-    /// The message that the next reference means.
-    fn next_message(&mut self) -> Result<u32, VisitError>
-        ensures drafts { self.new.drafts ≡ self.old.drafts }
-        ensures before { self.new.before ≡ self.old.before }
-    {
-        match self.next_reference() {
-            Some(DefinitionKind::Message(index)) => Ok(index),
-            _ => Err(VisitError::TooMany),
-        }
-    }
-
-    /// What a field holds, by the definition that its type name means or else by its type.
-    fn kind_of(&mut self, field: &FieldDescriptorProto) -> Option<StoredKind>
-        ensures drafts { self.new.drafts ≡ self.old.drafts }
-        ensures before { self.new.before ≡ self.old.before }
-    {
-        if field.type_name.is_some() {
-            return match self.next_reference()? {
-                DefinitionKind::Message(index) => Some(StoredKind::Message(index)),
-                DefinitionKind::Enum(index) => Some(StoredKind::Enum(index)),
-                _ => None,
-            };
-        }
-        scalar_kind(FieldType::from_number(field.field_type?)?)
     }
 
     /// Adds a type or an extension to what the message at `parent` declares, or else the file.
@@ -131,6 +105,9 @@ fn push_child(
 ) -> Result<(), VisitError>
     ensures names { OnOk result (map draft_name messages.new.items ≡ map draft_name messages.old.items) }
     ensures ranges { OnOk result (map draft_ranges messages.new.items ≡ map draft_ranges messages.old.items) }
+    ensures heads { OnOk result (map draft_head messages.new.items ≡ map draft_head messages.old.items) }
+    ensures fields { OnOk result (map draft_fields messages.new.items ≡ map draft_fields messages.old.items) }
+    ensures oneofs { OnOk result (map draft_oneofs messages.new.items ≡ map draft_oneofs messages.old.items) }
 {
     if place < messages.len() {
         messages[place].children.push(child)?;
@@ -140,15 +117,20 @@ fn push_child(
     }
 }
 
-/// Adds a field to the message at a place.
+/// Adds a field to a message, where the first of the list has this index in the pool.
 fn push_field(
     messages: &mut Vec<MessageDraft>,
-    place: usize,
+    first: u32,
+    message: u32,
     field: StoredField,
 ) -> Result<(), VisitError>
     ensures names { OnOk result (map draft_name messages.new.items ≡ map draft_name messages.old.items) }
     ensures ranges { OnOk result (map draft_ranges messages.new.items ≡ map draft_ranges messages.old.items) }
+    ensures heads { OnOk result (map draft_head messages.new.items ≡ map draft_head messages.old.items) }
+    ensures oneofs { OnOk result (map draft_oneofs messages.new.items ≡ map draft_oneofs messages.old.items) }
+    ensures fields { OnOk result (GrowsAt first (Some message) (field_of field) (map draft_fields messages.old.items) (map draft_fields messages.new.items)) }
 {
+    let place = local_place(message, first)?;
     if place < messages.len() {
         messages[place].fields.push(field)?;
         Ok(())
@@ -157,15 +139,20 @@ fn push_field(
     }
 }
 
-/// Adds a oneof to the message at a place.
+/// Adds a oneof to a message, where the first of the list has this index in the pool.
 fn push_oneof(
     messages: &mut Vec<MessageDraft>,
-    place: usize,
+    first: u32,
+    message: u32,
     oneof: StoredOneof,
 ) -> Result<(), VisitError>
     ensures names { OnOk result (map draft_name messages.new.items ≡ map draft_name messages.old.items) }
     ensures ranges { OnOk result (map draft_ranges messages.new.items ≡ map draft_ranges messages.old.items) }
+    ensures heads { OnOk result (map draft_head messages.new.items ≡ map draft_head messages.old.items) }
+    ensures fields { OnOk result (map draft_fields messages.new.items ≡ map draft_fields messages.old.items) }
+    ensures oneofs { OnOk result (GrowsAt first (Some message) (oneof_name oneof) (map draft_oneofs messages.old.items) (map draft_oneofs messages.new.items)) }
 {
+    let place = local_place(message, first)?;
     if place < messages.len() {
         messages[place].oneofs.push(oneof)?;
         Ok(())
@@ -181,6 +168,7 @@ fn push_value(
     value: StoredValue,
 ) -> Result<(), VisitError>
     ensures names { OnOk result (map enum_draft_name enums.new.items ≡ map enum_draft_name enums.old.items) }
+    ensures heads { OnOk result (map enum_draft_head enums.new.items ≡ map enum_draft_head enums.old.items) }
     ensures values { OnOk result (map draft_values enums.new.items ≡ add_value (map draft_values enums.old.items) place (stored_value value)) }
 {
     if place < enums.len() {
@@ -191,14 +179,18 @@ fn push_value(
     }
 }
 
-/// Adds a method to the service at a place.
+/// Adds a method to a service, where the first of the list has this index in the pool.
 fn push_method(
     services: &mut Vec<StoredService>,
-    place: usize,
+    first: u32,
+    service: u32,
     method: StoredMethod,
 ) -> Result<(), VisitError>
-    ensures { OnOk result (map stored_service_name services.new.items ≡ map stored_service_name services.old.items) }
+    ensures names { OnOk result (map stored_service_name services.new.items ≡ map stored_service_name services.old.items) }
+    ensures heads { OnOk result (map service_head services.new.items ≡ map service_head services.old.items) }
+    ensures methods { OnOk result (GrowsAt first (Some service) (method_of method) (map stored_methods services.old.items) (map stored_methods services.new.items)) }
 {
+    let place = local_place(service, first)?;
     if place < services.len() {
         services[place].methods.push(method)?;
         Ok(())
@@ -209,7 +201,8 @@ fn push_method(
 
 /// The place in the batch's list of what has an index in the pool, where there were so many before.
 fn local_place(index: u32, before: u32) -> Result<usize, VisitError>
-    ensures { IfOk result (λ place. place ≡ index - before) }
+    ensures place { IfOk result (λ place. place ≡ index - before) }
+    ensures sum { IfOk result (λ place. before + place ≡ index) }
 {
     match index.checked_sub(before) {
         Some(place) => Ok(place as usize),
@@ -280,10 +273,15 @@ impl<'a> Visitor for IndexVisitor<'a> {
         _index: u32,
         field: &FieldDescriptorProto,
     ) -> Result<(), VisitError> {
-        let kind = self.kind_of(field).ok_or(VisitError::TooMany)?;
+        let kind = kind_of(&mut self.references, field)?;
         let entry = field_entry(alloc, self.syntax, path, full_name, kind, field)?;
-        let place = local_place(message, self.before.messages)?;
-        push_field(&mut self.drafts.messages, place, entry)
+        push_field(
+            &mut self.drafts.messages,
+            self.before.messages,
+            message,
+            entry,
+        )?;
+        Ok(())
     }
 
     fn visit_oneof(
@@ -303,8 +301,13 @@ impl<'a> Visitor for IndexVisitor<'a> {
             fields: Vec::new(alloc),
             is_synthetic: false,
         };
-        let place = local_place(message, self.before.messages)?;
-        push_oneof(&mut self.drafts.messages, place, entry)
+        push_oneof(
+            &mut self.drafts.messages,
+            self.before.messages,
+            message,
+            entry,
+        )?;
+        Ok(())
     }
 
     fn visit_enum(
@@ -382,17 +385,24 @@ impl<'a> Visitor for IndexVisitor<'a> {
         _index: u32,
         method: &MethodDescriptorProto,
     ) -> Result<(), VisitError> {
+        let input = message_meant(self.references.meaning_of(&method.input_type))?;
+        let output = message_meant(self.references.meaning_of(&method.output_type))?;
         let entry = StoredMethod {
             path: Vec::from_slice(alloc, path)?,
             name: text_of(alloc, &method.name)?,
             full_name: String::from_str(alloc, full_name)?,
-            input: self.next_message()?,
-            output: self.next_message()?,
-            is_client_streaming: method.client_streaming == Some(true),
-            is_server_streaming: method.server_streaming == Some(true),
+            input,
+            output,
+            is_client_streaming: method.client_streaming.unwrap_or(false),
+            is_server_streaming: method.server_streaming.unwrap_or(false),
         };
-        let place = local_place(service, self.before.services)?;
-        push_method(&mut self.drafts.services, place, entry)
+        push_method(
+            &mut self.drafts.services,
+            self.before.services,
+            service,
+            entry,
+        )?;
+        Ok(())
     }
 
     fn visit_extension(
@@ -406,32 +416,15 @@ impl<'a> Visitor for IndexVisitor<'a> {
         extension: &FieldDescriptorProto,
     ) -> Result<(), VisitError> {
         self.declare_in(parent, Child::Extension(index))?;
-        let extendee = self.next_message()?;
-        let kind = self.kind_of(extension).ok_or(VisitError::TooMany)?;
+        let extendee = message_meant(self.references.meaning_of(&extension.extendee))?;
+        let kind = kind_of(&mut self.references, extension)?;
         self.drafts.extensions.push(StoredExtension {
             file,
             parent,
             extendee,
-            field: extension_field(alloc, self.syntax, path, full_name, kind, extension)?,
+            field: extension_entry(alloc, self.syntax, path, full_name, kind, extension)?,
             json_name: format!(in alloc; "[{full_name}]")?,
         })?;
         Ok(())
     }
-}
-
-/// The entry of an extension's field: a singular one is in no oneof and always has presence.
-fn extension_field(
-    alloc: Global,
-    syntax: Syntax,
-    path: &[i32],
-    full_name: &str,
-    kind: StoredKind,
-    extension: &FieldDescriptorProto,
-) -> Result<StoredField, VisitError>
-    ensures { IfOk result (λ f. string_bytes f.full_name ≡ full_name.now) }
-{
-    let mut field = field_entry(alloc, syntax, path, full_name, kind, extension)?;
-    field.oneof = None;
-    field.supports_presence = field.cardinality != Cardinality::Repeated;
-    Ok(field)
 }

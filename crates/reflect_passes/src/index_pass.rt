@@ -10,6 +10,7 @@ ghost use Rattle.reflect_tables.specs.Views.{message_of};
 ghost use Rattle.reflect_tables.specs.Names.{messages, enums, extensions, services};
 ghost use Rattle.reflect_index.specs.DeclaredNames.{with_names};
 ghost use Rattle.reflect_index.specs.OfDeclarations.{AllDeclared, messages_in, enums_in, stored_ranges, stored_values, declared_values};
+ghost use Rattle.reflect_index.specs.BatchEntries.{IsBatchOf};
 ghost use Rattle.reflect_index.specs.DraftNames.{stored_message_name, stored_enum_name, stored_extension_name, stored_service_name};
 
 use descriptor_records::FileDescriptorProto;
@@ -18,8 +19,8 @@ use reflect_names::{Links, Offsets, Reference, VisitError, links_of, visit_all};
 use std::alloc::Global;
 use std::collections::BTreeMap;
 
-/// The entries of the files' declarations, whose references mean this. Each sort has the full names of the declarations of that
-/// sort, in their order; message types have the ranges of theirs, and enums the values.
+/// The entries of the files' declarations, whose references mean this: each is that of its declaration, and none is missing.
+/// Message types have the ranges of theirs, and enums the values.
 pub fn index_files(
     alloc: Global,
     before: Offsets,
@@ -34,6 +35,7 @@ pub fn index_files(
     ensures services { IfOk result (λ b. map stored_service_name b.services.items ≡ with_names services [] (batch_declarations before first files.now)) }
     ensures ranges { IfOk result (λ b. AllDeclared (messages_in (batch_declarations before first files.now)) (map stored_ranges b.messages.items)) }
     ensures values { IfOk result (λ b. map stored_values b.enums.items ≡ map declared_values (enums_in (batch_declarations before first files.now))) }
+    ensures entries { IfOk result (IsBatchOf references.now before (batch_declarations before first files.now)) }
 {
     let mut visitor = IndexVisitor::new(alloc, before, references);
     visit_all(alloc, before, first, files, &mut visitor)?;

@@ -5,7 +5,7 @@ use Rattle.std.specs.Ordering.{nat_cmp}
 use Rattle.descriptor_records.specs.declared.field.FieldDescriptorProto.{FieldDescriptorProto}
 use Rattle.reflect_walk.specs.Declarations.{Declaration, Runs}
 use Rattle.reflect_rules.specs.TypesSay.{TypesSay}
-use Rattle.reflect_rules.specs.Walks.{rest_behind}
+use Rattle.reflect_references.specs.Meanings.{rest_behind}
 use Rattle.reflect_rules.specs.Uses.{users_in, users, use_by, use_behind}
 use Rattle.reflect_rules.specs.UseSteps.{Notes}
 use Rattle.reflect_rules.specs.declared.uses.EntryUse.{EntryUse}

@@ -1,6 +1,5 @@
 pub mod EnumRules
 pub mod MapEntries
-pub mod Meanings
 pub mod Numbers
 pub mod Repeats
 pub mod RulePass

@@ -4,8 +4,9 @@ use Rattle.std.specs.BTreeMap.{get}
 use Rattle.std.specs.Ordering.{nat_cmp}
 use Rattle.reflect_walk.specs.Declarations.{Declaration}
 use Rattle.reflect_names.specs.Faults.{Fault, Adds, place_at}
+use Rattle.reflect_references.specs.Meanings.{rest_behind}
 use Rattle.reflect_rules.specs.TypesSay.{TypesSay}
-use Rattle.reflect_rules.specs.Walks.{Facts, Place, rest_behind, proto3_behind, oneofs_behind}
+use Rattle.reflect_rules.specs.Walks.{Facts, Place, proto3_behind, oneofs_behind}
 use Rattle.reflect_rules.specs.Rules.{Values, FaultsOf}
 use Rattle.reflect_rules.specs.declared.rule_visitor.RuleVisitor.{RuleVisitor}
 

@@ -10,7 +10,7 @@ use Rattle.reflect_names.specs.Faults.{Fault, duplicate_number, bad_default, bad
 use Rattle.reflect_names.specs.Names.{Places}
 use Rattle.reflect_tables.specs.Ranges.{Range, IsRangeOf}
 use Rattle.reflect_rules.specs.TypesSay.{TypesSay}
-use Rattle.reflect_rules.specs.Meanings.{meaning, behind}
+use Rattle.reflect_references.specs.Meanings.{meaning, behind}
 use Rattle.reflect_rules.specs.Numbers.{number_faults, reserved_faults, kept_faults, outside_faults, oneof_faults}
 use Rattle.reflect_rules.specs.Repeats.{repeat_faults}
 use Rattle.reflect_walk.specs.MapEntries.{says_entry}

@@ -8,9 +8,8 @@ use Rattle.reflect_scope.specs.declared.definition.DefinitionKind.{DefinitionKin
 use Rattle.reflect_walk.specs.Declarations.{Declaration, of_file, of_message, of_field, of_oneof, of_enum, of_enum_value, of_service, of_method, of_extension}
 use Rattle.reflect_names.specs.declared.resolve_visitor.Reference.{Reference}
 use Rattle.reflect_rules.specs.MapEntries.{is_equal}
-use Rattle.reflect_rules.specs.Meanings.{meaning, behind}
+use Rattle.reflect_references.specs.Meanings.{meaning, behind, rest_behind}
 use Rattle.reflect_rules.specs.TypesSay.{TypesSay}
-use Rattle.reflect_rules.specs.Walks.{rest_behind}
 use Rattle.reflect_rules.specs.Rules.{message_of}
 use Rattle.reflect_rules.specs.declared.uses.EntryUse.{EntryUse}
 use Rattle.reflect_rules.specs.declared.uses.EntryUse.TheVariants as uses

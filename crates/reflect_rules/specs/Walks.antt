@@ -5,11 +5,11 @@ use Rattle.std.specs.Str.{bytes_eq}
 use Rattle.reflect_names.specs.declared.resolve_visitor.Reference.{Reference}
 use Rattle.descriptor_records.specs.declared.file.FileDescriptorProto.{FileDescriptorProto}
 use Rattle.std.specs.Prelude.{length, []}
-use Rattle.reflect_walk.specs.Declarations.{Declaration, of_file, of_message, of_field, of_oneof, of_enum, of_enum_value, of_service, of_method, of_extension}
+use Rattle.reflect_walk.specs.Declarations.{Declaration, of_file, of_message}
 use Rattle.reflect_tables.specs.Ranges.{Range}
 use Rattle.reflect_tables.specs.Views.{ranges_of}
 use Rattle.reflect_rules.specs.TypesSay.{TypesSay}
-use Rattle.reflect_rules.specs.Meanings.{behind}
+use Rattle.reflect_references.specs.Meanings.{rest_behind}
 use Rattle.reflect_tables.specs.declared.ranges.NumberRanges.{NumberRanges}
 use Rattle.reflect_rules.specs.declared.uses.EntryUse.{EntryUse}
 
@@ -31,19 +31,6 @@ pub record Place : Type 0 where
 
 abbrev pub is_proto3_of : FileDescriptorProto → Bool
 is_proto3_of f = elim f.syntax [ None ↦ false | Some s ↦ bytes_eq (string_bytes s) (codes "proto3") ]
-
-abbrev pub rest_behind : Declaration → List Reference → List Reference
-rest_behind d rest = elim d.body [
-  | of_file f ↦ rest
-  | of_message m ↦ rest
-  | of_field f ↦ behind f.type_name rest
-  | of_oneof o ↦ rest
-  | of_enum e ↦ rest
-  | of_enum_value v ↦ rest
-  | of_service s ↦ rest
-  | of_method m ↦ behind m.output_type (behind m.input_type rest)
-  | of_extension x ↦ behind x.type_name (behind x.extendee rest)
-]
 
 abbrev pub proto3_behind : Declaration → Bool → Bool
 proto3_behind d is_proto3 = elim d.body [ of_file f ↦ is_proto3_of f | _ ↦ is_proto3 ]

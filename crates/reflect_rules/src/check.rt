@@ -2,12 +2,12 @@ ghost use Rattle.std.specs.Prelude.{IfOk, map};
 ghost use Rattle.reflect_names.specs.Faults.{fault_view};
 ghost use Rattle.reflect_rules.specs.RulePass.{BatchFaults};
 
-use crate::references::References;
 use crate::rule_visitor::RuleVisitor;
 use crate::types::Types;
 use crate::uses::UseVisitor;
 use descriptor_records::FileDescriptorProto;
 use reflect_names::{DescriptorErrorKind, Faults, Offsets, Reference, VisitError, visit_all};
+use reflect_references::References;
 use std::alloc::Global;
 
 /// All that is wrong with the numbers, defaults, oneof indexes and map entries of the files.

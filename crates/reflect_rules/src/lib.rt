@@ -9,7 +9,6 @@ mod enums;
 mod extension_number;
 mod map_entry;
 mod numbers;
-mod references;
 mod rule_visitor;
 mod types;
 mod uses;

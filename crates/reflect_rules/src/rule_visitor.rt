@@ -7,7 +7,6 @@ use crate::extension_number::check_extension_number;
 use crate::numbers::{
     check_distinct, check_not_extension, check_number, check_oneof, check_reserved,
 };
-use crate::references::References;
 use crate::types::{Types, find_in};
 use crate::uses::EntryUse;
 use descriptor_records::{
@@ -15,6 +14,7 @@ use descriptor_records::{
     FileDescriptorProto, MethodDescriptorProto, OneofDescriptorProto, ServiceDescriptorProto,
 };
 use reflect_names::{Faults, VisitError, Visitor};
+use reflect_references::References;
 use std::alloc::Global;
 use std::collections::BTreeMap;
 

@@ -3,10 +3,9 @@
 ghost use Rattle.std.specs.Prelude.{◌≡◌, ℕ, None, OnOk};
 ghost use Rattle.std.specs.BTreeMap.{get};
 ghost use Rattle.std.specs.Ordering.{nat_cmp};
-ghost use Rattle.reflect_rules.specs.Meanings.{meaning, behind};
+ghost use Rattle.reflect_references.specs.Meanings.{meaning, behind};
 ghost use Rattle.reflect_rules.specs.Uses.{user, use_of as use_made, use_behind};
 
-use crate::references::References;
 use crate::types::Types;
 use descriptor_records::{
     DescriptorProto, EnumDescriptorProto, EnumValueDescriptorProto, FieldDescriptorProto,
@@ -14,6 +13,7 @@ use descriptor_records::{
     ServiceDescriptorProto,
 };
 use reflect_names::{DefinitionKind, VisitError, Visitor};
+use reflect_references::References;
 use std::alloc::{AllocError, Global};
 use std::collections::BTreeMap;
 

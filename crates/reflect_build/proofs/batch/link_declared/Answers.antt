@@ -92,14 +92,14 @@ returns-in_err-check_numbers-clause-refused c =
     let rs = c.in_ok-references.references.items in
     let batch = c.in_ok-batch.batch in
     let made = c.index_files.ensures in
-    let types = types_of w fs c.as_slice-4.result.now _ c.index_files.result c.map_err-2.result c.as_slice-4.ensures.value c.map_err-2.ensures.cases made.messages made.ranges made.enums made.values made.extensions batch c.in_ok-batch.was in
+    let types = types_of w fs c.as_slice-4.result.now rs c.as_slice-5.result.now _ c.index_files.result c.map_err-2.result c.as_slice-4.ensures.value c.as_slice-5.ensures.value c.map_err-2.ensures.cases made.messages made.ranges made.enums made.values made.extensions made.entries batch c.in_ok-batch.was in
     let added = before_mapped _ c.add_links.result c.map_err.result c.in_ok-map_err.field-0 c.map_err.ensures.variant c.in_ok-map_err.was c.add_links.ensures.added in
     let means = means_of w fs rs c.as_slice.result.now c.as_slice-2.result.now c.add_links.new.links.items c.as_slice-3.result.now c.as_slice.ensures.value c.as_slice-2.ensures.value c.as_slice-3.ensures.value added c.in_ok-references.ensures.ok in
     let t = types_with w batch in
     let r = c.from_residual-in_err-check_numbers in
     let p = err_from_is_err_and r.result r.ensures.1 in
     let says = subst (λ e. Refuses (NumberFaults t w.before w.first c.as_slice-6.result.now c.as_slice-7.result.now) e) (sym p.2) c.in_err-check_numbers.ensures.err in
-    refused_numbers w fs t types r.result p.0 p.1 rs means
+    refused_numbers w fs rs t means types r.result p.0 p.1
     (subst (λ l. Refuses (NumberFaults t w.before w.first l rs) p.0) c.as_slice-6.ensures.value
     (subst (λ l. Refuses (NumberFaults t w.before w.first c.as_slice-6.result.now l) p.0) c.as_slice-7.ensures.value says))
 
@@ -110,7 +110,7 @@ returns-in_err-list_extensions-clause-refused c =
     let rs = c.in_ok-references.references.items in
     let batch = c.in_ok-batch.batch in
     let made = c.index_files.ensures in
-    let types = types_of w fs c.as_slice-4.result.now _ c.index_files.result c.map_err-2.result c.as_slice-4.ensures.value c.map_err-2.ensures.cases made.messages made.ranges made.enums made.values made.extensions batch c.in_ok-batch.was in
+    let types = types_of w fs c.as_slice-4.result.now rs c.as_slice-5.result.now _ c.index_files.result c.map_err-2.result c.as_slice-4.ensures.value c.as_slice-5.ensures.value c.map_err-2.ensures.cases made.messages made.ranges made.enums made.values made.extensions made.entries batch c.in_ok-batch.was in
     let added = before_mapped _ c.add_links.result c.map_err.result c.in_ok-map_err.field-0 c.map_err.ensures.variant c.in_ok-map_err.was c.add_links.ensures.added in
     let means = means_of w fs rs c.as_slice.result.now c.as_slice-2.result.now c.add_links.new.links.items c.as_slice-3.result.now c.as_slice.ensures.value c.as_slice-2.ensures.value c.as_slice-3.ensures.value added c.in_ok-references.ensures.ok in
     let t = types_with w batch in
@@ -120,7 +120,7 @@ returns-in_err-list_extensions-clause-refused c =
     let none = subst (λ l. NumberFaults t w.before w.first l rs []) c.as_slice-6.ensures.value
     (subst (λ l. NumberFaults t w.before w.first c.as_slice-6.result.now l []) c.as_slice-7.ensures.value c.in_ok-check_numbers.ensures.ok) in
     let says = subst (λ e. Refuses (λ xs. xs ≡ list_of f ++ doubled w.numbers t (place_at f)) e) (sym p.2) c.in_err-list_extensions.ensures.err in
-    refused_extensions w fs t types r.result p.0 p.1 f (rs, t, means, types, none) c.new.ensures.none
+    refused_extensions w fs rs t means types r.result p.0 p.1 f none c.new.ensures.none
     (places f fs w.first (c.new.ensures.files ∙ c.as_slice-8.ensures.value) c.new.ensures.first) says
 
 pub returns-clause-accepted : goal.returns-clause-accepted
@@ -130,7 +130,7 @@ returns-clause-accepted c =
     let rs = c.in_ok-references.references.items in
     let batch = c.in_ok-batch.batch in
     let made = c.index_files.ensures in
-    let types = types_of w fs c.as_slice-4.result.now _ c.index_files.result c.map_err-2.result c.as_slice-4.ensures.value c.map_err-2.ensures.cases made.messages made.ranges made.enums made.values made.extensions batch c.in_ok-batch.was in
+    let types = types_of w fs c.as_slice-4.result.now rs c.as_slice-5.result.now _ c.index_files.result c.map_err-2.result c.as_slice-4.ensures.value c.as_slice-5.ensures.value c.map_err-2.ensures.cases made.messages made.ranges made.enums made.values made.extensions made.entries batch c.in_ok-batch.was in
     let added = before_mapped _ c.add_links.result c.map_err.result c.in_ok-map_err.field-0 c.map_err.ensures.variant c.in_ok-map_err.was c.add_links.ensures.added in
     let means = means_of w fs rs c.as_slice.result.now c.as_slice-2.result.now c.add_links.new.links.items c.as_slice-3.result.now c.as_slice.ensures.value c.as_slice-2.ensures.value c.as_slice-3.ensures.value added c.in_ok-references.ensures.ok in
     let t = types_with w batch in
@@ -143,7 +143,8 @@ returns-clause-accepted c =
     (added_behind c.args.tables.now c.in_ok-more.more c.add.new.tables batch fs w a (mapped _ _ c.with_records.result c.map_err-3.result c.map_err-3.ensures.cases c.with_records.ensures.files c.in_ok-more.more c.in_ok-more.was ∙ c.rewritten.ensures)
     (mapped _ _ c.with_records.result c.map_err-3.result c.map_err-3.ensures.cases c.with_records.ensures.messages c.in_ok-more.more c.in_ok-more.was)
     (mapped _ _ c.with_records.result c.map_err-3.result c.map_err-3.ensures.cases c.with_records.ensures.enums c.in_ok-more.more c.in_ok-more.was)
-    (mapped _ _ c.with_records.result c.map_err-3.result c.map_err-3.ensures.cases c.with_records.ensures.extensions c.in_ok-more.more c.in_ok-more.was))
+    (mapped _ _ c.with_records.result c.map_err-3.result c.map_err-3.ensures.cases c.with_records.ensures.extensions c.in_ok-more.more c.in_ok-more.was)
+    (mapped _ _ c.with_records.result c.map_err-3.result c.map_err-3.ensures.cases c.with_records.ensures.services c.in_ok-more.more c.in_ok-more.was))
     none f at c.in_ok-list_extensions.ensures.ok) c.add.ensures.appended
 
 pub returns-in_err-map_err-clause-refused : goal.returns-in_err-map_err-clause-refused

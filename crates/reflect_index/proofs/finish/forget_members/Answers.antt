@@ -1,6 +1,8 @@
 use Rattle.std.proofs.Common.{◌≡◌, ◌<◌, ◌∙◌, [], map, length, get_or, ap, arith, rules}
 use Rattle.std.proofs.Math.ListN.{length-map}
+use Rattle.std.proofs.Math.Seq.{map-set_same}
 use Rattle.std.proofs.lemmas.List.{map-set}
+use Rattle.reflect_index.specs.Grown.{oneof_name}
 use Rattle.reflect_tables.specs.Types.{no_oneof}
 use Rattle.reflect_tables.specs.Views.{oneof_of}
 use Rattle.reflect_tables.specs.declared.stored.StoredOneof.{StoredOneof}
@@ -20,4 +22,5 @@ turns-preserved c =
     record {
       count = search rules;
       lists = λ k lt. ap (λ os. (get_or os k no_oneof).fields) (map-set oneof_of items p now) ∙ emptied (map oneof_of items) p (oneof_of now) (omega (arith, inside, all)) none before.lists k lt;
+      names = map-set_same oneof_name items p now was (ap oneof_name c.index_mut.ensures.value) ∙ before.names;
     }

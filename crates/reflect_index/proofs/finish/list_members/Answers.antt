@@ -17,6 +17,7 @@ turns-preserved c =
     let at : c.turns.place ≡ length (map field_of (take i fs)) = before.place ∙ sym (length-map (take i fs) field_of ∙ long) in
     let more : map field_of (take i fs) ++ field_of f ∷ [] ≡ map field_of (take (i + 1) fs) = ap (λ x. map field_of (take i fs) ++ field_of x ∷ []) c.field-item.is ∙ sym (map_more field_of fs i f lt) in
     record {
-      listed = subst (AreListed (map oneof_of c.add_member.new.oneofs.items)) more (listed_more (map oneof_of c.turns.oneofs.items) (map oneof_of c.add_member.new.oneofs.items) (map field_of (take i fs)) (field_of f) c.turns.place at before.listed c.in_ok-add_member.ensures);
+      listed = subst (AreListed (map oneof_of c.add_member.new.oneofs.items)) more (listed_more (map oneof_of c.turns.oneofs.items) (map oneof_of c.add_member.new.oneofs.items) (map field_of (take i fs)) (field_of f) c.turns.place at before.listed c.in_ok-add_member.ensures.joins);
       place = search rules;
+      names = search rules;
     }

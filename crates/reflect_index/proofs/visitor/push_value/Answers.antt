@@ -5,6 +5,7 @@ use Rattle.std.proofs.lemmas.List.{map-append, map-set}
 use Rattle.std.proofs.lemmas.List as lists
 use Rattle.reflect_index.specs.DraftNames.{enum_draft_name}
 use Rattle.reflect_index.specs.OfDeclarations.{draft_values, stored_value}
+use Rattle.reflect_index.specs.Grown.{enum_draft_head}
 use Rattle.reflect_index.specs.declared.drafts.EnumDraft.{EnumDraft}
 use Rattle.reflect_index.proofs.visitor.push_value.Goals as goal
 
@@ -23,3 +24,6 @@ returns-in_ok-push-clause-values c =
     let here : draft_values was ≡ get_or (map draft_values items) place [] = ap draft_values c.index_mut.ensures.value ∙ sym (lists.get_or-map draft_values items place was [] inside) in
     let more : draft_values now ≡ get_or (map draft_values items) place [] ++ v ∷ [] = ap (map stored_value) pushed ∙ map-append stored_value was.values.items (c.args.value ∷ []) ∙ ap (λ l. l ++ v ∷ []) here in
     map-set draft_values items place now ∙ ap (set (map draft_values items) place) more
+
+pub returns-in_ok-push-clause-heads : goal.returns-in_ok-push-clause-heads
+returns-in_ok-push-clause-heads c = map-set_same enum_draft_head c.args.enums.now.items c.args.place _ c.index_mut.result.now (ap enum_draft_head c.index_mut.ensures.value)

@@ -7,6 +7,10 @@ use Rattle.reflect_index.specs.DraftNames.{draft_name, enum_draft_name, stored_e
 use Rattle.reflect_index.specs.OfDeclarations.{RangesType, AllDeclared, messages_in, draft_ranges, stored_ranges, draft_values}
 use Rattle.reflect_index.proofs.IndexRuns.{Behind, ran}
 use Rattle.reflect_index.proofs.Valued.{with_values, all_values}
+use Rattle.reflect_index.specs.Along.{AtHand, before_files}
+use Rattle.reflect_index.specs.IndexSteps.{hand_of}
+use Rattle.reflect_index.proofs.EntryRuns.{batch_of}
+use Rattle.reflect_tables.specs.declared.kind.Syntax.TheVariants.{Proto2}
 use Rattle.reflect_passes.proofs.index_pass.index_files.Goals as goal
 
 ok_with : {A E : Type 0} (P Q : A → Type 0) (r : Result A E) → ((x : A) → P x → Q x) → IfOk r P → IfOk r Q
@@ -60,3 +64,23 @@ returns-clause-values c =
     ap (λ o. with_values o.enums (map draft_values v.drafts.enums.items) ds) c.new-visitor.ensures.before
     ∙ ap (λ es. with_values before.enums (map draft_values es) ds) c.new-visitor.ensures.enums in
     ok_with _ _ c.into_batch.result (λ b e. e ∙ r.values ∙ begun ∙ all_values before c.args.first fs) c.into_batch.ensures.values
+
+six_with : {A E : Type 0} (P Q R S T U V : A → Type 0) (r : Result A E) → ((x : A) → P x → Q x → R x → S x → T x → U x → V x)
+    → IfOk r P → IfOk r Q → IfOk r R → IfOk r S → IfOk r T → IfOk r U → IfOk r V
+six_with P Q R S T U V (Ok x) f p q r s t u = f x p q r s t u
+six_with P Q R S T U V (Err e) f p q r s t u = p
+
+pub returns-clause-entries : goal.returns-clause-entries
+returns-clause-entries c =
+    let rs = c.args.references.now in
+    let ds = batch_declarations c.args.before c.args.first c.args.files.now in
+    let v = c.new-visitor.result in
+    let begun = c.new-visitor.ensures in
+    let made = c.into_batch.ensures in
+    let hand : hand_of v ≡ before_files rs =
+    ap {B = AtHand} (λ x. record { syntax = x; rest = v.references.rest.now }) begun.syntax ∙ ap {B = AtHand} (λ l. record { syntax = Proto2; rest = l }) begun.rest in
+    six_with _ _ _ _ _ _ _ c.into_batch.result
+    (λ b fields oneofs heads enums services extensions.
+    batch_of rs c.args.before ds v c.visit_all.new.visitor b begun.before hand begun.messages begun.enums begun.services begun.extensions
+    c.in_ok-visit_all.ensures.runs fields oneofs heads enums services extensions)
+    made.fields made.oneofs made.heads made.enum_heads made.services made.extensions

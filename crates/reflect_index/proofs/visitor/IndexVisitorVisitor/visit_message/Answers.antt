@@ -3,9 +3,14 @@ use Rattle.std.proofs.Common.{◌≡◌, ◌∙◌, ◌++◌, ◌∷◌, [], Lis
 use Rattle.std.proofs.lemmas.List.{map-append}
 use Rattle.reflect_tables.specs.Ranges.{reserved_range, extension_range}
 use Rattle.reflect_tables.specs.Views.{ranges_of}
+use Rattle.reflect_tables.specs.Types.{FieldType}
+use Rattle.reflect_tables.specs.Views.{field_of}
+use Rattle.reflect_index.specs.Entries.{OneofName, Head}
+use Rattle.reflect_index.specs.Grown.{draft_fields, draft_oneofs, draft_head, oneof_name}
 use Rattle.reflect_index.specs.DraftNames.{draft_name}
 use Rattle.reflect_tables.specs.Names.{FullName}
 use Rattle.reflect_index.specs.OfDeclarations.{RangesType, draft_ranges}
+use Rattle.reflect_index.proofs.Grown.{head_by, head_same}
 use Rattle.reflect_index.proofs.visitor.IndexVisitorVisitor.visit_message.Goals as goal
 
 pub returns-clause-step : goal.returns-clause-step
@@ -36,5 +41,26 @@ returns-clause-step c =
         ap (map draft_ranges) c.in_ok-push.ensures.items ∙ map-append draft_ranges mid _ ∙ ap (λ l. l ++ r ∷ []) c.in_ok-declare_in.ensures.ranges,
       );
       values = search rules;
+      fields =
+          ap (map draft_fields) c.in_ok-push.ensures.items
+          ∙ map-append draft_fields mid _
+          ∙ ap {B = List (List FieldType)} (λ l. l ++ map field_of c.new.result.items ∷ []) c.in_ok-declare_in.ensures.fields
+          ∙ ap {B = List (List FieldType)} (λ l. map draft_fields old ++ map field_of l ∷ []) c.new.ensures.items;
+      oneofs =
+          ap (map draft_oneofs) c.in_ok-push.ensures.items
+          ∙ map-append draft_oneofs mid _
+          ∙ ap {B = List (List OneofName)} (λ l. l ++ map oneof_name c.new-2.result.items ∷ []) c.in_ok-declare_in.ensures.oneofs
+          ∙ ap {B = List (List OneofName)} (λ l. map draft_oneofs old ++ map oneof_name l ∷ []) c.new-2.ensures.items;
+      methods = search rules;
+      declared = search rules;
+      message_heads =
+          ap (map draft_head) c.in_ok-push.ensures.items
+          ∙ map-append draft_head mid _
+          ∙ ap {B = List Head} (λ l. l ++ head_by c.in_ok-from_slice.field-0.items (string_bytes c.in_ok-text_of.field-0) (string_bytes full_name) c.args.file c.args.parent ∷ []) c.in_ok-declare_in.ensures.message_heads
+          ∙ ap {B = List Head} (λ h. map draft_head old ++ h ∷ []) (head_same _ _ _ _ _ _ c.args.file c.args.parent c.in_ok-from_slice.ensures.items c.in_ok-text_of.ensures named);
+      enum_heads = search rules;
+      service_heads = search rules;
+      syntax = search rules;
+      rest = search rules;
       before = search rules;
     }

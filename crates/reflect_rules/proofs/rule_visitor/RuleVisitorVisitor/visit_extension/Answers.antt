@@ -1,7 +1,7 @@
 use Rattle.std.proofs.Common.{◌≡◌, ℤ, List, Option, ◌++◌, subst, ap, ◌∙◌, refl, to_z, of_z, w32, rules}
 use Rattle.reflect_names.specs.Faults.{Fault, Adds, place_at}
 use Rattle.reflect_scope.specs.declared.definition.DefinitionKind.{DefinitionKind}
-use Rattle.reflect_rules.specs.Meanings.{meaning, behind}
+use Rattle.reflect_references.specs.Meanings.{meaning, behind}
 use Rattle.reflect_rules.specs.Numbers.{number_faults}
 use Rattle.reflect_rules.specs.Rules.{message_of, older_faults, default_faults, number_of, ExtensionNumber, ExtensionFindings, ExtensionFaults}
 use Rattle.reflect_rules.specs.RuleSteps.{facts_of}

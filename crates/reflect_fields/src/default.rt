@@ -1,5 +1,9 @@
 //! The default of a field, read from the text of its record.
 
+ghost use Rattle.std.specs.Prelude.{IfOk};
+ghost use Rattle.reflect_tables.specs.Views.{kind_of, default_of as default_view};
+ghost use Rattle.reflect_fields.specs.FieldDefaults.{IsScalarDefault, IsDefault};
+
 use descriptor_records::{FieldDescriptorProto, FieldType};
 use protox_lex::unescape;
 use reflect_defaults::{DefaultText, read_default};
@@ -11,7 +15,9 @@ fn scalar_default(
     alloc: Global,
     field_type: FieldType,
     text: &str,
-) -> Result<Option<StoredDefault>, AllocError> {
+) -> Result<Option<StoredDefault>, AllocError>
+    ensures { IfOk result (λ d. IsScalarDefault field_type text.now (default_view d)) }
+{
     Ok(match read_default(field_type, text) {
         Some(DefaultText::I64(value)) => Some(StoredDefault::I64(value)),
         Some(DefaultText::U64(value)) => Some(StoredDefault::U64(value)),
@@ -30,7 +36,9 @@ pub fn default_of(
     alloc: Global,
     kind: StoredKind,
     field: &FieldDescriptorProto,
-) -> Result<Option<StoredDefault>, AllocError> {
+) -> Result<Option<StoredDefault>, AllocError>
+    ensures { IfOk result (λ d. IsDefault (kind_of kind) field.now (default_view d)) }
+{
     let Some(text) = &field.default_value else {
         return Ok(None);
     };

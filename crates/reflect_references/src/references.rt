@@ -1,12 +1,13 @@
 ghost use Rattle.std.specs.Prelude.{◌≡◌};
-ghost use Rattle.reflect_rules.specs.Meanings.{meaning, behind};
+ghost use Rattle.reflect_references.specs.Meanings.{meaning, behind};
 
 use reflect_names::{DefinitionKind, Reference};
 
 /// What the references of files mean that a walk over them has not met yet.
 #[derive(Clone, Copy)]
 pub struct References<'a> {
-    rest: &'a [Reference],
+    /// The meanings that the walk has not come to, the next one first.
+    pub rest: &'a [Reference],
 }
 
 impl<'a> References<'a> {

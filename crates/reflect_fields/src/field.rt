@@ -1,7 +1,11 @@
 //! What a field's record says about it, in the words of the pool.
 
-ghost use Rattle.std.specs.Prelude.{◌≡◌, IfOk, string_bytes};
+ghost use Rattle.std.specs.Prelude.{◌≡◌, IfOk, option_map, string_bytes, unwrap_or, not};
 ghost use Rattle.reflect_walk.specs.Tree.{text_of as as_text};
+ghost use Rattle.reflect_tables.specs.Views.{field_of, kind_of, name_of};
+ghost use Rattle.reflect_fields.specs.Fields.{label_of, scalar_type, is_packable as may_pack, is_packed as packs, has_presence, is_number, natural, IsField, IsExtension};
+ghost use Rattle.descriptor_records.specs.FieldNumbers.{type_number};
+ghost use Rattle.descriptor_records.specs.declared.field.FieldType.TheVariants as types;
 
 use crate::default::default_of;
 use descriptor_records::{FieldDescriptorProto, FieldType, Label};
@@ -9,7 +13,9 @@ use reflect_tables::{Cardinality, StoredField, StoredKind, Syntax};
 use std::alloc::{AllocError, Global};
 
 /// What a scalar type holds.
-pub fn scalar_kind(field_type: FieldType) -> Option<StoredKind> {
+pub fn scalar_kind(field_type: FieldType) -> Option<StoredKind>
+    ensures { option_map kind_of result ≡ scalar_type field_type }
+{
     match field_type {
         FieldType::Double => Some(StoredKind::Double),
         FieldType::Float => Some(StoredKind::Float),
@@ -31,16 +37,25 @@ pub fn scalar_kind(field_type: FieldType) -> Option<StoredKind> {
 }
 
 /// How often a field may stand; without a label it is optional.
-fn cardinality_of(field: &FieldDescriptorProto) -> Cardinality {
-    match field.label.and_then(Label::from_number) {
-        Some(Label::Required) => Cardinality::Required,
-        Some(Label::Repeated) => Cardinality::Repeated,
-        Some(Label::Optional) | None => Cardinality::Optional,
+fn cardinality_of(label: Option<i32>) -> Cardinality
+    ensures { result ≡ label_of label }
+{
+    let Some(number) = label else {
+        return Cardinality::Optional;
+    };
+    if number == Label::Required.number() {
+        Cardinality::Required
+    } else if number == Label::Repeated.number() {
+        Cardinality::Repeated
+    } else {
+        Cardinality::Optional
     }
 }
 
 /// Values of the kind may stand in one record, one behind the other.
-fn is_packable(kind: StoredKind) -> bool {
+fn is_packable(kind: StoredKind) -> bool
+    ensures { result ≡ may_pack (kind_of kind) }
+{
     !matches!(
         kind,
         StoredKind::String | StoredKind::Bytes | StoredKind::Message(_)
@@ -54,14 +69,16 @@ fn is_packed(
     cardinality: Cardinality,
     kind: StoredKind,
     field: &FieldDescriptorProto,
-) -> bool {
+) -> bool
+    ensures { result ≡ packs syntax cardinality (kind_of kind) field.now.options }
+{
     let written = match &field.options {
         Some(options) => options.packed,
         None => None,
     };
-    cardinality == Cardinality::Repeated
+    matches!(cardinality, Cardinality::Repeated)
         && is_packable(kind)
-        && written.unwrap_or(syntax == Syntax::Proto3)
+        && written.unwrap_or(matches!(syntax, Syntax::Proto3))
 }
 
 /// A field that is not set differs from one that holds the default (protobuf.dev, "Application Note: Field Presence").
@@ -70,11 +87,13 @@ fn supports_presence(
     cardinality: Cardinality,
     kind: StoredKind,
     field: &FieldDescriptorProto,
-) -> bool {
-    cardinality != Cardinality::Repeated
+) -> bool
+    ensures { result ≡ has_presence syntax cardinality (kind_of kind) field.now.oneof_index }
+{
+    !matches!(cardinality, Cardinality::Repeated)
         && (matches!(kind, StoredKind::Message(_))
             || field.oneof_index.is_some()
-            || syntax == Syntax::Proto2)
+            || matches!(syntax, Syntax::Proto2))
 }
 
 /// A copy of the text, empty where it is missing.
@@ -87,11 +106,30 @@ pub fn text_of(alloc: Global, text: &Option<String>) -> Result<String, AllocErro
     }
 }
 
-fn json_name_of(field: &FieldDescriptorProto) -> Result<Option<String>, AllocError> {
+fn json_name_of(field: &FieldDescriptorProto) -> Result<Option<String>, AllocError>
+    ensures { IfOk result (λ name. name_of name ≡ name_of field.now.json_name) }
+{
     Ok(match &field.json_name {
         Some(name) => Some(name.clone()?),
         None => None,
     })
+}
+
+/// A number, unless it is negative.
+fn natural(number: Option<i32>) -> Option<u32>
+    ensures { result ≡ natural number }
+{
+    u32::try_from(number?).ok()
+}
+
+/// The type's number stands in the record.
+fn is_group(field: &FieldDescriptorProto) -> bool
+    ensures { result ≡ is_number (type_number types.Group) field.now.field_type }
+{
+    match field.field_type {
+        Some(number) => number == FieldType::Group.number(),
+        None => false,
+    }
 }
 
 /// The entry of a field of a kind in a file of a syntax. A number that no field may have is 0. Refused for want of memory.
@@ -103,25 +141,39 @@ pub fn field_entry(
     kind: StoredKind,
     field: &FieldDescriptorProto,
 ) -> Result<StoredField, AllocError>
-    ensures { IfOk result (λ f. string_bytes f.full_name ≡ full_name.now) }
+    ensures { IfOk result (λ f. IsField syntax path.now full_name.now (kind_of kind) field.now (field_of f)) }
 {
-    let number = field.number.and_then(|number| u32::try_from(number).ok());
-    let cardinality = cardinality_of(field);
+    let cardinality = cardinality_of(field.label);
     Ok(StoredField {
         path: Vec::from_slice(alloc, path)?,
         name: text_of(alloc, &field.name)?,
         full_name: String::from_str(alloc, full_name)?,
         json_name: json_name_of(field)?,
-        number: number.unwrap_or(0),
+        number: natural(field.number).unwrap_or(0),
         kind,
         cardinality,
-        is_group: field.field_type == Some(FieldType::Group.number()),
+        is_group: is_group(field),
         is_packed: is_packed(syntax, cardinality, kind, field),
         supports_presence: supports_presence(syntax, cardinality, kind, field),
         is_proto3_optional: field.proto3_optional == Some(true),
-        oneof: field
-            .oneof_index
-            .and_then(|index| u32::try_from(index).ok()),
+        oneof: natural(field.oneof_index),
         default: default_of(alloc, kind, field)?,
     })
+}
+
+/// The entry of an extension's field: it is in no oneof, and has presence where it is singular. Refused for want of memory.
+pub fn extension_entry(
+    alloc: Global,
+    syntax: Syntax,
+    path: &[i32],
+    full_name: &str,
+    kind: StoredKind,
+    extension: &FieldDescriptorProto,
+) -> Result<StoredField, AllocError>
+    ensures { IfOk result (λ f. IsExtension syntax path.now full_name.now (kind_of kind) extension.now (field_of f)) }
+{
+    let mut field = field_entry(alloc, syntax, path, full_name, kind, extension)?;
+    field.oneof = None;
+    field.supports_presence = !matches!(field.cardinality, Cardinality::Repeated);
+    Ok(field)
 }

@@ -1,0 +1,2 @@
+pub mod FieldDefaults
+pub mod Fields

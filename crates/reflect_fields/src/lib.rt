@@ -1,0 +1,7 @@
+//! What the records of fields and extensions say of them.
+#![tactic(auto)]
+
+mod default;
+mod field;
+
+pub use field::{extension_entry, field_entry, scalar_kind, text_of};

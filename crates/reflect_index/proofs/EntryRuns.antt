@@ -1,0 +1,129 @@
+-- The entries that a walk leaves are those of the declarations along it.
+use Rattle.std.proofs.Common.{◌≡◌, ℕ, ◌+◌, List, [], ◌∷◌, Bool, true, false, map, ap, sym, subst, ◌∙◌, refl}
+use Rattle.std.specs.List.{filter, AllZip}
+use Rattle.std.proofs.lemmas.List.Elements.{filter-append}
+use Rattle.reflect_names.specs.declared.resolve_visitor.Reference.{Reference}
+use Rattle.reflect_walk.specs.Declarations.{Declaration, Body, of_field, of_oneof, of_method, Runs}
+use Rattle.reflect_walk.specs.declared.visit_parts.Offsets.{Offsets}
+use Rattle.reflect_tables.specs.Types.{FieldType, MethodType, ExtensionType}
+use Rattle.reflect_tables.specs.Views.{extension_of}
+use Rattle.reflect_index.specs.Along.{AtHand, Met, before_files, syntax_behind, hand_behind, along, is_message, is_field, is_oneof, is_enum, is_service, is_method, is_extension, is_part, all_of}
+use Rattle.reflect_index.specs.Entries.{OneofName, Head, IsHeadOf, IsFieldOf, IsOneofOf, IsMethodOf, IsExtensionOf}
+use Rattle.reflect_index.specs.Grown.{draft_head, enum_draft_head, message_head, enum_head, service_head, draft_fields, draft_oneofs, stored_fields, stored_oneofs, stored_methods, list_at, Behind}
+use Rattle.reflect_index.specs.BatchEntries.{IsBatchOf}
+use Rattle.reflect_index.specs.IndexSteps.{Lists, hand_of, met_by}
+use Rattle.reflect_index.specs.declared.batch.Batch.{Batch}
+use Rattle.reflect_index.specs.declared.visitor.IndexVisitor.{IndexVisitor}
+use Rattle.reflect_index.proofs.Grown.{none_behind, behind_on, part_behind, each_behind, head_behind, there}
+
+-- a message is no field and no oneof, a service no method
+no_field : (b : Body) → is_message b ≡ true → is_field b ≡ false
+no_field (of_field f) e = absurd (cc)
+no_field _ e = refl
+
+no_oneof : (b : Body) → is_message b ≡ true → is_oneof b ≡ false
+no_oneof (of_oneof o) e = absurd (cc)
+no_oneof _ e = refl
+
+no_method : (b : Body) → is_service b ≡ true → is_method b ≡ false
+no_method (of_method m) e = absurd (cc)
+no_method _ e = refl
+
+handed : (s : IndexVisitor) (d : Declaration) (t : IndexVisitor) → Lists s d t → hand_of t ≡ hand_behind (hand_of s) d
+handed s d t l =
+    ap {B = AtHand} (λ x. record { syntax = x; rest = t.references.rest.now }) l.syntax
+    ∙ ap {B = AtHand} (λ r. record { syntax = syntax_behind d s.syntax; rest = r }) l.rest
+
+module _ {X : Type 0} (IsOf : Met → X → Type 0) (test : Met → Bool) (list : IndexVisitor → List X) (before : Offsets)
+    (one : (s : IndexVisitor) (d : Declaration) (t : IndexVisitor) → s.before ≡ before → Lists s d t → Behind IsOf (list s) (filter test (met_by s d ∷ [])) (list t)) where
+  all_behind : (s : IndexVisitor) (ds : List Declaration) (t : IndexVisitor) → s.before ≡ before → Runs Lists s ds t → Behind IsOf (list s) (filter test (along (hand_of s) ds)) (list t)
+  all_behind s [] t at e = none_behind IsOf (list s) (list t) (ap list e)
+  all_behind s (d ∷ ds) t at (m, (step, rest)) =
+      let more = subst (λ h. Behind IsOf (list m) (filter test (along h ds)) (list t)) (handed s d m step) (all_behind m ds t (step.before ∙ at) rest) in
+      let later = along (hand_behind (hand_of s) d) ds in
+      subst (λ l. Behind IsOf (list s) l (list t)) (sym (filter-append test (met_by s d ∷ []) later))
+      (behind_on IsOf (list s) (list m) (list t) (filter test (met_by s d ∷ [])) (filter test later) (one s d m at step) more)
+
+abbrev fields_by : ℕ → IndexVisitor → List FieldType
+fields_by k v = list_at (map draft_fields v.drafts.messages.items) k
+
+abbrev oneofs_by : ℕ → IndexVisitor → List OneofName
+oneofs_by k v = list_at (map draft_oneofs v.drafts.messages.items) k
+
+abbrev methods_by : ℕ → IndexVisitor → List MethodType
+methods_by k v = list_at (map stored_methods v.drafts.services.items) k
+
+abbrev extensions_by : IndexVisitor → List ExtensionType
+extensions_by v = map extension_of v.drafts.extensions.items
+
+one_field : (before : Offsets) (k : ℕ) (s : IndexVisitor) (d : Declaration) (t : IndexVisitor) → s.before ≡ before → Lists s d t
+    → Behind IsFieldOf (fields_by k s) (filter (is_part is_field (before.messages + k)) (met_by s d ∷ [])) (fields_by k t)
+one_field before k s d t at l =
+    subst (λ (o : Offsets). Behind IsFieldOf (fields_by k s) (filter (is_part is_field (o.messages + k)) (met_by s d ∷ [])) (fields_by k t)) at
+    (part_behind IsFieldOf is_message is_field no_field s.before.messages (map draft_fields s.drafts.messages.items) (met_by s d) (map draft_fields t.drafts.messages.items) l.fields k)
+
+one_oneof : (before : Offsets) (k : ℕ) (s : IndexVisitor) (d : Declaration) (t : IndexVisitor) → s.before ≡ before → Lists s d t
+    → Behind IsOneofOf (oneofs_by k s) (filter (is_part is_oneof (before.messages + k)) (met_by s d ∷ [])) (oneofs_by k t)
+one_oneof before k s d t at l =
+    subst (λ (o : Offsets). Behind IsOneofOf (oneofs_by k s) (filter (is_part is_oneof (o.messages + k)) (met_by s d ∷ [])) (oneofs_by k t)) at
+    (part_behind IsOneofOf is_message is_oneof no_oneof s.before.messages (map draft_oneofs s.drafts.messages.items) (met_by s d) (map draft_oneofs t.drafts.messages.items) l.oneofs k)
+
+one_method : (before : Offsets) (k : ℕ) (s : IndexVisitor) (d : Declaration) (t : IndexVisitor) → s.before ≡ before → Lists s d t
+    → Behind IsMethodOf (methods_by k s) (filter (is_part is_method (before.services + k)) (met_by s d ∷ [])) (methods_by k t)
+one_method before k s d t at l =
+    subst (λ (o : Offsets). Behind IsMethodOf (methods_by k s) (filter (is_part is_method (o.services + k)) (met_by s d ∷ [])) (methods_by k t)) at
+    (part_behind IsMethodOf is_service is_method no_method s.before.services (map stored_methods s.drafts.services.items) (met_by s d) (map stored_methods t.drafts.services.items) l.methods k)
+
+one_extension : (s : IndexVisitor) (d : Declaration) (t : IndexVisitor) → Lists s d t
+    → Behind IsExtensionOf (extensions_by s) (all_of is_extension (met_by s d ∷ [])) (extensions_by t)
+one_extension s d t l = each_behind IsExtensionOf is_extension (extensions_by s) (met_by s d) (extensions_by t) l.declared
+
+abbrev message_heads : IndexVisitor → List Head
+message_heads v = map draft_head v.drafts.messages.items
+
+abbrev enum_heads : IndexVisitor → List Head
+enum_heads v = map enum_draft_head v.drafts.enums.items
+
+abbrev service_heads : IndexVisitor → List Head
+service_heads v = map service_head v.drafts.services.items
+
+-- the heads of a sort that a walk from nothing leaves
+heads_there : (sort : Body → Bool) (list : IndexVisitor → List Head) → ((s : IndexVisitor) (d : Declaration) (t : IndexVisitor) → Lists s d t → Behind IsHeadOf (list s) (all_of sort (met_by s d ∷ [])) (list t))
+    → (rs : List Reference) (ds : List Declaration) (s v : IndexVisitor) (made : List Head) → hand_of s ≡ before_files rs → list s ≡ [] → Runs Lists s ds v → made ≡ list v
+    → AllZip IsHeadOf (all_of sort (along (before_files rs) ds)) made
+heads_there sort list one rs ds s v made hand none runs same =
+    let test : Met → Bool = λ m. sort m.declaration.body in
+    let all = all_behind IsHeadOf test list s.before (λ s d t at l. one s d t l) s ds v refl runs in
+    there IsHeadOf (filter test (along (before_files rs) ds)) (list s) (list v) made none (subst (λ h. Behind IsHeadOf (list s) (filter test (along h ds)) (list v)) hand all) same
+
+-- the entries that a walk from nothing leaves
+pub batch_of : (rs : List Reference) (before : Offsets) (ds : List Declaration) (s v : IndexVisitor) (b : Batch) → s.before ≡ before → hand_of s ≡ before_files rs
+    → s.drafts.messages.items ≡ [] → s.drafts.enums.items ≡ [] → s.drafts.services.items ≡ [] → s.drafts.extensions.items ≡ [] → Runs Lists s ds v
+    → map stored_fields b.messages.items ≡ map draft_fields v.drafts.messages.items → map stored_oneofs b.messages.items ≡ map draft_oneofs v.drafts.messages.items
+    → map message_head b.messages.items ≡ map draft_head v.drafts.messages.items → map enum_head b.enums.items ≡ map enum_draft_head v.drafts.enums.items
+    → b.services.items ≡ v.drafts.services.items → b.extensions.items ≡ v.drafts.extensions.items → IsBatchOf rs before ds b
+batch_of rs before ds s v b at hand messages enums services extensions runs fields oneofs heads enum_names methods declared = record {
+  messages = heads_there is_message message_heads (λ s d t l. head_behind is_message (message_heads s) (met_by s d) (message_heads t) l.message_heads) rs ds s v _ hand (ap (map draft_head) messages) runs heads;
+  enums = heads_there is_enum enum_heads (λ s d t l. head_behind is_enum (enum_heads s) (met_by s d) (enum_heads t) l.enum_heads) rs ds s v _ hand (ap (map enum_draft_head) enums) runs enum_names;
+  services = heads_there is_service service_heads (λ s d t l. head_behind is_service (service_heads s) (met_by s d) (service_heads t) l.service_heads) rs ds s v _ hand (ap (map service_head) services) runs (ap (map service_head) methods);
+  fields = λ k.
+      let test = is_part is_field (before.messages + k) in
+      let all = all_behind IsFieldOf test (fields_by k) before (one_field before k) s ds v at runs in
+      there IsFieldOf (filter test (along (before_files rs) ds)) (fields_by k s) (fields_by k v) _ (ap (λ ms. list_at (map draft_fields ms) k) messages)
+      (subst (λ h. Behind IsFieldOf (fields_by k s) (filter test (along h ds)) (fields_by k v)) hand all) (ap (λ l. list_at l k) fields);
+  oneofs = λ k.
+      let test = is_part is_oneof (before.messages + k) in
+      let all = all_behind IsOneofOf test (oneofs_by k) before (one_oneof before k) s ds v at runs in
+      there IsOneofOf (filter test (along (before_files rs) ds)) (oneofs_by k s) (oneofs_by k v) _ (ap (λ ms. list_at (map draft_oneofs ms) k) messages)
+      (subst (λ h. Behind IsOneofOf (oneofs_by k s) (filter test (along h ds)) (oneofs_by k v)) hand all) (ap (λ l. list_at l k) oneofs);
+  methods = λ k.
+      let test = is_part is_method (before.services + k) in
+      let all = all_behind IsMethodOf test (methods_by k) before (one_method before k) s ds v at runs in
+      there IsMethodOf (filter test (along (before_files rs) ds)) (methods_by k s) (methods_by k v) _ (ap (λ ss. list_at (map stored_methods ss) k) services)
+      (subst (λ h. Behind IsMethodOf (methods_by k s) (filter test (along h ds)) (methods_by k v)) hand all) (ap (λ ss. list_at (map stored_methods ss) k) methods);
+  extensions =
+      let test : Met → Bool = λ m. is_extension m.declaration.body in
+      let all = all_behind IsExtensionOf test extensions_by before (λ s d t at l. one_extension s d t l) s ds v at runs in
+      there IsExtensionOf (filter test (along (before_files rs) ds)) (extensions_by s) (extensions_by v) _ (ap (map extension_of) extensions)
+      (subst (λ h. Behind IsExtensionOf (extensions_by s) (filter test (along h ds)) (extensions_by v)) hand all) (ap (map extension_of) declared);
+}
