@@ -4,10 +4,10 @@ use case_json::members::text;
 use message_cases::u32_of;
 use reflect_dynamic::{DynamicMessage, ReadOptions};
 use reflect_link::{DescriptorPool, PoolReaders};
-use reflect_text::TextFormat;
 use reflect_wire::WireError;
 use serde_json::Value as Json;
 use std::alloc::{AllocError, Global};
+use text_format::TextFormat;
 
 /// What was read: a message, or `None` where the pool has no type of such options.
 type Read<'p> = Result<Option<DynamicMessage<'p>>, WireError>;

@@ -2,7 +2,7 @@
 
 use crate::options::write_options;
 use crate::starts::file_of;
-use case_json::members::{bytes, items, text};
+use case_json::members::{bytes, items, text, truth};
 use described_pools::described;
 use descriptor_records::Options;
 use message_cases::{Answers, i32_of, text_of, write_name, write_truth};
@@ -24,7 +24,6 @@ impl Answers for PoolCase {
         match text(call, "call") {
             "add" => add(alloc, out, pool, call),
             "build" => build(alloc, out, pool, call),
-            "build_and_cut" => build_and_cut(alloc, out, pool, call),
             "settle" => settle(alloc, pool, call),
             "options" => write_options(alloc, out, pool, call),
             "line" => write_line(alloc, out, pool, text(call, "of")),
@@ -104,7 +103,7 @@ fn add(
     }
 }
 
-/// Builds the file that bytes spell, or writes that it is refused.
+/// Builds the file that bytes spell, and takes it back where the call says so; or writes that it is refused.
 fn build(
     alloc: Global,
     out: &mut String,
@@ -112,45 +111,36 @@ fn build(
     call: &Json,
 ) -> Result<(), AllocError> {
     let files = vec![in alloc; file_of(alloc, call, "file")?]?;
-    match pool.build_files(alloc, files) {
-        Ok(()) => Ok(()),
-        Err(_) => out.push_str("refused"),
+    let mark = pool.mark();
+    if pool.build_files(alloc, files).is_err() {
+        return out.push_str("refused");
     }
+    if truth(call, "then_cut") {
+        pool.cut(mark);
+    }
+    Ok(())
 }
 
-/// Builds the file that bytes spell, and takes it back; or writes that it is refused.
-fn build_and_cut(
-    alloc: Global,
-    out: &mut String,
-    pool: &mut DescriptorPool,
-    call: &Json,
-) -> Result<(), AllocError> {
-    let files = vec![in alloc; file_of(alloc, call, "file")?]?;
-    let mark = pool.mark();
-    match pool.build_files(alloc, files) {
-        Ok(()) => {
-            pool.cut(mark);
-            Ok(())
+/// The path of a declaration, which a call gives as a list of numbers.
+fn path_of(alloc: Global, call: &Json) -> Result<Vec<i32>, AllocError> {
+    let mut path = Vec::new(alloc);
+    for step in items(call, "path") {
+        if let Some(step) = step.as_i64() {
+            if let Ok(step) = i32::try_from(step) {
+                path.push(step)?;
+            }
         }
-        Err(_) => out.push_str("refused"),
     }
+    Ok(path)
 }
 
 /// Settles bytes as the options of the declaration at a path of the first file.
 fn settle(alloc: Global, pool: &mut DescriptorPool, call: &Json) -> Result<(), AllocError> {
     let mut options = Options::new(alloc);
     options.encoded = bytes(alloc, call, "bytes")?;
-    let mut path = Vec::new(alloc);
-    for step in items(call, "path") {
-        path.push(
-            step.as_i64()
-                .and_then(|step| i32::try_from(step).ok())
-                .unwrap_or(0),
-        )?;
-    }
     let edit = Edit::Options {
         file: 0,
-        path,
+        path: path_of(alloc, call)?,
         options,
     };
     pool.settle(vec![in alloc; edit]?);

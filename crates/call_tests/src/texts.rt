@@ -3,10 +3,12 @@
 use case_json::members::{items, text};
 use message_cases::{Answers, message_of, replay_calls, scalar_of, text_of};
 use reflect_dynamic::DynamicMessage;
+use reflect_format::{ParseError, Parser};
 use reflect_link::{DescriptorPool, Kind, MessageDescriptor};
-use reflect_text::{FormatOptions, ParseError, Parser, TextFormat, WriteError, Writer};
+use reflect_print::{FormatOptions, WriteError, Writer};
 use serde_json::Value as Json;
 use std::alloc::{AllocError, Global};
+use text_format::TextFormat;
 
 /// A message whose calls read and write text too.
 #[derive(Drop)]

@@ -4,7 +4,7 @@ use crate::changes::change;
 use crate::given::{list_of, value_of};
 use crate::shown::{write_taken, write_truth, write_value};
 use case_json::members::text;
-use reflect_dynamic::DynamicMessage;
+use reflect_dynamic::{DynamicMessage, ExtendMessage};
 use serde_json::Value as Json;
 use std::alloc::{AllocError, Global};
 
