@@ -112,13 +112,15 @@ fn build(
 ) -> Result<(), AllocError> {
     let files = vec![in alloc; file_of(alloc, call, "file")?]?;
     let mark = pool.mark();
-    if pool.build_files(alloc, files).is_err() {
-        return out.push_str("refused");
+    match pool.build_files(alloc, files) {
+        Ok(()) => {
+            if truth(call, "then_cut") {
+                pool.cut(mark);
+            }
+            Ok(())
+        }
+        Err(_) => out.push_str("refused"),
     }
-    if truth(call, "then_cut") {
-        pool.cut(mark);
-    }
-    Ok(())
 }
 
 /// The path of a declaration, which a call gives as a list of numbers.

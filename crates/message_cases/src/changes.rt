@@ -10,12 +10,15 @@ use std::collections::BTreeMap;
 
 /// Puts what is given into the place, if there is both.
 fn put<T: Copy>(place: Option<&mut T>, given: Option<T>) -> bool {
-    match (place, given) {
-        (Some(place), Some(given)) => {
+    let Some(given) = given else {
+        return false;
+    };
+    match place {
+        Some(place) => {
             *place = given;
             true
         }
-        _ => false,
+        None => false,
     }
 }
 
