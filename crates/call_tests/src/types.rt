@@ -108,7 +108,7 @@ fn enum_name<'p>(kind: Kind<'p>) -> Option<&'p str> {
     Some(kind.as_enum()?.full_name())
 }
 
-/// The default of the field or the extension that the call names.
+/// The default of the field, the extension or the kind that the call names.
 fn default_of<'p>(
     alloc: Global,
     descriptor: MessageDescriptor<'p>,
@@ -117,8 +117,11 @@ fn default_of<'p>(
     if let Some(field) = field_of(descriptor, call) {
         return Ok(Some(field.default_value(alloc)?));
     }
-    match extension_of(descriptor, call) {
-        Some(extension) => Ok(Some(extension.default_value(alloc)?)),
+    if let Some(extension) = extension_of(descriptor, call) {
+        return Ok(Some(extension.default_value(alloc)?));
+    }
+    match kind_of(descriptor, call) {
+        Some(kind) => Ok(Some(KindExt::default_value(&kind, alloc))),
         None => Ok(None),
     }
 }

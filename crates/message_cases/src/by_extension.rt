@@ -4,7 +4,8 @@ use crate::changes::change;
 use crate::given::{list_of, value_of};
 use crate::shown::{write_taken, write_truth, write_value};
 use case_json::members::text;
-use reflect_dynamic::{DynamicMessage, ExtendMessage};
+use reflect_extend::ExtendMessage;
+use reflect_message::DynamicMessage;
 use serde_json::Value as Json;
 use std::alloc::{AllocError, Global};
 

@@ -3,7 +3,8 @@
 use crate::given::{i32_of, put_entry, scalar_of, text_of, u32_of};
 use crate::shown::{write_key, write_value};
 use case_json::members::{bytes, items};
-use reflect_dynamic::{DecodeMessage, DynamicMessage, MapKey, Value};
+use reflect_decode::DecodeMessage;
+use reflect_message::{DynamicMessage, MapKey, Value};
 use serde_json::Value as Json;
 use std::alloc::{AllocError, Global};
 use std::collections::BTreeMap;

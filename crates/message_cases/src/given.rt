@@ -1,7 +1,8 @@
 //! Numbers, values, messages and kinds that cases give. What a case lacks is read as empty: then other answers come than it wants.
 
 use case_json::members::{bytes, items, text};
-use reflect_dynamic::{DecodeMessage, DynamicMessage, MapKey, Value};
+use reflect_decode::DecodeMessage;
+use reflect_message::{DynamicMessage, MapKey, Value};
 use reflect_pool::{DescriptorPool, ExtensionDescriptor, FieldDescriptor, Kind, MessageDescriptor};
 use serde_json::Value as Json;
 use std::alloc::{AllocError, Global};

@@ -6,7 +6,7 @@ use crate::given::{kind_of, value_of};
 use crate::shown::{write_key, write_truth, write_value};
 use crate::values::write_if_asked;
 use case_json::members::text;
-use reflect_dynamic::{MapKey, Value};
+use reflect_message::{MapKey, Value};
 use reflect_pool::MessageDescriptor;
 use serde_json::Value as Json;
 use std::alloc::{AllocError, Global};

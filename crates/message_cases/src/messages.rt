@@ -8,7 +8,9 @@ use crate::by_number::answer_by_number;
 use crate::given::{text_of, u32_of};
 use crate::shown::{write_bytes, write_gap, write_hex, write_truth, write_value};
 use case_json::members::{bytes, text};
-use reflect_dynamic::{DecodeMessage, DynamicMessage, EncodeMessage};
+use reflect_decode::DecodeMessage;
+use reflect_encode::EncodeMessage;
+use reflect_message::DynamicMessage;
 use serde_json::Value as Json;
 use std::alloc::{AllocError, Global};
 

@@ -1,6 +1,7 @@
 //! Values as texts: what each of their readers answers, behind its name. Of a value that is no list and no map just one does.
 
-use reflect_dynamic::{DynamicMessage, EncodeMessage, FieldRef, MapKey, SetFieldError, Value};
+use reflect_encode::EncodeMessage;
+use reflect_message::{DynamicMessage, FieldRef, MapKey, SetFieldError, Value};
 use std::alloc::AllocError;
 use std::collections::BTreeMap;
 use std::fmt::Display;

@@ -5,7 +5,7 @@ use crate::changes::change;
 use crate::given::{extension_of, field_of, kind_of, value_of};
 use crate::shown::{write_key, write_truth, write_value};
 use case_json::members::text;
-use reflect_dynamic::{KindExt, Value};
+use reflect_message::Value;
 use reflect_pool::MessageDescriptor;
 use serde_json::Value as Json;
 use std::alloc::{AllocError, Global};
@@ -30,7 +30,7 @@ fn start_of<'p>(
         return Value::default_value_for_extension(alloc, &extension);
     }
     match kind_of(descriptor, given) {
-        Some(kind) => Ok(KindExt::default_value(&kind, alloc)),
+        Some(kind) => Ok(Value::default_value(alloc, &kind)),
         None => value_of(alloc, descriptor.parent_pool(), given),
     }
 }
