@@ -1,7 +1,0 @@
-//! Tests of public calls of pools that no case of schema_tests reaches, each at least once with ample memory.
-//!
-//! Answers are worked by hand from the published documentation of the language and the encoding.
-#![tactic(auto)]
-
-#[cfg(test)]
-mod pools;
