@@ -1,7 +1,11 @@
 //! The checks of messages and of what stands in them.
 
+ghost use Rattle.std.specs.Prelude.{◌≡◌, OnOk};
+ghost use Rattle.protox_check.specs.TreeFaults.{of_no_tree};
+
 use crate::field::{Holder, check_field_head, check_field_options};
 use crate::range::{check_enum, check_extensions, check_reserved};
+use crate::tell;
 use protox_tree::{
     Extend, ExtendItem, Field, FieldKind, Message, MessageItem, Oneof, OneofItem, ParseErrorKind,
     Syntax,
@@ -13,7 +17,9 @@ pub fn check_message(
     syntax: Syntax,
     message: &Message,
     faults: &mut Vec<ParseErrorKind>,
-) -> Result<(), AllocError> {
+) -> Result<(), AllocError>
+    ensures { OnOk result (of_no_tree faults.new.items ≡ of_no_tree faults.old.items) }
+{
     check_items(alloc, syntax, &message.items, faults)
 }
 
@@ -23,8 +29,10 @@ fn check_items(
     syntax: Syntax,
     items: &Vec<MessageItem>,
     faults: &mut Vec<ParseErrorKind>,
-) -> Result<(), AllocError> {
-    for item in items {
+) -> Result<(), AllocError>
+    ensures { OnOk result (of_no_tree faults.new.items ≡ of_no_tree faults.old.items) }
+{
+    'each: for item in items {
         check_message_item(alloc, syntax, item, faults)?;
     }
     Ok(())
@@ -36,7 +44,9 @@ fn check_message_item(
     syntax: Syntax,
     item: &MessageItem,
     faults: &mut Vec<ParseErrorKind>,
-) -> Result<(), AllocError> {
+) -> Result<(), AllocError>
+    ensures { OnOk result (of_no_tree faults.new.items ≡ of_no_tree faults.old.items) }
+{
     match item {
         MessageItem::Field(field) => check_field(alloc, syntax, Holder::Message, field, faults),
         MessageItem::Oneof(oneof) => check_oneof(alloc, syntax, oneof, faults),
@@ -56,7 +66,9 @@ fn check_field(
     holder: Holder,
     field: &Field,
     faults: &mut Vec<ParseErrorKind>,
-) -> Result<(), AllocError> {
+) -> Result<(), AllocError>
+    ensures { OnOk result (of_no_tree faults.new.items ≡ of_no_tree faults.old.items) }
+{
     check_field_head(syntax, holder, field, faults)?;
     check_field_options(alloc, syntax, field, faults)?;
     match &field.kind {
@@ -71,11 +83,13 @@ fn check_oneof(
     syntax: Syntax,
     oneof: &Oneof,
     faults: &mut Vec<ParseErrorKind>,
-) -> Result<(), AllocError> {
+) -> Result<(), AllocError>
+    ensures { OnOk result (of_no_tree faults.new.items ≡ of_no_tree faults.old.items) }
+{
     if !has_field(&oneof.items) {
-        faults.push(ParseErrorKind::EmptyOneof { span: oneof.span })?;
+        tell(faults, ParseErrorKind::EmptyOneof { span: oneof.span })?;
     }
-    for item in &oneof.items {
+    'each: for item in &oneof.items {
         if let OneofItem::Field(field) = item {
             check_field(alloc, syntax, Holder::Oneof, field, faults)?;
         }
@@ -98,8 +112,10 @@ pub fn check_extend(
     syntax: Syntax,
     extend: &Extend,
     faults: &mut Vec<ParseErrorKind>,
-) -> Result<(), AllocError> {
-    for item in &extend.items {
+) -> Result<(), AllocError>
+    ensures { OnOk result (of_no_tree faults.new.items ≡ of_no_tree faults.old.items) }
+{
+    'each: for item in &extend.items {
         if let ExtendItem::Field(field) = item {
             check_field(alloc, syntax, Holder::Extend, field, faults)?;
         }

@@ -1,7 +1,10 @@
 //! The checks of one field.
 
-use crate::check_text;
+ghost use Rattle.std.specs.Prelude.{◌≡◌, true, IfSome, OnOk};
+ghost use Rattle.protox_check.specs.TreeFaults.{is_of_tree, of_no_tree};
+
 use crate::default::suits;
+use crate::{check_text, tell};
 use descriptor_records::{FieldType, Label};
 use protox_lex::{Int, Span};
 use protox_tree::{Field, FieldKind, OptionBody, OptionValue, ParseErrorKind, Syntax, Ty};
@@ -23,12 +26,14 @@ pub fn check_field_head(
     holder: Holder,
     field: &Field,
     faults: &mut Vec<ParseErrorKind>,
-) -> Result<(), AllocError> {
+) -> Result<(), AllocError>
+    ensures { OnOk result (of_no_tree faults.new.items ≡ of_no_tree faults.old.items) }
+{
     let is_map = matches!(field.kind, FieldKind::Map(_));
     match field.label {
         None => check_no_label(syntax, holder, field, faults)?,
         Some((Label::Required, span)) if syntax == Syntax::Proto3 => {
-            faults.push(ParseErrorKind::RequiredInProto3 { span })?;
+            tell(faults, ParseErrorKind::RequiredInProto3 { span })?;
         }
         Some(_) => {}
     }
@@ -39,14 +44,14 @@ pub fn check_field_head(
         check_label(holder, is_map, span, faults)?;
         check_holder(holder, field, faults)?;
         if label == Label::Required && holder == Holder::Extend {
-            faults.push(ParseErrorKind::RequiredExtension { span })?;
+            tell(faults, ParseErrorKind::RequiredExtension { span })?;
         }
     } else {
         check_holder(holder, field, faults)?;
     }
     check_names(field, faults)?;
     match number_fault(field.number) {
-        Some(fault) => Ok(faults.push(fault)?),
+        Some(fault) => tell(faults, fault),
         None => Ok(()),
     }
 }
@@ -56,10 +61,12 @@ fn check_no_label(
     holder: Holder,
     field: &Field,
     faults: &mut Vec<ParseErrorKind>,
-) -> Result<(), AllocError> {
+) -> Result<(), AllocError>
+    ensures { OnOk result (of_no_tree faults.new.items ≡ of_no_tree faults.old.items) }
+{
     let is_map = matches!(field.kind, FieldKind::Map(_));
     if syntax == Syntax::Proto2 && holder != Holder::Oneof && !is_map {
-        faults.push(ParseErrorKind::MissingLabel { span: field.span })?;
+        tell(faults, ParseErrorKind::MissingLabel { span: field.span })?;
     }
     Ok(())
 }
@@ -68,9 +75,11 @@ fn check_group(
     syntax: Syntax,
     field: &Field,
     faults: &mut Vec<ParseErrorKind>,
-) -> Result<(), AllocError> {
+) -> Result<(), AllocError>
+    ensures { OnOk result (of_no_tree faults.new.items ≡ of_no_tree faults.old.items) }
+{
     if syntax == Syntax::Proto3 {
-        faults.push(ParseErrorKind::GroupInProto3 { span: field.span })?;
+        tell(faults, ParseErrorKind::GroupInProto3 { span: field.span })?;
     }
     Ok(())
 }
@@ -80,12 +89,14 @@ fn check_label(
     is_map: bool,
     span: Span,
     faults: &mut Vec<ParseErrorKind>,
-) -> Result<(), AllocError> {
+) -> Result<(), AllocError>
+    ensures { OnOk result (of_no_tree faults.new.items ≡ of_no_tree faults.old.items) }
+{
     if holder == Holder::Oneof {
-        faults.push(ParseErrorKind::OneofFieldWithLabel { span })?;
+        tell(faults, ParseErrorKind::OneofFieldWithLabel { span })?;
     }
     if is_map {
-        faults.push(ParseErrorKind::MapFieldWithLabel { span })?;
+        tell(faults, ParseErrorKind::MapFieldWithLabel { span })?;
     }
     Ok(())
 }
@@ -95,28 +106,32 @@ fn check_holder(
     holder: Holder,
     field: &Field,
     faults: &mut Vec<ParseErrorKind>,
-) -> Result<(), AllocError> {
+) -> Result<(), AllocError>
+    ensures { OnOk result (of_no_tree faults.new.items ≡ of_no_tree faults.old.items) }
+{
     let span = field.span;
     if let FieldKind::Map(_) = &field.kind {
         match holder {
             Holder::Message => {}
-            Holder::Oneof => faults.push(ParseErrorKind::MapFieldInOneof { span })?,
-            Holder::Extend => faults.push(ParseErrorKind::MapFieldInExtend { span })?,
+            Holder::Oneof => tell(faults, ParseErrorKind::MapFieldInOneof { span })?,
+            Holder::Extend => tell(faults, ParseErrorKind::MapFieldInExtend { span })?,
         }
     }
     Ok(())
 }
 
 /// The name of a group and the key of a map.
-fn check_names(field: &Field, faults: &mut Vec<ParseErrorKind>) -> Result<(), AllocError> {
+fn check_names(field: &Field, faults: &mut Vec<ParseErrorKind>) -> Result<(), AllocError>
+    ensures { OnOk result (of_no_tree faults.new.items ≡ of_no_tree faults.old.items) }
+{
     match &field.kind {
         FieldKind::Group(_) if !begins_upper(field.name.value.as_str()) => {
             let span = field.name.span;
-            faults.push(ParseErrorKind::InvalidGroupName { span })?;
+            tell(faults, ParseErrorKind::InvalidGroupName { span })?;
         }
         FieldKind::Map(map) if !is_key_type(&map.key) => {
             let span = map.key.span();
-            faults.push(ParseErrorKind::InvalidMapKeyType { span })?;
+            tell(faults, ParseErrorKind::InvalidMapKeyType { span })?;
         }
         _ => {}
     }
@@ -138,7 +153,9 @@ fn is_key_type(ty: &Ty) -> bool {
 }
 
 /// Why a number is none of a field.
-fn number_fault(number: Int) -> Option<ParseErrorKind> {
+fn number_fault(number: Int) -> Option<ParseErrorKind>
+    ensures { IfSome result (λ fault. is_of_tree fault ≡ true) }
+{
     let span = number.span;
     match number.as_i32() {
         Some(19000..=19999) => Some(ParseErrorKind::ReservedMessageNumber { span }),
@@ -160,13 +177,15 @@ pub fn check_field_options(
     syntax: Syntax,
     field: &Field,
     faults: &mut Vec<ParseErrorKind>,
-) -> Result<(), AllocError> {
+) -> Result<(), AllocError>
+    ensures { OnOk result (of_no_tree faults.new.items ≡ of_no_tree faults.old.items) }
+{
     let mut met = Met {
         default: None,
         json_name: None,
     };
     if let Some(list) = &field.options {
-        for option in &list.options {
+        'each: for option in &list.options {
             if option.has_name("default") {
                 check_default(alloc, syntax, field, option, met.default, faults)?;
                 met.default = met.default.or(Some(option.span()));
@@ -186,14 +205,16 @@ fn check_default(
     option: &OptionBody,
     first: Option<Span>,
     faults: &mut Vec<ParseErrorKind>,
-) -> Result<(), AllocError> {
+) -> Result<(), AllocError>
+    ensures { OnOk result (of_no_tree faults.new.items ≡ of_no_tree faults.old.items) }
+{
     let span = option.span();
     let suits = suits(field, &option.value);
     if syntax == Syntax::Proto3 {
-        faults.push(ParseErrorKind::DefaultInProto3 { span })?;
+        tell(faults, ParseErrorKind::DefaultInProto3 { span })?;
     }
     if !suits {
-        faults.push(ParseErrorKind::InvalidDefault { span })?;
+        tell(faults, ParseErrorKind::InvalidDefault { span })?;
     }
     check_first(first, span, faults)?;
     if suits && is_string(field) {
@@ -207,13 +228,15 @@ fn check_json_name(
     option: &OptionBody,
     first: Option<Span>,
     faults: &mut Vec<ParseErrorKind>,
-) -> Result<(), AllocError> {
+) -> Result<(), AllocError>
+    ensures { OnOk result (of_no_tree faults.new.items ≡ of_no_tree faults.old.items) }
+{
     check_first(first, option.span(), faults)?;
     if let OptionValue::String(_) = &option.value {
         check_string(alloc, &option.value, faults)
     } else {
         let span = option.value.span();
-        Ok(faults.push(ParseErrorKind::InvalidJsonName { span })?)
+        tell(faults, ParseErrorKind::InvalidJsonName { span })
     }
 }
 
@@ -221,9 +244,14 @@ fn check_first(
     first: Option<Span>,
     second: Span,
     faults: &mut Vec<ParseErrorKind>,
-) -> Result<(), AllocError> {
+) -> Result<(), AllocError>
+    ensures { OnOk result (of_no_tree faults.new.items ≡ of_no_tree faults.old.items) }
+{
     if let Some(first) = first {
-        faults.push(ParseErrorKind::DuplicateFieldOption { first, second })?;
+        tell(
+            faults,
+            ParseErrorKind::DuplicateFieldOption { first, second },
+        )?;
     }
     Ok(())
 }
@@ -239,7 +267,9 @@ fn check_string(
     alloc: Global,
     value: &OptionValue,
     faults: &mut Vec<ParseErrorKind>,
-) -> Result<(), AllocError> {
+) -> Result<(), AllocError>
+    ensures { OnOk result (of_no_tree faults.new.items ≡ of_no_tree faults.old.items) }
+{
     match value {
         OptionValue::String(strings) => check_text(alloc, strings, faults),
         _ => Ok(()),

@@ -1,6 +1,9 @@
 //! What is wrong with a syntax tree as a whole.
 #![tactic(auto)]
 
+ghost use Rattle.std.specs.Prelude.{◌≡◌, [], true, IfOk, OnOk};
+ghost use Rattle.protox_check.specs.TreeFaults.{is_of_tree, of_no_tree};
+
 mod declaration;
 mod default;
 mod field;
@@ -16,10 +19,12 @@ use std::alloc::{AllocError, Global};
 ///
 /// The rules are those of the "Language Specification" of the two syntaxes and of the "Language Guide". What needs other
 /// files, as whether a type exists, is not checked here.
-pub fn check_file(alloc: Global, file: &File) -> Result<Vec<ParseErrorKind>, AllocError> {
+pub fn check_file(alloc: Global, file: &File) -> Result<Vec<ParseErrorKind>, AllocError>
+    ensures { IfOk result (λ faults. of_no_tree faults.items ≡ []) }
+{
     let mut faults = Vec::new(alloc);
     let mut package = None;
-    for item in &file.items {
+    'each: for item in &file.items {
         if let FileItem::Package(statement) = item {
             check_package(package, statement.span, &mut faults)?;
             package = package.or(Some(statement.span));
@@ -33,9 +38,11 @@ fn check_package(
     first: Option<Span>,
     second: Span,
     faults: &mut Vec<ParseErrorKind>,
-) -> Result<(), AllocError> {
+) -> Result<(), AllocError>
+    ensures { OnOk result (of_no_tree faults.new.items ≡ of_no_tree faults.old.items) }
+{
     if let Some(first) = first {
-        faults.push(ParseErrorKind::DuplicatePackage { first, second })?;
+        tell(faults, ParseErrorKind::DuplicatePackage { first, second })?;
     }
     Ok(())
 }
@@ -45,7 +52,9 @@ fn check_item(
     syntax: Syntax,
     item: &FileItem,
     faults: &mut Vec<ParseErrorKind>,
-) -> Result<(), AllocError> {
+) -> Result<(), AllocError>
+    ensures { OnOk result (of_no_tree faults.new.items ≡ of_no_tree faults.old.items) }
+{
     match item {
         FileItem::Import(import) => check_text(alloc, &import.value, faults),
         FileItem::Message(message) => check_message(alloc, syntax, message, faults),
@@ -62,10 +71,22 @@ fn check_text(
     alloc: Global,
     strings: &Strings,
     faults: &mut Vec<ParseErrorKind>,
-) -> Result<(), AllocError> {
+) -> Result<(), AllocError>
+    ensures { OnOk result (of_no_tree faults.new.items ≡ of_no_tree faults.old.items) }
+{
     if strings.joined(alloc)?.into_utf8().is_err() {
         let span = strings.span();
-        faults.push(ParseErrorKind::InvalidUtf8String { span })?;
+        tell(faults, ParseErrorKind::InvalidUtf8String { span })?;
     }
+    Ok(())
+}
+
+/// Lists one more fault.
+#[tactic(auto, using(crate::proofs::TreeFaults::one_more))]
+fn tell(faults: &mut Vec<ParseErrorKind>, fault: ParseErrorKind) -> Result<(), AllocError>
+    requires { is_of_tree fault ≡ true }
+    ensures { OnOk result (of_no_tree faults.new.items ≡ of_no_tree faults.old.items) }
+{
+    faults.push(fault)?;
     Ok(())
 }

@@ -1,6 +1,9 @@
 //! The checks of ranges, and of enums.
 
-use crate::check_text;
+ghost use Rattle.std.specs.Prelude.{◌≡◌, OnOk};
+ghost use Rattle.protox_check.specs.TreeFaults.{of_no_tree};
+
+use crate::{check_text, tell};
 use protox_lex::Int;
 use protox_tree::{
     Enum, EnumItem, Extensions, ParseErrorKind, RangeEnd, Reserved, ReservedItems, ReservedRange,
@@ -28,9 +31,11 @@ fn check_bound(
     numbers: Numbers,
     int: Int,
     faults: &mut Vec<ParseErrorKind>,
-) -> Result<(), AllocError> {
+) -> Result<(), AllocError>
+    ensures { OnOk result (of_no_tree faults.new.items ≡ of_no_tree faults.old.items) }
+{
     if bound(numbers, int).is_none() {
-        faults.push(ParseErrorKind::InvalidRange { span: int.span })?;
+        tell(faults, ParseErrorKind::InvalidRange { span: int.span })?;
     }
     Ok(())
 }
@@ -39,7 +44,9 @@ fn check_range(
     numbers: Numbers,
     range: ReservedRange,
     faults: &mut Vec<ParseErrorKind>,
-) -> Result<(), AllocError> {
+) -> Result<(), AllocError>
+    ensures { OnOk result (of_no_tree faults.new.items ≡ of_no_tree faults.old.items) }
+{
     let RangeEnd::Int(end) = range.end else {
         return check_bound(numbers, range.start, faults);
     };
@@ -47,7 +54,7 @@ fn check_range(
         (Some(first), Some(last)) => {
             if first > last {
                 let span = range.span();
-                faults.push(ParseErrorKind::InvalidRange { span })?;
+                tell(faults, ParseErrorKind::InvalidRange { span })?;
             }
         }
         _ => {
@@ -62,8 +69,10 @@ fn check_ranges(
     numbers: Numbers,
     ranges: &Vec<ReservedRange>,
     faults: &mut Vec<ParseErrorKind>,
-) -> Result<(), AllocError> {
-    for range in ranges {
+) -> Result<(), AllocError>
+    ensures { OnOk result (of_no_tree faults.new.items ≡ of_no_tree faults.old.items) }
+{
+    'each: for range in ranges {
         check_range(numbers, *range, faults)?;
     }
     Ok(())
@@ -73,10 +82,12 @@ pub fn check_extensions(
     syntax: Syntax,
     extensions: &Extensions,
     faults: &mut Vec<ParseErrorKind>,
-) -> Result<(), AllocError> {
+) -> Result<(), AllocError>
+    ensures { OnOk result (of_no_tree faults.new.items ≡ of_no_tree faults.old.items) }
+{
     if syntax == Syntax::Proto3 {
         let span = extensions.span;
-        faults.push(ParseErrorKind::ExtensionRangeInProto3 { span })?;
+        tell(faults, ParseErrorKind::ExtensionRangeInProto3 { span })?;
     }
     check_ranges(Numbers::Fields, &extensions.ranges, faults)
 }
@@ -86,11 +97,13 @@ fn check_items(
     numbers: Numbers,
     items: &ReservedItems,
     faults: &mut Vec<ParseErrorKind>,
-) -> Result<(), AllocError> {
+) -> Result<(), AllocError>
+    ensures { OnOk result (of_no_tree faults.new.items ≡ of_no_tree faults.old.items) }
+{
     match items {
         ReservedItems::Ranges(ranges) => check_ranges(numbers, ranges, faults),
         ReservedItems::Names(names) => {
-            for name in names {
+            'each: for name in names {
                 check_text(alloc, name, faults)?;
             }
             Ok(())
@@ -103,7 +116,9 @@ pub fn check_reserved(
     alloc: Global,
     reserved: &Reserved,
     faults: &mut Vec<ParseErrorKind>,
-) -> Result<(), AllocError> {
+) -> Result<(), AllocError>
+    ensures { OnOk result (of_no_tree faults.new.items ≡ of_no_tree faults.old.items) }
+{
     check_items(alloc, Numbers::Fields, &reserved.items, faults)
 }
 
@@ -111,8 +126,10 @@ pub fn check_enum(
     alloc: Global,
     enumeration: &Enum,
     faults: &mut Vec<ParseErrorKind>,
-) -> Result<(), AllocError> {
-    for item in &enumeration.items {
+) -> Result<(), AllocError>
+    ensures { OnOk result (of_no_tree faults.new.items ≡ of_no_tree faults.old.items) }
+{
+    'each: for item in &enumeration.items {
         check_enum_item(alloc, item, faults)?;
     }
     Ok(())
@@ -122,12 +139,14 @@ fn check_enum_item(
     alloc: Global,
     item: &EnumItem,
     faults: &mut Vec<ParseErrorKind>,
-) -> Result<(), AllocError> {
+) -> Result<(), AllocError>
+    ensures { OnOk result (of_no_tree faults.new.items ≡ of_no_tree faults.old.items) }
+{
     match item {
         EnumItem::Value(value) => {
             let span = value.number.span;
             if value.number.as_i32().is_none() {
-                faults.push(ParseErrorKind::InvalidEnumNumber { span })?;
+                tell(faults, ParseErrorKind::InvalidEnumNumber { span })?;
             }
             Ok(())
         }

@@ -85,3 +85,8 @@ pub Local-service : Local service
 unfolding service
 Local-service = Local-bind (Local-expect _) (λ p. Local-bind Local-word (λ w. Local-bind (Local-expect _) (λ o.
     Local-bind Local-items (λ is. Local-bind (Local-expect _) (λ q. Local-pure _)))))
+
+pub Moves-service : Moves service
+unfolding service
+Moves-service = Moves-first (Moves-expect _) (λ p. Keeps-local (Local-bind Local-word (λ w.
+    Local-bind (Local-expect _) (λ o. Local-bind Local-items (λ is. Local-bind (Local-expect _) (λ q. Local-pure _))))))

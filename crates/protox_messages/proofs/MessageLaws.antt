@@ -35,12 +35,12 @@ module _ (inner : Parser Block) (local : Local inner) where
   Moves-field = Moves-later (Keeps-local Local-here) (λ p. Moves-later (Keeps-local Local-label) (λ l.
       Moves-eat (ident (codes "group")) (group_if inner p l) (λ w. Keeps-local (Local-group p l w)) (Moves-plain p l)))
 
-  Local-message : Local (message_with inner)
+  pub Local-message : Local (message_with inner)
   unfolding message_with
   Local-message =
       Local-bind (Local-expect _) (λ p. Local-bind Local-word (λ w. Local-bind local (λ b. Local-pure _)))
 
-  Moves-message : Moves (message_with inner)
+  pub Moves-message : Moves (message_with inner)
   unfolding message_with
   Moves-message = Moves-first (Moves-expect _) (λ p.
       Keeps-local (Local-bind Local-word (λ w. Local-bind local (λ b. Local-pure _))))
@@ -96,13 +96,13 @@ module _ (inner : Parser Block) (local : Local inner) where
   unfolding all_added_with
   Local-all_added = Local-loop _ (Local-until _ Local-added) added_turns
 
-  Local-extend : Local (extend_with inner)
+  pub Local-extend : Local (extend_with inner)
   unfolding extend_with
   Local-extend = Local-bind (Local-expect _) (λ p. Local-bind Local-type_name (λ t.
       Local-bind (Local-expect _) (λ b. Local-bind Local-all_added (λ fs.
       Local-bind (Local-expect _) (λ q. Local-pure _)))))
 
-  Moves-extend : Moves (extend_with inner)
+  pub Moves-extend : Moves (extend_with inner)
   unfolding extend_with
   Moves-extend = Moves-first (Moves-expect _) (λ p. Keeps-local (Local-bind Local-type_name (λ t.
       Local-bind (Local-expect _) (λ b. Local-bind Local-all_added (λ fs.

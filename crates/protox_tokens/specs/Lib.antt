@@ -5,3 +5,4 @@ pub mod Reads
 pub mod Refusal
 pub mod Span
 pub mod Stream
+pub mod Told

@@ -1,6 +1,8 @@
 //! Why the tokens of a source are not read on.
 
-ghost use Rattle.std.specs.Prelude.{◌≡◌};
+ghost use Rattle.std.specs.Prelude.{◌≡◌, IfOk};
+ghost use Rattle.protox_tokens.specs.Refusal.{fault_view};
+ghost use Rattle.protox_tokens.specs.Told.{IsToldAs};
 
 use protox_lex::{LexError, Span, Token};
 use protox_tree::{ExpectedToken, ParseErrorKind};
@@ -28,7 +30,9 @@ pub enum Fault<'a> {
 
 impl Fault<'_> {
     /// The fault as users see it. Refused only for want of memory.
-    pub fn to_kind(&self, alloc: Global) -> Result<ParseErrorKind, AllocError> {
+    pub fn to_kind(&self, alloc: Global) -> Result<ParseErrorKind, AllocError>
+        ensures { IfOk result (λ kind. IsToldAs (fault_view self.now) kind) }
+    {
         Ok(match *self {
             Fault::Unexpected {
                 expected,

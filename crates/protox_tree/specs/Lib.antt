@@ -1,3 +1,6 @@
+pub mod FileTree
+pub mod FileView
+pub mod LexicalKinds
 pub mod Nest
 pub mod NestView
 pub mod Scalar

@@ -1,5 +1,6 @@
 -- The tree of a source: what the values of `src/` say, without the memory that they take.
-use Rattle.std.specs.Prelude.{Bool, List, Option}
+use Rattle.std.specs.Prelude.{◌-◌, Bool, List, length, map, Option, Some, slice_get}
+use Rattle.std.specs.List.{flat_map}
 use Rattle.protox_lex.specs.Class.{Text}
 use Rattle.protox_lex.specs.declared.span.Span.{Span}
 use Rattle.protox_lex.specs.declared.literal.Int.{Int}
@@ -10,6 +11,21 @@ use Rattle.protox_tree.specs.declared.range.ReservedRange.{ReservedRange}
 pub record Word : Type 0 where
   pub text : Text
   pub span : Span
+
+-- the bytes of literals that mean one string
+abbrev pub joined : List Word → Text
+joined ws = flat_map (λ w. w.text) ws
+
+abbrev pub span_between : Option Span → Option Span → Span
+span_between (Some first) (Some last) = record { start = first.start; end = last.end }
+span_between first last = record { start = 0; end = 0 }
+
+-- from the start of the first to the end of the last; of none, the start of the source
+abbrev pub spans_cover : List Span → Span
+spans_cover ss = span_between (slice_get ss 0) (slice_get ss (length ss - 1))
+
+abbrev pub words_span : List Word → Span
+words_span ws = spans_cover (map (λ w. w.span) ws)
 
 pub record TypeName : Type 0 where
   pub leading_dot : Option Span

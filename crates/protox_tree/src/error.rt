@@ -217,6 +217,10 @@ pub enum ParseErrorKind {
 }
 
 impl From<LexError> for ParseErrorKind {
+    ghost use Rattle.protox_tree.specs.LexicalKinds.{lexical_kind};
+
+    ghost from_gives = { λ e kind. kind ≡ lexical_kind e };
+
     fn from(error: LexError) -> ParseErrorKind {
         let span = error.span;
         match error.kind {

@@ -1,5 +1,7 @@
 //! Files.
 
+ghost use Rattle.std.specs.Prelude.{◌≡◌, option_map};
+
 use crate::enumeration::Enum;
 use crate::ident::FullIdent;
 use crate::message::{Extend, Message};
@@ -19,8 +21,13 @@ pub struct File {
 }
 
 impl File {
+    ghost use Rattle.protox_tree.specs.FileTree as tree;
+    ghost use Rattle.protox_tree.specs.FileView.{file_view};
+
     /// proto2, where no statement says otherwise.
-    pub fn syntax(&self) -> Syntax {
+    pub fn syntax(&self) -> Syntax
+        ensures { result ≡ tree.syntax_of (file_view self.now).syntax }
+    {
         match &self.syntax {
             Some(statement) => statement.syntax,
             None => Syntax::Proto2,
@@ -50,8 +57,13 @@ pub enum FileItem {
 }
 
 impl FileItem {
+    ghost use Rattle.protox_tree.specs.FileTree as tree;
+    ghost use Rattle.protox_tree.specs.FileView.{file_item_view};
+
     /// From the first token of the statement to the last.
-    pub fn span(&self) -> Span {
+    pub fn span(&self) -> Span
+        ensures { result ≡ tree.item_span (file_item_view self.now) }
+    {
         match self {
             FileItem::Import(import) => import.span,
             FileItem::Package(package) => package.span,

@@ -1,6 +1,6 @@
 //! Strings that are written as several literals.
 
-ghost use Rattle.std.specs.Prelude.{◌≡◌, ◌<◌, vec_len};
+ghost use Rattle.std.specs.Prelude.{◌≡◌, ◌<◌, IfOk, vec_len};
 
 use protox_lex::{Span, String as Literal};
 use std::alloc::{AllocError, Global};
@@ -13,7 +13,8 @@ pub struct Strings {
 }
 
 impl Strings {
-    ghost use Rattle.protox_tree.specs.View.{strings_view, literals_view};
+    ghost use Rattle.protox_tree.specs.Tree as tree;
+    ghost use Rattle.protox_tree.specs.View.{strings_view, literal_view, literals_view};
 
     pub fn from_literals(literals: Vec<Literal>) -> Strings
         requires { 0 < vec_len literals }
@@ -27,7 +28,9 @@ impl Strings {
     }
 
     /// From the first literal to the last.
-    pub fn span(&self) -> Span {
+    pub fn span(&self) -> Span
+        ensures { result ≡ tree.words_span (strings_view self.now) }
+    {
         let first = self.literals[0].span;
         let last = self.literals[self.literals.len() - 1].span;
         Span {
@@ -37,9 +40,12 @@ impl Strings {
     }
 
     /// The bytes of all literals. Refused only for want of memory.
-    pub fn joined(&self, alloc: Global) -> Result<Literal, AllocError> {
+    pub fn joined(&self, alloc: Global) -> Result<Literal, AllocError>
+        ensures text { IfOk result (λ s. s.value.items ≡ tree.joined (strings_view self.now)) }
+        ensures span { IfOk result (λ s. s.span ≡ tree.words_span (strings_view self.now)) }
+    {
         let mut value = Vec::new(alloc);
-        for literal in self.literals.as_slice() {
+        'literals: for literal in self.literals.as_slice() {
             value.extend_from_slice(literal.value.as_slice())?;
         }
         Ok(Literal {

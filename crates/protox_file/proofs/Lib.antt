@@ -1,0 +1,3 @@
+pub mod FileLaws
+pub mod Spans
+pub mod Texts

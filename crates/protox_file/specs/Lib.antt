@@ -1,0 +1,3 @@
+pub mod FileGrammar
+pub mod Languages
+pub mod Sources
