@@ -2,7 +2,6 @@
 #![tactic(auto)]
 
 mod error;
-mod file;
 mod source;
 
 pub use error::{ParseError, Refusal};

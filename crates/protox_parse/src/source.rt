@@ -1,19 +1,23 @@
 //! From a source to its record.
 
-ghost use Rattle.std.specs.Prelude.{◌≡◌, ◌⊎◌, ◌≤◌, ◌^◌, ◌∷◌, [], Some, IfOk, IfErr, IsErrAnd, length, option_map, string_bytes};
+ghost use Rattle.std.specs.Prelude.{◌≡◌, ◌⊎◌, ◌≤◌, ◌<◌, ◌^◌, ◌∷◌, [], Some, IfOk, IfErr, IsErrAnd, length, option_map, string_bytes};
+ghost use Rattle.protox_check.specs.TreeFaults.{of_no_tree};
+ghost use Rattle.protox_lex.specs.Lines.{feeds_of};
+ghost use Rattle.protox_lex.specs.Resolver.{feeds};
+ghost use Rattle.protox_parse.specs.Answers.{IsAnswered};
 ghost use Rattle.protox_parse.specs.Refusals.{IsRefusalOf, faults_of};
 ghost use Rattle.protox_tree.specs.declared.error.ParseErrorKind.TheVariants.{FileTooLarge};
 ghost use Rattle.protox_parse.specs.declared.error.ParseError.TheVariants.{Memory};
 
 use crate::error::{ParseError, Refusal};
-use crate::file::file;
 use descriptor_records::FileDescriptorProto;
 use protox_check::check_file;
+use protox_file::tree;
 use protox_lex::LineResolver;
 use protox_locate::source_info;
 use protox_record::file_record;
-use protox_tokens::{Stop, Tokens, one};
-use protox_tree::ParseErrorKind;
+use protox_tokens::{Stop, one};
+use protox_tree::{File, ParseErrorKind};
 use std::alloc::Global;
 
 /// The record of a source of proto2 or proto3, under this file name, with the places and the comments of its declarations.
@@ -21,28 +25,47 @@ use std::alloc::Global;
 /// The grammar is that of the "Language Specification" of the two. A source that has it not is refused with its first fault;
 /// one that has it and breaks other rules is refused with all its faults, in source order. One of 2^31 bytes or more is refused
 /// as too large. A refusal names this file, and tells where in this source its first fault begins.
+#[tactic(auto, using(crate::proofs::Answered::spelled, crate::proofs::Answered::unspelled))]
 pub fn parse(alloc: Global, name: &str, source: &str) -> Result<FileDescriptorProto, ParseError>
     ensures named { IfOk result (λ file. option_map string_bytes file.name ≡ Some name.now) }
     ensures refused { IfErr result (λ e. (e ≡ Memory) ⊎ IsRefusalOf name.now source.now e) }
     ensures too_large { 2 ^ 31 ≤ length source.now → IsErrAnd result (λ e. (e ≡ Memory) ⊎ (faults_of e ≡ FileTooLarge ∷ [])) }
+    ensures answered { length source.now < 2 ^ 31 → IsAnswered source.now result }
 {
     if source.len() > i32::MAX as usize {
         let faults = one(alloc, ParseErrorKind::FileTooLarge)?;
         return Err(ParseError::Refused(Refusal::new(alloc, name, None, faults)?));
     }
     let lines = LineResolver::new(alloc, source)?;
-    let faults = match file(alloc, &mut Tokens::new(source)) {
-        Ok(file) => {
-            let faults = check_file(alloc, &file)?;
-            if faults.is_empty() {
-                let mut record = file_record(alloc, name, &file)?;
-                record.source_code_info = Some(source_info(alloc, source, &lines, &file)?);
-                return Ok(record);
-            }
-            faults
+    match tree(alloc, source) {
+        Ok(file) => described(alloc, name, source, &lines, &file),
+        Err(Stop::Memory) => Err(ParseError::Memory),
+        Err(Stop::Refused(fault)) => {
+            let kind = fault.to_kind(alloc)?;
+            let faults = one(alloc, kind)?;
+            Err(ParseError::Refused(Refusal::new(alloc, name, Some(&lines), faults)?))
         }
-        Err(Stop::Memory) => return Err(ParseError::Memory),
-        Err(Stop::Refused(fault)) => one(alloc, fault.to_kind(alloc)?)?,
-    };
-    Err(ParseError::Refused(Refusal::new(alloc, name, Some(&lines), faults)?))
+    }
+}
+
+/// The record of a tree, with the places that it has in this source, or the refusal of a tree that has faults.
+fn described(
+    alloc: Global,
+    name: &str,
+    source: &str,
+    lines: &LineResolver,
+    file: &File,
+) -> Result<FileDescriptorProto, ParseError>
+    requires { feeds lines.now ≡ feeds_of source.now }
+    ensures named { IfOk result (λ file. option_map string_bytes file.name ≡ Some name.now) }
+    ensures refused { IfErr result (λ e. (e ≡ Memory) ⊎ IsRefusalOf name.now source.now e) }
+    ensures of_trees { IfErr result (λ e. of_no_tree (faults_of e) ≡ []) }
+{
+    let faults = check_file(alloc, file)?;
+    if !faults.is_empty() {
+        return Err(ParseError::Refused(Refusal::new(alloc, name, Some(lines), faults)?));
+    }
+    let mut record = file_record(alloc, name, file)?;
+    record.source_code_info = Some(source_info(alloc, source, lines, file)?);
+    Ok(record)
 }
