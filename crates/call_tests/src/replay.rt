@@ -7,7 +7,7 @@ use crate::starts::start_of;
 use crate::texts::{replay_message, replay_values};
 use crate::types::TypeCase;
 use case_files::Replays;
-use case_json::members::{number, text};
+use case_json::members::{items, number, text};
 use message_cases::{replay_calls, replay_key, replay_value};
 use reflect_link::{DescriptorPool, PoolReaders};
 use serde_json::Value as Json;
@@ -44,7 +44,11 @@ fn replay_of(
     let Some(descriptor) = pool.get_message_by_name(text(case, "type")) else {
         return difference.push_str("no type ");
     };
-    match text(case, "op") {
+    let op = text(case, "op");
+    if op != "values" && items(case, "calls").is_empty() {
+        return difference.push_str("no calls ");
+    }
+    match op {
         "type" => replay_calls(alloc, &mut TypeCase { descriptor }, case, difference),
         "message" => replay_message(alloc, descriptor, case, difference),
         "value" => replay_value(alloc, descriptor, case, difference),
