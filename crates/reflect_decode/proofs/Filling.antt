@@ -128,10 +128,6 @@ module _ (inner : Takes) (m : MessageDescriptor) where
       pub filled_run : FillsFields inner m a b (run_records (field_type g).number run)
       filled_run = record { each = filled_field; chosen = chosen_next m g owns a.choices b.choices a.fields b.fields chosen chooses changes }
 
--- where nothing is held or noted
-pub nothing_chosen : (m : MessageDescriptor) (choices : List (ℕ × ℕ)) (held : List (ℕ × Value)) → choices ≡ [] → held ≡ [] → AreChosen m choices held
-nothing_chosen m choices held none empty = subst (λ l. AreChosen m choices l) (sym empty) (subst (λ l. AreChosen m l []) (sym none) (record { member = λ first n e. absurd (cc e); noted = λ f owns first is stands. absurd (cc stands) }))
-
 -- fields that held nothing hold what the records leave
 pub filled_empty : (inner : Takes) (m : MessageDescriptor) (a b : Content) (rs : List (ℕ × Payload)) → a.fields ≡ [] → FillsFields inner m a b rs → HoldFields inner m b.fields rs
 filled_empty inner m a b rs none h = λ f owns. subst (λ l. LeavesField inner m f (value_at l (field_type f).number) (value_at b.fields (field_type f).number) rs) none (h.each f owns)

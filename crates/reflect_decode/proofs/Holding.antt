@@ -1,5 +1,5 @@
 -- What a message holds is what its parts hold.
-use Rattle.std.proofs.Common.{◌≡◌, ℕ, List, Option, Result, Ok, Err, IfOk, ap, ◌∙◌, subst}
+use Rattle.std.proofs.Common.{◌≡◌, ℕ, List, Option, Result, Ok, Err, IfOk, sym, ap, ◌∙◌, subst}
 use Rattle.std.specs.Borrow.{Bor}
 use Rattle.reflect_pool.specs.declared.message.MessageDescriptor.{MessageDescriptor}
 use Rattle.reflect_wire.specs.Reads.{Fronts}
@@ -8,8 +8,10 @@ use Rattle.reflect_wire.specs.declared.wire_error.WireError.{WireError}
 use Rattle.reflect_entries.specs.Undeclared.{undeclared}
 use Rattle.reflect_message.specs.Contents.{Content, content_of, content_in}
 use Rattle.reflect_message.specs.Held.{fields_of, choices_of, extensions_of, unknown_of}
+use Rattle.reflect_decode.specs.Accepts.{Accepts}
 use Rattle.reflect_decode.specs.Levels.{MergesAt}
 use Rattle.reflect_decode.specs.Merging.{IsBody}
+use Rattle.reflect_decode.specs.Suits.{Suits}
 use Rattle.reflect_message.specs.declared.message.DynamicMessage.{DynamicMessage}
 use Rattle.reflect_message.specs.declared.parts.Parts.{Parts}
 use Rattle.reflect_message.specs.declared.value.Value.{Value}
@@ -24,8 +26,13 @@ same_content m p fields choices extensions unknown =
     ∙ (ap (λ l. holding (fields_of m) (choices_of m) l (undeclared p.unknown)) extensions ∙ ap (λ l. holding (fields_of m) (choices_of m) (extensions_of m) l) unknown))
 
 pub merged_in : (levels : ℕ) (group : Option ℕ) (bytes : List ℕ) (m type : MessageDescriptor) (old new before after : Content) (r : Result (Bor (List ℕ)) WireError) → type ≡ m → before ≡ old → after ≡ new
-    → IfOk r (λ rest. (rs : List (ℕ × Payload)) × Fronts (IsBody group levels) bytes rs rest.now × MergesAt levels type before after rs)
-    → IfOk r (λ rest. (rs : List (ℕ × Payload)) × Fronts (IsBody group levels) bytes rs rest.now × MergesAt levels m old new rs)
+    → IfOk r (λ rest. (rs : List (ℕ × Payload)) × Fronts (IsBody group levels) bytes rs rest.now × MergesAt levels type before after rs × (Suits levels type before → Accepts levels type rs))
+    → IfOk r (λ rest. (rs : List (ℕ × Payload)) × Fronts (IsBody group levels) bytes rs rest.now × MergesAt levels m old new rs × (Suits levels m old → Accepts levels m rs))
 merged_in levels group bytes m type old new before after (Ok rest) same was is h =
-    (h.0, h.1, subst (λ t. MergesAt levels t old new h.0) same (subst (λ c. MergesAt levels type c new h.0) was (subst (λ c. MergesAt levels type before c h.0) is h.2)))
+    (
+      h.0,
+      h.1,
+      subst (λ t. MergesAt levels t old new h.0) same (subst (λ c. MergesAt levels type c new h.0) was (subst (λ c. MergesAt levels type before c h.0) is h.2)),
+      λ suits. subst (λ t. Accepts levels t h.0) same (h.3 (subst (λ t. Suits levels t before) (sym same) (subst (Suits levels m) (sym was) suits))),
+    )
 merged_in levels group bytes m type old new before after (Err e) same was is h = tt

@@ -1,3 +1,4 @@
+pub mod Accepting
 pub mod Appending
 pub mod Copying
 pub mod Extending
@@ -12,5 +13,6 @@ pub mod Owning
 pub mod Packing
 pub mod Running
 pub mod Sparing
+pub mod Suiting
 pub mod Taking
 pub mod Telling

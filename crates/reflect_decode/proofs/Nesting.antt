@@ -13,16 +13,19 @@ use Rattle.reflect_wire.specs.declared.wire_key.WireKey.{WireKey}
 use Rattle.reflect_wire.specs.declared.wire_key.WireType.TheVariants.{LengthDelimited, StartGroup}
 use Rattle.reflect_scalar.specs.Defaults.{default_in}
 use Rattle.reflect_message.specs.Contents.{Content, content_of}
+use Rattle.reflect_decode.specs.Accepts.{Accepts, AcceptsElement, AcceptsMessage}
 use Rattle.reflect_decode.specs.Elements.{Appends}
 use Rattle.reflect_decode.specs.Levels.{TakenAt, TakesAt, MergesAt}
 use Rattle.reflect_decode.specs.Maps.{LeavesValue}
 use Rattle.reflect_decode.specs.Merging.{IsBody}
 use Rattle.reflect_decode.specs.Messages.{AreInside}
+use Rattle.reflect_decode.specs.Suits.{Suits, SuitsBelow}
 use Rattle.reflect_message.specs.Messages.{IsStart, message_in}
 use Rattle.reflect_message.specs.KindTypes.{IsScalarType, IsMessageType}
 use Rattle.reflect_message.specs.Singles.{single}
 use Rattle.reflect_message.specs.declared.message.DynamicMessage.{DynamicMessage}
 use Rattle.reflect_message.specs.declared.value.Value.{Value}
+use Rattle.reflect_decode.proofs.Accepting.{inside_accepted}
 use Rattle.reflect_decode.proofs.Joining.{Joins}
 use Rattle.reflect_decode.proofs.Running.{delimited_value, group_value, whole_body}
 use Rattle.reflect_decode.proofs.Sparing.{merges_none, merges_more}
@@ -58,23 +61,36 @@ module _ (below levels : ℕ) (e : below + 1 ≡ levels) (m : MessageDescriptor)
 
   module _ (key : WireKey) (bytes : List ℕ) where
     -- the records inside a length and its bytes
-    pub delimited_taken : (grouped : Bool) (body inside rest : List ℕ) → grouped ≡ false → key.wire ≡ LengthDelimited → Fronts IsDelimited bytes body rest → inside ≡ [] → (rs : List (ℕ × Payload)) × Fronts (IsBody None below) body rs inside × MergesAt below m a b rs
-        → (p : Payload) × Fronts (IsValue levels key) bytes p rest × TakenAt levels grouped m a b (p ∷ [])
-    delimited_taken grouped body inside rest form wire h whole (rs, read, merges) =
+    pub delimited_taken : (grouped : Bool) (body inside rest : List ℕ) → grouped ≡ false → key.wire ≡ LengthDelimited → Fronts IsDelimited bytes body rest → inside ≡ [] → (rs : List (ℕ × Payload)) × Fronts (IsBody None below) body rs inside × MergesAt below m a b rs × (Suits below m a → Accepts below m rs)
+        → (p : Payload) × Fronts (IsValue levels key) bytes p rest × TakenAt levels grouped m a b (p ∷ []) × (SuitsBelow levels m a → AcceptsMessage levels grouped m.pool.now m.index p)
+    delimited_taken grouped body inside rest form wire h whole (rs, read, merges, accepted) =
         let value = delimited_value levels key bytes rest body wire h in
-        let taken = one_inside false (delimited body) rs (rs, [], whole_body below body inside rs read whole, refl, sym (append-nil rs)) merges in
-        (delimited body, value, subst (λ g. TakenAt levels g m a b (delimited body ∷ [])) (sym form) taken)
+        let spelled = whole_body below body inside rs read whole in
+        let taken = one_inside false (delimited body) rs (rs, [], spelled, refl, sym (append-nil rs)) merges in (
+          delimited body,
+          value,
+          subst (λ g. TakenAt levels g m a b (delimited body ∷ [])) (sym form) taken,
+          λ suits. subst (λ g. AcceptsMessage levels g m.pool.now m.index (delimited body)) (sym form) (inside_accepted below levels e m a false (delimited body) rs spelled accepted suits),
+        )
 
     -- the records inside a group
-    pub group_taken : (grouped : Bool) (r : Result (Bor (List ℕ)) WireError) → grouped ≡ true → key.wire ≡ StartGroup → IfOk r (λ rest. (rs : List (ℕ × Payload)) × Fronts (IsBody (Some key.number) below) bytes rs rest.now × MergesAt below m a b rs)
-        → IfOk r (λ rest. (p : Payload) × Fronts (IsValue levels key) bytes p rest.now × TakenAt levels grouped m a b (p ∷ []))
-    group_taken grouped (Ok rest) form wire (rs, read, merges) =
+    pub group_taken : (grouped : Bool) (r : Result (Bor (List ℕ)) WireError) → grouped ≡ true → key.wire ≡ StartGroup → IfOk r (λ rest. (rs : List (ℕ × Payload)) × Fronts (IsBody (Some key.number) below) bytes rs rest.now × MergesAt below m a b rs × (Suits below m a → Accepts below m rs))
+        → IfOk r (λ rest. (p : Payload) × Fronts (IsValue levels key) bytes p rest.now × TakenAt levels grouped m a b (p ∷ []) × (SuitsBelow levels m a → AcceptsMessage levels grouped m.pool.now m.index p))
+    group_taken grouped (Ok rest) form wire (rs, read, merges, accepted) =
         let value = group_value levels key below bytes rest.now rs wire e read in
         let taken = one_inside true (group (records_of rs)) rs (rs, [], refl, refl, sym (append-nil rs)) merges in
-        (group (records_of rs), value, subst (λ g. TakenAt levels g m a b (group (records_of rs) ∷ [])) (sym form) taken)
+        (
+          group (records_of rs),
+          value,
+          subst (λ g. TakenAt levels g m a b (group (records_of rs) ∷ [])) (sym form) taken,
+          λ suits. subst (λ g. AcceptsMessage levels g m.pool.now m.index (group (records_of rs))) (sym form) (inside_accepted below levels e m a true (group (records_of rs)) rs refl accepted suits),
+        )
     group_taken grouped (Err f) form wire h = tt
 
 -- what a record adds at the same level
 pub appends_at : (here levels : ℕ) (grouped : Bool) (kind : Kind) (old new : List Value) (p : Payload) → here ≡ levels
     → Appends (TakenAt here grouped) kind old new p → Appends (TakenAt levels grouped) kind old new p
 appends_at here levels grouped kind old new p e h = subst (λ l. Appends (TakenAt l grouped) kind old new p) e h
+
+pub accepts_at : (here levels : ℕ) (grouped : Bool) (kind : Kind) (p : Payload) → here ≡ levels → AcceptsElement (AcceptsMessage here) grouped kind p → AcceptsElement (AcceptsMessage levels) grouped kind p
+accepts_at here levels grouped kind p e h = subst (λ l. AcceptsElement (AcceptsMessage l) grouped kind p) e h

@@ -1,6 +1,7 @@
 -- What stays under numbers that are not read, record by record.
 use Rattle.std.proofs.Common.{◌≡◌, ◌≢◌, ◌⊎◌, inl, inr, Result, Ok, Err, IfOk, ℕ, ◌==◌, true, cond, List, [], ◌∷◌, ◌++◌, None, Some, refl, sym, ap, ◌∙◌, subst, arith}
 use Rattle.std.specs.Borrow.{Bor}
+use Rattle.std.specs.List.{AllByRecursion}
 use Rattle.std.proofs.lemmas.List.Elements.{filter-append}
 use Rattle.reflect_pool.specs.FieldsLeft.{field_type}
 use Rattle.reflect_pool.specs.declared.message.MessageDescriptor.{MessageDescriptor}
@@ -13,7 +14,9 @@ use Rattle.reflect_wire.specs.declared.wire_error.WireError.{WireError}
 use Rattle.reflect_entries.specs.Entries.{value_at}
 use Rattle.reflect_pool.specs.declared.extension.ExtensionDescriptor.{ExtensionDescriptor}
 use Rattle.reflect_scalar.specs.FieldTypes.{field_pool, extension_pool, extension_type}
-use Rattle.reflect_message.specs.Contents.{Content}
+use Rattle.reflect_message.specs.Contents.{Content, nothing}
+use Rattle.reflect_message.specs.Known.{known_field, known_extension}
+use Rattle.reflect_decode.specs.Accepts.{Accepts, AcceptsField, AcceptsMessage}
 use Rattle.reflect_decode.specs.Fields.{HoldFields, HoldExtensions}
 use Rattle.reflect_decode.specs.Keeps.{numbered, Keeps}
 use Rattle.reflect_decode.specs.Merging.{IsBody, IsRun, run_records}
@@ -22,14 +25,17 @@ use Rattle.reflect_message.specs.Declares.{Owns, OwnsExtension, NoField}
 use Rattle.reflect_message.specs.Oneofs.{AreChosen, MakesRoom, Chooses, Unsets, sibling}
 use Rattle.reflect_message.specs.Held.{Same}
 use Rattle.reflect_decode.specs.Spares.{ReadsMember, SparesFields, SparesExtensions, HoldsRead, Merges}
+use Rattle.reflect_decode.specs.Suits.{Suits, HeldSuits, SuitsBelow}
 use Rattle.reflect_decode.specs.Taking.{Leaves}
 use Rattle.reflect_message.specs.declared.value.Value.{Value}
 use Rattle.reflect_message.proofs.Choosing.{is_or_not, in_oneof, room_keeps, room_chosen}
+use Rattle.reflect_decode.proofs.Accepting.{run_of_extension, run_of_others}
 use Rattle.reflect_decode.proofs.Extending.{extended_none, extended_both, extended_apart, extended_run, extended_empty}
 use Rattle.reflect_decode.proofs.Filling.{filled_none, filled_both, filled_apart, filled_run, filled_empty}
 use Rattle.reflect_decode.proofs.Joining.{Joins}
 use Rattle.reflect_decode.proofs.Keeping.{two_empty, keeps_none, keeps_more, keeps_declared, field_declared}
 use Rattle.reflect_decode.proofs.Running.{whole_body}
+use Rattle.reflect_decode.proofs.Suiting.{nothing_suits}
 
 run_read : (n : ℕ) (run : List Payload × Payload) → numbered n (run_records n run) ≢ []
 run_read n ([], p) e = let is : (n == n) ≡ true = grind (arith) in absurd (cc (e, ap (λ b. cond {A = List (ℕ × Payload)} b ((n, p) ∷ []) []) is))
@@ -121,10 +127,13 @@ module _ (inner : Takes) (m : MessageDescriptor) where
 
   module _ (levels : ℕ) (key : WireKey) (bytes : List ℕ) (old new : Content) where
     -- where records are kept, nothing else changes
-    pub merges_kept : (r : Result (Bor (List ℕ)) WireError) → NoField m key.number → ((x : ExtensionDescriptor) → OwnsExtension m x → (extension_type x).number ≢ key.number) → new.fields ≡ old.fields → new.choices ≡ old.choices → new.extensions ≡ old.extensions
+    abbrev Answers : List ℕ → Type 0
+    Answers rest = (run : List Payload × Payload) × Fronts (IsRun levels key) bytes run rest × Merges inner m old new (run_records key.number run) × (Suits levels m old → Accepts levels m (run_records key.number run))
+
+    pub merges_kept : (r : Result (Bor (List ℕ)) WireError) → None ≡ known_field m.pool.now m.index key.number → None ≡ known_extension m.pool.now m.index key.number → NoField m key.number → ((x : ExtensionDescriptor) → OwnsExtension m x → (extension_type x).number ≢ key.number) → new.fields ≡ old.fields → new.choices ≡ old.choices → new.extensions ≡ old.extensions
         → IfOk r (λ rest. (run : List Payload × Payload) × Fronts (IsRun levels key) bytes run rest.now × Keeps m old.unknown new.unknown (run_records key.number run))
-        → IfOk r (λ rest. (run : List Payload × Payload) × Fronts (IsRun levels key) bytes run rest.now × Merges inner m old new (run_records key.number run))
-    merges_kept (Ok rest) none apart fields choices extensions h = (
+        → IfOk r (λ rest. Answers rest.now)
+    merges_kept (Ok rest) no_field no_extension none apart fields choices extensions h = (
       h.0,
       h.1,
       record {
@@ -134,15 +143,17 @@ module _ (inner : Takes) (m : MessageDescriptor) where
         extended = extended_apart inner m old.extensions new.extensions key.number h.0 (λ x owns free. apart x owns) extensions;
         unknown = h.2;
       },
+      λ suits. run_of_others levels m key.number h.0 no_field no_extension,
     )
-    merges_kept (Err e) none apart fields choices extensions h = tt
+    merges_kept (Err e) no_field no_extension none apart fields choices extensions h = tt
 
     -- records of an extension
-    pub merges_extension : (r : Result (Bor (List ℕ)) WireError) → NoField m key.number → (x : ExtensionDescriptor) → OwnsExtension m x → (extension_type x).number ≡ key.number → new.fields ≡ old.fields → new.choices ≡ old.choices → new.unknown ≡ old.unknown
+    pub merges_extension : (r : Result (Bor (List ℕ)) WireError) → NoField m key.number → (x : ExtensionDescriptor) → None ≡ known_field m.pool.now m.index key.number → Some (extension_type x) ≡ known_extension m.pool.now m.index key.number → OwnsExtension m x → (extension_type x).number ≡ key.number → new.fields ≡ old.fields → new.choices ≡ old.choices → new.unknown ≡ old.unknown
         → ((k : ℕ) → k ≢ key.number → Same old.extensions new.extensions k)
-        → IfOk r (λ rest. (run : List Payload × Payload) × Fronts (IsRun levels key) bytes run rest.now × Leaves inner (extension_pool x) (extension_type x) (value_at old.extensions key.number) (value_at new.extensions key.number) (run.0 ++ run.1 ∷ []))
-        → IfOk r (λ rest. (run : List Payload × Payload) × Fronts (IsRun levels key) bytes run rest.now × Merges inner m old new (run_records key.number run))
-    merges_extension (Ok rest) none x owns is fields choices unknown others h = (
+        → IfOk r (λ rest. (run : List Payload × Payload) × Fronts (IsRun levels key) bytes run rest.now × Leaves inner (extension_pool x) (extension_type x) (value_at old.extensions key.number) (value_at new.extensions key.number) (run.0 ++ run.1 ∷ [])
+            × (HeldSuits (SuitsBelow levels) (extension_pool x) (extension_type x) (value_at old.extensions key.number) → AllByRecursion (AcceptsField levels (AcceptsMessage levels) (extension_pool x) (extension_type x)) (run.0 ++ run.1 ∷ [])))
+        → IfOk r (λ rest. Answers rest.now)
+    merges_extension (Ok rest) none x no_field known owns is fields choices unknown others h = (
       h.0,
       h.1,
       record {
@@ -152,14 +163,17 @@ module _ (inner : Takes) (m : MessageDescriptor) where
         extended = extended_run inner m x owns key.number is none old.extensions new.extensions h.0 others h.2;
         unknown = keeps_declared m old.unknown new.unknown key.number h.0 unknown (inr (x, owns, is));
       },
-    )
-    merges_extension (Err e) none x owns is fields choices unknown others h = tt
+      λ suits. run_of_extension levels m key.number (extension_pool x) (extension_type x) h.0 no_field known owns.0.0 (h.3 (held suits)),
+    ) where
+      held : Suits levels m old → HeldSuits (SuitsBelow levels) (extension_pool x) (extension_type x) (value_at old.extensions key.number)
+      held suits = subst (λ n. HeldSuits (SuitsBelow levels) (extension_pool x) (extension_type x) (value_at old.extensions n)) is (suits.extensions x owns (subst (NoField m) (sym is) none))
+    merges_extension (Err e) none x no_field known owns is fields choices unknown others h = tt
 
 -- what a message that held nothing holds of the records
 pub decoded : (inner : Takes) (m type : MessageDescriptor) (levels : ℕ) (bytes rest : List ℕ) (a b : Content) (rs : List (ℕ × Payload)) → type ≡ m → Fronts (IsBody None levels) bytes rs rest → rest ≡ [] → Merges inner type a b rs
-    → a.fields ≡ [] → a.extensions ≡ [] → a.unknown ≡ [] → AreChosen type a.choices a.fields
-    → (rs : List (ℕ × Payload)) × SpellsRecords levels bytes (records_of rs) × Keeps m [] b.unknown rs × HoldsRead b.fields rs × HoldsRead b.extensions rs × HoldFields inner m b.fields rs × HoldExtensions inner m b.extensions rs
-decoded inner m type levels bytes rest a b rs same read whole h fields extensions unknown chosen =
+    → a.fields ≡ [] → a.extensions ≡ [] → a.unknown ≡ [] → AreChosen type a.choices a.fields → a ≡ nothing → (Suits levels type a → Accepts levels type rs)
+    → (rs : List (ℕ × Payload)) × SpellsRecords levels bytes (records_of rs) × Keeps m [] b.unknown rs × HoldsRead b.fields rs × HoldsRead b.extensions rs × HoldFields inner m b.fields rs × HoldExtensions inner m b.extensions rs × Accepts levels m rs
+decoded inner m type levels bytes rest a b rs same read whole h fields extensions unknown chosen empty accepted =
     let merged = subst (λ m. Merges inner m a b rs) same h in (
       rs,
       whole_body levels bytes rest rs read whole,
@@ -168,6 +182,7 @@ decoded inner m type levels bytes rest a b rs same read whole h fields extension
       λ n e. merged.extensions.unread n e ∙ ap (λ l. value_at l n) extensions,
       filled_empty inner m a b rs fields (merged.filled (subst (λ m. AreChosen m a.choices a.fields) same chosen)),
       extended_empty inner m a.extensions b.extensions rs extensions merged.extended,
+      subst (λ t. Accepts levels t rs) same (accepted (subst (Suits levels type) (sym empty) (nothing_suits (SuitsBelow levels) type))),
     ) where
       by : (n : ℕ) → Same a.fields b.fields n ⊎ ((value_at b.fields n ≡ None) × ReadsMember m rs) → value_at b.fields n ≡ None
       by n (inl is) = is ∙ ap (λ l. value_at l n) fields

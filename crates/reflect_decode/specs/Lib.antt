@@ -1,3 +1,4 @@
+pub mod Accepts
 pub mod Elements
 pub mod Fields
 pub mod Keeps
@@ -10,4 +11,5 @@ pub mod Packed
 pub mod Scalars
 pub mod Spares
 pub mod Spelled
+pub mod Suits
 pub mod Taking

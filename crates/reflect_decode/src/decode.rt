@@ -2,6 +2,7 @@
 
 ghost use Rattle.std.specs.Prelude.{◌≡◌, ◌≢◌, ℕ, ◌+◌, ◌<◌, ◌≤◌, List, [], ◌∷◌, ◌++◌, None, Some, length, IfOk, IfErr, OnOk, OnErr, IfSome};
 ghost use Rattle.std.specs.BTreeMap.{insert_entry};
+ghost use Rattle.std.specs.List.{AllByRecursion};
 ghost use Rattle.reflect_wire.specs.Faults.{Tells, ValueFault};
 ghost use Rattle.reflect_wire.specs.Key.{IsKey};
 ghost use Rattle.reflect_wire.specs.Reads.{Fronts, Refuses, RefusesWhole};
@@ -18,6 +19,7 @@ ghost use Rattle.reflect_scalar.specs.FieldTypes.{field_pool, either_pool, eithe
 ghost use Rattle.reflect_scalar.specs.Kinds.{wire_type};
 ghost use Rattle.reflect_scalar.specs.Singles.{Single};
 ghost use Rattle.reflect_message.specs.Contents.{content_of, content_in};
+ghost use Rattle.reflect_decode.specs.Accepts.{Accepts, AcceptsElement, AcceptsEntry, AcceptsField, AcceptsMessage, AcceptsOne};
 ghost use Rattle.reflect_decode.specs.Elements.{Appends, ContinuesList};
 ghost use Rattle.reflect_decode.specs.Levels.{TakenAt, TakesAt, MergesAt};
 ghost use Rattle.reflect_decode.specs.Keeps.{payloads};
@@ -26,6 +28,7 @@ ghost use Rattle.reflect_decode.specs.Merging.{IsBody, IsRun, run_records};
 ghost use Rattle.reflect_decode.specs.Packed.{IsPacked, PackedFault, Continues};
 ghost use Rattle.reflect_message.specs.KindTypes.{IsMessageType};
 ghost use Rattle.reflect_message.specs.Held.{Same};
+ghost use Rattle.reflect_decode.specs.Suits.{HeldSuits, PartSuits, Suits, SuitsBelow};
 ghost use Rattle.reflect_decode.specs.Taking.{Leaves};
 
 use reflect_entries::{Entries, UnknownRecords};
@@ -98,7 +101,7 @@ pub fn merge_body<'p, 'b>(
 ) -> Result<&'b [u8], WireError>
     requires nested { levels ≤ 100 }
     ensures same_type { message.new.descriptor ≡ message.old.descriptor }
-    ensures read { IfOk result (λ rest. (rs : List (ℕ × Payload)) × Fronts (IsBody group levels) bytes.now rs rest.now × MergesAt levels message.old.descriptor (content_of message.old) (content_of message.new) rs) }
+    ensures read { IfOk result (λ rest. (rs : List (ℕ × Payload)) × Fronts (IsBody group levels) bytes.now rs rest.now × MergesAt levels message.old.descriptor (content_of message.old) (content_of message.new) rs × (Suits levels message.old.descriptor (content_of message.old) → Accepts levels message.old.descriptor rs)) }
     ensures whole { group ≡ None → IfOk result (λ rest. rest.now ≡ []) }
     ensures shorter { IfOk result (λ rest. length rest.now ≤ length bytes.now) }
 {
@@ -129,7 +132,7 @@ fn merge_records<'p, 'b>(
     levels: u32,
 ) -> Result<&'b [u8], WireError>
     requires nested { levels ≤ 100 }
-    ensures read { IfOk result (λ rest. (rs : List (ℕ × Payload)) × Fronts (IsBody group levels) bytes.now rs rest.now × MergesAt levels descriptor.entry (content_in parts.old) (content_in parts.new) rs) }
+    ensures read { IfOk result (λ rest. (rs : List (ℕ × Payload)) × Fronts (IsBody group levels) bytes.now rs rest.now × MergesAt levels descriptor.entry (content_in parts.old) (content_in parts.new) rs × (Suits levels descriptor.entry (content_in parts.old) → Accepts levels descriptor.entry rs)) }
     ensures whole { group ≡ None → IfOk result (λ rest. rest.now ≡ []) }
     ensures shorter { IfOk result (λ rest. length rest.now ≤ length bytes.now) }
 {
@@ -163,7 +166,7 @@ fn merge_record<'p, 'b>(
     descriptor: MessageDescriptor<'p>,
     raw: RawRecord<'b>,
 ) -> Result<&'b [u8], WireError>
-    ensures read { IfOk result (λ rest. (run : List Payload × Payload) × Fronts (IsRun raw.entry.levels raw.entry.key) raw.entry.bytes.now run rest.now × MergesAt raw.entry.levels descriptor.entry (content_in parts.old) (content_in parts.new) (run_records raw.entry.key.number run)) }
+    ensures read { IfOk result (λ rest. (run : List Payload × Payload) × Fronts (IsRun raw.entry.levels raw.entry.key) raw.entry.bytes.now run rest.now × MergesAt raw.entry.levels descriptor.entry (content_in parts.old) (content_in parts.new) (run_records raw.entry.key.number run) × (Suits raw.entry.levels descriptor.entry (content_in parts.old) → Accepts raw.entry.levels descriptor.entry (run_records raw.entry.key.number run))) }
     ensures shorter { IfOk result (λ rest. length rest.now ≤ length raw.entry.bytes.now) }
 {
     let number = raw.key.number;
@@ -222,7 +225,7 @@ fn merge_field<'p, 'b>(
     raw: RawRecord<'b>,
 ) -> Result<&'b [u8], WireError>
     ensures others { (n : ℕ) → n ≢ raw.entry.key.number → Same content.old content.new n }
-    ensures read { IfOk result (λ rest. (run : List Payload × Payload) × Fronts (IsRun raw.entry.levels raw.entry.key) raw.entry.bytes.now run rest.now × Leaves (TakesAt raw.entry.levels) (either_pool field.entry) (either_type field.entry) (value_at content.old raw.entry.key.number) (value_at content.new raw.entry.key.number) (run.0 ++ run.1 ∷ [])) }
+    ensures read { IfOk result (λ rest. (run : List Payload × Payload) × Fronts (IsRun raw.entry.levels raw.entry.key) raw.entry.bytes.now run rest.now × Leaves (TakesAt raw.entry.levels) (either_pool field.entry) (either_type field.entry) (value_at content.old raw.entry.key.number) (value_at content.new raw.entry.key.number) (run.0 ++ run.1 ∷ []) × (HeldSuits (SuitsBelow raw.entry.levels) (either_pool field.entry) (either_type field.entry) (value_at content.old raw.entry.key.number) → AllByRecursion (AcceptsField raw.entry.levels (AcceptsMessage raw.entry.levels) (either_pool field.entry) (either_type field.entry)) (run.0 ++ run.1 ∷ []))) }
     ensures shorter { IfOk result (λ rest. length rest.now ≤ length raw.entry.bytes.now) }
 {
     let number = raw.key.number;
@@ -262,7 +265,7 @@ fn merge_message<'p, 'b>(
     raw: RawRecord<'b>,
 ) -> Result<&'b [u8], WireError>
     ensures same_type { message.new.descriptor ≡ message.old.descriptor }
-    ensures read { IfOk result (λ rest. (p : Payload) × Fronts (IsValue raw.entry.levels raw.entry.key) raw.entry.bytes.now p rest.now × TakenAt raw.entry.levels is_group message.old.descriptor (content_of message.old) (content_of message.new) (p ∷ [])) }
+    ensures read { IfOk result (λ rest. (p : Payload) × Fronts (IsValue raw.entry.levels raw.entry.key) raw.entry.bytes.now p rest.now × TakenAt raw.entry.levels is_group message.old.descriptor (content_of message.old) (content_of message.new) (p ∷ []) × (SuitsBelow raw.entry.levels message.old.descriptor (content_of message.old) → AcceptsMessage raw.entry.levels is_group message.old.descriptor.pool.now message.old.descriptor.index p)) }
     ensures shorter { IfOk result (λ rest. length rest.now ≤ length raw.entry.bytes.now) }
 {
     match raw.key.wire {
@@ -289,7 +292,7 @@ fn merge_list<'p, 'b>(
     is_group: bool,
     raw: RawRecord<'b>,
 ) -> Result<&'b [u8], WireError>
-    ensures read { IfOk result (λ rest. (run : List Payload × Payload) × Fronts (IsRun raw.entry.levels raw.entry.key) raw.entry.bytes.now run rest.now × ContinuesList (TakenAt raw.entry.levels is_group) kind.now (Some list.old) (Some list.new) (run.0 ++ run.1 ∷ [])) }
+    ensures read { IfOk result (λ rest. (run : List Payload × Payload) × Fronts (IsRun raw.entry.levels raw.entry.key) raw.entry.bytes.now run rest.now × ContinuesList (TakenAt raw.entry.levels is_group) kind.now (Some list.old) (Some list.new) (run.0 ++ run.1 ∷ []) × AllByRecursion (AcceptsElement (AcceptsMessage raw.entry.levels) is_group kind.now) (run.0 ++ run.1 ∷ [])) }
     ensures shorter { IfOk result (λ rest. length rest.now ≤ length raw.entry.bytes.now) }
 {
     let Value::List(values) = list else {
@@ -314,7 +317,7 @@ fn merge_element<'p, 'b>(
     is_group: bool,
     raw: RawRecord<'b>,
 ) -> Result<&'b [u8], WireError>
-    ensures read { IfOk result (λ rest. (p : Payload) × Fronts (IsValue raw.entry.levels raw.entry.key) raw.entry.bytes.now p rest.now × Appends (TakenAt raw.entry.levels is_group) kind.now values.old.items values.new.items p) }
+    ensures read { IfOk result (λ rest. (p : Payload) × Fronts (IsValue raw.entry.levels raw.entry.key) raw.entry.bytes.now p rest.now × Appends (TakenAt raw.entry.levels is_group) kind.now values.old.items values.new.items p × AcceptsElement (AcceptsMessage raw.entry.levels) is_group kind.now p) }
     ensures shorter { IfOk result (λ rest. length rest.now ≤ length raw.entry.bytes.now) }
 {
     if let Kind::Message(inner) = kind {
@@ -413,7 +416,7 @@ fn merge_map<'p, 'b>(
     kind: &Kind<'p>,
     raw: RawRecord<'b>,
 ) -> Result<&'b [u8], WireError>
-    ensures read { IfOk result (λ rest. (run : List Payload × Payload) × Fronts (IsRun raw.entry.levels raw.entry.key) raw.entry.bytes.now run rest.now × ((pool : PoolType) (t : KindType) → IsKind pool kind.now t → ContinuesMap (TakesAt raw.entry.levels) pool t (Some map.old) (Some map.new) (run.0 ++ run.1 ∷ []))) }
+    ensures read { IfOk result (λ rest. (run : List Payload × Payload) × Fronts (IsRun raw.entry.levels raw.entry.key) raw.entry.bytes.now run rest.now × ((pool : PoolType) (t : KindType) → IsKind pool kind.now t → ContinuesMap (TakesAt raw.entry.levels) pool t (Some map.old) (Some map.new) (run.0 ++ run.1 ∷ [])) × ((pool : PoolType) (t : KindType) → IsKind pool kind.now t → AllByRecursion (AcceptsEntry raw.entry.levels (AcceptsMessage raw.entry.levels) pool t) (run.0 ++ run.1 ∷ []))) }
     ensures shorter { IfOk result (λ rest. length rest.now ≤ length raw.entry.bytes.now) }
 {
     match map {
@@ -430,7 +433,7 @@ fn merge_entries<'p, 'b>(
     kind: &Kind<'p>,
     raw: RawRecord<'b>,
 ) -> Result<&'b [u8], WireError>
-    ensures read { IfOk result (λ rest. (run : List Payload × Payload) × Fronts (IsRun raw.entry.levels raw.entry.key) raw.entry.bytes.now run rest.now × ((pool : PoolType) (t : KindType) → IsKind pool kind.now t → PutEntries (TakesAt raw.entry.levels) pool t entries.old.entries entries.new.entries (run.0 ++ run.1 ∷ []))) }
+    ensures read { IfOk result (λ rest. (run : List Payload × Payload) × Fronts (IsRun raw.entry.levels raw.entry.key) raw.entry.bytes.now run rest.now × ((pool : PoolType) (t : KindType) → IsKind pool kind.now t → PutEntries (TakesAt raw.entry.levels) pool t entries.old.entries entries.new.entries (run.0 ++ run.1 ∷ [])) × ((pool : PoolType) (t : KindType) → IsKind pool kind.now t → AllByRecursion (AcceptsEntry raw.entry.levels (AcceptsMessage raw.entry.levels) pool t) (run.0 ++ run.1 ∷ []))) }
     ensures shorter { IfOk result (λ rest. length rest.now ≤ length raw.entry.bytes.now) }
 {
     if raw.key.wire != WireType::LengthDelimited {
@@ -489,7 +492,7 @@ fn entry_of<'p>(
     levels: u32,
 ) -> Result<(MapKey, Value<'p>), WireError>
     requires nested { levels ≤ 100 }
-    ensures read { IfOk result (λ e. (rs : List (ℕ × Payload)) × SpellsRecords levels body.now (records_of rs) × LeavesKey (field_pool keys.entry) (field_type keys.entry) e.0 (payloads 1 rs) × LeavesValue (TakesAt levels) (field_pool values.entry) (field_type values.entry) e.1 (payloads 2 rs)) }
+    ensures read { IfOk result (λ e. (rs : List (ℕ × Payload)) × SpellsRecords levels body.now (records_of rs) × LeavesKey (field_pool keys.entry) (field_type keys.entry) e.0 (payloads 1 rs) × LeavesValue (TakesAt levels) (field_pool values.entry) (field_type values.entry) e.1 (payloads 2 rs) × (IsMessageType (field_type values.entry).kind → 0 < levels) × AllByRecursion (AcceptsOne (AcceptsMessage levels) (field_pool keys.entry) (field_type keys.entry)) (payloads 1 rs) × AllByRecursion (AcceptsOne (AcceptsMessage levels) (field_pool values.entry) (field_type values.entry)) (payloads 2 rs)) }
 {
     check_level(&values, levels)?;
     let mut held_key = default_one(alloc, &keys)?;
@@ -516,7 +519,7 @@ fn merge_entry<'p, 'b>(
     values: &FieldDescriptor<'p>,
     raw: RawRecord<'b>,
 ) -> Result<&'b [u8], WireError>
-    ensures read { IfOk result (λ rest. (p : Payload) × Fronts (IsValue raw.entry.levels raw.entry.key) raw.entry.bytes.now p rest.now × ChangesPart (TakesAt raw.entry.levels) (field_pool keys.now) (field_type keys.now) held_key.old held_key.new (payloads 1 ((raw.entry.key.number, p) ∷ [])) × ChangesPart (TakesAt raw.entry.levels) (field_pool values.now) (field_type values.now) value.old value.new (payloads 2 ((raw.entry.key.number, p) ∷ []))) }
+    ensures read { IfOk result (λ rest. (p : Payload) × Fronts (IsValue raw.entry.levels raw.entry.key) raw.entry.bytes.now p rest.now × ChangesPart (TakesAt raw.entry.levels) (field_pool keys.now) (field_type keys.now) held_key.old held_key.new (payloads 1 ((raw.entry.key.number, p) ∷ [])) × ChangesPart (TakesAt raw.entry.levels) (field_pool values.now) (field_type values.now) value.old value.new (payloads 2 ((raw.entry.key.number, p) ∷ [])) × (PartSuits raw.entry.levels (field_pool keys.now) (field_type keys.now) held_key.old → AllByRecursion (AcceptsOne (AcceptsMessage raw.entry.levels) (field_pool keys.now) (field_type keys.now)) (payloads 1 ((raw.entry.key.number, p) ∷ []))) × (PartSuits raw.entry.levels (field_pool values.now) (field_type values.now) value.old → AllByRecursion (AcceptsOne (AcceptsMessage raw.entry.levels) (field_pool values.now) (field_type values.now)) (payloads 2 ((raw.entry.key.number, p) ∷ [])))) }
     ensures shorter { IfOk result (λ rest. length rest.now ≤ length raw.entry.bytes.now) }
 {
     match raw.key.number {
@@ -534,7 +537,7 @@ fn merge_part<'p, 'b>(
     field: &FieldDescriptor<'p>,
     raw: RawRecord<'b>,
 ) -> Result<&'b [u8], WireError>
-    ensures read { IfOk result (λ rest. (p : Payload) × Fronts (IsValue raw.entry.levels raw.entry.key) raw.entry.bytes.now p rest.now × ChangesPart (TakesAt raw.entry.levels) (field_pool field.now) (field_type field.now) held.old held.new (p ∷ [])) }
+    ensures read { IfOk result (λ rest. (p : Payload) × Fronts (IsValue raw.entry.levels raw.entry.key) raw.entry.bytes.now p rest.now × ChangesPart (TakesAt raw.entry.levels) (field_pool field.now) (field_type field.now) held.old held.new (p ∷ []) × (PartSuits raw.entry.levels (field_pool field.now) (field_type field.now) held.old → AcceptsOne (AcceptsMessage raw.entry.levels) (field_pool field.now) (field_type field.now) p)) }
     ensures shorter { IfOk result (λ rest. length rest.now ≤ length raw.entry.bytes.now) }
 {
     let kind = field.kind();

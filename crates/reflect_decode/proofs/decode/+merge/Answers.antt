@@ -1,3 +1,4 @@
+use Rattle.std.specs.Prelude.{option_map}
 use Rattle.std.proofs.Common.{rules, ◌≡◌, [], true, false, Some, None, refl, sym, ap, ◌∙◌, subst, arith}
 use Rattle.reflect_wire.specs.Reads.{Fronts}
 use Rattle.reflect_wire.specs.Key.{IsKey, IsDelimited}
@@ -6,24 +7,29 @@ use Rattle.reflect_wire.specs.declared.wire_key.WireType.TheVariants.{LengthDeli
 use Rattle.reflect_entries.specs.Undeclared.{undeclared}
 use Rattle.reflect_pool.specs.FieldsLeft.{field_type}
 use Rattle.reflect_pool.specs.Kinds.{IsKind}
-use Rattle.reflect_scalar.specs.FieldTypes.{field_pool, either_pool, either_type}
+use Rattle.reflect_entries.specs.Entries.{value_at}
+use Rattle.reflect_scalar.specs.FieldTypes.{field_pool, extension_type, either_pool, either_type}
 use Rattle.reflect_scalar.specs.Kinds.{packs, wire_type}
 use Rattle.reflect_scalar.specs.Singles.{scalar_view}
 use Rattle.reflect_message.specs.Contents.{content_of, content_in}
+use Rattle.reflect_decode.specs.Accepts.{AcceptsElement, AcceptsEntry, AcceptsMessage}
 use Rattle.reflect_decode.specs.Levels.{TakenAt, TakesAt}
 use Rattle.reflect_message.specs.Maps.{map_entries}
 use Rattle.reflect_message.specs.Messages.{message_in}
 use Rattle.reflect_decode.specs.Merging.{IsBody, run_records}
+use Rattle.reflect_decode.specs.Suits.{HeldSuits, SuitsBelow}
+use Rattle.reflect_decode.proofs.Accepting.{all_both, all_one, part_accepted, run_of_field}
 use Rattle.reflect_message.specs.declared.value.Value.{Message, the_lemmas}
 use Rattle.reflect_decode.proofs.Appending.{appends_value, appends_row, appends_message, appends_more, list_done}
 use Rattle.reflect_message.proofs.Choosing.{makes_room}
 use Rattle.reflect_decode.proofs.Holding.{same_content, merged_in}
 use Rattle.reflect_decode.proofs.Keeping.{kept_if_read, not_declared}
 use Rattle.reflect_decode.proofs.Kept.{no_longer, key_shorter}
-use Rattle.reflect_decode.proofs.Nesting.{appends_at, joins_at, value_unset, delimited_taken, group_taken}
-use Rattle.reflect_decode.proofs.Mapping.{key_step, value_step, part_single, part_message, put_more, map_put, entry_is_read}
+use Rattle.reflect_decode.proofs.Nesting.{accepts_at, appends_at, joins_at, value_unset, delimited_taken, group_taken}
+use Rattle.reflect_decode.proofs.Mapping.{key_step, value_step, part_single, part_message, put_more, map_put, entry_is_read, entry_accepts, key_read, value_read}
 use Rattle.reflect_decode.proofs.Running.{delimited_value, same_value, run_more, run_ends, run_behind, group_ends}
 use Rattle.reflect_decode.proofs.Sparing.{merges_none, merges_more, merges_field, merges_kept, merges_extension}
+use Rattle.reflect_decode.proofs.Suiting.{part_begins, part_stays_suiting, suits_stay}
 use Rattle.reflect_decode.proofs.Taking.{entries_of_slot, map_leaves, message_leaves, list_leaves, single_leaves}
 use Rattle.reflect_message.proofs.Lengthening.{items_of_slot}
 use Rattle.reflect_decode.proofs.decode.+merge.Goals as goal
@@ -36,7 +42,7 @@ merge_element-returns-then-is_packable t c =
     let read = c.in_ok-body.ensures.read in
     let row = c.in_ok-push_packed.ensures.read in
     record {
-      read = appends_row (TakenAt raw.levels c.args.is_group) raw.levels raw.key c.args.kind.now raw.bytes.now c.in_ok-body.rest.now _ _ c.in_ok-body.body.now row.0 wire packed read row.1 row.2;
+      read = appends_row (TakenAt raw.levels c.args.is_group) raw.levels c.args.is_group raw.key c.args.kind.now raw.bytes.now c.in_ok-body.rest.now _ _ c.in_ok-body.body.now row.0 wire packed read row.1 row.2;
       shorter = no_longer IsDelimited raw.bytes.now c.in_ok-body.rest.now c.in_ok-body.body.now read;
     }
 
@@ -47,7 +53,7 @@ merge_element-returns t c =
     let lt = found.ensures.shorter in
     let value = c.in_ok-from_scalar in
     record {
-      read = appends_value (TakenAt raw.levels c.args.is_group) raw.levels raw.key c.args.kind.now raw.bytes.now found.rest.now _ _ (scalar_view found.scalar) value.field-0 found.ensures.read c.in_ok-push-2.ensures.items value.ensures;
+      read = appends_value (TakenAt raw.levels c.args.is_group) raw.levels c.args.is_group raw.key c.args.kind.now raw.bytes.now found.rest.now _ _ (scalar_view found.scalar) value.field-0 found.ensures.read c.in_ok-push-2.ensures.items value.ensures;
       shorter = omega (arith, lt);
     }
 
@@ -57,8 +63,8 @@ merge_element-returns-in-Message-clause-read t c =
     let fresh = c.new-message in
     let found = c.in_ok-rest in
     let read = found.ensures.read in
-    appends_message (TakenAt raw.levels c.args.is_group) raw.levels raw.key c.args.kind.now raw.bytes.now found.rest.now _ _ c.in-Message.inner fresh.result c.merge_message.new.message _ read.0 (search rules) fresh.ensures.same_type fresh.ensures.empty found.ensures.same_type
-    (search (rules, the_lemmas)) c.in_ok-push.ensures.items read.1 read.2
+    appends_message (TakenAt raw.levels c.args.is_group) raw.levels c.args.is_group raw.key c.args.kind.now raw.bytes.now found.rest.now _ _ c.in-Message.inner fresh.result c.merge_message.new.message _ read.0 (search rules) fresh.ensures.same_type fresh.ensures.empty found.ensures.same_type
+    (search (rules, the_lemmas)) c.in_ok-push.ensures.items read.1 read.2 read.3
 
 pub merge_field-returns-in-Message-2-clause-read : goal.merge_field-returns-in-Message-2-clause-read
 merge_field-returns-in-Message-2-clause-read t c =
@@ -99,7 +105,8 @@ merge_list-returns-in-None-clause-read t c =
     let rest = c.in_ok-rest.rest.now in
     let read = c.in_ok-rest.ensures.read in
     let added = appends_at here.levels raw.levels c.args.is_group c.args.kind.now _ _ read.0 inv.4 read.2 in
-    list_done (TakenAt raw.levels c.args.is_group) raw.levels raw.key c.args.kind.now raw.bytes.now here.bytes.now rest _ _ _ _ _ inv.0 read.0 (search (rules, the_lemmas)) (search (rules, the_lemmas)) inv.1 (same_value raw.levels raw.key here.levels here.key here.bytes.now rest read.0 inv.4 inv.3 read.1) inv.2 added
+    list_done (TakenAt raw.levels c.args.is_group) raw.levels c.args.is_group raw.key c.args.kind.now raw.bytes.now here.bytes.now rest _ _ _ _ _ inv.0 read.0 (search (rules, the_lemmas)) (search (rules, the_lemmas)) inv.1 (same_value raw.levels raw.key here.levels here.key here.bytes.now rest read.0 inv.4 inv.3 read.1) inv.2 added inv.6
+    (accepts_at here.levels raw.levels c.args.is_group c.args.kind.now read.0 inv.4 read.3)
 
 pub merge_message-returns-in_ok-merge_body-in-LengthDelimited-clause-read : goal.merge_message-returns-in_ok-merge_body-in-LengthDelimited-clause-read
 merge_message-returns-in_ok-merge_body-in-LengthDelimited-clause-read t c =
@@ -125,7 +132,7 @@ merge_records-returns-in-Some-clause-read t c =
     let wire : next.key.wire ≡ EndGroup = search rules in
     let is : Some c.in-Some.number ≡ c.args.group = sym c.in-Some.is ∙ inv.3 in
     let ends = group_ends c.args.levels c.args.bytes.now c.records.rest.now inv.0 inv.1 c.in-Some.number next.key next.behind.now next.ensures.read wire (sym c.if-number-key.true) in
-    (inv.0, subst (λ g. Fronts (IsBody g c.args.levels) c.args.bytes.now inv.0 next.behind.now) is ends, inv.2)
+    (inv.0, subst (λ g. Fronts (IsBody g c.args.levels) c.args.bytes.now inv.0 next.behind.now) is ends, inv.2, inv.5)
 
 pub merge_records-returns-in-Some-clause-whole : goal.merge_records-returns-in-Some-clause-whole
 merge_records-returns-in-Some-clause-whole t c = λ none. absurd (cc (c.in-Some.is, c.records.invariant.3, none))
@@ -134,10 +141,10 @@ pub merge_records-returns-in-None-clause-read : goal.merge_records-returns-in-No
 merge_records-returns-in-None-clause-read t c =
     let inv = c.records.invariant in
     let is : None ≡ c.args.group = sym c.in-None.is ∙ inv.3 in
-    (inv.0, subst (λ g. Fronts (IsBody g c.args.levels) c.args.bytes.now inv.0 c.records.rest.now) is inv.1, inv.2)
+    (inv.0, subst (λ g. Fronts (IsBody g c.args.levels) c.args.bytes.now inv.0 c.records.rest.now) is inv.1, inv.2, inv.5)
 
 pub merge_list-records-init : goal.merge_list-records-init
-merge_list-records-init t c = ([], ([], refl, refl), refl, refl, refl, omega arith)
+merge_list-records-init t c = ([], ([], refl, refl), refl, refl, refl, omega arith, tt)
 
 pub merge_list-records-preserved : goal.merge_list-records-preserved
 merge_list-records-preserved t c =
@@ -158,6 +165,7 @@ merge_list-records-preserved t c =
       c.in-Some.ensures.key ∙ inv.3,
       c.in-Some.ensures.levels ∙ inv.4,
       omega (arith, before, behind, so_far),
+      all_one (AcceptsElement (AcceptsMessage raw.levels) c.args.is_group c.args.kind.now) inv.0 read.0 inv.6 (accepts_at here.levels raw.levels c.args.is_group c.args.kind.now read.0 inv.4 read.3),
     )
 
 pub merge_record-returns-in-Some-clause-read : goal.merge_record-returns-in-Some-clause-read
@@ -166,12 +174,15 @@ merge_record-returns-in-Some-clause-read t c =
     let type = c.args.descriptor in
     let run = c.in_ok-rest.ensures.read in
     let found = c.in-Some in
+    let known : option_map field_type c.declared_field.result ≡ Some (field_type found.field) = search rules in
     let room = c.in_ok-make_room.ensures in
     let cleared = c.clear_siblings.ensures in
     let made = makes_room found.field _ _ room.first room.stays room.others in (
       run.0,
       run.1,
       merges_field (TakesAt raw.levels) type found.field found.ensures.owns raw.key.number found.ensures.number _ _ _ _ run.0 made c.in_ok-rest.ensures.others run.2 cleared.unsets (cleared.chooses room.room) cleared.extensions (ap undeclared cleared.unknown),
+      λ suits. run_of_field raw.levels type raw.key.number (field_pool found.field) (field_type found.field) run.0 (sym known ∙ c.declared_field.ensures.known) found.ensures.owns.0.1
+          (run.3 (subst (λ n. HeldSuits (SuitsBelow raw.levels) (field_pool found.field) (field_type found.field) (value_at c.args.parts.now.fields n)) found.ensures.number (suits.fields found.field found.ensures.owns))),
     )
 
 pub merge_record-returns-in-Some-declared_extension-clause-read : goal.merge_record-returns-in-Some-declared_extension-clause-read
@@ -179,14 +190,18 @@ merge_record-returns-in-Some-declared_extension-clause-read t c =
     let raw = c.args.raw in
     let found = c.in-Some-declared_extension in
     let merged = c.merge_field-in-Some-declared_extension in
-    merges_extension (TakesAt raw.levels) c.args.descriptor raw.levels raw.key raw.bytes.now _ _ merged.result c.in_default.ensures.none found.extension found.ensures.owns found.ensures.number refl refl refl merged.ensures.others merged.ensures.read
+    let no_field : option_map field_type c.declared_field.result ≡ None = search rules in
+    let known : option_map extension_type c.declared_extension.result ≡ Some (extension_type found.extension) = search rules in
+    merges_extension (TakesAt raw.levels) c.args.descriptor raw.levels raw.key raw.bytes.now _ _ merged.result c.in_default.ensures.none found.extension (sym no_field ∙ c.declared_field.ensures.known) (sym known ∙ c.declared_extension.ensures.known) found.ensures.owns found.ensures.number refl refl refl merged.ensures.others merged.ensures.read
 
 pub merge_record-returns-clause-read : goal.merge_record-returns-clause-read
 merge_record-returns-clause-read t c =
     let raw = c.args.raw in
     let none = not_declared c.args.descriptor raw.key.number c.in_default.ensures.none c.in_default-declared_extension.ensures.none in
     let kept = kept_if_read c.args.descriptor raw.levels raw.key raw.bytes.now _ _ c.keep_unknown.result none c.keep_unknown.ensures.kept in
-    merges_kept (TakesAt raw.levels) c.args.descriptor raw.levels raw.key raw.bytes.now _ _ c.keep_unknown.result c.in_default.ensures.none c.in_default-declared_extension.ensures.none refl refl refl kept
+    let no_field : option_map field_type c.declared_field.result ≡ None = search rules in
+    let no_extension : option_map extension_type c.declared_extension.result ≡ None = search rules in
+    merges_kept (TakesAt raw.levels) c.args.descriptor raw.levels raw.key raw.bytes.now _ _ c.keep_unknown.result (sym no_field ∙ c.declared_field.ensures.known) (sym no_extension ∙ c.declared_extension.ensures.known) c.in_default.ensures.none c.in_default-declared_extension.ensures.none refl refl refl kept
 
 pub merge_records-records-preserved : goal.merge_records-records-preserved
 merge_records-records-preserved t c =
@@ -203,10 +218,11 @@ merge_records-records-preserved t c =
       merges_more (TakesAt c.args.levels) c.args.descriptor (joins_at c.args.levels) _ _ _ inv.0 (run_records next.key.number merged.0) inv.2 merged.2,
       inv.3,
       omega (arith, key, behind, so_far),
+      λ suits. all_both _ inv.0 (run_records next.key.number merged.0) (inv.5 suits) (merged.3 (suits_stay c.args.levels c.args.descriptor _ _ inv.0 inv.2 suits)),
     )
 
 pub merge_records-records-init : goal.merge_records-records-init
-merge_records-records-init t c = ([], ([], refl, refl), merges_none (TakesAt c.args.levels) c.args.descriptor _, refl, omega arith)
+merge_records-records-init t c = ([], ([], refl, refl), merges_none (TakesAt c.args.levels) c.args.descriptor _, refl, omega arith, λ suits. tt)
 
 pub merge_body-returns-clause-read : goal.merge_body-returns-clause-read
 merge_body-returns-clause-read t c =
@@ -221,7 +237,7 @@ merge_body-returns-clause-read t c =
 pub merge_body-returns-then-is_none-clause-read : goal.merge_body-returns-then-is_none-clause-read
 merge_body-returns-then-is_none-clause-read t c =
     let none : c.args.group ≡ None = search rules in
-    ([], ([], subst (λ g. IsBody g c.args.levels [] []) (sym none) refl, refl), merges_none (TakesAt c.args.levels) _ _)
+    ([], ([], subst (λ g. IsBody g c.args.levels [] []) (sym none) refl, refl), merges_none (TakesAt c.args.levels) _ _, λ suits. tt)
 
 pub merge_part-returns : goal.merge_part-returns
 merge_part-returns t c =
@@ -266,10 +282,12 @@ merge_entries-returns-in-None-clause-read t c =
       run_ends raw.levels raw.key raw.bytes.now here.bytes.now rest inv.0 (delimited body) inv.1 value,
       λ pool kind is. put_more (TakesAt raw.levels) pool kind _ _ _ inv.0 (delimited body) entry.key entry.value (inv.2 pool kind is)
           (entry_is_read pool kind here.levels raw.levels fields.keys fields.values body entry.key entry.value inv.4 (fields.ensures.some pool kind is) entry.ensures.read) c.in_ok-put_entry.ensures,
+      λ pool kind is. all_one (AcceptsEntry raw.levels (AcceptsMessage raw.levels) pool kind) inv.0 (delimited body) (inv.6 pool kind is)
+          (entry_accepts pool kind here.levels raw.levels fields.keys fields.values body entry.key entry.value inv.4 (fields.ensures.some pool kind is) entry.ensures.read),
     )
 
 pub merge_entries-records-init : goal.merge_entries-records-init
-merge_entries-records-init t c = ([], ([], refl, refl), (λ pool kind is. refl), refl, refl, omega arith)
+merge_entries-records-init t c = ([], ([], refl, refl), (λ pool kind is. refl), refl, refl, omega arith, λ pool kind is. tt)
 
 pub merge_entries-records-preserved : goal.merge_entries-records-preserved
 merge_entries-records-preserved t c =
@@ -295,6 +313,8 @@ merge_entries-records-preserved t c =
       found.ensures.key ∙ inv.3,
       found.ensures.levels ∙ inv.4,
       omega (arith, before, behind, so_far),
+      λ pool kind is. all_one (AcceptsEntry raw.levels (AcceptsMessage raw.levels) pool kind) inv.0 (delimited body) (inv.6 pool kind is)
+          (entry_accepts pool kind here.levels raw.levels fields.keys fields.values body entry.key entry.value inv.4 (fields.ensures.some pool kind is) entry.ensures.read),
     )
 
 pub entry_of-records-preserved : goal.entry_of-records-preserved
@@ -317,6 +337,10 @@ entry_of-records-preserved t c =
       key_step (TakesAt levels) (field_pool keys) (field_type keys) 1 inv.0 (next.key.number, p) _ _ inv.2 read.2,
       value_step (TakesAt levels) (field_pool values) (field_type values) 2 inv.0 (next.key.number, p) _ _ (joins_at levels) inv.3 read.3,
       omega (arith, key, behind, so_far),
+      part_stays_suiting levels (field_pool keys) (field_type keys) _ _ _ read.2 inv.5,
+      part_stays_suiting levels (field_pool values) (field_type values) _ _ _ read.3 inv.6,
+      part_accepted _ 1 inv.0 (next.key.number, p) inv.7 (read.4 inv.5),
+      part_accepted _ 2 inv.0 (next.key.number, p) inv.8 (read.5 inv.6),
     )
 
 pub entry_of-merge_entry-requires : goal.entry_of-merge_entry-requires
@@ -330,4 +354,31 @@ pub entry_of-records-init : goal.entry_of-records-init
 entry_of-records-init t c =
     let values = c.args.values in
     let unset = value_unset c.args.levels (field_pool values) (field_type values) c.in_ok-value.value c.in_ok-value.ensures.scalar c.in_ok-value.ensures.message c.in_ok-check_level.ensures in
-    ([], ([], refl, refl), (λ scalar. c.in_ok-held_key.ensures.scalar scalar), unset, omega arith)
+    let keys = c.args.keys in
+    let levels = c.args.levels in (
+      [],
+      ([], refl, refl),
+      (λ scalar. c.in_ok-held_key.ensures.scalar scalar),
+      unset,
+      omega arith,
+      part_begins levels (field_pool keys) (field_type keys) c.in_ok-held_key.held_key c.in_ok-held_key.ensures.message,
+      part_begins levels (field_pool values) (field_type values) c.in_ok-value.value c.in_ok-value.ensures.message,
+      tt,
+      tt,
+    )
+
+pub merge_entry-returns-in-1-clause-read : goal.merge_entry-returns-in-1-clause-read
+merge_entry-returns-in-1-clause-read t c =
+    let raw = c.args.raw in
+    let keys = c.args.keys.now in
+    let values = c.args.values.now in
+    let merged = c.merge_part in
+    key_read (TakesAt raw.levels) raw.levels raw.key raw.bytes.now (field_pool keys) (field_type keys) (field_pool values) (field_type values) _ _ _ _ merged.result (search rules) refl merged.ensures.read
+
+pub merge_entry-returns-in-2-clause-read : goal.merge_entry-returns-in-2-clause-read
+merge_entry-returns-in-2-clause-read t c =
+    let raw = c.args.raw in
+    let keys = c.args.keys.now in
+    let values = c.args.values.now in
+    let merged = c.merge_part-in-2 in
+    value_read (TakesAt raw.levels) raw.levels raw.key raw.bytes.now (field_pool keys) (field_type keys) (field_pool values) (field_type values) _ _ _ _ merged.result (search rules) refl merged.ensures.read
