@@ -11,6 +11,7 @@ pub mod Mapping
 pub mod Nesting
 pub mod Owning
 pub mod Packing
+pub mod Refusing
 pub mod Running
 pub mod Sparing
 pub mod Suiting

@@ -57,7 +57,7 @@ module _ (levels : ℕ) (key : WireKey) where
   run_spelled front lead value (q ∷ ps) p k h v =
       (front, h.0, h.1 ++ (h.2 ++ value), subst (IsKey front) (ap (key_of key.number) h.3.0) k, h.3.1, run_spelled h.1 h.2 value ps p h.4 h.5 v, ap (λ l. front ++ (l ++ value)) h.6 ∙ simp append_assoc)
 
-spells_two : (levels : ℕ) (a b : List ℕ) (rs ts : List (ℕ × Payload)) → SpellsRecords levels a (records_of rs) → SpellsRecords levels b (records_of ts) → SpellsRecords levels (a ++ b) (records_of (rs ++ ts))
+pub spells_two : (levels : ℕ) (a b : List ℕ) (rs ts : List (ℕ × Payload)) → SpellsRecords levels a (records_of rs) → SpellsRecords levels b (records_of ts) → SpellsRecords levels (a ++ b) (records_of (rs ++ ts))
 spells_two levels a b [] ts h k = subst (λ l. SpellsRecords levels l (records_of ts)) (sym (ap (λ l. l ++ b) h)) k
 spells_two levels a b (r ∷ rs) ts h k = (h.0, h.1, h.2 ++ b, h.3, h.4, spells_two levels h.2 b rs ts h.5 k, ap (λ l. l ++ b) h.6 ∙ simp append_assoc)
 

@@ -1,5 +1,5 @@
 -- What suits a message's type stays so while records are taken in.
-use Rattle.std.proofs.Common.{◌≡◌, ◌⊎◌, inl, inr, ℕ, zero, suc, Bool, true, false, List, [], ◌∷◌, Option, None, Some, refl, sym, ap, ◌∙◌, subst}
+use Rattle.std.proofs.Common.{◌≡◌, ◌⊎◌, inl, inr, ℕ, zero, suc, Bool, true, false, List, [], ◌∷◌, Option, None, Some, ◌+◌, refl, sym, ap, ◌∙◌, subst, arith}
 use Rattle.std.specs.Option.{IsSome, is_some}
 use Rattle.reflect_entries.specs.Entries.{value_at}
 use Rattle.reflect_tables.specs.Types.{PoolType, FieldType, KindType, double, float, int32, int64, uint32, uint64, sint32, sint64, fixed32, fixed64, sfixed32, sfixed64, bool, string, bytes, message, enumeration}
@@ -146,3 +146,9 @@ part_stays_suiting levels pool f old new ps h suits = part_by levels (below_stay
 -- where nothing is set, an entry's key or value is an empty message, if it is a message
 pub part_begins : (levels : ℕ) (pool : PoolType) (f : FieldType) (v : Value) → (IsMessageType f.kind → (m : DynamicMessage) × (message_in v ≡ Some m) × IsStart pool f.kind None m) → PartSuits levels pool f v
 part_begins levels pool f v h = λ type. let start = h type in (start.0, start.1, start.2.0, empty_suits levels start.0.descriptor (content_of start.0) start.2.1)
+
+-- what suits a message suits it as one below so many levels
+pub suits_below : (below levels : ℕ) → below + 1 ≡ levels → (m : MessageDescriptor) (c : Content) → SuitsBelow levels m c → SuitsBy (SuitsBelow below) m c
+suits_below below levels e m c h =
+    let above : suc below ≡ levels = omega (arith, e) in
+    subst (λ l. SuitsBelow l m c) (sym above) h

@@ -8,6 +8,7 @@ pub mod Merged
 pub mod Merging
 pub mod Messages
 pub mod Packed
+pub mod Refused
 pub mod Scalars
 pub mod Spares
 pub mod Spelled

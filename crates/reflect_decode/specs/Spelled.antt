@@ -1,7 +1,9 @@
 -- What wire bytes leave in a message.
-use Rattle.std.specs.Prelude.{ℕ, List, []}
+use Rattle.std.specs.Prelude.{ℕ, List, [], None}
 use Rattle.reflect_pool.specs.declared.message.MessageDescriptor.{MessageDescriptor}
+use Rattle.reflect_wire.specs.Faults.{Tells}
 use Rattle.reflect_wire.specs.Records.{Payload, SpellsRecords}
+use Rattle.reflect_wire.specs.declared.wire_error.WireError.{WireError}
 use Rattle.reflect_wire.specs.Views.{records_of}
 use Rattle.reflect_decode.specs.Accepts.{Accepts}
 use Rattle.reflect_decode.specs.Merged.{MergesFields, MergesExtensions}
@@ -10,6 +12,7 @@ use Rattle.reflect_message.specs.Held.{fields_of, extensions_of, unknown_of}
 use Rattle.reflect_decode.specs.Keeps.{Keeps}
 use Rattle.reflect_decode.specs.Levels.{TakesAt}
 use Rattle.reflect_message.specs.Oneofs.{IsExclusive}
+use Rattle.reflect_decode.specs.Refused.{BodyFault}
 use Rattle.reflect_decode.specs.Spares.{HoldsRead}
 use Rattle.reflect_message.specs.declared.message.DynamicMessage.{DynamicMessage}
 
@@ -25,3 +28,7 @@ abbrev pub IsMerged : MessageDescriptor → List ℕ → DynamicMessage → Dyna
 IsMerged d bytes old new =
     (rs : List (ℕ × Payload)) × SpellsRecords 100 bytes (records_of rs) × Keeps d (unknown_of old) (unknown_of new) rs
     × (IsExclusive old → MergesFields (TakesAt 100) d (fields_of old) (fields_of new) rs) × MergesExtensions (TakesAt 100) d (extensions_of old) (extensions_of new) rs
+
+-- why bytes are refused as a message of the type
+abbrev pub TellsWhy : MessageDescriptor → List ℕ → WireError → Type 0
+TellsWhy d bytes e = Tells (BodyFault 100 d.pool.now d.index None) bytes e

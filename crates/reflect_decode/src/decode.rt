@@ -3,11 +3,13 @@
 ghost use Rattle.std.specs.Prelude.{◌≡◌, ◌≢◌, ℕ, ◌+◌, ◌<◌, ◌≤◌, List, [], ◌∷◌, ◌++◌, None, Some, length, IfOk, IfErr, OnOk, OnErr, IfSome};
 ghost use Rattle.std.specs.BTreeMap.{insert_entry};
 ghost use Rattle.std.specs.List.{AllByRecursion};
+ghost use Rattle.std.specs.Option.{IsSome};
 ghost use Rattle.reflect_wire.specs.Faults.{Tells, ValueFault};
 ghost use Rattle.reflect_wire.specs.Key.{IsKey};
 ghost use Rattle.reflect_wire.specs.Reads.{Fronts, Refuses, RefusesWhole};
 ghost use Rattle.reflect_wire.specs.Records.{Payload, IsValue, SpellsRecords};
 ghost use Rattle.reflect_wire.specs.Views.{field_view, records_of};
+ghost use Rattle.reflect_wire.specs.declared.wire_error.WireError.TheVariants.{TooDeep};
 ghost use Rattle.reflect_wire.specs.declared.wire_key.WireType.TheVariants.{Varint};
 ghost use Rattle.reflect_tables.specs.Types.{PoolType, KindType};
 ghost use Rattle.reflect_pool.specs.FieldsLeft.{field_type};
@@ -19,7 +21,7 @@ ghost use Rattle.reflect_scalar.specs.FieldTypes.{field_pool, either_pool, eithe
 ghost use Rattle.reflect_scalar.specs.Kinds.{wire_type};
 ghost use Rattle.reflect_scalar.specs.Singles.{Single};
 ghost use Rattle.reflect_message.specs.Contents.{content_of, content_in};
-ghost use Rattle.reflect_decode.specs.Accepts.{Accepts, AcceptsElement, AcceptsEntry, AcceptsField, AcceptsMessage, AcceptsOne};
+ghost use Rattle.reflect_decode.specs.Accepts.{Accepts, AcceptsElement, AcceptsEntry, AcceptsField, AcceptsMessage, AcceptsOne, declared_at};
 ghost use Rattle.reflect_decode.specs.Elements.{Appends, ContinuesList};
 ghost use Rattle.reflect_decode.specs.Levels.{TakenAt, TakesAt, MergesAt};
 ghost use Rattle.reflect_decode.specs.Keeps.{payloads};
@@ -28,6 +30,9 @@ ghost use Rattle.reflect_decode.specs.Merging.{IsBody, IsRun, run_records};
 ghost use Rattle.reflect_decode.specs.Packed.{IsPacked, PackedFault, Continues};
 ghost use Rattle.reflect_message.specs.KindTypes.{IsMessageType};
 ghost use Rattle.reflect_message.specs.Held.{Same};
+ghost use Rattle.reflect_message.specs.Lists.{list_items};
+ghost use Rattle.reflect_message.specs.Maps.{map_entries};
+ghost use Rattle.reflect_decode.specs.Refused.{BodyFault, ElementFault, EntryFault, FieldFault, MapFault, MessageFault, OneFault, PartFault, RecordFault, RunFault, Within};
 ghost use Rattle.reflect_decode.specs.Suits.{HeldSuits, PartSuits, Suits, SuitsBelow};
 ghost use Rattle.reflect_decode.specs.Taking.{Leaves};
 
@@ -63,6 +68,7 @@ impl<'b> RawRecord<'b> {
     /// How many levels may lie below a message or a group in this record; `TooDeep` where it may not lie there itself.
     fn levels_below(&self) -> Result<u32, WireError>
         ensures below { IfOk result (λ levels. levels + 1 ≡ self.now.levels) }
+        ensures none { IfErr result (λ e. (e ≡ TooDeep) × (self.now.levels ≡ 0)) }
     {
         self.levels.checked_sub(1).ok_or(WireError::TooDeep)
     }
@@ -104,6 +110,7 @@ pub fn merge_body<'p, 'b>(
     ensures read { IfOk result (λ rest. (rs : List (ℕ × Payload)) × Fronts (IsBody group levels) bytes.now rs rest.now × MergesAt levels message.old.descriptor (content_of message.old) (content_of message.new) rs × (Suits levels message.old.descriptor (content_of message.old) → Accepts levels message.old.descriptor rs)) }
     ensures whole { group ≡ None → IfOk result (λ rest. rest.now ≡ []) }
     ensures shorter { IfOk result (λ rest. length rest.now ≤ length bytes.now) }
+    ensures fault { Suits levels message.old.descriptor (content_of message.old) → IfErr result (Tells (BodyFault levels message.old.descriptor.pool.now message.old.descriptor.index group) bytes.now) }
 {
     if bytes.is_empty() && group.is_none() {
         return Ok(bytes);
@@ -135,6 +142,7 @@ fn merge_records<'p, 'b>(
     ensures read { IfOk result (λ rest. (rs : List (ℕ × Payload)) × Fronts (IsBody group levels) bytes.now rs rest.now × MergesAt levels descriptor.entry (content_in parts.old) (content_in parts.new) rs × (Suits levels descriptor.entry (content_in parts.old) → Accepts levels descriptor.entry rs)) }
     ensures whole { group ≡ None → IfOk result (λ rest. rest.now ≡ []) }
     ensures shorter { IfOk result (λ rest. length rest.now ≤ length bytes.now) }
+    ensures fault { Suits levels descriptor.entry (content_in parts.old) → IfErr result (Tells (BodyFault levels descriptor.entry.pool.now descriptor.entry.index group) bytes.now) }
 {
     let mut rest = bytes;
     'records: while !rest.is_empty() {
@@ -168,6 +176,7 @@ fn merge_record<'p, 'b>(
 ) -> Result<&'b [u8], WireError>
     ensures read { IfOk result (λ rest. (run : List Payload × Payload) × Fronts (IsRun raw.entry.levels raw.entry.key) raw.entry.bytes.now run rest.now × MergesAt raw.entry.levels descriptor.entry (content_in parts.old) (content_in parts.new) (run_records raw.entry.key.number run) × (Suits raw.entry.levels descriptor.entry (content_in parts.old) → Accepts raw.entry.levels descriptor.entry (run_records raw.entry.key.number run))) }
     ensures shorter { IfOk result (λ rest. length rest.now ≤ length raw.entry.bytes.now) }
+    ensures fault { Suits raw.entry.levels descriptor.entry (content_in parts.old) → IfErr result (Tells (RunFault raw.entry.levels raw.entry.key (RecordFault raw.entry.levels (Within raw.entry.levels) descriptor.entry.pool.now (declared_at descriptor.entry.pool.now descriptor.entry.index raw.entry.key.number) raw.entry.key)) raw.entry.bytes.now) }
 {
     let number = raw.key.number;
     if let Some(field) = declared_field(descriptor, number) {
@@ -227,6 +236,7 @@ fn merge_field<'p, 'b>(
     ensures others { (n : ℕ) → n ≢ raw.entry.key.number → Same content.old content.new n }
     ensures read { IfOk result (λ rest. (run : List Payload × Payload) × Fronts (IsRun raw.entry.levels raw.entry.key) raw.entry.bytes.now run rest.now × Leaves (TakesAt raw.entry.levels) (either_pool field.entry) (either_type field.entry) (value_at content.old raw.entry.key.number) (value_at content.new raw.entry.key.number) (run.0 ++ run.1 ∷ []) × (HeldSuits (SuitsBelow raw.entry.levels) (either_pool field.entry) (either_type field.entry) (value_at content.old raw.entry.key.number) → AllByRecursion (AcceptsField raw.entry.levels (AcceptsMessage raw.entry.levels) (either_pool field.entry) (either_type field.entry)) (run.0 ++ run.1 ∷ []))) }
     ensures shorter { IfOk result (λ rest. length rest.now ≤ length raw.entry.bytes.now) }
+    ensures fault { HeldSuits (SuitsBelow raw.entry.levels) (either_pool field.entry) (either_type field.entry) (value_at content.old raw.entry.key.number) → IfErr result (Tells (RunFault raw.entry.levels raw.entry.key (FieldFault raw.entry.levels (Within raw.entry.levels) (either_pool field.entry) (either_type field.entry) raw.entry.key)) raw.entry.bytes.now) }
 {
     let number = raw.key.number;
     let kind = field.kind();
@@ -267,6 +277,7 @@ fn merge_message<'p, 'b>(
     ensures same_type { message.new.descriptor ≡ message.old.descriptor }
     ensures read { IfOk result (λ rest. (p : Payload) × Fronts (IsValue raw.entry.levels raw.entry.key) raw.entry.bytes.now p rest.now × TakenAt raw.entry.levels is_group message.old.descriptor (content_of message.old) (content_of message.new) (p ∷ []) × (SuitsBelow raw.entry.levels message.old.descriptor (content_of message.old) → AcceptsMessage raw.entry.levels is_group message.old.descriptor.pool.now message.old.descriptor.index p)) }
     ensures shorter { IfOk result (λ rest. length rest.now ≤ length raw.entry.bytes.now) }
+    ensures fault { SuitsBelow raw.entry.levels message.old.descriptor (content_of message.old) → IfErr result (Tells (MessageFault (Within raw.entry.levels) is_group message.old.descriptor.pool.now message.old.descriptor.index raw.entry.key) raw.entry.bytes.now) }
 {
     match raw.key.wire {
         WireType::LengthDelimited if !is_group => {
@@ -294,6 +305,7 @@ fn merge_list<'p, 'b>(
 ) -> Result<&'b [u8], WireError>
     ensures read { IfOk result (λ rest. (run : List Payload × Payload) × Fronts (IsRun raw.entry.levels raw.entry.key) raw.entry.bytes.now run rest.now × ContinuesList (TakenAt raw.entry.levels is_group) kind.now (Some list.old) (Some list.new) (run.0 ++ run.1 ∷ []) × AllByRecursion (AcceptsElement (AcceptsMessage raw.entry.levels) is_group kind.now) (run.0 ++ run.1 ∷ [])) }
     ensures shorter { IfOk result (λ rest. length rest.now ≤ length raw.entry.bytes.now) }
+    ensures fault { IsSome (list_items list.old) → IfErr result (Tells (RunFault raw.entry.levels raw.entry.key (ElementFault (Within raw.entry.levels) is_group kind.now raw.entry.key)) raw.entry.bytes.now) }
 {
     let Value::List(values) = list else {
         return Err(WireError::BadWireType);
@@ -319,6 +331,7 @@ fn merge_element<'p, 'b>(
 ) -> Result<&'b [u8], WireError>
     ensures read { IfOk result (λ rest. (p : Payload) × Fronts (IsValue raw.entry.levels raw.entry.key) raw.entry.bytes.now p rest.now × Appends (TakenAt raw.entry.levels is_group) kind.now values.old.items values.new.items p × AcceptsElement (AcceptsMessage raw.entry.levels) is_group kind.now p) }
     ensures shorter { IfOk result (λ rest. length rest.now ≤ length raw.entry.bytes.now) }
+    ensures fault { IfErr result (Tells (ElementFault (Within raw.entry.levels) is_group kind.now raw.entry.key) raw.entry.bytes.now) }
 {
     if let Kind::Message(inner) = kind {
         let mut message = DynamicMessage::new(alloc, *inner);
@@ -418,6 +431,7 @@ fn merge_map<'p, 'b>(
 ) -> Result<&'b [u8], WireError>
     ensures read { IfOk result (λ rest. (run : List Payload × Payload) × Fronts (IsRun raw.entry.levels raw.entry.key) raw.entry.bytes.now run rest.now × ((pool : PoolType) (t : KindType) → IsKind pool kind.now t → ContinuesMap (TakesAt raw.entry.levels) pool t (Some map.old) (Some map.new) (run.0 ++ run.1 ∷ [])) × ((pool : PoolType) (t : KindType) → IsKind pool kind.now t → AllByRecursion (AcceptsEntry raw.entry.levels (AcceptsMessage raw.entry.levels) pool t) (run.0 ++ run.1 ∷ []))) }
     ensures shorter { IfOk result (λ rest. length rest.now ≤ length raw.entry.bytes.now) }
+    ensures fault { IsSome (map_entries map.old) → (pool : PoolType) (t : KindType) → IsKind pool kind.now t → IfErr result (Tells (RunFault raw.entry.levels raw.entry.key (MapFault raw.entry.levels (Within raw.entry.levels) pool t raw.entry.key)) raw.entry.bytes.now) }
 {
     match map {
         Value::Map(entries) => merge_entries(entries, alloc, kind, raw),
@@ -435,6 +449,7 @@ fn merge_entries<'p, 'b>(
 ) -> Result<&'b [u8], WireError>
     ensures read { IfOk result (λ rest. (run : List Payload × Payload) × Fronts (IsRun raw.entry.levels raw.entry.key) raw.entry.bytes.now run rest.now × ((pool : PoolType) (t : KindType) → IsKind pool kind.now t → PutEntries (TakesAt raw.entry.levels) pool t entries.old.entries entries.new.entries (run.0 ++ run.1 ∷ [])) × ((pool : PoolType) (t : KindType) → IsKind pool kind.now t → AllByRecursion (AcceptsEntry raw.entry.levels (AcceptsMessage raw.entry.levels) pool t) (run.0 ++ run.1 ∷ []))) }
     ensures shorter { IfOk result (λ rest. length rest.now ≤ length raw.entry.bytes.now) }
+    ensures fault { (pool : PoolType) (t : KindType) → IsKind pool kind.now t → IfErr result (Tells (RunFault raw.entry.levels raw.entry.key (MapFault raw.entry.levels (Within raw.entry.levels) pool t raw.entry.key)) raw.entry.bytes.now) }
 {
     if raw.key.wire != WireType::LengthDelimited {
         return Err(WireError::BadWireType);
@@ -468,7 +483,8 @@ fn put_entry<'p>(
 
 /// `TooDeep` where the field holds a message and no level may lie below.
 fn check_level(field: &FieldDescriptor<'_>, levels: u32) -> Result<(), WireError>
-    ensures { OnOk result (IsMessageType (field_type field.now).kind → 0 < levels) }
+    ensures left { OnOk result (IsMessageType (field_type field.now).kind → 0 < levels) }
+    ensures err { IfErr result (λ e. (e ≡ TooDeep) × IsMessageType (field_type field.now).kind × (levels ≡ 0)) }
 {
     if levels > 0 {
         return Ok(());
@@ -493,6 +509,7 @@ fn entry_of<'p>(
 ) -> Result<(MapKey, Value<'p>), WireError>
     requires nested { levels ≤ 100 }
     ensures read { IfOk result (λ e. (rs : List (ℕ × Payload)) × SpellsRecords levels body.now (records_of rs) × LeavesKey (field_pool keys.entry) (field_type keys.entry) e.0 (payloads 1 rs) × LeavesValue (TakesAt levels) (field_pool values.entry) (field_type values.entry) e.1 (payloads 2 rs) × (IsMessageType (field_type values.entry).kind → 0 < levels) × AllByRecursion (AcceptsOne (AcceptsMessage levels) (field_pool keys.entry) (field_type keys.entry)) (payloads 1 rs) × AllByRecursion (AcceptsOne (AcceptsMessage levels) (field_pool values.entry) (field_type values.entry)) (payloads 2 rs)) }
+    ensures fault { IfErr result (Tells (EntryFault levels (Within levels) (field_pool keys.entry) (field_type keys.entry) (field_pool values.entry) (field_type values.entry)) body.now) }
 {
     check_level(&values, levels)?;
     let mut held_key = default_one(alloc, &keys)?;
@@ -521,6 +538,7 @@ fn merge_entry<'p, 'b>(
 ) -> Result<&'b [u8], WireError>
     ensures read { IfOk result (λ rest. (p : Payload) × Fronts (IsValue raw.entry.levels raw.entry.key) raw.entry.bytes.now p rest.now × ChangesPart (TakesAt raw.entry.levels) (field_pool keys.now) (field_type keys.now) held_key.old held_key.new (payloads 1 ((raw.entry.key.number, p) ∷ [])) × ChangesPart (TakesAt raw.entry.levels) (field_pool values.now) (field_type values.now) value.old value.new (payloads 2 ((raw.entry.key.number, p) ∷ [])) × (PartSuits raw.entry.levels (field_pool keys.now) (field_type keys.now) held_key.old → AllByRecursion (AcceptsOne (AcceptsMessage raw.entry.levels) (field_pool keys.now) (field_type keys.now)) (payloads 1 ((raw.entry.key.number, p) ∷ []))) × (PartSuits raw.entry.levels (field_pool values.now) (field_type values.now) value.old → AllByRecursion (AcceptsOne (AcceptsMessage raw.entry.levels) (field_pool values.now) (field_type values.now)) (payloads 2 ((raw.entry.key.number, p) ∷ [])))) }
     ensures shorter { IfOk result (λ rest. length rest.now ≤ length raw.entry.bytes.now) }
+    ensures fault { PartSuits raw.entry.levels (field_pool keys.now) (field_type keys.now) held_key.old → PartSuits raw.entry.levels (field_pool values.now) (field_type values.now) value.old → IfErr result (Tells (PartFault raw.entry.levels (Within raw.entry.levels) (field_pool keys.now) (field_type keys.now) (field_pool values.now) (field_type values.now) raw.entry.key) raw.entry.bytes.now) }
 {
     match raw.key.number {
         1 => merge_part(held_key, alloc, keys, raw),
@@ -539,6 +557,7 @@ fn merge_part<'p, 'b>(
 ) -> Result<&'b [u8], WireError>
     ensures read { IfOk result (λ rest. (p : Payload) × Fronts (IsValue raw.entry.levels raw.entry.key) raw.entry.bytes.now p rest.now × ChangesPart (TakesAt raw.entry.levels) (field_pool field.now) (field_type field.now) held.old held.new (p ∷ []) × (PartSuits raw.entry.levels (field_pool field.now) (field_type field.now) held.old → AcceptsOne (AcceptsMessage raw.entry.levels) (field_pool field.now) (field_type field.now) p)) }
     ensures shorter { IfOk result (λ rest. length rest.now ≤ length raw.entry.bytes.now) }
+    ensures fault { PartSuits raw.entry.levels (field_pool field.now) (field_type field.now) held.old → IfErr result (Tells (OneFault (Within raw.entry.levels) (field_pool field.now) (field_type field.now) raw.entry.key) raw.entry.bytes.now) }
 {
     let kind = field.kind();
     if let Kind::Message(_inner) = kind {

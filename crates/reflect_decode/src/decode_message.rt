@@ -1,6 +1,6 @@
-ghost use Rattle.std.specs.Prelude.{◌≡◌, IfOk, OnOk, OnErr};
+ghost use Rattle.std.specs.Prelude.{◌≡◌, IfErr, IfOk, OnOk, OnErr};
 ghost use Rattle.reflect_message.specs.Oneofs.{IsExclusive};
-ghost use Rattle.reflect_decode.specs.Spelled.{IsSpelled, IsMerged};
+ghost use Rattle.reflect_decode.specs.Spelled.{IsSpelled, IsMerged, TellsWhy};
 
 use crate::decode::{MAX_LEVELS, merge_body};
 use reflect_message::{DynamicMessage, MessageParts};
@@ -26,7 +26,8 @@ pub trait DecodeMessage<'p>: Sized {
     ) -> Result<Self, WireError>
         ensures same_type { IfOk result (λ m. (message m).descriptor ≡ descriptor.entry) }
         ensures read { IfOk result (λ m. IsSpelled descriptor.entry bytes.now (message m)) }
-        ensures exclusive { IfOk result (λ m. IsExclusive (message m)) };
+        ensures exclusive { IfOk result (λ m. IsExclusive (message m)) }
+        ensures fault { IfErr result (TellsWhy descriptor.entry bytes.now) };
 
     /// Takes in the records that the bytes spell behind those that the message stands for: numbers and texts are replaced,
     /// lists are continued, messages merged.

@@ -1,5 +1,6 @@
 use Rattle.std.specs.Prelude.{option_map}
-use Rattle.std.proofs.Common.{rules, ◌≡◌, [], true, false, Some, None, refl, sym, ap, ◌∙◌, subst, arith}
+use Rattle.std.proofs.lemmas.Result.{err_from_is_err_and}
+use Rattle.std.proofs.Common.{rules, ◌≡◌, ◌≢◌, inl, inr, [], true, false, Some, None, refl, sym, ap, ◌∙◌, subst, arith}
 use Rattle.reflect_wire.specs.Reads.{Fronts}
 use Rattle.reflect_wire.specs.Key.{IsKey, IsDelimited}
 use Rattle.reflect_wire.specs.Records.{delimited}
@@ -8,7 +9,7 @@ use Rattle.reflect_entries.specs.Undeclared.{undeclared}
 use Rattle.reflect_pool.specs.FieldsLeft.{field_type}
 use Rattle.reflect_pool.specs.Kinds.{IsKind}
 use Rattle.reflect_entries.specs.Entries.{value_at}
-use Rattle.reflect_scalar.specs.FieldTypes.{field_pool, extension_type, either_pool, either_type}
+use Rattle.reflect_scalar.specs.FieldTypes.{field_pool, extension_pool, extension_type, either_pool, either_type}
 use Rattle.reflect_scalar.specs.Kinds.{packs, wire_type}
 use Rattle.reflect_scalar.specs.Singles.{scalar_view}
 use Rattle.reflect_message.specs.Contents.{content_of, content_in}
@@ -17,19 +18,28 @@ use Rattle.reflect_decode.specs.Levels.{TakenAt, TakesAt}
 use Rattle.reflect_message.specs.Maps.{map_entries}
 use Rattle.reflect_message.specs.Messages.{message_in}
 use Rattle.reflect_decode.specs.Merging.{IsBody, run_records}
+use Rattle.reflect_message.specs.Declares.{NoField}
+use Rattle.reflect_pool.specs.declared.kind.Kind.TheVariants as kinds
+use Rattle.reflect_decode.specs.Refused.{EntryFault, MapFault, Within}
+use Rattle.reflect_decode.specs.Keeps.{payloads}
+use Rattle.reflect_pool.specs.Shapes.{holds_list, holds_map}
+use Rattle.reflect_wire.specs.Faults.{Tells}
+use Rattle.reflect_message.specs.KindTypes.{IsMessageType}
+use Rattle.reflect_message.specs.MapKeys.{key_of_value}
 use Rattle.reflect_decode.specs.Suits.{HeldSuits, SuitsBelow}
 use Rattle.reflect_decode.proofs.Accepting.{all_both, all_one, part_accepted, run_of_field}
 use Rattle.reflect_message.specs.declared.value.Value.{Message, the_lemmas}
 use Rattle.reflect_decode.proofs.Appending.{appends_value, appends_row, appends_message, appends_more, list_done}
 use Rattle.reflect_message.proofs.Choosing.{makes_room}
-use Rattle.reflect_decode.proofs.Holding.{same_content, merged_in}
+use Rattle.reflect_decode.proofs.Holding.{same_content, merged_in, fault_in}
 use Rattle.reflect_decode.proofs.Keeping.{kept_if_read, not_declared}
 use Rattle.reflect_decode.proofs.Kept.{no_longer, key_shorter}
 use Rattle.reflect_decode.proofs.Nesting.{accepts_at, appends_at, joins_at, value_unset, delimited_taken, group_taken}
 use Rattle.reflect_decode.proofs.Mapping.{key_step, value_step, part_single, part_message, put_more, map_put, entry_is_read, entry_accepts, key_read, value_read}
 use Rattle.reflect_decode.proofs.Running.{delimited_value, same_value, run_more, run_ends, run_behind, group_ends}
 use Rattle.reflect_decode.proofs.Sparing.{merges_none, merges_more, merges_field, merges_kept, merges_extension}
-use Rattle.reflect_decode.proofs.Suiting.{part_begins, part_stays_suiting, suits_stay}
+use Rattle.reflect_decode.proofs.Refusing.{entry_key_refused, entry_length, entry_refused, extension_refused, field_refused, group_refused, key_part, key_refused, keyless, list_at, list_refused, map_refused, message_fault, nested_refused, no_entries, no_items, no_key, no_message_there, one_refused, other_refused, part_fault, part_refused, record_refused, refused_as, run_at, single_refused, sized_refused, slot_is_list, slot_is_map, slot_is_message, value_part}
+use Rattle.reflect_decode.proofs.Suiting.{empty_suits, suits_below, part_begins, part_stays_suiting, suits_stay}
 use Rattle.reflect_decode.proofs.Taking.{entries_of_slot, map_leaves, message_leaves, list_leaves, single_leaves}
 use Rattle.reflect_message.proofs.Lengthening.{items_of_slot}
 use Rattle.reflect_decode.proofs.decode.+merge.Goals as goal
@@ -44,6 +54,7 @@ merge_element-returns-then-is_packable t c =
     record {
       read = appends_row (TakenAt raw.levels c.args.is_group) raw.levels c.args.is_group raw.key c.args.kind.now raw.bytes.now c.in_ok-body.rest.now _ _ c.in_ok-body.body.now row.0 wire packed read row.1 row.2;
       shorter = no_longer IsDelimited raw.bytes.now c.in_ok-body.rest.now c.in_ok-body.body.now read;
+      fault = tt;
     }
 
 pub merge_element-returns : goal.merge_element-returns
@@ -55,6 +66,7 @@ merge_element-returns t c =
     record {
       read = appends_value (TakenAt raw.levels c.args.is_group) raw.levels c.args.is_group raw.key c.args.kind.now raw.bytes.now found.rest.now _ _ (scalar_view found.scalar) value.field-0 found.ensures.read c.in_ok-push-2.ensures.items value.ensures;
       shorter = omega (arith, lt);
+      fault = tt;
     }
 
 pub merge_element-returns-in-Message-clause-read : goal.merge_element-returns-in-Message-clause-read
@@ -247,6 +259,7 @@ merge_part-returns t c =
     record {
       read = part_single (TakesAt raw.levels) (field_pool c.args.field.now) (field_type c.args.field.now) raw.levels raw.key raw.bytes.now _ _ c.kind-kind.result found.rest.now (scalar_view found.scalar) c.kind-kind.ensures found.ensures.read c.in_ok-held.ensures;
       shorter = omega (arith, lt);
+      fault = λ suits. tt;
     }
 
 pub merge_part-returns-in-Message-held-clause-read : goal.merge_part-returns-in-Message-held-clause-read
@@ -353,7 +366,7 @@ entry_of-merge_entry-requires t c =
 pub entry_of-records-init : goal.entry_of-records-init
 entry_of-records-init t c =
     let values = c.args.values in
-    let unset = value_unset c.args.levels (field_pool values) (field_type values) c.in_ok-value.value c.in_ok-value.ensures.scalar c.in_ok-value.ensures.message c.in_ok-check_level.ensures in
+    let unset = value_unset c.args.levels (field_pool values) (field_type values) c.in_ok-value.value c.in_ok-value.ensures.scalar c.in_ok-value.ensures.message c.in_ok-check_level.ensures.left in
     let keys = c.args.keys in
     let levels = c.args.levels in (
       [],
@@ -382,3 +395,290 @@ merge_entry-returns-in-2-clause-read t c =
     let values = c.args.values.now in
     let merged = c.merge_part-in-2 in
     value_read (TakesAt raw.levels) raw.levels raw.key raw.bytes.now (field_pool keys) (field_type keys) (field_pool values) (field_type values) _ _ _ _ merged.result (search rules) refl merged.ensures.read
+
+pub merge_records-returns-in_err-key-clause-fault : goal.merge_records-returns-in_err-key-clause-fault
+merge_records-returns-in_err-key-clause-fault t c =
+    let r = c.from_residual in
+    let p = err_from_is_err_and r.result r.ensures.1 in
+    let inv = c.records.invariant in
+    let type = c.args.descriptor in
+    let some : c.records.rest.now ≢ [] = search rules in
+    λ suits. rw (p.1, p.2) (key_refused c.args.levels type.pool.now type.index c.args.group c.args.bytes.now c.records.rest.now inv.0 inv.1 c.in_err-key.field-0.0 some c.in_err-key.ensures.fault)
+
+pub merge_records-returns-in_err-rest-clause-fault : goal.merge_records-returns-in_err-rest-clause-fault
+merge_records-returns-in_err-rest-clause-fault t c =
+    let r = c.from_residual-in_err-rest in
+    let p = err_from_is_err_and r.result r.ensures.1 in
+    let inv = c.records.invariant in
+    let type = c.args.descriptor in
+    let next = c.in_ok-key in
+    let other : next.key.wire ≢ EndGroup = search rules in
+    λ suits. rw (p.1, p.2) (record_refused c.args.levels type.pool.now type.index c.args.group c.args.bytes.now c.records.rest.now inv.0 inv.1 next.key next.behind.now c.in_err-rest.field-0.0 next.ensures.read other
+        (c.in_err-rest.ensures.fault (suits_stay c.args.levels type _ _ inv.0 inv.2 suits)))
+
+pub merge_record-returns-in_err-rest-clause-fault : goal.merge_record-returns-in_err-rest-clause-fault
+merge_record-returns-in_err-rest-clause-fault t c =
+    let raw = c.args.raw in
+    let r = c.from_residual-in_err-rest in
+    let p = err_from_is_err_and r.result r.ensures.1 in
+    let type = c.args.descriptor in
+    let found = c.in-Some in
+    let known : option_map field_type c.declared_field.result ≡ Some (field_type found.field) = search rules in
+    λ suits. rw (p.1, p.2) (field_refused raw.levels type.pool.now type.index raw.key.number raw.key raw.bytes.now c.in_err-rest.field-0.0 (field_pool found.field) (field_type found.field) found.ensures.owns.0.1 (sym known ∙ c.declared_field.ensures.known)
+        (c.in_err-rest.ensures.fault (subst (λ n. HeldSuits (SuitsBelow raw.levels) (field_pool found.field) (field_type found.field) (value_at c.args.parts.now.fields n)) found.ensures.number (suits.fields found.field found.ensures.owns))))
+
+pub merge_record-returns-in-Some-declared_extension-clause-fault : goal.merge_record-returns-in-Some-declared_extension-clause-fault
+merge_record-returns-in-Some-declared_extension-clause-fault t c =
+    let raw = c.args.raw in
+    let type = c.args.descriptor in
+    let found = c.in-Some-declared_extension in
+    let merged = c.merge_field-in-Some-declared_extension in
+    let no_field : option_map field_type c.declared_field.result ≡ None = search rules in
+    let known : option_map extension_type c.declared_extension.result ≡ Some (extension_type found.extension) = search rules in
+    let free = subst (NoField type) (sym found.ensures.number) c.in_default.ensures.none in
+    λ suits. refused_as merged.result _ _ (λ e told. extension_refused raw.levels type.pool.now type.index raw.key.number raw.key raw.bytes.now e (extension_pool found.extension) (extension_type found.extension) found.ensures.owns.0.0 (sym no_field ∙ c.declared_field.ensures.known) (sym known ∙ c.declared_extension.ensures.known) told)
+        (merged.ensures.fault (subst (λ n. HeldSuits (SuitsBelow raw.levels) (extension_pool found.extension) (extension_type found.extension) (value_at c.args.parts.now.extensions n)) found.ensures.number (suits.extensions found.extension found.ensures.owns free)))
+
+pub merge_record-returns-clause-fault : goal.merge_record-returns-clause-fault
+merge_record-returns-clause-fault t c =
+    let raw = c.args.raw in
+    let type = c.args.descriptor in
+    let no_field : option_map field_type c.declared_field.result ≡ None = search rules in
+    let no_extension : option_map extension_type c.declared_extension.result ≡ None = search rules in
+    λ suits. refused_as c.keep_unknown.result _ _ (λ e told. other_refused raw.levels type.pool.now type.index raw.key.number raw.key raw.bytes.now e (sym no_field ∙ c.declared_field.ensures.known) (sym no_extension ∙ c.declared_extension.ensures.known) told) c.keep_unknown.ensures.fault
+
+pub merge_body-returns-clause-fault : goal.merge_body-returns-clause-fault
+merge_body-returns-clause-fault t c =
+    let old = c.args.message.now in
+    let before = c.deref_mut.result.now in
+    let was : content_in before ≡ content_of old = same_content old before (search rules) (search rules) (search rules) (search rules) in
+    fault_in c.args.levels c.args.group c.args.bytes.now old.descriptor _ (content_of old) (content_in before) c.merge_records-outcome.result (search rules) was c.merge_records-outcome.ensures.fault
+
+pub merge_message-returns-in_ok-levels-in-StartGroup-clause-fault : goal.merge_message-returns-in_ok-levels-in-StartGroup-clause-fault
+merge_message-returns-in_ok-levels-in-StartGroup-clause-fault t c =
+    let raw = c.args.raw in
+    let type = c.args.message.now.descriptor in
+    let below = c.in_ok-levels-in-StartGroup in
+    let merged = c.merge_body-in-StartGroup in
+    let form : c.args.is_group ≡ true = search rules in
+    λ suits. refused_as merged.result _ _ (λ e told. group_refused raw.levels type.pool.now type.index raw.key raw.bytes.now below.levels below.ensures.below c.args.is_group e form c.in-StartGroup.is told)
+        (merged.ensures.fault (suits_below below.levels raw.levels below.ensures.below type _ suits))
+
+pub merge_message-returns-in_err-merge_body-in-LengthDelimited-clause-fault : goal.merge_message-returns-in_err-merge_body-in-LengthDelimited-clause-fault
+merge_message-returns-in_err-merge_body-in-LengthDelimited-clause-fault t c =
+    let raw = c.args.raw in
+    let type = c.args.message.now.descriptor in
+    let found = c.in_ok-body-in-LengthDelimited in
+    let below = c.in_ok-levels_below-in-LengthDelimited in
+    let failed = c.in_err-merge_body-in-LengthDelimited in
+    let r = c.from_residual-in_err-merge_body-in-LengthDelimited in
+    let p = err_from_is_err_and r.result r.ensures.1 in
+    let form : c.args.is_group ≡ false = search rules in
+    λ suits. rw (p.1, p.2) (sized_refused raw.levels type.pool.now type.index raw.key raw.bytes.now below.field-0 below.ensures.below c.args.is_group found.body.now found.rest.now failed.field-0.0 form c.in-LengthDelimited.is found.ensures.read
+        (failed.ensures.fault (suits_below below.field-0 raw.levels below.ensures.below type _ suits)))
+
+pub merge_element-returns-in_err-rest-clause-fault : goal.merge_element-returns-in_err-rest-clause-fault
+merge_element-returns-in_err-rest-clause-fault t c =
+    let raw = c.args.raw in
+    let fresh = c.new-message in
+    let r = c.from_residual in
+    let p = err_from_is_err_and r.result r.ensures.1 in
+    let is : c.args.kind.now ≡ kinds.Message fresh.result.descriptor = search (rules, fresh.ensures.same_type) in
+    rw (p.1, p.2) (nested_refused (Within raw.levels) c.args.is_group c.args.kind.now raw.key raw.bytes.now c.in_err-rest.field-0.0 fresh.result.descriptor is
+        (c.in_err-rest.ensures.fault (empty_suits raw.levels fresh.result.descriptor (content_of fresh.result) fresh.ensures.empty)))
+
+pub merge_list-returns-in_err-rest-clause-fault : goal.merge_list-returns-in_err-rest-clause-fault
+merge_list-returns-in_err-rest-clause-fault t c =
+    let raw = c.args.raw in
+    let here = c.records.record in
+    let inv = c.records.invariant in
+    let failed = c.in_err-rest in
+    let r = c.from_residual in
+    let p = err_from_is_err_and r.result r.ensures.1 in
+    λ listed. rw (p.1, p.2) (list_at raw.levels here.levels c.args.is_group c.args.kind.now raw.key here.key raw.bytes.now here.bytes.now inv.0 failed.field-0.0 inv.4 inv.3 inv.1 failed.ensures.fault)
+
+pub merge_list-returns-in_default : goal.merge_list-returns-in_default
+merge_list-returns-in_default t c =
+    record {
+      read = tt;
+      shorter = tt;
+      fault = λ listed. absurd (no_items c.args.list.now c.in_default.not-List listed);
+    }
+
+pub merge_map-returns-in_default : goal.merge_map-returns-in_default
+merge_map-returns-in_default t c =
+    record {
+      read = tt;
+      shorter = tt;
+      fault = λ there pool kind is. absurd (no_entries c.args.map.now c.in_default.not-Map there);
+    }
+
+pub merge_map-returns-in-Map-clause-fault : goal.merge_map-returns-in-Map-clause-fault
+merge_map-returns-in-Map-clause-fault t c = λ there pool kind is. c.merge_entries.ensures.fault pool kind is
+
+pub merge_field-returns-then-is_map-clause-fault : goal.merge_field-returns-then-is_map-clause-fault
+merge_field-returns-then-is_map-clause-fault t c =
+    let raw = c.args.raw in
+    let pool = either_pool c.args.field in
+    let type = either_type c.args.field in
+    let merged = c.merge_map in
+    let map : holds_map pool type ≡ true = search rules in
+    λ suits. refused_as merged.result _ _ (λ e told. map_refused raw.levels pool type raw.key raw.bytes.now e map told)
+        (merged.ensures.fault (slot_is_map (SuitsBelow raw.levels) pool type _ _ _ c.in_ok-map.ensures.value (search (rules, the_lemmas)) map suits) pool type.kind c.kind-kind.ensures)
+
+pub merge_field-returns-then-is_list-clause-fault : goal.merge_field-returns-then-is_list-clause-fault
+merge_field-returns-then-is_list-clause-fault t c =
+    let raw = c.args.raw in
+    let pool = either_pool c.args.field in
+    let type = either_type c.args.field in
+    let merged = c.merge_list in
+    let list : holds_list pool type ≡ true = search rules in
+    λ suits. refused_as merged.result _ _ (λ e told. list_refused raw.levels pool type raw.key raw.bytes.now e _ c.kind-kind.result (search rules) c.kind-kind.ensures list told)
+        (merged.ensures.fault (slot_is_list (SuitsBelow raw.levels) pool type _ _ _ c.in_ok-list.ensures.value (search (rules, the_lemmas)) list suits))
+
+pub merge_field-returns-in_err-scalar-in_default : goal.merge_field-returns-in_err-scalar-in_default
+merge_field-returns-in_err-scalar-in_default t c =
+    let raw = c.args.raw in
+    let pool = either_pool c.args.field in
+    let type = either_type c.args.field in
+    let failed = c.in_err-scalar-in_default in
+    let r = c.from_residual-in_err-scalar-in_default in
+    let p = err_from_is_err_and r.result r.ensures.1 in
+    let no_map : holds_map pool type ≡ false = search rules in
+    let no_list : holds_list pool type ≡ false = search rules in
+    record {
+      others = λ n other. refl;
+      read = rw (p.1) tt;
+      shorter = rw (p.1) tt;
+      fault = λ suits. rw (p.1, p.2) (one_refused raw.levels pool type raw.key raw.bytes.now failed.field-0.0 no_map no_list
+          (single_refused (Within raw.levels) type.group c.kind-kind.result raw.key raw.bytes.now failed.field-0.0 pool type c.kind-kind.ensures refl c.in_default.not-Message failed.ensures.fault));
+    }
+
+pub merge_field-returns-in_default-2 : goal.merge_field-returns-in_default-2
+merge_field-returns-in_default-2 t c =
+    let raw = c.args.raw in
+    let pool = either_pool c.args.field in
+    let type = either_type c.args.field in
+    let kind = c.in-Message in
+    let slot = c.in_ok-message-in-Message in
+    let no_map : holds_map pool type ≡ false = search rules in
+    let no_list : holds_list pool type ≡ false = search rules in
+    let is = subst (λ k. IsKind pool k type.kind) kind.is c.kind-kind.ensures in
+    record {
+      others = search rules;
+      read = tt;
+      shorter = tt;
+      fault = λ suits. absurd (no_message_there slot.field-0.now c.in_default-2.not-Message (slot_is_message (SuitsBelow raw.levels) pool type _ _ _ slot.ensures.value (search (rules, the_lemmas)) (subst IsMessageType (sym is.1) tt) no_map no_list suits));
+    }
+
+pub merge_field-returns-in-Message-2-clause-fault : goal.merge_field-returns-in-Message-2-clause-fault
+merge_field-returns-in-Message-2-clause-fault t c =
+    let raw = c.args.raw in
+    let pool = either_pool c.args.field in
+    let type = either_type c.args.field in
+    let kind = c.in-Message in
+    let fresh = c.new-in-Message in
+    let slot = c.in_ok-message-in-Message in
+    let merged = c.merge_message in
+    let no_map : holds_map pool type ≡ false = search rules in
+    let no_list : holds_list pool type ≡ false = search rules in
+    let is = subst (λ k. IsKind pool k type.kind) kind.is c.kind-kind.ensures in
+    message_fault raw.levels pool type raw.key raw.bytes.now _ (search rules) kind.inner fresh.result c.in-Message-2.message _ _ (Message fresh.result) slot.field-0.now merged.result is no_map no_list slot.ensures.value (search (rules, the_lemmas)) fresh.ensures.same_type fresh.ensures.empty (search (rules, the_lemmas)) c.in-Message-2.message-is merged.ensures.fault
+
+pub merge_part-returns-in-Message-held-clause-fault : goal.merge_part-returns-in-Message-held-clause-fault
+merge_part-returns-in-Message-held-clause-fault t c =
+    let raw = c.args.raw in
+    let field = c.args.field.now in
+    let kind = c.in-Message in
+    let held = c.in-Message-held in
+    let merged = c.merge_message in
+    let is = subst (λ k. IsKind (field_pool field) k (field_type field).kind) kind.is c.kind-kind.ensures in
+    let was : message_in c.args.held.now ≡ Some held.message = search (rules, the_lemmas) in
+    part_fault raw.levels (field_pool field) (field_type field) raw.key raw.bytes.now _ (search rules) kind._inner c.args.held.now _ merged.result is (was ∙ ap Some (sym held.message-is)) merged.ensures.fault
+
+pub merge_entry-returns-in-1-clause-fault : goal.merge_entry-returns-in-1-clause-fault
+merge_entry-returns-in-1-clause-fault t c =
+    let raw = c.args.raw in
+    let keys = c.args.keys.now in
+    let values = c.args.values.now in
+    let merged = c.merge_part in
+    λ key value. refused_as merged.result _ _ (λ e told. key_part raw.levels (Within raw.levels) (field_pool keys) (field_type keys) (field_pool values) (field_type values) raw.bytes.now raw.key e (search rules) told) (merged.ensures.fault key)
+
+pub merge_entry-returns-in-2-clause-fault : goal.merge_entry-returns-in-2-clause-fault
+merge_entry-returns-in-2-clause-fault t c =
+    let raw = c.args.raw in
+    let keys = c.args.keys.now in
+    let values = c.args.values.now in
+    let merged = c.merge_part-in-2 in
+    λ key value. refused_as merged.result _ _ (λ e told. value_part raw.levels (Within raw.levels) (field_pool keys) (field_type keys) (field_pool values) (field_type values) raw.bytes.now raw.key e (search rules) told) (merged.ensures.fault value)
+
+pub merge_entries-returns-then-ne-clause-fault : goal.merge_entries-returns-then-ne-clause-fault
+merge_entries-returns-then-ne-clause-fault t c =
+    let raw = c.args.raw in
+    let wire : raw.key.wire ≢ LengthDelimited = search rules in
+    λ pool kind is. ([], raw.bytes.now, ([], refl, refl), inl (wire, tt))
+
+pub merge_entries-returns-in_default-clause-fault : goal.merge_entries-returns-in_default-clause-fault
+merge_entries-returns-in_default-clause-fault t c =
+    let raw = c.args.raw in
+    λ pool kind is. ([], raw.bytes.now, ([], refl, refl), inr (inl (c.in_default.ensures.none pool kind is, tt)))
+
+pub merge_entries-returns-in_err-body-clause-fault : goal.merge_entries-returns-in_err-body-clause-fault
+merge_entries-returns-in_err-body-clause-fault t c =
+    let raw = c.args.raw in
+    let here = c.records.record in
+    let inv = c.records.invariant in
+    let failed = c.in_err-body in
+    let r = c.from_residual in
+    let p = err_from_is_err_and r.result r.ensures.1 in
+    let wire : raw.key.wire ≡ LengthDelimited = search rules in
+    λ pool kind is. rw (p.1, p.2) (run_at raw.levels raw.key (MapFault raw.levels (Within raw.levels) pool kind raw.key) raw.bytes.now here.bytes.now inv.0 failed.field-0.0 inv.1
+        (entry_length raw.levels (Within raw.levels) pool kind raw.key here.bytes.now failed.field-0.0 wire failed.ensures.fault))
+
+pub merge_entries-returns-in_err-key-clause-fault : goal.merge_entries-returns-in_err-key-clause-fault
+merge_entries-returns-in_err-key-clause-fault t c =
+    let raw = c.args.raw in
+    let here = c.records.record in
+    let inv = c.records.invariant in
+    let failed = c.in_err-key in
+    let fields = c.in-Some in
+    let body = c.in_ok-body in
+    let r = c.from_residual-in_err-key in
+    let p = err_from_is_err_and r.result r.ensures.1 in
+    let wire : raw.key.wire ≡ LengthDelimited = search rules in
+    λ pool kind is.
+        let parts = fields.ensures.some pool kind is in
+        let told = subst (λ l. Tells (EntryFault l (Within l) (field_pool fields.keys) (field_type fields.keys) (field_pool fields.values) (field_type fields.values)) body.body.now failed.field-0.0) inv.4 failed.ensures.fault in
+        rw (p.1, p.2) (run_at raw.levels raw.key (MapFault raw.levels (Within raw.levels) pool kind raw.key) raw.bytes.now here.bytes.now inv.0 failed.field-0.0 inv.1
+        (entry_refused raw.levels (Within raw.levels) pool kind raw.key here.bytes.now (field_pool fields.keys) (field_pool fields.values) (field_type fields.keys) (field_type fields.values) body.body.now body.rest.now failed.field-0.0 parts.0 parts.1 parts.2 parts.3 wire body.ensures.read told))
+
+pub entry_of-returns-in_err-key-clause-fault : goal.entry_of-returns-in_err-key-clause-fault
+entry_of-returns-in_err-key-clause-fault t c =
+    let inv = c.records.invariant in
+    let keys = c.args.keys in
+    let values = c.args.values in
+    let failed = c.in_err-key in
+    let r = c.from_residual-in_err-key in
+    let p = err_from_is_err_and r.result r.ensures.1 in
+    let some : c.records.rest.now ≢ [] = search rules in
+    rw (p.1, p.2) (entry_key_refused c.args.levels (Within c.args.levels) (field_pool keys) (field_type keys) (field_pool values) (field_type values) c.args.body.now c.records.rest.now inv.0 inv.1 some failed.field-0.0 failed.ensures.fault)
+
+pub entry_of-returns-in_err-rest-clause-fault : goal.entry_of-returns-in_err-rest-clause-fault
+entry_of-returns-in_err-rest-clause-fault t c =
+    let inv = c.records.invariant in
+    let keys = c.args.keys in
+    let values = c.args.values in
+    let next = c.in_ok-key in
+    let failed = c.in_err-rest in
+    let r = c.from_residual-in_err-rest in
+    let p = err_from_is_err_and r.result r.ensures.1 in
+    let some : c.records.rest.now ≢ [] = search rules in
+    rw (p.1, p.2) (part_refused c.args.levels (Within c.args.levels) (field_pool keys) (field_type keys) (field_pool values) (field_type values) c.args.body.now c.records.rest.now inv.0 inv.1 some next.key next.bytes.now failed.field-0.0 next.ensures.read (failed.ensures.fault inv.5 inv.6))
+
+pub entry_of-returns-clause-fault : goal.entry_of-returns-clause-fault
+entry_of-returns-clause-fault t c =
+    let inv = c.records.invariant in
+    let keys = c.args.keys in
+    let values = c.args.values in
+    let none : key_of_value c.records.held_key ≡ None = search rules in
+    no_key c.args.levels (Within c.args.levels) (field_pool keys) (field_type keys) (field_pool values) (field_type values) c.args.body.now (keyless c.records.held_key (field_pool keys) (field_type keys) (payloads 1 inv.0) none inv.2)
