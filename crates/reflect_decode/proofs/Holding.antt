@@ -30,13 +30,12 @@ same_content m p fields choices extensions unknown =
 pub merged_in : (levels : ℕ) (group : Option ℕ) (bytes : List ℕ) (m type : MessageDescriptor) (old new before after : Content) (r : Result (Bor (List ℕ)) WireError) → type ≡ m → before ≡ old → after ≡ new
     → IfOk r (λ rest. (rs : List (ℕ × Payload)) × Fronts (IsBody group levels) bytes rs rest.now × MergesAt levels type before after rs × (Suits levels type before → Accepts levels type rs))
     → IfOk r (λ rest. (rs : List (ℕ × Payload)) × Fronts (IsBody group levels) bytes rs rest.now × MergesAt levels m old new rs × (Suits levels m old → Accepts levels m rs))
-merged_in levels group bytes m type old new before after (Ok rest) same was is h =
-    (
-      h.0,
-      h.1,
-      subst (λ t. MergesAt levels t old new h.0) same (subst (λ c. MergesAt levels type c new h.0) was (subst (λ c. MergesAt levels type before c h.0) is h.2)),
-      λ suits. subst (λ t. Accepts levels t h.0) same (h.3 (subst (λ t. Suits levels t before) (sym same) (subst (Suits levels m) (sym was) suits))),
-    )
+merged_in levels group bytes m type old new before after (Ok rest) same was is h = (
+  h.0,
+  h.1,
+  subst (λ t. MergesAt levels t old new h.0) same (subst (λ c. MergesAt levels type c new h.0) was (subst (λ c. MergesAt levels type before c h.0) is h.2)),
+  λ suits. subst (λ t. Accepts levels t h.0) same (h.3 (subst (λ t. Suits levels t before) (sym same) (subst (Suits levels m) (sym was) suits))),
+)
 merged_in levels group bytes m type old new before after (Err e) same was is h = tt
 
 pub fault_in : (levels : ℕ) (group : Option ℕ) (bytes : List ℕ) (m type : MessageDescriptor) (old before : Content) (r : Result (Bor (List ℕ)) WireError) → type ≡ m → before ≡ old

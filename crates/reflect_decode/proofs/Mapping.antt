@@ -85,8 +85,7 @@ module _ (inner : Takes) (pool : PoolType) (f : FieldType) where
         → IfOk r (λ rest. (p : Payload) × Fronts (IsValue levels key) bytes p rest.now × inner.message grouped before.descriptor (content_of before) (content_of after) (p ∷ []) × (SuitsBelow levels before.descriptor (content_of before) → AcceptsMessage levels grouped before.descriptor.pool.now before.descriptor.index p))
         → IfOk r (λ rest. (p : Payload) × Fronts (IsValue levels key) bytes p rest.now × ChangesPart inner pool f old new (p ∷ []) × (PartSuits levels pool f old → AcceptsOne (AcceptsMessage levels) pool f p))
     part_message grouped form d before after (Ok rest) is was now same h =
-        let taken = subst (λ g. inner.message g before.descriptor (content_of before) (content_of after) (h.0 ∷ [])) form h.2 in
-        (
+        let taken = subst (λ g. inner.message g before.descriptor (content_of before) (content_of after) (h.0 ∷ [])) form h.2 in (
           h.0,
           h.1,
           ((λ scalar. absurd (subst IsScalarType is.1 scalar)), λ type. (before, after, was, now, same, taken)),

@@ -78,8 +78,7 @@ module _ (below levels : ℕ) (e : below + 1 ≡ levels) (m : MessageDescriptor)
         → IfOk r (λ rest. (p : Payload) × Fronts (IsValue levels key) bytes p rest.now × TakenAt levels grouped m a b (p ∷ []) × (SuitsBelow levels m a → AcceptsMessage levels grouped m.pool.now m.index p))
     group_taken grouped (Ok rest) form wire (rs, read, merges, accepted) =
         let value = group_value levels key below bytes rest.now rs wire e read in
-        let taken = one_inside true (group (records_of rs)) rs (rs, [], refl, refl, sym (append-nil rs)) merges in
-        (
+        let taken = one_inside true (group (records_of rs)) rs (rs, [], refl, refl, sym (append-nil rs)) merges in (
           group (records_of rs),
           value,
           subst (λ g. TakenAt levels g m a b (group (records_of rs) ∷ [])) (sym form) taken,

@@ -3,7 +3,7 @@ use Rattle.std.specs.BTreeMap.{BTreeMap}
 use Rattle.std.specs.Borrow.{Bor}
 use Rattle.std.specs.Option.{IsSome, is_some, option_or}
 use Rattle.std.specs.Prelude.{string_bytes}
-use Rattle.std.proofs.Common.{◌≡◌, ◌≢◌, ◌⊎◌, inl, inr, ℕ, zero, suc, ◌+◌, Bool, true, false, List, [], ◌∷◌, ◌++◌, map, Option, None, Some, unwrap_or, Result, Ok, Err, IfErr, Vec, Global, refl, sym, ap, ◌∙◌, subst, append_assoc, append-nil, arith}
+use Rattle.std.proofs.Common.{◌≡◌, ◌≢◌, ◌⊎◌, inl, inr, ℕ, suc, ◌+◌, Bool, true, false, List, [], ◌∷◌, ◌++◌, map, Option, None, Some, unwrap_or, Result, Ok, Err, IfErr, Vec, Global, refl, sym, ap, ◌∙◌, subst, append_assoc, append-nil, arith}
 use Rattle.reflect_tables.specs.Types.{PoolType, FieldType, KindType}
 use Rattle.reflect_tables.specs.Types as types
 use Rattle.reflect_pool.specs.Kinds.{IsKind}
@@ -14,7 +14,7 @@ use Rattle.reflect_pool.specs.declared.message.MessageDescriptor.{MessageDescrip
 use Rattle.reflect_wire.specs.Faults.{KeyFault, DelimitedFault, ValueFault, Tells}
 use Rattle.reflect_wire.specs.Key.{IsKey, IsDelimited}
 use Rattle.reflect_wire.specs.Reads.{Fronts}
-use Rattle.reflect_wire.specs.Records.{Payload, varint, fixed64, delimited, group, fixed32, key_of, SpellsRecords}
+use Rattle.reflect_wire.specs.Records.{Payload, varint, fixed64, delimited, fixed32, key_of, SpellsRecords}
 use Rattle.reflect_wire.specs.Views.{records_of}
 use Rattle.reflect_wire.specs.declared.wire_error.WireError.{WireError}
 use Rattle.reflect_wire.specs.declared.wire_error.WireError.TheVariants.{Truncated, EndGroupMismatch, TooDeep, BadWireType}

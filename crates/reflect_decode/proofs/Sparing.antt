@@ -151,7 +151,7 @@ module _ (inner : Takes) (m : MessageDescriptor) where
     pub merges_extension : (r : Result (Bor (List ℕ)) WireError) → NoField m key.number → (x : ExtensionDescriptor) → None ≡ known_field m.pool.now m.index key.number → Some (extension_type x) ≡ known_extension m.pool.now m.index key.number → OwnsExtension m x → (extension_type x).number ≡ key.number → new.fields ≡ old.fields → new.choices ≡ old.choices → new.unknown ≡ old.unknown
         → ((k : ℕ) → k ≢ key.number → Same old.extensions new.extensions k)
         → IfOk r (λ rest. (run : List Payload × Payload) × Fronts (IsRun levels key) bytes run rest.now × Leaves inner (extension_pool x) (extension_type x) (value_at old.extensions key.number) (value_at new.extensions key.number) (run.0 ++ run.1 ∷ [])
-            × (HeldSuits (SuitsBelow levels) (extension_pool x) (extension_type x) (value_at old.extensions key.number) → AllByRecursion (AcceptsField levels (AcceptsMessage levels) (extension_pool x) (extension_type x)) (run.0 ++ run.1 ∷ [])))
+        × (HeldSuits (SuitsBelow levels) (extension_pool x) (extension_type x) (value_at old.extensions key.number) → AllByRecursion (AcceptsField levels (AcceptsMessage levels) (extension_pool x) (extension_type x)) (run.0 ++ run.1 ∷ [])))
         → IfOk r (λ rest. Answers rest.now)
     merges_extension (Ok rest) none x no_field known owns is fields choices unknown others h = (
       h.0,

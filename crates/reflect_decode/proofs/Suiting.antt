@@ -1,5 +1,5 @@
 -- What suits a message's type stays so while records are taken in.
-use Rattle.std.proofs.Common.{◌≡◌, ◌⊎◌, inl, inr, ℕ, zero, suc, Bool, true, false, List, [], ◌∷◌, Option, None, Some, ◌+◌, refl, sym, ap, ◌∙◌, subst, arith}
+use Rattle.std.proofs.Common.{◌≡◌, ◌⊎◌, inl, inr, ℕ, zero, suc, Bool, true, false, List, [], ◌∷◌, Option, None, Some, ◌+◌, refl, sym, ap, subst, arith}
 use Rattle.std.specs.Option.{IsSome, is_some}
 use Rattle.reflect_entries.specs.Entries.{value_at}
 use Rattle.reflect_tables.specs.Types.{PoolType, FieldType, KindType, double, float, int32, int64, uint32, uint64, sint32, sint64, fixed32, fixed64, sfixed32, sfixed64, bool, string, bytes, message, enumeration}
@@ -15,7 +15,7 @@ use Rattle.reflect_scalar.specs.Floats.{IsFloat, HoldsFloats}
 use Rattle.reflect_message.specs.Contents.{Content, content_of, nothing}
 use Rattle.reflect_message.specs.Declares.{Owns}
 use Rattle.reflect_message.specs.KindTypes.{IsScalarType, IsMessageType}
-use Rattle.reflect_message.specs.Messages.{message_in, message_held, IsStart}
+use Rattle.reflect_message.specs.Messages.{message_in, IsStart}
 use Rattle.reflect_message.specs.Oneofs.{AreChosen}
 use Rattle.reflect_message.specs.declared.message.DynamicMessage.{DynamicMessage}
 use Rattle.reflect_message.specs.declared.value.Value.{Value}

@@ -17,7 +17,7 @@ use Rattle.reflect_wire.specs.declared.wire_key.WireType.TheVariants.{LengthDeli
 use Rattle.reflect_scalar.specs.Defaults.{default_in}
 use Rattle.reflect_scalar.specs.Kinds.{wire_type, packs}
 use Rattle.reflect_scalar.specs.Meaning.{IsBadWireType, ScalarFault}
-use Rattle.reflect_scalar.specs.Singles.{Single, truth, int32, int64, uint32, uint64, text, blob, enumerated}
+use Rattle.reflect_scalar.specs.Singles.{Single, truth, int32, int64, uint32, uint64, text}
 use Rattle.reflect_message.specs.KindTypes.{IsMessageType}
 use Rattle.reflect_message.specs.Known.{entry_field}
 use Rattle.reflect_decode.specs.Accepts.{declared_at}
@@ -33,8 +33,8 @@ abbrev pub MessageFault : Refusal → Bool → PoolType → ℕ → WireKey → 
 MessageFault inner false pool i key bytes e =
     ((key.wire ≢ LengthDelimited) × IsBadWireType e)
     ⊎ ((key.wire ≡ LengthDelimited)
-        × (DelimitedFault bytes e
-            ⊎ ((body rest : List ℕ) × Fronts IsDelimited bytes body rest × inner pool i None body e)))
+    × (DelimitedFault bytes e
+    ⊎ ((body rest : List ℕ) × Fronts IsDelimited bytes body rest × inner pool i None body e)))
 MessageFault inner true pool i key bytes e =
     ((key.wire ≢ StartGroup) × IsBadWireType e)
     ⊎ ((key.wire ≡ StartGroup) × inner pool i (Some key.number) bytes e)
@@ -97,7 +97,7 @@ EntryFault levels inner p keys q values body e =
     (IsMessageType values.kind × (levels ≡ 0) × IsTooDeep e)
     ⊎ ((HoldsKeys p keys → ⊥) × IsBadWireType e)
     ⊎ ((rs : List (ℕ × Payload)) × (rest : List ℕ) × Fronts (SpellsRecords levels) body (records_of rs) rest × (rest ≢ [])
-        × (KeyFault rest e ⊎ ((key : WireKey) × (behind : List ℕ) × Fronts IsKey rest key behind × PartFault levels inner p keys q values key behind e)))
+    × (KeyFault rest e ⊎ ((key : WireKey) × (behind : List ℕ) × Fronts IsKey rest key behind × PartFault levels inner p keys q values key behind e)))
 
 -- behind the key of a map's field
 abbrev pub MapFault : ℕ → Refusal → PoolType → KindType → WireKey → List ℕ → WireError → Type 0
@@ -106,7 +106,7 @@ MapFault levels inner pool t key bytes e =
     ⊎ (((entry_field pool t 1 ≡ None) ⊎ (entry_field pool t 2 ≡ None)) × IsBadWireType e)
     ⊎ ((key.wire ≡ LengthDelimited) × DelimitedFault bytes e)
     ⊎ ((keys values : FieldType) × (body rest : List ℕ) × (entry_field pool t 1 ≡ Some keys) × (entry_field pool t 2 ≡ Some values)
-        × (key.wire ≡ LengthDelimited) × Fronts IsDelimited bytes body rest × EntryFault levels inner pool keys pool values body e)
+    × (key.wire ≡ LengthDelimited) × Fronts IsDelimited bytes body rest × EntryFault levels inner pool keys pool values body e)
 
 -- by whether the field is a map, and whether it is a list
 abbrev pub FaultAs : ℕ → Refusal → PoolType → FieldType → Bool → Bool → WireKey → List ℕ → WireError → Type 0
@@ -135,9 +135,9 @@ abbrev pub BodyBy : ℕ → Refusal → Refusal
 BodyBy levels inner pool i group bytes e =
     (rs : List (ℕ × Payload)) × (rest : List ℕ) × Fronts (SpellsRecords levels) bytes (records_of rs) rest
     × (((group ≡ None → rest ≢ []) × KeyFault rest e)
-        ⊎ ((key : WireKey) × (behind : List ℕ) × Fronts IsKey rest key behind
-            × ((IsWrongEnd group key × IsEndMismatch e)
-                ⊎ ((key.wire ≢ EndGroup) × RecordFault levels inner pool (declared_at pool i key.number) key behind e))))
+    ⊎ ((key : WireKey) × (behind : List ℕ) × Fronts IsKey rest key behind
+    × ((IsWrongEnd group key × IsEndMismatch e)
+    ⊎ ((key.wire ≢ EndGroup) × RecordFault levels inner pool (declared_at pool i key.number) key behind e))))
 
 -- below so many levels: at none there is no message
 abbrev pub Within : ℕ → Refusal

@@ -1,5 +1,5 @@
 -- What a message holds suits its type, as deep as records may reach.
-use Rattle.std.specs.Prelude.{◌≡◌, ℕ, zero, suc, Bool, true, false, List, Option, None, Some}
+use Rattle.std.specs.Prelude.{◌≡◌, ℕ, zero, suc, Bool, true, false, Option, None, Some}
 use Rattle.std.specs.Option.{IsSome}
 use Rattle.reflect_entries.specs.Entries.{value_at}
 use Rattle.reflect_tables.specs.Types.{PoolType, FieldType, KindType}

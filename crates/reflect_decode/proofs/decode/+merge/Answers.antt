@@ -414,7 +414,7 @@ merge_records-returns-in_err-rest-clause-fault t c =
     let next = c.in_ok-key in
     let other : next.key.wire ≢ EndGroup = search rules in
     λ suits. rw (p.1, p.2) (record_refused c.args.levels type.pool.now type.index c.args.group c.args.bytes.now c.records.rest.now inv.0 inv.1 next.key next.behind.now c.in_err-rest.field-0.0 next.ensures.read other
-        (c.in_err-rest.ensures.fault (suits_stay c.args.levels type _ _ inv.0 inv.2 suits)))
+    (c.in_err-rest.ensures.fault (suits_stay c.args.levels type _ _ inv.0 inv.2 suits)))
 
 pub merge_record-returns-in_err-rest-clause-fault : goal.merge_record-returns-in_err-rest-clause-fault
 merge_record-returns-in_err-rest-clause-fault t c =
@@ -425,7 +425,7 @@ merge_record-returns-in_err-rest-clause-fault t c =
     let found = c.in-Some in
     let known : option_map field_type c.declared_field.result ≡ Some (field_type found.field) = search rules in
     λ suits. rw (p.1, p.2) (field_refused raw.levels type.pool.now type.index raw.key.number raw.key raw.bytes.now c.in_err-rest.field-0.0 (field_pool found.field) (field_type found.field) found.ensures.owns.0.1 (sym known ∙ c.declared_field.ensures.known)
-        (c.in_err-rest.ensures.fault (subst (λ n. HeldSuits (SuitsBelow raw.levels) (field_pool found.field) (field_type found.field) (value_at c.args.parts.now.fields n)) found.ensures.number (suits.fields found.field found.ensures.owns))))
+    (c.in_err-rest.ensures.fault (subst (λ n. HeldSuits (SuitsBelow raw.levels) (field_pool found.field) (field_type found.field) (value_at c.args.parts.now.fields n)) found.ensures.number (suits.fields found.field found.ensures.owns))))
 
 pub merge_record-returns-in-Some-declared_extension-clause-fault : goal.merge_record-returns-in-Some-declared_extension-clause-fault
 merge_record-returns-in-Some-declared_extension-clause-fault t c =
@@ -437,7 +437,7 @@ merge_record-returns-in-Some-declared_extension-clause-fault t c =
     let known : option_map extension_type c.declared_extension.result ≡ Some (extension_type found.extension) = search rules in
     let free = subst (NoField type) (sym found.ensures.number) c.in_default.ensures.none in
     λ suits. refused_as merged.result _ _ (λ e told. extension_refused raw.levels type.pool.now type.index raw.key.number raw.key raw.bytes.now e (extension_pool found.extension) (extension_type found.extension) found.ensures.owns.0.0 (sym no_field ∙ c.declared_field.ensures.known) (sym known ∙ c.declared_extension.ensures.known) told)
-        (merged.ensures.fault (subst (λ n. HeldSuits (SuitsBelow raw.levels) (extension_pool found.extension) (extension_type found.extension) (value_at c.args.parts.now.extensions n)) found.ensures.number (suits.extensions found.extension found.ensures.owns free)))
+    (merged.ensures.fault (subst (λ n. HeldSuits (SuitsBelow raw.levels) (extension_pool found.extension) (extension_type found.extension) (value_at c.args.parts.now.extensions n)) found.ensures.number (suits.extensions found.extension found.ensures.owns free)))
 
 pub merge_record-returns-clause-fault : goal.merge_record-returns-clause-fault
 merge_record-returns-clause-fault t c =
@@ -462,7 +462,7 @@ merge_message-returns-in_ok-levels-in-StartGroup-clause-fault t c =
     let merged = c.merge_body-in-StartGroup in
     let form : c.args.is_group ≡ true = search rules in
     λ suits. refused_as merged.result _ _ (λ e told. group_refused raw.levels type.pool.now type.index raw.key raw.bytes.now below.levels below.ensures.below c.args.is_group e form c.in-StartGroup.is told)
-        (merged.ensures.fault (suits_below below.levels raw.levels below.ensures.below type _ suits))
+    (merged.ensures.fault (suits_below below.levels raw.levels below.ensures.below type _ suits))
 
 pub merge_message-returns-in_err-merge_body-in-LengthDelimited-clause-fault : goal.merge_message-returns-in_err-merge_body-in-LengthDelimited-clause-fault
 merge_message-returns-in_err-merge_body-in-LengthDelimited-clause-fault t c =
@@ -475,7 +475,7 @@ merge_message-returns-in_err-merge_body-in-LengthDelimited-clause-fault t c =
     let p = err_from_is_err_and r.result r.ensures.1 in
     let form : c.args.is_group ≡ false = search rules in
     λ suits. rw (p.1, p.2) (sized_refused raw.levels type.pool.now type.index raw.key raw.bytes.now below.field-0 below.ensures.below c.args.is_group found.body.now found.rest.now failed.field-0.0 form c.in-LengthDelimited.is found.ensures.read
-        (failed.ensures.fault (suits_below below.field-0 raw.levels below.ensures.below type _ suits)))
+    (failed.ensures.fault (suits_below below.field-0 raw.levels below.ensures.below type _ suits)))
 
 pub merge_element-returns-in_err-rest-clause-fault : goal.merge_element-returns-in_err-rest-clause-fault
 merge_element-returns-in_err-rest-clause-fault t c =
@@ -485,7 +485,7 @@ merge_element-returns-in_err-rest-clause-fault t c =
     let p = err_from_is_err_and r.result r.ensures.1 in
     let is : c.args.kind.now ≡ kinds.Message fresh.result.descriptor = search (rules, fresh.ensures.same_type) in
     rw (p.1, p.2) (nested_refused (Within raw.levels) c.args.is_group c.args.kind.now raw.key raw.bytes.now c.in_err-rest.field-0.0 fresh.result.descriptor is
-        (c.in_err-rest.ensures.fault (empty_suits raw.levels fresh.result.descriptor (content_of fresh.result) fresh.ensures.empty)))
+    (c.in_err-rest.ensures.fault (empty_suits raw.levels fresh.result.descriptor (content_of fresh.result) fresh.ensures.empty)))
 
 pub merge_list-returns-in_err-rest-clause-fault : goal.merge_list-returns-in_err-rest-clause-fault
 merge_list-returns-in_err-rest-clause-fault t c =
@@ -524,7 +524,7 @@ merge_field-returns-then-is_map-clause-fault t c =
     let merged = c.merge_map in
     let map : holds_map pool type ≡ true = search rules in
     λ suits. refused_as merged.result _ _ (λ e told. map_refused raw.levels pool type raw.key raw.bytes.now e map told)
-        (merged.ensures.fault (slot_is_map (SuitsBelow raw.levels) pool type _ _ _ c.in_ok-map.ensures.value (search (rules, the_lemmas)) map suits) pool type.kind c.kind-kind.ensures)
+    (merged.ensures.fault (slot_is_map (SuitsBelow raw.levels) pool type _ _ _ c.in_ok-map.ensures.value (search (rules, the_lemmas)) map suits) pool type.kind c.kind-kind.ensures)
 
 pub merge_field-returns-then-is_list-clause-fault : goal.merge_field-returns-then-is_list-clause-fault
 merge_field-returns-then-is_list-clause-fault t c =
@@ -534,7 +534,7 @@ merge_field-returns-then-is_list-clause-fault t c =
     let merged = c.merge_list in
     let list : holds_list pool type ≡ true = search rules in
     λ suits. refused_as merged.result _ _ (λ e told. list_refused raw.levels pool type raw.key raw.bytes.now e _ c.kind-kind.result (search rules) c.kind-kind.ensures list told)
-        (merged.ensures.fault (slot_is_list (SuitsBelow raw.levels) pool type _ _ _ c.in_ok-list.ensures.value (search (rules, the_lemmas)) list suits))
+    (merged.ensures.fault (slot_is_list (SuitsBelow raw.levels) pool type _ _ _ c.in_ok-list.ensures.value (search (rules, the_lemmas)) list suits))
 
 pub merge_field-returns-in_err-scalar-in_default : goal.merge_field-returns-in_err-scalar-in_default
 merge_field-returns-in_err-scalar-in_default t c =
@@ -633,7 +633,7 @@ merge_entries-returns-in_err-body-clause-fault t c =
     let p = err_from_is_err_and r.result r.ensures.1 in
     let wire : raw.key.wire ≡ LengthDelimited = search rules in
     λ pool kind is. rw (p.1, p.2) (run_at raw.levels raw.key (MapFault raw.levels (Within raw.levels) pool kind raw.key) raw.bytes.now here.bytes.now inv.0 failed.field-0.0 inv.1
-        (entry_length raw.levels (Within raw.levels) pool kind raw.key here.bytes.now failed.field-0.0 wire failed.ensures.fault))
+    (entry_length raw.levels (Within raw.levels) pool kind raw.key here.bytes.now failed.field-0.0 wire failed.ensures.fault))
 
 pub merge_entries-returns-in_err-key-clause-fault : goal.merge_entries-returns-in_err-key-clause-fault
 merge_entries-returns-in_err-key-clause-fault t c =
@@ -647,10 +647,10 @@ merge_entries-returns-in_err-key-clause-fault t c =
     let p = err_from_is_err_and r.result r.ensures.1 in
     let wire : raw.key.wire ≡ LengthDelimited = search rules in
     λ pool kind is.
-        let parts = fields.ensures.some pool kind is in
-        let told = subst (λ l. Tells (EntryFault l (Within l) (field_pool fields.keys) (field_type fields.keys) (field_pool fields.values) (field_type fields.values)) body.body.now failed.field-0.0) inv.4 failed.ensures.fault in
-        rw (p.1, p.2) (run_at raw.levels raw.key (MapFault raw.levels (Within raw.levels) pool kind raw.key) raw.bytes.now here.bytes.now inv.0 failed.field-0.0 inv.1
-        (entry_refused raw.levels (Within raw.levels) pool kind raw.key here.bytes.now (field_pool fields.keys) (field_pool fields.values) (field_type fields.keys) (field_type fields.values) body.body.now body.rest.now failed.field-0.0 parts.0 parts.1 parts.2 parts.3 wire body.ensures.read told))
+    let parts = fields.ensures.some pool kind is in
+    let told = subst (λ l. Tells (EntryFault l (Within l) (field_pool fields.keys) (field_type fields.keys) (field_pool fields.values) (field_type fields.values)) body.body.now failed.field-0.0) inv.4 failed.ensures.fault in
+    rw (p.1, p.2) (run_at raw.levels raw.key (MapFault raw.levels (Within raw.levels) pool kind raw.key) raw.bytes.now here.bytes.now inv.0 failed.field-0.0 inv.1
+    (entry_refused raw.levels (Within raw.levels) pool kind raw.key here.bytes.now (field_pool fields.keys) (field_pool fields.values) (field_type fields.keys) (field_type fields.values) body.body.now body.rest.now failed.field-0.0 parts.0 parts.1 parts.2 parts.3 wire body.ensures.read told))
 
 pub entry_of-returns-in_err-key-clause-fault : goal.entry_of-returns-in_err-key-clause-fault
 entry_of-returns-in_err-key-clause-fault t c =
