@@ -13,11 +13,11 @@ use Rattle.reflect_pool.specs.declared.kind.Kind.TheVariants as kinds
 use Rattle.reflect_pool.specs.declared.message.MessageDescriptor.{MessageDescriptor}
 use Rattle.reflect_wire.specs.Faults.{KeyFault, DelimitedFault, ValueFault, Tells}
 use Rattle.reflect_wire.specs.Key.{IsKey, IsDelimited}
-use Rattle.reflect_wire.specs.Reads.{Fronts}
-use Rattle.reflect_wire.specs.Records.{Payload, varint, fixed64, delimited, fixed32, key_of, SpellsRecords}
+use Rattle.reflect_wire.specs.Reads.{Fronts, Refuses}
+use Rattle.reflect_wire.specs.Records.{Payload, varint, fixed64, delimited, fixed32, key_of, IsValue, SpellsRecords}
 use Rattle.reflect_wire.specs.Views.{records_of}
 use Rattle.reflect_wire.specs.declared.wire_error.WireError.{WireError}
-use Rattle.reflect_wire.specs.declared.wire_error.WireError.TheVariants.{Truncated, EndGroupMismatch, TooDeep, BadWireType}
+use Rattle.reflect_wire.specs.declared.wire_error.WireError.TheVariants.{Truncated, EndGroupMismatch, TooDeep, BadWireType, Memory}
 use Rattle.reflect_wire.specs.declared.wire_key.WireKey.{WireKey}
 use Rattle.reflect_wire.specs.declared.wire_key.WireType.TheVariants.{LengthDelimited, StartGroup, EndGroup}
 use Rattle.reflect_wire.proofs.Faulty.{tells_as, tells_fault}
@@ -45,7 +45,7 @@ use Rattle.reflect_decode.specs.Accepts.{declared_at}
 use Rattle.reflect_decode.specs.Maps.{LeavesSingle}
 use Rattle.reflect_decode.specs.Merging.{IsBody, LeadsOn}
 use Rattle.reflect_decode.specs.Packed.{PackedFault}
-use Rattle.reflect_decode.specs.Refused.{Refusal, MessageFault, KindFault, IsPackedKey, ElementFault, OneFault, IsKeyKind, IsKeyValue, HoldsKeys, PartFault, EntryFault, MapFault, FaultAs, FieldFault, RecordFault, RunFault, IsWrongEnd, Within, BodyFault}
+use Rattle.reflect_decode.specs.Refused.{Refusal, MessageFault, KindFault, IsPackedKey, ElementFault, OneFault, IsKeyKind, IsKeyValue, HoldsKeys, OtherFault, PartFault, EntryFault, MapFault, FaultAs, FieldFault, RecordFault, RunFault, IsWrongEnd, Within, BodyFault}
 use Rattle.reflect_decode.specs.Suits.{Suiting, SuitsAs, HeldSuits, SuitsBelow, PartSuits}
 use Rattle.reflect_decode.proofs.Accepting.{is_false}
 use Rattle.reflect_decode.proofs.Running.{spells_two}
@@ -99,6 +99,11 @@ module _ (levels : ℕ) (pool : PoolType) (i : ℕ) (group : Option ℕ) (bytes 
           inr (key, f.1, (led.1, led.3, refl), inr (wire, f.3)),
         )
 
+-- a record that is no field's
+pub other_told : (levels : ℕ) (key : WireKey) (bytes : List ℕ) (e : WireError) → Refuses (IsValue levels key) bytes e → Tells (ValueFault levels key) bytes e → Tells (OtherFault levels key) bytes e
+other_told levels key bytes Memory none h = tt
+other_told levels key bytes e none h = (none, h)
+
 -- the record of a field, or of an extension
 module _ (levels : ℕ) (pool : PoolType) (i n : ℕ) (key : WireKey) (bytes : List ℕ) (e : WireError) where
   abbrev Record : Option FieldType → List ℕ → WireError → Type 0
@@ -116,10 +121,10 @@ module _ (levels : ℕ) (pool : PoolType) (i n : ℕ) (key : WireKey) (bytes : L
       → Tells (RunFault levels key (FieldFault levels (Within levels) own f key)) bytes e → Tells (RunFault levels key (Record (declared_at pool i n))) bytes e
   extension_refused own f same none known h = of_field own f same (ap (λ o. option_or o (known_extension pool i n)) (sym none) ∙ sym known) h
 
-  pub other_refused : None ≡ known_field pool i n → None ≡ known_extension pool i n → Tells (ValueFault levels key) bytes e → Tells (RunFault levels key (Record (declared_at pool i n))) bytes e
-  other_refused none also h =
+  pub other_refused : None ≡ known_field pool i n → None ≡ known_extension pool i n → Refuses (IsValue levels key) bytes e → Tells (ValueFault levels key) bytes e → Tells (RunFault levels key (Record (declared_at pool i n))) bytes e
+  other_refused none also refused h =
       let is : declared_at pool i n ≡ None = ap (λ o. option_or o (known_extension pool i n)) (sym none) ∙ sym also in
-      subst (λ o. Tells (RunFault levels key (Record o)) bytes e) (sym is) (run_begins levels key (ValueFault levels key) bytes e h)
+      subst (λ o. Tells (RunFault levels key (Record o)) bytes e) (sym is) (run_begins levels key (OtherFault levels key) bytes e (other_told levels key bytes e refused h))
 
 -- what refuses a field's record
 module _ (levels : ℕ) (pool : PoolType) (f : FieldType) (key : WireKey) (bytes : List ℕ) (e : WireError) where
@@ -257,8 +262,8 @@ module _ (levels : ℕ) (inner : Refusal) (p : PoolType) (keys : FieldType) (q :
     pub value_part : key.number ≡ 2 → Tells (OneFault inner q values key) body e → Tells (PartFault levels inner p keys q values key) body e
     value_part is told = tells_as (OneFault inner q values key) (PartFault levels inner p keys q values key) body body e (λ fault. inr (inl (is, fault))) told
 
-    pub other_part : key.number ≢ 1 → key.number ≢ 2 → Tells (ValueFault levels key) body e → Tells (PartFault levels inner p keys q values key) body e
-    other_part one two told = tells_as (ValueFault levels key) (PartFault levels inner p keys q values key) body body e (λ fault. inr (inr (one, two, fault))) told
+    pub other_part : key.number ≢ 1 → key.number ≢ 2 → Refuses (IsValue levels key) body e → Tells (ValueFault levels key) body e → Tells (PartFault levels inner p keys q values key) body e
+    other_part one two none told = tells_as (OtherFault levels key) (PartFault levels inner p keys q values key) body body e (λ fault. inr (inr (one, two, fault))) (other_told levels key body e none told)
 
 -- a kind of keys is scalar
 key_scalar : (t : KindType) → IsKeyKind t → IsScalarType t
@@ -468,6 +473,10 @@ module _ (inner : Suiting) (pool : PoolType) (f : FieldType) (empty slot : Value
 pub refused_as : (r : Result (Bor (List ℕ)) WireError) (F G : WireError → Type 0) → ((e : WireError) → F e → G e) → IfErr r F → IfErr r G
 refused_as (Ok rest) F G to h = tt
 refused_as (Err e) F G to h = to e h
+
+pub refused_both : (r : Result (Bor (List ℕ)) WireError) (F G H : WireError → Type 0) → ((e : WireError) → F e → G e → H e) → IfErr r F → IfErr r G → IfErr r H
+refused_both (Ok rest) F G H to h k = tt
+refused_both (Err e) F G H to h k = to e h k
 
 -- a fault behind some records with one key
 pub run_at : (levels : ℕ) (key : WireKey) (F : List ℕ → WireError → Type 0) (bytes rest : List ℕ) (ps : List Payload) (e : WireError) → Fronts (LeadsOn levels key) bytes ps rest → Tells F rest e → Tells (RunFault levels key F) bytes e

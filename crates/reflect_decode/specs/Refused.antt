@@ -8,8 +8,8 @@ use Rattle.reflect_pool.specs.declared.kind.Kind.{Kind}
 use Rattle.reflect_pool.specs.declared.kind.Kind.TheVariants as kinds
 use Rattle.reflect_wire.specs.Faults.{KeyFault, DelimitedFault, ValueFault, IsTooDeep, IsEndMismatch, IsOtherEnd}
 use Rattle.reflect_wire.specs.Key.{IsKey, IsDelimited}
-use Rattle.reflect_wire.specs.Reads.{Fronts}
-use Rattle.reflect_wire.specs.Records.{Payload, SpellsRecords}
+use Rattle.reflect_wire.specs.Reads.{Fronts, NoFront}
+use Rattle.reflect_wire.specs.Records.{Payload, IsValue, SpellsRecords}
 use Rattle.reflect_wire.specs.Views.{records_of}
 use Rattle.reflect_wire.specs.declared.wire_error.WireError.{WireError}
 use Rattle.reflect_wire.specs.declared.wire_key.WireKey.{WireKey}
@@ -84,12 +84,16 @@ IsKeyValue _ = ⊥
 abbrev pub HoldsKeys : PoolType → FieldType → Type 0
 HoldsKeys pool f = IsKeyKind f.kind × IsKeyValue (default_in pool f)
 
+-- a record that is no field's: no value of the key's form stands there, and this is why
+abbrev pub OtherFault : ℕ → WireKey → List ℕ → WireError → Type 0
+OtherFault levels key bytes e = NoFront (IsValue levels key) bytes × ValueFault levels key bytes e
+
 -- a record of a map's entry: of its key, of its value, or another
 abbrev pub PartFault : ℕ → Refusal → PoolType → FieldType → PoolType → FieldType → WireKey → List ℕ → WireError → Type 0
 PartFault levels inner p keys q values key bytes e =
     ((key.number ≡ 1) × OneFault inner p keys key bytes e)
     ⊎ ((key.number ≡ 2) × OneFault inner q values key bytes e)
-    ⊎ ((key.number ≢ 1) × (key.number ≢ 2) × ValueFault levels key bytes e)
+    ⊎ ((key.number ≢ 1) × (key.number ≢ 2) × OtherFault levels key bytes e)
 
 -- the bytes of an entry
 abbrev pub EntryFault : ℕ → Refusal → PoolType → FieldType → PoolType → FieldType → List ℕ → WireError → Type 0
@@ -118,7 +122,7 @@ abbrev pub FieldFault : ℕ → Refusal → PoolType → FieldType → WireKey �
 FieldFault levels inner pool f key bytes e = FaultAs levels inner pool f (holds_map pool f) (holds_list pool f) key bytes e
 
 abbrev pub RecordFault : ℕ → Refusal → PoolType → Option FieldType → WireKey → List ℕ → WireError → Type 0
-RecordFault levels inner pool None key bytes e = ValueFault levels key bytes e
+RecordFault levels inner pool None key bytes e = OtherFault levels key bytes e
 RecordFault levels inner pool (Some f) key bytes e = FieldFault levels inner pool f key bytes e
 
 -- behind some records that have the key stands it again, and behind that is the fault

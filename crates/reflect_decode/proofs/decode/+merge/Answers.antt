@@ -38,7 +38,7 @@ use Rattle.reflect_decode.proofs.Nesting.{accepts_at, appends_at, joins_at, valu
 use Rattle.reflect_decode.proofs.Mapping.{key_step, value_step, part_single, part_message, put_more, map_put, entry_is_read, entry_accepts, key_read, value_read}
 use Rattle.reflect_decode.proofs.Running.{delimited_value, same_value, run_more, run_ends, run_behind, group_ends}
 use Rattle.reflect_decode.proofs.Sparing.{merges_none, merges_more, merges_field, merges_kept, merges_extension}
-use Rattle.reflect_decode.proofs.Refusing.{entry_key_refused, entry_length, entry_refused, extension_refused, field_refused, group_refused, key_part, key_refused, keyless, list_at, list_refused, map_refused, message_fault, nested_refused, no_entries, no_items, no_key, no_message_there, one_refused, other_refused, part_fault, part_refused, record_refused, refused_as, run_at, single_refused, sized_refused, slot_is_list, slot_is_map, slot_is_message, value_part}
+use Rattle.reflect_decode.proofs.Refusing.{entry_key_refused, entry_length, entry_refused, extension_refused, field_refused, group_refused, key_part, key_refused, keyless, list_at, list_refused, map_refused, message_fault, nested_refused, no_entries, no_items, no_key, no_message_there, one_refused, other_refused, part_fault, part_refused, record_refused, refused_as, refused_both, run_at, single_refused, sized_refused, slot_is_list, slot_is_map, slot_is_message, value_part}
 use Rattle.reflect_decode.proofs.Suiting.{empty_suits, suits_below, part_begins, part_stays_suiting, suits_stay}
 use Rattle.reflect_decode.proofs.Taking.{entries_of_slot, map_leaves, message_leaves, list_leaves, single_leaves}
 use Rattle.reflect_message.proofs.Lengthening.{items_of_slot}
@@ -443,9 +443,10 @@ pub merge_record-returns-clause-fault : goal.merge_record-returns-clause-fault
 merge_record-returns-clause-fault t c =
     let raw = c.args.raw in
     let type = c.args.descriptor in
+    let kept = c.keep_unknown in
     let no_field : option_map field_type c.declared_field.result ≡ None = search rules in
     let no_extension : option_map extension_type c.declared_extension.result ≡ None = search rules in
-    λ suits. refused_as c.keep_unknown.result _ _ (λ e told. other_refused raw.levels type.pool.now type.index raw.key.number raw.key raw.bytes.now e (sym no_field ∙ c.declared_field.ensures.known) (sym no_extension ∙ c.declared_extension.ensures.known) told) c.keep_unknown.ensures.fault
+    λ suits. refused_both kept.result _ _ _ (λ e none told. other_refused raw.levels type.pool.now type.index raw.key.number raw.key raw.bytes.now e (sym no_field ∙ c.declared_field.ensures.known) (sym no_extension ∙ c.declared_extension.ensures.known) none told) kept.ensures.err kept.ensures.fault
 
 pub merge_body-returns-clause-fault : goal.merge_body-returns-clause-fault
 merge_body-returns-clause-fault t c =
