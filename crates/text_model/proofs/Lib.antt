@@ -1,0 +1,3 @@
+pub mod Front
+pub mod Reading
+pub mod Merging
