@@ -1,3 +1,9 @@
 pub mod Front
 pub mod Reading
 pub mod Merging
+pub mod Escaping
+pub mod Singles
+pub mod Orders
+pub mod Contents
+pub mod Printing
+pub mod Back

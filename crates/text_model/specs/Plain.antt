@@ -1,12 +1,13 @@
 -- Messages of which all that they hold is printed and read back.
 use Rattle.std.specs.Prelude.{◌≡◌, ℕ, ◌<◌, [], Option, None, Some}
 use Rattle.std.specs.List.{AllByRecursion}
-use Rattle.protobuf_model.specs.Values.{Single, blob, Content, single, message, list, dictionary, Contents, no_contents, more_contents, Entries, no_entries, more_entries, Held, content, records, Message}
+use Rattle.protobuf_model.specs.Values.{Single, text, blob, Content, single, message, list, dictionary, Contents, no_contents, more_contents, Entries, no_entries, more_entries, Held, content, records, Message}
 use Rattle.protobuf_model.specs.Types.{Name, Kind, Field, Types}
 use Rattle.protobuf_model.specs.Bytes.{type_of}
 
 -- a byte is below 256
 abbrev pub AreBytes : Single → Type 0
+AreBytes (text s) = AllByRecursion (λ x. x < 256) s
 AreBytes (blob b) = AllByRecursion (λ x. x < 256) b
 AreBytes _ = Unit {0}
 
@@ -23,7 +24,8 @@ abbrev mutual
 
   pub ArePlainEntries : Types → Kind → Entries → Type 0
   ArePlainEntries types k no_entries = Unit {0}
-  ArePlainEntries types k (more_entries key c es) = IsPlainContent types k c × ArePlainEntries types k es
+  ArePlainEntries types k (more_entries key c es) =
+      AreBytes key × IsPlainContent types k c × ArePlainEntries types k es
 
   -- a number that no field has keeps no record
   pub IsPlainHeld : Types → Option Field → Held → Type 0

@@ -1,12 +1,15 @@
 //! Laws of texts and of the messages that they give, each the contract of a function that does nothing.
-ghost use Rattle.std.specs.Prelude.{◌≡◌, option_and_then};
+ghost use Rattle.std.specs.Prelude.{◌≡◌, ◌↔◌, Some, option_and_then};
 ghost use Rattle.protox_lex.specs.Class.{Text};
+ghost use Rattle.protobuf_model.specs.Coded.{SuitsType};
 ghost use Rattle.protobuf_model.specs.Types.{Name};
-ghost use Rattle.protobuf_model.specs.Values.{Message};
-ghost use Rattle.text_model.specs.Schemas.{Schema, Shape};
-ghost use Rattle.text_model.specs.Texts.{IsMerged, Spells};
+ghost use Rattle.protobuf_model.specs.Values.{Message, nothing};
+ghost use Rattle.text_model.specs.Plain.{IsPlain};
+ghost use Rattle.text_model.specs.Printed.{printed};
+ghost use Rattle.text_model.specs.Schemas.{HaveNames, Schema, Shape, shape_of};
+ghost use Rattle.text_model.specs.Texts.{Gives, IsMerged, IsText, Spells};
 ghost use Rattle.text_model.specs.Tokens.{fields_tokens};
-ghost use Rattle.text_model.specs.Tree.{Fields, append};
+ghost use Rattle.text_model.specs.Tree.{Fields, Separator, append};
 ghost use Rattle.text_model.specs.Value.{value};
 
 /// Tokens are those of one tree at most.
@@ -29,4 +32,25 @@ pub fn a_text_gives_one_message()
 pub fn fields_are_merged_in_pieces()
     ensures { (w : Schema) (s : Shape) (a b : Fields) (m : Message)
         → value w s (append a b) m ≡ option_and_then (value w s b) (value w s a m) }
+{}
+
+/// The fields that a message is printed as give the message, whatever stands between them.
+pub fn printed_fields_give_the_message()
+    ensures { (w : Schema) → HaveNames w → (s : Separator) (t : Name) (m : Message)
+        → SuitsType w.types t m → IsPlain w.types t m
+        → value w (shape_of w t) (printed w s t m) nothing ≡ Some m }
+{}
+
+/// So a text of these fields gives the message.
+pub fn printed_texts_give_the_message()
+    ensures { (w : Schema) → HaveNames w → (s : Separator) (t : Name) (m : Message) (z : Text)
+        → SuitsType w.types t m → IsPlain w.types t m
+        → IsText z (printed w s t m) → Gives w t z m }
+{}
+
+/// Two such messages are printed as the same fields exactly if they are equal.
+pub fn equal_messages_are_printed_alike()
+    ensures { (w : Schema) → HaveNames w → (s : Separator) (t : Name) (m n : Message)
+        → SuitsType w.types t m → IsPlain w.types t m → SuitsType w.types t n → IsPlain w.types t n
+        → (printed w s t m ≡ printed w s t n) ↔ (m ≡ n) }
 {}
