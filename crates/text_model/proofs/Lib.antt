@@ -7,3 +7,5 @@ pub mod Orders
 pub mod Contents
 pub mod Printing
 pub mod Back
+pub mod Numbers
+mod Examples

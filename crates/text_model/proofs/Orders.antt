@@ -92,7 +92,7 @@ apart_append (n ∷ a) b h k other =
 abbrev pub InRange : ℕ → Type 0
 InRange n = (0 < n) × (n < 2 ^ 29)
 
-in_numbers : (q : ℕ) → InRange q → has field_numbers q ≡ true
+pub in_numbers : (q : ℕ) → InRange q → has field_numbers q ≡ true
 unfolding field_numbers
 in_numbers q h = has_within 1 (2 ^ 29 - 1) q (omega arith) (omega arith)
 

@@ -89,7 +89,7 @@ any_not test [] h = refl
 any_not test (n ∷ ns) h = or_from (test n) (list_any test ns) (h n) (any_not test ns h)
 
 -- no other member of the field's oneof is set
-no_rival : (type : ℕ → Option Field) (n : ℕ) (x : Message) → ((q : ℕ) → rival type n q ≡ true → x q ≡ absent) → has_rival type n x ≡ false
+pub no_rival : (type : ℕ → Option Field) (n : ℕ) (x : Message) → ((q : ℕ) → rival type n q ≡ true → x q ≡ absent) → has_rival type n x ≡ false
 no_rival type n x h = by (oneof_of (type n)) where
   each : (q : ℕ) (b : Bool) → rival type n q ≡ b → (rival type n q && is_set (x q)) ≡ false
   each q true e = ap (λ b. b && is_set (x q)) e ∙ ap is_set (h q e)
