@@ -80,47 +80,47 @@ module _ (w : Schema) (s : Separator) (typed : Name → Message → Type 0)
   value_again k p d c h = absurd h
 
   module _ (names : Names) (n : ℕ) (f : AreFound (names.enum_number n) (names.enum_name n)) (key : Key) (k : Kind) (p : Bool) (d : Single) where
-    abbrev part : Part
-    part = record { kind = k; presence = p; default = d }
+    abbrev the_part : Part
+    the_part = record { kind = k; presence = p; default = d }
 
-    abbrev shape : Shape
-    shape = entry_shape names n key part
+    abbrev the_shape : Shape
+    the_shape = entry_shape names n key the_part
 
     entry_back : (v : Single) (c : Content) → Suits key.kind v → AreBytes v → IsOf typed k c → IsPlainContent w.types k c
-        → value_content w (of_message shape) (printed_entry s (printed_single (names.enum_name n) v) (printed_content w s (names.enum_name n) k c)) ≡ Some (message (entry_message key part v c))
+        → value_content w (of_message the_shape) (printed_entry s (printed_single (names.enum_name n) v) (printed_content w s (names.enum_name n) k c)) ≡ Some (message (entry_message key the_part v c))
     entry_back v c h b i q =
-        ap (λ y. option_map message (option_and_then (λ x. option_and_then (λ z. Some z) (field_value w shape (printed_content w s (names.enum_name n) k c) x 2 (value_field part)))
-        (option_and_then (set_one shape.fields 1 (key_field key).part nothing) (option_map single y))))
+        ap (λ y. option_map message (option_and_then (λ x. option_and_then (λ z. Some z) (field_value w the_shape (printed_content w s (names.enum_name n) k c) x 2 (value_field the_part)))
+        (option_and_then (set_one the_shape.fields 1 (key_field key).part nothing) (option_map single y))))
         (single_back (names.enum_number n) (names.enum_name n) key.kind v f b h)
-        ∙ ap (λ y. option_map message (option_and_then (λ z. Some z) y)) (alone_back shape 2 f k p d None false (assign (entry_fields key part) 1 (settled (key_field key).part (single v)) nothing) c i q)
+        ∙ ap (λ y. option_map message (option_and_then (λ z. Some z) y)) (alone_back the_shape 2 f k p d None false (assign (entry_fields key the_part) 1 (settled (key_field key).part (single v)) nothing) c i q)
 
     abbrev messages : Entries → List Content
     messages no_entries = []
-    messages (more_entries v c es) = message (entry_message key part v c) ∷ messages es
+    messages (more_entries v c es) = message (entry_message key the_part v c) ∷ messages es
 
-    entries_read : (es : Entries) → AllByRecursion (IsEntryOf typed key part) (pairs_of es) → ArePlainEntries w.types k es
-        → values_contents w (of_message shape) (printed_entries w s (names.enum_name n) k es) ≡ Some (messages es)
+    entries_read : (es : Entries) → AllByRecursion (IsEntryOf typed key the_part) (pairs_of es) → ArePlainEntries w.types k es
+        → values_contents w (of_message the_shape) (printed_entries w s (names.enum_name n) k es) ≡ Some (messages es)
     entries_read no_entries h b = refl
     entries_read (more_entries v c es) h b =
-        ap (option_and_then (λ c. option_map (λ cs. c ∷ cs) (values_contents w (of_message shape) (printed_entries w s (names.enum_name n) k es)))) (entry_back v c h.0.0 b.0 h.0.1 b.1)
-        ∙ ap (option_map (λ cs. message (entry_message key part v c) ∷ cs)) (entries_read es h.1 b.2)
+        ap (option_and_then (λ c. option_map (λ cs. c ∷ cs) (values_contents w (of_message the_shape) (printed_entries w s (names.enum_name n) k es)))) (entry_back v c h.0.0 b.0 h.0.1 b.1)
+        ∙ ap (option_map (λ cs. message (entry_message key the_part v c) ∷ cs)) (entries_read es h.1 b.2)
 
-    entries_again : (es : Entries) → AllByRecursion (IsEntryOf typed key part) (pairs_of es) → map (entry_of key part) (messages es) ≡ pairs_of es
+    entries_again : (es : Entries) → AllByRecursion (IsEntryOf typed key the_part) (pairs_of es) → map (entry_of key the_part) (messages es) ≡ pairs_of es
     entries_again no_entries h = refl
     entries_again (more_entries v c es) h =
-        ap₂ (λ (a : Single) (b : Content). (a, b) ∷ map (entry_of key part) (messages es)) (key_again key v) (value_again k p d c h.0.1)
+        ap₂ (λ (a : Single) (b : Content). (a, b) ∷ map (entry_of key the_part) (messages es)) (key_again key v) (value_again k p d c h.0.1)
         ∙ ap (λ ps. (v, c) ∷ ps) (entries_again es h.1)
 
     -- a map, where nothing stands before
     pub map_back : (outer : Shape) → outer.names ≡ names → (o : Option ℕ) (e : Bool) (x : Message) (v : Single) (c : Content) (es : Entries)
-        → AllByRecursion (IsEntryOf typed key part) (pairs_of (more_entries v c es)) → Ascend (pairs_of (more_entries v c es)) → ArePlainEntries w.types k (more_entries v c es) → x n ≡ absent
-        → field_value w outer (printed_content w s (names.enum_name n) k (dictionary (more_entries v c es))) x n (record { part = part; label = keyed key; oneof = o; extension = e })
+        → AllByRecursion (IsEntryOf typed key the_part) (pairs_of (more_entries v c es)) → Ascend (pairs_of (more_entries v c es)) → ArePlainEntries w.types k (more_entries v c es) → x n ≡ absent
+        → field_value w outer (printed_content w s (names.enum_name n) k (dictionary (more_entries v c es))) x n (record { part = the_part; label = keyed key; oneof = o; extension = e })
         ≡ Some (assign outer.fields n (content (dictionary (more_entries v c es))) x)
     map_back outer same o e x v c es h a b here =
         let all = more_entries v c es in
-        ap (λ ns. option_and_then (add_all outer.fields n part (keyed key) x) (values_contents w (of_message (entry_shape ns n key part)) (printed_entries w s (names.enum_name n) k all))) same
-        ∙ ap (option_and_then (add_all outer.fields n part (keyed key) x)) (entries_read all h b)
-        ∙ ap (λ i. Some (assign outer.fields n (if_some (put_all (pairs i) (map (entry_of key part) (messages all)))) x)) here
+        ap (λ ns. option_and_then (add_all outer.fields n the_part (keyed key) x) (values_contents w (of_message (entry_shape ns n key the_part)) (printed_entries w s (names.enum_name n) k all))) same
+        ∙ ap (option_and_then (add_all outer.fields n the_part (keyed key) x)) (entries_read all h b)
+        ∙ ap (λ i. Some (assign outer.fields n (if_some (put_all (pairs i) (map (entry_of key the_part) (messages all)))) x)) here
         ∙ ap (λ ps. Some (assign outer.fields n (if_some (put_all [] ps)) x)) (entries_again all h)
         ∙ ap (λ ps. Some (assign outer.fields n (if_some ps) x)) (put_in_order (pairs_of all) a)
         ∙ ap (λ ds. Some (assign outer.fields n (content (dictionary (more_entries v c ds))) x)) (entries_back es)

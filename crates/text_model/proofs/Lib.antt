@@ -6,6 +6,10 @@ pub mod Singles
 pub mod Orders
 pub mod Contents
 pub mod Printing
-pub mod Back
 pub mod Numbers
 mod Examples
+pub mod Leaves
+pub mod Decimals
+pub mod Written
+pub mod Shown
+pub mod Back

@@ -131,7 +131,7 @@ closing_ends angle r = record { name = refl; string = refl; comma = refl; semico
 pub nothing_ends : Ends []
 nothing_ends = record { name = refl; string = refl; comma = refl; semicolon = refl }
 
-grouped : (a b c d r : Stream) → (a ++ (b ++ (c ++ d))) ++ r ≡ a ++ (b ++ (c ++ (d ++ r)))
+pub grouped : (a b c d r : Stream) → (a ++ (b ++ (c ++ d))) ++ r ≡ a ++ (b ++ (c ++ (d ++ r)))
 grouped a b c d r = simp append_assoc
 
 message_from : (colon : Bool) (b : Brace) (fs : Fields) (k : ℕ) (r : Stream) → fields_front k (fields_tokens fs ++ (closing b ∷ r)) ≡ got fs (closing b ∷ r)

@@ -33,7 +33,7 @@ folds = record {
   more = λ n c cs h. let e : 10 * n + digit c ≡ n * 10 + (c - 48) = omega (arith, digit_is c h.1) in ap (λ m. read_on m cs) e;
 }
 
-decimal_value : (n : ℕ) → n < 2 ^ 64 → value 10 (decimal n) ≡ n
+pub decimal_value : (n : ℕ) → n < 2 ^ 64 → value 10 (decimal n) ≡ n
 decimal_value n h = digits_value-decimal (numerals_by_fold (AllDigits 10) tells_digits read_on folds) n h
 
 only_true : (b : Bool) (v : Single) → b ≡ true → only_if b v ≡ Some v

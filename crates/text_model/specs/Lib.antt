@@ -4,6 +4,7 @@ pub mod Schemas
 pub mod Scalars
 pub mod Value
 pub mod Printed
+pub mod Identifiers
 pub mod Plain
 pub mod Rendered
 pub mod Texts
