@@ -2,6 +2,7 @@ pub mod Front
 pub mod Reading
 pub mod Merging
 pub mod Escaping
+pub mod Utf8
 pub mod Singles
 pub mod Orders
 pub mod Contents

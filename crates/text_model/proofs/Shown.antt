@@ -19,6 +19,7 @@ use Rattle.text_model.specs.Plain.{AreBytes, IsPlainContent, ArePlainContents, A
 use Rattle.text_model.specs.Identifiers.{is_identifier, is_full_name, AreIdentifiers, HaveIdentifiers}
 use Rattle.text_model.specs.Rendered.{compact}
 use Rattle.text_model.specs.Texts.{Spells}
+use Rattle.text_model.proofs.Utf8.{utf8_small}
 use Rattle.text_model.proofs.Written.{IsCleanScalar, IsNameShown, IsValueShown, AreValuesShown, IsGivenShown, AreShown, shown_lexed}
 
 -- ---- single values
@@ -57,7 +58,7 @@ single_shown name kinds.uint64 (uint64 n) f b h = natural_shown false n h
 single_shown name kinds.fixed64 (uint64 n) f b h = natural_shown false n h
 single_shown name kinds.bool (truth true) f b h = refl
 single_shown name kinds.bool (truth false) f b h = refl
-single_shown name kinds.string (text s) f b h = (s, b, refl)
+single_shown name kinds.string (text s) f b h = (s, utf8_small s h, refl)
 single_shown name kinds.bytes (blob s) f b h = (s, b, refl)
 single_shown name kinds.enumeration (enumerated z) f b h = named_shown name z f h
 single_shown name k v f b h = absurd h

@@ -20,6 +20,7 @@ use Rattle.text_model.specs.Scalars.{number, is_within, only_if, integer_in, str
 use Rattle.text_model.specs.Printed.{natural, whole, named, printed_single}
 use Rattle.text_model.specs.Plain.{AreBytes}
 use Rattle.text_model.proofs.Escaping.{escaped_means}
+use Rattle.text_model.proofs.Utf8.{utf8_small}
 
 digit_is : (c : ℕ) → c ≤ 57 → digit c ≡ c - 48
 digit_is c h = ap (λ t. if t then c - 48 else if nat_le c 70 then c - 55 else c - 87) (le-leb c 57 h)
@@ -92,7 +93,7 @@ single_back number name kinds.uint64 (uint64 n) f b h = natural_back number kind
 single_back number name kinds.fixed64 (uint64 n) f b h = natural_back number kinds.fixed64 n (uint64 n) h (only_true (nat_lt n (2 ^ 64)) (uint64 n) (lt-ltb n (2 ^ 64) h))
 single_back number name kinds.bool (truth true) f b h = refl
 single_back number name kinds.bool (truth false) f b h = refl
-single_back number name kinds.string (text s) f b h = string_back kinds.string s (text s) b (only_true (is_utf8 s) (text s) (is_utf8-from_IsUtf8 s h))
+single_back number name kinds.string (text s) f b h = string_back kinds.string s (text s) (utf8_small s h) (only_true (is_utf8 s) (text s) (is_utf8-from_IsUtf8 s h))
 single_back number name kinds.bytes (blob s) f b h = string_back kinds.bytes s (blob s) b refl
 single_back number name kinds.enumeration (enumerated z) f b h = named_back number name z f h
 single_back number name k v f b h = absurd h

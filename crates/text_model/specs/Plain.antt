@@ -1,13 +1,12 @@
 -- Messages of which all that they hold is printed and read back.
 use Rattle.std.specs.Prelude.{◌≡◌, ℕ, ◌<◌, [], Option, None, Some}
 use Rattle.std.specs.List.{AllByRecursion}
-use Rattle.protobuf_model.specs.Values.{Single, text, blob, Content, single, message, list, dictionary, Contents, no_contents, more_contents, Entries, no_entries, more_entries, Held, content, records, Message}
+use Rattle.protobuf_model.specs.Values.{Single, blob, Content, single, message, list, dictionary, Contents, no_contents, more_contents, Entries, no_entries, more_entries, Held, content, records, Message}
 use Rattle.protobuf_model.specs.Types.{Name, Kind, Field, Types}
 use Rattle.protobuf_model.specs.Bytes.{type_of}
 
 -- a byte is below 256
 abbrev pub AreBytes : Single → Type 0
-AreBytes (text s) = AllByRecursion (λ x. x < 256) s
 AreBytes (blob b) = AllByRecursion (λ x. x < 256) b
 AreBytes _ = Unit {0}
 
