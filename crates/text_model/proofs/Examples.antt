@@ -1,0 +1,231 @@
+-- Worked cases: the definitions compute what the text format's documentation says.
+use Rattle.std.proofs.Common.{◌≡◌, inl, inr, ℕ, pos, negsuc, ◌-◌, ◌<◌, ◌^◌, ◌==◌, ◌&&◌, not, Bool, true, false, cond, List, [], ◌∷◌, ◌++◌, Option, Some, None, option_and_then, bytes_eq, codes, refl, ap, ◌∙◌, arith}
+use Rattle.std.specs.Char.{encode_utf8}
+use Rattle.std.specs.Fmt.{digits}
+use Rattle.std.specs.Str.{is_utf8, chars}
+use Rattle.std.specs.List.{flat_map, filter}
+use Rattle.std.proofs.lemmas.Bool.Decides.{eqb_tells}
+use Rattle.protox_lex.specs.Class.{Text}
+use Rattle.protox_lex.specs.Lex.{unescaped_from, escape, hex}
+use Rattle.text_lex.specs.declared.token.Radix.TheVariants as radix
+use Rattle.protobuf_model.specs.Values.{Single, truth, int32, uint32, text, blob, enumerated, single, message, list, dictionary, more_contents, no_contents, more_entries, no_entries, Held, content, Message, absent, nothing}
+use Rattle.protobuf_model.specs.Types.{Name, Scalar, Kind, nested, sized, Label, one, many, keyed, Field, Types, rival}
+use Rattle.protobuf_model.specs.Types as kinds
+use Rattle.protobuf_model.specs.Bytes.{count_from, field_numbers, is_declared}
+use Rattle.text_model.specs.Tree.{FieldName, plain, integer, floating, identifier, ScalarValue, signed, strings, curly, no_separator, comma, scalar, no_values, more_values, Given, one_scalar, one_message, listed, Fields, no_fields, more_fields}
+use Rattle.text_model.specs.Schemas.{Schema, shape_of}
+use Rattle.text_model.specs.Scalars.{scalar_in}
+use Rattle.text_model.specs.Tokens.{open_braces}
+use Rattle.text_model.specs.Value.{is_set, assign, value}
+use Rattle.text_model.specs.Printed.{joined, printed_held, printed_fields, printed}
+use Rattle.text_model.specs.Rendered.{compact, pretty}
+use Rattle.text_model.proofs.Numbers.{first_few, of_those, over_both, any_there}
+use Rattle.text_model.proofs.Orders.{in_numbers}
+use Rattle.text_model.proofs.Printing.{no_rival}
+
+-- the names M and N
+abbrev type_m : Name
+type_m = codes "M"
+
+abbrev type_n : Name
+type_n = codes "N"
+
+abbrev number : Bool → Option ℕ → Option Field
+number presence oneof = Some (record { part = record { kind = kinds.scalar kinds.int32; presence = presence; default = int32 (pos 0) }; label = one; oneof = oneof; extension = false })
+
+abbrev sub : Option Field
+sub = Some (record { part = record { kind = nested sized type_n; presence = true; default = int32 (pos 0) }; label = one; oneof = None; extension = false })
+
+abbrev numbers : Option Field
+numbers = Some (record { part = record { kind = kinds.scalar kinds.int32; presence = false; default = int32 (pos 0) }; label = many true; oneof = None; extension = false })
+
+abbrev holds : Scalar → Single → Option Field
+holds k d = Some (record { part = record { kind = kinds.scalar k; presence = false; default = d }; label = one; oneof = None; extension = false })
+
+abbrev texts : Option Field
+texts = Some (record {
+  part = record { kind = kinds.scalar kinds.string; presence = false; default = text [] };
+  label = keyed (record { kind = kinds.int32; presence = false; default = int32 (pos 0) });
+  oneof = None;
+  extension = false;
+})
+
+-- message M { int32 foo = 1; N nested = 3; repeated int32 xs = 4; map<int32, string> m = 5; oneof o { int32 a = 6; int32 b = 7; } } message N { int32 bar = 2; }
+-- message Any { string type_url = 1; bytes value = 2; }
+abbrev types : Types
+types t n = cond (bytes_eq t type_m) (cond (n == 1) (number false None) (cond (n == 3) sub (cond (n == 4) numbers (cond (n == 5) texts (cond (n == 6) (number true (Some 0)) (cond (n == 7) (number true (Some 0)) None)))))) (cond (bytes_eq t type_n) (cond (n == 2) (number false None) None) (cond (n == 1) (holds kinds.string (text [])) (cond (n == 2) (holds kinds.bytes (blob [])) None)))
+
+abbrev found : Name → Text → Option ℕ
+found t w = cond (bytes_eq t type_m)
+    (cond (bytes_eq w (codes "foo")) (Some 1) (cond (bytes_eq w (codes "nested")) (Some 3) (cond (bytes_eq w (codes "xs")) (Some 4) (cond (bytes_eq w (codes "m")) (Some 5) (cond (bytes_eq w (codes "a")) (Some 6) (cond (bytes_eq w (codes "b")) (Some 7) None))))))
+    (cond (bytes_eq w (codes "bar")) (Some 2) None)
+
+abbrev called : Name → ℕ → Text
+called t n = cond (bytes_eq t type_m) (cond (n == 1) (codes "foo") (cond (n == 3) (codes "nested") (cond (n == 4) (codes "xs") (codes "m")))) (codes "bar")
+
+abbrev schema : Schema
+schema = record {
+  types = types;
+  names = λ t. record { field = found t; extension = λ w. None; name = called t; enum_number = λ n w. None; enum_name = λ n z. None };
+  is_message = λ t. bytes_eq t type_n;
+  is_any = λ t. bytes_eq t (codes "Any");
+}
+
+-- an integer, and a field that is given one
+abbrev int : Text → ScalarValue
+int digits = signed false (integer radix.Decimal digits)
+
+abbrev with_int : Text → Text → Fields → Fields
+with_int name digits fs = more_fields (plain name) (one_scalar (int digits)) no_separator fs
+
+-- what the fields give under a number, from nothing
+abbrev under : Option Message → ℕ → Held
+under (Some m) n = m n
+under None n = absent
+
+abbrev inside : Held → ℕ → Held
+inside (content (message m)) n = m n
+inside h n = absent
+
+abbrev given : Fields → Option Message
+given fs = value schema (shape_of schema type_m) fs nothing
+
+-- foo: 150 nested { bar: 66 }
+abbrev first : Fields
+first = with_int (codes "foo") (codes "150") (more_fields (plain (codes "nested")) (one_message false curly (with_int (codes "bar") (codes "66") no_fields)) no_separator no_fields)
+
+foo_given : under (given first) 1 ≡ content (single (int32 (pos 150)))
+foo_given = refl
+
+bar_given : inside (under (given first) 3) 2 ≡ content (single (int32 (pos 66)))
+bar_given = refl
+
+-- foo: 0 foo: 5, where a zero is not set; and foo: 1 foo: 5, which is refused
+behind_zero : under (given (with_int (codes "foo") (codes "0") (with_int (codes "foo") (codes "5") no_fields))) 1 ≡ content (single (int32 (pos 5)))
+behind_zero = refl
+
+twice : given (with_int (codes "foo") (codes "1") (with_int (codes "foo") (codes "5") no_fields)) ≡ None
+twice = refl
+
+-- foo: -2147483648, and one less; foo: 0x10, foo: 010, foo: 1.0
+least : under (given (more_fields (plain (codes "foo")) (one_scalar (signed true (integer radix.Decimal (codes "2147483648")))) no_separator no_fields)) 1 ≡ content (single (int32 (negsuc 2147483647)))
+least = refl
+
+below_least : given (more_fields (plain (codes "foo")) (one_scalar (signed true (integer radix.Decimal (codes "2147483649")))) no_separator no_fields) ≡ None
+below_least = refl
+
+hexadecimal : under (given (more_fields (plain (codes "foo")) (one_scalar (signed false (integer radix.Hexadecimal (codes "10")))) no_separator no_fields)) 1 ≡ content (single (int32 (pos 16)))
+hexadecimal = refl
+
+octal : under (given (more_fields (plain (codes "foo")) (one_scalar (signed false (integer radix.Octal (codes "10")))) no_separator no_fields)) 1 ≡ content (single (int32 (pos 8)))
+octal = refl
+
+float : given (more_fields (plain (codes "foo")) (one_scalar (signed false (floating (codes "1.0")))) no_separator no_fields) ≡ None
+float = refl
+
+-- xs: [1, 2] xs: 150
+listed_and_one : under (given (more_fields (plain (codes "xs")) (listed (more_values (scalar (int (codes "1"))) (more_values (scalar (int (codes "2"))) no_values))) no_separator (with_int (codes "xs") (codes "150") no_fields))) 4
+    ≡ content (list (more_contents (single (int32 (pos 1))) (more_contents (single (int32 (pos 2))) (more_contents (single (int32 (pos 150))) no_contents))))
+listed_and_one = refl
+
+-- foo: [1] is refused: a list is given to repeated fields and maps alone
+one_listed : given (more_fields (plain (codes "foo")) (listed (more_values (scalar (int (codes "1"))) no_values)) no_separator no_fields) ≡ None
+one_listed = refl
+
+-- m { key: 2 value: "b" } m { value: "a" }: entries in the order of keys, and a key that is missing is zero
+abbrev entry : Fields → Fields → Fields
+entry inner fs = more_fields (plain (codes "m")) (one_message false curly inner) no_separator fs
+
+abbrev with_value : Text → Fields
+with_value s = more_fields (plain (codes "value")) (one_scalar (strings s [])) no_separator no_fields
+
+in_order : under (given (entry (with_int (codes "key") (codes "2") (with_value (codes "b"))) (entry (with_value (codes "a")) no_fields))) 5
+    ≡ content (dictionary (more_entries (int32 (pos 0)) (single (text (codes "a"))) (more_entries (int32 (pos 2)) (single (text (codes "b"))) no_entries)))
+unfolding is_utf8 chars unescaped_from encode_utf8
+in_order = refl
+
+-- a: 1 b: 2 is refused: the oneof has another member that is set
+abbrev a_set : Message
+a_set = assign (types type_m) 6 (content (single (int32 (pos 1)))) nothing
+
+two_members : given (with_int (codes "a") (codes "1") (with_int (codes "b") (codes "2") no_fields)) ≡ None
+two_members =
+    ap (λ b. option_and_then (value schema (shape_of schema type_m) (with_int (codes "b") (codes "2") no_fields)) (cond b None (Some a_set))) (no_rival (types type_m) 6 nothing (λ q e. refl))
+    ∙ ap (λ b. option_and_then (λ m. Some m) (cond b None (Some (assign (types type_m) 7 (content (single (int32 (pos 2)))) a_set)))) (any_there (λ q. rival (types type_m) 7 q && is_set (a_set q)) field_numbers 6 (in_numbers 6 (omega arith, omega arith)) refl)
+
+-- a value that is set unsets another member
+sibling_unset : assign (types type_m) 7 (content (single (int32 (pos 2)))) a_set 6 ≡ absent
+sibling_unset = refl
+
+-- values of other kinds
+abbrev read : Scalar → ScalarValue → Option Single
+read k v = scalar_in (λ w. cond (bytes_eq w (codes "RED")) (Some (pos 3)) None) k v
+
+unsigned : (read kinds.uint32 (int (codes "4294967295")) ≡ Some (uint32 4294967295)) × (read kinds.uint32 (int (codes "4294967296")) ≡ None) × (read kinds.uint32 (signed true (integer radix.Decimal (codes "0"))) ≡ None)
+unsigned = (refl, refl, refl)
+
+truths : (read kinds.bool (signed false (identifier (codes "t"))) ≡ Some (truth true)) × (read kinds.bool (int (codes "0")) ≡ Some (truth false)) × (read kinds.bool (int (codes "2")) ≡ None)
+truths = (refl, refl, refl)
+
+enums : (read kinds.enumeration (signed false (identifier (codes "RED"))) ≡ Some (enumerated (pos 3))) × (read kinds.enumeration (signed false (identifier (codes "BLUE"))) ≡ None) × (read kinds.enumeration (int (codes "7")) ≡ Some (enumerated (pos 7)))
+enums = (refl, refl, refl)
+
+-- 'a' 'b' is one value, with its escapes
+joined_strings : read kinds.bytes (strings (codes "a\\n") (codes "\\x62" ∷ [])) ≡ Some (blob (codes "a\nb"))
+unfolding unescaped_from escape hex
+joined_strings = refl
+
+-- the message that holds 150 under 1 and, under 3, 66 under 2
+abbrev n_message : Message
+n_message = λ n. cond (n == 2) (content (single (int32 (pos 66)))) absent
+
+abbrev m_message : Message
+m_message = λ n. cond (n == 1) (content (single (int32 (pos 150)))) (cond (n == 3) (content (message n_message)) absent)
+
+other_number : (n q : ℕ) → q < n → (n == q) ≡ false
+other_number n q h = elim (eqb_tells n q) [ inl e ↦ absurd (omega (arith, e.1)) | inr e ↦ e.0 ]
+
+-- of fields below 4 those that are declared
+few_printed : (t : Name) (m : Message) → ((n : ℕ) → 3 < n → m n ≡ absent)
+    → printed_fields schema comma t m
+    ≡ flat_map (λ n. cond (is_declared (types t n)) (printed_held schema comma (schema.names t) n (types t n) (m n)) []) (count_from 1 3)
+    ++ flat_map (λ n. cond (not (is_declared (types t n))) (printed_held schema comma (schema.names t) n (types t n) (m n)) []) (count_from 1 3)
+few_printed t m h =
+    let held = λ (n : ℕ). printed_held schema comma (schema.names t) n (types t n) (m n) in
+    let declared = λ (n : ℕ). is_declared (types t n) in
+    let none : (b : Bool) (n : ℕ) → 3 < n → cond b (held n) [] ≡ [] = λ b n l. ap (λ i. cond b (printed_held schema comma (schema.names t) n (types t n) i) []) (h n l) ∙ both b in
+    over_both held (filter declared field_numbers) (filter (λ n. not (declared n)) field_numbers)
+    ∙ ap (λ xs. xs ++ flat_map held (filter (λ n. not (declared n)) field_numbers)) (of_those held declared field_numbers ∙ first_few (λ n. cond (declared n) (held n) []) 3 (2 ^ 29 - 4) (omega arith) (λ n l. none (declared n) n l))
+    ∙ ap (λ xs. flat_map (λ n. cond (declared n) (held n) []) (count_from 1 3) ++ xs) (of_those held (λ n. not (declared n)) field_numbers ∙ first_few (λ n. cond (not (declared n)) (held n) []) 3 (2 ^ 29 - 4) (omega arith) (λ n l. none (not (declared n)) n l)) where
+      both : (b : Bool) → ◌≡◌ {A = List (FieldName × Given)} (cond b [] []) []
+      both true = refl
+      both false = refl
+
+n_above : (n : ℕ) → 3 < n → n_message n ≡ absent
+n_above n h = ap (λ b. cond b (content (single (int32 (pos 66)))) absent) (other_number n 2 (omega arith))
+
+m_above : (n : ℕ) → 3 < n → m_message n ≡ absent
+m_above n h =
+    ap (λ b. cond b (content (single (int32 (pos 150)))) (cond (n == 3) (content (message n_message)) absent)) (other_number n 1 (omega arith))
+    ∙ ap (λ b. cond b (content (message n_message)) absent) (other_number n 3 h)
+
+-- and what it is printed as
+n_printed : printed schema comma type_n n_message ≡ with_int (codes "bar") (codes "66") no_fields
+unfolding digits
+n_printed = ap (joined comma) (few_printed type_n n_message n_above)
+
+abbrev m_tree : Fields → Fields
+m_tree inner = more_fields (plain (codes "foo")) (one_scalar (int (codes "150"))) comma (more_fields (plain (codes "nested")) (one_message false curly inner) no_separator no_fields)
+
+m_printed : printed schema comma type_m m_message ≡ m_tree (with_int (codes "bar") (codes "66") no_fields)
+unfolding digits
+m_printed = ap (joined comma) (few_printed type_m m_message m_above) ∙ ap m_tree n_printed
+
+on_one_line : compact (printed schema comma type_m m_message) ≡ codes "foo:150,nested{bar:66}"
+on_one_line = ap compact m_printed
+
+on_lines : pretty first ≡ codes "foo: 150\nnested {\n  bar: 66\n}"
+on_lines = refl
+
+one_brace : open_braces first ≡ 1
+one_brace = refl

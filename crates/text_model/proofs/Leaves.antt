@@ -1,0 +1,124 @@
+-- Tokens as they are written, before a text that does not lengthen them.
+use Rattle.std.proofs.Common.{◌≡◌, inl, inr, ℕ, suc, ◌+◌, ◌<◌, Bool, true, false, List, [], ◌∷◌, ◌++◌, length, take, drop, Ok, refl, ap, sym, subst, ◌∙◌, arith, length-append}
+use Rattle.std.specs.Prelude.{◌||◌, not, ◌==◌, slice_index, if◌then◌else◌}
+use Rattle.std.specs.List.{list_all, prefix_len, AllByRecursion}
+use Rattle.std.proofs.lemmas.Bool.Decides.{eqb_tells}
+use Rattle.protox_lex.specs.Class.{Text, is_in, past}
+use Rattle.protox_lex.specs.Escapes.{escaped}
+use Rattle.protox_lex.specs.Lex as source
+use Rattle.protox_lex.specs.Lex.{number, integer, octal, is_hex, is_float, past_fraction, past_exponent, short, value, sized, quoted, closed}
+use Rattle.protox_lex.specs.Token as sources
+use Rattle.protox_lex.specs.declared.class.Class.TheVariants as class
+use Rattle.protox_lex.specs.declared.token.Sign.TheVariants as signs
+use Rattle.protox_lex.proofs.FloatSpelling.{run_front}
+use Rattle.text_lex.specs.Lex.{front, lexemes_from, as_text}
+use Rattle.text_lex.specs.Token.{Token, ident, str, sign, token, token_at}
+use Rattle.text_lex.proofs.Streams.{on_token}
+use Rattle.text_model.specs.Texts.{AreTokens}
+use Rattle.text_model.proofs.Escaping.{escaped_reach}
+
+-- the text is cut into these tokens, wherever it begins
+pub record Lexed (z : Text) (ts : List Token) : Type 0 where
+  pub cut : (at : ℕ) → AreTokens (lexemes_from at 0 z) ts
+
+pub lexed_nil : Lexed [] []
+unfolding lexemes_from
+lexed_nil = record { cut = λ at. refl }
+
+drop_front : (w z : Text) → drop (length w) (w ++ z) ≡ z
+drop_front [] z = refl
+drop_front (b ∷ w) z = drop_front w z
+
+take_front : (w z : Text) → take (length w) (w ++ z) ≡ w
+take_front [] z = refl
+take_front (b ∷ w) z = ap (λ r. b ∷ r) (take_front w z)
+
+-- a token before a text
+pub token_before : (b : ℕ) (y z : Text) (t : Token) (ts : List Token) → ((at : ℕ) → front at ((b ∷ y) ++ z) ≡ Ok (token t, length (b ∷ y))) → Lexed z ts → Lexed ((b ∷ y) ++ z) (t ∷ ts)
+token_before b y z t ts is rest = record {
+  cut = λ at.
+      let all : lexemes_from at 0 ((b ∷ y) ++ z) ≡ token_at at (at + length (b ∷ y)) t ∷ lexemes_from (at + length (b ∷ y)) 0 z =
+      on_token at (length (b ∷ y)) b t (y ++ z) (is at) (omega arith) (let l = length-append (b ∷ y) z in omega arith)
+      ∙ ap (λ (s : Text). token_at at (at + length (b ∷ y)) t ∷ lexemes_from (at + length (b ∷ y)) 0 s) (drop_front (b ∷ y) z) in
+      subst (λ ls. AreTokens ls (t ∷ ts)) (sym all) (refl, rest.cut (at + length (b ∷ y)));
+}
+
+-- nothing that would lengthen a word
+abbrev pub ends_word : Text → Bool
+ends_word [] = true
+ends_word (b ∷ y) = not (is_in class.Word b)
+
+-- nor a number
+abbrev pub ends_number : Text → Bool
+ends_number [] = true
+ends_number (b ∷ y) = not (is_in class.Word b || b == 46)
+
+-- ---- signs
+
+pub comma_front : (at : ℕ) (z : Text) → front at (44 ∷ z) ≡ Ok (token (sign 44), 1)
+unfolding front source.front
+comma_front at z = refl
+
+pub minus_front : (at : ℕ) (z : Text) → front at (45 ∷ z) ≡ Ok (token (sign 45), 1)
+unfolding front source.front
+minus_front at z = refl
+
+pub dot_front : (at : ℕ) (z : Text) → is_in class.Digit (slice_index z 0) ≡ false → front at (46 ∷ z) ≡ Ok (token (sign 46), 1)
+unfolding front source.front
+dot_front at z h = ap (λ t. as_text at (46 ∷ z) (if t then number (46 ∷ z) else Ok (sources.token (sources.sign signs.Dot), 1))) h
+
+pub colon_front : (at : ℕ) (z : Text) → front at (58 ∷ z) ≡ Ok (token (sign 58), 1)
+unfolding front source.front
+colon_front at z = refl
+
+pub bracket_front : (at : ℕ) (z : Text) → front at (91 ∷ z) ≡ Ok (token (sign 91), 1)
+unfolding front source.front
+bracket_front at z = refl
+
+pub close_bracket_front : (at : ℕ) (z : Text) → front at (93 ∷ z) ≡ Ok (token (sign 93), 1)
+unfolding front source.front
+close_bracket_front at z = refl
+
+pub brace_front : (at : ℕ) (z : Text) → front at (123 ∷ z) ≡ Ok (token (sign 123), 1)
+unfolding front source.front
+brace_front at z = refl
+
+pub close_brace_front : (at : ℕ) (z : Text) → front at (125 ∷ z) ≡ Ok (token (sign 125), 1)
+unfolding front source.front
+close_brace_front at z = refl
+
+-- ---- words
+
+not_letter : (b k : ℕ) → is_in class.Letter k ≡ false → is_in class.Letter b ≡ true → (b == k) ≡ false
+not_letter b k other h = elim (eqb_tells b k) [ inl e ↦ absurd (let x : true ≡ false = sym h ∙ ap (is_in class.Letter) e.1 ∙ other in cc) | inr e ↦ e.0 ]
+
+ended_run : (z : Text) → ends_word z ≡ true → prefix_len (is_in class.Word) z ≡ 0
+ended_run [] h = refl
+ended_run (b ∷ z) h = by (is_in class.Word b) refl where
+  by : (t : Bool) → is_in class.Word b ≡ t → prefix_len (is_in class.Word) (b ∷ z) ≡ 0
+  by true e = absurd (let x : false ≡ true = sym (ap not e) ∙ h in cc)
+  by false e = rw e refl
+
+pub word_front : (at b : ℕ) (y z : Text) → is_in class.Letter b ≡ true → is_in class.Blank b ≡ false → list_all (is_in class.Word) y ≡ true → ends_word z ≡ true → front at ((b ∷ y) ++ z) ≡ Ok (token (ident (b ∷ y)), length (b ∷ y))
+unfolding front source.front
+word_front at b y z letter blank word ends =
+    let run : prefix_len (is_in class.Word) (y ++ z) ≡ length y = run_front (is_in class.Word) y z word (ended_run z ends) in
+    let n : past class.Word (b ∷ (y ++ z)) 1 ≡ length (b ∷ y) = one run in
+    rw (not_letter b 47 refl letter, not_letter b 35 refl letter, blank, letter) (ap (λ k. as_text at (b ∷ (y ++ z)) (Ok (source.word_to (b ∷ (y ++ z)) k))) n ∙ ap (λ w. Ok (token (ident w), length (b ∷ y))) (take_front (b ∷ y) z)) where
+      one : prefix_len (is_in class.Word) (y ++ z) ≡ length y → past class.Word (b ∷ (y ++ z)) 1 ≡ length (b ∷ y)
+      one e = let x : 1 + prefix_len (is_in class.Word) (y ++ z) ≡ suc (length y) = omega arith in x
+
+-- ---- strings
+
+there : (a z : Text) (b : ℕ) → slice_index (a ++ b ∷ z) (length a) ≡ b
+there [] z b = refl
+there (c ∷ a) z b = there a z b
+
+pub string_front : (at : ℕ) (s z : Text) → AllByRecursion (λ x. x < 256) s → front at (34 ∷ (escaped s ++ 34 ∷ z)) ≡ Ok (token (str (escaped s)), length (escaped s) + 2)
+unfolding front source.front source.quoted
+string_front at s z h =
+    let all = escaped s ++ 34 ∷ z in
+    ap (λ n. as_text at (34 ∷ all) (closed 34 all n)) (escaped_reach s z h)
+    ∙ ap (λ b. as_text at (34 ∷ all) (if b then Ok (sources.token (sources.str (take (length (escaped s)) all)), length (escaped s) + 2) else source.unclosed all (length (escaped s))))
+    (let e : (slice_index all (length (escaped s)) == 34) ≡ true = ap (λ b. b == 34) (there (escaped s) z 34) in e)
+    ∙ ap (λ t. Ok (token (str t), length (escaped s) + 2)) (take_front (escaped s) (34 ∷ z))

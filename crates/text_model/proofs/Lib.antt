@@ -1,0 +1,16 @@
+pub mod Front
+pub mod Reading
+pub mod Merging
+pub mod Escaping
+pub mod Utf8
+pub mod Singles
+pub mod Orders
+pub mod Contents
+pub mod Printing
+pub mod Numbers
+mod Examples
+pub mod Leaves
+pub mod Decimals
+pub mod Written
+pub mod Shown
+pub mod Back

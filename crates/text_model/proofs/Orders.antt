@@ -1,0 +1,123 @@
+-- The numbers in the order of printing: each that a field may have, once.
+use Rattle.std.proofs.Common.{◌≡◌, ◌⊎◌, inl, inr, ℕ, zero, suc, ◌+◌, ◌-◌, ◌<◌, ◌≤◌, ◌^◌, ◌==◌, ◌||◌, ◌&&◌, not, Bool, true, false, cond, List, [], ◌∷◌, ◌++◌, Option, refl, sym, ap, ◌∙◌, subst, arith}
+use Rattle.std.specs.List.{filter}
+use Rattle.std.proofs.lemmas.Bool.Decides.{eqb_tells}
+use Rattle.std.proofs.lemmas.Bool.{or_from}
+use Rattle.protobuf_model.specs.Types.{Field}
+use Rattle.protobuf_model.specs.Bytes.{count_from, field_numbers, is_declared}
+use Rattle.text_model.specs.Printed.{printing_order}
+
+-- the number is among them
+abbrev pub has : List ℕ → ℕ → Bool
+has [] q = false
+has (n ∷ ns) q = (n == q) || has ns q
+
+-- no number stands twice
+abbrev pub AreApart : List ℕ → Type 0
+AreApart [] = Unit {0}
+AreApart (n ∷ ns) = (has ns n ≡ false) × AreApart ns
+
+pub true_false : (b : Bool) → b ≡ true → b ≡ false → ⊥
+true_false b e f = let x : true ≡ false = sym e ∙ f in cc
+
+and_false : (b : Bool) → (b && false) ≡ false
+and_false true = refl
+and_false false = refl
+
+has_filter : (test : ℕ → Bool) (ns : List ℕ) (q : ℕ) → has (filter test ns) q ≡ (test q && has ns q)
+has_filter test [] q = sym (and_false (test q))
+has_filter test (n ∷ ns) q = by (test n) refl (eqb_tells n q) (has_filter test ns q) where
+  by : (b : Bool) → test n ≡ b → (((n == q) ≡ true) × (n ≡ q)) ⊎ (((n == q) ≡ false) × (n ≡ q → ⊥)) → has (filter test ns) q ≡ (test q && has ns q) → has (cond (test n) (n ∷ filter test ns) (filter test ns)) q ≡ (test q && ((n == q) || has ns q))
+  by true e (inl h) later =
+      ap (λ b. has (cond b (n ∷ filter test ns) (filter test ns)) q) e
+      ∙ ap (λ b. b || has (filter test ns) q) h.0
+      ∙ sym (ap (λ b. b && ((n == q) || has ns q)) (sym (ap test h.1) ∙ e) ∙ ap (λ b. b || has ns q) h.0)
+  by true e (inr h) later =
+      ap (λ b. has (cond b (n ∷ filter test ns) (filter test ns)) q) e
+      ∙ ap (λ b. b || has (filter test ns) q) h.0 ∙ later ∙ sym (ap (λ b. test q && (b || has ns q)) h.0)
+  by false e (inl h) later =
+      ap (λ b. has (cond b (n ∷ filter test ns) (filter test ns)) q) e
+      ∙ later ∙ ap (λ b. b && has ns q) (sym (ap test h.1) ∙ e) ∙ sym (ap (λ b. b && ((n == q) || has ns q)) (sym (ap test h.1) ∙ e))
+  by false e (inr h) later =
+      ap (λ b. has (cond b (n ∷ filter test ns) (filter test ns)) q) e
+      ∙ later ∙ sym (ap (λ b. test q && (b || has ns q)) h.0)
+
+or_through : (a b c : Bool) → (a || (b || c)) ≡ ((a || b) || c)
+or_through true b c = refl
+or_through false b c = refl
+
+has_append : (a b : List ℕ) (q : ℕ) → has (a ++ b) q ≡ (has a q || has b q)
+has_append [] b q = refl
+has_append (n ∷ a) b q = ap (λ t. (n == q) || t) (has_append a b q) ∙ or_through (n == q) (has a q) (has b q)
+
+has_below : (a k q : ℕ) → q < a → has (count_from a k) q ≡ false
+has_below a zero q h = refl
+has_below a (suc k) q h = elim (eqb_tells a q) [
+  | inl e ↦ absurd (omega (arith, e.1))
+  | inr e ↦ or_from (a == q) (has (count_from (suc a) k) q) e.0 (has_below (suc a) k q (omega arith))
+]
+
+has_within : (a k q : ℕ) → a ≤ q → q < a + k → has (count_from a k) q ≡ true
+has_within a zero q h l = absurd (omega arith)
+has_within a (suc k) q h l = by (eqb_tells a q) (λ le. has_within (suc a) k q le (omega arith)) where
+  by : (((a == q) ≡ true) × (a ≡ q)) ⊎ (((a == q) ≡ false) × (a ≡ q → ⊥)) → (suc a ≤ q → has (count_from (suc a) k) q ≡ true) → ((a == q) || has (count_from (suc a) k) q) ≡ true
+  by (inl e) later = ap (λ b. b || has (count_from (suc a) k) q) e.0
+  by (inr e) later = ap (λ b. b || has (count_from (suc a) k) q) e.0 ∙ later (omega (arith, e.1))
+
+apart_count : (a k : ℕ) → AreApart (count_from a k)
+apart_count a zero = tt
+apart_count a (suc k) = (has_below (suc a) k a (omega arith), apart_count (suc a) k)
+
+apart_filter : (test : ℕ → Bool) (ns : List ℕ) → AreApart ns → AreApart (filter test ns)
+apart_filter test [] h = tt
+apart_filter test (n ∷ ns) h = by (test n) refl (apart_filter test ns h.1) where
+  by : (b : Bool) → test n ≡ b → AreApart (filter test ns) → AreApart (cond (test n) (n ∷ filter test ns) (filter test ns))
+  by true e later =
+      subst (λ b. AreApart (cond b (n ∷ filter test ns) (filter test ns))) (sym e) (has_filter test ns n ∙ ap (λ b. test n && b) h.0 ∙ and_false (test n), later)
+  by false e later = subst (λ b. AreApart (cond b (n ∷ filter test ns) (filter test ns))) (sym e) later
+
+apart_append : (a b : List ℕ) → AreApart a → AreApart b → ((q : ℕ) → has a q ≡ true → has b q ≡ false) → AreApart (a ++ b)
+apart_append [] b h k other = k
+apart_append (n ∷ a) b h k other =
+    (has_append a b n ∙ or_from (has a n) (has b n) h.0 (other n (here n)), apart_append a b h.1 k (λ q e. other q (there q e))) where
+      here : (n' : ℕ) → has (n ∷ a) n ≡ true
+      here n' = elim (eqb_tells n n) [ inl e ↦ ap (λ t. t || has a n) e.0 | inr e ↦ absurd (e.1 refl) ]
+
+      there : (q : ℕ) → has a q ≡ true → has (n ∷ a) q ≡ true
+      there q e = by (n == q) e where
+        by : (t : Bool) → has a q ≡ true → (t || has a q) ≡ true
+        by true e = refl
+        by false e = e
+
+abbrev pub InRange : ℕ → Type 0
+InRange n = (0 < n) × (n < 2 ^ 29)
+
+pub in_numbers : (q : ℕ) → InRange q → has field_numbers q ≡ true
+unfolding field_numbers
+in_numbers q h = has_within 1 (2 ^ 29 - 1) q (omega arith) (omega arith)
+
+apart_numbers : AreApart field_numbers
+unfolding field_numbers
+apart_numbers = apart_count 1 (2 ^ 29 - 1)
+
+either : (d : Bool) → ((d && true) || (not d && true)) ≡ true
+either true = refl
+either false = refl
+
+not_both : (d b c : Bool) → (d && b) ≡ true → (not d && c) ≡ false
+not_both true b c e = refl
+not_both false b c e = cc
+
+pub order_has : (type : ℕ → Option Field) (q : ℕ) → InRange q → has (printing_order type) q ≡ true
+order_has type q h =
+    let d = λ (n : ℕ). is_declared (type n) in
+    has_append (filter d field_numbers) (filter (λ n. not (d n)) field_numbers) q
+    ∙ ap (λ t. t || has (filter (λ n. not (d n)) field_numbers) q) (has_filter d field_numbers q ∙ ap (λ t. d q && t) (in_numbers q h))
+    ∙ ap (λ t. (d q && true) || t) (has_filter (λ n. not (d n)) field_numbers q ∙ ap (λ t. not (d q) && t) (in_numbers q h))
+    ∙ either (d q)
+
+pub order_apart : (type : ℕ → Option Field) → AreApart (printing_order type)
+order_apart type =
+    let d = λ (n : ℕ). is_declared (type n) in
+    apart_append (filter d field_numbers) (filter (λ n. not (d n)) field_numbers) (apart_filter d field_numbers apart_numbers) (apart_filter (λ n. not (d n)) field_numbers apart_numbers)
+    (λ q e. has_filter (λ n. not (d n)) field_numbers q ∙ not_both (d q) (has field_numbers q) (has field_numbers q) (sym (has_filter d field_numbers q) ∙ e))

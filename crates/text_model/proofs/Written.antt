@@ -1,0 +1,269 @@
+-- Tokens that are written one directly behind the other are cut into again, where none lengthens the one before it.
+use Rattle.std.proofs.Common.{◌≡◌, ◌⊎◌, inl, inr, ℕ, ◌+◌, ◌<◌, ◌^◌, ◌==◌, not, Bool, true, false, List, [], ◌∷◌, ◌++◌, length, decimal, Ok, refl, sym, ap, ◌∙◌, subst, append_assoc, append-nil, length-append, arith}
+use Rattle.std.specs.Prelude.{slice_index}
+use Rattle.std.specs.List.{flat_map, list_all, AllByRecursion}
+use Rattle.std.proofs.lemmas.Bool.{and_parts, or_from}
+use Rattle.std.proofs.lemmas.Fmt.{decimal_is_IsNumeral}
+use Rattle.protox_lex.specs.Class.{Text, is_in}
+use Rattle.protox_lex.specs.Escapes.{escaped}
+use Rattle.protox_lex.specs.declared.class.Class.TheVariants as class
+use Rattle.text_lex.specs.Lex.{front}
+use Rattle.text_lex.specs.Token.{Token, ident, int, float, str, sign, token}
+use Rattle.text_lex.specs.declared.token.Radix.TheVariants as radix
+use Rattle.text_model.specs.Tree.{FieldName, plain, extension, expansion, integer, floating, identifier, ScalarValue, signed, strings, curly, angle, Separator, no_separator, comma, semicolon, Value, scalar, braced, Values, no_values, more_values, Given, one_scalar, one_message, listed, Fields, no_fields, more_fields}
+use Rattle.text_model.specs.Tokens.{dotted, name_tokens, word_token, scalar_tokens, separator_tokens, value_tokens, more_tokens, values_tokens, given_tokens, fields_tokens}
+use Rattle.text_model.specs.Rendered.{run}
+use Rattle.text_model.specs.Identifiers.{is_identifier}
+use Rattle.text_model.proofs.Front.{is_sign, is_at}
+use Rattle.text_model.proofs.Reading.{grouped}
+use Rattle.text_model.proofs.Leaves.{Lexed, lexed_nil, token_before, ends_word, ends_number, comma_front, minus_front, dot_front, colon_front, bracket_front, close_bracket_front, brace_front, close_brace_front, word_front, string_front}
+use Rattle.text_model.proofs.Decimals.{letter_solid, letter_no_digit, decimal_front}
+
+abbrev pub begins_word : Token → Bool
+begins_word (ident w) = true
+begins_word (int r d) = true
+begins_word (float s) = true
+begins_word _ = false
+
+abbrev pub is_ident : Token → Bool
+is_ident (ident w) = true
+is_ident _ = false
+
+-- a sign is cut where it stands, a dot where no digit follows it
+pub record IsSign (b : ℕ) : Type 0 where
+  pub front : (at : ℕ) (z : Text) → ((b == 46) ≡ false) ⊎ (is_in class.Digit (slice_index z 0) ≡ false) → front at (b ∷ z) ≡ Ok (token (sign b), 1)
+  pub word : is_in class.Word b ≡ false
+
+-- it is written as it is cut
+abbrev pub IsClean : Token → Type 0
+IsClean (ident w) = is_identifier w ≡ true
+IsClean (int radix.Decimal d) = (n : ℕ) × (n < 2 ^ 64) × (d ≡ decimal n)
+IsClean (int r d) = ⊥
+IsClean (float s) = ⊥
+IsClean (str raw) = (s : Text) × AllByRecursion (λ x. x < 256) s × (raw ≡ escaped s)
+IsClean (sign b) = IsSign b
+
+-- and what follows does not lengthen it
+abbrev pub IsApart : Token → List Token → Type 0
+IsApart (ident w) ts = is_at begins_word ts ≡ false
+IsApart (int r d) ts = (is_at begins_word ts ≡ false) × (is_at (is_sign 46) ts ≡ false)
+IsApart (float s) ts = ⊥
+IsApart (str s) ts = Unit {0}
+IsApart (sign b) ts = ((b == 46) ≡ false) ⊎ (is_at is_ident ts ≡ true)
+
+abbrev pub AreWritten : List Token → Type 0
+AreWritten [] = Unit {0}
+AreWritten (t ∷ ts) = IsClean t × IsApart t ts × AreWritten ts
+
+word_ended : (ts : List Token) → AreWritten ts → is_at begins_word ts ≡ false → ends_word (run ts) ≡ true
+word_ended [] h e = refl
+word_ended (ident w ∷ ts) h e = cc
+word_ended (int r d ∷ ts) h e = cc
+word_ended (float s ∷ ts) h e = cc
+word_ended (str s ∷ ts) h e = refl
+word_ended (sign b ∷ ts) h e = ap not h.0.word
+
+number_ended : (ts : List Token) → AreWritten ts → is_at begins_word ts ≡ false → is_at (is_sign 46) ts ≡ false → ends_number (run ts) ≡ true
+number_ended [] h e f = refl
+number_ended (ident w ∷ ts) h e f = cc
+number_ended (int r d ∷ ts) h e f = cc
+number_ended (float s ∷ ts) h e f = cc
+number_ended (str s ∷ ts) h e f = refl
+number_ended (sign b ∷ ts) h e f = ap not (or_from (is_in class.Word b) (b == 46) h.0.word f)
+
+no_digit : (ts : List Token) → AreWritten ts → is_at is_ident ts ≡ true → is_in class.Digit (slice_index (run ts) 0) ≡ false
+no_digit [] h e = cc
+no_digit (ident [] ∷ ts) h e = absurd (let x : false ≡ true = h.0 in cc)
+no_digit (ident (b ∷ y) ∷ ts) h e = letter_no_digit b (and_parts (is_in class.Letter b) (list_all (is_in class.Word) y) h.0).0
+no_digit (int r d ∷ ts) h e = cc
+no_digit (float s ∷ ts) h e = cc
+no_digit (str s ∷ ts) h e = cc
+no_digit (sign b ∷ ts) h e = cc
+
+decimal_lexed : (d : Text) (n : ℕ) (z : Text) (ts : List Token) → n < 2 ^ 64 → d ≡ decimal n → ends_number z ≡ true → Lexed z ts → Lexed (d ++ z) (int radix.Decimal d ∷ ts)
+decimal_lexed [] n z ts small e f h = absurd (let k = (decimal_is_IsNumeral n small).0.0 in omega (arith, ap length e))
+decimal_lexed (b ∷ y) n z ts small e f h = token_before b y z (int radix.Decimal (b ∷ y)) ts (λ at. subst (λ ds. front at (ds ++ z) ≡ Ok (token (int radix.Decimal ds), length ds)) (sym e) (decimal_front at n z small f)) h
+
+string_lexed : (raw s z : Text) (ts : List Token) → AllByRecursion (λ x. x < 256) s → raw ≡ escaped s → Lexed z ts → Lexed ((34 ∷ (raw ++ 34 ∷ [])) ++ z) (str raw ∷ ts)
+string_lexed raw s z ts small e h =
+    token_before 34 (raw ++ 34 ∷ []) z (str raw) ts
+    (λ at.
+    subst (λ r. front at ((34 ∷ (r ++ 34 ∷ [])) ++ z) ≡ Ok (token (str r), length (34 ∷ (r ++ 34 ∷ [])))) (sym e)
+    (ap (λ y. front at (34 ∷ y)) (append_assoc (escaped s) (34 ∷ []) z) ∙ string_front at s z small ∙ ap (λ n. Ok (token (str (escaped s)), n)) (let l = length-append (escaped s) (34 ∷ []) in let k : length (escaped s) + 2 ≡ length (34 ∷ (escaped s ++ 34 ∷ [])) = omega arith in k)))
+    h
+
+pub run_lexed : (ts : List Token) → AreWritten ts → Lexed (run ts) ts
+run_lexed [] h = lexed_nil
+run_lexed (ident [] ∷ ts) h = absurd (let x : false ≡ true = h.0 in cc)
+run_lexed (ident (b ∷ y) ∷ ts) h =
+    let p = and_parts (is_in class.Letter b) (list_all (is_in class.Word) y) h.0 in
+    token_before b y (run ts) (ident (b ∷ y)) ts (λ at. word_front at b y (run ts) p.0 (letter_solid b p.0) p.1 (word_ended ts h.2 h.1)) (run_lexed ts h.2)
+run_lexed (int radix.Decimal d ∷ ts) h = decimal_lexed d h.0.0 (run ts) ts h.0.1 h.0.2 (number_ended ts h.2 h.1.0 h.1.1) (run_lexed ts h.2)
+run_lexed (int radix.Octal d ∷ ts) h = absurd h.0
+run_lexed (int radix.Hexadecimal d ∷ ts) h = absurd h.0
+run_lexed (float s ∷ ts) h = absurd h.0
+run_lexed (str raw ∷ ts) h = string_lexed raw h.0.0 (run ts) ts h.0.1 h.0.2 (run_lexed ts h.2)
+run_lexed (sign b ∷ ts) h =
+    token_before b [] (run ts) (sign b) ts (λ at. h.0.front at (run ts) (elim h.1 [ inl e ↦ inl e | inr e ↦ inr (no_digit ts h.2 e) ])) (run_lexed ts h.2)
+
+-- ---- trees
+
+comma_sign : IsSign 44
+comma_sign = record { front = λ at z h. comma_front at z; word = refl }
+
+minus_sign : IsSign 45
+minus_sign = record { front = λ at z h. minus_front at z; word = refl }
+
+dot_sign : IsSign 46
+dot_sign = record { front = λ at z h. dot_front at z (elim h [ inl e ↦ absurd (let x : true ≡ false = e in cc) | inr e ↦ e ]); word = refl }
+
+colon_sign : IsSign 58
+colon_sign = record { front = λ at z h. colon_front at z; word = refl }
+
+bracket_sign : IsSign 91
+bracket_sign = record { front = λ at z h. bracket_front at z; word = refl }
+
+close_bracket_sign : IsSign 93
+close_bracket_sign = record { front = λ at z h. close_bracket_front at z; word = refl }
+
+brace_sign : IsSign 123
+brace_sign = record { front = λ at z h. brace_front at z; word = refl }
+
+close_brace_sign : IsSign 125
+close_brace_sign = record { front = λ at z h. close_brace_front at z; word = refl }
+
+-- neither a word nor a dot
+pub record Follows (ts : List Token) : Type 0 where
+  pub word : is_at begins_word ts ≡ false
+  pub dot : is_at (is_sign 46) ts ≡ false
+
+abbrev pub IsCleanScalar : ScalarValue → Type 0
+IsCleanScalar (signed minus w) = IsClean (word_token w)
+IsCleanScalar (strings s []) = IsClean (str s)
+IsCleanScalar (strings s (x ∷ ss)) = ⊥
+
+abbrev pub IsNameShown : FieldName → Type 0
+IsNameShown (plain w) = is_identifier w ≡ true
+IsNameShown (extension n) = (is_identifier n.first ≡ true) × AllByRecursion (λ w. is_identifier w ≡ true) n.others
+IsNameShown (expansion d n) = ⊥
+
+-- a comma between two fields
+abbrev pub IsBetween : Separator → Fields → Type 0
+IsBetween no_separator no_fields = Unit {0}
+IsBetween comma fs = Unit {0}
+IsBetween s fs = ⊥
+
+abbrev mutual
+  pub IsValueShown : Value → Type 0
+  IsValueShown (scalar s) = IsCleanScalar s
+  IsValueShown (braced curly fs) = AreShown fs
+  IsValueShown (braced angle fs) = ⊥
+
+  pub AreValuesShown : Values → Type 0
+  AreValuesShown no_values = Unit {0}
+  AreValuesShown (more_values v vs) = IsValueShown v × AreValuesShown vs
+
+  pub IsGivenShown : Given → Type 0
+  IsGivenShown (one_scalar s) = IsCleanScalar s
+  IsGivenShown (one_message false curly fs) = AreShown fs
+  IsGivenShown (one_message colon b fs) = ⊥
+  IsGivenShown (listed vs) = AreValuesShown vs
+
+  -- fields that are printed on one line
+  pub AreShown : Fields → Type 0
+  AreShown no_fields = Unit {0}
+  AreShown (more_fields n g s fs) = IsNameShown n × IsGivenShown g × IsBetween s fs × AreShown fs
+
+scalar_written : (s : ScalarValue) → IsCleanScalar s → (ts : List Token) → Follows ts → AreWritten ts → AreWritten (scalar_tokens s ++ ts)
+scalar_written (signed true (integer r d)) c ts f h = (minus_sign, inl refl, (c, (f.word, f.dot), h))
+scalar_written (signed true (floating s)) c ts f h = absurd c
+scalar_written (signed true (identifier w)) c ts f h = (minus_sign, inl refl, (c, f.word, h))
+scalar_written (signed false (integer r d)) c ts f h = (c, (f.word, f.dot), h)
+scalar_written (signed false (floating s)) c ts f h = absurd c
+scalar_written (signed false (identifier w)) c ts f h = (c, f.word, h)
+scalar_written (strings s []) c ts f h = (c, tt, h)
+scalar_written (strings s (x ∷ ss)) c ts f h = absurd c
+
+dots_follow : (ws : List Text) (ts : List Token) → is_at begins_word (flat_map dotted ws ++ sign 93 ∷ ts) ≡ false
+dots_follow [] ts = refl
+dots_follow (w ∷ ws) ts = refl
+
+others_written : (ws : List Text) → AllByRecursion (λ w. is_identifier w ≡ true) ws → (ts : List Token) → AreWritten ts → AreWritten (flat_map dotted ws ++ sign 93 ∷ ts)
+others_written [] a ts h = (close_bracket_sign, inl refl, h)
+others_written (w ∷ ws) a ts h = (dot_sign, inr refl, (a.0, dots_follow ws ts, others_written ws a.1 ts h))
+
+name_written : (n : FieldName) → IsNameShown n → (ts : List Token) → Follows ts → AreWritten ts → AreWritten (name_tokens n ++ ts)
+name_written (plain w) c ts f h = (c, f.word, h)
+name_written (extension n) c ts f h =
+    subst (λ us. AreWritten (sign 91 ∷ ident n.first ∷ us)) (sym (append_assoc (flat_map dotted n.others) (sign 93 ∷ []) ts))
+    (bracket_sign, inl refl, (c.0, dots_follow n.others ts, others_written n.others c.1 ts h))
+name_written (expansion d n) c ts f h = absurd c
+
+more_follow : (vs : Values) (ts : List Token) → Follows (more_tokens vs ++ sign 93 ∷ ts)
+more_follow no_values ts = record { word = refl; dot = refl }
+more_follow (more_values v vs) ts = record { word = refl; dot = refl }
+
+given_follow : (g : Given) → IsGivenShown g → (ts : List Token) → Follows (given_tokens g ++ ts)
+given_follow (one_scalar s) c ts = record { word = refl; dot = refl }
+given_follow (one_message false curly fs) c ts = record { word = refl; dot = refl }
+given_follow (one_message false angle fs) c ts = absurd c
+given_follow (one_message true b fs) c ts = absurd c
+given_follow (listed vs) c ts = record { word = refl; dot = refl }
+
+between_follow : (s : Separator) (fs : Fields) → IsBetween s fs → (ts : List Token) → Follows ts → Follows (separator_tokens s ++ (fields_tokens fs ++ ts))
+between_follow no_separator no_fields c ts f = f
+between_follow no_separator (more_fields n g s fs) c ts f = absurd c
+between_follow comma fs c ts f = record { word = refl; dot = refl }
+between_follow semicolon fs c ts f = absurd c
+
+between_written : (s : Separator) (fs : Fields) → IsBetween s fs → (ts : List Token) → AreWritten ts → AreWritten (separator_tokens s ++ ts)
+between_written no_separator no_fields c ts h = h
+between_written no_separator (more_fields n g s fs) c ts h = absurd c
+between_written comma fs c ts h = (comma_sign, inl refl, h)
+between_written semicolon fs c ts h = absurd c
+
+close_follow : (ts : List Token) → Follows (sign 125 ∷ ts)
+close_follow ts = record { word = refl; dot = refl }
+
+mutual
+  value_written : (v : Value) → IsValueShown v → (ts : List Token) → Follows ts → AreWritten ts → AreWritten (value_tokens v ++ ts)
+  value_written (scalar s) c ts f h = scalar_written s c ts f h
+  value_written (braced curly fs) c ts f h =
+      subst (λ us. AreWritten (sign 123 ∷ us)) (sym (append_assoc (fields_tokens fs) (sign 125 ∷ []) ts))
+      (brace_sign, inl refl, fields_written fs c (sign 125 ∷ ts) (close_follow ts) (close_brace_sign, inl refl, h))
+  value_written (braced angle fs) c ts f h = absurd c
+
+  more_written : (vs : Values) → AreValuesShown vs → (ts : List Token) → AreWritten ts → AreWritten (more_tokens vs ++ sign 93 ∷ ts)
+  more_written no_values c ts h = (close_bracket_sign, inl refl, h)
+  more_written (more_values v vs) c ts h =
+      subst (λ us. AreWritten (sign 44 ∷ us)) (sym (append_assoc (value_tokens v) (more_tokens vs) (sign 93 ∷ ts)))
+      (comma_sign, inl refl, value_written v c.0 (more_tokens vs ++ sign 93 ∷ ts) (more_follow vs ts) (more_written vs c.1 ts h))
+
+  values_written : (vs : Values) → AreValuesShown vs → (ts : List Token) → AreWritten ts → AreWritten (values_tokens vs ++ sign 93 ∷ ts)
+  values_written no_values c ts h = (close_bracket_sign, inl refl, h)
+  values_written (more_values v vs) c ts h =
+      subst AreWritten (sym (append_assoc (value_tokens v) (more_tokens vs) (sign 93 ∷ ts)))
+      (value_written v c.0 (more_tokens vs ++ sign 93 ∷ ts) (more_follow vs ts) (more_written vs c.1 ts h))
+
+  given_written : (g : Given) → IsGivenShown g → (ts : List Token) → Follows ts → AreWritten ts → AreWritten (given_tokens g ++ ts)
+  given_written (one_scalar s) c ts f h = (colon_sign, inl refl, scalar_written s c ts f h)
+  given_written (one_message false curly fs) c ts f h =
+      subst (λ us. AreWritten (sign 123 ∷ us)) (sym (append_assoc (fields_tokens fs) (sign 125 ∷ []) ts))
+      (brace_sign, inl refl, fields_written fs c (sign 125 ∷ ts) (close_follow ts) (close_brace_sign, inl refl, h))
+  given_written (one_message false angle fs) c ts f h = absurd c
+  given_written (one_message true b fs) c ts f h = absurd c
+  given_written (listed vs) c ts f h =
+      subst (λ us. AreWritten (sign 58 ∷ sign 91 ∷ us)) (sym (append_assoc (values_tokens vs) (sign 93 ∷ []) ts))
+      (colon_sign, inl refl, (bracket_sign, inl refl, values_written vs c ts h))
+
+  pub fields_written : (fs : Fields) → AreShown fs → (ts : List Token) → Follows ts → AreWritten ts → AreWritten (fields_tokens fs ++ ts)
+  fields_written no_fields c ts f h = h
+  fields_written (more_fields n g s fs) c ts f h =
+      let last = separator_tokens s ++ (fields_tokens fs ++ ts) in
+      subst AreWritten (sym (grouped (name_tokens n) (given_tokens g) (separator_tokens s) (fields_tokens fs) ts))
+      (name_written n c.0 (given_tokens g ++ last) (given_follow g c.1 last)
+      (given_written g c.1 last (between_follow s fs c.2 ts f) (between_written s fs c.2 (fields_tokens fs ++ ts) (fields_written fs c.3 ts f h))))
+
+-- fields that are printed on one line are cut into again
+pub shown_lexed : (fs : Fields) → AreShown fs → Lexed (run (fields_tokens fs)) (fields_tokens fs)
+shown_lexed fs c = run_lexed (fields_tokens fs) (subst AreWritten (append-nil (fields_tokens fs)) (fields_written fs c [] (record { word = refl; dot = refl }) tt))

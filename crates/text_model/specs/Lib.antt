@@ -1,0 +1,10 @@
+pub mod Tree
+pub mod Tokens
+pub mod Schemas
+pub mod Scalars
+pub mod Value
+pub mod Printed
+pub mod Identifiers
+pub mod Plain
+pub mod Rendered
+pub mod Texts

@@ -1,0 +1,72 @@
+-- What a text needs of message types: beside their fields the names of fields, of extensions and of enums' values.
+use Rattle.std.specs.Prelude.{◌≡◌, ℕ, ℤ, zero, suc, ◌==◌, cond, Bool, false, Option, None, Some, codes}
+use Rattle.std.specs.Str.{bytes_eq}
+use Rattle.protox_lex.specs.Class.{Text}
+use Rattle.protobuf_model.specs.Types.{Name, Part, Key, one, scalar, Field, Types}
+
+-- how texts name what a message type has
+pub record Names : Type 0 where
+  -- the number of the field of a name (a group has its type's name; a float's name finds none), and of the extension of a full name
+  pub field : Text → Option ℕ
+  pub extension : Text → Option ℕ
+  -- the name that the field, or the full name that the extension of a number is printed under
+  pub name : ℕ → Text
+  -- of the enum of a field: the number of the value of a name, and the name that the value of a number is printed as
+  pub enum_number : ℕ → Text → Option ℤ
+  pub enum_name : ℕ → ℤ → Option Text
+
+-- the types of messages, which full names are those of types, and which of them are google.protobuf.Any in the form that
+-- expands: a string under 1, bytes under 2, each singular and in no oneof
+pub record Schema : Type 0 where
+  pub types : Types
+  pub names : Name → Names
+  pub is_message : Text → Bool
+  pub is_any : Name → Bool
+
+-- what the fields of a text in one message are found in
+pub record Shape : Type 0 where
+  pub fields : ℕ → Option Field
+  pub names : Names
+  pub is_any : Bool
+
+abbrev pub shape_of : Schema → Name → Shape
+shape_of w t = record { fields = w.types t; names = w.names t; is_any = w.is_any t }
+
+-- an entry of a map is a message of the key under 1 and the value under 2
+abbrev pub key_field : Key → Field
+key_field key = record { part = record { kind = scalar key.kind; presence = key.presence; default = key.default }; label = one; oneof = None; extension = false }
+
+abbrev pub value_field : Part → Field
+value_field part = record { part = part; label = one; oneof = None; extension = false }
+
+abbrev pub entry_fields : Key → Part → ℕ → Option Field
+entry_fields key part zero = None
+entry_fields key part (suc zero) = Some (key_field key)
+entry_fields key part (suc (suc zero)) = Some (value_field part)
+entry_fields key part (suc (suc (suc n))) = None
+
+-- by the names `key` and `value`; an enum is the value's
+abbrev pub entry_names : (Text → Option ℤ) → (ℤ → Option Text) → Names
+entry_names number name = record {
+  field = λ w. cond (bytes_eq w (codes "key")) (Some 1) (cond (bytes_eq w (codes "value")) (Some 2) None);
+  extension = λ w. None;
+  name = λ n. cond (n == 1) (codes "key") (codes "value");
+  enum_number = λ n. number;
+  enum_name = λ n. name;
+}
+
+abbrev pub entry_shape : Names → ℕ → Key → Part → Shape
+entry_shape names n key part =
+    record { fields = entry_fields key part; names = entry_names (names.enum_number n) (names.enum_name n); is_any = false }
+
+-- the name finds the field or the extension again
+abbrev pub Finds : Names → ℕ → Field → Type 0
+Finds names n f = cond f.extension (names.extension (names.name n)) (names.field (names.name n)) ≡ Some n
+
+-- what is printed as a name is found by it
+pub record AreNames (type : ℕ → Option Field) (names : Names) : Type 0 where
+  pub fields : (n : ℕ) (f : Field) → type n ≡ Some f → Finds names n f
+  pub enums : (n : ℕ) (z : ℤ) (w : Text) → names.enum_name n z ≡ Some w → names.enum_number n w ≡ Some z
+
+abbrev pub HaveNames : Schema → Type 0
+HaveNames w = (t : Name) → AreNames (w.types t) (w.names t)

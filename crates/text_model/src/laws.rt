@@ -1,0 +1,72 @@
+//! Laws of texts and of the messages that they give, each the contract of a function that does nothing.
+ghost use Rattle.std.specs.Prelude.{◌≡◌, ◌≤◌, ◌↔◌, Some, option_and_then};
+ghost use Rattle.protox_lex.specs.Class.{Text};
+ghost use Rattle.protobuf_model.specs.Coded.{SuitsType};
+ghost use Rattle.protobuf_model.specs.Types.{Name};
+ghost use Rattle.protobuf_model.specs.Values.{Message, nothing};
+ghost use Rattle.text_model.specs.Identifiers.{HaveIdentifiers};
+ghost use Rattle.text_model.specs.Plain.{IsPlain};
+ghost use Rattle.text_model.specs.Printed.{printed};
+ghost use Rattle.text_model.specs.Rendered.{compact};
+ghost use Rattle.text_model.specs.Schemas.{HaveNames, Schema, Shape, shape_of};
+ghost use Rattle.text_model.specs.Texts.{Gives, IsMerged, IsText, Spells};
+ghost use Rattle.text_model.specs.Tokens.{fields_tokens, open_braces};
+ghost use Rattle.text_model.specs.Tree.{Fields, Separator, append, comma};
+ghost use Rattle.text_model.specs.Value.{value};
+
+/// Tokens are those of one tree at most.
+pub fn tokens_spell_one_tree()
+    ensures { (a b : Fields) → fields_tokens a ≡ fields_tokens b → a ≡ b }
+{}
+
+/// A text spells one tree at most.
+pub fn a_text_spells_one_tree()
+    ensures { (z : Text) (a b : Fields) → Spells z a → Spells z b → a ≡ b }
+{}
+
+/// A text gives one message at most, behind each start.
+pub fn a_text_gives_one_message()
+    ensures { (w : Schema) (t : Name) (start : Message) (z : Text) (m n : Message)
+        → IsMerged w t start z m → IsMerged w t start z n → m ≡ n }
+{}
+
+/// Fields, and others behind them, give what the others give behind what the first do.
+pub fn fields_are_merged_in_pieces()
+    ensures { (w : Schema) (s : Shape) (a b : Fields) (m : Message)
+        → value w s (append a b) m ≡ option_and_then (value w s b) (value w s a m) }
+{}
+
+/// The fields that a message is printed as give the message, whatever stands between them.
+pub fn printed_fields_give_the_message()
+    ensures { (w : Schema) → HaveNames w → (s : Separator) (t : Name) (m : Message)
+        → SuitsType w.types t m → IsPlain w.types t m
+        → value w (shape_of w t) (printed w s t m) nothing ≡ Some m }
+{}
+
+/// So a text of these fields gives the message.
+pub fn printed_texts_give_the_message()
+    ensures { (w : Schema) → HaveNames w → (s : Separator) (t : Name) (m : Message) (z : Text)
+        → SuitsType w.types t m → IsPlain w.types t m
+        → IsText z (printed w s t m) → Gives w t z m }
+{}
+
+/// What is written of them on one line is cut into their tokens again, where names are identifiers.
+pub fn compact_texts_spell_what_is_printed()
+    ensures { (w : Schema) → HaveIdentifiers w → (t : Name) (m : Message)
+        → SuitsType w.types t m → IsPlain w.types t m
+        → Spells (compact (printed w comma t m)) (printed w comma t m) }
+{}
+
+/// So it gives the message, if no more than 100 braces are open in it at once.
+pub fn compact_texts_give_the_message()
+    ensures { (w : Schema) → HaveNames w → HaveIdentifiers w → (t : Name) (m : Message)
+        → SuitsType w.types t m → IsPlain w.types t m → open_braces (printed w comma t m) ≤ 100
+        → Gives w t (compact (printed w comma t m)) m }
+{}
+
+/// Two such messages have the same text exactly if they are equal.
+pub fn equal_messages_have_equal_texts()
+    ensures { (w : Schema) → HaveNames w → HaveIdentifiers w → (t : Name) (m n : Message)
+        → SuitsType w.types t m → IsPlain w.types t m → SuitsType w.types t n → IsPlain w.types t n
+        → (compact (printed w comma t m) ≡ compact (printed w comma t n)) ↔ (m ≡ n) }
+{}
