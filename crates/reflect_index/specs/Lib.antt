@@ -6,4 +6,6 @@ pub mod Members
 pub mod Along
 pub mod Entries
 pub mod Grown
+pub mod Children
+pub mod Finished
 pub mod BatchEntries

@@ -1,13 +1,11 @@
 //! What is known of a type once all of it was visited: what its parts are looked up by, members of oneofs, a map entry's parts.
 
 ghost use Rattle.std.specs.Prelude.{◌≡◌, [], map, OnOk, IfOk};
-ghost use Rattle.std.specs.List.{AllByRecursion};
+ghost use Rattle.reflect_index.specs.Finished.{IsFinished, IsFinishedEnum, FinishedMessages, FinishedEnums};
 ghost use Rattle.reflect_index.specs.Members.{Joins};
-ghost use Rattle.reflect_tables.specs.Types.{AreListed, ListsMembers};
-ghost use Rattle.reflect_tables.specs.Views.{field_of, message_of, oneof_of};
-ghost use Rattle.reflect_index.specs.OfDeclarations.{draft_ranges, draft_values, stored_ranges, stored_values};
-ghost use Rattle.reflect_index.specs.DraftNames.{draft_name, enum_draft_name, stored_message_name, stored_enum_name};
-ghost use Rattle.reflect_index.specs.Grown.{draft_fields, draft_oneofs, draft_head, enum_draft_head, message_head, enum_head, stored_fields, stored_oneofs, oneof_name};
+ghost use Rattle.reflect_tables.specs.Types.{AreListed};
+ghost use Rattle.reflect_tables.specs.Views.{field_of, oneof_of};
+ghost use Rattle.reflect_index.specs.Grown.{oneof_name};
 
 use crate::drafts::{EnumDraft, MessageDraft};
 use crate::index::{field_list, value_list};
@@ -80,12 +78,7 @@ fn list_members(fields: &[StoredField], oneofs: &mut Vec<StoredOneof>) -> Result
 }
 
 fn finished_message(alloc: Global, draft: MessageDraft) -> Result<StoredMessage, VisitError>
-    ensures name { IfOk result (λ m. stored_message_name m ≡ draft_name draft) }
-    ensures listed { IfOk result (λ m. ListsMembers (message_of m)) }
-    ensures ranges { IfOk result (λ m. stored_ranges m ≡ draft_ranges draft) }
-    ensures fields { IfOk result (λ m. stored_fields m ≡ draft_fields draft) }
-    ensures oneofs { IfOk result (λ m. stored_oneofs m ≡ draft_oneofs draft) }
-    ensures head { IfOk result (λ m. message_head m ≡ draft_head draft) }
+    ensures { IfOk result (IsFinished draft) }
 {
     let MessageDraft {
         file,
@@ -123,9 +116,7 @@ fn finished_message(alloc: Global, draft: MessageDraft) -> Result<StoredMessage,
 }
 
 fn finished_enum(alloc: Global, draft: EnumDraft) -> Result<StoredEnum, VisitError>
-    ensures name { IfOk result (λ e. stored_enum_name e ≡ enum_draft_name draft) }
-    ensures values { IfOk result (λ e. stored_values e ≡ draft_values draft) }
-    ensures head { IfOk result (λ e. enum_head e ≡ enum_draft_head draft) }
+    ensures { IfOk result (IsFinishedEnum draft) }
 {
     let EnumDraft {
         file,
@@ -150,12 +141,7 @@ pub fn finished_messages(
     alloc: Global,
     drafts: Vec<MessageDraft>,
 ) -> Result<Vec<StoredMessage>, VisitError>
-    ensures names { IfOk result (λ v. map stored_message_name v.items ≡ map draft_name drafts.items) }
-    ensures listed { IfOk result (λ v. AllByRecursion ListsMembers (map message_of v.items)) }
-    ensures ranges { IfOk result (λ v. map stored_ranges v.items ≡ map draft_ranges drafts.items) }
-    ensures fields { IfOk result (λ v. map stored_fields v.items ≡ map draft_fields drafts.items) }
-    ensures oneofs { IfOk result (λ v. map stored_oneofs v.items ≡ map draft_oneofs drafts.items) }
-    ensures heads { IfOk result (λ v. map message_head v.items ≡ map draft_head drafts.items) }
+    ensures { IfOk result (λ v. FinishedMessages drafts.items v.items) }
 {
     let mut messages = Vec::with_capacity(alloc, drafts.len())?;
     for draft in drafts {
@@ -166,9 +152,7 @@ pub fn finished_messages(
 
 /// The enums with all that is known of them.
 pub fn finished_enums(alloc: Global, drafts: Vec<EnumDraft>) -> Result<Vec<StoredEnum>, VisitError>
-    ensures names { IfOk result (λ v. map stored_enum_name v.items ≡ map enum_draft_name drafts.items) }
-    ensures values { IfOk result (λ v. map stored_values v.items ≡ map draft_values drafts.items) }
-    ensures heads { IfOk result (λ v. map enum_head v.items ≡ map enum_draft_head drafts.items) }
+    ensures { IfOk result (λ v. FinishedEnums drafts.items v.items) }
 {
     let mut enums = Vec::with_capacity(alloc, drafts.len())?;
     for draft in drafts {
