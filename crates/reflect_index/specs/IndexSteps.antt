@@ -7,10 +7,10 @@ use Rattle.reflect_index.specs.DraftNames.{draft_name, enum_draft_name, stored_e
 use Rattle.reflect_index.specs.OfDeclarations.{draft_ranges, draft_values, AddsRanges, with_value}
 use Rattle.reflect_references.specs.Meanings.{rest_behind}
 use Rattle.reflect_tables.specs.Views.{extension_of, declared_of}
-use Rattle.reflect_index.specs.Along.{AtHand, Met, met, syntax_behind, is_message, is_field, is_oneof, is_enum, is_service, is_method, is_extension}
-use Rattle.reflect_index.specs.Entries.{IsFieldOf, IsOneofOf, IsMethodOf, IsExtensionOf}
+use Rattle.reflect_index.specs.Along.{AtHand, Met, met, syntax_behind, is_message, is_field, is_oneof, is_enum, is_value, is_service, is_method, is_extension}
+use Rattle.reflect_index.specs.Entries.{IsFieldOf, IsOneofOf, IsValueOf, IsMethodOf, IsExtensionOf}
 use Rattle.reflect_index.specs.Children.{draft_children, AddsChild, AddsPlace}
-use Rattle.reflect_index.specs.Grown.{draft_fields, draft_oneofs, stored_methods, draft_head, enum_draft_head, service_head, AddsPart, AddsOne, AddsHead}
+use Rattle.reflect_index.specs.Grown.{draft_fields, draft_oneofs, draft_value_types, stored_methods, draft_head, enum_draft_head, service_head, AddsPart, AddsOne, AddsHead}
 use Rattle.reflect_index.specs.declared.visitor.IndexVisitor.{IndexVisitor}
 
 abbrev pub hand_of : IndexVisitor → AtHand
@@ -30,6 +30,7 @@ pub record Lists (s : IndexVisitor) (d : Declaration) (t : IndexVisitor) : Type 
   pub values : map draft_values t.drafts.enums.items ≡ with_value s.before.enums (map draft_values s.drafts.enums.items) d
   pub fields : AddsPart is_message is_field IsFieldOf s.before.messages (map draft_fields s.drafts.messages.items) (met_by s d) (map draft_fields t.drafts.messages.items)
   pub oneofs : AddsPart is_message is_oneof IsOneofOf s.before.messages (map draft_oneofs s.drafts.messages.items) (met_by s d) (map draft_oneofs t.drafts.messages.items)
+  pub value_types : AddsPart is_enum is_value IsValueOf s.before.enums (map draft_value_types s.drafts.enums.items) (met_by s d) (map draft_value_types t.drafts.enums.items)
   pub methods : AddsPart is_service is_method IsMethodOf s.before.services (map stored_methods s.drafts.services.items) (met_by s d) (map stored_methods t.drafts.services.items)
   pub declared : AddsOne is_extension IsExtensionOf (map extension_of s.drafts.extensions.items) (met_by s d) (map extension_of t.drafts.extensions.items)
   pub message_heads : AddsHead is_message (map draft_head s.drafts.messages.items) (met_by s d) (map draft_head t.drafts.messages.items)

@@ -2,7 +2,8 @@
 
 ghost use Rattle.std.specs.Prelude.{◌≡◌, [], map, OnOk, IfOk};
 ghost use Rattle.reflect_index.specs.Finished.{IsFinished, IsFinishedEnum, FinishedMessages, FinishedEnums};
-ghost use Rattle.reflect_index.specs.Members.{Joins};
+ghost use Rattle.reflect_index.specs.Entry.{IsEntryOf};
+ghost use Rattle.reflect_index.specs.Members.{Joins, AreMarked, is_lone, oneof_members};
 ghost use Rattle.reflect_tables.specs.Types.{AreListed};
 ghost use Rattle.reflect_tables.specs.Views.{field_of, oneof_of};
 ghost use Rattle.reflect_index.specs.Grown.{oneof_name};
@@ -10,25 +11,20 @@ ghost use Rattle.reflect_index.specs.Grown.{oneof_name};
 use crate::drafts::{EnumDraft, MessageDraft};
 use crate::index::{field_list, value_list};
 use reflect_names::VisitError;
-use reflect_tables::{StoredEntry, StoredEnum, StoredField, StoredMessage, StoredOneof};
+use reflect_tables::{FieldList, StoredEntry, StoredEnum, StoredField, StoredMessage, StoredOneof};
 use std::alloc::{AllocError, Global};
 
-/// The key and the value of a map's entry: its fields of the numbers 1 and 2.
-fn entry_of(fields: &[StoredField]) -> Option<StoredEntry> {
-    let mut key = None;
-    let mut value = None;
-    let mut place = 0;
-    for field in fields {
-        match field.number {
-            1 => key = Some(place),
-            2 => value = Some(place),
-            _ => {}
-        }
-        place = u32::checked_add(place, 1)?;
+/// The key and the value, where the type is one of a map's entries: its fields of the numbers 1 and 2 (protobuf.dev, "Language
+/// Guide (proto 3)", "Maps").
+fn entry_of(is_entry: bool, fields: &FieldList) -> Option<StoredEntry>
+    ensures { IsEntryOf is_entry (map field_of fields.now.list.items) result }
+{
+    if !is_entry {
+        return None;
     }
     Some(StoredEntry {
-        key: key?,
-        value: value?,
+        key: fields.of_number(1)?,
+        value: fields.of_number(2)?,
     })
 }
 
@@ -56,9 +52,7 @@ fn add_member(
     };
     let index = index as usize;
     if index < oneofs.len() {
-        let oneof = &mut oneofs[index];
-        oneof.is_synthetic = field.is_proto3_optional && oneof.fields.is_empty();
-        oneof.fields.push(place)?;
+        oneofs[index].fields.push(place)?;
     }
     Ok(())
 }
@@ -75,6 +69,31 @@ fn list_members(fields: &[StoredField], oneofs: &mut Vec<StoredOneof>) -> Result
         place = place.checked_add(1).ok_or(VisitError::TooMany)?;
     }
     Ok(())
+}
+
+/// The only member is a field that was declared `optional` in a proto3 file.
+fn is_lone(fields: &[StoredField], members: &[u32]) -> bool
+    ensures { result ≡ is_lone fields.now members.now }
+{
+    match members {
+        [place] => match fields.get(*place as usize) {
+            Some(field) => field.is_proto3_optional,
+            None => false,
+        },
+        _ => false,
+    }
+}
+
+/// Marks the oneofs that stand for one field, and no others (descriptor.proto, `proto3_optional`).
+fn mark_oneofs(fields: &[StoredField], oneofs: &mut Vec<StoredOneof>)
+    ensures marked { AreMarked fields.now oneofs.new.items }
+    ensures members { map oneof_members oneofs.new.items ≡ map oneof_members oneofs.old.items }
+    ensures names { map oneof_name oneofs.new.items ≡ map oneof_name oneofs.old.items }
+{
+    'turns: for place in 0..oneofs.len() {
+        let is_synthetic = is_lone(fields, oneofs[place].fields.as_slice());
+        oneofs[place].is_synthetic = is_synthetic;
+    }
 }
 
 fn finished_message(alloc: Global, draft: MessageDraft) -> Result<StoredMessage, VisitError>
@@ -94,11 +113,9 @@ fn finished_message(alloc: Global, draft: MessageDraft) -> Result<StoredMessage,
         extension_numbers,
     } = draft;
     list_members(fields.as_slice(), &mut oneofs)?;
-    let entry = if is_entry {
-        entry_of(fields.as_slice())
-    } else {
-        None
-    };
+    mark_oneofs(fields.as_slice(), &mut oneofs);
+    let fields = field_list(alloc, fields)?;
+    let entry = entry_of(is_entry, &fields);
     Ok(StoredMessage {
         file,
         parent,
@@ -107,7 +124,7 @@ fn finished_message(alloc: Global, draft: MessageDraft) -> Result<StoredMessage,
         full_name,
         is_entry,
         entry,
-        fields: field_list(alloc, fields)?,
+        fields,
         oneofs,
         children,
         reserved_numbers,

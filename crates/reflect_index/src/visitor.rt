@@ -1,12 +1,12 @@
 //! From the records of a batch to what the pool keeps of them.
 
-ghost use Rattle.std.specs.Prelude.{◌≡◌, [], Some, map, OnOk, IfOk};
-ghost use Rattle.reflect_tables.specs.Views.{field_of, method_of};
+ghost use Rattle.std.specs.Prelude.{◌≡◌, ◌-◌, [], Some, map, OnOk, IfOk};
+ghost use Rattle.reflect_tables.specs.Views.{method_of, value_of};
 ghost use Rattle.reflect_index.specs.Children.{draft_children};
 ghost use Rattle.reflect_index.specs.Finished.{AreFinished};
 ghost use Rattle.reflect_index.specs.OfDeclarations.{draft_ranges, draft_values, stored_value, add_value};
 ghost use Rattle.reflect_index.specs.DraftNames.{draft_name, enum_draft_name, stored_service_name};
-ghost use Rattle.reflect_index.specs.Grown.{draft_fields, draft_oneofs, draft_head, enum_draft_head, service_head, stored_methods, oneof_name, GrowsAt};
+ghost use Rattle.reflect_index.specs.Grown.{draft_fields, draft_oneofs, draft_head, enum_draft_head, service_head, draft_value_types, stored_methods, oneof_name, declared_field, GrowsAt};
 
 use crate::batch::Batch;
 use crate::children::{declare, no_children, push_service};
@@ -96,7 +96,7 @@ fn push_field(
     ensures heads { OnOk result (map draft_head messages.new.items ≡ map draft_head messages.old.items) }
     ensures oneofs { OnOk result (map draft_oneofs messages.new.items ≡ map draft_oneofs messages.old.items) }
     ensures children { OnOk result (map draft_children messages.new.items ≡ map draft_children messages.old.items) }
-    ensures fields { OnOk result (GrowsAt first (Some message) (field_of field) (map draft_fields messages.old.items) (map draft_fields messages.new.items)) }
+    ensures fields { OnOk result (GrowsAt first (Some message) (declared_field field) (map draft_fields messages.old.items) (map draft_fields messages.new.items)) }
 {
     let place = local_place(message, first)?;
     if place < messages.len() {
@@ -130,16 +130,19 @@ fn push_oneof(
     }
 }
 
-/// Adds a value to the enum at a place.
+/// Adds a value to an enum, where the first of the list has this index in the pool.
 fn push_value(
     enums: &mut Vec<EnumDraft>,
-    place: usize,
+    first: u32,
+    enumeration: u32,
     value: StoredValue,
 ) -> Result<(), VisitError>
     ensures names { OnOk result (map enum_draft_name enums.new.items ≡ map enum_draft_name enums.old.items) }
     ensures heads { OnOk result (map enum_draft_head enums.new.items ≡ map enum_draft_head enums.old.items) }
-    ensures values { OnOk result (map draft_values enums.new.items ≡ add_value (map draft_values enums.old.items) place (stored_value value)) }
+    ensures values { OnOk result (map draft_values enums.new.items ≡ add_value (map draft_values enums.old.items) (enumeration - first) (stored_value value)) }
+    ensures types { OnOk result (GrowsAt first (Some enumeration) (value_of value) (map draft_value_types enums.old.items) (map draft_value_types enums.new.items)) }
 {
+    let place = local_place(enumeration, first)?;
     if place < enums.len() {
         enums[place].values.push(value)?;
         Ok(())
@@ -322,8 +325,12 @@ impl<'a> Visitor for IndexVisitor<'a> {
             full_name: String::from_str(alloc, full_name)?,
             number: value.number.unwrap_or(0),
         };
-        let place = local_place(enumeration, self.before.enums)?;
-        push_value(&mut self.drafts.enums, place, entry)
+        push_value(
+            &mut self.drafts.enums,
+            self.before.enums,
+            enumeration,
+            entry,
+        )
     }
 
     fn visit_service(

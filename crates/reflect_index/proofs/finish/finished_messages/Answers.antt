@@ -6,8 +6,10 @@ use Rattle.reflect_tables.specs.Views.{message_of}
 use Rattle.reflect_tables.specs.declared.stored.StoredMessage.{StoredMessage}
 use Rattle.reflect_index.specs.Children.{draft_children, stored_children}
 use Rattle.reflect_index.specs.DraftNames.{draft_name, stored_message_name}
+use Rattle.reflect_index.specs.Entry.{KeepsEntry}
 use Rattle.reflect_index.specs.Finished.{FinishedMessages}
 use Rattle.reflect_index.specs.Grown.{draft_fields, draft_oneofs, draft_head, message_head, stored_fields, stored_oneofs}
+use Rattle.reflect_index.specs.Members.{MarksOneofs}
 use Rattle.reflect_index.specs.OfDeclarations.{draft_ranges, stored_ranges}
 use Rattle.reflect_index.proofs.Orders.{all_push}
 use Rattle.reflect_index.proofs.finish.finished_messages.Goals as goal
@@ -32,4 +34,6 @@ loop-draft-preserved c =
       oneofs = one_more stored_oneofs draft_oneofs ms ds m d before.oneofs here.oneofs;
       children = one_more stored_children draft_children ms ds m d before.children here.children;
       listed = subst (AllByRecursion ListsMembers) (sym (map-append message_of ms (m ∷ []))) (all_push ListsMembers (map message_of ms) (message_of m) before.listed here.listed);
+      marked = all_push MarksOneofs ms m before.marked here.marked;
+      entries = all_push KeepsEntry ms m before.entries here.entry;
     })

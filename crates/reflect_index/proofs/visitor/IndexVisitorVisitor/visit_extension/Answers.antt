@@ -34,6 +34,7 @@ returns-clause-step c =
       services = refl;
       ranges = made.kept.ranges;
       values = refl;
+      value_types = refl;
       fields = made.kept.fields;
       oneofs = made.kept.oneofs;
       methods = refl;

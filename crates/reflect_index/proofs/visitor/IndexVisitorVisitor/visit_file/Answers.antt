@@ -15,6 +15,7 @@ returns-clause-step c =
       services = refl;
       ranges = refl;
       values = refl;
+      value_types = refl;
       fields = refl;
       oneofs = refl;
       methods = refl;

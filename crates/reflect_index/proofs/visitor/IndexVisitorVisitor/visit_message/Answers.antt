@@ -3,11 +3,10 @@ use Rattle.std.proofs.Common.{◌≡◌, ◌∙◌, ◌++◌, ◌∷◌, [], Lis
 use Rattle.std.proofs.lemmas.List.{map-append}
 use Rattle.reflect_tables.specs.Ranges.{reserved_range, extension_range}
 use Rattle.reflect_tables.specs.Views.{ranges_of}
-use Rattle.reflect_tables.specs.Types.{FieldType, no_children}
-use Rattle.reflect_tables.specs.Views.{field_of}
+use Rattle.reflect_tables.specs.Types.{no_children}
 use Rattle.reflect_index.specs.Children.{draft_children, children_at}
-use Rattle.reflect_index.specs.Entries.{OneofName, Head}
-use Rattle.reflect_index.specs.Grown.{draft_fields, draft_oneofs, draft_head, oneof_name}
+use Rattle.reflect_index.specs.Entries.{DeclaredField, OneofName, Head}
+use Rattle.reflect_index.specs.Grown.{draft_fields, draft_oneofs, draft_head, declared_field, oneof_name}
 use Rattle.reflect_index.specs.DraftNames.{draft_name}
 use Rattle.reflect_tables.specs.Names.{FullName}
 use Rattle.reflect_index.specs.OfDeclarations.{RangesType, draft_ranges}
@@ -44,11 +43,12 @@ returns-clause-step c =
         ap (map draft_ranges) c.in_ok-push.ensures.items ∙ map-append draft_ranges mid _ ∙ ap (λ l. l ++ r ∷ []) made.kept.ranges,
       );
       values = refl;
+      value_types = refl;
       fields =
           ap (map draft_fields) c.in_ok-push.ensures.items
           ∙ map-append draft_fields mid _
-          ∙ ap {B = List (List FieldType)} (λ l. l ++ map field_of c.new.result.items ∷ []) made.kept.fields
-          ∙ ap {B = List (List FieldType)} (λ l. map draft_fields old ++ map field_of l ∷ []) c.new.ensures.items;
+          ∙ ap {B = List (List DeclaredField)} (λ l. l ++ map declared_field c.new.result.items ∷ []) made.kept.fields
+          ∙ ap {B = List (List DeclaredField)} (λ l. map draft_fields old ++ map declared_field l ∷ []) c.new.ensures.items;
       oneofs =
           ap (map draft_oneofs) c.in_ok-push.ensures.items
           ∙ map-append draft_oneofs mid _

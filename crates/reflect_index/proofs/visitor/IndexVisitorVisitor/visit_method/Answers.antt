@@ -22,6 +22,7 @@ returns-clause-step c =
       services = c.in_ok-push_method.ensures.names;
       ranges = refl;
       values = refl;
+      value_types = refl;
       fields = refl;
       oneofs = refl;
       methods = (
