@@ -6,7 +6,7 @@ use Rattle.reflect_names.specs.Faults.{batch_places, list_of, place_at}
 use Rattle.reflect_names.specs.declared.faults.Faults.{Faults}
 use Rattle.reflect_names.specs.declared.resolve_visitor.Reference.{Reference}
 use Rattle.reflect_tables.specs.Types.{PoolType}
-use Rattle.reflect_tables.specs.Views.{file_of, record_file, message_of, enum_of, extension_of, service_of, pool_of}
+use Rattle.reflect_tables.specs.Views.{file_of, record_file, declared_of, places_of, message_of, enum_of, extension_of, service_of, pool_of}
 use Rattle.reflect_growth.specs.Growth.{Appended}
 use Rattle.reflect_index.specs.declared.batch.Batch.{Batch}
 use Rattle.reflect_tables.specs.declared.tables.Tables.{Tables}
@@ -22,11 +22,12 @@ goes_behind : {X Y : Type 0} (f : X → Y) (olds mores news : List X) (batch : L
 goes_behind f olds mores news batch a b = ap (map f) a ∙ map-append f olds mores ∙ ap (λ l. map f olds ++ l) b
 
 pub added_behind : (old more new : Tables) (b : Batch) (fs : List FileDescriptorProto) (w : Linking) → Appended old more new
-    → map file_of more.files.items ≡ map record_file fs → more.messages.items ≡ b.messages.items → more.enums.items ≡ b.enums.items → more.extensions.items ≡ b.extensions.items
+    → map file_of more.files.items ≡ map record_file fs → map places_of more.files.items ≡ map declared_of b.files.items → more.messages.items ≡ b.messages.items → more.enums.items ≡ b.enums.items → more.extensions.items ≡ b.extensions.items
     → more.services.items ≡ b.services.items
     → AreAdded (pool_of old) fs (types_with w b) (pool_of new)
-added_behind old more new b fs w a files messages enums extensions services = record {
+added_behind old more new b fs w a files declared messages enums extensions services = record {
   files = goes_behind file_of old.files.items more.files.items new.files.items (map record_file fs) a.files files;
+  declared = goes_behind places_of old.files.items more.files.items new.files.items (map declared_of b.files.items) a.files declared;
   messages = goes_behind message_of old.messages.items more.messages.items new.messages.items (map message_of b.messages.items) a.messages (ap (map message_of) messages);
   enums = goes_behind enum_of old.enums.items more.enums.items new.enums.items (map enum_of b.enums.items) a.enums (ap (map enum_of) enums);
   extensions = goes_behind extension_of old.extensions.items more.extensions.items new.extensions.items (map extension_of b.extensions.items) a.extensions (ap (map extension_of) extensions);

@@ -74,7 +74,7 @@ pub types_of : {V : Type 0} (w : Linking) (fs files : List FileDescriptorProto) 
     → IfOk r (λ b. map stored_enum_name b.enums.items ≡ with_names enums [] (batch_declarations w.before w.first files))
     → IfOk r (λ b. map stored_values b.enums.items ≡ map declared_values (enums_in (batch_declarations w.before w.first files)))
     → IfOk r (λ b. map stored_extension_name b.extensions.items ≡ with_names extensions [] (batch_declarations w.before w.first files))
-    → IfOk r (IsBatchOf given w.before (batch_declarations w.before w.first files))
+    → IfOk r (IsBatchOf given w.before w.first (batch_declarations w.before w.first files))
     → (b : Batch) → s ≡ Ok b → AreTypes w fs rs (types_with w b)
 types_of w fs files rs given Gives r s same used cases ms ranges es vs xs entries b is =
     subst (λ l. AreTypes w l rs (types_with w b)) same (record {
@@ -84,7 +84,7 @@ types_of w fs files rs given Gives r s same used cases ms ranges es vs xs entrie
       enums = mapped _ Gives r s cases es b is;
       values = mapped _ Gives r s cases vs b is;
       extensions = mapped _ Gives r s cases xs b is;
-      entries = subst (λ l. IsBatchOf l w.before (batch_declarations w.before w.first files) b) used (mapped _ Gives r s cases entries b is);
+      entries = subst (λ l. IsBatchOf l w.before w.first (batch_declarations w.before w.first files) b) used (mapped _ Gives r s cases entries b is);
     })
 
 pub means_of : (w : Linking) (fs : List FileDescriptorProto) (rs : List Reference) (linked found : List FileDescriptorProto) (links seen : List Links) → linked ≡ fs → found ≡ fs → seen ≡ links

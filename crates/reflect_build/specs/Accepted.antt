@@ -7,15 +7,16 @@ use Rattle.reflect_walk.specs.Batches.{batch_declarations}
 use Rattle.reflect_tables.specs.Types.{PoolType}
 use Rattle.reflect_tables.specs.Names.{Sort, names_of}
 use Rattle.reflect_index.specs.DeclaredNames.{with_names}
-use Rattle.reflect_tables.specs.Views.{record_file, message_of, enum_of, extension_of, service_of, pool_of}
+use Rattle.reflect_tables.specs.Views.{record_file, declared_of, message_of, enum_of, extension_of, service_of, pool_of}
 use Rattle.reflect_passes.specs.NameFaults.{name_faults}
 use Rattle.reflect_passes.specs.NumberFaults.{NumberFaults, doubled}
 use Rattle.reflect_passes.specs.declared.linked_types.LinkedTypes.{LinkedTypes}
 use Rattle.reflect_build.specs.Refusals.{Linking, with_declared, Means, AreTypes, IsOf, new_files}
 
--- the entries of a pool, and behind them the files and their types
+-- the entries of a pool, and behind them the files, what they declare outside of messages, and their types
 pub record AreAdded (old : PoolType) (fs : List FileDescriptorProto) (t : LinkedTypes) (new : PoolType) : Type 0 where
   pub files : new.files ≡ old.files ++ map record_file fs
+  pub declared : new.declared ≡ old.declared ++ map declared_of t.new.now.files.items
   pub messages : new.messages ≡ old.messages ++ map message_of t.new.now.messages.items
   pub enums : new.enums ≡ old.enums ++ map enum_of t.new.now.enums.items
   pub extensions : new.extensions ≡ old.extensions ++ map extension_of t.new.now.extensions.items

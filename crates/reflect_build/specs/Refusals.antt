@@ -77,7 +77,7 @@ pub record AreTypes (w : Linking) (fs : List FileDescriptorProto) (rs : List Ref
   pub enums : map stored_enum_name t.new.now.enums.items ≡ with_names enums [] (batch_declarations w.before w.first fs)
   pub values : map stored_values t.new.now.enums.items ≡ map declared_values (enums_in (batch_declarations w.before w.first fs))
   pub extensions : map stored_extension_name t.new.now.extensions.items ≡ with_names extensions [] (batch_declarations w.before w.first fs)
-  pub entries : IsBatchOf rs w.before (batch_declarations w.before w.first fs) t.new.now
+  pub entries : IsBatchOf rs w.before w.first (batch_declarations w.before w.first fs) t.new.now
 
 -- the faults of references that mean nothing of the kind that they need
 abbrev pub FaultyReferences : Linking → List FileDescriptorProto → List Fault → Type 0

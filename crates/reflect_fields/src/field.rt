@@ -1,6 +1,6 @@
 //! What a field's record says about it, in the words of the pool.
 
-ghost use Rattle.std.specs.Prelude.{◌≡◌, IfOk, option_map, string_bytes, unwrap_or, not};
+ghost use Rattle.std.specs.Prelude.{◌≡◌, false, IfOk, option_map, string_bytes, unwrap_or, not};
 ghost use Rattle.reflect_walk.specs.Tree.{text_of as as_text};
 ghost use Rattle.reflect_tables.specs.Views.{field_of, kind_of, name_of};
 ghost use Rattle.reflect_fields.specs.Fields.{label_of, scalar_type, is_packable as may_pack, is_packed as packs, has_presence, is_number, natural, IsField, IsExtension};
@@ -133,6 +133,8 @@ fn is_group(field: &FieldDescriptorProto) -> bool
 }
 
 /// The entry of a field of a kind in a file of a syntax. A number that no field may have is 0. Refused for want of memory.
+///
+/// A field of a proto3 file that was declared `optional` has a record that says so (descriptor.proto, `proto3_optional`).
 pub fn field_entry(
     alloc: Global,
     syntax: Syntax,
@@ -141,7 +143,8 @@ pub fn field_entry(
     kind: StoredKind,
     field: &FieldDescriptorProto,
 ) -> Result<StoredField, AllocError>
-    ensures { IfOk result (λ f. IsField syntax path.now full_name.now (kind_of kind) field.now (field_of f)) }
+    ensures says { IfOk result (λ f. IsField syntax path.now full_name.now (kind_of kind) field.now (field_of f)) }
+    ensures optional { IfOk result (λ f. f.is_proto3_optional ≡ unwrap_or field.now.proto3_optional false) }
 {
     let cardinality = cardinality_of(field.label);
     Ok(StoredField {
@@ -155,7 +158,7 @@ pub fn field_entry(
         is_group: is_group(field),
         is_packed: is_packed(syntax, cardinality, kind, field),
         supports_presence: supports_presence(syntax, cardinality, kind, field),
-        is_proto3_optional: field.proto3_optional == Some(true),
+        is_proto3_optional: field.proto3_optional.unwrap_or(false),
         oneof: natural(field.oneof_index),
         default: default_of(alloc, kind, field)?,
     })

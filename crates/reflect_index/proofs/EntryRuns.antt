@@ -3,20 +3,23 @@ use Rattle.std.proofs.Common.{◌≡◌, ℕ, ◌+◌, List, [], ◌∷◌, Bool
 use Rattle.std.specs.List.{filter, AllZip}
 use Rattle.std.proofs.lemmas.List.Elements.{filter-append}
 use Rattle.reflect_names.specs.declared.resolve_visitor.Reference.{Reference}
-use Rattle.reflect_walk.specs.Declarations.{Declaration, Body, of_field, of_oneof, of_method, Runs}
+use Rattle.reflect_walk.specs.Declarations.{Declaration, Body, of_field, of_oneof, of_enum_value, of_method, Runs}
 use Rattle.reflect_walk.specs.declared.visit_parts.Offsets.{Offsets}
-use Rattle.reflect_tables.specs.Types.{FieldType, MethodType, ExtensionType}
-use Rattle.reflect_tables.specs.Views.{extension_of}
-use Rattle.reflect_index.specs.Along.{AtHand, Met, before_files, syntax_behind, hand_behind, along, is_message, is_field, is_oneof, is_enum, is_service, is_method, is_extension, is_part, all_of}
-use Rattle.reflect_index.specs.Entries.{OneofName, Head, IsHeadOf, IsFieldOf, IsOneofOf, IsMethodOf, IsExtensionOf}
-use Rattle.reflect_index.specs.Grown.{draft_head, enum_draft_head, message_head, enum_head, service_head, draft_fields, draft_oneofs, stored_fields, stored_oneofs, stored_methods, list_at, Behind}
+use Rattle.reflect_tables.specs.Types.{ValueType, MethodType, ExtensionType}
+use Rattle.reflect_tables.specs.Views.{extension_of, declared_of}
+use Rattle.reflect_index.specs.Along.{AtHand, Met, before_files, syntax_behind, hand_behind, along, is_message, is_field, is_oneof, is_enum, is_value, is_service, is_method, is_extension, is_part, all_of}
+use Rattle.reflect_index.specs.Entries.{DeclaredField, OneofName, Head, IsHeadOf, IsFieldOf, IsOneofOf, IsValueOf, IsMethodOf, IsExtensionOf}
+use Rattle.reflect_index.specs.Children.{in_message, in_file, child_places, file_places, draft_children, children_at, places_at}
+use Rattle.reflect_index.specs.Finished.{AreFinished}
+use Rattle.reflect_index.specs.Grown.{draft_head, enum_draft_head, service_head, draft_fields, draft_oneofs, draft_value_types, stored_methods, list_at, Behind}
 use Rattle.reflect_index.specs.BatchEntries.{IsBatchOf}
 use Rattle.reflect_index.specs.IndexSteps.{Lists, hand_of, met_by}
 use Rattle.reflect_index.specs.declared.batch.Batch.{Batch}
 use Rattle.reflect_index.specs.declared.visitor.IndexVisitor.{IndexVisitor}
+use Rattle.reflect_index.proofs.Listed.{both, both_places, all_children, all_places}
 use Rattle.reflect_index.proofs.Grown.{none_behind, behind_on, part_behind, each_behind, head_behind, there}
 
--- a message is no field and no oneof, a service no method
+-- a message is no field and no oneof, an enum no value, a service no method
 no_field : (b : Body) → is_message b ≡ true → is_field b ≡ false
 no_field (of_field f) e = absurd (cc)
 no_field _ e = refl
@@ -24,6 +27,10 @@ no_field _ e = refl
 no_oneof : (b : Body) → is_message b ≡ true → is_oneof b ≡ false
 no_oneof (of_oneof o) e = absurd (cc)
 no_oneof _ e = refl
+
+no_value : (b : Body) → is_enum b ≡ true → is_value b ≡ false
+no_value (of_enum_value v) e = absurd (cc)
+no_value _ e = refl
 
 no_method : (b : Body) → is_service b ≡ true → is_method b ≡ false
 no_method (of_method m) e = absurd (cc)
@@ -44,11 +51,14 @@ module _ {X : Type 0} (IsOf : Met → X → Type 0) (test : Met → Bool) (list 
       subst (λ l. Behind IsOf (list s) l (list t)) (sym (filter-append test (met_by s d ∷ []) later))
       (behind_on IsOf (list s) (list m) (list t) (filter test (met_by s d ∷ [])) (filter test later) (one s d m at step) more)
 
-abbrev fields_by : ℕ → IndexVisitor → List FieldType
+abbrev fields_by : ℕ → IndexVisitor → List DeclaredField
 fields_by k v = list_at (map draft_fields v.drafts.messages.items) k
 
 abbrev oneofs_by : ℕ → IndexVisitor → List OneofName
 oneofs_by k v = list_at (map draft_oneofs v.drafts.messages.items) k
+
+abbrev values_by : ℕ → IndexVisitor → List ValueType
+values_by k v = list_at (map draft_value_types v.drafts.enums.items) k
 
 abbrev methods_by : ℕ → IndexVisitor → List MethodType
 methods_by k v = list_at (map stored_methods v.drafts.services.items) k
@@ -67,6 +77,12 @@ one_oneof : (before : Offsets) (k : ℕ) (s : IndexVisitor) (d : Declaration) (t
 one_oneof before k s d t at l =
     subst (λ (o : Offsets). Behind IsOneofOf (oneofs_by k s) (filter (is_part is_oneof (o.messages + k)) (met_by s d ∷ [])) (oneofs_by k t)) at
     (part_behind IsOneofOf is_message is_oneof no_oneof s.before.messages (map draft_oneofs s.drafts.messages.items) (met_by s d) (map draft_oneofs t.drafts.messages.items) l.oneofs k)
+
+one_value : (before : Offsets) (k : ℕ) (s : IndexVisitor) (d : Declaration) (t : IndexVisitor) → s.before ≡ before → Lists s d t
+    → Behind IsValueOf (values_by k s) (filter (is_part is_value (before.enums + k)) (met_by s d ∷ [])) (values_by k t)
+one_value before k s d t at l =
+    subst (λ (o : Offsets). Behind IsValueOf (values_by k s) (filter (is_part is_value (o.enums + k)) (met_by s d ∷ [])) (values_by k t)) at
+    (part_behind IsValueOf is_enum is_value no_value s.before.enums (map draft_value_types s.drafts.enums.items) (met_by s d) (map draft_value_types t.drafts.enums.items) l.value_types k)
 
 one_method : (before : Offsets) (k : ℕ) (s : IndexVisitor) (d : Declaration) (t : IndexVisitor) → s.before ≡ before → Lists s d t
     → Behind IsMethodOf (methods_by k s) (filter (is_part is_method (before.services + k)) (met_by s d ∷ [])) (methods_by k t)
@@ -96,34 +112,58 @@ heads_there sort list one rs ds s v made hand none runs same =
     let all = all_behind IsHeadOf test list s.before (λ s d t at l. one s d t l) s ds v refl runs in
     there IsHeadOf (filter test (along (before_files rs) ds)) (list s) (list v) made none (subst (λ h. Behind IsHeadOf (list s) (filter test (along h ds)) (list v)) hand all) same
 
+-- a visitor that has met nothing
+pub record Begins (rs : List Reference) (o : Offsets) (file : ℕ) (s : IndexVisitor) : Type 0 where
+  pub hand : hand_of s ≡ before_files rs
+  pub before : s.before ≡ o
+  pub first : s.first ≡ file
+  pub files : s.drafts.files.items ≡ []
+  pub messages : s.drafts.messages.items ≡ []
+  pub enums : s.drafts.enums.items ≡ []
+  pub services : s.drafts.services.items ≡ []
+  pub extensions : s.drafts.extensions.items ≡ []
+
 -- the entries that a walk from nothing leaves
-pub batch_of : (rs : List Reference) (before : Offsets) (ds : List Declaration) (s v : IndexVisitor) (b : Batch) → s.before ≡ before → hand_of s ≡ before_files rs
-    → s.drafts.messages.items ≡ [] → s.drafts.enums.items ≡ [] → s.drafts.services.items ≡ [] → s.drafts.extensions.items ≡ [] → Runs Lists s ds v
-    → map stored_fields b.messages.items ≡ map draft_fields v.drafts.messages.items → map stored_oneofs b.messages.items ≡ map draft_oneofs v.drafts.messages.items
-    → map message_head b.messages.items ≡ map draft_head v.drafts.messages.items → map enum_head b.enums.items ≡ map enum_draft_head v.drafts.enums.items
-    → b.services.items ≡ v.drafts.services.items → b.extensions.items ≡ v.drafts.extensions.items → IsBatchOf rs before ds b
-batch_of rs before ds s v b at hand messages enums services extensions runs fields oneofs heads enum_names methods declared = record {
-  messages = heads_there is_message message_heads (λ s d t l. head_behind is_message (message_heads s) (met_by s d) (message_heads t) l.message_heads) rs ds s v _ hand (ap (map draft_head) messages) runs heads;
-  enums = heads_there is_enum enum_heads (λ s d t l. head_behind is_enum (enum_heads s) (met_by s d) (enum_heads t) l.enum_heads) rs ds s v _ hand (ap (map enum_draft_head) enums) runs enum_names;
-  services = heads_there is_service service_heads (λ s d t l. head_behind is_service (service_heads s) (met_by s d) (service_heads t) l.service_heads) rs ds s v _ hand (ap (map service_head) services) runs (ap (map service_head) methods);
+pub batch_of : (rs : List Reference) (before : Offsets) (first : ℕ) (ds : List Declaration) (s v : IndexVisitor) (b : Batch)
+    → Begins rs before first s → Runs Lists s ds v → AreFinished v.drafts b → IsBatchOf rs before first ds b
+batch_of rs before first ds s v b begun runs made = record {
+  messages = heads_there is_message message_heads (λ s d t l. head_behind is_message (message_heads s) (met_by s d) (message_heads t) l.message_heads) rs ds s v _ begun.hand (ap (map draft_head) begun.messages) runs made.messages.heads;
+  enums = heads_there is_enum enum_heads (λ s d t l. head_behind is_enum (enum_heads s) (met_by s d) (enum_heads t) l.enum_heads) rs ds s v _ begun.hand (ap (map enum_draft_head) begun.enums) runs made.enums.heads;
+  services = heads_there is_service service_heads (λ s d t l. head_behind is_service (service_heads s) (met_by s d) (service_heads t) l.service_heads) rs ds s v _ begun.hand (ap (map service_head) begun.services) runs (ap (map service_head) made.services);
   fields = λ k.
       let test = is_part is_field (before.messages + k) in
-      let all = all_behind IsFieldOf test (fields_by k) before (one_field before k) s ds v at runs in
-      there IsFieldOf (filter test (along (before_files rs) ds)) (fields_by k s) (fields_by k v) _ (ap (λ ms. list_at (map draft_fields ms) k) messages)
-      (subst (λ h. Behind IsFieldOf (fields_by k s) (filter test (along h ds)) (fields_by k v)) hand all) (ap (λ l. list_at l k) fields);
+      let all = all_behind IsFieldOf test (fields_by k) before (one_field before k) s ds v begun.before runs in
+      there IsFieldOf (filter test (along (before_files rs) ds)) (fields_by k s) (fields_by k v) _ (ap (λ ms. list_at (map draft_fields ms) k) begun.messages)
+      (subst (λ h. Behind IsFieldOf (fields_by k s) (filter test (along h ds)) (fields_by k v)) begun.hand all) (ap (λ l. list_at l k) made.messages.fields);
   oneofs = λ k.
       let test = is_part is_oneof (before.messages + k) in
-      let all = all_behind IsOneofOf test (oneofs_by k) before (one_oneof before k) s ds v at runs in
-      there IsOneofOf (filter test (along (before_files rs) ds)) (oneofs_by k s) (oneofs_by k v) _ (ap (λ ms. list_at (map draft_oneofs ms) k) messages)
-      (subst (λ h. Behind IsOneofOf (oneofs_by k s) (filter test (along h ds)) (oneofs_by k v)) hand all) (ap (λ l. list_at l k) oneofs);
+      let all = all_behind IsOneofOf test (oneofs_by k) before (one_oneof before k) s ds v begun.before runs in
+      there IsOneofOf (filter test (along (before_files rs) ds)) (oneofs_by k s) (oneofs_by k v) _ (ap (λ ms. list_at (map draft_oneofs ms) k) begun.messages)
+      (subst (λ h. Behind IsOneofOf (oneofs_by k s) (filter test (along h ds)) (oneofs_by k v)) begun.hand all) (ap (λ l. list_at l k) made.messages.oneofs);
+  values = λ k.
+      let test = is_part is_value (before.enums + k) in
+      let all = all_behind IsValueOf test (values_by k) before (one_value before k) s ds v begun.before runs in
+      there IsValueOf (filter test (along (before_files rs) ds)) (values_by k s) (values_by k v) _ (ap (λ es. list_at (map draft_value_types es) k) begun.enums)
+      (subst (λ h. Behind IsValueOf (values_by k s) (filter test (along h ds)) (values_by k v)) begun.hand all) (ap (λ l. list_at l k) made.enums.value_types);
   methods = λ k.
       let test = is_part is_method (before.services + k) in
-      let all = all_behind IsMethodOf test (methods_by k) before (one_method before k) s ds v at runs in
-      there IsMethodOf (filter test (along (before_files rs) ds)) (methods_by k s) (methods_by k v) _ (ap (λ ss. list_at (map stored_methods ss) k) services)
-      (subst (λ h. Behind IsMethodOf (methods_by k s) (filter test (along h ds)) (methods_by k v)) hand all) (ap (λ ss. list_at (map stored_methods ss) k) methods);
+      let all = all_behind IsMethodOf test (methods_by k) before (one_method before k) s ds v begun.before runs in
+      there IsMethodOf (filter test (along (before_files rs) ds)) (methods_by k s) (methods_by k v) _ (ap (λ ss. list_at (map stored_methods ss) k) begun.services)
+      (subst (λ h. Behind IsMethodOf (methods_by k s) (filter test (along h ds)) (methods_by k v)) begun.hand all) (ap (λ ss. list_at (map stored_methods ss) k) made.services);
   extensions =
       let test : Met → Bool = λ m. is_extension m.declaration.body in
-      let all = all_behind IsExtensionOf test extensions_by before (λ s d t at l. one_extension s d t l) s ds v at runs in
-      there IsExtensionOf (filter test (along (before_files rs) ds)) (extensions_by s) (extensions_by v) _ (ap (map extension_of) extensions)
-      (subst (λ h. Behind IsExtensionOf (extensions_by s) (filter test (along h ds)) (extensions_by v)) hand all) (ap (map extension_of) declared);
+      let all = all_behind IsExtensionOf test extensions_by before (λ s d t at l. one_extension s d t l) s ds v begun.before runs in
+      there IsExtensionOf (filter test (along (before_files rs) ds)) (extensions_by s) (extensions_by v) _ (ap (map extension_of) begun.extensions)
+      (subst (λ h. Behind IsExtensionOf (extensions_by s) (filter test (along h ds)) (extensions_by v)) begun.hand all) (ap (map extension_of) made.extensions);
+  children = λ k.
+      ap (λ l. children_at l k) made.messages.children
+      ∙ all_children before k s ds v begun.before runs
+      ∙ ap (λ ms. both (children_at (map draft_children ms) k) (child_places (in_message (before.messages + k) ds))) begun.messages;
+  declared = λ k.
+      ap (λ fs. places_at (map declared_of fs) k) made.files
+      ∙ all_places first k s ds v begun.first runs
+      ∙ ap (λ fs. both_places (places_at (map declared_of fs) k) (file_places (in_file (first + k) ds))) begun.files;
+  members = made.messages.listed;
+  synthetic = made.messages.marked;
+  entries = made.messages.entries;
 }

@@ -1,5 +1,5 @@
 -- Lists of entries that grow along a walk.
-use Rattle.std.proofs.Common.{◌≡◌, ◌==◌, ◌&&◌, ℕ, ℤ, zero, suc, ◌+◌, ◌<◌, List, [], ◌∷◌, ◌++◌, Bool, true, false, cond, Option, Some, length, ap, sym, ◌∙◌, append_assoc, subst, arith, refl}
+use Rattle.std.proofs.Common.{◌≡◌, ◌==◌, ◌&&◌, ℕ, ℤ, ◌+◌, ◌<◌, List, [], ◌∷◌, ◌++◌, Bool, true, false, cond, Option, Some, length, ap, sym, ◌∙◌, append_assoc, subst, arith, refl}
 use Rattle.std.proofs.Math.ListN.{set}
 use Rattle.std.proofs.lemmas.List.{append-nil, get_or-set_other}
 use Rattle.std.proofs.lemmas.Grind.{get_or-set_at}
@@ -8,6 +8,7 @@ use Rattle.reflect_walk.specs.Declarations.{Body}
 use Rattle.reflect_index.specs.Along.{Met, is_parent, parts, all_of}
 use Rattle.reflect_index.specs.Grown.{list_at, GrowsAt, AddsPart, AddsOne, AddsHead, Behind}
 use Rattle.reflect_index.specs.Entries.{Head, declared_head, IsHeadOf}
+use Rattle.reflect_index.proofs.Listed.{none_more}
 
 -- one more in the list at a place
 pub grown : {X : Type 0} (xss : List (List X)) (place first parent : ℕ) (x : X) (ys : List X) → first + place ≡ parent → place < length xss
@@ -22,13 +23,6 @@ grown {X} xss place first parent x ys sum inside more = λ k. by k (k == place) 
       let apart : k ≡ place → ⊥ = λ e. absurd (grind (arith, other, e)) in
       let there : (parent == first + k) ≡ false = grind (arith, sum, apart) in
       get_or-set_other xss place k ys [] apart ∙ sym (append-nil (list_at xss k)) ∙ ap (λ b. list_at xss k ++ cond b (x ∷ []) []) (sym there)
-
--- one list more, which is empty
-empty_more : {X : Type 0} (xss : List (List X)) (k : ℕ) → list_at (xss ++ [] ∷ []) k ≡ list_at xss k
-empty_more [] zero = refl
-empty_more [] (suc k) = refl
-empty_more (xs ∷ xss) zero = refl
-empty_more (xs ∷ xss) (suc k) = empty_more xss k
 
 zip_on : {A B : Type 0} (R : A → B → Type 0) (ms ns : List A) (xs ys : List B) → AllZip R ms xs → AllZip R ns ys → AllZip R (ms ++ ns) (xs ++ ys)
 zip_on R [] ns [] ys a b = b
@@ -54,7 +48,7 @@ module _ {X : Type 0} (IsOf : Met → X → Type 0) where
         → elim w as (λ _. Type 0) [ true ↦ new ≡ old ++ [] ∷ [] | false ↦ elim p as (λ _. Type 0) [ true ↦ (x : X) × IsOf m x × GrowsAt first m.declaration.parent x old new | false ↦ new ≡ old ] ]
         → Behind IsOf (list_at old k) (cond (p && is_parent (first + k) m.declaration.parent) (m ∷ []) []) (list_at new k)
     by true true none g = let never : true ≡ false = none refl in absurd (cc)
-    by true false none g = none_behind (list_at old k) (list_at new k) (ap (λ l. list_at l k) g ∙ empty_more old k)
+    by true false none g = none_behind (list_at old k) (list_at new k) (ap (λ l. list_at l k) g ∙ none_more [] old k)
     by false true none g = one_behind m g.0 g.1 (list_at old k) (list_at new k) (is_parent (first + k) m.declaration.parent) (g.2 k)
     by false false none g = none_behind (list_at old k) (list_at new k) (ap (λ l. list_at l k) g)
 

@@ -4,6 +4,7 @@ pub mod Orders
 pub mod IndexRuns
 pub mod Batched
 pub mod Members
+pub mod Listed
 pub mod Valued
 pub mod Grown
 pub mod EntryRuns

@@ -1,10 +1,12 @@
 -- The members of oneofs, as their lists grow.
-use Rattle.std.proofs.Common.{◌≡◌, ◌==◌, ℕ, ◌+◌, ◌<◌, List, [], ◌∷◌, ◌++◌, Bool, true, false, cond, None, Some, length, get_or, ap, sym, ◌∙◌, arith, refl}
-use Rattle.std.proofs.Math.ListN.{set}
+use Rattle.std.proofs.Common.{◌≡◌, ◌==◌, ℕ, zero, suc, ◌+◌, ◌<◌, List, [], ◌∷◌, ◌++◌, Bool, true, false, cond, None, Some, map, length, get_or, ap, sym, subst, ◌∙◌, arith, refl}
+use Rattle.std.proofs.Math.ListN.{set, length-map}
 use Rattle.std.proofs.lemmas.List.{append-nil, get_or-set_other, length-set}
 use Rattle.std.proofs.lemmas.Grind.{get_or-set_at}
-use Rattle.reflect_index.specs.Members.{Joins}
+use Rattle.reflect_index.specs.Members.{Joins, oneof_members}
 use Rattle.reflect_tables.specs.Types.{FieldType, OneofType, AreListed, is_member, members_from, no_oneof}
+use Rattle.reflect_tables.specs.Views.{oneof_of}
+use Rattle.reflect_tables.specs.declared.stored.StoredOneof.{StoredOneof}
 
 -- a field that is a member of no oneof that is there
 pub joins_none : (f : FieldType) (place : ℕ) (os : List OneofType) → ((k : ℕ) → k < length os → is_member k f ≡ false) → Joins f place os os
@@ -54,3 +56,24 @@ emptied os p o inside none before k lt = by (k == p) refl where
       let apart : k ≡ p → ⊥ = λ e. absurd (grind (arith, other, e)) in
       let low : k < p = grind (arith, other, lt) in
       ap (λ (x : OneofType). x.fields) (get_or-set_other os p k o no_oneof apart) ∙ before k low
+
+-- what holds of each up to a place holds of one more
+pub all_set : {X : Type 0} (P : X → Type 0) (xs : List X) (p : ℕ) (x : X) → p < length xs → P x → ((k : ℕ) (d : X) → k < p → P (get_or xs k d)) → (k : ℕ) (d : X) → k < p + 1 → P (get_or (set xs p x) k d)
+all_set {X} P xs p x inside here before k d lt = by (k == p) refl where
+  by : (b : Bool) → (k == p) ≡ b → P (get_or (set xs p x) k d)
+  by true same = let e : k ≡ p = grind (arith, same) in subst P (sym (get_or-set_at xs p k x d e inside)) here
+  by false other =
+      let apart : k ≡ p → ⊥ = λ e. absurd (grind (arith, other, e)) in
+      let low : k < p = grind (arith, other, lt) in
+      subst P (sym (get_or-set_other xs p k x d apart)) (before k d low)
+
+members_at : (os : List StoredOneof) (k : ℕ) → (get_or (map oneof_of os) k no_oneof).fields ≡ get_or (map oneof_members os) k []
+members_at [] k = refl
+members_at (o ∷ os) zero = refl
+members_at (o ∷ os) (suc k) = members_at os k
+
+-- oneofs with the same members list them
+pub listed_same : (os ns : List StoredOneof) (fs : List FieldType) → map oneof_members ns ≡ map oneof_members os → AreListed (map oneof_of os) fs → AreListed (map oneof_of ns) fs
+listed_same os ns fs same are = λ k lt.
+    let long : length (map oneof_of ns) ≡ length (map oneof_of os) = length-map ns oneof_of ∙ sym (length-map ns oneof_members) ∙ ap length same ∙ length-map os oneof_members ∙ sym (length-map os oneof_of) in
+    members_at ns k ∙ ap (λ l. get_or l k []) same ∙ sym (members_at os k) ∙ are k (omega (arith, lt, long))

@@ -12,7 +12,7 @@ use Rattle.reflect_index.proofs.Counted.{AreNext, past_one}
 no_some : {X : Type 0} (x : X) → None ≡ Some x → ⊥
 no_some x e = absurd (cc)
 
-all_push : {X : Type 0} (P : X → Type 0) (xs : List X) (x : X) → AllByRecursion P xs → P x → AllByRecursion P (xs ++ x ∷ [])
+pub all_push : {X : Type 0} (P : X → Type 0) (xs : List X) (x : X) → AllByRecursion P xs → P x → AllByRecursion P (xs ++ x ∷ [])
 all_push P [] x all p = (p, tt)
 all_push P (y ∷ ys) x all p = (all.0, all_push P ys x all.1 p)
 

@@ -1,5 +1,6 @@
 -- What the entries of declarations are, by their records and by what the references at hand mean.
-use Rattle.std.specs.Prelude.{◌≡◌, ℕ, ℤ, List, [], ◌∷◌, ◌++◌, false, Option, None, Some, unwrap_or}
+use Rattle.std.specs.Prelude.{◌≡◌, ℕ, ℤ, pos, List, [], ◌∷◌, ◌++◌, Bool, false, Option, None, Some, unwrap_or}
+use Rattle.descriptor_records.specs.declared.enums.EnumValueDescriptorProto.{EnumValueDescriptorProto}
 use Rattle.descriptor_records.specs.declared.field.FieldDescriptorProto.{FieldDescriptorProto}
 use Rattle.descriptor_records.specs.declared.field.OneofDescriptorProto.{OneofDescriptorProto}
 use Rattle.descriptor_records.specs.declared.field.FieldType.{FieldType as TypeNumber}
@@ -9,8 +10,8 @@ use Rattle.reflect_scope.specs.declared.definition.DefinitionKind.{DefinitionKin
 use Rattle.reflect_scope.specs.declared.definition.DefinitionKind.TheVariants as kind
 use Rattle.reflect_references.specs.Meanings.{meaning, behind}
 use Rattle.reflect_fields.specs.Fields.{scalar_type, IsField, IsExtension}
-use Rattle.reflect_tables.specs.Types.{KindType, message, enumeration, FieldType, ExtensionType, MethodType}
-use Rattle.reflect_walk.specs.Declarations.{Body, of_message, of_field, of_oneof, of_enum, of_service, of_method, of_extension}
+use Rattle.reflect_tables.specs.Types.{KindType, message, enumeration, FieldType, ValueType, ExtensionType, MethodType}
+use Rattle.reflect_walk.specs.Declarations.{Body, of_message, of_field, of_oneof, of_enum, of_enum_value, of_service, of_method, of_extension}
 use Rattle.reflect_walk.specs.Tree.{text_of}
 use Rattle.reflect_index.specs.Along.{Met}
 
@@ -29,9 +30,15 @@ IsTyped (Some n) k = (t : TypeNumber) × (type_number t ≡ n) × (scalar_type t
 abbrev pub HasKind : FieldDescriptorProto → Option DefinitionKind → KindType → Type 0
 HasKind r meant k = elim r.type_name [ None ↦ IsTyped r.field_type k | Some name ↦ IsMeant meant k ]
 
-abbrev pub IsFieldBy : Met → FieldDescriptorProto → FieldType → Type 0
+-- a field, and whether it was declared `optional` in a proto3 file
+pub record DeclaredField : Type 0 where
+  pub field : FieldType
+  pub optional : Bool
+
+abbrev pub IsFieldBy : Met → FieldDescriptorProto → DeclaredField → Type 0
 IsFieldBy m r f = (holds : KindType) × HasKind r (meaning r.type_name m.hand.rest) holds
-    × IsField m.hand.syntax m.declaration.path m.declaration.name holds r f
+    × IsField m.hand.syntax m.declaration.path m.declaration.name holds r f.field
+    × (f.optional ≡ unwrap_or r.proto3_optional false)
 
 -- the message that an extension extends comes before its type; its JSON name is the full name in brackets
 pub record IsExtensionBy (m : Met) (r : FieldDescriptorProto) (x : ExtensionType) : Type 0 where
@@ -62,6 +69,15 @@ pub record OneofName : Type 0 where
 abbrev pub declared_oneof : Met → OneofDescriptorProto → OneofName
 declared_oneof m r = record { path = m.declaration.path; name = text_of r.name; full_name = m.declaration.name }
 
+-- a value without a number has the number 0
+abbrev pub declared_value : Met → EnumValueDescriptorProto → ValueType
+declared_value m r = record {
+  path = m.declaration.path;
+  name = text_of r.name;
+  full_name = m.declaration.name;
+  number = unwrap_or r.number (pos 0);
+}
+
 -- what a message, an enum or a service is called, and where it is declared
 pub record Head : Type 0 where
   pub path : List ℤ
@@ -89,7 +105,7 @@ abbrev pub IsHeadOf : Met → Head → Type 0
 IsHeadOf m h = h ≡ declared_head m
 
 -- the entry is that of the declaration
-abbrev pub IsFieldOf : Met → FieldType → Type 0
+abbrev pub IsFieldOf : Met → DeclaredField → Type 0
 IsFieldOf m f = elim m.declaration.body [ of_field r ↦ IsFieldBy m r f | _ ↦ ⊥ ]
 
 abbrev pub IsExtensionOf : Met → ExtensionType → Type 0
@@ -97,6 +113,9 @@ IsExtensionOf m x = elim m.declaration.body [ of_extension r ↦ IsExtensionBy m
 
 abbrev pub IsMethodOf : Met → MethodType → Type 0
 IsMethodOf m x = elim m.declaration.body [ of_method r ↦ IsMethodBy m r x | _ ↦ ⊥ ]
+
+abbrev pub IsValueOf : Met → ValueType → Type 0
+IsValueOf m v = elim m.declaration.body [ of_enum_value r ↦ v ≡ declared_value m r | _ ↦ ⊥ ]
 
 abbrev pub IsOneofOf : Met → OneofName → Type 0
 IsOneofOf m o = elim m.declaration.body [ of_oneof r ↦ o ≡ declared_oneof m r | _ ↦ ⊥ ]

@@ -2,22 +2,32 @@
 use Rattle.std.specs.Prelude.{◌≡◌, ℕ, ◌+◌, List, [], ◌∷◌, ◌++◌, Bool, true, false, cond, Option, None, map, slice_index_or, string_bytes}
 use Rattle.std.specs.List.{AllZip}
 use Rattle.reflect_walk.specs.Declarations.{Body}
-use Rattle.reflect_tables.specs.Types.{FieldType, MethodType}
-use Rattle.reflect_tables.specs.Views.{field_of, method_of}
+use Rattle.reflect_tables.specs.Types.{ValueType, MethodType}
+use Rattle.reflect_tables.specs.Views.{field_of, value_of, method_of}
+use Rattle.reflect_tables.specs.declared.stored.StoredField.{StoredField}
 use Rattle.reflect_tables.specs.declared.stored.StoredOneof.{StoredOneof}
 use Rattle.reflect_tables.specs.declared.stored.StoredEnum.{StoredEnum}
 use Rattle.reflect_tables.specs.declared.stored.StoredMessage.{StoredMessage}
 use Rattle.reflect_tables.specs.declared.stored.StoredService.{StoredService}
 use Rattle.reflect_index.specs.Along.{Met, is_parent}
-use Rattle.reflect_index.specs.Entries.{OneofName, Head, declared_head}
+use Rattle.reflect_index.specs.Entries.{DeclaredField, OneofName, Head, declared_head}
 use Rattle.reflect_index.specs.declared.drafts.EnumDraft.{EnumDraft}
 use Rattle.reflect_index.specs.declared.drafts.MessageDraft.{MessageDraft}
 
-abbrev pub draft_fields : MessageDraft → List FieldType
-draft_fields m = map field_of m.fields.items
+abbrev pub declared_field : StoredField → DeclaredField
+declared_field f = record { field = field_of f; optional = f.is_proto3_optional }
 
-abbrev pub stored_fields : StoredMessage → List FieldType
-stored_fields m = map field_of m.fields.list.items
+abbrev pub draft_fields : MessageDraft → List DeclaredField
+draft_fields m = map declared_field m.fields.items
+
+abbrev pub stored_fields : StoredMessage → List DeclaredField
+stored_fields m = map declared_field m.fields.list.items
+
+abbrev pub draft_value_types : EnumDraft → List ValueType
+draft_value_types e = map value_of e.values.items
+
+abbrev pub stored_value_types : StoredEnum → List ValueType
+stored_value_types e = map value_of e.values.list.items
 
 abbrev pub oneof_name : StoredOneof → OneofName
 oneof_name o = record { path = o.path.items; name = string_bytes o.name; full_name = string_bytes o.full_name }

@@ -5,5 +5,8 @@ pub mod DeclaredNames
 pub mod Members
 pub mod Along
 pub mod Entries
+pub mod Entry
 pub mod Grown
+pub mod Children
+pub mod Finished
 pub mod BatchEntries

@@ -1,5 +1,5 @@
 ghost use Rattle.std.specs.Prelude.{◌≡◌, map, IfOk};
-ghost use Rattle.reflect_tables.specs.Views.{file_of, record_file};
+ghost use Rattle.reflect_tables.specs.Views.{file_of, record_file, declared_of, places_of};
 
 use descriptor_records::FileDescriptorProto;
 use reflect_names::VisitError;
@@ -26,6 +26,7 @@ impl Batch {
         records: Vec<FileDescriptorProto>,
     ) -> Result<Tables, VisitError>
         ensures files { IfOk result (λ t. map file_of t.files.items ≡ map record_file records.items) }
+        ensures declared { IfOk result (λ t. map places_of t.files.items ≡ map declared_of self.files.items) }
         ensures messages { IfOk result (λ t. t.messages.items ≡ self.messages.items) }
         ensures enums { IfOk result (λ t. t.enums.items ≡ self.enums.items) }
         ensures extensions { IfOk result (λ t. t.extensions.items ≡ self.extensions.items) }
@@ -48,18 +49,24 @@ impl Batch {
     }
 }
 
-/// The files with what they declare.
+/// The files with what they declare, which is listed of each of them.
 fn stored_files(
     alloc: Global,
     records: Vec<FileDescriptorProto>,
     declared: Vec<Declared>,
 ) -> Result<Vec<StoredFile>, VisitError>
-    ensures { IfOk result (λ v. map file_of v.items ≡ map record_file records.items) }
+    ensures files { IfOk result (λ v. map file_of v.items ≡ map record_file records.items) }
+    ensures declared { IfOk result (λ v. map places_of v.items ≡ map declared_of declared.items) }
 {
+    if declared.len() != records.len() {
+        return Err(VisitError::TooMany);
+    }
     let mut stored = Vec::with_capacity(alloc, records.len())?;
     let mut rest = declared.into_iter();
     for record in records {
-        let declared = rest.next().ok_or(VisitError::TooMany)?;
+        let Some(declared) = rest.next() else {
+            return Err(VisitError::TooMany);
+        };
         stored.push(StoredFile { record, declared })?;
     }
     Ok(stored)

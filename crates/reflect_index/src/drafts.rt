@@ -1,5 +1,7 @@
 //! The entries of declarations while they are visited.
 
+ghost use Rattle.std.specs.Prelude.{◌≡◌, ◌+◌, ◌-◌, [], IfOk};
+
 use crate::batch::Batch;
 use crate::finish::{finished_enums, finished_messages};
 use reflect_names::VisitError;
@@ -53,16 +55,11 @@ pub struct Drafts {
 }
 
 impl Drafts {
-    ghost use Rattle.std.specs.Prelude.{◌≡◌, [], map, IfOk};
-    ghost use Rattle.std.specs.List.{AllByRecursion};
-    ghost use Rattle.reflect_tables.specs.Types.{ListsMembers};
-    ghost use Rattle.reflect_tables.specs.Views.{message_of};
-    ghost use Rattle.reflect_index.specs.OfDeclarations.{draft_ranges, draft_values, stored_ranges, stored_values};
-    ghost use Rattle.reflect_index.specs.DraftNames.{draft_name, enum_draft_name, stored_message_name, stored_enum_name};
-    ghost use Rattle.reflect_index.specs.Grown.{draft_fields, draft_oneofs, draft_head, enum_draft_head, message_head, enum_head, stored_fields, stored_oneofs};
+    ghost use Rattle.reflect_index.specs.Finished.{AreFinished};
 
     /// No entries. Takes no memory.
     pub fn new(alloc: Global) -> Drafts
+        ensures files { result.files.items ≡ [] }
         ensures messages { result.messages.items ≡ [] }
         ensures enums { result.enums.items ≡ [] }
         ensures extensions { result.extensions.items ≡ [] }
@@ -79,17 +76,7 @@ impl Drafts {
 
     /// The entries with all that is known of a type once all of it was visited.
     pub fn finished(self, alloc: Global) -> Result<Batch, VisitError>
-        ensures messages { IfOk result (λ b. map stored_message_name b.messages.items ≡ map draft_name self.messages.items) }
-        ensures enums { IfOk result (λ b. map stored_enum_name b.enums.items ≡ map enum_draft_name self.enums.items) }
-        ensures listed { IfOk result (λ b. AllByRecursion ListsMembers (map message_of b.messages.items)) }
-        ensures extensions { IfOk result (λ b. b.extensions.items ≡ self.extensions.items) }
-        ensures services { IfOk result (λ b. b.services.items ≡ self.services.items) }
-        ensures ranges { IfOk result (λ b. map stored_ranges b.messages.items ≡ map draft_ranges self.messages.items) }
-        ensures values { IfOk result (λ b. map stored_values b.enums.items ≡ map draft_values self.enums.items) }
-        ensures fields { IfOk result (λ b. map stored_fields b.messages.items ≡ map draft_fields self.messages.items) }
-        ensures oneofs { IfOk result (λ b. map stored_oneofs b.messages.items ≡ map draft_oneofs self.messages.items) }
-        ensures heads { IfOk result (λ b. map message_head b.messages.items ≡ map draft_head self.messages.items) }
-        ensures enum_heads { IfOk result (λ b. map enum_head b.enums.items ≡ map enum_draft_head self.enums.items) }
+        ensures { IfOk result (AreFinished self) }
     {
         let Drafts {
             files,
@@ -105,5 +92,16 @@ impl Drafts {
             extensions,
             services,
         })
+    }
+}
+
+/// The place in the batch's list of what has an index in the pool, where there were so many before.
+pub fn local_place(index: u32, before: u32) -> Result<usize, VisitError>
+    ensures place { IfOk result (λ place. place ≡ index - before) }
+    ensures sum { IfOk result (λ place. before + place ≡ index) }
+{
+    match index.checked_sub(before) {
+        Some(place) => Ok(place as usize),
+        None => Err(VisitError::TooMany),
     }
 }

@@ -1,36 +1,30 @@
 //! What is known of a type once all of it was visited: what its parts are looked up by, members of oneofs, a map entry's parts.
 
 ghost use Rattle.std.specs.Prelude.{◌≡◌, [], map, OnOk, IfOk};
-ghost use Rattle.std.specs.List.{AllByRecursion};
-ghost use Rattle.reflect_index.specs.Members.{Joins};
-ghost use Rattle.reflect_tables.specs.Types.{AreListed, ListsMembers};
-ghost use Rattle.reflect_tables.specs.Views.{field_of, message_of, oneof_of};
-ghost use Rattle.reflect_index.specs.OfDeclarations.{draft_ranges, draft_values, stored_ranges, stored_values};
-ghost use Rattle.reflect_index.specs.DraftNames.{draft_name, enum_draft_name, stored_message_name, stored_enum_name};
-ghost use Rattle.reflect_index.specs.Grown.{draft_fields, draft_oneofs, draft_head, enum_draft_head, message_head, enum_head, stored_fields, stored_oneofs, oneof_name};
+ghost use Rattle.reflect_index.specs.Finished.{IsFinished, IsFinishedEnum, FinishedMessages, FinishedEnums};
+ghost use Rattle.reflect_index.specs.Entry.{IsEntryOf};
+ghost use Rattle.reflect_index.specs.Members.{Joins, AreMarked, is_lone, oneof_members};
+ghost use Rattle.reflect_tables.specs.Types.{AreListed};
+ghost use Rattle.reflect_tables.specs.Views.{field_of, oneof_of};
+ghost use Rattle.reflect_index.specs.Grown.{oneof_name};
 
 use crate::drafts::{EnumDraft, MessageDraft};
 use crate::index::{field_list, value_list};
 use reflect_names::VisitError;
-use reflect_tables::{StoredEntry, StoredEnum, StoredField, StoredMessage, StoredOneof};
+use reflect_tables::{FieldList, StoredEntry, StoredEnum, StoredField, StoredMessage, StoredOneof};
 use std::alloc::{AllocError, Global};
 
-/// The key and the value of a map's entry: its fields of the numbers 1 and 2.
-fn entry_of(fields: &[StoredField]) -> Option<StoredEntry> {
-    let mut key = None;
-    let mut value = None;
-    let mut place = 0;
-    for field in fields {
-        match field.number {
-            1 => key = Some(place),
-            2 => value = Some(place),
-            _ => {}
-        }
-        place = u32::checked_add(place, 1)?;
+/// The key and the value, where the type is one of a map's entries: its fields of the numbers 1 and 2 (protobuf.dev, "Language
+/// Guide (proto 3)", "Maps").
+fn entry_of(is_entry: bool, fields: &FieldList) -> Option<StoredEntry>
+    ensures { IsEntryOf is_entry (map field_of fields.now.list.items) result }
+{
+    if !is_entry {
+        return None;
     }
     Some(StoredEntry {
-        key: key?,
-        value: value?,
+        key: fields.of_number(1)?,
+        value: fields.of_number(2)?,
     })
 }
 
@@ -58,9 +52,7 @@ fn add_member(
     };
     let index = index as usize;
     if index < oneofs.len() {
-        let oneof = &mut oneofs[index];
-        oneof.is_synthetic = field.is_proto3_optional && oneof.fields.is_empty();
-        oneof.fields.push(place)?;
+        oneofs[index].fields.push(place)?;
     }
     Ok(())
 }
@@ -79,13 +71,33 @@ fn list_members(fields: &[StoredField], oneofs: &mut Vec<StoredOneof>) -> Result
     Ok(())
 }
 
+/// The only member is a field that was declared `optional` in a proto3 file.
+fn is_lone(fields: &[StoredField], members: &[u32]) -> bool
+    ensures { result ≡ is_lone fields.now members.now }
+{
+    match members {
+        [place] => match fields.get(*place as usize) {
+            Some(field) => field.is_proto3_optional,
+            None => false,
+        },
+        _ => false,
+    }
+}
+
+/// Marks the oneofs that stand for one field, and no others (descriptor.proto, `proto3_optional`).
+fn mark_oneofs(fields: &[StoredField], oneofs: &mut Vec<StoredOneof>)
+    ensures marked { AreMarked fields.now oneofs.new.items }
+    ensures members { map oneof_members oneofs.new.items ≡ map oneof_members oneofs.old.items }
+    ensures names { map oneof_name oneofs.new.items ≡ map oneof_name oneofs.old.items }
+{
+    'turns: for place in 0..oneofs.len() {
+        let is_synthetic = is_lone(fields, oneofs[place].fields.as_slice());
+        oneofs[place].is_synthetic = is_synthetic;
+    }
+}
+
 fn finished_message(alloc: Global, draft: MessageDraft) -> Result<StoredMessage, VisitError>
-    ensures name { IfOk result (λ m. stored_message_name m ≡ draft_name draft) }
-    ensures listed { IfOk result (λ m. ListsMembers (message_of m)) }
-    ensures ranges { IfOk result (λ m. stored_ranges m ≡ draft_ranges draft) }
-    ensures fields { IfOk result (λ m. stored_fields m ≡ draft_fields draft) }
-    ensures oneofs { IfOk result (λ m. stored_oneofs m ≡ draft_oneofs draft) }
-    ensures head { IfOk result (λ m. message_head m ≡ draft_head draft) }
+    ensures { IfOk result (IsFinished draft) }
 {
     let MessageDraft {
         file,
@@ -101,11 +113,9 @@ fn finished_message(alloc: Global, draft: MessageDraft) -> Result<StoredMessage,
         extension_numbers,
     } = draft;
     list_members(fields.as_slice(), &mut oneofs)?;
-    let entry = if is_entry {
-        entry_of(fields.as_slice())
-    } else {
-        None
-    };
+    mark_oneofs(fields.as_slice(), &mut oneofs);
+    let fields = field_list(alloc, fields)?;
+    let entry = entry_of(is_entry, &fields);
     Ok(StoredMessage {
         file,
         parent,
@@ -114,7 +124,7 @@ fn finished_message(alloc: Global, draft: MessageDraft) -> Result<StoredMessage,
         full_name,
         is_entry,
         entry,
-        fields: field_list(alloc, fields)?,
+        fields,
         oneofs,
         children,
         reserved_numbers,
@@ -123,9 +133,7 @@ fn finished_message(alloc: Global, draft: MessageDraft) -> Result<StoredMessage,
 }
 
 fn finished_enum(alloc: Global, draft: EnumDraft) -> Result<StoredEnum, VisitError>
-    ensures name { IfOk result (λ e. stored_enum_name e ≡ enum_draft_name draft) }
-    ensures values { IfOk result (λ e. stored_values e ≡ draft_values draft) }
-    ensures head { IfOk result (λ e. enum_head e ≡ enum_draft_head draft) }
+    ensures { IfOk result (IsFinishedEnum draft) }
 {
     let EnumDraft {
         file,
@@ -150,12 +158,7 @@ pub fn finished_messages(
     alloc: Global,
     drafts: Vec<MessageDraft>,
 ) -> Result<Vec<StoredMessage>, VisitError>
-    ensures names { IfOk result (λ v. map stored_message_name v.items ≡ map draft_name drafts.items) }
-    ensures listed { IfOk result (λ v. AllByRecursion ListsMembers (map message_of v.items)) }
-    ensures ranges { IfOk result (λ v. map stored_ranges v.items ≡ map draft_ranges drafts.items) }
-    ensures fields { IfOk result (λ v. map stored_fields v.items ≡ map draft_fields drafts.items) }
-    ensures oneofs { IfOk result (λ v. map stored_oneofs v.items ≡ map draft_oneofs drafts.items) }
-    ensures heads { IfOk result (λ v. map message_head v.items ≡ map draft_head drafts.items) }
+    ensures { IfOk result (λ v. FinishedMessages drafts.items v.items) }
 {
     let mut messages = Vec::with_capacity(alloc, drafts.len())?;
     for draft in drafts {
@@ -166,9 +169,7 @@ pub fn finished_messages(
 
 /// The enums with all that is known of them.
 pub fn finished_enums(alloc: Global, drafts: Vec<EnumDraft>) -> Result<Vec<StoredEnum>, VisitError>
-    ensures names { IfOk result (λ v. map stored_enum_name v.items ≡ map enum_draft_name drafts.items) }
-    ensures values { IfOk result (λ v. map stored_values v.items ≡ map draft_values drafts.items) }
-    ensures heads { IfOk result (λ v. map enum_head v.items ≡ map enum_draft_head drafts.items) }
+    ensures { IfOk result (λ v. FinishedEnums drafts.items v.items) }
 {
     let mut enums = Vec::with_capacity(alloc, drafts.len())?;
     for draft in drafts {

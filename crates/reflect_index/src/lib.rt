@@ -2,6 +2,7 @@
 #![tactic(auto)]
 
 mod batch;
+mod children;
 mod drafts;
 mod finish;
 mod index;

@@ -1,16 +1,16 @@
 //! From the records of a batch to what the pool keeps of them.
 
-ghost use Rattle.std.specs.Prelude.{◌≡◌, ◌+◌, ◌-◌, [], Some, map, OnOk, IfOk};
-ghost use Rattle.std.specs.List.{AllByRecursion};
-ghost use Rattle.reflect_tables.specs.Types.{ListsMembers};
-ghost use Rattle.reflect_tables.specs.Views.{message_of};
-ghost use Rattle.reflect_index.specs.OfDeclarations.{draft_ranges, draft_values, stored_ranges, stored_value, stored_values, add_value};
-ghost use Rattle.reflect_index.specs.DraftNames.{draft_name, enum_draft_name, stored_message_name, stored_enum_name, stored_service_name};
-ghost use Rattle.reflect_tables.specs.Views.{field_of, method_of};
-ghost use Rattle.reflect_index.specs.Grown.{draft_fields, draft_oneofs, draft_head, enum_draft_head, message_head, enum_head, service_head, stored_fields, stored_oneofs, stored_methods, oneof_name, GrowsAt};
+ghost use Rattle.std.specs.Prelude.{◌≡◌, ◌-◌, [], Some, map, OnOk, IfOk};
+ghost use Rattle.reflect_tables.specs.Views.{method_of, value_of};
+ghost use Rattle.reflect_index.specs.Children.{draft_children};
+ghost use Rattle.reflect_index.specs.Finished.{AreFinished};
+ghost use Rattle.reflect_index.specs.OfDeclarations.{draft_ranges, draft_values, stored_value, add_value};
+ghost use Rattle.reflect_index.specs.DraftNames.{draft_name, enum_draft_name, stored_service_name};
+ghost use Rattle.reflect_index.specs.Grown.{draft_fields, draft_oneofs, draft_head, enum_draft_head, service_head, draft_value_types, stored_methods, oneof_name, declared_field, GrowsAt};
 
 use crate::batch::Batch;
-use crate::drafts::{Drafts, EnumDraft, MessageDraft};
+use crate::children::{declare, no_children, push_service};
+use crate::drafts::{Drafts, EnumDraft, MessageDraft, local_place};
 use crate::kind::{kind_of, message_meant};
 use descriptor_records::{
     DescriptorProto, EnumDescriptorProto, EnumValueDescriptorProto, FieldDescriptorProto,
@@ -20,8 +20,8 @@ use reflect_fields::{extension_entry, field_entry, text_of};
 use reflect_names::{Offsets, Reference, VisitError, Visitor};
 use reflect_references::References;
 use reflect_tables::{
-    Child, Children, Declared, NumberRanges, StoredExtension, StoredField, StoredMethod,
-    StoredOneof, StoredService, StoredValue, Syntax, syntax_of,
+    Child, Declared, NumberRanges, StoredExtension, StoredField, StoredMethod, StoredOneof,
+    StoredService, StoredValue, Syntax, syntax_of,
 };
 use reflect_walk::says_map_entry;
 use std::alloc::Global;
@@ -30,6 +30,8 @@ use std::alloc::Global;
 #[derive(Drop)]
 pub struct IndexVisitor<'a> {
     drafts: Drafts,
+    /// The index of the first file.
+    first: u32,
     /// How much there was before.
     before: Offsets,
     /// What the references mean that were not met yet.
@@ -38,21 +40,29 @@ pub struct IndexVisitor<'a> {
 }
 
 impl<'a> IndexVisitor<'a> {
-    ghost use Rattle.reflect_index.specs.IndexSteps.{IsSame};
     ghost use Rattle.reflect_tables.specs.declared.kind.Syntax.TheVariants.{Proto2};
 
-    /// A visitor of files whose references mean this, in the order in which a walk meets them. Takes no memory.
-    pub fn new(alloc: Global, before: Offsets, references: &'a [Reference]) -> IndexVisitor<'a>
+    /// A visitor of files, the first of which has this index, whose references mean this, in the order in which a walk meets
+    /// them. Takes no memory.
+    pub fn new(
+        alloc: Global,
+        before: Offsets,
+        first: u32,
+        references: &'a [Reference],
+    ) -> IndexVisitor<'a>
+        ensures files { result.drafts.files.items ≡ [] }
         ensures messages { result.drafts.messages.items ≡ [] }
         ensures enums { result.drafts.enums.items ≡ [] }
         ensures extensions { result.drafts.extensions.items ≡ [] }
         ensures services { result.drafts.services.items ≡ [] }
+        ensures first { result.first ≡ first }
         ensures before { result.before ≡ before }
         ensures rest { result.references.rest.now ≡ references.now }
         ensures syntax { result.syntax ≡ Proto2 }
     {
         IndexVisitor {
             drafts: Drafts::new(alloc),
+            first,
             before,
             references: References::new(references),
             syntax: Syntax::Proto2,
@@ -61,59 +71,16 @@ impl<'a> IndexVisitor<'a> {
 
     /// The entries that were made, with all that is known of a type once all of it was visited.
     pub fn into_batch(self, alloc: Global) -> Result<Batch, VisitError>
-        ensures messages { IfOk result (λ b. map stored_message_name b.messages.items ≡ map draft_name self.entry.drafts.messages.items) }
-        ensures listed { IfOk result (λ b. AllByRecursion ListsMembers (map message_of b.messages.items)) }
-        ensures enums { IfOk result (λ b. map stored_enum_name b.enums.items ≡ map enum_draft_name self.entry.drafts.enums.items) }
-        ensures extensions { IfOk result (λ b. b.extensions.items ≡ self.entry.drafts.extensions.items) }
-        ensures services { IfOk result (λ b. b.services.items ≡ self.entry.drafts.services.items) }
-        ensures ranges { IfOk result (λ b. map stored_ranges b.messages.items ≡ map draft_ranges self.entry.drafts.messages.items) }
-        ensures values { IfOk result (λ b. map stored_values b.enums.items ≡ map draft_values self.entry.drafts.enums.items) }
-        ensures fields { IfOk result (λ b. map stored_fields b.messages.items ≡ map draft_fields self.entry.drafts.messages.items) }
-        ensures oneofs { IfOk result (λ b. map stored_oneofs b.messages.items ≡ map draft_oneofs self.entry.drafts.messages.items) }
-        ensures heads { IfOk result (λ b. map message_head b.messages.items ≡ map draft_head self.entry.drafts.messages.items) }
-        ensures enum_heads { IfOk result (λ b. map enum_head b.enums.items ≡ map enum_draft_head self.entry.drafts.enums.items) }
+        ensures { IfOk result (AreFinished self.entry.drafts) }
     {
         let IndexVisitor {
             drafts,
+            first: _,
             before: _,
             references: _,
             syntax: _,
         } = self;
         drafts.finished(alloc)
-    }
-
-    /// Adds a type or an extension to what the message at `parent` declares, or else the file.
-    fn declare_in(&mut self, parent: Option<u32>, child: Child) -> Result<(), VisitError>
-        ensures { OnOk result (IsSame self.old self.new) }
-    {
-        let Some(parent) = parent else {
-            return match self.drafts.files.last_mut() {
-                Some(file) => Ok(file.children.push(child)?),
-                None => Err(VisitError::TooMany),
-            };
-        };
-        let place = local_place(parent, self.before.messages)?;
-        push_child(&mut self.drafts.messages, place, child)
-    }
-}
-
-/// Adds a type or an extension to what the message at a place declares.
-fn push_child(
-    messages: &mut Vec<MessageDraft>,
-    place: usize,
-    child: Child,
-) -> Result<(), VisitError>
-    ensures names { OnOk result (map draft_name messages.new.items ≡ map draft_name messages.old.items) }
-    ensures ranges { OnOk result (map draft_ranges messages.new.items ≡ map draft_ranges messages.old.items) }
-    ensures heads { OnOk result (map draft_head messages.new.items ≡ map draft_head messages.old.items) }
-    ensures fields { OnOk result (map draft_fields messages.new.items ≡ map draft_fields messages.old.items) }
-    ensures oneofs { OnOk result (map draft_oneofs messages.new.items ≡ map draft_oneofs messages.old.items) }
-{
-    if place < messages.len() {
-        messages[place].children.push(child)?;
-        Ok(())
-    } else {
-        Err(VisitError::TooMany)
     }
 }
 
@@ -128,7 +95,8 @@ fn push_field(
     ensures ranges { OnOk result (map draft_ranges messages.new.items ≡ map draft_ranges messages.old.items) }
     ensures heads { OnOk result (map draft_head messages.new.items ≡ map draft_head messages.old.items) }
     ensures oneofs { OnOk result (map draft_oneofs messages.new.items ≡ map draft_oneofs messages.old.items) }
-    ensures fields { OnOk result (GrowsAt first (Some message) (field_of field) (map draft_fields messages.old.items) (map draft_fields messages.new.items)) }
+    ensures children { OnOk result (map draft_children messages.new.items ≡ map draft_children messages.old.items) }
+    ensures fields { OnOk result (GrowsAt first (Some message) (declared_field field) (map draft_fields messages.old.items) (map draft_fields messages.new.items)) }
 {
     let place = local_place(message, first)?;
     if place < messages.len() {
@@ -150,6 +118,7 @@ fn push_oneof(
     ensures ranges { OnOk result (map draft_ranges messages.new.items ≡ map draft_ranges messages.old.items) }
     ensures heads { OnOk result (map draft_head messages.new.items ≡ map draft_head messages.old.items) }
     ensures fields { OnOk result (map draft_fields messages.new.items ≡ map draft_fields messages.old.items) }
+    ensures children { OnOk result (map draft_children messages.new.items ≡ map draft_children messages.old.items) }
     ensures oneofs { OnOk result (GrowsAt first (Some message) (oneof_name oneof) (map draft_oneofs messages.old.items) (map draft_oneofs messages.new.items)) }
 {
     let place = local_place(message, first)?;
@@ -161,16 +130,19 @@ fn push_oneof(
     }
 }
 
-/// Adds a value to the enum at a place.
+/// Adds a value to an enum, where the first of the list has this index in the pool.
 fn push_value(
     enums: &mut Vec<EnumDraft>,
-    place: usize,
+    first: u32,
+    enumeration: u32,
     value: StoredValue,
 ) -> Result<(), VisitError>
     ensures names { OnOk result (map enum_draft_name enums.new.items ≡ map enum_draft_name enums.old.items) }
     ensures heads { OnOk result (map enum_draft_head enums.new.items ≡ map enum_draft_head enums.old.items) }
-    ensures values { OnOk result (map draft_values enums.new.items ≡ add_value (map draft_values enums.old.items) place (stored_value value)) }
+    ensures values { OnOk result (map draft_values enums.new.items ≡ add_value (map draft_values enums.old.items) (enumeration - first) (stored_value value)) }
+    ensures types { OnOk result (GrowsAt first (Some enumeration) (value_of value) (map draft_value_types enums.old.items) (map draft_value_types enums.new.items)) }
 {
+    let place = local_place(enumeration, first)?;
     if place < enums.len() {
         enums[place].values.push(value)?;
         Ok(())
@@ -199,17 +171,6 @@ fn push_method(
     }
 }
 
-/// The place in the batch's list of what has an index in the pool, where there were so many before.
-fn local_place(index: u32, before: u32) -> Result<usize, VisitError>
-    ensures place { IfOk result (λ place. place ≡ index - before) }
-    ensures sum { IfOk result (λ place. before + place ≡ index) }
-{
-    match index.checked_sub(before) {
-        Some(place) => Ok(place as usize),
-        None => Err(VisitError::TooMany),
-    }
-}
-
 impl<'a> Visitor for IndexVisitor<'a> {
     ghost use Rattle.reflect_index.specs.IndexSteps.{Lists};
 
@@ -230,7 +191,7 @@ impl<'a> Visitor for IndexVisitor<'a> {
     ) -> Result<(), VisitError> {
         self.syntax = syntax_of(descriptor);
         self.drafts.files.push(Declared {
-            children: Children::new(alloc),
+            children: no_children(alloc),
             services: Vec::new(alloc),
         })?;
         Ok(())
@@ -246,7 +207,15 @@ impl<'a> Visitor for IndexVisitor<'a> {
         index: u32,
         message: &DescriptorProto,
     ) -> Result<(), VisitError> {
-        self.declare_in(parent, Child::Message(index))?;
+        declare(
+            &mut self.drafts.files,
+            &mut self.drafts.messages,
+            self.first,
+            self.before.messages,
+            file,
+            parent,
+            Child::Message(index),
+        )?;
         self.drafts.messages.push(MessageDraft {
             file,
             parent,
@@ -256,7 +225,7 @@ impl<'a> Visitor for IndexVisitor<'a> {
             is_entry: says_map_entry(message),
             fields: Vec::new(alloc),
             oneofs: Vec::new(alloc),
-            children: Children::new(alloc),
+            children: no_children(alloc),
             reserved_numbers: NumberRanges::reserved(alloc, message.reserved_range.as_slice())?,
             extension_numbers: NumberRanges::extensions(alloc, message.extension_range.as_slice())?,
         })?;
@@ -320,7 +289,15 @@ impl<'a> Visitor for IndexVisitor<'a> {
         index: u32,
         enumeration: &EnumDescriptorProto,
     ) -> Result<(), VisitError> {
-        self.declare_in(parent, Child::Enum(index))?;
+        declare(
+            &mut self.drafts.files,
+            &mut self.drafts.messages,
+            self.first,
+            self.before.messages,
+            file,
+            parent,
+            Child::Enum(index),
+        )?;
         self.drafts.enums.push(EnumDraft {
             file,
             parent,
@@ -348,8 +325,12 @@ impl<'a> Visitor for IndexVisitor<'a> {
             full_name: String::from_str(alloc, full_name)?,
             number: value.number.unwrap_or(0),
         };
-        let place = local_place(enumeration, self.before.enums)?;
-        push_value(&mut self.drafts.enums, place, entry)
+        push_value(
+            &mut self.drafts.enums,
+            self.before.enums,
+            enumeration,
+            entry,
+        )
     }
 
     fn visit_service(
@@ -361,10 +342,7 @@ impl<'a> Visitor for IndexVisitor<'a> {
         index: u32,
         service: &ServiceDescriptorProto,
     ) -> Result<(), VisitError> {
-        match self.drafts.files.last_mut() {
-            Some(file) => file.services.push(index)?,
-            None => return Err(VisitError::TooMany),
-        }
+        push_service(&mut self.drafts.files, self.first, file, index)?;
         self.drafts.services.push(StoredService {
             file,
             path: Vec::from_slice(alloc, path)?,
@@ -415,7 +393,15 @@ impl<'a> Visitor for IndexVisitor<'a> {
         index: u32,
         extension: &FieldDescriptorProto,
     ) -> Result<(), VisitError> {
-        self.declare_in(parent, Child::Extension(index))?;
+        declare(
+            &mut self.drafts.files,
+            &mut self.drafts.messages,
+            self.first,
+            self.before.messages,
+            file,
+            parent,
+            Child::Extension(index),
+        )?;
         let extendee = message_meant(self.references.meaning_of(&extension.extendee))?;
         let kind = kind_of(&mut self.references, extension)?;
         self.drafts.extensions.push(StoredExtension {

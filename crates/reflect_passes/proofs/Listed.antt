@@ -1,5 +1,5 @@
 -- The faults that a batch's walks list.
-use Rattle.std.proofs.Common.{◌≡◌, ℕ, List, [], ◌∷◌, ◌++◌, inr, map, String, Global, string_bytes, Result, Err, IfErr, ap, sym, subst, ◌∙◌}
+use Rattle.std.proofs.Common.{◌≡◌, ℕ, List, [], ◌++◌, inr, map, String, Global, string_bytes, Result, Err, IfErr, ap, sym, subst, ◌∙◌}
 use Rattle.std.proofs.Math.Path.{fun_ext}
 use Rattle.std.proofs.lemmas.Result.{IfErr-weaker}
 use Rattle.std.specs.BTreeMap.{BTreeMap, is_at}
@@ -11,7 +11,7 @@ use Rattle.reflect_scope.specs.declared.definition.Definition.{Definition}
 use Rattle.reflect_scope.specs.declared.seen.Links.{Links}
 use Rattle.reflect_walk.specs.Batches.{batch_declarations}
 use Rattle.reflect_walk.specs.declared.visit_parts.Offsets.{Offsets}
-use Rattle.reflect_names.specs.Faults.{Fault, Adds, another, batch_places, list_of, place_at}
+use Rattle.reflect_names.specs.Faults.{Fault, Adds, batch_places, list_of, place_at}
 use Rattle.reflect_scope.specs.FileIndexes.{Indexes}
 use Rattle.reflect_names.specs.FileNames.{with_files, files_faults}
 use Rattle.reflect_scope.specs.Known.{Known, known_of}
@@ -19,7 +19,6 @@ use Rattle.reflect_names.specs.NamePass.{faults_along}
 use Rattle.reflect_names.specs.Names.{Places}
 use Rattle.reflect_names.specs.ReferencePass.{BatchReferences}
 use Rattle.reflect_names.specs.ReferenceSteps.{ResolvesFiles, target_of}
-use Rattle.reflect_names.specs.References.{Target}
 use Rattle.reflect_names.specs.declared.faults.Faults.{Faults}
 use Rattle.reflect_names.specs.declared.resolve_visitor.Reference.{Reference}
 use Rattle.reflect_names.specs.declared.resolve_visitor.ResolveVisitor.{ResolveVisitor}

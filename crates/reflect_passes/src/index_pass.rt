@@ -20,7 +20,7 @@ use std::alloc::Global;
 use std::collections::BTreeMap;
 
 /// The entries of the files' declarations, whose references mean this: each is that of its declaration, and none is missing.
-/// Message types have the ranges of theirs, and enums the values.
+/// Message types have the ranges of theirs, and enums the values; messages and files list what they declare themselves.
 pub fn index_files(
     alloc: Global,
     before: Offsets,
@@ -35,9 +35,9 @@ pub fn index_files(
     ensures services { IfOk result (λ b. map stored_service_name b.services.items ≡ with_names services [] (batch_declarations before first files.now)) }
     ensures ranges { IfOk result (λ b. AllDeclared (messages_in (batch_declarations before first files.now)) (map stored_ranges b.messages.items)) }
     ensures values { IfOk result (λ b. map stored_values b.enums.items ≡ map declared_values (enums_in (batch_declarations before first files.now))) }
-    ensures entries { IfOk result (IsBatchOf references.now before (batch_declarations before first files.now)) }
+    ensures entries { IfOk result (IsBatchOf references.now before first (batch_declarations before first files.now)) }
 {
-    let mut visitor = IndexVisitor::new(alloc, before, references);
+    let mut visitor = IndexVisitor::new(alloc, before, first, references);
     visit_all(alloc, before, first, files, &mut visitor)?;
     visitor.into_batch(alloc)
 }

@@ -141,6 +141,7 @@ returns-clause-accepted c =
     on_mapped _ _ c.add.result c.map_err-4.result c.map_err-4.ensures.variant
     (λ a. faultless w fs _ rs t means types
     (added_behind c.args.tables.now c.in_ok-more.more c.add.new.tables batch fs w a (mapped _ _ c.with_records.result c.map_err-3.result c.map_err-3.ensures.cases c.with_records.ensures.files c.in_ok-more.more c.in_ok-more.was ∙ c.rewritten.ensures)
+    (mapped _ _ c.with_records.result c.map_err-3.result c.map_err-3.ensures.cases c.with_records.ensures.declared c.in_ok-more.more c.in_ok-more.was)
     (mapped _ _ c.with_records.result c.map_err-3.result c.map_err-3.ensures.cases c.with_records.ensures.messages c.in_ok-more.more c.in_ok-more.was)
     (mapped _ _ c.with_records.result c.map_err-3.result c.map_err-3.ensures.cases c.with_records.ensures.enums c.in_ok-more.more c.in_ok-more.was)
     (mapped _ _ c.with_records.result c.map_err-3.result c.map_err-3.ensures.cases c.with_records.ensures.extensions c.in_ok-more.more c.in_ok-more.was)

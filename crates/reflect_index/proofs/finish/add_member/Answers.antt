@@ -32,15 +32,15 @@ returns-in_ok-push-clause-joins c =
     let f = field_of c.args.field.now in
     let items = c.args.oneofs.now.items in
     let i = c.in-Some.index in
-    let was = c.index_mut-oneof.result.now in
-    let now : StoredOneof = record { path = was.path; name = was.name; full_name = was.full_name; fields = c.push.new.self; is_synthetic = c.if-field.oneof } in
+    let was = c.index_mut.result.now in
+    let now : StoredOneof = record { path = was.path; name = was.name; full_name = was.full_name; fields = c.push.new.self; is_synthetic = was.is_synthetic } in
     let is : f.oneof ≡ Some i = search rules in
     let all : length (map oneof_of items) ≡ length items = length-map items oneof_of in
     let inside : i < length items = search rules in
     let pushed : c.push.new.self.items ≡ was.fields.items ++ c.args.place ∷ [] = search rules in
-    let here : oneof_of was ≡ get_or (map oneof_of items) i no_oneof = ap oneof_of c.index_mut-oneof.ensures.value ∙ sym (lists.get_or-map oneof_of items i was no_oneof inside) in
+    let here : oneof_of was ≡ get_or (map oneof_of items) i no_oneof = ap oneof_of c.index_mut.ensures.value ∙ sym (lists.get_or-map oneof_of items i was no_oneof inside) in
     let more : (oneof_of now).fields ≡ (get_or (map oneof_of items) i no_oneof).fields ++ c.args.place ∷ [] = pushed ∙ ap (λ (o : OneofType). o.fields ++ c.args.place ∷ []) here in
     subst (Joins f c.args.place (map oneof_of items)) (sym (map-set oneof_of items i now)) (joins_one f c.args.place i (map oneof_of items) (oneof_of now) is (omega (arith, inside, all)) more)
 
 pub returns-in_ok-push-clause-names : goal.returns-in_ok-push-clause-names
-returns-in_ok-push-clause-names c = map-set_same oneof_name c.args.oneofs.now.items c.in-Some.index _ c.index_mut-oneof.result.now (ap oneof_name c.index_mut-oneof.ensures.value)
+returns-in_ok-push-clause-names c = map-set_same oneof_name c.args.oneofs.now.items c.in-Some.index _ c.index_mut.result.now (ap oneof_name c.index_mut.ensures.value)

@@ -1,4 +1,4 @@
-use Rattle.std.proofs.Common.{◌≡◌, ◌∙◌, ap, rules}
+use Rattle.std.proofs.Common.{◌∙◌, ap, rules}
 use Rattle.std.proofs.Math.Seq.{map-set_same}
 use Rattle.reflect_tables.specs.Views.{record_file}
 use Rattle.reflect_index.proofs.rewrite.rewritten.Goals as goal

@@ -1,8 +1,9 @@
-use Rattle.std.proofs.Common.{◌≡◌, ◌∙◌, ◌<◌, ◌+◌, ◌++◌, ◌∷◌, [], Some, map, length, ap, sym, subst, arith, rules}
+use Rattle.std.proofs.Common.{◌≡◌, ◌∙◌, ◌<◌, ◌++◌, ◌∷◌, [], Some, map, length, ap, sym, subst, arith, rules}
 use Rattle.std.proofs.Math.ListN.{length-map}
 use Rattle.std.proofs.Math.Seq.{map-set_same}
 use Rattle.std.proofs.lemmas.List.{map-append, map-set}
 use Rattle.std.proofs.lemmas.List as lists
+use Rattle.reflect_index.specs.Children.{draft_children}
 use Rattle.reflect_index.specs.OfDeclarations.{draft_ranges}
 use Rattle.reflect_index.specs.DraftNames.{draft_name}
 use Rattle.reflect_index.specs.Grown.{draft_head, draft_fields, draft_oneofs, oneof_name, list_at, GrowsAt}
@@ -34,6 +35,9 @@ returns-in_ok-push-clause-oneofs c =
     let more : draft_oneofs now ≡ list_at olds place ++ x ∷ [] = ap (map oneof_name) pushed ∙ map-append oneof_name was.oneofs.items (c.args.oneof ∷ []) ∙ ap (λ l. l ++ x ∷ []) here in
     subst (GrowsAt c.args.first (Some c.args.message) x olds) (sym (map-set draft_oneofs items place now))
     (grown olds place c.args.first c.args.message x (draft_oneofs now) c.in_ok-place.ensures.sum (omega (arith, inside, all)) more)
+
+pub returns-in_ok-push-clause-children : goal.returns-in_ok-push-clause-children
+returns-in_ok-push-clause-children c = map-set_same draft_children c.args.messages.now.items c.in_ok-place.place _ c.index_mut.result.now (ap draft_children c.index_mut.ensures.value)
 
 pub returns-in_ok-push-clause-heads : goal.returns-in_ok-push-clause-heads
 returns-in_ok-push-clause-heads c = map-set_same draft_head c.args.messages.now.items c.in_ok-place.place _ c.index_mut.result.now (ap draft_head c.index_mut.ensures.value)

@@ -1,6 +1,6 @@
 use Rattle.std.proofs.Common.{◌≡◌, ◌∙◌, Some, false, is_some, cond, ap, sym, rules}
 use Rattle.std.proofs.Math.Path.{fun_ext}
-use Rattle.reflect_passes.specs.Extensions.{has_key, with_number}
+use Rattle.reflect_passes.specs.Extensions.{with_number}
 use Rattle.reflect_tables.specs.ExtensionNumbers.{numbers_of}
 use Rattle.reflect_passes.proofs.Numbered.{at_key, keeps_new, with_new}
 use Rattle.reflect_passes.proofs.extension_numbers.put_number.Goals.{In_ok-insert}

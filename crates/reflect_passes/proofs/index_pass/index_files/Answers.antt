@@ -9,7 +9,7 @@ use Rattle.reflect_index.proofs.IndexRuns.{Behind, ran}
 use Rattle.reflect_index.proofs.Valued.{with_values, all_values}
 use Rattle.reflect_index.specs.Along.{AtHand, before_files}
 use Rattle.reflect_index.specs.IndexSteps.{hand_of}
-use Rattle.reflect_index.proofs.EntryRuns.{batch_of}
+use Rattle.reflect_index.proofs.EntryRuns.{Begins, batch_of}
 use Rattle.reflect_tables.specs.declared.kind.Syntax.TheVariants.{Proto2}
 use Rattle.reflect_passes.proofs.index_pass.index_files.Goals as goal
 
@@ -21,25 +21,25 @@ pub returns-clause-messages : goal.returns-clause-messages
 returns-clause-messages c =
     let ds = batch_declarations c.args.before c.args.first c.args.files.now in
     let r = ran c.new-visitor.result ds c.visit_all.new.visitor c.in_ok-visit_all.ensures.runs in
-    ok_with _ _ c.into_batch.result (λ b e. e ∙ r.messages ∙ ap (λ ms. with_names messages (map draft_name ms) ds) c.new-visitor.ensures.messages) c.into_batch.ensures.messages
+    ok_with _ _ c.into_batch.result (λ b f. f.messages.names ∙ r.messages ∙ ap (λ ms. with_names messages (map draft_name ms) ds) c.new-visitor.ensures.messages) c.into_batch.ensures
 
 pub returns-clause-enums : goal.returns-clause-enums
 returns-clause-enums c =
     let ds = batch_declarations c.args.before c.args.first c.args.files.now in
     let r = ran c.new-visitor.result ds c.visit_all.new.visitor c.in_ok-visit_all.ensures.runs in
-    ok_with _ _ c.into_batch.result (λ b e. e ∙ r.enums ∙ ap (λ es. with_names enums (map enum_draft_name es) ds) c.new-visitor.ensures.enums) c.into_batch.ensures.enums
+    ok_with _ _ c.into_batch.result (λ b f. f.enums.names ∙ r.enums ∙ ap (λ es. with_names enums (map enum_draft_name es) ds) c.new-visitor.ensures.enums) c.into_batch.ensures
 
 pub returns-clause-extensions : goal.returns-clause-extensions
 returns-clause-extensions c =
     let ds = batch_declarations c.args.before c.args.first c.args.files.now in
     let r = ran c.new-visitor.result ds c.visit_all.new.visitor c.in_ok-visit_all.ensures.runs in
-    ok_with _ _ c.into_batch.result (λ b e. ap (map stored_extension_name) e ∙ r.extensions ∙ ap (λ xs. with_names extensions (map stored_extension_name xs) ds) c.new-visitor.ensures.extensions) c.into_batch.ensures.extensions
+    ok_with _ _ c.into_batch.result (λ b f. ap (map stored_extension_name) f.extensions ∙ r.extensions ∙ ap (λ xs. with_names extensions (map stored_extension_name xs) ds) c.new-visitor.ensures.extensions) c.into_batch.ensures
 
 pub returns-clause-services : goal.returns-clause-services
 returns-clause-services c =
     let ds = batch_declarations c.args.before c.args.first c.args.files.now in
     let r = ran c.new-visitor.result ds c.visit_all.new.visitor c.in_ok-visit_all.ensures.runs in
-    ok_with _ _ c.into_batch.result (λ b e. ap (map stored_service_name) e ∙ r.services ∙ ap (λ xs. with_names services (map stored_service_name xs) ds) c.new-visitor.ensures.services) c.into_batch.ensures.services
+    ok_with _ _ c.into_batch.result (λ b f. ap (map stored_service_name) f.services ∙ r.services ∙ ap (λ xs. with_names services (map stored_service_name xs) ds) c.new-visitor.ensures.services) c.into_batch.ensures
 
 -- what stands behind nothing
 all_there : (ms : List MessageParts) (old new made : List RangesType) → old ≡ [] → Behind old ms new → made ≡ new → AllDeclared ms made
@@ -51,7 +51,7 @@ returns-clause-ranges c =
     let r = ran c.new-visitor.result ds c.visit_all.new.visitor c.in_ok-visit_all.ensures.runs in
     let old = map draft_ranges c.new-visitor.result.drafts.messages.items in
     let new = map draft_ranges c.visit_all.new.visitor.drafts.messages.items in
-    ok_with _ _ c.into_batch.result (λ b e. all_there (messages_in ds) old new (map stored_ranges b.messages.items) (ap (map draft_ranges) c.new-visitor.ensures.messages) r.ranges e) c.into_batch.ensures.ranges
+    ok_with _ _ c.into_batch.result (λ b f. all_there (messages_in ds) old new (map stored_ranges b.messages.items) (ap (map draft_ranges) c.new-visitor.ensures.messages) r.ranges f.messages.ranges) c.into_batch.ensures
 
 pub returns-clause-values : goal.returns-clause-values
 returns-clause-values c =
@@ -63,12 +63,10 @@ returns-clause-values c =
     let begun : with_values v.before.enums (map draft_values v.drafts.enums.items) ds ≡ with_values before.enums [] ds =
     ap (λ o. with_values o.enums (map draft_values v.drafts.enums.items) ds) c.new-visitor.ensures.before
     ∙ ap (λ es. with_values before.enums (map draft_values es) ds) c.new-visitor.ensures.enums in
-    ok_with _ _ c.into_batch.result (λ b e. e ∙ r.values ∙ begun ∙ all_values before c.args.first fs) c.into_batch.ensures.values
+    ok_with _ _ c.into_batch.result (λ b f. f.enums.values ∙ r.values ∙ begun ∙ all_values before c.args.first fs) c.into_batch.ensures
 
-six_with : {A E : Type 0} (P Q R S T U V : A → Type 0) (r : Result A E) → ((x : A) → P x → Q x → R x → S x → T x → U x → V x)
-    → IfOk r P → IfOk r Q → IfOk r R → IfOk r S → IfOk r T → IfOk r U → IfOk r V
-six_with P Q R S T U V (Ok x) f p q r s t u = f x p q r s t u
-six_with P Q R S T U V (Err e) f p q r s t u = p
+pub returns-clause-listed : goal.returns-clause-listed
+returns-clause-listed c = ok_with _ _ c.into_batch.result (λ b f. f.messages.listed) c.into_batch.ensures
 
 pub returns-clause-entries : goal.returns-clause-entries
 returns-clause-entries c =
@@ -76,11 +74,16 @@ returns-clause-entries c =
     let ds = batch_declarations c.args.before c.args.first c.args.files.now in
     let v = c.new-visitor.result in
     let begun = c.new-visitor.ensures in
-    let made = c.into_batch.ensures in
     let hand : hand_of v ≡ before_files rs =
     ap {B = AtHand} (λ x. record { syntax = x; rest = v.references.rest.now }) begun.syntax ∙ ap {B = AtHand} (λ l. record { syntax = Proto2; rest = l }) begun.rest in
-    six_with _ _ _ _ _ _ _ c.into_batch.result
-    (λ b fields oneofs heads enums services extensions.
-    batch_of rs c.args.before ds v c.visit_all.new.visitor b begun.before hand begun.messages begun.enums begun.services begun.extensions
-    c.in_ok-visit_all.ensures.runs fields oneofs heads enums services extensions)
-    made.fields made.oneofs made.heads made.enum_heads made.services made.extensions
+    let begins : Begins rs c.args.before c.args.first v = record {
+      hand = hand;
+      before = begun.before;
+      first = begun.first;
+      files = begun.files;
+      messages = begun.messages;
+      enums = begun.enums;
+      services = begun.services;
+      extensions = begun.extensions;
+    } in
+    ok_with _ _ c.into_batch.result (λ b f. batch_of rs c.args.before c.args.first ds v c.visit_all.new.visitor b begins c.in_ok-visit_all.ensures.runs f) c.into_batch.ensures

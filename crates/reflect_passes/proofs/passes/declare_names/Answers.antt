@@ -1,7 +1,6 @@
 use Rattle.std.proofs.Common.{◌≡◌, [], OnOk, Result, Ok, Err, ap, subst, ◌∙◌}
 use Rattle.reflect_names.specs.Faults.{Adds, list_of, place_at}
 use Rattle.reflect_scope.specs.FileIndexes.{indexes_of}
-use Rattle.reflect_names.specs.FileNames.{with_files}
 use Rattle.reflect_scope.specs.Known.{known_of}
 use Rattle.reflect_names.specs.NamePass.{faults_along, known_behind}
 use Rattle.reflect_walk.specs.Batches.{batch_declarations}

@@ -1,15 +1,16 @@
 -- A message type's draft has the ranges of its record.
-use Rattle.std.proofs.Common.{◌≡◌, ◌∙◌, ◌++◌, ◌∷◌, [], List, map, string_bytes, IsPermutation, ap, subst, rules}
+use Rattle.std.proofs.Common.{◌≡◌, ◌∙◌, ◌++◌, ◌∷◌, [], List, map, string_bytes, IsPermutation, ap, subst, rules, refl}
 use Rattle.std.proofs.lemmas.List.{map-append}
 use Rattle.reflect_tables.specs.Ranges.{reserved_range, extension_range}
 use Rattle.reflect_tables.specs.Views.{ranges_of}
-use Rattle.reflect_tables.specs.Types.{FieldType}
-use Rattle.reflect_tables.specs.Views.{field_of}
-use Rattle.reflect_index.specs.Entries.{OneofName, Head}
-use Rattle.reflect_index.specs.Grown.{draft_fields, draft_oneofs, draft_head, oneof_name}
+use Rattle.reflect_tables.specs.Types.{no_children}
+use Rattle.reflect_index.specs.Children.{draft_children, children_at}
+use Rattle.reflect_index.specs.Entries.{DeclaredField, OneofName, Head}
+use Rattle.reflect_index.specs.Grown.{draft_fields, draft_oneofs, draft_head, declared_field, oneof_name}
 use Rattle.reflect_index.specs.DraftNames.{draft_name}
 use Rattle.reflect_tables.specs.Names.{FullName}
 use Rattle.reflect_index.specs.OfDeclarations.{RangesType, draft_ranges}
+use Rattle.reflect_index.proofs.Listed.{none_more}
 use Rattle.reflect_index.proofs.Grown.{head_by, head_same}
 use Rattle.reflect_index.proofs.visitor.IndexVisitorVisitor.visit_message.Goals as goal
 
@@ -19,18 +20,19 @@ returns-clause-step c =
     let extensions = c.in_ok-extensions.field-0 in
     let r : RangesType = record { reserved = ranges_of reserved; extensions = ranges_of extensions; is_entry = c.says_map_entry.result } in
     let old = c.args.self.now.drafts.messages.items in
-    let mid = c.declare_in.new.self.drafts.messages.items in
+    let mid = c.declare.new.messages.items in
     let full_name = c.in_ok-from_str.field-0 in
+    let made = c.in_ok-declare.ensures in
     let named : string_bytes full_name ≡ c.args.full_name.now = search rules in
     record {
       messages =
           ap (map draft_name) c.in_ok-push.ensures.items
           ∙ map-append draft_name mid _
-          ∙ ap {B = List FullName} (λ l. l ++ (string_bytes full_name, c.args.file) ∷ []) c.in_ok-declare_in.ensures.messages
+          ∙ ap {B = List FullName} (λ l. l ++ (string_bytes full_name, c.args.file) ∷ []) made.kept.names
           ∙ ap {B = List FullName} (λ n. map draft_name old ++ (n, c.args.file) ∷ []) named;
-      enums = search rules;
-      extensions = search rules;
-      services = search rules;
+      enums = refl;
+      extensions = refl;
+      services = refl;
       ranges = (
         r,
         record {
@@ -38,29 +40,38 @@ returns-clause-step c =
           extensions = subst (λ xs. IsPermutation (map extension_range xs) (ranges_of extensions)) c.as_slice-2.ensures.value c.in_ok-extensions.ensures;
           is_entry = c.says_map_entry.ensures;
         },
-        ap (map draft_ranges) c.in_ok-push.ensures.items ∙ map-append draft_ranges mid _ ∙ ap (λ l. l ++ r ∷ []) c.in_ok-declare_in.ensures.ranges,
+        ap (map draft_ranges) c.in_ok-push.ensures.items ∙ map-append draft_ranges mid _ ∙ ap (λ l. l ++ r ∷ []) made.kept.ranges,
       );
-      values = search rules;
+      values = refl;
+      value_types = refl;
       fields =
           ap (map draft_fields) c.in_ok-push.ensures.items
           ∙ map-append draft_fields mid _
-          ∙ ap {B = List (List FieldType)} (λ l. l ++ map field_of c.new.result.items ∷ []) c.in_ok-declare_in.ensures.fields
-          ∙ ap {B = List (List FieldType)} (λ l. map draft_fields old ++ map field_of l ∷ []) c.new.ensures.items;
+          ∙ ap {B = List (List DeclaredField)} (λ l. l ++ map declared_field c.new.result.items ∷ []) made.kept.fields
+          ∙ ap {B = List (List DeclaredField)} (λ l. map draft_fields old ++ map declared_field l ∷ []) c.new.ensures.items;
       oneofs =
           ap (map draft_oneofs) c.in_ok-push.ensures.items
           ∙ map-append draft_oneofs mid _
-          ∙ ap {B = List (List OneofName)} (λ l. l ++ map oneof_name c.new-2.result.items ∷ []) c.in_ok-declare_in.ensures.oneofs
+          ∙ ap {B = List (List OneofName)} (λ l. l ++ map oneof_name c.new-2.result.items ∷ []) made.kept.oneofs
           ∙ ap {B = List (List OneofName)} (λ l. map draft_oneofs old ++ map oneof_name l ∷ []) c.new-2.ensures.items;
-      methods = search rules;
-      declared = search rules;
+      methods = refl;
+      declared = refl;
       message_heads =
           ap (map draft_head) c.in_ok-push.ensures.items
           ∙ map-append draft_head mid _
-          ∙ ap {B = List Head} (λ l. l ++ head_by c.in_ok-from_slice.field-0.items (string_bytes c.in_ok-text_of.field-0) (string_bytes full_name) c.args.file c.args.parent ∷ []) c.in_ok-declare_in.ensures.message_heads
+          ∙ ap {B = List Head} (λ l. l ++ head_by c.in_ok-from_slice.field-0.items (string_bytes c.in_ok-text_of.field-0) (string_bytes full_name) c.args.file c.args.parent ∷ []) made.kept.heads
           ∙ ap {B = List Head} (λ h. map draft_head old ++ h ∷ []) (head_same _ _ _ _ _ _ c.args.file c.args.parent c.in_ok-from_slice.ensures.items c.in_ok-text_of.ensures named);
-      enum_heads = search rules;
-      service_heads = search rules;
-      syntax = search rules;
-      rest = search rules;
-      before = search rules;
+      enum_heads = refl;
+      service_heads = refl;
+      nested = λ k.
+          ap (λ ms. children_at (map draft_children ms) k) c.in_ok-push.ensures.items
+          ∙ ap (λ l. children_at l k) (map-append draft_children mid _)
+          ∙ ap (λ p. children_at (map draft_children mid ++ p ∷ []) k) c.no_children.ensures
+          ∙ none_more no_children (map draft_children mid) k
+          ∙ made.nested k;
+      outside = made.outside;
+      syntax = refl;
+      rest = refl;
+      first = refl;
+      before = refl;
     }

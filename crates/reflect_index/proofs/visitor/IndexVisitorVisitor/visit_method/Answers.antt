@@ -1,5 +1,5 @@
 -- A service has one method more.
-use Rattle.std.proofs.Common.{◌∙◌, sym, ap, string_bytes, rules}
+use Rattle.std.proofs.Common.{◌∙◌, sym, ap, string_bytes, rules, refl}
 use Rattle.reflect_references.specs.Meanings.{meaning}
 use Rattle.reflect_tables.specs.Types.{MethodType}
 use Rattle.reflect_index.proofs.visitor.IndexVisitorVisitor.visit_method.Goals as goal
@@ -16,14 +16,15 @@ returns-clause-step c =
       server_streaming = c.unwrap_or-2.result;
     } in
     record {
-      messages = search rules;
-      enums = search rules;
-      extensions = search rules;
-      services = search rules;
-      ranges = search rules;
-      values = search rules;
-      fields = search rules;
-      oneofs = search rules;
+      messages = refl;
+      enums = refl;
+      extensions = refl;
+      services = c.in_ok-push_method.ensures.names;
+      ranges = refl;
+      values = refl;
+      value_types = refl;
+      fields = refl;
+      oneofs = refl;
       methods = (
         x,
         record {
@@ -37,11 +38,14 @@ returns-clause-step c =
         },
         c.in_ok-push_method.ensures.methods,
       );
-      declared = search rules;
-      message_heads = search rules;
-      enum_heads = search rules;
-      service_heads = search rules;
-      syntax = search rules;
+      declared = refl;
+      message_heads = refl;
+      enum_heads = refl;
+      service_heads = c.in_ok-push_method.ensures.heads;
+      nested = refl;
+      outside = refl;
+      syntax = refl;
       rest = search rules;
-      before = search rules;
+      first = refl;
+      before = refl;
     }
