@@ -1,5 +1,5 @@
 -- A number that is there exactly where a width holds it is the one that a range holds.
-use Rattle.std.proofs.Common.{◌≡◌, ◌<◌, ◌^◌, ℤ, pos, negsuc, Bool, true, false, Option, Some, None, if◌then◌else◌, refl, sym, ap, w32, w64}
+use Rattle.std.proofs.Common.{◌≡◌, ◌^◌, ℤ, pos, negsuc, Bool, true, false, Option, Some, None, if◌then◌else◌, refl, ap, w32, w64}
 use Rattle.std.proofs.lemmas.Bool.{ltb-true, lt-ltb}
 use Rattle.std.specs.Option.{SomeIff}
 use Rattle.std.specs.Prelude.{FitsSigned}

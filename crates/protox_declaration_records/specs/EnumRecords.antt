@@ -1,7 +1,7 @@
 -- The records of enums.
 --
 -- Source: "Enumerations" and "Reserved Values" of the language guide on protobuf.dev.
-use Rattle.std.specs.Prelude.{List, [], ◌∷◌, map, pos, Option, Some, string_bytes}
+use Rattle.std.specs.Prelude.{List, [], ◌∷◌, map, pos, Some, string_bytes}
 use Rattle.std.specs.List.{flat_map}
 use Rattle.descriptor_records.specs.Content.{EnumContent, EnumValueContent, OptionContent}
 use Rattle.descriptor_records.specs.declared.enums.EnumReservedRange.{EnumReservedRange}
@@ -13,7 +13,6 @@ use Rattle.protox_tree.specs.declared.enumeration.Enum.{Enum}
 use Rattle.protox_tree.specs.declared.enumeration.EnumItem.{EnumItem}
 use Rattle.protox_tree.specs.declared.enumeration.EnumItem.TheVariants as items
 use Rattle.protox_tree.specs.declared.enumeration.EnumValue.{EnumValue}
-use Rattle.protox_tree.specs.declared.range.Reserved.{Reserved}
 use Rattle.protox_tree.specs.declared.range.ReservedItems.{ReservedItems}
 use Rattle.protox_tree.specs.declared.range.ReservedItems.TheVariants as reserves
 use Rattle.protox_tree.specs.declared.range.ReservedRange.{ReservedRange}

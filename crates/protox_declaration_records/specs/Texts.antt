@@ -1,5 +1,5 @@
 -- What texts of a source say.
-use Rattle.std.specs.Prelude.{Bool, if◌then◌else◌, List, ◌∷◌}
+use Rattle.std.specs.Prelude.{Bool, if◌then◌else◌, ◌∷◌}
 use Rattle.std.specs.Str.Lossy.{utf8_lossy}
 use Rattle.protox_lex.specs.Class.{Text}
 use Rattle.protox_tree.specs.Tree.{joined}

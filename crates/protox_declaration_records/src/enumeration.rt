@@ -8,14 +8,16 @@ ghost use Rattle.protox_declaration_records.specs.OptionRecords.{options_of};
 
 use crate::number::{i32_of, last};
 use crate::option::{declared, list_options, option_record};
-use crate::text::add_texts;
-use descriptor_records::{EnumDescriptorProto, EnumReservedRange, EnumValueDescriptorProto, Options};
+use crate::texts::add_texts;
+use descriptor_records::{
+    EnumDescriptorProto, EnumReservedRange, EnumValueDescriptorProto, Options,
+};
 use protox_tree::{Enum, EnumItem, EnumValue, ReservedItems, ReservedRange};
 use std::alloc::{AllocError, Global};
 
 /// The record of an enum.
 pub fn enum_record(alloc: Global, enumeration: &Enum) -> Result<EnumDescriptorProto, AllocError>
-    ensures { IfOk result (λ record. enum_view record ≡ enums.enum_of enumeration.now) }
+    ensures { IfOk result (λ made. enum_view made ≡ enums.enum_of enumeration.now) }
 {
     Ok(EnumDescriptorProto {
         name: Some(enumeration.name.value.clone()?),
@@ -26,10 +28,7 @@ pub fn enum_record(alloc: Global, enumeration: &Enum) -> Result<EnumDescriptorPr
     })
 }
 
-fn values(
-    alloc: Global,
-    items: &Vec<EnumItem>,
-) -> Result<Vec<EnumValueDescriptorProto>, AllocError>
+fn values(alloc: Global, items: &Vec<EnumItem>) -> Result<Vec<EnumValueDescriptorProto>, AllocError>
     ensures { IfOk result (λ values. map enum_value_view values.items ≡ flat_map enums.value_at items.now.items) }
 {
     let mut values = Vec::new(alloc);
@@ -43,7 +42,7 @@ fn values(
 }
 
 fn value_record(alloc: Global, value: &EnumValue) -> Result<EnumValueDescriptorProto, AllocError>
-    ensures { IfOk result (λ record. enum_value_view record ≡ enums.value_of value.now) }
+    ensures { IfOk result (λ made. enum_value_view made ≡ enums.value_of value.now) }
 {
     Ok(EnumValueDescriptorProto {
         name: Some(value.name.value.clone()?),

@@ -5,10 +5,10 @@ mod enumeration;
 mod number;
 mod option;
 mod service;
-mod text;
+mod texts;
 
 pub use enumeration::{add_reserved_names, enum_record};
 pub use number::{i32_of, last};
 pub use option::{declared, list_options, listed, option_record};
 pub use service::service_record;
-pub use text::{signed_text, text};
+pub use texts::{signed_text, text};

@@ -5,7 +5,7 @@ ghost use Rattle.descriptor_records.specs.Content.{name_view, option_view, optio
 ghost use Rattle.protox_declaration_records.specs.OptionRecords as spec;
 
 use crate::number::i64_of;
-use crate::text::signed_text;
+use crate::texts::signed_text;
 use descriptor_records::{DoubleValue, NamePart, Options, UninterpretedOption};
 use protox_tree::{OptionBody, OptionList, OptionNamePart, OptionValue};
 use std::alloc::{AllocError, Global};
@@ -27,10 +27,7 @@ pub fn declared(alloc: Global, written: Vec<UninterpretedOption>) -> Option<Opti
 }
 
 /// The options in brackets, where there are any.
-pub fn list_options(
-    alloc: Global,
-    list: &Option<OptionList>,
-) -> Result<Option<Options>, AllocError>
+pub fn list_options(alloc: Global, list: &Option<OptionList>) -> Result<Option<Options>, AllocError>
     ensures { IfOk result (λ given. option_map options_view given ≡ spec.list_options_of list.now) }
 {
     Ok(declared(alloc, records_of(alloc, listed(list))?))
@@ -46,10 +43,7 @@ pub fn listed(list: &Option<OptionList>) -> &[OptionBody]
     }
 }
 
-fn records_of(
-    alloc: Global,
-    bodies: &[OptionBody],
-) -> Result<Vec<UninterpretedOption>, AllocError>
+fn records_of(alloc: Global, bodies: &[OptionBody]) -> Result<Vec<UninterpretedOption>, AllocError>
     ensures { IfOk result (λ records. map option_view records.items ≡ map spec.option_of bodies.now) }
 {
     let mut records = Vec::new(alloc);
@@ -88,7 +82,7 @@ fn name_parts(alloc: Global, parts: &Vec<OptionNamePart>) -> Result<Vec<NamePart
 }
 
 fn name_part(alloc: Global, part: &OptionNamePart) -> Result<NamePart, AllocError>
-    ensures { IfOk result (λ record. name_view record ≡ spec.name_part_of part.now) }
+    ensures { IfOk result (λ made. name_view made ≡ spec.name_part_of part.now) }
 {
     match part {
         OptionNamePart::Ident(ident) => Ok(NamePart {

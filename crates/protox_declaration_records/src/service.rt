@@ -7,7 +7,9 @@ ghost use Rattle.protox_declaration_records.specs.OptionRecords.{options_of};
 ghost use Rattle.protox_declaration_records.specs.ServiceRecords as services;
 
 use crate::option::{declared, option_record};
-use descriptor_records::{MethodDescriptorProto, Options, ServiceDescriptorProto, UninterpretedOption};
+use descriptor_records::{
+    MethodDescriptorProto, Options, ServiceDescriptorProto, UninterpretedOption,
+};
 use protox_tree::{Method, MethodBody, MethodItem, Service, ServiceItem};
 use std::alloc::{AllocError, Global};
 
@@ -16,7 +18,7 @@ pub fn service_record(
     alloc: Global,
     service: &Service,
 ) -> Result<ServiceDescriptorProto, AllocError>
-    ensures { IfOk result (λ record. service_view record ≡ services.service_of service.now) }
+    ensures { IfOk result (λ made. service_view made ≡ services.service_of service.now) }
 {
     Ok(ServiceDescriptorProto {
         name: Some(service.name.value.clone()?),
@@ -55,7 +57,7 @@ fn options(alloc: Global, items: &Vec<ServiceItem>) -> Result<Option<Options>, A
 }
 
 fn method_record(alloc: Global, method: &Method) -> Result<MethodDescriptorProto, AllocError>
-    ensures { IfOk result (λ record. method_view record ≡ services.method_of method.now) }
+    ensures { IfOk result (λ made. method_view made ≡ services.method_of method.now) }
 {
     Ok(MethodDescriptorProto {
         name: Some(method.name.value.clone()?),

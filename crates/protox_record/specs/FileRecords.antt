@@ -2,9 +2,9 @@
 --
 -- Source: "Importing Definitions" and "Packages" of the language guides on protobuf.dev, and `FileDescriptorProto`
 -- of descriptor.proto.
-use Rattle.std.specs.Prelude.{◌+◌, ℕ, ℤ, pos, Bool, true, false, if◌then◌else◌, List, [], ◌∷◌, length, map, Option, Some, None, codes, string_bytes}
+use Rattle.std.specs.Prelude.{◌≡◌, ◌+◌, ◌++◌, ℕ, ℤ, pos, Bool, true, false, if◌then◌else◌, List, [], ◌∷◌, length, map, Option, Some, None, codes, string_bytes}
 use Rattle.std.specs.List.{flat_map, fold}
-use Rattle.descriptor_records.specs.Content.{EnumContent, FieldContent, FileContent, MessageContent, OptionContent, ServiceContent}
+use Rattle.descriptor_records.specs.Content.{EnumContent, FieldContent, FileContent, MessageContent, messages_of, OptionContent, ServiceContent}
 use Rattle.protox_declaration_records.specs.EnumRecords.{enum_of}
 use Rattle.protox_declaration_records.specs.OptionRecords.{option_of, options_of}
 use Rattle.protox_declaration_records.specs.ServiceRecords.{service_of}
@@ -12,6 +12,7 @@ use Rattle.protox_declaration_records.specs.Texts.{text_of}
 use Rattle.protox_lex.specs.Class.{Text}
 use Rattle.protox_lex.specs.declared.span.Span.{Span}
 use Rattle.protox_record.specs.FieldRecords.{extension_at}
+use Rattle.protox_record.specs.MessageRecords.{Declared, AreTypes, type_of_message, types_of_extend}
 use Rattle.protox_record.specs.Places.{place_of}
 use Rattle.protox_tree.specs.FileTree.{syntax_of}
 use Rattle.protox_tree.specs.FileView.{file_view}
@@ -70,10 +71,14 @@ abbrev pub is_kind : ImportKind → Option (ImportKind × Span) → Bool
 is_kind kind None = false
 is_kind kind (Some k) = is_same kind k.0
 
+-- the place of an import, where so many stand before it, if it is of a kind
+abbrev pub place_at : ImportKind → ℕ → Import → List ℤ
+place_at kind n i = if is_kind kind i.kind then place_of n ∷ [] else []
+
 -- the places of the imports of a kind, where so many stand before these
 abbrev pub places_from : ImportKind → ℕ → List Import → List ℤ
 places_from kind n [] = []
-places_from kind n (i ∷ is) = if is_kind kind i.kind then place_of n ∷ places_from kind (n + 1) is else places_from kind (n + 1) is
+places_from kind n (i ∷ is) = place_at kind n i ++ places_from kind (n + 1) is
 
 -- ---- extensions
 
@@ -99,3 +104,14 @@ file_with name f messages = record {
   source_code_info = None;
   syntax_name = syntax_name (syntax_of (file_view f).syntax);
 }
+
+-- the types that are declared outside of messages
+abbrev pub types_at : FileItem → List Declared
+types_at (items.Message m) = type_of_message m ∷ []
+types_at (items.Extend e) = types_of_extend e
+types_at _ = []
+
+-- This is the record of a file under this name, which has no locations.
+pub record IsFile (name : Text) (f : File) (made : FileContent) : Type 0 where
+  pub is : made ≡ file_with name f made.message_type
+  pub types_are : AreTypes (syntax_of (file_view f).syntax) (flat_map types_at f.items.items) (messages_of made.message_type)

@@ -5,7 +5,7 @@
 use Rattle.std.specs.Prelude.{◌≡◌, ◌+◌, ◌+ℤ◌, ◌++◌, ◌^◌, ℕ, ℤ, pos, Bool, true, false, if◌then◌else◌, List, [], ◌∷◌, length, map, Option, Some, None, codes, string_bytes, replicate}
 use Rattle.std.specs.List.{flat_map}
 use Rattle.std.specs.Option.{option_and_then}
-use Rattle.descriptor_records.specs.Content.{EnumContent, ExtensionRangeContent, FieldContent, MessageContent, message, MessageContents, no_messages, more_messages, OneofContent, OptionContent, OptionsContent}
+use Rattle.descriptor_records.specs.Content.{EnumContent, ExtensionRangeContent, FieldContent, MessageContent, message, MessageContents, messages_of, no_messages, more_messages, OneofContent, OptionContent, OptionsContent}
 use Rattle.descriptor_records.specs.FieldNumbers.{label_number}
 use Rattle.descriptor_records.specs.declared.field.Label.{Label}
 use Rattle.descriptor_records.specs.declared.field.Label.TheVariants as labels
@@ -196,19 +196,28 @@ abbrev pub types_of_member : MemberLayer → List Declared
 types_of_member (OneofItem-F.«OneofItem::Field» f) = types_of_field f
 types_of_member _ = []
 
+abbrev pub types_of_member_item : OneofItem → List Declared
+types_of_member_item i = types_of_member (out-OneofItem i)
+
+abbrev pub types_of_oneof : Oneof → List Declared
+types_of_oneof o = flat_map types_of_member_item o.items.items
+
 abbrev pub types_of_added : AddedLayer → List Declared
 types_of_added (ExtendItem-F.«ExtendItem::Field» f) = types_of_field f
 types_of_added _ = []
 
+abbrev pub types_of_added_item : ExtendItem → List Declared
+types_of_added_item i = types_of_added (out-ExtendItem i)
+
 abbrev pub types_of_extend : Extend → List Declared
-types_of_extend e = flat_map (λ i. types_of_added (out-ExtendItem i)) e.items.items
+types_of_extend e = flat_map types_of_added_item e.items.items
 
 abbrev pub type_of_message : Message → Declared
 type_of_message m = of_items (string_bytes m.name.value) m.items.items
 
 abbrev pub types_in : ItemLayer → List Declared
 types_in (MessageItem-F.«MessageItem::Field» f) = types_of_field f
-types_in (MessageItem-F.Oneof o) = flat_map (λ i. types_of_member (out-OneofItem i)) o.items.items
+types_in (MessageItem-F.Oneof o) = types_of_oneof o
 types_in (MessageItem-F.Message m) = type_of_message m ∷ []
 types_in (MessageItem-F.Extend e) = types_of_extend e
 types_in _ = []
@@ -232,6 +241,9 @@ entry_field name number ty = record {
   proto3_optional = None;
 }
 
+abbrev pub entry_fields : Map → List FieldContent
+entry_fields m = entry_field (codes "key") (pos 1) m.key ∷ (entry_field (codes "value") (pos 2) m.value ∷ [])
+
 -- the option `map_entry = true`, as itself and in its encoded form
 abbrev pub entry_options : OptionsContent
 entry_options = record { encoded = 56 ∷ 1 ∷ []; packed = None; allow_alias = None; map_entry = Some true; uninterpreted_option = [] }
@@ -239,8 +251,7 @@ entry_options = record { encoded = 56 ∷ 1 ∷ []; packed = None; allow_alias =
 -- the type of the entries of a map of this name: a key and a value
 abbrev pub entry_of : Text → Map → MessageContent
 entry_of name m =
-    message (Some (entry_name_of name)) (entry_field (codes "key") (pos 1) m.key ∷ entry_field (codes "value") (pos 2) m.value ∷ [])
-        [] no_messages [] [] [] (Some entry_options) [] []
+    message (Some (entry_name_of name)) (entry_fields m) [] no_messages [] [] [] (Some entry_options) [] []
 
 -- What a message of these items has beside the types in it: of each kind all that stands there, in order.
 pub record IsOwn (s : Syntax) (name : Text) (items : List MessageItem) (given : Option Text) (fields extensions : List FieldContent) (enums : List EnumContent)
@@ -254,6 +265,11 @@ pub record IsOwn (s : Syntax) (name : Text) (items : List MessageItem) (given : 
   pub options_are : options ≡ options_of (flat_map option_at items)
   pub reserved_are : reserved ≡ flat_map reserved_ranges_at items
   pub names_are : names ≡ flat_map reserved_names_at items
+
+-- This is the record of a message of this name and these items, in which these types are.
+abbrev pub IsMessage : Syntax → Text → List MessageItem → MessageContents → MessageContent → Type 0
+IsMessage s name items inside (message given fields extensions nested enums ranges oneofs options reserved names) =
+    IsOwn s name items given fields extensions enums ranges oneofs options reserved names × (nested ≡ inside)
 
 abbrev mutual
   -- This is the record of a type that is declared in a file of this syntax.
@@ -269,3 +285,7 @@ abbrev mutual
   AreTypes s [] (more_messages m ms) = ⊥
   AreTypes s (t ∷ ts) no_messages = ⊥
   AreTypes s (t ∷ ts) (more_messages m ms) = IsType s t m × AreTypes s ts ms
+
+-- what was the record of some types is now that of these types and of more
+abbrev pub Adds : Syntax → List Declared → List MessageContent → List MessageContent → Type 0
+Adds s more old new = (before : List Declared) → AreTypes s before (messages_of old) → AreTypes s (before ++ more) (messages_of new)

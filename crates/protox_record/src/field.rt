@@ -2,17 +2,20 @@
 
 ghost use Rattle.std.specs.Prelude.{◌≡◌, ◌++◌, ◌||◌, IfOk, None, OnOk, codes, map, option_map, string_bytes};
 ghost use Rattle.std.specs.List.{flat_map, fold};
-ghost use Rattle.descriptor_records.specs.Content.{field_view, option_view, options_view};
+ghost use Rattle.descriptor_records.specs.Content.{field_view, message_view, option_view, options_view};
 ghost use Rattle.protox_declaration_records.specs.OptionRecords.{options_of};
 ghost use Rattle.protox_record.specs.FieldName.{field_name_of};
 ghost use Rattle.protox_record.specs.FieldRecords as fields;
+ghost use Rattle.protox_record.specs.MessageRecords as messages;
 ghost use Rattle.protox_tree.specs.NestView.{kind_view};
 ghost use Rattle.protox_tree.specs.View.{ty_view};
 
 use descriptor_records::{DescriptorProto, FieldDescriptorProto, FieldType, Label, Options};
 use protox_declaration_records::{declared, i32_of, listed, option_record, signed_text, text};
 use protox_lex::{Escaped, Int, Span};
-use protox_tree::{Extend, ExtendItem, Field, FieldKind, Map, OptionBody, OptionValue, Strings, Ty, TypeName};
+use protox_tree::{
+    Extend, ExtendItem, Field, FieldKind, Map, OptionBody, OptionValue, Strings, Ty, TypeName,
+};
 use std::alloc::{AllocError, Global};
 
 /// Adds the fields of an `extend` statement.
@@ -38,7 +41,7 @@ fn extension_record(
     extendee: &TypeName,
     field: &Field,
 ) -> Result<FieldDescriptorProto, AllocError>
-    ensures { IfOk result (λ record. field_view record ≡ fields.extension_of extendee.now field.now) }
+    ensures { IfOk result (λ made. field_view made ≡ fields.extension_of extendee.now field.now) }
 {
     let mut record = field_record(alloc, field)?;
     record.extendee = Some(extendee.to_text(alloc)?);
@@ -47,7 +50,7 @@ fn extension_record(
 
 /// The record of a field, without its oneof.
 pub fn field_record(alloc: Global, field: &Field) -> Result<FieldDescriptorProto, AllocError>
-    ensures { IfOk result (λ record. field_view record ≡ fields.field_of field.now) }
+    ensures { IfOk result (λ made. field_view made ≡ fields.field_of field.now) }
 {
     let name = field.name.value.as_str();
     let kind = &field.kind;
@@ -188,11 +191,7 @@ fn json_text(alloc: Global, value: &OptionValue) -> Result<Option<String>, Alloc
 }
 
 /// A default as text: integers in decimal, bytes escaped, and all else as it is written.
-fn default_text(
-    alloc: Global,
-    kind: &FieldKind,
-    value: &OptionValue,
-) -> Result<String, AllocError>
+fn default_text(alloc: Global, kind: &FieldKind, value: &OptionValue) -> Result<String, AllocError>
     ensures { IfOk result (λ text. string_bytes text ≡ fields.default_text (kind_view kind.now) value.now) }
 {
     match value {
@@ -263,36 +262,66 @@ fn letter(raise: bool, byte: u8) -> u8
     }
 }
 
-/// The type of a map's entries.
-pub fn entry_record(
-    alloc: Global,
-    field: &Field,
-    map: &Map,
-) -> Result<DescriptorProto, AllocError> {
-    let mut record = DescriptorProto::new(alloc);
-    record.name = Some(entry_name(alloc, field.name.value.as_str())?);
-    record.field.push(entry_part(alloc, "key", 1, &map.key)?)?;
-    record
-        .field
-        .push(entry_part(alloc, "value", 2, &map.value)?)?;
-    let mut options = Options::new(alloc);
-    options.map_entry = Some(true);
-    options.encoded.extend_from_slice(&[0x38, 0x01])?;
-    record.options = Some(options);
-    Ok(record)
+/// The type of the entries of a map of this name.
+pub fn entry_record(alloc: Global, name: &str, entries: &Map) -> Result<DescriptorProto, AllocError>
+    ensures { IfOk result (λ made. message_view made ≡ messages.entry_of name.now entries.now) }
+{
+    Ok(DescriptorProto {
+        name: Some(entry_name(alloc, name)?),
+        field: entry_fields(alloc, entries)?,
+        extension: Vec::new(alloc),
+        nested_type: Vec::new(alloc),
+        enum_type: Vec::new(alloc),
+        extension_range: Vec::new(alloc),
+        oneof_decl: Vec::new(alloc),
+        options: Some(entry_options(alloc)?),
+        reserved_range: Vec::new(alloc),
+        reserved_name: Vec::new(alloc),
+    })
 }
 
-fn entry_part(
+/// The key and the value.
+fn entry_fields(alloc: Global, entries: &Map) -> Result<Vec<FieldDescriptorProto>, AllocError>
+    ensures { IfOk result (λ parts. map field_view parts.items ≡ messages.entry_fields entries.now) }
+{
+    let mut fields = Vec::with_capacity(alloc, 2)?;
+    fields.push(entry_field(alloc, "key", 1, &entries.key)?)?;
+    fields.push(entry_field(alloc, "value", 2, &entries.value)?)?;
+    Ok(fields)
+}
+
+/// The option `map_entry`, as itself and in its encoded form.
+fn entry_options(alloc: Global) -> Result<Options, AllocError>
+    ensures { IfOk result (λ options. options_view options ≡ messages.entry_options) }
+{
+    Ok(Options {
+        encoded: Vec::from_slice(alloc, &[0x38, 0x01])?,
+        packed: None,
+        allow_alias: None,
+        map_entry: Some(true),
+        uninterpreted_option: Vec::new(alloc),
+    })
+}
+
+fn entry_field(
     alloc: Global,
     name: &str,
     number: i32,
     ty: &Ty,
-) -> Result<FieldDescriptorProto, AllocError> {
-    let mut record = FieldDescriptorProto::new();
-    record.name = Some(String::from_str(alloc, name)?);
-    record.number = Some(number);
-    record.label = Some(Label::Optional.number());
-    record.field_type = scalar_number(ty);
-    record.type_name = ty.ty_name(alloc)?;
-    Ok(record)
+) -> Result<FieldDescriptorProto, AllocError>
+    ensures { IfOk result (λ made. field_view made ≡ messages.entry_field name.now number ty.now) }
+{
+    Ok(FieldDescriptorProto {
+        name: Some(String::from_str(alloc, name)?),
+        number: Some(number),
+        label: Some(Label::Optional.number()),
+        field_type: scalar_number(ty),
+        type_name: ty.ty_name(alloc)?,
+        extendee: None,
+        default_value: None,
+        oneof_index: None,
+        json_name: None,
+        options: None,
+        proto3_optional: None,
+    })
 }

@@ -1,10 +1,11 @@
 //! The records of files.
 
-ghost use Rattle.std.specs.Prelude.{◌≡◌, IfOk, None, map, option_map, string_bytes};
+ghost use Rattle.std.specs.Prelude.{◌≡◌, IfOk, OnOk, None, map, option_map, string_bytes};
 ghost use Rattle.std.specs.List.{flat_map, fold};
 ghost use Rattle.descriptor_records.specs.Content as content;
 ghost use Rattle.protox_declaration_records.specs.OptionRecords.{options_of};
 ghost use Rattle.protox_record.specs.FileRecords as files;
+ghost use Rattle.protox_record.specs.MessageRecords.{Adds, AreTypes};
 ghost use Rattle.protox_tree.specs.FileTree.{syntax_of};
 ghost use Rattle.protox_tree.specs.FileView as tree;
 
@@ -25,7 +26,7 @@ pub fn file_record(
     name: &str,
     file: &File,
 ) -> Result<FileDescriptorProto, AllocError>
-    ensures { IfOk result (λ r. content.file_view r ≡ files.file_with name.now file.now (map content.message_view r.message_type.items)) }
+    ensures { IfOk result (λ made. files.IsFile name.now file.now (content.file_view made)) }
 {
     let items = &file.items;
     Ok(FileDescriptorProto {
@@ -72,16 +73,33 @@ fn messages(
     alloc: Global,
     syntax: Syntax,
     items: &Vec<FileItem>,
-) -> Result<Vec<DescriptorProto>, AllocError> {
+) -> Result<Vec<DescriptorProto>, AllocError>
+    ensures { IfOk result (λ types. AreTypes syntax (flat_map files.types_at items.now.items) (content.messages_of (map content.message_view types.items))) }
+{
     let mut types = Vec::new(alloc);
-    for item in items {
-        match item {
-            FileItem::Message(message) => types.push(message_record(alloc, syntax, message)?)?,
-            FileItem::Extend(extend) => types_of_extend(alloc, syntax, extend, &mut types)?,
-            _ => {}
-        }
+    'each: for item in items {
+        add_types(alloc, syntax, item, &mut types)?;
     }
     Ok(types)
+}
+
+/// Adds the types that an item declares.
+fn add_types(
+    alloc: Global,
+    syntax: Syntax,
+    item: &FileItem,
+    types: &mut Vec<DescriptorProto>,
+) -> Result<(), AllocError>
+    ensures { OnOk result (Adds syntax (files.types_at item.now) (map content.message_view types.old.items) (map content.message_view types.new.items)) }
+{
+    match item {
+        FileItem::Message(message) => {
+            types.push(message_record(alloc, syntax, message)?)?;
+            Ok(())
+        }
+        FileItem::Extend(extend) => types_of_extend(alloc, syntax, extend, types),
+        _ => Ok(()),
+    }
 }
 
 fn enums(alloc: Global, items: &Vec<FileItem>) -> Result<Vec<EnumDescriptorProto>, AllocError>
@@ -97,10 +115,7 @@ fn enums(alloc: Global, items: &Vec<FileItem>) -> Result<Vec<EnumDescriptorProto
     Ok(enums)
 }
 
-fn services(
-    alloc: Global,
-    items: &Vec<FileItem>,
-) -> Result<Vec<ServiceDescriptorProto>, AllocError>
+fn services(alloc: Global, items: &Vec<FileItem>) -> Result<Vec<ServiceDescriptorProto>, AllocError>
     ensures { IfOk result (λ services. map content.service_view services.items ≡ flat_map files.service_at items.now.items) }
 {
     let mut services = Vec::new(alloc);

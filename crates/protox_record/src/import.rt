@@ -1,6 +1,6 @@
 //! The records of imports.
 
-ghost use Rattle.std.specs.Prelude.{◌≡◌, IfOk};
+ghost use Rattle.std.specs.Prelude.{◌≡◌, ◌++◌, IfOk, OnOk};
 ghost use Rattle.std.specs.List.{flat_map};
 ghost use Rattle.descriptor_records.specs.Content.{texts_view};
 ghost use Rattle.protox_record.specs.FileRecords as files;
@@ -38,12 +38,26 @@ pub fn places(
         let FileItem::Import(import) = item else {
             continue;
         };
-        if is_of_kind(kind, import) {
-            places.push(index(place))?;
-        }
+        add_place(kind, import, place, &mut places)?;
         place += 1;
     }
     Ok(places)
+}
+
+/// Adds the place of an import that is of this kind.
+fn add_place(
+    kind: ImportKind,
+    import: &Import,
+    place: usize,
+    places: &mut Vec<i32>,
+) -> Result<(), AllocError>
+    ensures { OnOk result (places.new.items ≡ places.old.items ++ files.place_at kind place import.now) }
+{
+    if !is_of_kind(kind, import) {
+        return Ok(());
+    }
+    places.push(index(place))?;
+    Ok(())
 }
 
 /// The word behind `import` is that of this kind.

@@ -15,9 +15,7 @@ use descriptor_records::{
 use protox_declaration_records::{
     add_reserved_names, declared, enum_record, i32_of, last, list_options, option_record,
 };
-use protox_tree::{
-    Extensions, MessageItem, Oneof, OneofItem, ReservedItems, ReservedRange,
-};
+use protox_tree::{Extensions, MessageItem, Oneof, OneofItem, ReservedItems, ReservedRange};
 use std::alloc::{AllocError, Global};
 
 /// The greatest field number, for which `max` stands.
@@ -74,7 +72,7 @@ pub fn oneofs(
 }
 
 fn oneof_record(alloc: Global, oneof: &Oneof) -> Result<OneofDescriptorProto, AllocError>
-    ensures { IfOk result (λ record. content.oneof_view record ≡ messages.oneof_of oneof.now) }
+    ensures { IfOk result (λ made. content.oneof_view made ≡ messages.oneof_of oneof.now) }
 {
     Ok(OneofDescriptorProto {
         name: Some(oneof.name.value.clone()?),

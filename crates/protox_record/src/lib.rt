@@ -4,6 +4,8 @@
 mod field;
 mod file;
 mod import;
+mod item;
+mod member;
 mod message;
 mod synthetic;
 

@@ -84,7 +84,7 @@ fn own_field(
     place: i32,
     field: &Field,
 ) -> Result<FieldDescriptorProto, AllocError>
-    ensures { IfOk result (λ record. field_view record ≡ messages.own_field syntax place field.now) }
+    ensures { IfOk result (λ made. field_view made ≡ messages.own_field syntax place field.now) }
 {
     if tells_presence(syntax, field.label) {
         field_in(alloc, syntax, Some(place), field)
@@ -118,7 +118,7 @@ fn field_in(
     oneof: Option<i32>,
     field: &Field,
 ) -> Result<FieldDescriptorProto, AllocError>
-    ensures { IfOk result (λ record. field_view record ≡ messages.field_in syntax oneof field.now) }
+    ensures { IfOk result (λ made. field_view made ≡ messages.field_in syntax oneof field.now) }
 {
     let mut record = field_record(alloc, field)?;
     record.oneof_index = oneof;

@@ -27,10 +27,11 @@ pub fn synthetic_oneofs(
         let MessageItem::Field(field) = item else {
             continue;
         };
-        if tells_presence(syntax, field.label) {
-            let name = field_name(alloc, field.name.value.as_str(), is_group(&field.kind))?;
-            oneofs.push(synthetic_oneof(alloc, name.as_str(), &taken)?)?;
+        if !tells_presence(syntax, field.label) {
+            continue;
         }
+        let name = field_name(alloc, field.name.value.as_str(), is_group(&field.kind))?;
+        oneofs.push(synthetic_oneof(alloc, name.as_str(), &taken)?)?;
     }
     Ok(oneofs)
 }
