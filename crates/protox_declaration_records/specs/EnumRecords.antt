@@ -18,7 +18,11 @@ use Rattle.protox_tree.specs.declared.range.ReservedItems.TheVariants as reserve
 use Rattle.protox_tree.specs.declared.range.ReservedRange.{ReservedRange}
 
 abbrev pub value_of : EnumValue → EnumValueContent
-value_of v = record { name = Some (string_bytes v.name.value); number = i32_of v.number; options = list_options_of v.options }
+value_of v = record {
+  name = Some (string_bytes v.name.value);
+  number = i32_of v.number;
+  options = list_options_of v.options;
+}
 
 -- Numbers that no value takes, from the first to the last. `max` stands for the greatest of an `int32`.
 abbrev pub enum_range_of : ReservedRange → EnumReservedRange

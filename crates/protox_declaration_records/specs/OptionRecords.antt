@@ -53,7 +53,13 @@ option_of b = with_value b.value (without_value b.name.items)
 -- The options of a declaration: none, where it was written with none.
 abbrev pub options_of : List OptionContent → Option OptionsContent
 options_of [] = None
-options_of (o ∷ os) = Some (record { encoded = []; packed = None; allow_alias = None; map_entry = None; uninterpreted_option = o ∷ os })
+options_of (o ∷ os) = Some (record {
+  encoded = [];
+  packed = None;
+  allow_alias = None;
+  map_entry = None;
+  uninterpreted_option = o ∷ os;
+})
 
 -- those in brackets, if there are brackets
 abbrev pub listed : Option OptionList → List OptionBody

@@ -1,7 +1,7 @@
 -- The records of fields and of extensions.
 --
 -- Source: "Specifying Field Types", "Maps" and "Extensions" of the language guides on protobuf.dev.
-use Rattle.std.specs.Prelude.{◌≡◌, ◌++◌, ◌||◌, ℕ, ℤ, pos, Bool, true, false, if◌then◌else◌, ◌==◌, List, [], ◌∷◌, map, Option, Some, None, codes, string_bytes, encode_utf8_all}
+use Rattle.std.specs.Prelude.{◌++◌, ◌||◌, ℕ, ℤ, Bool, true, false, if◌then◌else◌, ◌==◌, List, [], ◌∷◌, Option, Some, None, codes, string_bytes, encode_utf8_all}
 use Rattle.std.specs.Char.{to_ascii_uppercase}
 use Rattle.std.specs.Fmt.{decimal}
 use Rattle.std.specs.List.{flat_map, fold}
@@ -32,7 +32,6 @@ use Rattle.protox_tree.specs.declared.message.ExtendItem.TheOpen.{ExtendItem-F}
 use Rattle.protox_tree.specs.declared.message.ExtendItem.TheViews.{out-ExtendItem}
 use Rattle.protox_tree.specs.declared.message.Field.{Field}
 use Rattle.protox_tree.specs.declared.option.OptionBody.{OptionBody}
-use Rattle.protox_tree.specs.declared.option.OptionList.{OptionList}
 use Rattle.protox_tree.specs.declared.option.OptionValue.{OptionValue}
 use Rattle.protox_tree.specs.declared.option.OptionValue.TheVariants as values
 use Rattle.protox_tree.specs.declared.text.Strings.{Strings}
@@ -47,8 +46,8 @@ is_group (map_kind m) = false
 abbrev pub letter : Bool → ℕ → ℕ
 letter raise b = if raise then to_ascii_uppercase b else b
 
--- A name in camel case: each letter behind an underscore is raised, the first one too where `raise` says so, and
--- underscores fall away.
+-- A name in camel case: each letter behind an underscore is raised, the first one too where `raise` says so,
+-- and underscores fall away.
 abbrev pub camel : Bool → Text → Text
 camel raise [] = []
 camel raise (b ∷ bs) = if b == 95 then camel true bs else letter raise b ∷ camel false bs
@@ -113,7 +112,8 @@ default_text k (values.Aggregate a) = string_bytes a.text
 
 -- the default after an option, where this one stood before it: the last one counts
 abbrev pub default_after : Kind → Option Text → OptionBody → Option Text
-default_after k before b = if is_named (codes "default") b then Some (default_text k b.value) else before
+default_after k before b =
+    if is_named (codes "default") b then Some (default_text k b.value) else before
 
 abbrev pub default_of : Kind → List OptionBody → Option Text
 default_of k bs = fold (default_after k) None bs
@@ -131,7 +131,8 @@ json_name_of bs = fold json_after None bs
 
 -- all other options
 abbrev pub other_at : OptionBody → List OptionContent
-other_at b = if is_named (codes "default") b || is_named (codes "json_name") b then [] else option_of b ∷ []
+other_at b =
+    if is_named (codes "default") b || is_named (codes "json_name") b then [] else option_of b ∷ []
 
 -- ---- fields
 

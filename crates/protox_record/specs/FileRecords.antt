@@ -1,8 +1,8 @@
 -- The records of files.
 --
--- Source: "Importing Definitions" and "Packages" of the language guides on protobuf.dev, and `FileDescriptorProto`
--- of descriptor.proto.
-use Rattle.std.specs.Prelude.{◌≡◌, ◌+◌, ◌++◌, ℕ, ℤ, pos, Bool, true, false, if◌then◌else◌, List, [], ◌∷◌, length, map, Option, Some, None, codes, string_bytes}
+-- Source: "Importing Definitions" and "Packages" of the language guides on protobuf.dev, and
+-- `FileDescriptorProto` of descriptor.proto.
+use Rattle.std.specs.Prelude.{◌≡◌, ◌+◌, ◌++◌, ℕ, ℤ, Bool, true, false, if◌then◌else◌, List, [], ◌∷◌, map, Option, Some, None, codes}
 use Rattle.std.specs.List.{flat_map, fold}
 use Rattle.descriptor_records.specs.Content.{EnumContent, FieldContent, FileContent, MessageContent, messages_of, OptionContent, ServiceContent}
 use Rattle.protox_declaration_records.specs.EnumRecords.{enum_of}
@@ -114,4 +114,5 @@ types_at _ = []
 -- This is the record of a file under this name, which has no locations.
 pub record IsFile (name : Text) (f : File) (made : FileContent) : Type 0 where
   pub is : made ≡ file_with name f made.message_type
-  pub types_are : AreTypes (syntax_of (file_view f).syntax) (flat_map types_at f.items.items) (messages_of made.message_type)
+  pub types_are :
+      AreTypes (syntax_of (file_view f).syntax) (flat_map types_at f.items.items) (messages_of made.message_type)

@@ -1,7 +1,7 @@
 -- The records of messages.
 --
--- Source: "Defining A Message Type", "Nested Types", "Oneof", "Maps" and "Reserved Fields" of the language guides on
--- protobuf.dev, and "Implementing proto3 presence" there, for oneofs that no source wrote.
+-- Source: "Defining A Message Type", "Nested Types", "Oneof", "Maps" and "Reserved Fields" of the language
+-- guides on protobuf.dev, and "Field Presence" there, for oneofs that no source wrote.
 use Rattle.std.specs.Prelude.{◌≡◌, ◌+◌, ◌+ℤ◌, ◌++◌, ◌^◌, ℕ, ℤ, pos, Bool, true, false, if◌then◌else◌, List, [], ◌∷◌, length, map, Option, Some, None, codes, string_bytes, replicate}
 use Rattle.std.specs.List.{flat_map}
 use Rattle.std.specs.Option.{option_and_then}
@@ -53,7 +53,10 @@ tells_presence syntaxes.Proto3 (Some l) = is_optional l.0
 
 -- a field of a message, in this oneof if it is in one
 abbrev pub field_in : Syntax → Option ℤ → Field → FieldContent
-field_in s oneof f = record (field_of f) { oneof_index = oneof; proto3_optional = if tells_presence s f.label then Some true else None }
+field_in s oneof f = record (field_of f) {
+  oneof_index = oneof;
+  proto3_optional = if tells_presence s f.label then Some true else None;
+}
 
 -- A field that no oneof is written around: in a oneof of its own, at this place, where it tells of presence.
 abbrev pub own_field : Syntax → ℤ → Field → FieldContent
@@ -74,12 +77,15 @@ abbrev pub member_option_at : OneofItem → List OptionContent
 member_option_at i = member_option_in (out-OneofItem i)
 
 abbrev pub oneof_of : Oneof → OneofContent
-oneof_of o = record { name = Some (string_bytes o.name.value); options = options_of (flat_map member_option_at o.items.items) }
+oneof_of o = record {
+  name = Some (string_bytes o.name.value);
+  options = options_of (flat_map member_option_at o.items.items);
+}
 
 -- ---- what stands in a message, one by one
 
--- The fields of an item, where so many oneofs are written before it, and so many others stand before that of the next
--- field which has one of its own.
+-- The fields of an item, where so many oneofs are written before it, and so many of all stand before that of
+-- the next field which has one of its own.
 abbrev pub fields_in : Syntax → ℕ → ℕ → ItemLayer → List FieldContent
 fields_in s next behind (MessageItem-F.«MessageItem::Field» f) = own_field s (place_of behind) f ∷ []
 fields_in s next behind (MessageItem-F.Oneof o) = flat_map (member_at s (place_of next)) o.items.items
@@ -89,7 +95,9 @@ abbrev pub fields_at : Syntax → ℕ → ℕ → MessageItem → List FieldCont
 fields_at s next behind i = fields_in s next behind (out-MessageItem i)
 
 abbrev pub if_alone : Syntax → Field → List Text
-if_alone s f = if tells_presence s f.label then field_name_of (string_bytes f.name.value) (is_group (kind_view f.kind)) ∷ [] else []
+if_alone s f =
+    if tells_presence s f.label then field_name_of (string_bytes f.name.value) (is_group (kind_view f.kind)) ∷ []
+    else []
 
 -- the names of the fields that have a oneof of their own
 abbrev pub alone_in : Syntax → ItemLayer → List Text
@@ -162,13 +170,15 @@ extension_ranges_at i = extension_ranges_in (out-MessageItem i)
 -- the fields of all items, with these places
 abbrev pub fields_from : Syntax → ℕ → ℕ → List MessageItem → List FieldContent
 fields_from s next behind [] = []
-fields_from s next behind (i ∷ is) = fields_at s next behind i ++ fields_from s (next + length (oneof_at i)) (behind + length (alone_at s i)) is
+fields_from s next behind (i ∷ is) =
+    fields_at s next behind i ++ fields_from s (next + length (oneof_at i)) (behind + length (alone_at s i)) is
 
 -- ---- oneofs that no source wrote
 
 -- a oneof without options, named `_` and this name, with letters `X` before it
 abbrev pub IsNamedAfter : Text → OneofContent → Type 0
-IsNamedAfter name o = (count : ℕ) × (o ≡ record { name = Some (replicate count 88 ++ 95 ∷ name); options = None })
+IsNamedAfter name o =
+    (count : ℕ) × (o ≡ record { name = Some (replicate count 88 ++ 95 ∷ name); options = None })
 
 -- One oneof for each of these names, in order.
 abbrev pub AreNamedAfter : List Text → List OneofContent → Type 0
@@ -246,7 +256,13 @@ entry_fields m = entry_field (codes "key") (pos 1) m.key ∷ (entry_field (codes
 
 -- the option `map_entry = true`, as itself and in its encoded form
 abbrev pub entry_options : OptionsContent
-entry_options = record { encoded = 56 ∷ 1 ∷ []; packed = None; allow_alias = None; map_entry = Some true; uninterpreted_option = [] }
+entry_options = record {
+  encoded = 56 ∷ 1 ∷ [];
+  packed = None;
+  allow_alias = None;
+  map_entry = Some true;
+  uninterpreted_option = [];
+}
 
 -- the type of the entries of a map of this name: a key and a value
 abbrev pub entry_of : Text → Map → MessageContent
@@ -254,14 +270,17 @@ entry_of name m =
     message (Some (entry_name_of name)) (entry_fields m) [] no_messages [] [] [] (Some entry_options) [] []
 
 -- What a message of these items has beside the types in it: of each kind all that stands there, in order.
-pub record IsOwn (s : Syntax) (name : Text) (items : List MessageItem) (given : Option Text) (fields extensions : List FieldContent) (enums : List EnumContent)
-    (ranges : List ExtensionRangeContent) (oneofs : List OneofContent) (options : Option OptionsContent) (reserved : List ReservedRange) (names : List Text) : Type 0 where
+pub record IsOwn (s : Syntax) (name : Text) (items : List MessageItem)
+    (given : Option Text) (fields extensions : List FieldContent) (enums : List EnumContent)
+    (ranges : List ExtensionRangeContent) (oneofs : List OneofContent) (options : Option OptionsContent)
+    (reserved : List ReservedRange) (names : List Text) : Type 0 where
   pub named : given ≡ Some name
   pub fields_are : fields ≡ fields_from s 0 (length (flat_map oneof_at items)) items
   pub extensions_are : extensions ≡ flat_map extensions_at items
   pub enums_are : enums ≡ flat_map enum_at items
   pub ranges_are : ranges ≡ flat_map extension_ranges_at items
-  pub oneofs_are : (more : List OneofContent) × (oneofs ≡ flat_map oneof_at items ++ more) × AreNamedAfter (flat_map (alone_at s) items) more
+  pub oneofs_are :
+      (more : List OneofContent) × (oneofs ≡ flat_map oneof_at items ++ more) × AreNamedAfter (flat_map (alone_at s) items) more
   pub options_are : options ≡ options_of (flat_map option_at items)
   pub reserved_are : reserved ≡ flat_map reserved_ranges_at items
   pub names_are : names ≡ flat_map reserved_names_at items
@@ -275,7 +294,8 @@ abbrev mutual
   -- This is the record of a type that is declared in a file of this syntax.
   pub IsType : Syntax → Declared → MessageContent → Type 0
   IsType s (of_items name items) (message given fields extensions nested enums ranges oneofs options reserved names) =
-      IsOwn s name items given fields extensions enums ranges oneofs options reserved names × AreTypes s (flat_map types_at items) nested
+      IsOwn s name items given fields extensions enums ranges oneofs options reserved names
+      × AreTypes s (flat_map types_at items) nested
   IsType s (of_map name m) (message given fields extensions nested enums ranges oneofs options reserved names) =
       message given fields extensions nested enums ranges oneofs options reserved names ≡ entry_of name m
 
@@ -288,4 +308,5 @@ abbrev mutual
 
 -- what was the record of some types is now that of these types and of more
 abbrev pub Adds : Syntax → List Declared → List MessageContent → List MessageContent → Type 0
-Adds s more old new = (before : List Declared) → AreTypes s before (messages_of old) → AreTypes s (before ++ more) (messages_of new)
+Adds s more old new =
+    (before : List Declared) → AreTypes s before (messages_of old) → AreTypes s (before ++ more) (messages_of new)

@@ -1,4 +1,4 @@
-use Rattle.std.proofs.Common.{◌≡◌, ◌∙◌, ◌+◌, ◌-◌, ◌^◌, ◌++◌, length, min, take, ap, sym, arith, zero-add}
+use Rattle.std.proofs.Common.{◌∙◌, ◌+◌, ◌++◌, length, take, ap, sym, arith, zero-add}
 use Rattle.std.proofs.lemmas.List.{length-append}
 use Rattle.std.specs.List.{flat_map}
 use Rattle.protox_record.proofs.Loops.{next, one_more}

@@ -31,15 +31,17 @@ returns c =
     let oneofs : map oneof_view c.append.new.self.items ≡ flat_map oneof_at items ++ map oneof_view more.items =
     ap (map oneof_view) (c.in_ok-append.ensures.items ∙ ap (λ (o : DescriptorProto-F DescriptorProto). o.oneof_decl.items ++ more.items) (unrolled x))
     ∙ map-append oneof_view own.items more.items ∙ ap (λ ys. ys ++ map oneof_view more.items) c.in_ok-oneof_decl.ensures in
-    subst (IsMessage s c.args.name.now items (messages_of (map message_view c.args.nested_type.items))) (sym (with_oneofs_view x c.append.new.self))
-    (record {
-      named = search rules;
-      fields_are = c.in_ok-fields.ensures ∙ ap (λ n. fields_from s 0 n items) places;
-      extensions_are = c.in_ok-own_extensions.ensures;
-      enums_are = c.in_ok-enums.ensures;
-      ranges_are = c.in_ok-extension_ranges.ensures;
-      oneofs_are = (map oneof_view more.items, oneofs, c.in_ok-more.ensures);
-      options_are = c.in_ok-options.ensures;
-      reserved_are = c.in_ok-reserved_ranges.ensures;
-      names_are = c.in_ok-reserved_names.ensures;
-    }, refl)
+    subst (IsMessage s c.args.name.now items (messages_of (map message_view c.args.nested_type.items))) (sym (with_oneofs_view x c.append.new.self)) (
+      record {
+        named = search rules;
+        fields_are = c.in_ok-fields.ensures ∙ ap (λ n. fields_from s 0 n items) places;
+        extensions_are = c.in_ok-own_extensions.ensures;
+        enums_are = c.in_ok-enums.ensures;
+        ranges_are = c.in_ok-extension_ranges.ensures;
+        oneofs_are = (map oneof_view more.items, oneofs, c.in_ok-more.ensures);
+        options_are = c.in_ok-options.ensures;
+        reserved_are = c.in_ok-reserved_ranges.ensures;
+        names_are = c.in_ok-reserved_names.ensures;
+      },
+      refl,
+    )
