@@ -1,15 +1,19 @@
 -- What a source is answered with.
+use Rattle.descriptor_records.specs.Content as records
 use Rattle.descriptor_records.specs.declared.file.FileDescriptorProto.{FileDescriptorProto}
 use Rattle.protox_check.specs.TreeFaults.{of_no_tree}
 use Rattle.protox_file.specs.Sources.{Spells, RefusedBy}
 use Rattle.protox_lex.specs.Class.{Text}
 use Rattle.protox_parse.specs.declared.error.ParseError.{ParseError}
 use Rattle.protox_parse.specs.declared.error.ParseError.TheVariants.{Memory, Refused}
+use Rattle.protox_record.specs.FileRecords.{IsFile}
 use Rattle.protox_tokens.specs.Refusal.{Fault}
 use Rattle.protox_tokens.specs.Told.{IsToldAs}
 use Rattle.protox_tree.specs.FileTree.{File}
+use Rattle.protox_tree.specs.FileView.{file_view}
+use Rattle.protox_tree.specs.declared.file.File as trees
 use Rattle.protox_tree.specs.declared.error.ParseErrorKind.{ParseErrorKind}
-use Rattle.std.specs.Prelude.{◌≡◌, ◌⊎◌, ◌∷◌, [], List, Result, Ok, Err}
+use Rattle.std.specs.Prelude.{◌≡◌, ◌⊎◌, ◌∷◌, [], List, None, Result, Ok, Err}
 
 -- this fault, alone
 abbrev pub Tells : Fault → List ParseErrorKind → Type 0
@@ -21,8 +25,12 @@ AreAtFault z faults =
     ((fault : Fault) × RefusedBy z fault × Tells fault faults)
     ⊎ ((tree : File) × Spells z tree × (of_no_tree faults ≡ []))
 
--- A record is that of a text that spells a tree.
-abbrev pub IsAnswered : Text → Result FileDescriptorProto ParseError → Type 0
-IsAnswered z (Ok file) = (tree : File) × Spells z tree
-IsAnswered z (Err Memory) = Unit {0}
-IsAnswered z (Err (Refused r)) = AreAtFault z r.faults.items
+-- what a record has beside the places of its declarations
+abbrev pub without_places : records.FileContent → records.FileContent
+without_places f = record f { source_code_info = None }
+
+-- A record is that of a tree which the text spells, under this name. The texts of braces in it, which that does not tell, are any.
+abbrev pub IsAnswered : Text → Text → Result FileDescriptorProto ParseError → Type 0
+IsAnswered name z (Ok made) = (tree : trees.File) × Spells z (file_view tree) × IsFile name tree (without_places (records.file_view made))
+IsAnswered name z (Err Memory) = Unit {0}
+IsAnswered name z (Err (Refused r)) = AreAtFault z r.faults.items

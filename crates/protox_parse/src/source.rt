@@ -1,11 +1,13 @@
 //! From a source to its record.
 
 ghost use Rattle.std.specs.Prelude.{◌≡◌, ◌⊎◌, ◌≤◌, ◌<◌, ◌^◌, ◌∷◌, [], Some, IfOk, IfErr, IsErrAnd, length, option_map, string_bytes};
+ghost use Rattle.descriptor_records.specs.Content.{file_view};
 ghost use Rattle.protox_check.specs.TreeFaults.{of_no_tree};
 ghost use Rattle.protox_lex.specs.Lines.{feeds_of};
 ghost use Rattle.protox_lex.specs.Resolver.{feeds};
-ghost use Rattle.protox_parse.specs.Answers.{IsAnswered};
+ghost use Rattle.protox_parse.specs.Answers.{IsAnswered, without_places};
 ghost use Rattle.protox_parse.specs.Refusals.{IsRefusalOf, faults_of};
+ghost use Rattle.protox_record.specs.FileRecords.{IsFile};
 ghost use Rattle.protox_tree.specs.declared.error.ParseErrorKind.TheVariants.{FileTooLarge};
 ghost use Rattle.protox_parse.specs.declared.error.ParseError.TheVariants.{Memory};
 
@@ -30,7 +32,7 @@ pub fn parse(alloc: Global, name: &str, source: &str) -> Result<FileDescriptorPr
     ensures named { IfOk result (λ file. option_map string_bytes file.name ≡ Some name.now) }
     ensures refused { IfErr result (λ e. (e ≡ Memory) ⊎ IsRefusalOf name.now source.now e) }
     ensures too_large { 2 ^ 31 ≤ length source.now → IsErrAnd result (λ e. (e ≡ Memory) ⊎ (faults_of e ≡ FileTooLarge ∷ [])) }
-    ensures answered { length source.now < 2 ^ 31 → IsAnswered source.now result }
+    ensures answered { length source.now < 2 ^ 31 → IsAnswered name.now source.now result }
 {
     if source.len() > i32::MAX as usize {
         let faults = one(alloc, ParseErrorKind::FileTooLarge)?;
@@ -48,7 +50,7 @@ pub fn parse(alloc: Global, name: &str, source: &str) -> Result<FileDescriptorPr
     }
 }
 
-/// The record of a tree, with the places that it has in this source, or the refusal of a tree that has faults.
+/// The record of a tree, under this name, with the places that it has in this source, or the refusal of a tree that has faults.
 fn described(
     alloc: Global,
     name: &str,
@@ -59,6 +61,7 @@ fn described(
     requires { feeds lines.now ≡ feeds_of source.now }
     ensures named { IfOk result (λ file. option_map string_bytes file.name ≡ Some name.now) }
     ensures refused { IfErr result (λ e. (e ≡ Memory) ⊎ IsRefusalOf name.now source.now e) }
+    ensures recorded { IfOk result (λ made. IsFile name.now file.now (without_places (file_view made))) }
     ensures of_trees { IfErr result (λ e. of_no_tree (faults_of e) ≡ []) }
 {
     let faults = check_file(alloc, file)?;

@@ -1,31 +1,32 @@
-//! The records of messages.
+//! The records of messages, and of the types in them.
 
-use crate::declaration::{enum_record, last};
-use crate::field::{entry_record, field_record};
-use crate::option::add_option;
-use crate::synthetic::add_synthetic_oneofs;
-use crate::{index, text};
-use descriptor_records::{
-    DescriptorProto, ExtensionRange, FieldDescriptorProto, Label, OneofDescriptorProto, Options,
-    ReservedRange as ReservedRangeRecord,
+ghost use Rattle.std.specs.Prelude.{◌≡◌, IfOk, OnOk, map, string_bytes};
+ghost use Rattle.std.specs.List.{flat_map};
+ghost use Rattle.descriptor_records.specs.Content.{message_view, messages_of};
+ghost use Rattle.protox_record.specs.MessageRecords as messages;
+
+use crate::field::entry_record;
+use crate::item::{
+    enums, extension_ranges, oneofs, options, own_extensions, reserved_names, reserved_ranges,
 };
+use crate::member::fields;
+use crate::synthetic::synthetic_oneofs;
+use descriptor_records::DescriptorProto;
 use protox_tree::{
-    Extend, ExtendItem, Extensions, Field, FieldKind, Message, MessageItem, Oneof, OneofItem,
-    OptionList, Reserved, ReservedItems, ReservedRange, Syntax,
+    Extend, ExtendItem, Field, FieldKind, Message, MessageItem, Oneof, OneofItem, Syntax,
 };
 use std::alloc::{AllocError, Global};
 
-/// The greatest field number, for which `max` stands.
-const MAX_FIELD_NUMBER: i32 = 536870911;
-
+/// The record of a message.
 #[cycle(build)]
 pub fn message_record(
     alloc: Global,
     syntax: Syntax,
     message: &Message,
-) -> Result<DescriptorProto, AllocError> {
-    let name = message.name.value.as_str();
-    type_record(alloc, syntax, name, &message.items)
+) -> Result<DescriptorProto, AllocError>
+    ensures { IfOk result (λ made. messages.IsType syntax (messages.type_of_message message.now) (message_view made)) }
+{
+    type_record(alloc, syntax, message.name.value.as_str(), &message.items)
 }
 
 /// A message or the type of a group.
@@ -35,65 +36,77 @@ fn type_record(
     syntax: Syntax,
     name: &str,
     items: &Vec<MessageItem>,
-) -> Result<DescriptorProto, AllocError> {
-    let mut record = DescriptorProto::new(alloc);
-    record.name = Some(String::from_str(alloc, name)?);
-    for item in items {
-        add_item(alloc, syntax, item, &mut record)?;
-    }
-    add_synthetic_oneofs(alloc, &mut record)?;
+) -> Result<DescriptorProto, AllocError>
+    ensures { IfOk result (λ made. messages.IsType syntax (messages.of_items name.now items.now.items) (message_view made)) }
+{
+    let nested_type = nested_types(alloc, syntax, items)?;
+    message_of(alloc, syntax, name, items, nested_type)
+}
+
+/// The record of a message in which these types are.
+fn message_of(
+    alloc: Global,
+    syntax: Syntax,
+    name: &str,
+    items: &Vec<MessageItem>,
+    nested_type: Vec<DescriptorProto>,
+) -> Result<DescriptorProto, AllocError>
+    ensures { IfOk result (λ made. messages.IsMessage syntax name.now items.now.items (messages_of (map message_view nested_type.items)) (message_view made)) }
+{
+    let oneof_decl = oneofs(alloc, items)?;
+    let mut record = DescriptorProto {
+        name: Some(String::from_str(alloc, name)?),
+        field: fields(alloc, syntax, oneof_decl.len(), items)?,
+        extension: own_extensions(alloc, items)?,
+        nested_type,
+        enum_type: enums(alloc, items)?,
+        extension_range: extension_ranges(alloc, items)?,
+        oneof_decl,
+        options: options(alloc, items)?,
+        reserved_range: reserved_ranges(alloc, items)?,
+        reserved_name: reserved_names(alloc, items)?,
+    };
+    let mut more = synthetic_oneofs(alloc, syntax, items, &record)?;
+    record.oneof_decl.append(&mut more)?;
     Ok(record)
 }
 
+/// The types that are declared in a message.
 #[cycle(build)]
-fn add_item(
+fn nested_types(
+    alloc: Global,
+    syntax: Syntax,
+    items: &Vec<MessageItem>,
+) -> Result<Vec<DescriptorProto>, AllocError>
+    ensures { IfOk result (λ types. messages.AreTypes syntax (flat_map messages.types_at items.now.items) (messages_of (map message_view types.items))) }
+{
+    let mut types = Vec::new(alloc);
+    'each: for item in items {
+        add_types(alloc, syntax, item, &mut types)?;
+    }
+    Ok(types)
+}
+
+/// Adds the types that an item declares.
+#[cycle(build)]
+fn add_types(
     alloc: Global,
     syntax: Syntax,
     item: &MessageItem,
-    record: &mut DescriptorProto,
-) -> Result<(), AllocError> {
+    types: &mut Vec<DescriptorProto>,
+) -> Result<(), AllocError>
+    ensures { OnOk result (messages.Adds syntax (messages.types_at item.now) (map message_view types.old.items) (map message_view types.new.items)) }
+{
     match item {
-        MessageItem::Field(field) => add_field(alloc, syntax, field, None, record),
-        MessageItem::Oneof(oneof) => add_oneof(alloc, syntax, oneof, record),
+        MessageItem::Field(field) => add_type(alloc, syntax, field, types),
+        MessageItem::Oneof(oneof) => types_of_oneof(alloc, syntax, oneof, types),
         MessageItem::Message(message) => {
-            let message = message_record(alloc, syntax, message)?;
-            Ok(record.nested_type.push(message)?)
+            types.push(message_record(alloc, syntax, message)?)?;
+            Ok(())
         }
-        MessageItem::Enum(enumeration) => {
-            Ok(record.enum_type.push(enum_record(alloc, enumeration)?)?)
-        }
-        MessageItem::Extend(extend) => extensions(
-            alloc,
-            syntax,
-            extend,
-            &mut record.extension,
-            &mut record.nested_type,
-        ),
-        MessageItem::Extensions(extensions) => add_ranges(alloc, extensions, record),
-        MessageItem::Reserved(reserved) => add_reserved(alloc, reserved, record),
-        MessageItem::Option(option) => add_option(alloc, &option.body, &mut record.options),
-        MessageItem::Empty(_) => Ok(()),
+        MessageItem::Extend(extend) => types_of_extend(alloc, syntax, extend, types),
+        _ => Ok(()),
     }
-}
-
-/// Adds a field of a message, and the type that it declares.
-#[cycle(build)]
-fn add_field(
-    alloc: Global,
-    syntax: Syntax,
-    field: &Field,
-    oneof: Option<i32>,
-    record: &mut DescriptorProto,
-) -> Result<(), AllocError> {
-    let mut described = field_record(alloc, field)?;
-    described.oneof_index = oneof;
-    if syntax == Syntax::Proto3 {
-        if let Some((Label::Optional, _)) = field.label {
-            described.proto3_optional = Some(true);
-        }
-    }
-    record.field.push(described)?;
-    add_type(alloc, syntax, field, &mut record.nested_type)
 }
 
 /// Adds the type of a group, or of a map's entries.
@@ -103,118 +116,56 @@ fn add_type(
     syntax: Syntax,
     field: &Field,
     types: &mut Vec<DescriptorProto>,
-) -> Result<(), AllocError> {
+) -> Result<(), AllocError>
+    ensures { OnOk result (messages.Adds syntax (messages.types_of_field field.now) (map message_view types.old.items) (map message_view types.new.items)) }
+{
+    let name = field.name.value.as_str();
     match &field.kind {
         FieldKind::Normal(_) => Ok(()),
         FieldKind::Group(group) => {
-            let name = field.name.value.as_str();
-            let group = type_record(alloc, syntax, name, &group.items)?;
-            Ok(types.push(group)?)
+            types.push(type_record(alloc, syntax, name, &group.items)?)?;
+            Ok(())
         }
-        FieldKind::Map(map) => Ok(types.push(entry_record(alloc, field, map)?)?),
+        FieldKind::Map(map) => {
+            types.push(entry_record(alloc, name, map)?)?;
+            Ok(())
+        }
     }
 }
 
 #[cycle(build)]
-fn add_oneof(
+fn types_of_oneof(
     alloc: Global,
     syntax: Syntax,
     oneof: &Oneof,
-    record: &mut DescriptorProto,
-) -> Result<(), AllocError> {
-    let place = index(record.oneof_decl.len());
-    record.oneof_decl.push(OneofDescriptorProto {
-        name: Some(oneof.name.value.clone()?),
-        options: oneof_options(alloc, oneof)?,
-    })?;
-    for item in &oneof.items {
-        if let OneofItem::Field(field) = item {
-            add_field(alloc, syntax, field, Some(place), record)?;
-        }
+    types: &mut Vec<DescriptorProto>,
+) -> Result<(), AllocError>
+    ensures { OnOk result (messages.Adds syntax (messages.types_of_oneof oneof.now) (map message_view types.old.items) (map message_view types.new.items)) }
+{
+    'each: for item in &oneof.items {
+        let OneofItem::Field(field) = item else {
+            continue;
+        };
+        add_type(alloc, syntax, field, types)?;
     }
     Ok(())
 }
 
-fn oneof_options(alloc: Global, oneof: &Oneof) -> Result<Option<Options>, AllocError> {
-    let mut options = None;
-    for item in &oneof.items {
-        if let OneofItem::Option(option) = item {
-            add_option(alloc, &option.body, &mut options)?;
-        }
-    }
-    Ok(options)
-}
-
-/// Adds the fields of an `extend` statement, and the types that they declare.
+/// Adds the types that the fields of an `extend` statement declare.
 #[cycle(build)]
-pub fn extensions(
+pub fn types_of_extend(
     alloc: Global,
     syntax: Syntax,
     extend: &Extend,
-    records: &mut Vec<FieldDescriptorProto>,
     types: &mut Vec<DescriptorProto>,
-) -> Result<(), AllocError> {
-    for item in &extend.items {
-        if let ExtendItem::Field(field) = item {
-            let mut record = field_record(alloc, field)?;
-            record.extendee = Some(extend.extendee.to_text(alloc)?);
-            records.push(record)?;
-            add_type(alloc, syntax, field, types)?;
-        }
-    }
-    Ok(())
-}
-
-/// The number behind the last one of a range.
-fn end(range: ReservedRange) -> Option<i32> {
-    last(range, MAX_FIELD_NUMBER)?.checked_add(1)
-}
-
-/// The ranges of one statement have the same options.
-fn add_ranges(
-    alloc: Global,
-    extensions: &Extensions,
-    record: &mut DescriptorProto,
-) -> Result<(), AllocError> {
-    for range in &extensions.ranges {
-        record.extension_range.push(ExtensionRange {
-            start: range.start.as_i32(),
-            end: end(*range),
-            options: list_options(alloc, &extensions.options)?,
-        })?;
-    }
-    Ok(())
-}
-
-fn list_options(alloc: Global, list: &Option<OptionList>) -> Result<Option<Options>, AllocError> {
-    let mut options = None;
-    if let Some(list) = list {
-        for body in &list.options {
-            add_option(alloc, body, &mut options)?;
-        }
-    }
-    Ok(options)
-}
-
-fn add_reserved(
-    alloc: Global,
-    reserved: &Reserved,
-    record: &mut DescriptorProto,
-) -> Result<(), AllocError> {
-    match &reserved.items {
-        ReservedItems::Ranges(ranges) => {
-            for range in ranges {
-                record.reserved_range.push(ReservedRangeRecord {
-                    start: range.start.as_i32(),
-                    end: end(*range),
-                })?;
-            }
-        }
-        ReservedItems::Names(names) => {
-            for name in names {
-                record.reserved_name.push(text(alloc, name)?)?;
-            }
-        }
+) -> Result<(), AllocError>
+    ensures { OnOk result (messages.Adds syntax (messages.types_of_extend extend.now) (map message_view types.old.items) (map message_view types.new.items)) }
+{
+    'each: for item in &extend.items {
+        let ExtendItem::Field(field) = item else {
+            continue;
+        };
+        add_type(alloc, syntax, field, types)?;
     }
     Ok(())
 }

@@ -1,50 +1,60 @@
 //! The oneofs of proto3 fields that are declared `optional`.
 
-use crate::index;
-use descriptor_records::{DescriptorProto, FieldDescriptorProto, OneofDescriptorProto};
+ghost use Rattle.std.specs.Prelude.{◌≡◌, ◌++◌, ◌∷◌, ℕ, IfOk, map, replicate, string_bytes};
+ghost use Rattle.std.specs.List.{flat_map};
+ghost use Rattle.descriptor_records.specs.Content.{oneof_view};
+ghost use Rattle.protox_record.specs.MessageRecords as messages;
+
+use crate::field::{field_name, is_group};
+use crate::member::tells_presence;
+use descriptor_records::{DescriptorProto, OneofDescriptorProto};
+use protox_tree::{MessageItem, Syntax};
 use std::alloc::{AllocError, Global};
 use std::collections::BTreeSet;
 
-/// Gives each `optional` field of a proto3 message a oneof of its own, behind the real ones.
-pub fn add_synthetic_oneofs(alloc: Global, record: &mut DescriptorProto) -> Result<(), AllocError> {
-    let names = oneof_names(alloc, record)?;
-    let mut count = record.oneof_decl.len();
-    for name in names {
-        record.oneof_decl.push(OneofDescriptorProto {
-            name: Some(name),
-            options: None,
-        })?;
-    }
-    for field in record.field.iter_mut() {
-        if is_alone(field) {
-            field.oneof_index = Some(index(count));
-            count = count.saturating_add(1);
-        }
-    }
-    Ok(())
-}
-
-fn is_alone(field: &FieldDescriptorProto) -> bool {
-    field.proto3_optional.is_some() && field.oneof_index.is_none()
-}
-
-fn oneof_names(alloc: Global, record: &DescriptorProto) -> Result<Vec<String>, AllocError> {
+/// A oneof for each `optional` field of a proto3 message, of which this is the record so far.
+pub fn synthetic_oneofs(
+    alloc: Global,
+    syntax: Syntax,
+    items: &Vec<MessageItem>,
+    record: &DescriptorProto,
+) -> Result<Vec<OneofDescriptorProto>, AllocError>
+    ensures { IfOk result (λ oneofs. messages.AreNamedAfter (flat_map (messages.alone_at syntax) items.now.items) (map oneof_view oneofs.items)) }
+{
     let taken = declared_names(alloc, record)?;
-    let mut names = Vec::new(alloc);
-    for field in &record.field {
-        if let Some(name) = &field.name {
-            if is_alone(field) {
-                names.push(oneof_name(alloc, name.as_str(), &taken)?)?;
-            }
+    let mut oneofs = Vec::new(alloc);
+    'each: for item in items {
+        let MessageItem::Field(field) = item else {
+            continue;
+        };
+        if !tells_presence(syntax, field.label) {
+            continue;
         }
+        let name = field_name(alloc, field.name.value.as_str(), is_group(&field.kind))?;
+        oneofs.push(synthetic_oneof(alloc, name.as_str(), &taken)?)?;
     }
-    Ok(names)
+    Ok(oneofs)
+}
+
+fn synthetic_oneof(
+    alloc: Global,
+    field: &str,
+    taken: &BTreeSet<&str>,
+) -> Result<OneofDescriptorProto, AllocError>
+    ensures { IfOk result (λ oneof. messages.IsNamedAfter field.now (oneof_view oneof)) }
+{
+    Ok(OneofDescriptorProto {
+        name: Some(oneof_name(alloc, field, taken)?),
+        options: None,
+    })
 }
 
 /// The name `_` and the field's name, with as many `X` in front as make it free.
-fn oneof_name(alloc: Global, field: &str, taken: &BTreeSet<&str>) -> Result<String, AllocError> {
+fn oneof_name(alloc: Global, field: &str, taken: &BTreeSet<&str>) -> Result<String, AllocError>
+    ensures { IfOk result (λ name. (count : ℕ) × (string_bytes name ≡ replicate count 88 ++ 95 ∷ field.now)) }
+{
     let mut name = format!(in alloc; "_{field}")?;
-    for _ in 0..taken.len() {
+    'letters: for _ in 0..taken.len() {
         if !taken.contains(name.as_str()) {
             break;
         }

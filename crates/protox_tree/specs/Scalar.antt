@@ -4,6 +4,7 @@ use Rattle.std.specs.Str.{bytes_eq}
 use Rattle.protox_lex.specs.Class.{Text}
 use Rattle.descriptor_records.specs.declared.field.FieldType.{FieldType}
 use Rattle.descriptor_records.specs.declared.field.FieldType.TheVariants as types
+use Rattle.protox_tree.specs.Tree.{Ty, scalar, named, type_text}
 
 abbrev pub scalar_of : Text → Option FieldType
 scalar_of t =
@@ -23,3 +24,13 @@ scalar_of t =
     else if bytes_eq t (codes "string") then Some types.String
     else if bytes_eq t (codes "bytes") then Some types.Bytes
     else None
+
+-- the type, where it has a word of its own
+abbrev pub scalar_type : Ty → Option FieldType
+scalar_type (scalar t span) = Some t
+scalar_type (named name) = None
+
+-- the name as it is written, where the type has none
+abbrev pub written_name : Ty → Option Text
+written_name (scalar t span) = None
+written_name (named name) = Some (type_text name)

@@ -1,6 +1,7 @@
 -- The tree of a source: what the values of `src/` say, without the memory that they take.
-use Rattle.std.specs.Prelude.{◌-◌, Bool, List, length, map, Option, Some, slice_get}
+use Rattle.std.specs.Prelude.{◌-◌, Bool, false, if◌then◌else◌, List, [], ◌∷◌, ◌++◌, length, map, Option, Some, is_some, slice_get}
 use Rattle.std.specs.List.{flat_map}
+use Rattle.std.specs.Str.{bytes_eq}
 use Rattle.protox_lex.specs.Class.{Text}
 use Rattle.protox_lex.specs.declared.span.Span.{Span}
 use Rattle.protox_lex.specs.declared.literal.Int.{Int}
@@ -27,9 +28,18 @@ spans_cover ss = span_between (slice_get ss 0) (slice_get ss (length ss - 1))
 abbrev pub words_span : List Word → Span
 words_span ws = spans_cover (map (λ w. w.span) ws)
 
+-- names with dots between them
+abbrev pub dotted : List Word → Text
+dotted [] = []
+dotted (w ∷ ws) = w.text ++ flat_map (λ w. 46 ∷ w.text) ws
+
 pub record TypeName : Type 0 where
   pub leading_dot : Option Span
   pub parts : List Word
+
+-- a name as it is written, without gaps
+abbrev pub type_text : TypeName → Text
+type_text t = if is_some t.leading_dot then 46 ∷ dotted t.parts else dotted t.parts
 
 pub data Ty : Type 0 where
   scalar : FieldType → Span → Ty
@@ -63,6 +73,16 @@ pub record OptionStatement : Type 0 where
 pub record OptionList : Type 0 where
   pub options : List Body
   pub span : Span
+
+-- an option's name is this one plain word
+abbrev pub is_plain : Text → NamePart → Bool
+is_plain name (plain w) = bytes_eq w.text name
+is_plain name (extension t span) = false
+
+abbrev pub has_name : Text → List NamePart → Bool
+has_name name [] = false
+has_name name (part ∷ []) = is_plain name part
+has_name name (part ∷ (next ∷ more)) = false
 
 -- ---- ranges
 

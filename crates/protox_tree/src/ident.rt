@@ -1,6 +1,6 @@
 //! Names.
 
-ghost use Rattle.std.specs.Prelude.{◌≡◌, ◌<◌, vec_len};
+ghost use Rattle.std.specs.Prelude.{◌≡◌, ◌<◌, IfOk, string_bytes, vec_len};
 
 use protox_lex::Span;
 use std::alloc::{AllocError, Global};
@@ -35,6 +35,7 @@ pub struct FullIdent {
 }
 
 impl FullIdent {
+    ghost use Rattle.protox_tree.specs.Tree.{dotted};
     ghost use Rattle.protox_tree.specs.View.{full_view, idents_view};
 
     /// Of one part. Refused only for want of memory.
@@ -66,13 +67,16 @@ impl FullIdent {
     }
 
     /// The parts with dots between them. Refused only for want of memory.
-    pub fn to_text(&self, alloc: Global) -> Result<String, AllocError> {
+    pub fn to_text(&self, alloc: Global) -> Result<String, AllocError>
+        ensures { IfOk result (λ text. string_bytes text ≡ dotted (full_view self.now)) }
+    {
         let mut text = String::new(alloc);
-        for (i, part) in self.parts.iter().enumerate() {
-            if i > 0 {
+        if let Some((first, others)) = self.parts.as_slice().split_first() {
+            text.push_str(first.value.as_str())?;
+            'others: for part in others {
                 text.push_str(".")?;
+                text.push_str(part.value.as_str())?;
             }
-            text.push_str(part.value.as_str())?;
         }
         Ok(text)
     }
@@ -98,6 +102,9 @@ pub struct TypeName {
 }
 
 impl TypeName {
+    ghost use Rattle.protox_tree.specs.Tree.{type_text};
+    ghost use Rattle.protox_tree.specs.View.{type_name_view};
+
     /// From the leading dot, if there is one, to the last part.
     pub fn span(&self) -> Span {
         let name = self.name.span();
@@ -111,8 +118,14 @@ impl TypeName {
     }
 
     /// The name as it is written, without gaps. Refused only for want of memory.
-    pub fn to_text(&self, alloc: Global) -> Result<String, AllocError> {
-        format!(in alloc; "{self}")
+    pub fn to_text(&self, alloc: Global) -> Result<String, AllocError>
+        ensures { IfOk result (λ text. string_bytes text ≡ type_text (type_name_view self.now)) }
+    {
+        let name = self.name.to_text(alloc)?;
+        match self.leading_dot {
+            Some(_) => format!(in alloc; ".{name}"),
+            None => Ok(name),
+        }
     }
 }
 

@@ -1,6 +1,6 @@
 //! Options.
 
-ghost use Rattle.std.specs.Prelude.{◌<◌, vec_len};
+ghost use Rattle.std.specs.Prelude.{◌≡◌, ◌<◌, vec_len};
 
 use crate::ident::{Ident, TypeName};
 use crate::text::Strings;
@@ -17,11 +17,24 @@ pub enum OptionNamePart {
 }
 
 impl OptionNamePart {
+    ghost use Rattle.protox_tree.specs.Tree as tree;
+    ghost use Rattle.protox_tree.specs.View.{name_part_view};
+
     /// With the parentheses, if there are any.
     pub fn span(&self) -> Span {
         match self {
             OptionNamePart::Ident(ident) => ident.span,
             OptionNamePart::Extension(_, span) => *span,
+        }
+    }
+
+    /// The part is this word, and no extension.
+    fn is_plain(&self, name: &str) -> bool
+        ensures { result ≡ tree.is_plain name.now (name_part_view self.now) }
+    {
+        match self {
+            OptionNamePart::Ident(ident) => ident.value.as_str() == name,
+            OptionNamePart::Extension(_, _) => false,
         }
     }
 }
@@ -123,10 +136,15 @@ pub struct OptionBody {
 }
 
 impl OptionBody {
+    ghost use Rattle.protox_tree.specs.Tree as tree;
+    ghost use Rattle.protox_tree.specs.View.{body_view};
+
     /// The name is this one plain part.
-    pub fn has_name(&self, name: &str) -> bool {
+    pub fn has_name(&self, name: &str) -> bool
+        ensures { result ≡ tree.has_name name.now (body_view self.now).name }
+    {
         match self.name.as_slice() {
-            [OptionNamePart::Ident(ident)] => ident.value.as_str() == name,
+            [part] => part.is_plain(name),
             _ => false,
         }
     }

@@ -1,8 +1,9 @@
 //! Types, and the two syntaxes.
 
-ghost use Rattle.std.specs.Prelude.{◌≡◌};
+ghost use Rattle.std.specs.Prelude.{◌≡◌, IfOk, option_map, string_bytes};
 ghost use Rattle.std.specs.Str.{bytes_eq};
-ghost use Rattle.protox_tree.specs.Scalar.{scalar_of};
+ghost use Rattle.protox_tree.specs.Scalar.{scalar_of, scalar_type, written_name};
+ghost use Rattle.protox_tree.specs.View.{ty_view};
 
 use crate::ident::TypeName;
 use descriptor_records::FieldType;
@@ -81,7 +82,9 @@ impl Ty {
     }
 
     /// The type, where it has a word of its own.
-    pub fn proto_ty(&self) -> Option<FieldType> {
+    pub fn proto_ty(&self) -> Option<FieldType>
+        ensures { result ≡ scalar_type (ty_view self.now) }
+    {
         match self {
             Ty::Scalar(scalar, _) => Some(*scalar),
             Ty::Named(_) => None,
@@ -89,7 +92,9 @@ impl Ty {
     }
 
     /// The name as it is written, where the type is named. Refused only for want of memory.
-    pub fn ty_name(&self, alloc: Global) -> Result<Option<String>, AllocError> {
+    pub fn ty_name(&self, alloc: Global) -> Result<Option<String>, AllocError>
+        ensures { IfOk result (λ name. option_map string_bytes name ≡ written_name (ty_view self.now)) }
+    {
         match self {
             Ty::Scalar(_, _) => Ok(None),
             Ty::Named(name) => Ok(Some(name.to_text(alloc)?)),

@@ -1,7 +1,6 @@
 use Rattle.protox_parse.proofs.Answered.{spelled}
-use Rattle.protox_tree.specs.FileView.{file_view}
 use Rattle.protox_parse.proofs.source.parse.Goals as goal
 
 pub returns-in-Ok-clause-answered : goal.returns-in-Ok-clause-answered
 returns-in-Ok-clause-answered c = λ h.
-    spelled c.args.source.now (file_view c.in-Ok.file) c.described.result c.in-Ok.ensures c.described.ensures.of_trees
+    spelled c.args.name.now c.args.source.now c.in-Ok.file c.described.result c.in-Ok.ensures c.described.ensures.of_trees c.described.ensures.recorded

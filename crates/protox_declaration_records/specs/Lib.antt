@@ -1,0 +1,5 @@
+pub mod EnumRecords
+pub mod Numbers
+pub mod OptionRecords
+pub mod ServiceRecords
+pub mod Texts
