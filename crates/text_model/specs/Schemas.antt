@@ -1,7 +1,11 @@
 -- What a text needs of message types: beside their fields the names of fields, of extensions and of enums' values.
-use Rattle.std.specs.Prelude.{◌≡◌, ℕ, ℤ, zero, suc, ◌==◌, cond, Bool, false, Option, None, Some, codes}
+use Rattle.std.specs.Prelude.{◌≡◌, ◌↔◌, ℕ, ℤ, zero, suc, ◌==◌, cond, Bool, false, List, [], ◌∷◌, Option, None, Some, codes}
+use Rattle.std.specs.List.{filter}
 use Rattle.std.specs.Str.{bytes_eq}
 use Rattle.protox_lex.specs.Class.{Text}
+use Rattle.protobuf_model.specs.Values.{Message}
+use Rattle.protobuf_model.specs.Coded.{Mean}
+use Rattle.protobuf_model.specs.Bytes.{is_declared}
 use Rattle.protobuf_model.specs.Types.{Name, Part, Key, one, scalar, Field, Types}
 
 -- how texts name what a message type has
@@ -11,17 +15,21 @@ pub record Names : Type 0 where
   pub extension : Text → Option ℕ
   -- the name that the field, or the full name that the extension of a number is printed under
   pub name : ℕ → Text
+  -- the numbers of the declared fields, as they are declared
+  pub declared : List ℕ
   -- of the enum of a field: the number of the value of a name, and the name that the value of a number is printed as
   pub enum_number : ℕ → Text → Option ℤ
   pub enum_name : ℕ → ℤ → Option Text
 
--- the types of messages, which full names are those of types, and which of them are google.protobuf.Any in the form that
--- expands: a string under 1, bytes under 2, each singular and in no oneof
 pub record Schema : Type 0 where
   pub types : Types
   pub names : Name → Names
-  pub is_message : Text → Bool
+  -- the type of a full name
+  pub message : Text → Option Name
+  -- the type is google.protobuf.Any, with a string under 1 and bytes under 2, each singular and in no oneof
   pub is_any : Name → Bool
+  -- the message of a type that bytes mean
+  pub decoded : Name → Text → Option Message
 
 -- what the fields of a text in one message are found in
 pub record Shape : Type 0 where
@@ -50,6 +58,7 @@ abbrev pub entry_names : (Text → Option ℤ) → (ℤ → Option Text) → Nam
 entry_names number name = record {
   field = λ w. cond (bytes_eq w (codes "key")) (Some 1) (cond (bytes_eq w (codes "value")) (Some 2) None);
   extension = λ w. None;
+  declared = 1 ∷ 2 ∷ [];
   name = λ n. cond (n == 1) (codes "key") (codes "value");
   enum_number = λ n. number;
   enum_name = λ n. name;
@@ -63,10 +72,15 @@ entry_shape names n key part =
 abbrev pub Finds : Names → ℕ → Field → Type 0
 Finds names n f = cond f.extension (names.extension (names.name n)) (names.field (names.name n)) ≡ Some n
 
--- what is printed as a name is found by it
+-- what is printed as a name is found by it, and each declared field stands once among them
 pub record AreNames (type : ℕ → Option Field) (names : Names) : Type 0 where
   pub fields : (n : ℕ) (f : Field) → type n ≡ Some f → Finds names n f
   pub enums : (n : ℕ) (z : ℤ) (w : Text) → names.enum_name n z ≡ Some w → names.enum_number n w ≡ Some z
+  pub declared : (n : ℕ) → filter (λ q. q == n) names.declared ≡ cond (is_declared (type n)) (n ∷ []) []
 
 abbrev pub HaveNames : Schema → Type 0
 HaveNames w = (t : Name) → AreNames (w.types t) (w.names t)
+
+-- bytes are decoded exactly as what they mean
+abbrev pub Decodes : Schema → Type 0
+Decodes w = (t : Name) (bytes : Text) (m : Message) → (w.decoded t bytes ≡ Some m) ↔ Mean w.types t bytes m
