@@ -81,7 +81,8 @@ value_in (listed vs) = braced curly no_fields
 -- an entry of a map as a message
 abbrev pub printed_entry : Separator → ScalarValue → Given → Value
 printed_entry s key value =
-    braced curly (joined s ((plain (codes "key"), one_scalar key) ∷ (plain (codes "value"), value) ∷ []))
+    braced curly
+    (joined s ((plain (codes "key"), one_scalar key) ∷ (plain (codes "value"), value) ∷ []))
 
 -- ---- google.protobuf.Any
 
@@ -89,7 +90,10 @@ printed_entry s key value =
 abbrev pub last_slash : Text → Option (Text × Text)
 last_slash [] = None
 last_slash (b ∷ bs) =
-    elim (last_slash bs) [ Some p ↦ Some (b ∷ p.0, p.1) | None ↦ cond (b == 47) (Some ([], bs)) None ]
+    elim (last_slash bs) [
+      | Some p ↦ Some (b ∷ p.0, p.1)
+      | None ↦ cond (b == 47) (Some ([], bs)) None
+    ]
 
 abbrev pub text_in : Held → Text
 text_in (content (single (text s))) = s
@@ -103,13 +107,22 @@ bytes_in _ = []
 abbrev pub Inner : Type 0
 Inner = Name → Message → Option Fields
 
--- the one field that an Any of a known type is printed as, whose bytes mean a message of it
+-- the field under a type's URL, and the fields of the message of a known type that bytes mean
+abbrev pub expanded_as : Text × Text → Fields → Fields
+expanded_as url fs =
+    more_fields (expansion (parts url.0) (parts url.1)) (one_message false curly fs) no_separator
+    no_fields
+
+abbrev pub held_in : Schema → Inner → Text → Text → Option Fields
+held_in w inner name bytes =
+    option_and_then (λ u. option_and_then (inner u) (w.decoded u bytes)) (w.message name)
+
+-- what an Any of a known type is printed as, whose bytes mean a message of it
 abbrev pub in_any : Form → Schema → Inner → Name → Message → Option Fields
 in_any form w inner t m =
     cond (form.expands && w.is_any t)
-    (option_and_then (λ (url : Text × Text).
-    option_map (λ fs. more_fields (expansion (parts url.0) (parts url.1)) (one_message false curly fs) no_separator no_fields)
-    (option_and_then (λ u. option_and_then (inner u) (w.decoded u (bytes_in (m 2)))) (w.message url.1)))
+    (option_and_then
+    (λ (url : Text × Text). option_map (expanded_as url) (held_in w inner url.1 (bytes_in (m 2))))
     (last_slash (text_in (m 1)))) None
 
 abbrev pub or_fields : Option Fields → Fields → Fields
@@ -123,25 +136,31 @@ abbrev mutual
   pub printed_content : Form → Schema → Inner → (ℤ → Option Text) → Kind → Content → Given
   printed_content form w inner enum k (single v) = one_scalar (printed_single enum v)
   printed_content form w inner enum k (message m) =
-      one_message false curly (or_fields (in_any form w inner (type_of k) m) (joined (between form.pretty)
-      (flat_map (λ n. printed_held form w inner (w.names (type_of k)) n (w.types (type_of k) n) (m n))
+      one_message false curly
+      (or_fields (in_any form w inner (type_of k) m) (joined (between form.pretty) (flat_map
+      (λ n. printed_held form w inner (w.names (type_of k)) n (w.types (type_of k) n) (m n))
       (printing_order form (w.names (type_of k)) (w.types (type_of k))))))
   printed_content form w inner enum k (list cs) = listed (printed_list form w inner enum k cs)
-  printed_content form w inner enum k (dictionary es) = listed (printed_entries form w inner enum k es)
+  printed_content form w inner enum k (dictionary es) =
+      listed (printed_entries form w inner enum k es)
 
   pub printed_list : Form → Schema → Inner → (ℤ → Option Text) → Kind → Contents → Values
   printed_list form w inner enum k no_contents = no_values
   printed_list form w inner enum k (more_contents c cs) =
-      more_values (value_in (printed_content form w inner enum k c)) (printed_list form w inner enum k cs)
+      more_values (value_in (printed_content form w inner enum k c))
+      (printed_list form w inner enum k cs)
 
   pub printed_entries : Form → Schema → Inner → (ℤ → Option Text) → Kind → Entries → Values
   printed_entries form w inner enum k no_entries = no_values
   printed_entries form w inner enum k (more_entries key c es) =
-      more_values (printed_entry (between form.pretty) (printed_single enum key) (printed_content form w inner enum k c))
+      more_values
+      (printed_entry (between form.pretty) (printed_single enum key)
+      (printed_content form w inner enum k c))
       (printed_entries form w inner enum k es)
 
   -- a field under its name
-  pub printed_held : Form → Schema → Inner → Names → ℕ → Option Field → Held → List (FieldName × Given)
+  pub printed_held : Form → Schema → Inner → Names → ℕ → Option Field → Held
+      → List (FieldName × Given)
   printed_held form w inner names n o (records ps) = unset form names n o
   printed_held form w inner names n None (content c) = []
   printed_held form w inner names n (Some f) (content c) =
@@ -149,11 +168,13 @@ abbrev mutual
 
 abbrev pub printed_fields : Form → Schema → Inner → Name → Message → List (FieldName × Given)
 printed_fields form w inner t m =
-    flat_map (λ n. printed_held form w inner (w.names t) n (w.types t n) (m n)) (printing_order form (w.names t) (w.types t))
+    flat_map (λ n. printed_held form w inner (w.names t) n (w.types t n) (m n))
+    (printing_order form (w.names t) (w.types t))
 
 abbrev pub printed_by : Form → Schema → Inner → Name → Message → Fields
 printed_by form w inner t m =
-    or_fields (in_any form w inner t m) (joined (between form.pretty) (printed_fields form w inner t m))
+    or_fields (in_any form w inner t m)
+    (joined (between form.pretty) (printed_fields form w inner t m))
 
 -- with at most so many expansions in one another
 abbrev pub printed_within : ℕ → Form → Schema → Name → Message → Fields

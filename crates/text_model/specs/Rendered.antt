@@ -57,7 +57,8 @@ abbrev mutual
   -- each field on its own line, two spaces deeper in each message
   pub lines : ℕ → Fields → Text
   lines n no_fields = []
-  lines n (more_fields name g s fs) = line n ++ (run (name_tokens name) ++ (pretty_given n g ++ lines n fs))
+  lines n (more_fields name g s fs) =
+      line n ++ (run (name_tokens name) ++ (pretty_given n g ++ lines n fs))
 
 -- the first line has no line end before it
 abbrev pub pretty : Fields → Text

@@ -1,4 +1,5 @@
-//! Laws of texts and of the messages that they give, each the contract of a function that does nothing.
+//! Laws of texts and of the messages that they give, each the contract of a function that does
+//! nothing.
 ghost use Rattle.std.specs.Prelude.{◌≡◌, ◌≤◌, ◌↔◌, Some, option_and_then};
 ghost use Rattle.protox_lex.specs.Class.{Text};
 ghost use Rattle.protobuf_model.specs.Coded.{SuitsType};
@@ -37,8 +38,8 @@ pub fn fields_are_merged_in_pieces()
         → value w s (append a b) m ≡ option_and_then (value w s b) (value w s a m) }
 {}
 
-/// The fields that a message is printed as give the message, in each form that prints the fields that are set and no
-/// others.
+/// The fields that a message is printed as give the message, in each form that prints the fields that
+/// are set and no others.
 pub fn printed_fields_give_the_message()
     ensures { (form : Form) → IsOwn form → (w : Schema) → HaveNames w → (t : Name) (m : Message)
         → SuitsType w.types t m → IsPlain w.types t m
@@ -47,21 +48,23 @@ pub fn printed_fields_give_the_message()
 
 /// What is written of them is cut into their tokens again, where names are identifiers.
 pub fn printed_texts_spell_what_is_printed()
-    ensures { (form : Form) → IsOwn form → (w : Schema) → HaveIdentifiers w → (t : Name) (m : Message)
-        → SuitsType w.types t m → IsPlain w.types t m
+    ensures { (form : Form) → IsOwn form → (w : Schema) → HaveIdentifiers w
+        → (t : Name) (m : Message) → SuitsType w.types t m → IsPlain w.types t m
         → Spells (text_of form (printed form w t m)) (printed form w t m) }
 {}
 
 /// So it gives the message, if no more than 100 braces are open in it at once.
 pub fn printed_texts_give_the_message()
-    ensures { (form : Form) → IsOwn form → (w : Schema) → HaveNames w → HaveIdentifiers w → (t : Name) (m : Message)
-        → SuitsType w.types t m → IsPlain w.types t m → open_braces (printed form w t m) ≤ 100
+    ensures { (form : Form) → IsOwn form → (w : Schema) → HaveNames w → HaveIdentifiers w
+        → (t : Name) (m : Message) → SuitsType w.types t m → IsPlain w.types t m
+        → open_braces (printed form w t m) ≤ 100
         → Gives w t (text_of form (printed form w t m)) m }
 {}
 
 /// Two such messages have the same text exactly if they are equal.
 pub fn equal_messages_have_equal_texts()
-    ensures { (form : Form) → IsOwn form → (w : Schema) → HaveNames w → HaveIdentifiers w → (t : Name) (m n : Message)
+    ensures { (form : Form) → IsOwn form → (w : Schema) → HaveNames w → HaveIdentifiers w
+        → (t : Name) (m n : Message)
         → SuitsType w.types t m → IsPlain w.types t m → SuitsType w.types t n → IsPlain w.types t n
         → (text_of form (printed form w t m) ≡ text_of form (printed form w t n)) ↔ (m ≡ n) }
 {}
