@@ -10,10 +10,10 @@ use Rattle.protobuf_model.specs.Typed.{IsOf, IsSet, IsEntryOf, IsFieldOf}
 use Rattle.protobuf_model.specs.Meaning.{items, if_any, pairs, if_some, put_all}
 use Rattle.protobuf_model.proofs.KeyOrder.{same_true}
 use Rattle.protobuf_model.proofs.Maps.{put_in_order, entries_back}
-use Rattle.text_model.specs.Tree.{Separator}
+use Rattle.text_model.specs.Forms.{Form, between}
 use Rattle.text_model.specs.Schemas.{Names, Schema, Shape, shape_of, key_field, value_field, entry_fields, entry_shape}
-use Rattle.text_model.specs.Value.{of_message, form_in, key_of, value_of, entry_of, is_set, has_rival, assign, settled, set_one, add_all, value, value_content, values_contents, field_value}
-use Rattle.text_model.specs.Printed.{printed, printed_single, value_in, printed_content, printed_list, printed_entry, printed_entries}
+use Rattle.text_model.specs.Value.{of_message, wanted_in, key_of, value_of, entry_of, is_set, has_rival, assign, settled, set_one, add_all, value, value_content, values_contents, field_value}
+use Rattle.text_model.specs.Printed.{Inner, printed_by, printed_single, value_in, printed_content, printed_list, printed_entry, printed_entries}
 use Rattle.text_model.specs.Plain.{AreBytes, IsPlainContent, ArePlainContents, ArePlainEntries, IsPlain}
 use Rattle.text_model.proofs.Singles.{AreFound, single_back}
 
@@ -29,25 +29,25 @@ set_back type n part x c here none =
     ap (λ h. cond (is_set h || has_rival type n x) None (Some (assign type n (settled part c) x))) here
     ∙ ap (λ b. cond b None (Some (assign type n (settled part c) x))) none
 
-module _ (w : Schema) (s : Separator) (typed : Name → Message → Type 0)
-    (back : (u : Name) (m : Message) → typed u m → IsPlain w.types u m → value w (shape_of w u) (printed w s u m) nothing ≡ Some m) where
+module _ (form : Form) (w : Schema) (inner : Inner) (typed : Name → Message → Type 0)
+    (back : (u : Name) (m : Message) → typed u m → IsPlain w.types u m → value w (shape_of w u) (printed_by form w inner u m) nothing ≡ Some m) where
   -- a value of a list
   element_back : (number : Text → Option ℤ) (name : ℤ → Option Text) → AreFound number name → (k : Kind) (c : Content) → IsOf typed k c → IsPlainContent w.types k c
-      → value_content w (form_in w number k) (value_in (printed_content w s name k c)) ≡ Some c
+      → value_content w (wanted_in w number k) (value_in (printed_content form w inner name k c)) ≡ Some c
   element_back number name f (scalar k) (single v) h b = ap (option_map single) (single_back number name k v f b h)
   element_back number name f (nested frame u) (message m) h b = ap (option_map message) (back u m h b)
   element_back number name f k c h b = absurd h
 
   pub elements_back : (number : Text → Option ℤ) (name : ℤ → Option Text) → AreFound number name → (k : Kind) (cs : Contents) → AllByRecursion (IsOf typed k) (list_of cs) → ArePlainContents w.types k cs
-      → values_contents w (form_in w number k) (printed_list w s name k cs) ≡ Some (list_of cs)
+      → values_contents w (wanted_in w number k) (printed_list form w inner name k cs) ≡ Some (list_of cs)
   elements_back number name f k no_contents h b = refl
   elements_back number name f k (more_contents c cs) h b =
-      ap (option_and_then (λ c. option_map (λ cs. c ∷ cs) (values_contents w (form_in w number k) (printed_list w s name k cs)))) (element_back number name f k c h.0 b.0)
+      ap (option_and_then (λ c. option_map (λ cs. c ∷ cs) (values_contents w (wanted_in w number k) (printed_list form w inner name k cs)))) (element_back number name f k c h.0 b.0)
       ∙ ap (option_map (λ cs. c ∷ cs)) (elements_back number name f k cs h.1 b.1)
 
   -- a value by itself
   alone_back : (shape : Shape) (n : ℕ) → AreFound (shape.names.enum_number n) (shape.names.enum_name n) → (k : Kind) (p : Bool) (d : Single) (o : Option ℕ) (e : Bool) (x : Message) (c : Content) → IsOf typed k c → IsPlainContent w.types k c
-      → field_value w shape (printed_content w s (shape.names.enum_name n) k c) x n (record { part = record { kind = k; presence = p; default = d }; label = one; oneof = o; extension = e })
+      → field_value w shape (printed_content form w inner (shape.names.enum_name n) k c) x n (record { part = record { kind = k; presence = p; default = d }; label = one; oneof = o; extension = e })
       ≡ set_one shape.fields n (record { kind = k; presence = p; default = d }) x c
   alone_back shape n f (scalar k) p d o e x (single v) h b =
       ap (λ y. option_and_then (set_one shape.fields n (record { kind = scalar k; presence = p; default = d }) x) (option_map single y)) (single_back (shape.names.enum_number n) (shape.names.enum_name n) k v f b h)
@@ -87,9 +87,9 @@ module _ (w : Schema) (s : Separator) (typed : Name → Message → Type 0)
     the_shape = entry_shape names n key the_part
 
     entry_back : (v : Single) (c : Content) → Suits key.kind v → AreBytes v → IsOf typed k c → IsPlainContent w.types k c
-        → value_content w (of_message the_shape) (printed_entry s (printed_single (names.enum_name n) v) (printed_content w s (names.enum_name n) k c)) ≡ Some (message (entry_message key the_part v c))
+        → value_content w (of_message the_shape) (printed_entry (between form.pretty) (printed_single (names.enum_name n) v) (printed_content form w inner (names.enum_name n) k c)) ≡ Some (message (entry_message key the_part v c))
     entry_back v c h b i q =
-        ap (λ y. option_map message (option_and_then (λ x. option_and_then (λ z. Some z) (field_value w the_shape (printed_content w s (names.enum_name n) k c) x 2 (value_field the_part)))
+        ap (λ y. option_map message (option_and_then (λ x. option_and_then (λ z. Some z) (field_value w the_shape (printed_content form w inner (names.enum_name n) k c) x 2 (value_field the_part)))
         (option_and_then (set_one the_shape.fields 1 (key_field key).part nothing) (option_map single y))))
         (single_back (names.enum_number n) (names.enum_name n) key.kind v f b h)
         ∙ ap (λ y. option_map message (option_and_then (λ z. Some z) y)) (alone_back the_shape 2 f k p d None false (assign (entry_fields key the_part) 1 (settled (key_field key).part (single v)) nothing) c i q)
@@ -99,10 +99,10 @@ module _ (w : Schema) (s : Separator) (typed : Name → Message → Type 0)
     messages (more_entries v c es) = message (entry_message key the_part v c) ∷ messages es
 
     entries_read : (es : Entries) → AllByRecursion (IsEntryOf typed key the_part) (pairs_of es) → ArePlainEntries w.types k es
-        → values_contents w (of_message the_shape) (printed_entries w s (names.enum_name n) k es) ≡ Some (messages es)
+        → values_contents w (of_message the_shape) (printed_entries form w inner (names.enum_name n) k es) ≡ Some (messages es)
     entries_read no_entries h b = refl
     entries_read (more_entries v c es) h b =
-        ap (option_and_then (λ c. option_map (λ cs. c ∷ cs) (values_contents w (of_message the_shape) (printed_entries w s (names.enum_name n) k es)))) (entry_back v c h.0.0 b.0 h.0.1 b.1)
+        ap (option_and_then (λ c. option_map (λ cs. c ∷ cs) (values_contents w (of_message the_shape) (printed_entries form w inner (names.enum_name n) k es)))) (entry_back v c h.0.0 b.0 h.0.1 b.1)
         ∙ ap (option_map (λ cs. message (entry_message key the_part v c) ∷ cs)) (entries_read es h.1 b.2)
 
     entries_again : (es : Entries) → AllByRecursion (IsEntryOf typed key the_part) (pairs_of es) → map (entry_of key the_part) (messages es) ≡ pairs_of es
@@ -114,11 +114,11 @@ module _ (w : Schema) (s : Separator) (typed : Name → Message → Type 0)
     -- a map, where nothing stands before
     pub map_back : (outer : Shape) → outer.names ≡ names → (o : Option ℕ) (e : Bool) (x : Message) (v : Single) (c : Content) (es : Entries)
         → AllByRecursion (IsEntryOf typed key the_part) (pairs_of (more_entries v c es)) → Ascend (pairs_of (more_entries v c es)) → ArePlainEntries w.types k (more_entries v c es) → x n ≡ absent
-        → field_value w outer (printed_content w s (names.enum_name n) k (dictionary (more_entries v c es))) x n (record { part = the_part; label = keyed key; oneof = o; extension = e })
+        → field_value w outer (printed_content form w inner (names.enum_name n) k (dictionary (more_entries v c es))) x n (record { part = the_part; label = keyed key; oneof = o; extension = e })
         ≡ Some (assign outer.fields n (content (dictionary (more_entries v c es))) x)
     map_back outer same o e x v c es h a b here =
         let all = more_entries v c es in
-        ap (λ ns. option_and_then (add_all outer.fields n the_part (keyed key) x) (values_contents w (of_message (entry_shape ns n key the_part)) (printed_entries w s (names.enum_name n) k all))) same
+        ap (λ ns. option_and_then (add_all outer.fields n the_part (keyed key) x) (values_contents w (of_message (entry_shape ns n key the_part)) (printed_entries form w inner (names.enum_name n) k all))) same
         ∙ ap (option_and_then (add_all outer.fields n the_part (keyed key) x)) (entries_read all h b)
         ∙ ap (λ i. Some (assign outer.fields n (if_some (put_all (pairs i) (map (entry_of key the_part) (messages all)))) x)) here
         ∙ ap (λ ps. Some (assign outer.fields n (if_some (put_all [] ps)) x)) (entries_again all h)
@@ -131,7 +131,7 @@ module _ (w : Schema) (s : Separator) (typed : Name → Message → Type 0)
 
   list_back : (shape : Shape) (n : ℕ) → AreFound (shape.names.enum_number n) (shape.names.enum_name n) → (part : Part) (packed : Bool) (o : Option ℕ) (e : Bool) (x : Message) (c : Content) (cs : Contents)
       → AllByRecursion (IsOf typed part.kind) (list_of (more_contents c cs)) → ArePlainContents w.types part.kind (more_contents c cs) → x n ≡ absent
-      → field_value w shape (printed_content w s (shape.names.enum_name n) part.kind (list (more_contents c cs))) x n (record { part = part; label = many packed; oneof = o; extension = e })
+      → field_value w shape (printed_content form w inner (shape.names.enum_name n) part.kind (list (more_contents c cs))) x n (record { part = part; label = many packed; oneof = o; extension = e })
       ≡ Some (assign shape.fields n (content (list (more_contents c cs))) x)
   list_back shape n f part packed o e x c cs h b here =
       ap (option_and_then (add_all shape.fields n part (many packed) x)) (elements_back (shape.names.enum_number n) (shape.names.enum_name n) f part.kind (more_contents c cs) h b)
@@ -141,7 +141,7 @@ module _ (w : Schema) (s : Separator) (typed : Name → Message → Type 0)
   -- what a field holds, given to it where neither it nor another member of its oneof is set
   pub field_back : (shape : Shape) (n : ℕ) → AreFound (shape.names.enum_number n) (shape.names.enum_name n) → (part : Part) (l : Label) (o : Option ℕ) (e : Bool) (x : Message) (c : Content)
       → IsFieldOf typed part l c → IsPlainContent w.types part.kind c → x n ≡ absent → has_rival shape.fields n x ≡ false
-      → field_value w shape (printed_content w s (shape.names.enum_name n) part.kind c) x n (record { part = part; label = l; oneof = o; extension = e }) ≡ Some (assign shape.fields n (content c) x)
+      → field_value w shape (printed_content form w inner (shape.names.enum_name n) part.kind c) x n (record { part = part; label = l; oneof = o; extension = e }) ≡ Some (assign shape.fields n (content c) x)
   field_back shape n f part one o e x c h b here none =
       alone_back shape n f part.kind part.presence part.default o e x c h.0 b
       ∙ set_back shape.fields n part x c here none

@@ -43,16 +43,20 @@ unit_plain c y e = ap (λ t. if t then or_slash (escape y) else (meaning.Byte c,
 unit_escape : (y : Text) (u : Meaning × ℕ) → escape y ≡ Ok u → unit_of (92 ∷ y) ≡ (u.0, u.1 + 1)
 unit_escape y u e = ap or_slash e
 
-simple_escape : (c b : ℕ) (y : Text) → is_long c ≡ false → is_in class.Octal c ≡ false → simple c ≡ Some b → escape (c ∷ y) ≡ Ok (meaning.Byte b, 1)
+-- an escape that is no long one
+short_escape : (c : ℕ) (y : Text) → is_long c ≡ false → escape (c ∷ y) ≡ (if is_in class.Octal c then octal_escape (c ∷ y) else simple_of (simple c))
 unfolding escape
+short_escape c y long =
+    let p = or_parts (c == 120 || c == 88) (c == 117 || c == 85) long in
+    let us = or_parts (c == 117) (c == 85) p.1 in
+    let last = if is_in class.Octal c then octal_escape (c ∷ y) else simple_of (simple c) in
+    ap (λ t. if t then hex (c ∷ y) else if c == 117 then unicode (c ∷ y) 4 else if c == 85 then unicode (c ∷ y) 8 else last) p.0
+    ∙ ap (λ t. if t then unicode (c ∷ y) 4 else if c == 85 then unicode (c ∷ y) 8 else last) us.0
+    ∙ ap (λ t. if t then unicode (c ∷ y) 8 else last) us.1
+
+simple_escape : (c b : ℕ) (y : Text) → is_long c ≡ false → is_in class.Octal c ≡ false → simple c ≡ Some b → escape (c ∷ y) ≡ Ok (meaning.Byte b, 1)
 simple_escape c b y long octal is =
-    let hexes = (or_parts (c == 120 || c == 88) (c == 117 || c == 85) long).0 in
-    let us = or_parts (c == 117) (c == 85) (or_parts (c == 120 || c == 88) (c == 117 || c == 85) long).1 in
-    ap (λ t. if t then hex (c ∷ y) else if c == 117 then unicode (c ∷ y) 4 else if c == 85 then unicode (c ∷ y) 8 else if is_in class.Octal c then octal_escape (c ∷ y) else simple_of (simple c)) hexes
-    ∙ ap (λ t. if t then unicode (c ∷ y) 4 else if c == 85 then unicode (c ∷ y) 8 else if is_in class.Octal c then octal_escape (c ∷ y) else simple_of (simple c)) us.0
-    ∙ ap (λ t. if t then unicode (c ∷ y) 8 else if is_in class.Octal c then octal_escape (c ∷ y) else simple_of (simple c)) us.1
-    ∙ ap (λ t. if t then octal_escape (c ∷ y) else simple_of (simple c)) octal
-    ∙ ap simple_of is
+    short_escape c y long ∙ ap (λ t. if t then octal_escape (c ∷ y) else simple_of (simple c)) octal ∙ ap simple_of is
 
 three_digits : (c d e : ℕ) (y : Text) → is_in class.Octal c ≡ true → is_in class.Octal d ≡ true → is_in class.Octal e ≡ true → min (past class.Octal (c ∷ d ∷ e ∷ y) 0) 3 ≡ 3
 three_digits c d e y h i j =
@@ -70,20 +74,33 @@ octal_is c d e b y h i j is small =
     ∙ ap (λ t. if t then Ok (meaning.Byte b, 3) else Err 3) (lt-ltb b 256 small)
 
 octal_escapes : (c d e b : ℕ) (y : Text) → is_long c ≡ false → is_in class.Octal c ≡ true → is_in class.Octal d ≡ true → is_in class.Octal e ≡ true → value 8 (c ∷ d ∷ e ∷ []) ≡ b → b < 256 → escape (c ∷ d ∷ e ∷ y) ≡ Ok (meaning.Byte b, 3)
-unfolding escape
 octal_escapes c d e b y long h i j is small =
-    let z = c ∷ d ∷ e ∷ y in
-    let hexes = (or_parts (c == 120 || c == 88) (c == 117 || c == 85) long).0 in
-    let us = or_parts (c == 117) (c == 85) (or_parts (c == 120 || c == 88) (c == 117 || c == 85) long).1 in
-    ap (λ t. if t then hex z else if c == 117 then unicode z 4 else if c == 85 then unicode z 8 else if is_in class.Octal c then octal_escape z else simple_of (simple c)) hexes
-    ∙ ap (λ t. if t then unicode z 4 else if c == 85 then unicode z 8 else if is_in class.Octal c then octal_escape z else simple_of (simple c)) us.0
-    ∙ ap (λ t. if t then unicode z 8 else if is_in class.Octal c then octal_escape z else simple_of (simple c)) us.1
-    ∙ ap (λ t. if t then octal_escape z else simple_of (simple c)) h
-    ∙ octal_is c d e b y h i j is small
+    short_escape c (d ∷ e ∷ y) long ∙ ap (λ t. if t then octal_escape (c ∷ d ∷ e ∷ y) else simple_of (simple c)) h ∙ octal_is c d e b y h i j is small
 
 same_option : (o : Option ℕ) (b : ℕ) → is_same o b ≡ true → o ≡ Some b
 same_option (Some a) b h = ap Some (eqb-true a b h)
 same_option None b h = cc
+
+-- a backslash, and what stands behind it for the byte
+record IsEscape (b s : ℕ) (es : Text) : Type 0 where
+  slash : s ≡ 92
+  escapes : (y : Text) → escape (es ++ y) ≡ Ok (meaning.Byte b, length es)
+
+one_letter : (b s c : ℕ) → is_right b (s ∷ c ∷ []) ≡ true → IsEscape b s (c ∷ [])
+one_letter b s c h =
+    let p = and_parts (s == 92) (not (is_long c) && (not (is_in class.Octal c) && is_same (simple c) b)) h in
+    let q = and_parts (not (is_long c)) (not (is_in class.Octal c) && is_same (simple c) b) p.1 in
+    let r = and_parts (not (is_in class.Octal c)) (is_same (simple c) b) q.1 in
+    record { slash = eqb-true s 92 p.0; escapes = λ y. simple_escape c b y (not-true (is_long c) q.0) (not-true (is_in class.Octal c) r.0) (same_option (simple c) b r.1) }
+
+three_octal : (b s c d e : ℕ) → b < 256 → is_right b (s ∷ c ∷ d ∷ e ∷ []) ≡ true → IsEscape b s (c ∷ d ∷ e ∷ [])
+three_octal b s c d e small h =
+    let p = and_parts (s == 92) (is_in class.Octal c && (is_in class.Octal d && (is_in class.Octal e && (not (is_long c) && value 8 (c ∷ d ∷ e ∷ []) == b)))) h in
+    let q = and_parts (is_in class.Octal c) (is_in class.Octal d && (is_in class.Octal e && (not (is_long c) && value 8 (c ∷ d ∷ e ∷ []) == b))) p.1 in
+    let r = and_parts (is_in class.Octal d) (is_in class.Octal e && (not (is_long c) && value 8 (c ∷ d ∷ e ∷ []) == b)) q.1 in
+    let t = and_parts (is_in class.Octal e) (not (is_long c) && value 8 (c ∷ d ∷ e ∷ []) == b) r.1 in
+    let v = and_parts (not (is_long c)) (value 8 (c ∷ d ∷ e ∷ []) == b) t.1 in
+    record { slash = eqb-true s 92 p.0; escapes = λ y. octal_escapes c d e b y (not-true (is_long c) v.0) q.0 r.0 t.0 (eqb-true (value 8 (c ∷ d ∷ e ∷ [])) b v.1) small }
 
 right_means : (b : ℕ) (es y : Text) → b < 256 → is_right b es ≡ true → unescaped (es ++ y) ≡ b ∷ unescaped y
 unfolding unescaped_from
@@ -93,20 +110,12 @@ right_means b (c ∷ []) y small h =
     let q = and_parts (not (c == 92)) (is_plain 34 c) p.1 in
     ap (λ u. step u y) (unit_plain c y (not-true (c == 92) q.0)) ∙ ap (λ a. a ∷ unescaped y) (eqb-true c b p.0)
 right_means b (s ∷ c ∷ []) y small h =
-    let p = and_parts (s == 92) (not (is_long c) && (not (is_in class.Octal c) && is_same (simple c) b)) h in
-    let q = and_parts (not (is_long c)) (not (is_in class.Octal c) && is_same (simple c) b) p.1 in
-    let r = and_parts (not (is_in class.Octal c)) (is_same (simple c) b) q.1 in
-    ap (λ a. unescaped (a ∷ c ∷ y)) (eqb-true s 92 p.0)
-    ∙ ap (λ u. step u (c ∷ y)) (unit_escape (c ∷ y) (meaning.Byte b, 1) (simple_escape c b y (not-true (is_long c) q.0) (not-true (is_in class.Octal c) r.0) (same_option (simple c) b r.1)))
+    let k = one_letter b s c h in
+    ap (λ a. unescaped (a ∷ c ∷ y)) k.slash ∙ ap (λ u. step u (c ∷ y)) (unit_escape (c ∷ y) (meaning.Byte b, 1) (k.escapes y))
 right_means b (s ∷ c ∷ d ∷ []) y small h = cc
 right_means b (s ∷ c ∷ d ∷ e ∷ []) y small h =
-    let p = and_parts (s == 92) (is_in class.Octal c && (is_in class.Octal d && (is_in class.Octal e && (not (is_long c) && value 8 (c ∷ d ∷ e ∷ []) == b)))) h in
-    let q = and_parts (is_in class.Octal c) (is_in class.Octal d && (is_in class.Octal e && (not (is_long c) && value 8 (c ∷ d ∷ e ∷ []) == b))) p.1 in
-    let r = and_parts (is_in class.Octal d) (is_in class.Octal e && (not (is_long c) && value 8 (c ∷ d ∷ e ∷ []) == b)) q.1 in
-    let t = and_parts (is_in class.Octal e) (not (is_long c) && value 8 (c ∷ d ∷ e ∷ []) == b) r.1 in
-    let v = and_parts (not (is_long c)) (value 8 (c ∷ d ∷ e ∷ []) == b) t.1 in
-    ap (λ a. unescaped (a ∷ c ∷ d ∷ e ∷ y)) (eqb-true s 92 p.0)
-    ∙ ap (λ u. step u (c ∷ d ∷ e ∷ y)) (unit_escape (c ∷ d ∷ e ∷ y) (meaning.Byte b, 3) (octal_escapes c d e b y (not-true (is_long c) v.0) q.0 r.0 t.0 (eqb-true (value 8 (c ∷ d ∷ e ∷ [])) b v.1) small))
+    let k = three_octal b s c d e small h in
+    ap (λ a. unescaped (a ∷ c ∷ d ∷ e ∷ y)) k.slash ∙ ap (λ u. step u (c ∷ d ∷ e ∷ y)) (unit_escape (c ∷ d ∷ e ∷ y) (meaning.Byte b, 3) (k.escapes y))
 right_means b (s ∷ c ∷ d ∷ e ∷ f ∷ es) y small h = cc
 
 pub escaped_means : (s : Text) → AllByRecursion (λ x. x < 256) s → unescaped (escaped s) ≡ s
@@ -124,21 +133,9 @@ right_unit b (c ∷ []) y small h =
     let q = and_parts (not (c == 92)) (is_plain 34 c) p.1 in
     ap (λ t. if t then escape_len (escape y) else if is_plain 34 c then 1 else 0) (not-true (c == 92) q.0)
     ∙ ap (λ t. if t then 1 else 0) q.1
-right_unit b (s ∷ c ∷ []) y small h =
-    let p = and_parts (s == 92) (not (is_long c) && (not (is_in class.Octal c) && is_same (simple c) b)) h in
-    let q = and_parts (not (is_long c)) (not (is_in class.Octal c) && is_same (simple c) b) p.1 in
-    let r = and_parts (not (is_in class.Octal c)) (is_same (simple c) b) q.1 in
-    ap (λ a. unit_len 34 (a ∷ c ∷ y)) (eqb-true s 92 p.0)
-    ∙ ap escape_len (simple_escape c b y (not-true (is_long c) q.0) (not-true (is_in class.Octal c) r.0) (same_option (simple c) b r.1))
+right_unit b (s ∷ c ∷ []) y small h = let k = one_letter b s c h in ap (λ a. unit_len 34 (a ∷ c ∷ y)) k.slash ∙ ap escape_len (k.escapes y)
 right_unit b (s ∷ c ∷ d ∷ []) y small h = cc
-right_unit b (s ∷ c ∷ d ∷ e ∷ []) y small h =
-    let p = and_parts (s == 92) (is_in class.Octal c && (is_in class.Octal d && (is_in class.Octal e && (not (is_long c) && value 8 (c ∷ d ∷ e ∷ []) == b)))) h in
-    let q = and_parts (is_in class.Octal c) (is_in class.Octal d && (is_in class.Octal e && (not (is_long c) && value 8 (c ∷ d ∷ e ∷ []) == b))) p.1 in
-    let r = and_parts (is_in class.Octal d) (is_in class.Octal e && (not (is_long c) && value 8 (c ∷ d ∷ e ∷ []) == b)) q.1 in
-    let t = and_parts (is_in class.Octal e) (not (is_long c) && value 8 (c ∷ d ∷ e ∷ []) == b) r.1 in
-    let v = and_parts (not (is_long c)) (value 8 (c ∷ d ∷ e ∷ []) == b) t.1 in
-    ap (λ a. unit_len 34 (a ∷ c ∷ d ∷ e ∷ y)) (eqb-true s 92 p.0)
-    ∙ ap escape_len (octal_escapes c d e b y (not-true (is_long c) v.0) q.0 r.0 t.0 (eqb-true (value 8 (c ∷ d ∷ e ∷ [])) b v.1) small)
+right_unit b (s ∷ c ∷ d ∷ e ∷ []) y small h = let k = three_octal b s c d e small h in ap (λ a. unit_len 34 (a ∷ c ∷ d ∷ e ∷ y)) k.slash ∙ ap escape_len (k.escapes y)
 right_unit b (s ∷ c ∷ d ∷ e ∷ f ∷ es) y small h = cc
 
 some_right : (b : ℕ) (es : Text) → is_right b es ≡ true → 0 < length es

@@ -1,5 +1,5 @@
 -- Worked cases: the definitions compute what the text format's documentation says.
-use Rattle.std.proofs.Common.{◌≡◌, inl, inr, ℕ, pos, negsuc, ◌-◌, ◌<◌, ◌^◌, ◌==◌, ◌&&◌, not, Bool, true, false, cond, List, [], ◌∷◌, ◌++◌, Option, Some, None, option_and_then, bytes_eq, codes, refl, ap, ◌∙◌, arith}
+use Rattle.std.proofs.Common.{nat_lt, length, ◌++◌, ◌≡◌, inl, inr, ℕ, pos, negsuc, ◌-◌, ◌<◌, ◌^◌, ◌==◌, ◌&&◌, not, Bool, true, false, cond, List, [], ◌∷◌, Option, Some, None, option_and_then, bytes_eq, codes, refl, ap, ◌∙◌, arith}
 use Rattle.std.specs.Char.{encode_utf8}
 use Rattle.std.specs.Fmt.{digits}
 use Rattle.std.specs.Str.{is_utf8, chars}
@@ -8,17 +8,21 @@ use Rattle.std.proofs.lemmas.Bool.Decides.{eqb_tells}
 use Rattle.protox_lex.specs.Class.{Text}
 use Rattle.protox_lex.specs.Lex.{unescaped_from, escape, hex}
 use Rattle.text_lex.specs.declared.token.Radix.TheVariants as radix
+use Rattle.reflect_wire.specs.Records.{Payload}
+use Rattle.reflect_wire.specs.Views.{records_of}
+use Rattle.reflect_wire.specs.Encoding.{records_bytes, varint_bytes}
 use Rattle.protobuf_model.specs.Values.{Single, truth, int32, uint32, text, blob, enumerated, single, message, list, dictionary, more_contents, no_contents, more_entries, no_entries, Held, content, Message, absent, nothing}
 use Rattle.protobuf_model.specs.Types.{Name, Scalar, Kind, nested, sized, Label, one, many, keyed, Field, Types, rival}
 use Rattle.protobuf_model.specs.Types as kinds
-use Rattle.protobuf_model.specs.Bytes.{count_from, field_numbers, is_declared}
-use Rattle.text_model.specs.Tree.{FieldName, plain, integer, floating, identifier, ScalarValue, signed, strings, curly, no_separator, comma, scalar, no_values, more_values, Given, one_scalar, one_message, listed, Fields, no_fields, more_fields}
+use Rattle.protobuf_model.specs.Bytes.{count_from, field_numbers, is_declared, bytes_of, numbered, payloads_under}
+use Rattle.text_model.specs.Tree.{expansion, no_separator, comma, FieldName, plain, integer, floating, identifier, ScalarValue, signed, strings, curly, scalar, no_values, more_values, Given, one_scalar, one_message, listed, Fields, no_fields, more_fields}
 use Rattle.text_model.specs.Schemas.{Schema, shape_of}
 use Rattle.text_model.specs.Scalars.{scalar_in}
 use Rattle.text_model.specs.Tokens.{open_braces}
-use Rattle.text_model.specs.Value.{is_set, assign, value}
-use Rattle.text_model.specs.Printed.{joined, printed_held, printed_fields, printed}
-use Rattle.text_model.specs.Rendered.{compact, pretty}
+use Rattle.text_model.specs.Value.{hold, is_set, assign, value}
+use Rattle.text_model.specs.Printed.{Inner, joined, lacks_presence, default_given, unset, field_name, printed_held, printed_fields, printed_within, printed}
+use Rattle.text_model.specs.Forms.{Form, between}
+use Rattle.text_model.specs.Rendered.{compact, pretty, text_of}
 use Rattle.text_model.proofs.Numbers.{first_few, of_those, over_both, any_there}
 use Rattle.text_model.proofs.Orders.{in_numbers}
 use Rattle.text_model.proofs.Printing.{no_rival}
@@ -63,12 +67,17 @@ found t w = cond (bytes_eq t type_m)
 abbrev called : Name → ℕ → Text
 called t n = cond (bytes_eq t type_m) (cond (n == 1) (codes "foo") (cond (n == 3) (codes "nested") (cond (n == 4) (codes "xs") (codes "m")))) (codes "bar")
 
+-- the message that holds 66 under 2
+abbrev n_message : Message
+n_message = λ n. cond (n == 2) (content (single (int32 (pos 66)))) absent
+
 abbrev schema : Schema
 schema = record {
   types = types;
-  names = λ t. record { field = found t; extension = λ w. None; name = called t; enum_number = λ n w. None; enum_name = λ n z. None };
-  is_message = λ t. bytes_eq t type_n;
+  names = λ t. record { field = found t; extension = λ w. None; name = called t; declared = []; enum_number = λ n w. None; enum_name = λ n z. None };
+  message = λ w. cond (bytes_eq w type_n) (Some type_n) None;
   is_any = λ t. bytes_eq t (codes "Any");
+  decoded = λ t bytes. cond (bytes_eq bytes (16 ∷ 66 ∷ [])) (Some n_message) None;
 }
 
 -- an integer, and a field that is given one
@@ -176,30 +185,43 @@ unfolding unescaped_from escape hex
 joined_strings = refl
 
 -- the message that holds 150 under 1 and, under 3, 66 under 2
-abbrev n_message : Message
-n_message = λ n. cond (n == 2) (content (single (int32 (pos 66)))) absent
-
 abbrev m_message : Message
 m_message = λ n. cond (n == 1) (content (single (int32 (pos 150)))) (cond (n == 3) (content (message n_message)) absent)
 
 other_number : (n q : ℕ) → q < n → (n == q) ≡ false
 other_number n q h = elim (eqb_tells n q) [ inl e ↦ absurd (omega (arith, e.1)) | inr e ↦ e.0 ]
 
+-- in this form, and in one that expands
+abbrev plainly : Form
+plainly = record { pretty = false; defaults = false; as_declared = false; expands = false }
+
+abbrev expanding : Form
+expanding = record { pretty = false; defaults = false; as_declared = false; expands = true }
+
 -- of fields below 4 those that are declared
-few_printed : (t : Name) (m : Message) → ((n : ℕ) → 3 < n → m n ≡ absent)
-    → printed_fields schema comma t m
-    ≡ flat_map (λ n. cond (is_declared (types t n)) (printed_held schema comma (schema.names t) n (types t n) (m n)) []) (count_from 1 3)
-    ++ flat_map (λ n. cond (not (is_declared (types t n))) (printed_held schema comma (schema.names t) n (types t n) (m n)) []) (count_from 1 3)
-few_printed t m h =
-    let held = λ (n : ℕ). printed_held schema comma (schema.names t) n (types t n) (m n) in
-    let declared = λ (n : ℕ). is_declared (types t n) in
-    let none : (b : Bool) (n : ℕ) → 3 < n → cond b (held n) [] ≡ [] = λ b n l. ap (λ i. cond b (printed_held schema comma (schema.names t) n (types t n) i) []) (h n l) ∙ both b in
-    over_both held (filter declared field_numbers) (filter (λ n. not (declared n)) field_numbers)
-    ∙ ap (λ xs. xs ++ flat_map held (filter (λ n. not (declared n)) field_numbers)) (of_those held declared field_numbers ∙ first_few (λ n. cond (declared n) (held n) []) 3 (2 ^ 29 - 4) (omega arith) (λ n l. none (declared n) n l))
-    ∙ ap (λ xs. flat_map (λ n. cond (declared n) (held n) []) (count_from 1 3) ++ xs) (of_those held (λ n. not (declared n)) field_numbers ∙ first_few (λ n. cond (not (declared n)) (held n) []) 3 (2 ^ 29 - 4) (omega arith) (λ n l. none (not (declared n)) n l)) where
-      both : (b : Bool) → ◌≡◌ {A = List (FieldName × Given)} (cond b [] []) []
-      both true = refl
-      both false = refl
+module _ (form : Form) (set : form.defaults ≡ false) (by_number : form.as_declared ≡ false) (inner : Inner) where
+  abbrev held : Name → Message → ℕ → List (FieldName × Given)
+  held t m n = printed_held form schema inner (schema.names t) n (types t n) (m n)
+
+  none_held : (t : Name) (m : Message) (n : ℕ) → m n ≡ absent → held t m n ≡ []
+  none_held t m n e = ap (printed_held form schema inner (schema.names t) n (types t n)) e ∙ by (types t n) where
+    by : (o : Option Field) → unset form (schema.names t) n o ≡ []
+    by None = refl
+    by (Some f) = ap (λ b. cond (b && (not f.extension && lacks_presence f.part f.label)) ((field_name (schema.names t) n f, default_given ((schema.names t).enum_name n) f.part f.label) ∷ []) []) set
+
+  few_printed : (t : Name) (m : Message) → ((n : ℕ) → 3 < n → m n ≡ absent)
+      → printed_fields form schema inner t m
+      ≡ flat_map (λ n. cond (is_declared (types t n)) (held t m n) []) (count_from 1 3) ++ flat_map (λ n. cond (not (is_declared (types t n))) (held t m n) []) (count_from 1 3)
+  few_printed t m h =
+      let declared = λ (n : ℕ). is_declared (types t n) in
+      let none : (b : Bool) (n : ℕ) → 3 < n → cond b (held t m n) [] ≡ [] = λ b n l. ap (λ xs. cond b xs []) (none_held t m n (h n l)) ∙ both b in
+      ap (λ b. flat_map (held t m) (cond b [] (filter declared field_numbers) ++ filter (λ n. not (declared n)) field_numbers)) by_number
+      ∙ over_both (held t m) (filter declared field_numbers) (filter (λ n. not (declared n)) field_numbers)
+      ∙ ap (λ xs. xs ++ flat_map (held t m) (filter (λ n. not (declared n)) field_numbers)) (of_those (held t m) declared field_numbers ∙ first_few (λ n. cond (declared n) (held t m n) []) 3 (2 ^ 29 - 4) (omega arith) (λ n l. none (declared n) n l))
+      ∙ ap (λ xs. flat_map (λ n. cond (declared n) (held t m n) []) (count_from 1 3) ++ xs) (of_those (held t m) (λ n. not (declared n)) field_numbers ∙ first_few (λ n. cond (not (declared n)) (held t m n) []) 3 (2 ^ 29 - 4) (omega arith) (λ n l. none (not (declared n)) n l)) where
+        both : (b : Bool) → ◌≡◌ {A = List (FieldName × Given)} (cond b [] []) []
+        both true = refl
+        both false = refl
 
 n_above : (n : ℕ) → 3 < n → n_message n ≡ absent
 n_above n h = ap (λ b. cond b (content (single (int32 (pos 66)))) absent) (other_number n 2 (omega arith))
@@ -209,19 +231,22 @@ m_above n h =
     ap (λ b. cond b (content (single (int32 (pos 150)))) (cond (n == 3) (content (message n_message)) absent)) (other_number n 1 (omega arith))
     ∙ ap (λ b. cond b (content (message n_message)) absent) (other_number n 3 h)
 
+abbrev inner : Inner
+inner = λ u m. Some (printed_within 99 plainly schema u m)
+
 -- and what it is printed as
-n_printed : printed schema comma type_n n_message ≡ with_int (codes "bar") (codes "66") no_fields
+n_printed : (form : Form) → form.pretty ≡ false → form.defaults ≡ false → form.as_declared ≡ false → (inner : Inner) → joined (between form.pretty) (printed_fields form schema inner type_n n_message) ≡ with_int (codes "bar") (codes "66") no_fields
 unfolding digits
-n_printed = ap (joined comma) (few_printed type_n n_message n_above)
+n_printed form line set by_number inner = ap (joined (between form.pretty)) (few_printed form set by_number inner type_n n_message n_above)
 
 abbrev m_tree : Fields → Fields
-m_tree inner = more_fields (plain (codes "foo")) (one_scalar (int (codes "150"))) comma (more_fields (plain (codes "nested")) (one_message false curly inner) no_separator no_fields)
+m_tree fs = more_fields (plain (codes "foo")) (one_scalar (int (codes "150"))) comma (more_fields (plain (codes "nested")) (one_message false curly fs) no_separator no_fields)
 
-m_printed : printed schema comma type_m m_message ≡ m_tree (with_int (codes "bar") (codes "66") no_fields)
+m_printed : printed plainly schema type_m m_message ≡ m_tree (with_int (codes "bar") (codes "66") no_fields)
 unfolding digits
-m_printed = ap (joined comma) (few_printed type_m m_message m_above) ∙ ap m_tree n_printed
+m_printed = ap (joined comma) (few_printed plainly refl refl inner type_m m_message m_above) ∙ ap m_tree (n_printed plainly refl refl refl inner)
 
-on_one_line : compact (printed schema comma type_m m_message) ≡ codes "foo:150,nested{bar:66}"
+on_one_line : text_of plainly (printed plainly schema type_m m_message) ≡ codes "foo:150,nested{bar:66}"
 on_one_line = ap compact m_printed
 
 on_lines : pretty first ≡ codes "foo: 150\nnested {\n  bar: 66\n}"
@@ -229,3 +254,53 @@ on_lines = refl
 
 one_brace : open_braces first ≡ 1
 one_brace = refl
+
+-- ---- google.protobuf.Any
+
+-- [x.y/N] { bar: 66 }, whose bytes are 10 42
+abbrev expansion_tree : Fields → Fields
+expansion_tree fs = more_fields (expansion (record { first = codes "x"; others = codes "y" ∷ [] }) (record { first = codes "N"; others = [] })) (one_message false curly fs) no_separator no_fields
+
+abbrev url : Text
+url = codes "x.y/N"
+
+abbrev any_message : Message
+any_message = assign (types (codes "Any")) 2 (content (single (blob (16 ∷ 66 ∷ [])))) (assign (types (codes "Any")) 1 (content (single (text url))) nothing)
+
+-- what its fields give
+abbrev n_given : Message
+n_given = assign (types type_n) 2 (content (single (int32 (pos 66)))) nothing
+
+n_given_above : (n : ℕ) → 3 < n → n_given n ≡ absent
+n_given_above n h = ap (λ b. cond b (content (single (int32 (pos 66)))) (cond (rival (types type_n) 2 n) absent absent)) (other_number n 2 (omega arith)) ∙ both (rival (types type_n) 2 n) where
+  both : (b : Bool) → cond b absent absent ≡ absent
+  both true = refl
+  both false = refl
+
+n_bytes : bytes_of types type_n n_given ≡ 16 ∷ 66 ∷ []
+unfolding varint_bytes
+n_bytes =
+    let declared = λ (n : ℕ). is_declared (types type_n n) in
+    let payloads = λ (n : ℕ). payloads_under types (types type_n n) (n_given n) in
+    let none : (n : ℕ) → 3 < n → payloads n ≡ [] = λ n l. ap (payloads_under types (types type_n n)) (n_given_above n l) in
+    let first = first_few (λ n. numbered n (cond (declared n) (payloads n) [])) 3 (2 ^ 29 - 4) (omega arith) (λ n l. ap (λ ps. numbered n (cond (declared n) ps [])) (none n l) ∙ ap (numbered n) (none_or (declared n))) in
+    let others = first_few (λ n. numbered n (cond (declared n) [] (payloads n))) 3 (2 ^ 29 - 4) (omega arith) (λ n l. ap (λ ps. numbered n (cond (declared n) [] ps)) (none n l) ∙ ap (numbered n) (none_or (declared n))) in
+    ap (λ rs. records_bytes (records_of (rs ++ flat_map (λ n. numbered n (cond (declared n) [] (payloads n))) field_numbers))) first
+    ∙ ap (λ rs. records_bytes (records_of (flat_map (λ n. numbered n (cond (declared n) (payloads n) [])) (count_from 1 3) ++ rs))) others where
+      none_or : (b : Bool) → ◌≡◌ {A = List Payload} (cond b [] []) []
+      none_or true = refl
+      none_or false = refl
+
+any_given : value schema (shape_of schema (codes "Any")) (expansion_tree (with_int (codes "bar") (codes "66") no_fields)) nothing ≡ Some any_message
+any_given = ap (λ bytes. option_and_then (λ m. Some m) (cond (nat_lt (length bytes) (2 ^ 64)) (hold (shape_of schema (codes "Any")) url bytes nothing) None)) n_bytes
+
+-- no other message is given one
+no_any : value schema (shape_of schema type_m) (expansion_tree (with_int (codes "bar") (codes "66") no_fields)) nothing ≡ None
+no_any = refl
+
+-- and as what it is printed
+any_printed : printed expanding schema (codes "Any") any_message ≡ expansion_tree (printed_within 99 expanding schema type_n n_message)
+any_printed = refl
+
+any_on_one_line : text_of expanding (printed expanding schema (codes "Any") any_message) ≡ codes "[x.y/N]{bar:66}"
+any_on_one_line = ap (λ fs. compact (expansion_tree fs)) (n_printed expanding refl refl refl (λ u m. Some (printed_within 98 expanding schema u m)))

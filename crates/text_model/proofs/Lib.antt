@@ -12,5 +12,6 @@ mod Examples
 pub mod Leaves
 pub mod Decimals
 pub mod Written
+pub mod Pretty
 pub mod Shown
 pub mod Back

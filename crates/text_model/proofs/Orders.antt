@@ -5,6 +5,8 @@ use Rattle.std.proofs.lemmas.Bool.Decides.{eqb_tells}
 use Rattle.std.proofs.lemmas.Bool.{or_from}
 use Rattle.protobuf_model.specs.Types.{Field}
 use Rattle.protobuf_model.specs.Bytes.{count_from, field_numbers, is_declared}
+use Rattle.text_model.specs.Forms.{Form}
+use Rattle.text_model.specs.Schemas.{Names}
 use Rattle.text_model.specs.Printed.{printing_order}
 
 -- the number is among them
@@ -100,24 +102,102 @@ apart_numbers : AreApart field_numbers
 unfolding field_numbers
 apart_numbers = apart_count 1 (2 ^ 29 - 1)
 
-either : (d : Bool) → ((d && true) || (not d && true)) ≡ true
+either : (d : Bool) → (d || (not d && true)) ≡ true
 either true = refl
 either false = refl
 
-not_both : (d b c : Bool) → (d && b) ≡ true → (not d && c) ≡ false
-not_both true b c e = refl
-not_both false b c e = cc
+-- of a list in which each declared field stands once
+module _ (form : Form) (names : Names) (type : ℕ → Option Field) (once : (n : ℕ) → filter (λ q. q == n) names.declared ≡ cond (is_declared (type n)) (n ∷ []) []) where
+  none_there : (q : ℕ) (ns : List ℕ) → filter (λ n. n == q) ns ≡ [] → has ns q ≡ false
+  none_there q [] e = refl
+  none_there q (n ∷ ns) e = by (n == q) refl (none_there q ns) where
+    by : (b : Bool) → (n == q) ≡ b → (filter (λ n. n == q) ns ≡ [] → has ns q ≡ false) → ((n == q) || has ns q) ≡ false
+    by true i later = absurd (let x : n ∷ filter (λ n. n == q) ns ≡ [] = sym (ap (λ b. cond b (n ∷ filter (λ n. n == q) ns) (filter (λ n. n == q) ns)) i) ∙ e in cc)
+    by false i later = ap (λ b. b || has ns q) i ∙ later (sym (ap (λ b. cond b (n ∷ filter (λ n. n == q) ns) (filter (λ n. n == q) ns)) i) ∙ e)
 
-pub order_has : (type : ℕ → Option Field) (q : ℕ) → InRange q → has (printing_order type) q ≡ true
-order_has type q h =
-    let d = λ (n : ℕ). is_declared (type n) in
-    has_append (filter d field_numbers) (filter (λ n. not (d n)) field_numbers) q
-    ∙ ap (λ t. t || has (filter (λ n. not (d n)) field_numbers) q) (has_filter d field_numbers q ∙ ap (λ t. d q && t) (in_numbers q h))
-    ∙ ap (λ t. (d q && true) || t) (has_filter (λ n. not (d n)) field_numbers q ∙ ap (λ t. not (d q) && t) (in_numbers q h))
-    ∙ either (d q)
+  one_there : (q : ℕ) (ns : List ℕ) → filter (λ n. n == q) ns ≡ q ∷ [] → has ns q ≡ true
+  one_there q [] e = cc
+  one_there q (n ∷ ns) e = by (n == q) refl (one_there q ns) where
+    by : (b : Bool) → (n == q) ≡ b → (filter (λ n. n == q) ns ≡ q ∷ [] → has ns q ≡ true) → ((n == q) || has ns q) ≡ true
+    by true i later = ap (λ b. b || has ns q) i
+    by false i later = ap (λ b. b || has ns q) i ∙ later (sym (ap (λ b. cond b (n ∷ filter (λ n. n == q) ns) (filter (λ n. n == q) ns)) i) ∙ e)
 
-pub order_apart : (type : ℕ → Option Field) → AreApart (printing_order type)
-order_apart type =
-    let d = λ (n : ℕ). is_declared (type n) in
-    apart_append (filter d field_numbers) (filter (λ n. not (d n)) field_numbers) (apart_filter d field_numbers apart_numbers) (apart_filter (λ n. not (d n)) field_numbers apart_numbers)
-    (λ q e. has_filter (λ n. not (d n)) field_numbers q ∙ not_both (d q) (has field_numbers q) (has field_numbers q) (sym (has_filter d field_numbers q) ∙ e))
+  abbrev AtMostOne : List ℕ → Type 0
+  AtMostOne [] = Unit {0}
+  AtMostOne (x ∷ []) = Unit {0}
+  AtMostOne (x ∷ y ∷ xs) = ⊥
+
+  empty_behind : (x : ℕ) (xs : List ℕ) → AtMostOne (x ∷ xs) → xs ≡ []
+  empty_behind x [] h = refl
+  empty_behind x (y ∷ xs) h = absurd h
+
+  apart_once : (ns : List ℕ) → ((q : ℕ) → AtMostOne (filter (λ n. n == q) ns)) → AreApart ns
+  apart_once [] h = tt
+  apart_once (n ∷ ns) h = (here, apart_once ns there) where
+    here : has ns n ≡ false
+    here = elim (eqb_tells n n) [
+      | inl e ↦ none_there n ns (empty_behind n (filter (λ q. q == n) ns) (subst (λ b. AtMostOne (cond b (n ∷ filter (λ q. q == n) ns) (filter (λ q. q == n) ns))) e.0 (h n)))
+      | inr e ↦ absurd (e.1 refl)
+    ]
+
+    there : (q : ℕ) → AtMostOne (filter (λ n. n == q) ns)
+    there q = by (n == q) refl where
+      by : (b : Bool) → (n == q) ≡ b → AtMostOne (filter (λ n. n == q) ns)
+      by true e = subst AtMostOne (sym (empty_behind n (filter (λ n. n == q) ns) (subst (λ b. AtMostOne (cond b (n ∷ filter (λ n. n == q) ns) (filter (λ n. n == q) ns))) e (h q)))) tt
+      by false e = subst (λ b. AtMostOne (cond b (n ∷ filter (λ n. n == q) ns) (filter (λ n. n == q) ns))) e (h q)
+
+  declared_has : (q : ℕ) → has names.declared q ≡ is_declared (type q)
+  declared_has q = by (is_declared (type q)) refl where
+    by : (b : Bool) → is_declared (type q) ≡ b → has names.declared q ≡ b
+    by true e = one_there q names.declared (once q ∙ ap (λ b. cond b (q ∷ []) []) e)
+    by false e = none_there q names.declared (once q ∙ ap (λ b. cond b (q ∷ []) []) e)
+
+  declared_apart : AreApart names.declared
+  declared_apart = apart_once names.declared (λ q. subst AtMostOne (sym (once q)) (by q (is_declared (type q)))) where
+    by : (q : ℕ) (b : Bool) → AtMostOne (cond b (q ∷ []) [])
+    by q true = tt
+    by q false = tt
+
+  abbrev others : List ℕ
+  others = filter (λ n. not (is_declared (type n))) field_numbers
+
+  abbrev ascending : List ℕ
+  ascending = filter (λ n. is_declared (type n)) field_numbers
+
+  first_has : (q : ℕ) → InRange q → has (cond form.as_declared names.declared ascending) q ≡ is_declared (type q)
+  first_has q h = by form.as_declared where
+    and_true : (b : Bool) → (b && true) ≡ b
+    and_true true = refl
+    and_true false = refl
+
+    by : (b : Bool) → has (cond b names.declared ascending) q ≡ is_declared (type q)
+    by true = declared_has q
+    by false = has_filter (λ n. is_declared (type n)) field_numbers q ∙ ap (λ t. is_declared (type q) && t) (in_numbers q h) ∙ and_true (is_declared (type q))
+
+  first_declared : (q : ℕ) → has (cond form.as_declared names.declared ascending) q ≡ true → is_declared (type q) ≡ true
+  first_declared q = by form.as_declared where
+    both : (a b : Bool) → (a && b) ≡ true → a ≡ true
+    both true b e = refl
+    both false b e = cc
+
+    by : (b : Bool) → has (cond b names.declared ascending) q ≡ true → is_declared (type q) ≡ true
+    by true e = sym (declared_has q) ∙ e
+    by false e = both (is_declared (type q)) (has field_numbers q) (sym (has_filter (λ n. is_declared (type n)) field_numbers q) ∙ e)
+
+  first_apart : AreApart (cond form.as_declared names.declared ascending)
+  first_apart = by form.as_declared where
+    by : (b : Bool) → AreApart (cond b names.declared ascending)
+    by true = declared_apart
+    by false = apart_filter (λ n. is_declared (type n)) field_numbers apart_numbers
+
+  pub order_has : (q : ℕ) → InRange q → has (printing_order form names type) q ≡ true
+  order_has q h =
+      has_append (cond form.as_declared names.declared ascending) others q
+      ∙ ap (λ t. t || has others q) (first_has q h)
+      ∙ ap (λ t. is_declared (type q) || t) (has_filter (λ n. not (is_declared (type n))) field_numbers q ∙ ap (λ t. not (is_declared (type q)) && t) (in_numbers q h))
+      ∙ either (is_declared (type q))
+
+  pub order_apart : AreApart (printing_order form names type)
+  order_apart =
+      apart_append (cond form.as_declared names.declared ascending) others first_apart (apart_filter (λ n. not (is_declared (type n))) field_numbers apart_numbers)
+      (λ q e. has_filter (λ n. not (is_declared (type n))) field_numbers q ∙ ap (λ t. not t && has field_numbers q) (first_declared q e))

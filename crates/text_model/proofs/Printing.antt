@@ -1,5 +1,5 @@
 -- What a message is printed as gives the message.
-use Rattle.std.proofs.Common.{◌≡◌, ◌⊎◌, inl, inr, ℕ, zero, suc, ◌==◌, ◌||◌, ◌&&◌, Bool, true, false, cond, List, [], ◌∷◌, ◌++◌, Option, None, Some, option_and_then, refl, sym, ap, ◌∙◌, subst}
+use Rattle.std.proofs.Common.{not, ◌≡◌, ◌⊎◌, inl, inr, ℕ, zero, suc, ◌==◌, ◌||◌, ◌&&◌, Bool, true, false, cond, List, [], ◌∷◌, ◌++◌, Option, None, Some, option_and_then, refl, sym, ap, ◌∙◌, subst}
 use Rattle.std.specs.List.{flat_map, list_any}
 use Rattle.std.proofs.lemmas.Bool.Decides.{eqb_tells}
 use Rattle.std.proofs.lemmas.Bool.{or_from}
@@ -10,10 +10,11 @@ use Rattle.protobuf_model.specs.Values.{Content, Held, content, records, Message
 use Rattle.protobuf_model.specs.Types.{Name, Field, oneof_of, rival}
 use Rattle.protobuf_model.specs.Typed.{IsHeldOf, IsTypedBy, IsTyped}
 use Rattle.protobuf_model.specs.Bytes.{field_numbers}
-use Rattle.text_model.specs.Tree.{FieldName, plain, extension, Given, Separator}
-use Rattle.text_model.specs.Schemas.{Schema, Shape, shape_of, Finds, AreNames, HaveNames}
+use Rattle.text_model.specs.Tree.{FieldName, plain, extension, Given, Separator, Fields}
+use Rattle.text_model.specs.Forms.{Form, between, IsOwn}
+use Rattle.text_model.specs.Schemas.{Schema, Shape, shape_of, Finds, AreNames, HaveNames, Names}
 use Rattle.text_model.specs.Value.{is_set, has_rival, assign, written, with_field, named_value, value, body_value, field_value}
-use Rattle.text_model.specs.Printed.{joined, parts, field_name, printing_order, printed_content, printed_held, printed_fields, printed}
+use Rattle.text_model.specs.Printed.{Inner, in_any, or_fields, lacks_presence, default_given, unset, joined, parts, field_name, printing_order, printed_content, printed_held, printed_fields, printed_by, printed_within, printed}
 use Rattle.text_model.specs.Plain.{IsPlainHeld, IsPlain}
 use Rattle.text_model.proofs.Orders.{has, AreApart, true_false, order_has, order_apart}
 use Rattle.text_model.proofs.Contents.{field_back}
@@ -99,14 +100,27 @@ no_rival type n x h = by (oneof_of (type n)) where
   by None = refl
   by (Some k) = any_not (λ q. rival type n q && is_set (x q)) field_numbers (λ q. each q (rival type n q) refl)
 
-module _ (w : Schema) (sep : Separator) (t : Name) (names : AreNames (w.types t) (w.names t)) (typed : Name → Message → Type 0) (levels : ℕ)
-    (back : (u : Name) (m : Message) → typed u m → IsPlain w.types u m → value w (shape_of w u) (printed w sep u m) nothing ≡ Some m)
+cond_off : (b c : Bool) (o : Option Fields) → b ≡ false → cond (b && c) o None ≡ None
+cond_off true c o e = cc
+cond_off false c o e = refl
+
+-- in such a form an Any is printed as its fields, and no field that is not set
+pub no_any : (form : Form) (w : Schema) (inner : Inner) (t : Name) (m : Message) → IsOwn form → in_any form w inner t m ≡ None
+no_any form w inner t m own = cond_off form.expands (w.is_any t) _ own.unexpanded
+
+pub none_unset : (form : Form) (names : Names) (n : ℕ) (o : Option Field) → IsOwn form → unset form names n o ≡ []
+none_unset form names n None own = refl
+none_unset form names n (Some f) own =
+    ap (λ b. cond (b && (not f.extension && lacks_presence f.part f.label)) ((field_name names n f, default_given (names.enum_name n) f.part f.label) ∷ []) []) own.set
+
+module _ (form : Form) (own : IsOwn form) (w : Schema) (inner : Inner) (t : Name) (names : AreNames (w.types t) (w.names t)) (typed : Name → Message → Type 0) (levels : ℕ)
+    (back : (u : Name) (m : Message) → typed u m → IsPlain w.types u m → value w (shape_of w u) (printed_by form w inner u m) nothing ≡ Some m)
     (m : Message) (h : IsTypedBy typed levels (w.types t) m) (b : IsPlain w.types t m) where
   abbrev type : ℕ → Option Field
   type = w.types t
 
   abbrev under : ℕ → List (FieldName × Given)
-  under = λ n. printed_held w sep (w.names t) n (type n) (m n)
+  under = λ n. printed_held form w inner (w.names t) n (type n) (m n)
 
   -- what is held of a part is held of the whole
   part_of : (left : List ℕ) (x : Message) (q : ℕ) → IsPart left m x → m q ≡ absent → x q ≡ absent
@@ -122,10 +136,11 @@ module _ (w : Schema) (sep : Separator) (t : Name) (names : AreNames (w.types t)
   set_absent c e = cc
 
   step : (n : ℕ) (ns : List ℕ) → has ns n ≡ false → Goes ns → (x : Message) → IsPart (n ∷ ns) m x → (o : Option Field) → type n ≡ o → (i : Held) → m n ≡ i
-      → entries_value w (shape_of w t) (printed_held w sep (w.names t) n o i ++ flat_map under ns) x ≡ Some m
+      → entries_value w (shape_of w t) (printed_held form w inner (w.names t) n o i ++ flat_map under ns) x ≡ Some m
   step n ns apart goes x p o e (records ps) f =
       let none : ps ≡ [] = plain_records o ps (subst (λ i. IsPlainHeld w.types o i) f (subst (λ o. IsPlainHeld w.types o (m n)) e (b n))) in
-      goes x (part_on n ns m x x apart p (p.todo n (has_here n ns) ∙ sym (f ∙ ap records none)) (λ q d. refl)) where
+      ap (λ xs. entries_value w (shape_of w t) (xs ++ flat_map under ns) x) (none_unset form (w.names t) n o own)
+      ∙ goes x (part_on n ns m x x apart p (p.todo n (has_here n ns) ∙ sym (f ∙ ap records none)) (λ q d. refl)) where
         plain_records : (o : Option Field) (ps : List Payload) → IsPlainHeld w.types o (records ps) → ps ≡ []
         plain_records None ps h = h
         plain_records (Some f) ps h = h
@@ -136,8 +151,8 @@ module _ (w : Schema) (sep : Separator) (t : Name) (names : AreNames (w.types t)
       let here = p.todo n (has_here n ns) in
       let others : (q : ℕ) → rival type n q ≡ true → x q ≡ absent = λ q r. part_of (n ∷ ns) x q p (elim (h.exclusive n q r) [ inl a ↦ absurd (set_absent c (sym i ∙ a)) | inr a ↦ a ]) in
       ap (option_and_then (entries_value w (shape_of w t) (flat_map under ns)))
-      (found w (shape_of w t) n f x (field_value w (shape_of w t) (printed_content w sep ((w.names t).enum_name n) f.part.kind c) x) (λ u. body_value w u (printed_content w sep ((w.names t).enum_name n) f.part.kind c)) (names.fields n f e) e
-      ∙ field_back w sep typed back (shape_of w t) n (names.enums n) f.part f.label f.oneof f.extension x c suits plain_one here (no_rival type n x others))
+      (found w (shape_of w t) n f x (field_value w (shape_of w t) (printed_content form w inner ((w.names t).enum_name n) f.part.kind c) x) (λ u. body_value w u (printed_content form w inner ((w.names t).enum_name n) f.part.kind c)) (names.fields n f e) e
+      ∙ field_back form w inner typed back (shape_of w t) n (names.enums n) f.part f.label f.oneof f.extension x c suits plain_one here (no_rival type n x others))
       ∙ goes (assign type n (content c) x) (part_on n ns m x (assign type n (content c) x) apart p (assigned_here ∙ sym i) (λ q d. assigned_there q d (rival type n q) refl others)) where
         assigned_here : assign type n (content c) x n ≡ content c
         assigned_here = elim (eqb_tells n n) [ inl k ↦ ap (λ b. cond b (content c) (cond (rival type n n) absent (x n))) k.0 | inr k ↦ absurd (k.1 refl) ]
@@ -153,15 +168,19 @@ module _ (w : Schema) (sep : Separator) (t : Name) (names : AreNames (w.types t)
   entries_go [] apart x p = ap Some (fun_ext (λ q. p.done q refl))
   entries_go (n ∷ ns) apart x p = step n ns apart.0 (entries_go ns apart.1) x p (type n) refl (m n) refl
 
-  pub message_back : value w (shape_of w t) (printed w sep t m) nothing ≡ Some m
+  pub message_back : value w (shape_of w t) (printed_by form w inner t m) nothing ≡ Some m
   message_back =
-      joined_value w (shape_of w t) sep (printed_fields w sep t m) nothing
-      ∙ entries_go (printing_order type) (order_apart type) nothing (record {
-        done = λ q e. elim (h.numbers q) [ inl a ↦ sym a | inr r ↦ absurd (true_false (has (printing_order type) q) (order_has type q r) e) ];
+      ap (λ o. value w (shape_of w t) (or_fields o (joined (between form.pretty) (printed_fields form w inner t m))) nothing) (no_any form w inner t m own)
+      ∙ joined_value w (shape_of w t) (between form.pretty) (printed_fields form w inner t m) nothing
+      ∙ entries_go (printing_order form (w.names t) type) (order_apart form (w.names t) type names.declared) nothing (record {
+        done = λ q e. elim (h.numbers q) [ inl a ↦ sym a | inr r ↦ absurd (true_false (has (printing_order form (w.names t) type) q) (order_has form (w.names t) type names.declared q r) e) ];
         todo = λ q e. refl;
       })
 
 -- of so many levels
-pub printed_back : (levels : ℕ) (w : Schema) → HaveNames w → (sep : Separator) (t : Name) (m : Message) → IsTyped levels w.types t m → IsPlain w.types t m → value w (shape_of w t) (printed w sep t m) nothing ≡ Some m
-printed_back zero w names sep t m h b = message_back w sep t (names t) (λ u m. ⊥) zero (λ u m h b. absurd h) m h b
-printed_back (suc levels) w names sep t m h b = message_back w sep t (names t) (IsTyped levels w.types) (suc levels) (printed_back levels w names sep) m h b
+printed_by_back : (levels : ℕ) (form : Form) → IsOwn form → (w : Schema) (inner : Inner) → HaveNames w → (t : Name) (m : Message) → IsTyped levels w.types t m → IsPlain w.types t m → value w (shape_of w t) (printed_by form w inner t m) nothing ≡ Some m
+printed_by_back zero form own w inner names t m h b = message_back form own w inner t (names t) (λ u m. ⊥) zero (λ u m h b. absurd h) m h b
+printed_by_back (suc levels) form own w inner names t m h b = message_back form own w inner t (names t) (IsTyped levels w.types) (suc levels) (printed_by_back levels form own w inner names) m h b
+
+pub printed_back : (form : Form) → IsOwn form → (w : Schema) → HaveNames w → (t : Name) (m : Message) → IsTyped 100 w.types t m → IsPlain w.types t m → value w (shape_of w t) (printed form w t m) nothing ≡ Some m
+printed_back form own w names t m h b = printed_by_back 100 form own w (λ u b. Some (printed_within 99 form w u b)) names t m h b

@@ -1,5 +1,5 @@
 -- What a message is printed as on one line is cut into its tokens again.
-use Rattle.std.proofs.Common.{◌≡◌, ℕ, ℤ, zero, suc, pos, negsuc, ◌<◌, ◌^◌, Bool, true, false, cond, List, [], ◌∷◌, ◌++◌, Option, Some, None, FitsSigned, refl, sym, subst, arith}
+use Rattle.std.proofs.Common.{codes, ◌≡◌, ℕ, ℤ, zero, suc, pos, negsuc, ◌<◌, ◌^◌, Bool, true, false, cond, List, [], ◌∷◌, ◌++◌, Option, Some, None, FitsSigned, refl, sym, subst, arith}
 use Rattle.std.specs.Int.{w32, w64}
 use Rattle.std.specs.List.{flat_map, list_all, AllByRecursion}
 use Rattle.std.proofs.lemmas.Bool.{and_parts}
@@ -12,15 +12,20 @@ use Rattle.protobuf_model.specs.Types as kinds
 use Rattle.protobuf_model.specs.Scalars.{Suits}
 use Rattle.protobuf_model.specs.Coded.{SuitsType}
 use Rattle.protobuf_model.specs.Typed.{IsOf, IsEntryOf, IsFieldOf, IsHeldOf, IsTypedBy, IsTyped}
-use Rattle.text_model.specs.Tree.{FieldName, plain, extension, comma, Given}
+use Rattle.text_model.specs.Tree.{one_scalar, FieldName, plain, extension, no_separator, Given, Fields, no_fields}
+use Rattle.text_model.specs.Tokens.{fields_tokens}
+use Rattle.text_model.specs.Forms.{Form, between, IsOwn}
 use Rattle.text_model.specs.Schemas.{Names, Schema}
-use Rattle.text_model.specs.Printed.{joined, parts, field_name, natural, whole, named, printed_single, value_in, printed_content, printed_list, printed_entries, printed_held, printed_fields, printed, printing_order}
+use Rattle.text_model.specs.Printed.{Inner, or_fields, joined, parts, field_name, natural, whole, named, printed_single, value_in, printed_content, printed_list, printed_entries, printed_held, printed_fields, printed_by, printed_within, printed, printing_order}
 use Rattle.text_model.specs.Plain.{AreBytes, IsPlainContent, ArePlainContents, ArePlainEntries, IsPlainHeld, IsPlain}
 use Rattle.text_model.specs.Identifiers.{is_identifier, is_full_name, AreIdentifiers, HaveIdentifiers}
-use Rattle.text_model.specs.Rendered.{compact}
+use Rattle.text_model.specs.Rendered.{compact, pretty, text_of}
 use Rattle.text_model.specs.Texts.{Spells}
+use Rattle.text_model.proofs.Leaves.{Lexed}
+use Rattle.text_model.proofs.Printing.{no_any, none_unset}
 use Rattle.text_model.proofs.Utf8.{utf8_small}
-use Rattle.text_model.proofs.Written.{IsCleanScalar, IsNameShown, IsValueShown, AreValuesShown, IsGivenShown, AreShown, shown_lexed}
+use Rattle.text_model.proofs.Pretty.{pretty_lexed}
+use Rattle.text_model.proofs.Written.{IsBetween, IsCleanScalar, IsNameShown, IsValueShown, AreValuesShown, IsGivenShown, AreShown, shown_lexed}
 
 -- ---- single values
 
@@ -65,13 +70,21 @@ single_shown name k v f b h = absurd h
 
 -- ---- names and fields
 
-abbrev IsEntryShown : FieldName × Given → Type 0
-IsEntryShown e = IsNameShown e.0 × IsGivenShown e.1
+abbrev IsEntryShown : Bool → FieldName × Given → Type 0
+IsEntryShown p e = IsNameShown e.0 × IsGivenShown p e.1
 
-joined_shown : (es : List (FieldName × Given)) → AllByRecursion IsEntryShown es → AreShown (joined comma es)
-joined_shown [] h = tt
-joined_shown (e ∷ []) h = (h.0.0, h.0.1, tt, tt)
-joined_shown (e ∷ d ∷ es) h = (h.0.0, h.0.1, tt, joined_shown (d ∷ es) h.1)
+last_is : (p : Bool) → IsBetween p no_separator no_fields
+last_is true = tt
+last_is false = tt
+
+between_is : (p : Bool) (fs : Fields) → IsBetween p (between p) fs
+between_is true fs = tt
+between_is false fs = tt
+
+joined_shown : (p : Bool) (es : List (FieldName × Given)) → AllByRecursion (IsEntryShown p) es → AreShown p (joined (between p) es)
+joined_shown p [] h = tt
+joined_shown p (e ∷ []) h = (h.0.0, h.0.1, last_is p, tt)
+joined_shown p (e ∷ d ∷ es) h = (h.0.0, h.0.1, between_is p (joined (between p) (d ∷ es)), joined_shown p (d ∷ es) h.1)
 
 each_identifier : (ws : List Text) → list_all is_identifier ws ≡ true → AllByRecursion (λ w. is_identifier w ≡ true) ws
 each_identifier [] h = tt
@@ -87,58 +100,66 @@ name_shown names n f h = by (f.extension) refl h where
       let p = and_parts (is_identifier (parts (names.name n)).first) (list_all is_identifier (parts (names.name n)).others) (subst (λ b. cond b (is_full_name (parts (names.name n))) (is_identifier (names.name n)) ≡ true) e h) in
       subst (λ b. IsNameShown (cond b (extension (parts (names.name n))) (plain (names.name n)))) (sym e) (p.0, each_identifier (parts (names.name n)).others p.1)
 
-all_append : (a b : List (FieldName × Given)) → AllByRecursion IsEntryShown a → AllByRecursion IsEntryShown b → AllByRecursion IsEntryShown (a ++ b)
-all_append [] b h k = k
-all_append (x ∷ a) b h k = (h.0, all_append a b h.1 k)
+all_append : (p : Bool) (a b : List (FieldName × Given)) → AllByRecursion (IsEntryShown p) a → AllByRecursion (IsEntryShown p) b → AllByRecursion (IsEntryShown p) (a ++ b)
+all_append p [] b h k = k
+all_append p (x ∷ a) b h k = (h.0, all_append p a b h.1 k)
 
-all_of : (f : ℕ → List (FieldName × Given)) (ns : List ℕ) → ((n : ℕ) → AllByRecursion IsEntryShown (f n)) → AllByRecursion IsEntryShown (flat_map f ns)
-all_of f [] h = tt
-all_of f (n ∷ ns) h = all_append (f n) (flat_map f ns) (h n) (all_of f ns h)
+all_of : (p : Bool) (f : ℕ → List (FieldName × Given)) (ns : List ℕ) → ((n : ℕ) → AllByRecursion (IsEntryShown p) (f n)) → AllByRecursion (IsEntryShown p) (flat_map f ns)
+all_of p f [] h = tt
+all_of p f (n ∷ ns) h = all_append p (f n) (flat_map f ns) (h n) (all_of p f ns h)
 
 -- ---- contents
 
-module _ (w : Schema) (typed : Name → Message → Type 0) (shown : (u : Name) (m : Message) → typed u m → IsPlain w.types u m → AreShown (printed w comma u m)) where
-  alone_shown : (name : ℤ → Option Text) → AreSpelled name → (k : Kind) (c : Content) → IsOf typed k c → IsPlainContent w.types k c → IsGivenShown (printed_content w comma name k c)
+module _ (form : Form) (own : IsOwn form) (w : Schema) (inner : Inner) (typed : Name → Message → Type 0) (shown : (u : Name) (m : Message) → typed u m → IsPlain w.types u m → AreShown form.pretty (printed_by form w inner u m)) where
+  alone_shown : (name : ℤ → Option Text) → AreSpelled name → (k : Kind) (c : Content) → IsOf typed k c → IsPlainContent w.types k c → IsGivenShown form.pretty (printed_content form w inner name k c)
   alone_shown name f (scalar k) (single v) h b = single_shown name k v f b h
   alone_shown name f (nested frame u) (message m) h b = shown u m h b
   alone_shown name f k c h b = absurd h
 
-  element_shown : (name : ℤ → Option Text) → AreSpelled name → (k : Kind) (c : Content) → IsOf typed k c → IsPlainContent w.types k c → IsValueShown (value_in (printed_content w comma name k c))
+  element_shown : (name : ℤ → Option Text) → AreSpelled name → (k : Kind) (c : Content) → IsOf typed k c → IsPlainContent w.types k c → IsValueShown form.pretty (value_in (printed_content form w inner name k c))
   element_shown name f (scalar k) (single v) h b = single_shown name k v f b h
   element_shown name f (nested frame u) (message m) h b = shown u m h b
   element_shown name f k c h b = absurd h
 
-  list_shown : (name : ℤ → Option Text) → AreSpelled name → (k : Kind) (cs : Contents) → AllByRecursion (IsOf typed k) (list_of cs) → ArePlainContents w.types k cs → AreValuesShown (printed_list w comma name k cs)
+  list_shown : (name : ℤ → Option Text) → AreSpelled name → (k : Kind) (cs : Contents) → AllByRecursion (IsOf typed k) (list_of cs) → ArePlainContents w.types k cs → AreValuesShown form.pretty (printed_list form w inner name k cs)
   list_shown name f k no_contents h b = tt
   list_shown name f k (more_contents c cs) h b = (element_shown name f k c h.0 b.0, list_shown name f k cs h.1 b.1)
 
-  entries_shown : (name : ℤ → Option Text) → AreSpelled name → (key : Key) (part : Part) (es : Entries) → AllByRecursion (IsEntryOf typed key part) (pairs_of es) → ArePlainEntries w.types part.kind es → AreValuesShown (printed_entries w comma name part.kind es)
+  entries_shown : (name : ℤ → Option Text) → AreSpelled name → (key : Key) (part : Part) (es : Entries) → AllByRecursion (IsEntryOf typed key part) (pairs_of es) → ArePlainEntries w.types part.kind es → AreValuesShown form.pretty (printed_entries form w inner name part.kind es)
   entries_shown name f key part no_entries h b = tt
   entries_shown name f key part (more_entries v c es) h b =
-      ((refl, single_shown name key.kind v f b.0 h.0.0, tt, (refl, alone_shown name f part.kind c h.0.1 b.1, tt, tt)), entries_shown name f key part es h.1 b.2)
+      (joined_shown form.pretty ((plain (codes "key"), one_scalar (printed_single name v)) ∷ (plain (codes "value"), printed_content form w inner name part.kind c) ∷ []) ((refl, single_shown name key.kind v f b.0 h.0.0), ((refl, alone_shown name f part.kind c h.0.1 b.1), tt)), entries_shown name f key part es h.1 b.2)
 
-  field_shown : (name : ℤ → Option Text) → AreSpelled name → (part : Part) (l : Label) (c : Content) → IsFieldOf typed part l c → IsPlainContent w.types part.kind c → IsGivenShown (printed_content w comma name part.kind c)
+  field_shown : (name : ℤ → Option Text) → AreSpelled name → (part : Part) (l : Label) (c : Content) → IsFieldOf typed part l c → IsPlainContent w.types part.kind c → IsGivenShown form.pretty (printed_content form w inner name part.kind c)
   field_shown name f part one c h b = alone_shown name f part.kind c h.0 b
   field_shown name f part (many packed) (list (more_contents c cs)) h b = list_shown name f part.kind (more_contents c cs) h b
   field_shown name f part (keyed key) (dictionary (more_entries v c es)) h b = entries_shown name f key part (more_entries v c es) h.0 b
   field_shown name f part l c h b = absurd h
 
-  held_shown : (names : Names) (type : ℕ → Option Field) → AreIdentifiers type names → (levels n : ℕ) (o : Option Field) → type n ≡ o → (h : Held) → IsHeldOf typed levels o h → IsPlainHeld w.types o h → AllByRecursion IsEntryShown (printed_held w comma names n o h)
-  held_shown names type a levels n o e (records ps) h b = tt
+  held_shown : (names : Names) (type : ℕ → Option Field) → AreIdentifiers type names → (levels n : ℕ) (o : Option Field) → type n ≡ o → (h : Held) → IsHeldOf typed levels o h → IsPlainHeld w.types o h → AllByRecursion (IsEntryShown form.pretty) (printed_held form w inner names n o h)
+  held_shown names type a levels n o e (records ps) h b = subst (AllByRecursion (IsEntryShown form.pretty)) (sym (none_unset form names n o own)) tt
   held_shown names type a levels n None e (content c) h b = absurd h
   held_shown names type a levels n (Some f) e (content c) h b = ((name_shown names n f (a.fields n f e), field_shown (names.enum_name n) (a.enums n) f.part f.label c h b), tt)
 
-  message_shown : (t : Name) → AreIdentifiers (w.types t) (w.names t) → (levels : ℕ) (m : Message) → IsTypedBy typed levels (w.types t) m → IsPlain w.types t m → AreShown (printed w comma t m)
+  message_shown : (t : Name) → AreIdentifiers (w.types t) (w.names t) → (levels : ℕ) (m : Message) → IsTypedBy typed levels (w.types t) m → IsPlain w.types t m → AreShown form.pretty (printed_by form w inner t m)
   message_shown t a levels m h b =
-      joined_shown (printed_fields w comma t m) (all_of (λ n. printed_held w comma (w.names t) n (w.types t n) (m n)) (printing_order (w.types t))
-      (λ n. held_shown (w.names t) (w.types t) a levels n (w.types t n) refl (m n) (h.contents n) (b n)))
+      subst (λ o. AreShown form.pretty (or_fields o (joined (between form.pretty) (printed_fields form w inner t m)))) (sym (no_any form w inner t m own))
+      (joined_shown form.pretty (printed_fields form w inner t m) (all_of form.pretty (λ n. printed_held form w inner (w.names t) n (w.types t n) (m n)) (printing_order form (w.names t) (w.types t))
+      (λ n. held_shown (w.names t) (w.types t) a levels n (w.types t n) refl (m n) (h.contents n) (b n))))
 
-printed_shown : (levels : ℕ) (w : Schema) → HaveIdentifiers w → (t : Name) (m : Message) → IsTyped levels w.types t m → IsPlain w.types t m → AreShown (printed w comma t m)
-printed_shown zero w a t m h b = message_shown w (λ u m. ⊥) (λ u m h b. absurd h) t (a t) zero m h b
-printed_shown (suc levels) w a t m h b = message_shown w (IsTyped levels w.types) (printed_shown levels w a) t (a t) (suc levels) m h b
+shown_by : (levels : ℕ) (form : Form) → IsOwn form → (w : Schema) (inner : Inner) → HaveIdentifiers w → (t : Name) (m : Message) → IsTyped levels w.types t m → IsPlain w.types t m → AreShown form.pretty (printed_by form w inner t m)
+shown_by zero form own w inner a t m h b = message_shown form own w inner (λ u m. ⊥) (λ u m h b. absurd h) t (a t) zero m h b
+shown_by (suc levels) form own w inner a t m h b = message_shown form own w inner (IsTyped levels w.types) (shown_by levels form own w inner a) t (a t) (suc levels) m h b
 
--- the text on one line spells the printed fields
-pub compact_spelled : (w : Schema) → HaveIdentifiers w → (t : Name) (m : Message) → SuitsType w.types t m → IsPlain w.types t m → Spells (compact (printed w comma t m)) (printed w comma t m)
-compact_spelled w a t m h b =
-    let tree = printed w comma t m in
-    record { lexemes = lexemes (compact tree); cut = all_longest 0 (compact tree); tokens = (shown_lexed tree (printed_shown 100 w a t m h b)).cut 0 }
+-- fields that are printed are cut into again
+tree_lexed : (form : Form) (fs : Fields) → AreShown form.pretty fs → Lexed (text_of form fs) (fields_tokens fs)
+tree_lexed form fs = by form.pretty where
+  by : (b : Bool) → AreShown b fs → Lexed (cond b (pretty fs) (compact fs)) (fields_tokens fs)
+  by true c = pretty_lexed fs c
+  by false c = shown_lexed fs c
+
+pub text_spelled : (form : Form) → IsOwn form → (w : Schema) → HaveIdentifiers w → (t : Name) (m : Message) → SuitsType w.types t m → IsPlain w.types t m → Spells (text_of form (printed form w t m)) (printed form w t m)
+text_spelled form own w a t m h b =
+    let tree = printed form w t m in
+    let shown = shown_by 100 form own w (λ u b. Some (printed_within 99 form w u b)) a t m h b in
+    record { lexemes = lexemes (text_of form tree); cut = all_longest 0 (text_of form tree); tokens = (tree_lexed form tree shown).cut 0 }

@@ -1,8 +1,8 @@
 -- Tokens that are written one directly behind the other are cut into again, where none lengthens the one before it.
-use Rattle.std.proofs.Common.{◌≡◌, ◌⊎◌, inl, inr, ℕ, ◌+◌, ◌<◌, ◌^◌, ◌==◌, not, Bool, true, false, List, [], ◌∷◌, ◌++◌, length, decimal, Ok, refl, sym, ap, ◌∙◌, subst, append_assoc, append-nil, length-append, arith}
+use Rattle.std.proofs.Common.{◌||◌, ◌≡◌, ◌⊎◌, inl, inr, ℕ, ◌+◌, ◌<◌, ◌^◌, ◌==◌, not, Bool, true, false, List, [], ◌∷◌, ◌++◌, length, decimal, Ok, refl, sym, ap, ◌∙◌, subst, append_assoc, append-nil, length-append, arith}
 use Rattle.std.specs.Prelude.{slice_index}
 use Rattle.std.specs.List.{flat_map, list_all, AllByRecursion}
-use Rattle.std.proofs.lemmas.Bool.{and_parts, or_from}
+use Rattle.std.proofs.lemmas.Bool.{and_parts, or_from, or_parts, not-true}
 use Rattle.std.proofs.lemmas.Fmt.{decimal_is_IsNumeral}
 use Rattle.protox_lex.specs.Class.{Text, is_in}
 use Rattle.protox_lex.specs.Escapes.{escaped}
@@ -55,30 +55,34 @@ abbrev pub AreWritten : List Token → Type 0
 AreWritten [] = Unit {0}
 AreWritten (t ∷ ts) = IsClean t × IsApart t ts × AreWritten ts
 
-word_ended : (ts : List Token) → AreWritten ts → is_at begins_word ts ≡ false → ends_word (run ts) ≡ true
-word_ended [] h e = refl
-word_ended (ident w ∷ ts) h e = cc
-word_ended (int r d ∷ ts) h e = cc
-word_ended (float s ∷ ts) h e = cc
-word_ended (str s ∷ ts) h e = refl
-word_ended (sign b ∷ ts) h e = ap not h.0.word
+number_word : (z : Text) → ends_number z ≡ true → ends_word z ≡ true
+number_word [] h = refl
+number_word (b ∷ z) h = ap not (or_parts (is_in class.Word b) (b == 46) (not-true (is_in class.Word b || b == 46) h)).0
 
-number_ended : (ts : List Token) → AreWritten ts → is_at begins_word ts ≡ false → is_at (is_sign 46) ts ≡ false → ends_number (run ts) ≡ true
-number_ended [] h e f = refl
-number_ended (ident w ∷ ts) h e f = cc
-number_ended (int r d ∷ ts) h e f = cc
-number_ended (float s ∷ ts) h e f = cc
-number_ended (str s ∷ ts) h e f = refl
-number_ended (sign b ∷ ts) h e f = ap not (or_from (is_in class.Word b) (b == 46) h.0.word f)
+word_ended : (ts : List Token) (z : Text) → AreWritten ts → is_at begins_word ts ≡ false → ends_number z ≡ true → ends_word (run ts ++ z) ≡ true
+word_ended [] z h e g = number_word z g
+word_ended (ident w ∷ ts) z h e g = cc
+word_ended (int r d ∷ ts) z h e g = cc
+word_ended (float s ∷ ts) z h e g = cc
+word_ended (str s ∷ ts) z h e g = refl
+word_ended (sign b ∷ ts) z h e g = ap not h.0.word
 
-no_digit : (ts : List Token) → AreWritten ts → is_at is_ident ts ≡ true → is_in class.Digit (slice_index (run ts) 0) ≡ false
-no_digit [] h e = cc
-no_digit (ident [] ∷ ts) h e = absurd (let x : false ≡ true = h.0 in cc)
-no_digit (ident (b ∷ y) ∷ ts) h e = letter_no_digit b (and_parts (is_in class.Letter b) (list_all (is_in class.Word) y) h.0).0
-no_digit (int r d ∷ ts) h e = cc
-no_digit (float s ∷ ts) h e = cc
-no_digit (str s ∷ ts) h e = cc
-no_digit (sign b ∷ ts) h e = cc
+number_ended : (ts : List Token) (z : Text) → AreWritten ts → is_at begins_word ts ≡ false → is_at (is_sign 46) ts ≡ false → ends_number z ≡ true → ends_number (run ts ++ z) ≡ true
+number_ended [] z h e f g = g
+number_ended (ident w ∷ ts) z h e f g = cc
+number_ended (int r d ∷ ts) z h e f g = cc
+number_ended (float s ∷ ts) z h e f g = cc
+number_ended (str s ∷ ts) z h e f g = refl
+number_ended (sign b ∷ ts) z h e f g = ap not (or_from (is_in class.Word b) (b == 46) h.0.word f)
+
+no_digit : (ts : List Token) (z : Text) → AreWritten ts → is_at is_ident ts ≡ true → is_in class.Digit (slice_index (run ts ++ z) 0) ≡ false
+no_digit [] z h e = cc
+no_digit (ident [] ∷ ts) z h e = absurd (let x : false ≡ true = h.0 in cc)
+no_digit (ident (b ∷ y) ∷ ts) z h e = letter_no_digit b (and_parts (is_in class.Letter b) (list_all (is_in class.Word) y) h.0).0
+no_digit (int r d ∷ ts) z h e = cc
+no_digit (float s ∷ ts) z h e = cc
+no_digit (str s ∷ ts) z h e = cc
+no_digit (sign b ∷ ts) z h e = cc
 
 decimal_lexed : (d : Text) (n : ℕ) (z : Text) (ts : List Token) → n < 2 ^ 64 → d ≡ decimal n → ends_number z ≡ true → Lexed z ts → Lexed (d ++ z) (int radix.Decimal d ∷ ts)
 decimal_lexed [] n z ts small e f h = absurd (let k = (decimal_is_IsNumeral n small).0.0 in omega (arith, ap length e))
@@ -92,23 +96,31 @@ string_lexed raw s z ts small e h =
     (ap (λ y. front at (34 ∷ y)) (append_assoc (escaped s) (34 ∷ []) z) ∙ string_front at s z small ∙ ap (λ n. Ok (token (str (escaped s)), n)) (let l = length-append (escaped s) (34 ∷ []) in let k : length (escaped s) + 2 ≡ length (34 ∷ (escaped s ++ 34 ∷ [])) = omega arith in k)))
     h
 
-pub run_lexed : (ts : List Token) → AreWritten ts → Lexed (run ts) ts
-run_lexed [] h = lexed_nil
-run_lexed (ident [] ∷ ts) h = absurd (let x : false ≡ true = h.0 in cc)
-run_lexed (ident (b ∷ y) ∷ ts) h =
+-- one token more
+more_lexed : (t x z : Text) (y : Token) (ts : List Token) → Lexed (t ++ (x ++ z)) (y ∷ ts) → Lexed ((t ++ x) ++ z) (y ∷ ts)
+more_lexed t x z y ts h = subst (λ s. Lexed s (y ∷ ts)) (sym (append_assoc t x z)) h
+
+-- before a text that lengthens no word and no number
+pub run_lexed : (ts : List Token) → AreWritten ts → (z : Text) (us : List Token) → ends_number z ≡ true → Lexed z us → Lexed (run ts ++ z) (ts ++ us)
+run_lexed [] h z us e g = g
+run_lexed (ident [] ∷ ts) h z us e g = absurd (let x : false ≡ true = h.0 in cc)
+run_lexed (ident (b ∷ y) ∷ ts) h z us e g =
     let p = and_parts (is_in class.Letter b) (list_all (is_in class.Word) y) h.0 in
-    token_before b y (run ts) (ident (b ∷ y)) ts (λ at. word_front at b y (run ts) p.0 (letter_solid b p.0) p.1 (word_ended ts h.2 h.1)) (run_lexed ts h.2)
-run_lexed (int radix.Decimal d ∷ ts) h = decimal_lexed d h.0.0 (run ts) ts h.0.1 h.0.2 (number_ended ts h.2 h.1.0 h.1.1) (run_lexed ts h.2)
-run_lexed (int radix.Octal d ∷ ts) h = absurd h.0
-run_lexed (int radix.Hexadecimal d ∷ ts) h = absurd h.0
-run_lexed (float s ∷ ts) h = absurd h.0
-run_lexed (str raw ∷ ts) h = string_lexed raw h.0.0 (run ts) ts h.0.1 h.0.2 (run_lexed ts h.2)
-run_lexed (sign b ∷ ts) h =
-    token_before b [] (run ts) (sign b) ts (λ at. h.0.front at (run ts) (elim h.1 [ inl e ↦ inl e | inr e ↦ inr (no_digit ts h.2 e) ])) (run_lexed ts h.2)
+    more_lexed (b ∷ y) (run ts) z (ident (b ∷ y)) (ts ++ us)
+    (token_before b y (run ts ++ z) (ident (b ∷ y)) (ts ++ us) (λ at. word_front at b y (run ts ++ z) p.0 (letter_solid b p.0) p.1 (word_ended ts z h.2 h.1 e)) (run_lexed ts h.2 z us e g))
+run_lexed (int radix.Decimal d ∷ ts) h z us e g =
+    more_lexed d (run ts) z (int radix.Decimal d) (ts ++ us) (decimal_lexed d h.0.0 (run ts ++ z) (ts ++ us) h.0.1 h.0.2 (number_ended ts z h.2 h.1.0 h.1.1 e) (run_lexed ts h.2 z us e g))
+run_lexed (int radix.Octal d ∷ ts) h z us e g = absurd h.0
+run_lexed (int radix.Hexadecimal d ∷ ts) h z us e g = absurd h.0
+run_lexed (float s ∷ ts) h z us e g = absurd h.0
+run_lexed (str raw ∷ ts) h z us e g =
+    more_lexed (34 ∷ (raw ++ 34 ∷ [])) (run ts) z (str raw) (ts ++ us) (string_lexed raw h.0.0 (run ts ++ z) (ts ++ us) h.0.1 h.0.2 (run_lexed ts h.2 z us e g))
+run_lexed (sign b ∷ ts) h z us e g =
+    token_before b [] (run ts ++ z) (sign b) (ts ++ us) (λ at. h.0.front at (run ts ++ z) (elim h.1 [ inl i ↦ inl i | inr i ↦ inr (no_digit ts z h.2 i) ])) (run_lexed ts h.2 z us e g)
 
 -- ---- trees
 
-comma_sign : IsSign 44
+pub comma_sign : IsSign 44
 comma_sign = record { front = λ at z h. comma_front at z; word = refl }
 
 minus_sign : IsSign 45
@@ -117,19 +129,19 @@ minus_sign = record { front = λ at z h. minus_front at z; word = refl }
 dot_sign : IsSign 46
 dot_sign = record { front = λ at z h. dot_front at z (elim h [ inl e ↦ absurd (let x : true ≡ false = e in cc) | inr e ↦ e ]); word = refl }
 
-colon_sign : IsSign 58
+pub colon_sign : IsSign 58
 colon_sign = record { front = λ at z h. colon_front at z; word = refl }
 
-bracket_sign : IsSign 91
+pub bracket_sign : IsSign 91
 bracket_sign = record { front = λ at z h. bracket_front at z; word = refl }
 
-close_bracket_sign : IsSign 93
+pub close_bracket_sign : IsSign 93
 close_bracket_sign = record { front = λ at z h. close_bracket_front at z; word = refl }
 
-brace_sign : IsSign 123
+pub brace_sign : IsSign 123
 brace_sign = record { front = λ at z h. brace_front at z; word = refl }
 
-close_brace_sign : IsSign 125
+pub close_brace_sign : IsSign 125
 close_brace_sign = record { front = λ at z h. close_brace_front at z; word = refl }
 
 -- neither a word nor a dot
@@ -147,34 +159,35 @@ IsNameShown (plain w) = is_identifier w ≡ true
 IsNameShown (extension n) = (is_identifier n.first ≡ true) × AllByRecursion (λ w. is_identifier w ≡ true) n.others
 IsNameShown (expansion d n) = ⊥
 
--- a comma between two fields
-abbrev pub IsBetween : Separator → Fields → Type 0
-IsBetween no_separator no_fields = Unit {0}
-IsBetween comma fs = Unit {0}
-IsBetween s fs = ⊥
+-- a comma between two fields, or, pretty, no sign
+abbrev pub IsBetween : Bool → Separator → Fields → Type 0
+IsBetween true no_separator fs = Unit {0}
+IsBetween false no_separator no_fields = Unit {0}
+IsBetween false comma fs = Unit {0}
+IsBetween pretty s fs = ⊥
 
 abbrev mutual
-  pub IsValueShown : Value → Type 0
-  IsValueShown (scalar s) = IsCleanScalar s
-  IsValueShown (braced curly fs) = AreShown fs
-  IsValueShown (braced angle fs) = ⊥
+  pub IsValueShown : Bool → Value → Type 0
+  IsValueShown p (scalar s) = IsCleanScalar s
+  IsValueShown p (braced curly fs) = AreShown p fs
+  IsValueShown p (braced angle fs) = ⊥
 
-  pub AreValuesShown : Values → Type 0
-  AreValuesShown no_values = Unit {0}
-  AreValuesShown (more_values v vs) = IsValueShown v × AreValuesShown vs
+  pub AreValuesShown : Bool → Values → Type 0
+  AreValuesShown p no_values = Unit {0}
+  AreValuesShown p (more_values v vs) = IsValueShown p v × AreValuesShown p vs
 
-  pub IsGivenShown : Given → Type 0
-  IsGivenShown (one_scalar s) = IsCleanScalar s
-  IsGivenShown (one_message false curly fs) = AreShown fs
-  IsGivenShown (one_message colon b fs) = ⊥
-  IsGivenShown (listed vs) = AreValuesShown vs
+  pub IsGivenShown : Bool → Given → Type 0
+  IsGivenShown p (one_scalar s) = IsCleanScalar s
+  IsGivenShown p (one_message false curly fs) = AreShown p fs
+  IsGivenShown p (one_message colon b fs) = ⊥
+  IsGivenShown p (listed vs) = AreValuesShown p vs
 
-  -- fields that are printed on one line
-  pub AreShown : Fields → Type 0
-  AreShown no_fields = Unit {0}
-  AreShown (more_fields n g s fs) = IsNameShown n × IsGivenShown g × IsBetween s fs × AreShown fs
+  -- fields that are printed
+  pub AreShown : Bool → Fields → Type 0
+  AreShown p no_fields = Unit {0}
+  AreShown p (more_fields n g s fs) = IsNameShown n × IsGivenShown p g × IsBetween p s fs × AreShown p fs
 
-scalar_written : (s : ScalarValue) → IsCleanScalar s → (ts : List Token) → Follows ts → AreWritten ts → AreWritten (scalar_tokens s ++ ts)
+pub scalar_written : (s : ScalarValue) → IsCleanScalar s → (ts : List Token) → Follows ts → AreWritten ts → AreWritten (scalar_tokens s ++ ts)
 scalar_written (signed true (integer r d)) c ts f h = (minus_sign, inl refl, (c, (f.word, f.dot), h))
 scalar_written (signed true (floating s)) c ts f h = absurd c
 scalar_written (signed true (identifier w)) c ts f h = (minus_sign, inl refl, (c, f.word, h))
@@ -192,7 +205,7 @@ others_written : (ws : List Text) → AllByRecursion (λ w. is_identifier w ≡ 
 others_written [] a ts h = (close_bracket_sign, inl refl, h)
 others_written (w ∷ ws) a ts h = (dot_sign, inr refl, (a.0, dots_follow ws ts, others_written ws a.1 ts h))
 
-name_written : (n : FieldName) → IsNameShown n → (ts : List Token) → Follows ts → AreWritten ts → AreWritten (name_tokens n ++ ts)
+pub name_written : (n : FieldName) → IsNameShown n → (ts : List Token) → Follows ts → AreWritten ts → AreWritten (name_tokens n ++ ts)
 name_written (plain w) c ts f h = (c, f.word, h)
 name_written (extension n) c ts f h =
     subst (λ us. AreWritten (sign 91 ∷ ident n.first ∷ us)) (sym (append_assoc (flat_map dotted n.others) (sign 93 ∷ []) ts))
@@ -203,20 +216,20 @@ more_follow : (vs : Values) (ts : List Token) → Follows (more_tokens vs ++ sig
 more_follow no_values ts = record { word = refl; dot = refl }
 more_follow (more_values v vs) ts = record { word = refl; dot = refl }
 
-given_follow : (g : Given) → IsGivenShown g → (ts : List Token) → Follows (given_tokens g ++ ts)
+given_follow : (g : Given) → IsGivenShown false g → (ts : List Token) → Follows (given_tokens g ++ ts)
 given_follow (one_scalar s) c ts = record { word = refl; dot = refl }
 given_follow (one_message false curly fs) c ts = record { word = refl; dot = refl }
 given_follow (one_message false angle fs) c ts = absurd c
 given_follow (one_message true b fs) c ts = absurd c
 given_follow (listed vs) c ts = record { word = refl; dot = refl }
 
-between_follow : (s : Separator) (fs : Fields) → IsBetween s fs → (ts : List Token) → Follows ts → Follows (separator_tokens s ++ (fields_tokens fs ++ ts))
+between_follow : (s : Separator) (fs : Fields) → IsBetween false s fs → (ts : List Token) → Follows ts → Follows (separator_tokens s ++ (fields_tokens fs ++ ts))
 between_follow no_separator no_fields c ts f = f
 between_follow no_separator (more_fields n g s fs) c ts f = absurd c
 between_follow comma fs c ts f = record { word = refl; dot = refl }
 between_follow semicolon fs c ts f = absurd c
 
-between_written : (s : Separator) (fs : Fields) → IsBetween s fs → (ts : List Token) → AreWritten ts → AreWritten (separator_tokens s ++ ts)
+between_written : (s : Separator) (fs : Fields) → IsBetween false s fs → (ts : List Token) → AreWritten ts → AreWritten (separator_tokens s ++ ts)
 between_written no_separator no_fields c ts h = h
 between_written no_separator (more_fields n g s fs) c ts h = absurd c
 between_written comma fs c ts h = (comma_sign, inl refl, h)
@@ -226,26 +239,26 @@ close_follow : (ts : List Token) → Follows (sign 125 ∷ ts)
 close_follow ts = record { word = refl; dot = refl }
 
 mutual
-  value_written : (v : Value) → IsValueShown v → (ts : List Token) → Follows ts → AreWritten ts → AreWritten (value_tokens v ++ ts)
+  value_written : (v : Value) → IsValueShown false v → (ts : List Token) → Follows ts → AreWritten ts → AreWritten (value_tokens v ++ ts)
   value_written (scalar s) c ts f h = scalar_written s c ts f h
   value_written (braced curly fs) c ts f h =
       subst (λ us. AreWritten (sign 123 ∷ us)) (sym (append_assoc (fields_tokens fs) (sign 125 ∷ []) ts))
       (brace_sign, inl refl, fields_written fs c (sign 125 ∷ ts) (close_follow ts) (close_brace_sign, inl refl, h))
   value_written (braced angle fs) c ts f h = absurd c
 
-  more_written : (vs : Values) → AreValuesShown vs → (ts : List Token) → AreWritten ts → AreWritten (more_tokens vs ++ sign 93 ∷ ts)
+  more_written : (vs : Values) → AreValuesShown false vs → (ts : List Token) → AreWritten ts → AreWritten (more_tokens vs ++ sign 93 ∷ ts)
   more_written no_values c ts h = (close_bracket_sign, inl refl, h)
   more_written (more_values v vs) c ts h =
       subst (λ us. AreWritten (sign 44 ∷ us)) (sym (append_assoc (value_tokens v) (more_tokens vs) (sign 93 ∷ ts)))
       (comma_sign, inl refl, value_written v c.0 (more_tokens vs ++ sign 93 ∷ ts) (more_follow vs ts) (more_written vs c.1 ts h))
 
-  values_written : (vs : Values) → AreValuesShown vs → (ts : List Token) → AreWritten ts → AreWritten (values_tokens vs ++ sign 93 ∷ ts)
+  values_written : (vs : Values) → AreValuesShown false vs → (ts : List Token) → AreWritten ts → AreWritten (values_tokens vs ++ sign 93 ∷ ts)
   values_written no_values c ts h = (close_bracket_sign, inl refl, h)
   values_written (more_values v vs) c ts h =
       subst AreWritten (sym (append_assoc (value_tokens v) (more_tokens vs) (sign 93 ∷ ts)))
       (value_written v c.0 (more_tokens vs ++ sign 93 ∷ ts) (more_follow vs ts) (more_written vs c.1 ts h))
 
-  given_written : (g : Given) → IsGivenShown g → (ts : List Token) → Follows ts → AreWritten ts → AreWritten (given_tokens g ++ ts)
+  given_written : (g : Given) → IsGivenShown false g → (ts : List Token) → Follows ts → AreWritten ts → AreWritten (given_tokens g ++ ts)
   given_written (one_scalar s) c ts f h = (colon_sign, inl refl, scalar_written s c ts f h)
   given_written (one_message false curly fs) c ts f h =
       subst (λ us. AreWritten (sign 123 ∷ us)) (sym (append_assoc (fields_tokens fs) (sign 125 ∷ []) ts))
@@ -256,7 +269,7 @@ mutual
       subst (λ us. AreWritten (sign 58 ∷ sign 91 ∷ us)) (sym (append_assoc (values_tokens vs) (sign 93 ∷ []) ts))
       (colon_sign, inl refl, (bracket_sign, inl refl, values_written vs c ts h))
 
-  pub fields_written : (fs : Fields) → AreShown fs → (ts : List Token) → Follows ts → AreWritten ts → AreWritten (fields_tokens fs ++ ts)
+  pub fields_written : (fs : Fields) → AreShown false fs → (ts : List Token) → Follows ts → AreWritten ts → AreWritten (fields_tokens fs ++ ts)
   fields_written no_fields c ts f h = h
   fields_written (more_fields n g s fs) c ts f h =
       let last = separator_tokens s ++ (fields_tokens fs ++ ts) in
@@ -265,5 +278,8 @@ mutual
       (given_written g c.1 last (between_follow s fs c.2 ts f) (between_written s fs c.2 (fields_tokens fs ++ ts) (fields_written fs c.3 ts f h))))
 
 -- fields that are printed on one line are cut into again
-pub shown_lexed : (fs : Fields) → AreShown fs → Lexed (run (fields_tokens fs)) (fields_tokens fs)
-shown_lexed fs c = run_lexed (fields_tokens fs) (subst AreWritten (append-nil (fields_tokens fs)) (fields_written fs c [] (record { word = refl; dot = refl }) tt))
+pub shown_lexed : (fs : Fields) → AreShown false fs → Lexed (run (fields_tokens fs)) (fields_tokens fs)
+shown_lexed fs c =
+    let written = subst AreWritten (append-nil (fields_tokens fs)) (fields_written fs c [] (record { word = refl; dot = refl }) tt) in
+    subst (λ z. Lexed z (fields_tokens fs)) (append-nil (run (fields_tokens fs)))
+    (subst (Lexed (run (fields_tokens fs) ++ [])) (append-nil (fields_tokens fs)) (run_lexed (fields_tokens fs) written [] [] refl lexed_nil))

@@ -3,6 +3,7 @@ pub mod Tokens
 pub mod Schemas
 pub mod Scalars
 pub mod Value
+pub mod Forms
 pub mod Printed
 pub mod Identifiers
 pub mod Plain

@@ -19,7 +19,8 @@ abbrev mutual
 
   pub ArePlainContents : Types → Kind → Contents → Type 0
   ArePlainContents types k no_contents = Unit {0}
-  ArePlainContents types k (more_contents c cs) = IsPlainContent types k c × ArePlainContents types k cs
+  ArePlainContents types k (more_contents c cs) =
+      IsPlainContent types k c × ArePlainContents types k cs
 
   pub ArePlainEntries : Types → Kind → Entries → Type 0
   ArePlainEntries types k no_entries = Unit {0}

@@ -1,9 +1,10 @@
 -- The text of a printed tree, on one line and pretty.
-use Rattle.std.specs.Prelude.{ℕ, ◌+◌, List, [], ◌∷◌, ◌++◌, drop, replicate}
+use Rattle.std.specs.Prelude.{ℕ, cond, ◌+◌, List, [], ◌∷◌, ◌++◌, drop, replicate}
 use Rattle.std.specs.List.{flat_map}
 use Rattle.protox_lex.specs.Class.{Text}
 use Rattle.text_lex.specs.declared.token.Radix.TheVariants as radix
 use Rattle.text_lex.specs.Token.{Token, ident, int, float, str, sign}
+use Rattle.text_model.specs.Forms.{Form}
 use Rattle.text_model.specs.Tree.{Value, scalar, braced, Values, no_values, more_values, Given, one_scalar, one_message, listed, Fields, no_fields, more_fields}
 use Rattle.text_model.specs.Tokens.{name_tokens, scalar_tokens, fields_tokens}
 
@@ -56,8 +57,13 @@ abbrev mutual
   -- each field on its own line, two spaces deeper in each message
   pub lines : ℕ → Fields → Text
   lines n no_fields = []
-  lines n (more_fields name g s fs) = line n ++ (run (name_tokens name) ++ (pretty_given n g ++ lines n fs))
+  lines n (more_fields name g s fs) =
+      line n ++ (run (name_tokens name) ++ (pretty_given n g ++ lines n fs))
 
 -- the first line has no line end before it
 abbrev pub pretty : Fields → Text
 pretty fs = drop 1 (lines 0 fs)
+
+-- in the form
+abbrev pub text_of : Form → Fields → Text
+text_of form fs = cond form.pretty (pretty fs) (compact fs)

@@ -1,4 +1,5 @@
--- What scalar values stand for in fields of each kind (protobuf.dev, "Text Format Language Specification", Semantics, Type-Specific Values).
+-- What scalar values stand for in fields of each kind (protobuf.dev, "Text Format Language
+-- Specification", Type-Specific Values).
 use Rattle.std.specs.Prelude.{ℕ, ℤ, pos, negsuc, neg_ℤ, ◌==◌, ◌^◌, ◌||◌, nat_lt, cond, Bool, true, false, ◌++◌, Option, None, Some, option_map, codes}
 use Rattle.std.specs.List.{flat_map}
 use Rattle.std.specs.Str.{bytes_eq, is_utf8}
@@ -41,15 +42,22 @@ natural_in kinds.fixed64 n = only_if (nat_lt n (2 ^ 64)) (uint64 n)
 natural_in kinds.bool n = truth_of n
 natural_in _ n = None
 
+-- numbers of 32 and of 64 bits with a sign
+abbrev pub signed_32 : (ℤ → Single) → ℤ → Option Single
+signed_32 f z = only_if (is_within (2 ^ 31) z) (f z)
+
+abbrev pub signed_64 : (ℤ → Single) → ℤ → Option Single
+signed_64 f z = only_if (is_within (2 ^ 63) z) (f z)
+
 -- a number with or without a minus
 abbrev pub integer_in : Scalar → Bool → ℕ → Option Single
-integer_in kinds.int32 minus n = only_if (is_within (2 ^ 31) (number minus n)) (int32 (number minus n))
-integer_in kinds.sint32 minus n = only_if (is_within (2 ^ 31) (number minus n)) (int32 (number minus n))
-integer_in kinds.sfixed32 minus n = only_if (is_within (2 ^ 31) (number minus n)) (int32 (number minus n))
-integer_in kinds.int64 minus n = only_if (is_within (2 ^ 63) (number minus n)) (int64 (number minus n))
-integer_in kinds.sint64 minus n = only_if (is_within (2 ^ 63) (number minus n)) (int64 (number minus n))
-integer_in kinds.sfixed64 minus n = only_if (is_within (2 ^ 63) (number minus n)) (int64 (number minus n))
-integer_in kinds.enumeration minus n = only_if (is_within (2 ^ 31) (number minus n)) (enumerated (number minus n))
+integer_in kinds.int32 minus n = signed_32 int32 (number minus n)
+integer_in kinds.sint32 minus n = signed_32 int32 (number minus n)
+integer_in kinds.sfixed32 minus n = signed_32 int32 (number minus n)
+integer_in kinds.enumeration minus n = signed_32 enumerated (number minus n)
+integer_in kinds.int64 minus n = signed_64 int64 (number minus n)
+integer_in kinds.sint64 minus n = signed_64 int64 (number minus n)
+integer_in kinds.sfixed64 minus n = signed_64 int64 (number minus n)
 integer_in k true n = None
 integer_in k false n = natural_in k n
 
@@ -61,7 +69,8 @@ is_false w = bytes_eq w (codes "false") || (bytes_eq w (codes "False") || bytes_
 
 -- an identifier: a truth value, or the name of one of an enum's values
 abbrev pub identifier_in : (Text → Option ℤ) → Scalar → Text → Option Single
-identifier_in enum kinds.bool w = cond (is_true w) (Some (truth true)) (cond (is_false w) (Some (truth false)) None)
+identifier_in enum kinds.bool w =
+    cond (is_true w) (Some (truth true)) (cond (is_false w) (Some (truth false)) None)
 identifier_in enum kinds.enumeration w = option_map enumerated (enum w)
 identifier_in enum _ w = None
 

@@ -30,7 +30,8 @@ pub record IsText (z : Text) (tree : Fields) : Type 0 where
 
 -- the text is one whose fields, behind the start, give the message
 abbrev pub IsMerged : Schema → Name → Message → Text → Message → Type 0
-IsMerged w t start z m = (tree : Fields) × IsText z tree × (value w (shape_of w t) tree start ≡ Some m)
+IsMerged w t start z m =
+    (tree : Fields) × IsText z tree × (value w (shape_of w t) tree start ≡ Some m)
 
 abbrev pub Gives : Schema → Name → Text → Message → Type 0
 Gives w t z m = IsMerged w t nothing z m

@@ -16,7 +16,8 @@ full_name_tokens n = ident n.first ∷ flat_map dotted n.others
 abbrev pub name_tokens : FieldName → List Token
 name_tokens (plain w) = ident w ∷ []
 name_tokens (extension n) = sign 91 ∷ (full_name_tokens n ++ sign 93 ∷ [])
-name_tokens (expansion d n) = sign 91 ∷ (full_name_tokens d ++ sign 47 ∷ (full_name_tokens n ++ sign 93 ∷ []))
+name_tokens (expansion d n) =
+    sign 91 ∷ (full_name_tokens d ++ sign 47 ∷ (full_name_tokens n ++ sign 93 ∷ []))
 
 abbrev pub word_token : Word → Token
 word_token (integer r digits) = int r digits
@@ -63,12 +64,14 @@ abbrev mutual
 
   pub given_tokens : Given → List Token
   given_tokens (one_scalar s) = sign 58 ∷ scalar_tokens s
-  given_tokens (one_message colon b fs) = colon_tokens colon ++ opening b ∷ (fields_tokens fs ++ closing b ∷ [])
+  given_tokens (one_message colon b fs) =
+      colon_tokens colon ++ opening b ∷ (fields_tokens fs ++ closing b ∷ [])
   given_tokens (listed vs) = sign 58 ∷ sign 91 ∷ (values_tokens vs ++ sign 93 ∷ [])
 
   pub fields_tokens : Fields → List Token
   fields_tokens no_fields = []
-  fields_tokens (more_fields n g s fs) = name_tokens n ++ (given_tokens g ++ (separator_tokens s ++ fields_tokens fs))
+  fields_tokens (more_fields n g s fs) =
+      name_tokens n ++ (given_tokens g ++ (separator_tokens s ++ fields_tokens fs))
 
 abbrev mutual
   pub value_braces : Value → ℕ

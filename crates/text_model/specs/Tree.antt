@@ -1,4 +1,5 @@
--- The tree of a text, with each choice of spelling kept (protobuf.dev, "Text Format Language Specification", Fields and Values).
+-- The tree of a text, with each choice of spelling kept (protobuf.dev, "Text Format Language
+-- Specification", Syntax Elements).
 use Rattle.std.specs.Prelude.{Bool, List}
 use Rattle.protox_lex.specs.Class.{Text}
 use Rattle.text_lex.specs.declared.token.Radix.{Radix}
@@ -8,7 +9,8 @@ pub record FullName : Type 0 where
   pub first : Text
   pub others : List Text
 
--- a field by its name, an extension by its full name, or behind a domain a type by its full name, which expands an Any
+-- a field by its name, an extension by its full name, or a type by its full name behind a domain,
+-- which expands a google.protobuf.Any
 pub data FieldName : Type 0 where
   plain : Text → FieldName
   extension : FullName → FieldName
@@ -20,7 +22,8 @@ pub data Word : Type 0 where
   floating : Text → Word
   identifier : Text → Word
 
--- a word, with a minus where the flag says so, or adjacent strings, each as what stands between its quotes
+-- a word, with a minus where the flag says so, or adjacent strings, each as what stands between its
+-- quotes
 pub data ScalarValue : Type 0 where
   signed : Bool → Word → ScalarValue
   strings : Text → List Text → ScalarValue
@@ -44,7 +47,7 @@ mutual
     no_values : Values
     more_values : Value → Values → Values
 
-  -- what is given to a field: behind a colon a scalar or a list, or a message, before which the colon is a choice
+  -- what is given to a field: a scalar or a list behind a colon, or a message, with a colon or not
   pub data Given : Type 0 where
     one_scalar : ScalarValue → Given
     one_message : Bool → Brace → Fields → Given

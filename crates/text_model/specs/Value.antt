@@ -1,5 +1,5 @@
--- The message that a text's fields give, one behind the other, from one that there is before (protobuf.dev, "Text Format Language
--- Specification", Semantics).
+-- The message that a text's fields give, one behind the other, from one that there is before
+-- (protobuf.dev, "Text Format Language Specification", Semantics).
 use Rattle.std.specs.Prelude.{ℕ, ℤ, ◌==◌, ◌^◌, ◌||◌, ◌&&◌, nat_lt, cond, Bool, true, false, List, [], ◌∷◌, ◌++◌, length, map, Option, None, Some, option_map, option_and_then}
 use Rattle.std.specs.List.{flat_map, list_any}
 use Rattle.protox_lex.specs.Class.{Text}
@@ -13,24 +13,24 @@ use Rattle.text_model.specs.Schemas.{Names, Schema, Shape, shape_of, entry_shape
 use Rattle.text_model.specs.Scalars.{scalar_in}
 
 -- what a value is read as: a scalar, with the numbers of an enum's names, or a message
-pub data Form : Type 0 where
-  of_scalar : (Text → Option ℤ) → Scalar → Form
-  of_message : Shape → Form
+pub data Wanted : Type 0 where
+  of_scalar : (Text → Option ℤ) → Scalar → Wanted
+  of_message : Shape → Wanted
 
-abbrev pub form_in : Schema → (Text → Option ℤ) → Kind → Form
-form_in w enum (kinds.scalar k) = of_scalar enum k
-form_in w enum (nested frame u) = of_message (shape_of w u)
+abbrev pub wanted_in : Schema → (Text → Option ℤ) → Kind → Wanted
+wanted_in w enum (kinds.scalar k) = of_scalar enum k
+wanted_in w enum (nested frame u) = of_message (shape_of w u)
 
 -- of the values of a field: a map's are its entries
-abbrev pub form_of : Schema → Names → ℕ → Part → Label → Form
-form_of w names n part (keyed key) = of_message (entry_shape names n key part)
-form_of w names n part _ = form_in w (names.enum_number n) part.kind
+abbrev pub wanted_of : Schema → Names → ℕ → Part → Label → Wanted
+wanted_of w names n part (keyed key) = of_message (entry_shape names n key part)
+wanted_of w names n part _ = wanted_in w (names.enum_number n) part.kind
 
-abbrev pub scalar_content : Form → ScalarValue → Option Content
+abbrev pub scalar_content : Wanted → ScalarValue → Option Content
 scalar_content (of_scalar enum k) s = option_map single (scalar_in enum k s)
 scalar_content (of_message s) v = None
 
-abbrev pub message_content : Form → (Shape → Option Message) → Option Content
+abbrev pub message_content : Wanted → (Shape → Option Message) → Option Content
 message_content (of_message s) fill = option_map message (fill s)
 message_content (of_scalar enum k) fill = None
 
@@ -58,7 +58,10 @@ is_set (records ps) = false
 -- another member of the field's oneof is set
 abbrev pub has_rival : (ℕ → Option Field) → ℕ → Message → Bool
 has_rival type n m =
-    elim (oneof_of (type n)) [ None ↦ false | Some o ↦ list_any (λ q. rival type n q && is_set (m q)) field_numbers ]
+    elim (oneof_of (type n)) [
+      | None ↦ false
+      | Some o ↦ list_any (λ q. rival type n q && is_set (m q)) field_numbers
+    ]
 
 -- the message with this under a number, and nothing under the other members of its oneof
 abbrev pub assign : (ℕ → Option Field) → ℕ → Held → Message → Message
@@ -71,13 +74,15 @@ settled part c = content c
 
 -- one value, where neither the field nor another member of its oneof is set
 abbrev pub set_one : (ℕ → Option Field) → ℕ → Part → Message → Content → Option Message
-set_one type n part m c = cond (is_set (m n) || has_rival type n m) None (Some (assign type n (settled part c) m))
+set_one type n part m c =
+    cond (is_set (m n) || has_rival type n m) None (Some (assign type n (settled part c) m))
 
 -- values behind those of a list, or entries over those of equal keys
 abbrev pub add_all : (ℕ → Option Field) → ℕ → Part → Label → Message → List Content → Option Message
 add_all type n part one m cs = None
 add_all type n part (many packed) m cs = Some (assign type n (if_any (items (m n) ++ cs)) m)
-add_all type n part (keyed key) m cs = Some (assign type n (if_some (put_all (pairs (m n)) (map (entry_of key part) cs))) m)
+add_all type n part (keyed key) m cs =
+    Some (assign type n (if_some (put_all (pairs (m n)) (map (entry_of key part) cs))) m)
 
 -- what is given by itself to a field
 abbrev pub add_one : (ℕ → Option Field) → ℕ → Part → Label → Message → Content → Option Message
@@ -95,40 +100,49 @@ with_field s o give = option_and_then (λ n. option_and_then (give n) (s.fields 
 -- a type's URL and a message's bytes, in an Any, over what stood there
 abbrev pub hold : Shape → Text → Text → Message → Option Message
 hold s url bytes m =
-    option_and_then (λ (f : Field). option_map (λ (g : Field).
-    assign s.fields 2 (settle g.part (blob bytes)) (assign s.fields 1 (settle f.part (text url)) m)) (s.fields 2)) (s.fields 1)
+    with_field s (Some 1) (λ n f. with_field s (Some 2) (λ q g.
+    Some (assign s.fields q (settle g.part (blob bytes))
+    (assign s.fields n (settle f.part (text url)) m))))
 
--- the message of a known type, of no more bytes than a length can say, in an Any
-abbrev pub expanded : Schema → Shape → FullName → FullName → Message → Option Message → Option Message
-expanded w s domain name m body =
-    option_and_then (λ b.
-    cond (s.is_any && (w.is_message (written name) && nat_lt (length (bytes_of w.types (written name) b)) (2 ^ 64)))
-    (hold s (written domain ++ 47 ∷ written name) (bytes_of w.types (written name) b) m) None) body
+-- in an Any the message of a known type, of no more bytes than a length can say
+abbrev pub expanded : Schema → Shape → (domain name : FullName) → Message → (Name → Option Message)
+    → Option Message
+expanded w s domain name m fill =
+    cond s.is_any
+    (option_and_then (λ t. option_and_then (λ b.
+    cond (nat_lt (length (bytes_of w.types t b)) (2 ^ 64))
+    (hold s (written domain ++ 47 ∷ written name) (bytes_of w.types t b) m) None)
+    (fill t)) (w.message (written name))) None
 
 -- what stands under a name, given how fields are set and how the message of an expansion is filled
-abbrev pub named_value : Schema → Shape → FieldName → Message → (ℕ → Field → Option Message) → (Name → Option Message) → Option Message
+abbrev pub named_value : Schema → Shape → FieldName → Message
+    → (ℕ → Field → Option Message) → (Name → Option Message) → Option Message
 named_value w s (plain name) m give fill = with_field s (s.names.field name) give
 named_value w s (extension name) m give fill = with_field s (s.names.extension (written name)) give
-named_value w s (expansion domain name) m give fill = expanded w s domain name m (fill (written name))
+named_value w s (expansion domain name) m give fill = expanded w s domain name m fill
 
 abbrev mutual
-  pub value_content : Schema → Form → Value → Option Content
-  value_content w form (scalar s) = scalar_content form s
-  value_content w form (braced b fs) = message_content form (λ s. value w s fs nothing)
+  pub value_content : Schema → Wanted → Value → Option Content
+  value_content w wanted (scalar s) = scalar_content wanted s
+  value_content w wanted (braced b fs) = message_content wanted (λ s. value w s fs nothing)
 
-  pub values_contents : Schema → Form → Values → Option (List Content)
-  values_contents w form no_values = Some []
-  values_contents w form (more_values v vs) =
-      option_and_then (λ c. option_map (λ cs. c ∷ cs) (values_contents w form vs)) (value_content w form v)
+  pub values_contents : Schema → Wanted → Values → Option (List Content)
+  values_contents w wanted no_values = Some []
+  values_contents w wanted (more_values v vs) =
+      option_and_then (λ c. option_map (λ cs. c ∷ cs) (values_contents w wanted vs))
+      (value_content w wanted v)
 
   -- what is given to the field of a number
   pub field_value : Schema → Shape → Given → Message → ℕ → Field → Option Message
   field_value w s (one_scalar v) m n f =
-      option_and_then (add_one s.fields n f.part f.label m) (scalar_content (form_of w s.names n f.part f.label) v)
+      option_and_then (add_one s.fields n f.part f.label m)
+      (scalar_content (wanted_of w s.names n f.part f.label) v)
   field_value w s (one_message colon b fs) m n f =
-      option_and_then (add_one s.fields n f.part f.label m) (message_content (form_of w s.names n f.part f.label) (λ s. value w s fs nothing))
+      option_and_then (add_one s.fields n f.part f.label m)
+      (message_content (wanted_of w s.names n f.part f.label) (λ s. value w s fs nothing))
   field_value w s (listed vs) m n f =
-      option_and_then (add_all s.fields n f.part f.label m) (values_contents w (form_of w s.names n f.part f.label) vs)
+      option_and_then (add_all s.fields n f.part f.label m)
+      (values_contents w (wanted_of w s.names n f.part f.label) vs)
 
   -- the message of an expansion
   pub body_value : Schema → Name → Given → Option Message
@@ -139,4 +153,5 @@ abbrev mutual
   pub value : Schema → Shape → Fields → Message → Option Message
   value w s no_fields m = Some m
   value w s (more_fields name g sep fs) m =
-      option_and_then (value w s fs) (named_value w s name m (field_value w s g m) (λ t. body_value w t g))
+      option_and_then (value w s fs)
+      (named_value w s name m (field_value w s g m) (λ t. body_value w t g))

@@ -1,17 +1,19 @@
-//! Laws of texts and of the messages that they give, each the contract of a function that does nothing.
+//! Laws of texts and of the messages that they give, each the contract of a function that does
+//! nothing.
 ghost use Rattle.std.specs.Prelude.{◌≡◌, ◌≤◌, ◌↔◌, Some, option_and_then};
 ghost use Rattle.protox_lex.specs.Class.{Text};
 ghost use Rattle.protobuf_model.specs.Coded.{SuitsType};
 ghost use Rattle.protobuf_model.specs.Types.{Name};
 ghost use Rattle.protobuf_model.specs.Values.{Message, nothing};
+ghost use Rattle.text_model.specs.Forms.{Form, IsOwn};
 ghost use Rattle.text_model.specs.Identifiers.{HaveIdentifiers};
 ghost use Rattle.text_model.specs.Plain.{IsPlain};
 ghost use Rattle.text_model.specs.Printed.{printed};
-ghost use Rattle.text_model.specs.Rendered.{compact};
+ghost use Rattle.text_model.specs.Rendered.{text_of};
 ghost use Rattle.text_model.specs.Schemas.{HaveNames, Schema, Shape, shape_of};
-ghost use Rattle.text_model.specs.Texts.{Gives, IsMerged, IsText, Spells};
+ghost use Rattle.text_model.specs.Texts.{Gives, IsMerged, Spells};
 ghost use Rattle.text_model.specs.Tokens.{fields_tokens, open_braces};
-ghost use Rattle.text_model.specs.Tree.{Fields, Separator, append, comma};
+ghost use Rattle.text_model.specs.Tree.{Fields, append};
 ghost use Rattle.text_model.specs.Value.{value};
 
 /// Tokens are those of one tree at most.
@@ -36,37 +38,33 @@ pub fn fields_are_merged_in_pieces()
         → value w s (append a b) m ≡ option_and_then (value w s b) (value w s a m) }
 {}
 
-/// The fields that a message is printed as give the message, whatever stands between them.
+/// The fields that a message is printed as give the message, in each form that prints the fields that
+/// are set and no others.
 pub fn printed_fields_give_the_message()
-    ensures { (w : Schema) → HaveNames w → (s : Separator) (t : Name) (m : Message)
+    ensures { (form : Form) → IsOwn form → (w : Schema) → HaveNames w → (t : Name) (m : Message)
         → SuitsType w.types t m → IsPlain w.types t m
-        → value w (shape_of w t) (printed w s t m) nothing ≡ Some m }
+        → value w (shape_of w t) (printed form w t m) nothing ≡ Some m }
 {}
 
-/// So a text of these fields gives the message.
-pub fn printed_texts_give_the_message()
-    ensures { (w : Schema) → HaveNames w → (s : Separator) (t : Name) (m : Message) (z : Text)
-        → SuitsType w.types t m → IsPlain w.types t m
-        → IsText z (printed w s t m) → Gives w t z m }
-{}
-
-/// What is written of them on one line is cut into their tokens again, where names are identifiers.
-pub fn compact_texts_spell_what_is_printed()
-    ensures { (w : Schema) → HaveIdentifiers w → (t : Name) (m : Message)
-        → SuitsType w.types t m → IsPlain w.types t m
-        → Spells (compact (printed w comma t m)) (printed w comma t m) }
+/// What is written of them is cut into their tokens again, where names are identifiers.
+pub fn printed_texts_spell_what_is_printed()
+    ensures { (form : Form) → IsOwn form → (w : Schema) → HaveIdentifiers w
+        → (t : Name) (m : Message) → SuitsType w.types t m → IsPlain w.types t m
+        → Spells (text_of form (printed form w t m)) (printed form w t m) }
 {}
 
 /// So it gives the message, if no more than 100 braces are open in it at once.
-pub fn compact_texts_give_the_message()
-    ensures { (w : Schema) → HaveNames w → HaveIdentifiers w → (t : Name) (m : Message)
-        → SuitsType w.types t m → IsPlain w.types t m → open_braces (printed w comma t m) ≤ 100
-        → Gives w t (compact (printed w comma t m)) m }
+pub fn printed_texts_give_the_message()
+    ensures { (form : Form) → IsOwn form → (w : Schema) → HaveNames w → HaveIdentifiers w
+        → (t : Name) (m : Message) → SuitsType w.types t m → IsPlain w.types t m
+        → open_braces (printed form w t m) ≤ 100
+        → Gives w t (text_of form (printed form w t m)) m }
 {}
 
 /// Two such messages have the same text exactly if they are equal.
 pub fn equal_messages_have_equal_texts()
-    ensures { (w : Schema) → HaveNames w → HaveIdentifiers w → (t : Name) (m n : Message)
+    ensures { (form : Form) → IsOwn form → (w : Schema) → HaveNames w → HaveIdentifiers w
+        → (t : Name) (m n : Message)
         → SuitsType w.types t m → IsPlain w.types t m → SuitsType w.types t n → IsPlain w.types t n
-        → (compact (printed w comma t m) ≡ compact (printed w comma t n)) ↔ (m ≡ n) }
+        → (text_of form (printed form w t m) ≡ text_of form (printed form w t n)) ↔ (m ≡ n) }
 {}
