@@ -1,13 +1,13 @@
 -- The numbers in the order of printing: each that a field may have, once.
 use Rattle.std.proofs.Common.{◌≡◌, ◌⊎◌, inl, inr, ℕ, zero, suc, ◌+◌, ◌-◌, ◌<◌, ◌≤◌, ◌^◌, ◌==◌, ◌||◌, ◌&&◌, not, Bool, true, false, cond, List, [], ◌∷◌, ◌++◌, Option, refl, sym, ap, ◌∙◌, subst, arith}
-use Rattle.std.specs.List.{filter}
+use Rattle.std.specs.List.{AllByRecursion, filter}
 use Rattle.std.proofs.lemmas.Bool.Decides.{eqb_tells}
-use Rattle.std.proofs.lemmas.Bool.{or_from}
+use Rattle.std.proofs.lemmas.Bool.{or_from, or_parts, not-true}
 use Rattle.protobuf_model.specs.Types.{Field}
 use Rattle.protobuf_model.specs.Bytes.{count_from, field_numbers, is_declared}
 use Rattle.text_model.specs.Forms.{Form}
 use Rattle.text_model.specs.Schemas.{Names}
-use Rattle.text_model.specs.Printed.{printing_order}
+use Rattle.text_model.specs.Printed.{ComesBefore, IsInOrder, printing_order}
 
 -- the number is among them
 abbrev pub has : List ℕ → ℕ → Bool
@@ -106,6 +106,84 @@ either : (d : Bool) → (d || (not d && true)) ≡ true
 either true = refl
 either false = refl
 
+-- ---- the order
+
+abbrev Ascends : List ℕ → Type 0
+Ascends [] = Unit {0}
+Ascends (n ∷ ns) = AllByRecursion (λ q. n < q) ns × Ascends ns
+
+above_count : (n a k : ℕ) → n < a → AllByRecursion (λ q. n < q) (count_from a k)
+above_count n a zero h = tt
+above_count n a (suc k) h = (h, above_count n (suc a) k (omega arith))
+
+ascends_count : (a k : ℕ) → Ascends (count_from a k)
+ascends_count a zero = tt
+ascends_count a (suc k) = (above_count a (suc a) k (omega arith), ascends_count (suc a) k)
+
+ascending_numbers : Ascends field_numbers
+unfolding field_numbers
+ascending_numbers = ascends_count 1 (2 ^ 29 - 1)
+
+all_filter : (P : ℕ → Type 0) (test : ℕ → Bool) (ns : List ℕ) → AllByRecursion P ns → AllByRecursion P (filter test ns)
+all_filter P test [] h = tt
+all_filter P test (n ∷ ns) h = by (test n) (all_filter P test ns h.1) where
+  by : (b : Bool) → AllByRecursion P (filter test ns) → AllByRecursion P (cond b (n ∷ filter test ns) (filter test ns))
+  by true later = (h.0, later)
+  by false later = later
+
+ascends_filter : (test : ℕ → Bool) (ns : List ℕ) → Ascends ns → Ascends (filter test ns)
+ascends_filter test [] h = tt
+ascends_filter test (n ∷ ns) h = by (test n) (ascends_filter test ns h.1) where
+  by : (b : Bool) → Ascends (filter test ns) → Ascends (cond b (n ∷ filter test ns) (filter test ns))
+  by true later = (all_filter (λ q. n < q) test ns h.0, later)
+  by false later = later
+
+passed : (test : ℕ → Bool) (ns : List ℕ) → AllByRecursion (λ n. test n ≡ true) (filter test ns)
+passed test [] = tt
+passed test (n ∷ ns) = by (test n) refl (passed test ns) where
+  by : (b : Bool) → test n ≡ b → AllByRecursion (λ n. test n ≡ true) (filter test ns) → AllByRecursion (λ n. test n ≡ true) (cond b (n ∷ filter test ns) (filter test ns))
+  by true e later = (e, later)
+  by false e later = later
+
+module _ (type : ℕ → Option Field) where
+  abbrev AreAlike : Bool → List ℕ → Type 0
+  AreAlike b ns = AllByRecursion (λ n. is_declared (type n) ≡ b) ns
+
+  smaller_first : (b : Bool) (n : ℕ) (ns : List ℕ) → is_declared (type n) ≡ b → AreAlike b ns → AllByRecursion (λ q. n < q) ns → AllByRecursion (ComesBefore type n) ns
+  smaller_first b n [] e h l = tt
+  smaller_first b n (q ∷ ns) e h l = (inr (e ∙ sym h.0, l.0), smaller_first b n ns e h.1 l.1)
+
+  alike_in_order : (b : Bool) (ns : List ℕ) → AreAlike b ns → Ascends ns → IsInOrder type ns
+  alike_in_order b [] h l = tt
+  alike_in_order b (n ∷ ns) h l = (smaller_first b n ns h.0 h.1 l.0, alike_in_order b ns h.1 l.1)
+
+  declared_first : (n : ℕ) (ns : List ℕ) → is_declared (type n) ≡ true → AreAlike false ns → AllByRecursion (ComesBefore type n) ns
+  declared_first n [] e h = tt
+  declared_first n (q ∷ ns) e h = (inl (e, h.0), declared_first n ns e h.1)
+
+  all_append : (P : ℕ → Type 0) (a b : List ℕ) → AllByRecursion P a → AllByRecursion P b → AllByRecursion P (a ++ b)
+  all_append P [] b h k = k
+  all_append P (n ∷ a) b h k = (h.0, all_append P a b h.1 k)
+
+  both_in_order : (a b : List ℕ) → AreAlike true a → AreAlike false b → IsInOrder type a → IsInOrder type b → IsInOrder type (a ++ b)
+  both_in_order [] b h k i j = j
+  both_in_order (n ∷ a) b h k i j = (all_append (ComesBefore type n) a b i.0 (declared_first n b h.0 k), both_in_order a b h.1 k i.1 j)
+
+  not_declared : (ns : List ℕ) → AllByRecursion (λ n. not (is_declared (type n)) ≡ true) ns → AreAlike false ns
+  not_declared [] h = tt
+  not_declared (n ∷ ns) h = (not-true (is_declared (type n)) h.0, not_declared ns h.1)
+
+  pub in_order : (form : Form) (names : Names) → form.as_declared ≡ false → IsInOrder type (printing_order form names type)
+  in_order form names e =
+      let declared = filter (λ n. is_declared (type n)) field_numbers in
+      let others = filter (λ n. not (is_declared (type n))) field_numbers in
+      let first = passed (λ n. is_declared (type n)) field_numbers in
+      let last = not_declared others (passed (λ n. not (is_declared (type n))) field_numbers) in
+      subst (λ b. IsInOrder type (cond b names.declared declared ++ others)) (sym e)
+      (both_in_order declared others first last
+      (alike_in_order true declared first (ascends_filter (λ n. is_declared (type n)) field_numbers ascending_numbers))
+      (alike_in_order false others last (ascends_filter (λ n. not (is_declared (type n))) field_numbers ascending_numbers)))
+
 -- of a list in which each declared field stands once
 module _ (form : Form) (names : Names) (type : ℕ → Option Field) (once : (n : ℕ) → filter (λ q. q == n) names.declared ≡ cond (is_declared (type n)) (n ∷ []) []) where
   none_there : (q : ℕ) (ns : List ℕ) → filter (λ n. n == q) ns ≡ [] → has ns q ≡ false
@@ -201,3 +279,23 @@ module _ (form : Form) (names : Names) (type : ℕ → Option Field) (once : (n 
   order_apart =
       apart_append (cond form.as_declared names.declared ascending) others first_apart (apart_filter (λ n. not (is_declared (type n))) field_numbers apart_numbers)
       (λ q e. has_filter (λ n. not (is_declared (type n))) field_numbers q ∙ ap (λ t. not t && has field_numbers q) (first_declared q e))
+
+  -- each number that a field may have stands in it once
+  pub order_once : (q : ℕ) → (0 < q) × (q < 2 ^ 29) → filter (λ n. n == q) (printing_order form names type) ≡ q ∷ []
+  order_once q h = once_of (printing_order form names type) order_apart (order_has q h) where
+    not_there : (ns : List ℕ) → has ns q ≡ false → filter (λ n. n == q) ns ≡ []
+    not_there [] e = refl
+    not_there (n ∷ ns) e =
+        let p = or_parts (n == q) (has ns q) e in
+        ap (λ b. cond b (n ∷ filter (λ n. n == q) ns) (filter (λ n. n == q) ns)) p.0 ∙ not_there ns p.1
+
+    once_of : (ns : List ℕ) → AreApart ns → has ns q ≡ true → filter (λ n. n == q) ns ≡ q ∷ []
+    once_of [] h e = cc
+    once_of (n ∷ ns) h e = by (eqb_tells n q) (once_of ns h.1) where
+      by : (((n == q) ≡ true) × (n ≡ q)) ⊎ (((n == q) ≡ false) × (n ≡ q → ⊥)) → (has ns q ≡ true → filter (λ n. n == q) ns ≡ q ∷ []) → cond (n == q) (n ∷ filter (λ n. n == q) ns) (filter (λ n. n == q) ns) ≡ q ∷ []
+      by (inl i) later =
+          ap (λ b. cond b (n ∷ filter (λ n. n == q) ns) (filter (λ n. n == q) ns)) i.0
+          ∙ ap (λ xs. n ∷ xs) (not_there ns (ap (has ns) (sym i.1) ∙ h.0)) ∙ ap (λ m. m ∷ []) i.1
+      by (inr i) later =
+          ap (λ b. cond b (n ∷ filter (λ n. n == q) ns) (filter (λ n. n == q) ns)) i.0
+          ∙ later (ap (λ b. b || has ns q) (sym i.0) ∙ e)

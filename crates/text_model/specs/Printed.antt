@@ -1,6 +1,6 @@
 -- The tree that a message is printed as.
-use Rattle.std.specs.Prelude.{ℕ, zero, ◌&&◌, option_map, option_and_then, ℤ, pos, negsuc, suc, ◌==◌, cond, not, Bool, true, false, List, [], ◌∷◌, ◌++◌, Option, None, Some, codes, decimal}
-use Rattle.std.specs.List.{flat_map, filter}
+use Rattle.std.specs.Prelude.{◌≡◌, ◌⊎◌, ◌<◌, ℕ, zero, ◌&&◌, option_map, option_and_then, ℤ, pos, negsuc, suc, ◌==◌, cond, not, Bool, true, false, List, [], ◌∷◌, ◌++◌, Option, None, Some, codes, decimal}
+use Rattle.std.specs.List.{AllByRecursion, flat_map, filter}
 use Rattle.protox_lex.specs.Class.{Text}
 use Rattle.protox_lex.specs.Escapes.{escaped}
 use Rattle.text_lex.specs.declared.token.Radix.TheVariants as radix
@@ -55,6 +55,16 @@ abbrev pub printing_order : Form → Names → (ℕ → Option Field) → List �
 printing_order form names type =
     cond form.as_declared names.declared (filter (λ n. is_declared (type n)) field_numbers)
     ++ filter (λ n. not (is_declared (type n))) field_numbers
+
+-- one number comes before another: that of a declared field before others, else the smaller one
+abbrev pub ComesBefore : (ℕ → Option Field) → ℕ → ℕ → Type 0
+ComesBefore type n q =
+    ((is_declared (type n) ≡ true) × (is_declared (type q) ≡ false))
+    ⊎ ((is_declared (type n) ≡ is_declared (type q)) × (n < q))
+
+abbrev pub IsInOrder : (ℕ → Option Field) → List ℕ → Type 0
+IsInOrder type [] = Unit {0}
+IsInOrder type (n ∷ ns) = AllByRecursion (ComesBefore type n) ns × IsInOrder type ns
 
 -- a field that cannot differ from its default where it is not set
 abbrev pub lacks_presence : Part → Label → Bool

@@ -1,16 +1,17 @@
 //! Laws of texts and of the messages that they give, each the contract of a function that does
 //! nothing.
-ghost use Rattle.std.specs.Prelude.{◌≡◌, ◌≤◌, ◌↔◌, Some, option_and_then};
+ghost use Rattle.std.specs.Prelude.{◌≡◌, ◌≤◌, ◌<◌, ◌^◌, ◌==◌, ◌↔◌, ℕ, false, [], ◌∷◌, Option, Some, option_and_then};
+ghost use Rattle.std.specs.List.{filter};
 ghost use Rattle.protox_lex.specs.Class.{Text};
 ghost use Rattle.protobuf_model.specs.Coded.{SuitsType};
-ghost use Rattle.protobuf_model.specs.Types.{Name};
+ghost use Rattle.protobuf_model.specs.Types.{Field, Name};
 ghost use Rattle.protobuf_model.specs.Values.{Message, nothing};
 ghost use Rattle.text_model.specs.Forms.{Form, IsOwn};
 ghost use Rattle.text_model.specs.Identifiers.{HaveIdentifiers};
 ghost use Rattle.text_model.specs.Plain.{IsPlain};
-ghost use Rattle.text_model.specs.Printed.{printed};
+ghost use Rattle.text_model.specs.Printed.{IsInOrder, printed, printing_order};
 ghost use Rattle.text_model.specs.Rendered.{text_of};
-ghost use Rattle.text_model.specs.Schemas.{HaveNames, Schema, Shape, shape_of};
+ghost use Rattle.text_model.specs.Schemas.{AreNames, HaveNames, Names, Schema, Shape, shape_of};
 ghost use Rattle.text_model.specs.Texts.{Gives, IsMerged, Spells};
 ghost use Rattle.text_model.specs.Tokens.{fields_tokens, open_braces};
 ghost use Rattle.text_model.specs.Tree.{Fields, append};
@@ -36,6 +37,18 @@ pub fn a_text_gives_one_message()
 pub fn fields_are_merged_in_pieces()
     ensures { (w : Schema) (s : Shape) (a b : Fields) (m : Message)
         → value w s (append a b) m ≡ option_and_then (value w s b) (value w s a m) }
+{}
+
+/// Fields are printed by ascending number, those that are declared before extensions.
+pub fn fields_are_printed_in_order()
+    ensures { (form : Form) → form.as_declared ≡ false → (names : Names) (type : ℕ → Option Field)
+        → IsInOrder type (printing_order form names type) }
+{}
+
+/// Each number that a field may have comes once, also where fields are printed as they are declared.
+pub fn each_number_is_printed_once()
+    ensures { (form : Form) (names : Names) (type : ℕ → Option Field) → AreNames type names
+        → (n : ℕ) → 0 < n → n < 2 ^ 29 → filter (λ q. q == n) (printing_order form names type) ≡ n ∷ [] }
 {}
 
 /// The fields that a message is printed as give the message, in each form that prints the fields that
