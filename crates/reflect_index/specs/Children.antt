@@ -18,7 +18,7 @@ abbrev pub is_outside : ℕ → ℕ → Option ℕ → Bool
 is_outside i file None = file == i
 is_outside i file (Some j) = false
 
--- what has the index for its parent; of a type or an extension this is the message that declares it
+-- what the message of an index declares
 abbrev pub in_message : ℕ → List Declaration → List Declaration
 in_message i ds = filter (λ d. is_parent i d.parent) ds
 
