@@ -1,5 +1,5 @@
 -- Worked cases: the definitions compute what the text format's documentation says.
-use Rattle.std.proofs.Common.{nat_lt, length, ◌++◌, ◌≡◌, inl, inr, ℕ, pos, negsuc, ◌-◌, ◌<◌, ◌^◌, ◌==◌, ◌&&◌, not, Bool, true, false, cond, List, [], ◌∷◌, Option, Some, None, option_and_then, bytes_eq, codes, refl, ap, ◌∙◌, arith}
+use Rattle.std.proofs.Common.{sym, nat_lt, length, ◌++◌, ◌≡◌, inl, inr, ℕ, pos, negsuc, ◌-◌, ◌<◌, ◌^◌, ◌==◌, ◌&&◌, not, Bool, true, false, cond, List, [], ◌∷◌, Option, Some, None, option_and_then, bytes_eq, codes, refl, ap, ◌∙◌, arith}
 use Rattle.std.specs.Char.{encode_utf8}
 use Rattle.std.specs.Fmt.{digits}
 use Rattle.std.specs.Str.{is_utf8, chars}
@@ -16,11 +16,12 @@ use Rattle.protobuf_model.specs.Types.{Name, Scalar, Kind, nested, sized, Label,
 use Rattle.protobuf_model.specs.Types as kinds
 use Rattle.protobuf_model.specs.Bytes.{count_from, field_numbers, is_declared, bytes_of, numbered, payloads_under}
 use Rattle.text_model.specs.Tree.{expansion, no_separator, comma, FieldName, plain, integer, floating, identifier, ScalarValue, signed, strings, curly, scalar, no_values, more_values, Given, one_scalar, one_message, listed, Fields, no_fields, more_fields}
-use Rattle.text_model.specs.Schemas.{Schema, shape_of}
+use Rattle.text_model.specs.Schemas.{Schema, shape_of, AreNames, Names}
 use Rattle.text_model.specs.Scalars.{scalar_in}
 use Rattle.text_model.specs.Tokens.{open_braces}
 use Rattle.text_model.specs.Value.{hold, is_set, assign, value}
-use Rattle.text_model.specs.Printed.{Inner, joined, lacks_presence, default_given, unset, field_name, printed_held, printed_fields, printed_within, printed}
+use Rattle.text_model.specs.Printed.{Inner, joined, lacks_presence, default_given, unset, field_name, printed_held, printed_fields, printed_within, printed, parts}
+use Rattle.text_model.specs.Identifiers.{is_identifier, is_full_name, AreIdentifiers}
 use Rattle.text_model.specs.Forms.{Form, between}
 use Rattle.text_model.specs.Rendered.{compact, pretty, text_of}
 use Rattle.text_model.proofs.Numbers.{first_few, of_those, over_both, any_there}
@@ -304,3 +305,61 @@ any_printed = refl
 
 any_on_one_line : text_of expanding (printed expanding schema (codes "Any") any_message) ≡ codes "[x.y/N]{bar:66}"
 any_on_one_line = ap (λ fs. compact (expansion_tree fs)) (n_printed expanding refl refl refl (λ u m. Some (printed_within 98 expanding schema u m)))
+
+-- ---- the premises of the laws can be met
+
+-- message N { int32 bar = 2; }
+abbrev n_type : ℕ → Option Field
+n_type n = cond (n == 2) (number false None) None
+
+abbrev n_names : Names
+n_names = record {
+  field = λ w. cond (bytes_eq w (codes "bar")) (Some 2) None;
+  extension = λ w. None;
+  name = λ n. codes "bar";
+  declared = 2 ∷ [];
+  enum_number = λ n w. None;
+  enum_name = λ n z. None;
+}
+
+abbrev is_extension : Option Field → Bool
+is_extension None = true
+is_extension (Some f) = f.extension
+
+no_field : (f : Field) → ◌≡◌ {A = Option Field} None (Some f) → ⊥
+no_field f e = cc
+
+-- no field of the type is an extension, and its number is 2
+its_field : (n : ℕ) (f : Field) → n_type n ≡ Some f → (f.extension ≡ false) × (n ≡ 2)
+its_field n f h = elim (eqb_tells n 2) [
+  | inl k ↦ (sym (ap is_extension (sym (ap (λ b. cond b (number false None) None) k.0) ∙ h)), k.1)
+  | inr k ↦ absurd (no_field f (sym (ap (λ b. cond b (number false None) None) k.0) ∙ h))
+]
+
+n_declared : (n : ℕ) → filter (λ q. q == n) n_names.declared ≡ cond (is_declared (n_type n)) (n ∷ []) []
+n_declared n = elim (eqb_tells 2 n) [
+  | inl a ↦ elim (eqb_tells n 2) [
+    | inl k ↦ ap (λ b. cond b (2 ∷ []) []) a.0 ∙ ap (λ m. m ∷ []) a.1 ∙ sym (ap (λ b. cond (is_declared (cond b (number false None) None)) (n ∷ []) []) k.0)
+    | inr k ↦ absurd (k.1 (sym a.1))
+  ]
+  | inr a ↦ elim (eqb_tells n 2) [
+    | inl k ↦ absurd (a.1 (sym k.1))
+    | inr k ↦ ap (λ b. cond b (2 ∷ []) []) a.0 ∙ sym (ap (λ b. cond (is_declared (cond b (number false None) None)) (n ∷ []) []) k.0)
+  ]
+]
+
+no_name : (w : Text) → ◌≡◌ {A = Option Text} None (Some w) → ⊥
+no_name w e = cc
+
+n_found : AreNames n_type n_names
+n_found = record {
+  fields = λ n f h. let k = its_field n f h in ap (λ b. cond {A = Option ℕ} b None (Some 2)) k.0 ∙ ap Some (sym k.1);
+  enums = λ n z w h. absurd (no_name w h);
+  declared = n_declared;
+}
+
+n_spelled : AreIdentifiers n_type n_names
+n_spelled = record {
+  fields = λ n f h. ap (λ b. cond b (is_full_name (parts (codes "bar"))) (is_identifier (codes "bar"))) (its_field n f h).0;
+  enums = λ n z w h. absurd (no_name w h);
+}

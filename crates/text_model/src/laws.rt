@@ -45,14 +45,16 @@ pub fn fields_are_printed_in_order()
         → IsInOrder type (printing_order form names type) }
 {}
 
-/// Each number that a field may have comes once, also where fields are printed as they are declared.
+/// Each number that a field may have comes once, also where fields are printed as they are
+/// declared.
 pub fn each_number_is_printed_once()
     ensures { (form : Form) (names : Names) (type : ℕ → Option Field) → AreNames type names
-        → (n : ℕ) → 0 < n → n < 2 ^ 29 → filter (λ q. q == n) (printing_order form names type) ≡ n ∷ [] }
+        → (n : ℕ) → 0 < n → n < 2 ^ 29
+        → filter (λ q. q == n) (printing_order form names type) ≡ n ∷ [] }
 {}
 
-/// The fields that a message is printed as give the message, in each form that prints the fields that
-/// are set and no others.
+/// The fields that a message is printed as give the message, in each form that prints the fields
+/// that are set and no others.
 pub fn printed_fields_give_the_message()
     ensures { (form : Form) → IsOwn form → (w : Schema) → HaveNames w → (t : Name) (m : Message)
         → SuitsType w.types t m → IsPlain w.types t m
