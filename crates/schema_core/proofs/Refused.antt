@@ -1,8 +1,8 @@
 -- How files, sources and descriptor sets are refused.
-use Rattle.std.proofs.Common.{◌≡◌, ◌⊎◌, ◌≤◌, ◌<◌, ◌+◌, ◌^◌, ◌++◌, inl, inr, ℕ, zero, suc, Bool, List, [], ◌∷◌, Option, None, Some, IfSome, length, map, take, get_or, slice_get, option_map, string_bytes, Ok, Err, refl, ap, ◌∙◌, sym, subst}
+use Rattle.std.proofs.Common.{◌≡◌, ◌⊎◌, ◌≤◌, ◌<◌, ◌+◌, ◌^◌, ◌++◌, inl, inr, ℕ, Bool, List, [], ◌∷◌, Option, None, Some, IfSome, length, map, take, get_or, slice_get, option_map, string_bytes, Ok, Err, refl, ap, ◌∙◌, sym, subst}
 use Rattle.std.specs.Borrow.{Bor}
 use Rattle.std.proofs.lemmas.Bool.{cases_lt}
-use Rattle.std.proofs.lemmas.List.{map-append, take_all, take_more}
+use Rattle.std.proofs.lemmas.List.{map-append, take-map, take_all, take_more}
 use Rattle.std.proofs.lemmas.Option.{slice_get-map, slice_get-get_or}
 use Rattle.descriptor_records.specs.declared.file.FileDescriptorProto.{FileDescriptorProto}
 use Rattle.reflect_wire.specs.declared.wire_error.WireError.{WireError}
@@ -89,18 +89,12 @@ one_read lends i d old new file inside so_far here put =
 pub all_read : (lends : List (Bor (List ℕ) × Bor (List ℕ))) (i : ℕ) (files : List FileDescriptorProto) → length lends ≤ i → AreFilesOf (sources_of (take i lends)) files → AreFilesOf (sources_of lends) files
 all_read lends i files end read = subst (λ l. AreFilesOf (sources_of l) files) (take_all i lends end) read
 
-take_sources : (lends : List (Bor (List ℕ) × Bor (List ℕ))) (i : ℕ) → sources_of (take i lends) ≡ take i (sources_of lends)
-take_sources [] zero = refl
-take_sources [] (suc i) = refl
-take_sources (s ∷ lends) zero = refl
-take_sources (s ∷ lends) (suc i) = ap (λ l. view s ∷ l) (take_sources lends i)
-
 -- a source that is refused is the first of its batch
 pub of_refused : (p : PoolType) (lends : List (Bor (List ℕ) × Bor (List ℕ))) (i : ℕ) (s : List ℕ × List ℕ) (files : List FileDescriptorProto) (x : ParseError) → slice_get (sources_of lends) i ≡ Some s → AreFilesOf (sources_of (take i lends)) files
     → (x ≡ parsed.Memory) ⊎ IsRefusalOf s.0 s.1 x → (length s.1 < 2 ^ 31 → IsAnswered s.0 s.1 (Err x)) → SourcesRefused p (sources_of lends) (of_source x)
 of_refused p lends i s files parsed.Memory at read h answered = tt
 of_refused p lends i s files (parsed.Refused r) at read (inl m) answered = absurd (cc m)
-of_refused p lends i s files (parsed.Refused r) at read (inr h) answered = (i, s, files, at, subst (λ l. AreFilesOf l files) (take_sources lends i) read, h, answered)
+of_refused p lends i s files (parsed.Refused r) at read (inr h) answered = (i, s, files, at, subst (λ l. AreFilesOf l files) (sym (take-map view i lends)) read, h, answered)
 
 -- files that are refused are refused as the sources that they are read from
 pub of_sources : (p : PoolType) (batch : List (List ℕ × List ℕ)) (files : List FileDescriptorProto) (e : SchemaError) → AreFilesOf batch files → FilesRefused p files e → SourcesRefused p batch e
