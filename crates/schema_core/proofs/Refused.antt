@@ -1,5 +1,5 @@
 -- How files, sources and descriptor sets are refused.
-use Rattle.std.proofs.Common.{◌≡◌, ◌⊎◌, ◌≤◌, ◌<◌, ◌+◌, ◌^◌, ◌++◌, inl, inr, ℕ, Bool, List, [], ◌∷◌, Option, None, Some, IfSome, length, map, take, get_or, slice_get, option_map, string_bytes, Ok, Err, refl, ap, ◌∙◌, sym, subst}
+use Rattle.std.proofs.Common.{◌≡◌, ◌⊎◌, ◌≤◌, ◌<◌, ◌+◌, ◌^◌, ◌++◌, inl, inr, ℕ, Bool, List, [], ◌∷◌, Option, None, Some, IfSome, length, take, get_or, slice_get, option_map, Ok, Err, ap, ◌∙◌, sym, subst}
 use Rattle.std.specs.Borrow.{Bor}
 use Rattle.std.proofs.lemmas.Bool.{cases_lt}
 use Rattle.std.proofs.lemmas.List.{map-append, take-map, take_all, take_more}

@@ -13,4 +13,4 @@ returns-in_err-decode-clause-err c =
     let type = c.in_ok-descriptor.ensures in
     let r = c.from_residual-in_err-decode in
     let p = err_from_is_err_and r.result r.ensures.1 in
-    rw (p.1, p.2) (of_message c.self.pool c.args.type_name.now c.args.bytes.now c.in_ok-descriptor.descriptor c.in_err-decode.field-0.0 (type.pool, type.ok) c.in_err-decode.ensures.fault)
+    rw (p.1, p.2) (of_message c.args.self.now.pool c.args.type_name.now c.args.bytes.now c.in_ok-descriptor.descriptor c.in_err-decode.field-0.0 (type.pool, type.ok) c.in_err-decode.ensures.fault)
