@@ -1,13 +1,15 @@
 -- How files, sources and descriptor sets are refused.
-use Rattle.std.proofs.Common.{◌≡◌, ◌⊎◌, ◌≤◌, ◌<◌, inl, inr, ℕ, List, [], ◌∷◌, None, Some, IfSome, length, map, take, get_or, slice_get, option_map, string_bytes, refl, ap, ◌∙◌, sym, subst}
+use Rattle.std.proofs.Common.{◌≡◌, ◌⊎◌, ◌≤◌, ◌<◌, ◌+◌, ◌^◌, ◌++◌, inl, inr, ℕ, Bool, List, [], ◌∷◌, Option, None, Some, IfSome, length, take, get_or, slice_get, option_map, Ok, Err, ap, ◌∙◌, sym, subst}
 use Rattle.std.specs.Borrow.{Bor}
-use Rattle.std.proofs.lemmas.List.{take_all}
+use Rattle.std.proofs.lemmas.Bool.{cases_lt}
+use Rattle.std.proofs.lemmas.List.{map-append, take-map, take_all, take_more}
 use Rattle.std.proofs.lemmas.Option.{slice_get-map, slice_get-get_or}
 use Rattle.descriptor_records.specs.declared.file.FileDescriptorProto.{FileDescriptorProto}
 use Rattle.reflect_wire.specs.declared.wire_error.WireError.{WireError}
 use Rattle.reflect_wire.specs.declared.wire_error.WireError.TheVariants as wire
 use Rattle.reflect_codec.specs.Reading.{Rejects}
 use Rattle.reflect_codec.specs.Meaning.{IsSetBytes}
+use Rattle.protox_parse.specs.Answers.{IsAnswered}
 use Rattle.protox_parse.specs.Refusals.{IsRefusalOf}
 use Rattle.protox_parse.specs.declared.error.ParseError.{ParseError}
 use Rattle.protox_parse.specs.declared.error.ParseError.TheVariants as parsed
@@ -24,9 +26,14 @@ use Rattle.text_error.specs.declared.error.ParseErrorKind.TheVariants as texts
 use Rattle.option_parts.specs.Places.{option_place, StandsFrom}
 use Rattle.option_parts.specs.TypedOptions.{TypedFiles}
 use Rattle.option_parts.specs.declared.option_error.OptionError.{OptionError}
+use Rattle.schema_core.specs.declared.payload.Fault.{Fault}
 use Rattle.schema_core.specs.declared.error.SchemaError.{SchemaError}
 use Rattle.schema_core.specs.declared.error.SchemaError.TheVariants.{Parse, Link, Options, Wire, Text, UnknownType, Memory, TooLong}
-use Rattle.schema_core.specs.Refusals.{of_source, of_wire, of_text, IsKnown, TextRefused, FilesFit, FilesRefused, sources_of, AreFilesOf, SourcesLinked, SourcesRefused, SetRefused}
+use Rattle.reflect_decode.specs.Spelled.{TellsWhy}
+use Rattle.reflect_pool.specs.declared.message.MessageDescriptor.{MessageDescriptor}
+use Rattle.schema_core.specs.Payloads.{IsType}
+use Rattle.schema_core.specs.Serving.{IsPayload, PayloadRefused, of_schema}
+use Rattle.schema_core.specs.Refusals.{of_source, of_wire, of_text, IsKnown, BytesRefused, TextRefused, FilesFit, FilesRefused, sources_of, IsFileOf, AreFilesOf, SourcesLinked, SourcesRefused, SetRefused}
 
 -- a linker's refusal is one of files
 pub of_link : (p : PoolType) (files typed : List FileDescriptorProto) (d : DescriptorError) (e : SchemaError) → TypedFiles files typed → Refuses (FaultyFiles p typed) d → (e ≡ Memory) ⊎ (e ≡ Link d) → FilesRefused p files e
@@ -58,21 +65,36 @@ view s = (s.0.now, s.1.now)
 pub lent : (lends : List (Bor (List ℕ) × Bor (List ℕ))) (i : ℕ) (d : Bor (List ℕ) × Bor (List ℕ)) → i < length lends → slice_get (sources_of lends) i ≡ Some (view (get_or lends i d))
 lent lends i d inside = slice_get-map view lends i ∙ ap (option_map view) (slice_get-get_or lends i d inside)
 
--- the names of the sources that are lent
-names : (lends : List (Bor (List ℕ) × Bor (List ℕ))) → map (λ s. Some s.0.now) lends ≡ map (λ s. Some s.0) (sources_of lends)
-names [] = refl
-names (s ∷ lends) = ap (λ xs. Some s.0.now ∷ xs) (names lends)
+-- a source that is answered with a file, whose length a place can tell
+pub of_parse : (name z : List ℕ) (file : FileDescriptorProto) → (length z < 2 ^ 31 → IsAnswered name z (Ok file)) → (2 ^ 31 ≤ length z → ⊥) → IsAnswered name z (Ok file)
+of_parse name z file small large = by (cases_lt (length z) (2 ^ 31)) where
+  by : (length z < 2 ^ 31) ⊎ (2 ^ 31 ≤ length z) → IsAnswered name z (Ok file)
+  by (inl lt) = small lt
+  by (inr le) = absurd (large le)
 
--- files under the names of all sources that are lent are those of the batch
-pub all_read : (lends : List (Bor (List ℕ) × Bor (List ℕ))) (i : ℕ) (files : List FileDescriptorProto) → length lends ≤ i → map (λ f. option_map string_bytes f.name) files ≡ map (λ s. Some s.0.now) (take i lends)
-    → AreFilesOf (sources_of lends) files
-all_read lends i files end read = read ∙ ap (map (λ s. Some s.0.now)) (take_all i lends end) ∙ names lends
+files_more : (sources : List (List ℕ × List ℕ)) (files : List FileDescriptorProto) (s : List ℕ × List ℕ) (f : FileDescriptorProto) → AreFilesOf sources files → IsFileOf s f → AreFilesOf (sources ++ s ∷ []) (files ++ f ∷ [])
+files_more [] [] s f h k = (k, tt)
+files_more [] (g ∷ files) s f h k = absurd h
+files_more (r ∷ sources) [] s f h k = absurd h
+files_more (r ∷ sources) (g ∷ files) s f h k = (h.0, files_more sources files s f h.1 k)
 
--- a source that is refused is one of its batch
-pub of_refused : (p : PoolType) (batch : List (List ℕ × List ℕ)) (i : ℕ) (s : List ℕ × List ℕ) (x : ParseError) → slice_get batch i ≡ Some s → (x ≡ parsed.Memory) ⊎ IsRefusalOf s.0 s.1 x → SourcesRefused p batch (of_source x)
-of_refused p batch i s parsed.Memory at h = tt
-of_refused p batch i s (parsed.Refused r) at (inl m) = absurd (cc m)
-of_refused p batch i s (parsed.Refused r) at (inr h) = (i, s, at, h)
+-- one source more is read
+pub one_read : (lends : List (Bor (List ℕ) × Bor (List ℕ))) (i : ℕ) (d : Bor (List ℕ) × Bor (List ℕ)) (old new : List FileDescriptorProto) (file : FileDescriptorProto) → i < length lends → AreFilesOf (sources_of (take i lends)) old → IsFileOf (view (get_or lends i d)) file → new ≡ old ++ file ∷ []
+    → AreFilesOf (sources_of (take (i + 1) lends)) new
+one_read lends i d old new file inside so_far here put =
+    let read : sources_of (take (i + 1) lends) ≡ sources_of (take i lends) ++ view (get_or lends i d) ∷ [] = ap sources_of (take_more lends i d inside) ∙ map-append view (take i lends) (get_or lends i d ∷ []) in
+    subst (λ l. AreFilesOf l new) (sym read) (subst (AreFilesOf (sources_of (take i lends) ++ view (get_or lends i d) ∷ [])) (sym put) (files_more (sources_of (take i lends)) old (view (get_or lends i d)) file so_far here))
+
+-- the files of all sources that are lent are those of the batch
+pub all_read : (lends : List (Bor (List ℕ) × Bor (List ℕ))) (i : ℕ) (files : List FileDescriptorProto) → length lends ≤ i → AreFilesOf (sources_of (take i lends)) files → AreFilesOf (sources_of lends) files
+all_read lends i files end read = subst (λ l. AreFilesOf (sources_of l) files) (take_all i lends end) read
+
+-- a source that is refused is the first of its batch
+pub of_refused : (p : PoolType) (lends : List (Bor (List ℕ) × Bor (List ℕ))) (i : ℕ) (s : List ℕ × List ℕ) (files : List FileDescriptorProto) (x : ParseError) → slice_get (sources_of lends) i ≡ Some s → AreFilesOf (sources_of (take i lends)) files
+    → (x ≡ parsed.Memory) ⊎ IsRefusalOf s.0 s.1 x → (length s.1 < 2 ^ 31 → IsAnswered s.0 s.1 (Err x)) → SourcesRefused p (sources_of lends) (of_source x)
+of_refused p lends i s files parsed.Memory at read h answered = tt
+of_refused p lends i s files (parsed.Refused r) at read (inl m) answered = absurd (cc m)
+of_refused p lends i s files (parsed.Refused r) at read (inr h) answered = (i, s, files, at, subst (λ l. AreFilesOf l files) (sym (take-map view i lends)) read, h, answered)
 
 -- files that are refused are refused as the sources that they are read from
 pub of_sources : (p : PoolType) (batch : List (List ℕ × List ℕ)) (files : List FileDescriptorProto) (e : SchemaError) → AreFilesOf batch files → FilesRefused p files e → SourcesRefused p batch e
@@ -110,3 +132,18 @@ pub of_text_kind : (p : PoolType) (name : List ℕ) (e : text.ParseError) (kind 
 of_text_kind p name e texts.Memory is known true = tt
 of_text_kind p name e (texts.TooLong span) is known true = absurd true
 of_text_kind p name e kind is known true = (known, subst (TrueOf p) (sym is) true)
+
+-- bytes that spell no message of a known type
+pub of_message : (p : PoolType) (name bytes : List ℕ) (d : MessageDescriptor) (e : WireError) → IsType p name d → TellsWhy d bytes e → BytesRefused p name bytes (of_wire e)
+of_message p name bytes d wire.Memory type told = tt
+of_message p name bytes d e type told = (d, type, told)
+
+-- and so an input that they are the payload of
+pub of_payload : (p : PoolType) (name : List ℕ) (is_hex : Bool) (input bytes : List ℕ) (e : SchemaError) → IsPayload is_hex input bytes → BytesRefused p name bytes e → PayloadRefused p name is_hex input (of_schema e)
+of_payload p name is_hex input bytes Memory payload refused = tt
+of_payload p name is_hex input bytes e payload refused = (bytes, payload, refused)
+
+-- an input that is read whole is what was given
+pub refused_input : (F : List ℕ → Fault → Type 0) (given : Option (List ℕ)) (input : List ℕ) (f : Fault) → IfSome given (λ xs. input ≡ xs) → F input f → IfSome given (λ xs. F xs f)
+refused_input F None input f is refused = tt
+refused_input F (Some xs) input f is refused = subst (λ i. F i f) is refused

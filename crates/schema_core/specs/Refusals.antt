@@ -1,6 +1,7 @@
 -- Which refusals the calls of a schema give.
-use Rattle.std.specs.Prelude.{◌≡◌, ℕ, List, None, Some, IfSome, map, length, option_map, slice_get, string_bytes, codes}
+use Rattle.std.specs.Prelude.{◌≡◌, ◌<◌, ◌^◌, ℕ, List, [], ◌∷◌, None, Some, Ok, Err, IfSome, map, length, take, slice_get, string_bytes, codes}
 use Rattle.std.specs.Borrow.{Bor}
+use Rattle.protox_parse.specs.Answers.{IsAnswered}
 use Rattle.protox_parse.specs.Refusals.{IsRefusalOf}
 use Rattle.protox_parse.specs.declared.error.ParseError.{ParseError}
 use Rattle.protox_parse.specs.declared.error.ParseError.TheVariants as parsed
@@ -13,7 +14,10 @@ use Rattle.reflect_build.specs.Refusals.{FaultyFiles}
 use Rattle.reflect_wire.specs.declared.wire_error.WireError.{WireError}
 use Rattle.reflect_wire.specs.declared.wire_error.WireError.TheVariants as wire
 use Rattle.reflect_bytes.specs.Spelled.{SpellsSet, RecordsLinked}
+use Rattle.reflect_decode.specs.Spelled.{TellsWhy}
 use Rattle.reflect_format.specs.Truth.{TrueOf}
+use Rattle.reflect_pool.specs.declared.message.MessageDescriptor.{MessageDescriptor}
+use Rattle.schema_core.specs.Payloads.{IsType}
 use Rattle.text_error.specs.declared.error.ParseError as text
 use Rattle.text_error.specs.declared.error.ParseErrorKind.{ParseErrorKind}
 use Rattle.text_error.specs.declared.error.ParseErrorKind.TheVariants as texts
@@ -53,13 +57,17 @@ TypeRefused p name (UnknownType n) = (string_bytes n ≡ name) × IsUnknown p na
 TypeRefused p name Memory = Unit {0}
 TypeRefused p name _ = ⊥
 
+-- the type is known, and what is told of the bytes is true of them as a message of it
+abbrev pub IsNoMessage : PoolType → List ℕ → List ℕ → WireError → Type 0
+IsNoMessage p name bytes e = (d : MessageDescriptor) × IsType p name d × TellsWhy d bytes e
+
 -- of bytes: the type is unknown, or it is known and the bytes are refused
-abbrev pub BytesRefused : PoolType → List ℕ → SchemaError → Type 0
-BytesRefused p name (UnknownType n) = (string_bytes n ≡ name) × IsUnknown p name
-BytesRefused p name (Wire e) = IsKnown p name
-BytesRefused p name TooLong = IsKnown p name
-BytesRefused p name Memory = Unit {0}
-BytesRefused p name _ = ⊥
+abbrev pub BytesRefused : PoolType → List ℕ → List ℕ → SchemaError → Type 0
+BytesRefused p name bytes (UnknownType n) = (string_bytes n ≡ name) × IsUnknown p name
+BytesRefused p name bytes (Wire e) = IsNoMessage p name bytes e
+BytesRefused p name bytes TooLong = IsNoMessage p name bytes wire.TooLong
+BytesRefused p name bytes Memory = Unit {0}
+BytesRefused p name bytes _ = ⊥
 
 -- of a text: the type is unknown, or it is known and the text is refused with a fault that is true of the pool
 abbrev pub TextRefused : PoolType → List ℕ → SchemaError → Type 0
@@ -91,17 +99,32 @@ descriptor_name = codes "google/protobuf/descriptor.proto"
 abbrev pub sources_of : List (Bor (List ℕ) × Bor (List ℕ)) → List (List ℕ × List ℕ)
 sources_of sources = map (λ s. (s.0.now, s.1.now)) sources
 
--- files, one of each source and in their order, have the names of the sources
+-- the file is the record of a tree that the source spells
+abbrev pub IsFileOf : List ℕ × List ℕ → FileDescriptorProto → Type 0
+IsFileOf s f = IsAnswered s.0 s.1 (Ok f)
+
+-- files, one of each source and in their order
 abbrev pub AreFilesOf : List (List ℕ × List ℕ) → List FileDescriptorProto → Type 0
-AreFilesOf sources files = map (λ f. option_map string_bytes f.name) files ≡ map (λ s. Some s.0) sources
+AreFilesOf [] [] = Unit {0}
+AreFilesOf [] (f ∷ fs) = ⊥
+AreFilesOf (s ∷ ss) [] = ⊥
+AreFilesOf (s ∷ ss) (f ∷ fs) = IsFileOf s f × AreFilesOf ss fs
 
 -- sources are added as such files
 abbrev pub SourcesLinked : PoolType → List (List ℕ × List ℕ) → PoolType → Type 0
 SourcesLinked p sources new = (files : List FileDescriptorProto) × AreFilesOf sources files × FilesLinked p files new
 
--- of sources: one of them is refused under its own name and where its own text is at fault, or such files are refused
+-- the first source that is refused: those before it are files, and it is told under its own name, with what its own text is at
+-- fault for, and where
+abbrev pub IsFirstRefused : List (List ℕ × List ℕ) → ParseError → Type 0
+IsFirstRefused sources e =
+    (i : ℕ) × (s : List ℕ × List ℕ) × (files : List FileDescriptorProto)
+    × (slice_get sources i ≡ Some s) × AreFilesOf (take i sources) files
+    × IsRefusalOf s.0 s.1 e × (length s.1 < 2 ^ 31 → IsAnswered s.0 s.1 (Err e))
+
+-- of sources: one of them is refused as such, or their files are
 abbrev pub SourcesRefused : PoolType → List (List ℕ × List ℕ) → SchemaError → Type 0
-SourcesRefused p sources (Parse e) = (i : ℕ) × (s : List ℕ × List ℕ) × (slice_get sources i ≡ Some s) × IsRefusalOf s.0 s.1 e
+SourcesRefused p sources (Parse e) = IsFirstRefused sources e
 SourcesRefused p sources (Link e) = (files : List FileDescriptorProto) × AreFilesOf sources files × FilesRefused p files (Link e)
 SourcesRefused p sources (Options e) = (files : List FileDescriptorProto) × AreFilesOf sources files × FilesRefused p files (Options e)
 SourcesRefused p sources Memory = Unit {0}

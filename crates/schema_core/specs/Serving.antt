@@ -44,7 +44,7 @@ IsNoHex input = (text : List ℕ) × IsTrimmed input text × IsErr (decode_of te
 
 -- wire bytes are refused as such, or as hexadecimal text
 abbrev pub PayloadRefused : PoolType → List ℕ → Bool → List ℕ → Fault → Type 0
-PayloadRefused p name is_hex input (fault.Schema e) = BytesRefused p name e
+PayloadRefused p name is_hex input (fault.Schema e) = (bytes : List ℕ) × IsPayload is_hex input bytes × BytesRefused p name bytes e
 PayloadRefused p name is_hex input fault.NotHex = (is_hex ≡ true) × IsNoHex input
 PayloadRefused p name is_hex input fault.NotUtf8 = ⊥
 PayloadRefused p name is_hex input fault.Read = Unit {0}

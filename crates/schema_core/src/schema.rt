@@ -149,7 +149,7 @@ impl Schema {
     /// The message of a type that wire bytes spell.
     fn read(&self, type_name: &str, bytes: &[u8]) -> Result<DynamicMessage<'_>, SchemaError>
         ensures ok { IfOk result (IsRead self.now.pool type_name.now bytes.now) }
-        ensures err { IfErr result (BytesRefused self.now.pool type_name.now) }
+        ensures err { IfErr result (BytesRefused self.now.pool type_name.now bytes.now) }
     {
         let descriptor = self.message_type(type_name)?;
         Ok(DynamicMessage::decode(self.alloc, descriptor, bytes)?)
@@ -172,7 +172,7 @@ impl Schema {
     /// `UnknownType` where there is no such type, `Wire` where the bytes are no message of it.
     pub fn decode(&self, type_name: &str, bytes: &[u8]) -> Result<String, SchemaError>
         ensures ok { OnOk result (Decoded self.now.pool type_name.now bytes.now) }
-        ensures err { IfErr result (BytesRefused self.now.pool type_name.now) }
+        ensures err { IfErr result (BytesRefused self.now.pool type_name.now bytes.now) }
     {
         let message = self.read(type_name, bytes)?;
         let options = FormatOptions::new().expand_any(false);
@@ -188,7 +188,7 @@ impl Schema {
     /// Refused as `decode` is.
     pub fn recode(&self, type_name: &str, bytes: &[u8]) -> Result<Vec<u8>, SchemaError>
         ensures ok { IfOk result (λ written. Recoded self.now.pool type_name.now bytes.now written.items) }
-        ensures err { IfErr result (BytesRefused self.now.pool type_name.now) }
+        ensures err { IfErr result (BytesRefused self.now.pool type_name.now bytes.now) }
     {
         Ok(self.read(type_name, bytes)?.encode_to_vec()?)
     }

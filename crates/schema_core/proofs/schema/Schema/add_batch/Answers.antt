@@ -1,4 +1,4 @@
-use Rattle.std.proofs.Common.{◌≡◌, IfErr, IfSome, subst, rules, of_calls}
+use Rattle.std.proofs.Common.{IfErr, IfSome, subst, rules, of_calls}
 use Rattle.std.proofs.lemmas.Result.{err_from_is_err_and}
 use Rattle.reflect_tables.specs.Types.{IsSettled}
 use Rattle.option_parts.specs.Places.{option_place, StandsFrom}

@@ -1,5 +1,6 @@
-use Rattle.std.proofs.Common.{◌≡◌, Some, map, take, option_map, string_bytes}
+use Rattle.std.proofs.Common.{take}
+use Rattle.schema_core.specs.Refusals.{AreFilesOf, sources_of}
 use Rattle.schema_core.proofs.schema.Schema.add_sources.Given as goal
 
 abbrev pub invariant-loop-source : goal.invariant-loop-source
-invariant-loop-source l = map (λ f. option_map string_bytes f.name) l.files.items ≡ map (λ s. Some s.0.now) (take l.source-index l.sources)
+invariant-loop-source l = AreFilesOf (sources_of (take l.source-index l.sources)) l.files.items
