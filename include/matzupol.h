@@ -74,6 +74,7 @@ uint32_t matzupol_unchecked_open(matzupol_schema *schema);
 void matzupol_unchecked_close(matzupol_schema *schema);
 uint32_t matzupol_unchecked_source(matzupol_schema *schema, const uint8_t *name, size_t name_len, const uint8_t *text, size_t text_len);
 uint32_t matzupol_unchecked_link(matzupol_schema *schema);
+uint32_t matzupol_unchecked_forget(matzupol_schema *schema);
 uint32_t matzupol_unchecked_add_set(matzupol_schema *schema, const uint8_t *set, size_t set_len);
 uint32_t matzupol_unchecked_set(matzupol_schema *schema);
 uint32_t matzupol_unchecked_encode(matzupol_schema *schema, const uint8_t *type, size_t type_len, const uint8_t *text, size_t text_len);
@@ -115,6 +116,11 @@ static inline matzupol_code matzupol_source(matzupol_schema *schema, const void 
  * the schema has are passed over. Whatever comes, none is kept any more. PARSE, LINK or OPTIONS tells the first fault. */
 static inline matzupol_code matzupol_link(matzupol_schema *schema) {
     return schema ? (matzupol_code)matzupol_unchecked_link(schema) : MATZUPOL_NOT_OPEN;
+}
+
+/* Lets go of the sources that were kept, unlinked. */
+static inline matzupol_code matzupol_forget(matzupol_schema *schema) {
+    return schema ? (matzupol_code)matzupol_unchecked_forget(schema) : MATZUPOL_NOT_OPEN;
 }
 
 /* Links the files of a descriptor set with the schema's, as one batch. WIRE where the bytes are no set; else as `matzupol_link`. */

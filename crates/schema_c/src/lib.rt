@@ -8,7 +8,7 @@
 mod tests;
 
 ghost use Rattle.std.specs.Prelude.{◌≡◌, None};
-ghost use Rattle.schema_slot.specs.Calls.{AddsSet, Copied, Copies, Decodes, Encodes, GivesSet, Links, On, Opens, Places, Recodes, Waits, length_in};
+ghost use Rattle.schema_slot.specs.Calls.{AddsSet, Copied, Copies, Decodes, Encodes, Forgets, GivesSet, Links, On, Opens, Places, Recodes, Waits, length_in};
 ghost use Rattle.schema_slot.specs.Held.{answer, file_text};
 
 use schema_slot::{Code, Place, Session, Slot};
@@ -64,6 +64,19 @@ pub extern "C" fn matzupol_unchecked_link(slot: &mut Slot, alloc: Global) -> u32
         return Code::Closed.number();
     };
     let code = session.link();
+    slot.put(session, alloc);
+    code.number()
+}
+
+/// Lets go of the sources that were kept.
+#[unsafe(no_mangle)]
+pub extern "C" fn matzupol_unchecked_forget(slot: &mut Slot, alloc: Global) -> u32
+    ensures { On Forgets slot.old.value result slot.new.value }
+{
+    let Some(mut session) = slot.take(alloc) else {
+        return Code::Closed.number();
+    };
+    let code = session.forget();
     slot.put(session, alloc);
     code.number()
 }

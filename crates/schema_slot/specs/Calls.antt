@@ -49,6 +49,10 @@ Links old c new =
     (waiting new ≡ []) × Unless c (pool new ≡ pool old)
     × Ends (Unit {0}) (λ s. SourcesLinked (pool old) (waiting old) (pool s) × (answer s ≡ [])) (SourcesRefused (pool old) (waiting old)) c new
 
+-- No source waits any more.
+abbrev pub Forgets : Call
+Forgets old c new = (c ≡ code.Done) × (pool new ≡ pool old) × (waiting new ≡ []) × (answer new ≡ []) × (new.fault ≡ None)
+
 -- The files of a descriptor set are linked as one batch, or refused so, which leaves the schema.
 abbrev pub AddsSet : List ℕ → Call
 AddsSet bytes old c new =

@@ -3,7 +3,7 @@
 ghost use Rattle.std.specs.Prelude.{◌≡◌, ◌≢◌, ◌≤◌, [], ◌++◌, ◌∷◌, None, Some, Unit, IsUtf8, IfOk, IfErr, IsErr, length, drop, option_map};
 ghost use Rattle.reflect_pool.specs.Linked.{empty_pool};
 ghost use Rattle.schema_core.specs.Refusals.{SourcesLinked, SourcesRefused};
-ghost use Rattle.schema_slot.specs.Calls.{AddsSet, Decodes, Encodes, GivesSet, Links, Recodes, Tells, Waits};
+ghost use Rattle.schema_slot.specs.Calls.{AddsSet, Decodes, Encodes, Forgets, GivesSet, Links, Recodes, Tells, Waits};
 ghost use Rattle.schema_slot.specs.Held.{Keeps, answer, file, pool, position, waiting};
 ghost use Rattle.schema_slot.specs.declared.code.Code.TheVariants as code;
 
@@ -121,6 +121,14 @@ impl Session {
             Ok(()) => self.done(Vec::new(self.alloc)),
             Err(error) => self.refused(error),
         }
+    }
+
+    /// Lets go of the sources that wait.
+    pub fn forget(&mut self) -> Code
+        ensures { Forgets self.old result self.new }
+    {
+        self.waiting = Vec::new(self.alloc);
+        self.done(Vec::new(self.alloc))
     }
 
     /// Links the files of a descriptor set with the schema's, as one batch.
