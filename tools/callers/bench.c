@@ -3,6 +3,7 @@
  * usage: bench --set FILE --type NAME --text FILE [--min-ms MS]
  *
  * Each line has an operation, the nanoseconds that one takes, and how often it was done: the least of five turns. */
+#define _POSIX_C_SOURCE 199309L
 #include "matzupol.h"
 #include <stdio.h>
 #include <stdlib.h>
