@@ -4,6 +4,15 @@ use crate::request::{Action, Request, Task};
 use clap::{Arg, ArgAction, ArgMatches, Command, Error};
 use std::alloc::{AllocError, Global};
 
+/// What `--version` tells, with the program's name in front.
+const VERSION: &str = "0.1.0";
+
+const EXAMPLES: &str = "Examples:
+  schema encode --type p.M a.proto < message.txt > message.bin
+  schema decode --type p.M a.proto < message.bin
+  schema recode --type p.M --set older.set < message.bin
+  schema set --descriptor descriptor.proto a.proto b.proto > files.set";
+
 /// What is done.
 fn action<'a>(alloc: Global) -> Arg<'a> {
     Arg::new(alloc, "action")
@@ -71,7 +80,8 @@ fn command<'a>(alloc: Global) -> Result<Command<'a>, AllocError> {
         .about(
             "Translates protobuf messages between text and wire bytes, from standard input to standard output, or writes the descriptor set of a schema",
         )
-        .after_help("Example: schema encode --type p.M --hex a.proto < message.txt")
+        .version(VERSION)
+        .after_help(EXAMPLES)
         .arg(action(alloc))?
         .arg(descriptor(alloc))?
         .arg(set(alloc))?
