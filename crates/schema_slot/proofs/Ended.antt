@@ -32,7 +32,7 @@ told Read Done Refused new error.TooLong t read refused = (error.TooLong, t, rea
 pub ends_refused : (Read : Type 0) (Done : Session → Type 0) (Refused : SchemaError → Type 0) (c : Code) (new : Session) (e : SchemaError)
     → Tells e c new → Read → Refused e → Ends Read Done Refused c new
 ends_refused Read Done Refused c new e t read refused =
-    subst (λ c. Ends Read Done Refused c new) (sym t.0) (told Read Done Refused new e (refl, t.1) read refused)
+    subst (λ c. Ends Read Done Refused c new) (sym t.0) (told Read Done Refused new e (refl, t.1, t.2) read refused)
 
 -- what holds in any case holds unless the call is done
 pub unless_anyway : (c : Code) (P : Type 0) → P → Unless c P

@@ -1,16 +1,16 @@
 //! What an open slot holds, and what calls do with it.
 
-ghost use Rattle.std.specs.Prelude.{◌≡◌, ◌≢◌, ◌≤◌, [], ◌++◌, ◌∷◌, None, Some, Unit, IsUtf8, IfOk, IfErr, IsErr, length, drop, option_map};
+ghost use Rattle.std.specs.Prelude.{◌≡◌, [], ◌++◌, ◌∷◌, None, IfErr, OnOk, OnErr, map, option_map};
 ghost use Rattle.reflect_pool.specs.Linked.{empty_pool};
 ghost use Rattle.schema_core.specs.Refusals.{SourcesLinked, SourcesRefused};
 ghost use Rattle.schema_slot.specs.Calls.{AddsSet, Decodes, Encodes, Forgets, GivesSet, Links, Recodes, Tells, Waits};
-ghost use Rattle.schema_slot.specs.Held.{Keeps, answer, file, pool, position, waiting};
+ghost use Rattle.schema_slot.specs.Held.{Keeps, answer, file, pair_of, pool, position, waiting};
 ghost use Rattle.schema_slot.specs.declared.code.Code.TheVariants as code;
 
 use crate::code::Code;
 use crate::source::{Source, lent};
 use schema_core::{Schema, SchemaError};
-use std::alloc::{AllocError, AllocFailed, Global};
+use std::alloc::{AllocError, Global};
 use std::mem;
 
 /// A place in a source: line and column, both from 1 and the column in bytes; 0 where it is not known.
@@ -49,12 +49,12 @@ impl Session {
     }
 
     /// Keeps what a call answers.
-    fn done(&mut self, answer: Vec<u8>) -> Code
+    fn done(&mut self, bytes: Vec<u8>) -> Code
         ensures code { result ≡ code.Done }
         ensures kept { Keeps self.old self.new }
-        ensures answered { (answer self.new ≡ answer.items) × (self.new.fault ≡ None) }
+        ensures answered { (answer self.new ≡ bytes.items) × (self.new.fault ≡ None) }
     {
-        self.answer = answer;
+        self.answer = bytes;
         self.fault = None;
         Code::Done
     }

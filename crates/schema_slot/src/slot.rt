@@ -27,9 +27,6 @@ impl Model for Slot {
     ghost also_owns = { λ s. slot_owns s.full s.at s.value };
 }
 
-// What it owns names no thread.
-unsafe impl Send for Slot {}
-
 impl Slot {
     pub fn empty() -> Slot
         ensures { result.value ≡ None }

@@ -4,7 +4,7 @@ ghost use Rattle.std.specs.Prelude.{◌≡◌, IfOk, map, string_bytes};
 ghost use Rattle.schema_core.specs.Refusals.{sources_of};
 ghost use Rattle.schema_slot.specs.Held.{pair_of};
 
-use std::alloc::{AllocError, AllocFailed, Global};
+use std::alloc::{AllocError, Global};
 
 /// A file's name and its text.
 #[derive(Drop)]
