@@ -244,11 +244,9 @@ pub extern "C" fn matzupol_unchecked_place(
 fn copy(text: &[u8], into: &mut [u8]) -> Code
     ensures { Copied text.now result into.old into.new }
 {
-    match into.get_mut(..text.len()) {
-        Some(front) => {
-            front.copy_from_slice(text);
-            Code::Done
-        }
-        None => Code::Room,
+    if text.len() > into.len() {
+        return Code::Room;
     }
+    into[..text.len()].copy_from_slice(text);
+    Code::Done
 }
