@@ -1,5 +1,1 @@
-pub mod Loops
-pub mod Messages
-pub mod Oneofs
-pub mod Rows
-pub mod Types
+pub mod Imports

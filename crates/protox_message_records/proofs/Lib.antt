@@ -1,0 +1,5 @@
+pub mod Messages
+pub mod Oneofs
+pub mod Rows
+pub mod Taken
+pub mod Types
