@@ -1,4 +1,5 @@
 pub mod Messages
+pub mod OneRecord
 pub mod Oneofs
 pub mod Rows
 pub mod Taken

@@ -1,1 +1,2 @@
 pub mod Imports
+pub mod OneFile

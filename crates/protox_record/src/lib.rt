@@ -3,5 +3,6 @@
 
 mod file;
 mod import;
+pub mod laws;
 
 pub use file::file_record;
