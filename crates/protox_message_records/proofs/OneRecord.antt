@@ -1,5 +1,5 @@
 -- A type that is declared has one record.
-use Rattle.std.proofs.Common.{◌≡◌, ◌∙◌, ◌<◌, ◌++◌, ℕ, true, false, List, [], ◌∷◌, Some, None, length, refl, ap, sym, subst, ⊎_elim}
+use Rattle.std.proofs.Common.{◌≡◌, ◌∙◌, ◌<◌, ◌++◌, true, false, List, [], ◌∷◌, Some, None, length, refl, ap, sym, subst, ⊎_elim}
 use Rattle.std.proofs.lemmas.Bool.{cases_order}
 use Rattle.std.specs.List.{flat_map}
 use Rattle.std.specs.Prelude.{Option}
@@ -42,14 +42,14 @@ module _ (s : Syntax) (name : Text) (items : List MessageItem) where
   taken_in : MessageContents → List Text
   taken_in nested =
       names_of (fields_from s 0 (length (flat_map oneof_at items)) items) (flat_map extensions_at items) nested
-          (flat_map enum_at items) (flat_map oneof_at items)
+      (flat_map enum_at items) (flat_map oneof_at items)
 
   -- a message of these items, in which these types are, with these oneofs behind its own
   made_of : MessageContents → List OneofContent → MessageContent
   made_of nested more =
       message (Some name) (fields_from s 0 (length (flat_map oneof_at items)) items) (flat_map extensions_at items) nested
-          (flat_map enum_at items) (flat_map extension_ranges_at items) (flat_map oneof_at items ++ more)
-          (options_of (flat_map option_at items)) (flat_map reserved_ranges_at items) (flat_map reserved_names_at items)
+      (flat_map enum_at items) (flat_map extension_ranges_at items) (flat_map oneof_at items ++ more)
+      (options_of (flat_map option_at items)) (flat_map reserved_ranges_at items) (flat_map reserved_names_at items)
 
   module _ (given : Option Text) (fields extensions : List FieldContent) (nested : MessageContents) (enums : List EnumContent)
       (ranges : List ExtensionRangeContent) (oneofs : List OneofContent) (options : Option OptionsContent)
@@ -75,7 +75,7 @@ mutual
   one_type s (of_items name items) (message g1 f1 x1 n1 e1 r1 o1 p1 v1 w1) (message g2 f2 x2 n2 e2 r2 o2 p2 v2 w2) h k =
       is_made s name items g1 f1 x1 n1 e1 r1 o1 p1 v1 w1 h.0
       ∙ same_made s name items n1 n2 h.0.oneofs_are.0 k.0.oneofs_are.0 (one_types s (flat_map types_at items) n1 n2 h.1 k.1)
-          (is_named s name items g1 f1 x1 n1 e1 r1 o1 p1 v1 w1 h.0) (is_named s name items g2 f2 x2 n2 e2 r2 o2 p2 v2 w2 k.0)
+      (is_named s name items g1 f1 x1 n1 e1 r1 o1 p1 v1 w1 h.0) (is_named s name items g2 f2 x2 n2 e2 r2 o2 p2 v2 w2 k.0)
       ∙ sym (is_made s name items g2 f2 x2 n2 e2 r2 o2 p2 v2 w2 k.0)
   one_type s (of_map name m) (message g1 f1 x1 n1 e1 r1 o1 p1 v1 w1) (message g2 f2 x2 n2 e2 r2 o2 p2 v2 w2) h k = h ∙ sym k
 

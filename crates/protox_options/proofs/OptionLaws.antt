@@ -39,7 +39,7 @@ Local-in_range (word_value w) = Local-pure _
 Local-in_range (minus_word w) = Local-pure _
 Local-in_range (float_value n w) = Local-pure _
 Local-in_range (strings_value w) = Local-pure _
-Local-in_range (braces_value w) = Local-pure _
+Local-in_range (braces_value w at) = Local-pure _
 
 Local-negative : (p : Span) → Local (negative p)
 unfolding negative

@@ -19,10 +19,13 @@ letters-preserved c =
     let word = 95 ∷ c.args.field.now in
     let before = c.letters.invariant in
     let is_in : is_taken taken (string_bytes c.letters.name) ≡ true =
-    ap (is_taken taken) (sym c.as_str.ensures.value) ∙ sym (found c.as_str.result.now c.args.taken.now.keys) ∙ sym c.contains.ensures ∙ c.letters-test.true in
-    (suc before.0, c.in_ok-name-2.ensures.ok ∙ ap (λ ys. 88 ∷ ys) before.1, λ fewer lt. ⊎_elim
-        (λ e. ap (λ n. is_taken taken (behind_letters n word)) e ∙ ap (is_taken taken) (sym before.1) ∙ is_in)
-        (λ ne. before.2 fewer (omega (arith, ne, lt))) (cases_eq fewer before.0))
+    ap (is_taken taken) (sym c.as_str.ensures.value) ∙ sym (found c.as_str.result.now c.args.taken.now.keys) ∙ sym c.contains.ensures ∙ c.letters-test.true in (
+      suc before.0,
+      c.in_ok-name-2.ensures.ok ∙ ap (λ ys. 88 ∷ ys) before.1,
+      λ fewer lt. ⊎_elim
+          (λ e. ap (λ n. is_taken taken (behind_letters n word)) e ∙ ap (is_taken taken) (sym before.1) ∙ is_in)
+          (λ ne. before.2 fewer (omega (arith, ne, lt))) (cases_eq fewer before.0),
+    )
 
 pub returns : goal.returns
 returns c =
