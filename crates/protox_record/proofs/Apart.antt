@@ -1,6 +1,5 @@
 -- Names behind letters tell what they are made of.
-use Rattle.std.proofs.Common.{◌≡◌, ◌∙◌, ◌++◌, ◌∷◌, ℕ, zero, suc, List, [], ap, sym, arith}
-use Rattle.std.specs.Prelude.{replicate}
+use Rattle.std.proofs.Common.{◌≡◌, ◌∙◌, ◌∷◌, ℕ, zero, suc, List, [], ap, sym, arith}
 use Rattle.protox_lex.specs.Class.{Text}
 use Rattle.protox_message_records.specs.SyntheticOneofs.{IsFreed, behind_letters}
 
