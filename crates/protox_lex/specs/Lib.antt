@@ -11,4 +11,5 @@ pub mod Blocks
 pub mod Spelled
 pub mod TextFormat
 pub mod Longest
+pub mod Printed
 pub mod Escapes

@@ -1,7 +1,9 @@
 //! The escapes of a string.
 
 ghost use Rattle.std.specs.Prelude.{◌≡◌, ◌≢◌, ◌<◌, ◌≤◌, ◌+◌, ◌++◌, length, slice_index, Some, OnOk, IfOk, IfErr, IsSome, true, false};
+ghost use Rattle.std.specs.Fmt.{WritesOnOk};
 ghost use Rattle.protox_lex.specs.Class.{is_in};
+ghost use Rattle.protox_lex.specs.Escapes.{escaped};
 ghost use Rattle.protox_lex.specs.Lex as spec;
 ghost use Rattle.protox_lex.specs.Spelled.{IsEscaped};
 ghost use Rattle.protox_lex.specs.declared.class.Class.TheVariants as class;
@@ -185,8 +187,6 @@ pub fn unescape(alloc: Global, raw: &[u8]) -> Result<Vec<u8>, AllocError>
 pub struct Escaped<'a>(pub &'a [u8]);
 
 impl fmt::Display for Escaped<'_> {
-    ghost use Rattle.protox_lex.specs.Escapes.{escaped};
-
     ghost output = { λ e. Some (escaped e.0.now) };
 
     fn fmt<W: fmt::Write>(&self, f: &mut fmt::Formatter<W>) -> fmt::Result {
@@ -222,19 +222,25 @@ impl fmt::Display for EscapedByte {
 }
 
 /// The contents of a string of a source, printed as [`Escaped`] prints their bytes.
-pub(crate) fn write_contents<W: fmt::Write>(f: &mut fmt::Formatter<W>, raw: &[u8]) -> fmt::Result {
+pub(crate) fn write_contents<W: fmt::Write>(f: &mut fmt::Formatter<W>, raw: &[u8]) -> fmt::Result
+    ensures { WritesOnOk W.write_str_gives f.old result (escaped (spec.unescaped raw.now)) f.new }
+{
     let mut at = 0;
     while at < raw.len() {
         let (meaning, len) = unit(&raw[at..]);
-        match meaning {
-            Meaning::Byte(b) => write!(f, "{}", EscapedByte(b))?,
-            Meaning::Char(c) => {
-                write!(f, "{}", Escaped(c.encode_utf8(&mut [0; 4]).as_bytes()))?;
-            }
-        }
+        write_meaning(f, meaning)?;
         at += len;
     }
     Ok(())
+}
+
+fn write_meaning<W: fmt::Write>(f: &mut fmt::Formatter<W>, meaning: Meaning) -> fmt::Result
+    ensures { WritesOnOk W.write_str_gives f.old result (escaped (spec.bytes_of meaning)) f.new }
+{
+    match meaning {
+        Meaning::Byte(b) => write!(f, "{}", EscapedByte(b)),
+        Meaning::Char(c) => write!(f, "{}", Escaped(c.encode_utf8(&mut [0; 4]).as_bytes())),
+    }
 }
 
 /// Each backslash among the bytes begins an escape, as [`unescape`] reads them.

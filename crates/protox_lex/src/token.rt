@@ -1,6 +1,6 @@
 //! The tokens of a source, and the words that mean something in one.
 
-ghost use Rattle.std.specs.Prelude.{◌≡◌};
+ghost use Rattle.std.specs.Prelude.{◌≡◌, Some};
 
 use crate::escape::write_contents;
 use std::fmt;
@@ -27,6 +27,7 @@ pub enum Sign {
 
 impl Sign {
     ghost use Rattle.protox_lex.specs.Lex.{sign_of};
+    ghost use Rattle.protox_lex.specs.Printed.{sign_text};
 
     /// The sign that a byte is.
     pub(crate) fn from_byte(b: u8) -> Option<Sign>
@@ -52,7 +53,9 @@ impl Sign {
         }
     }
 
-    fn as_str(self) -> &'static str {
+    fn as_str(self) -> &'static str
+        ensures { result.now ≡ sign_text self }
+    {
         match self {
             Sign::Dot => ".",
             Sign::Minus => "-",
@@ -74,6 +77,10 @@ impl Sign {
 }
 
 impl fmt::Display for Sign {
+    ghost use Rattle.protox_lex.specs.Printed.{sign_text};
+
+    ghost output = { λ s. Some (sign_text s) };
+
     fn fmt<W: fmt::Write>(&self, f: &mut fmt::Formatter<W>) -> fmt::Result {
         f.write_str(self.as_str())
     }
@@ -97,6 +104,11 @@ pub enum Token<'a> {
 }
 
 impl fmt::Display for Token<'_> {
+    ghost use Rattle.protox_lex.specs.Printed.{token_text};
+    ghost use Rattle.protox_lex.specs.Shown.{token_of};
+
+    ghost output = { λ t. Some (token_text (token_of t)) };
+
     fn fmt<W: fmt::Write>(&self, f: &mut fmt::Formatter<W>) -> fmt::Result {
         match self {
             Token::Ident(text) => f.write_str(text),

@@ -1,7 +1,7 @@
 -- The rules of options look one token ahead, and each turn of their loops takes one.
 use Rattle.protox_lex.specs.Token.{sign}
 use Rattle.protox_lex.specs.declared.span.Span.{Span}
-use Rattle.protox_options.proofs.AggregateLaws.{Local-aggregate}
+use Rattle.protox_aggregates.proofs.AggregateLaws.{Local-aggregate}
 use Rattle.protox_options.proofs.NameLaws.{Local-type_name, Local-strings}
 use Rattle.protox_options.specs.OptionGrammar.{in_parens, part_after, name_part, name, plain_of, negative_of, in_range, negative, plain_value, signed_or_plain, value, body, option, bodies, in_brackets, options_after, options}
 use Rattle.protox_tokens.proofs.Local.{Local, Local-bind, Local-pure, Local-if, Local-choose, Local-one, Local-lexical, Local-word, Local-expect, Local-eat, Local-some_by, of_head-sees, of_head-string, Keeps-local, Moves, Moves-first, Moves-expect, Shortens-behind}
@@ -39,7 +39,7 @@ Local-in_range (word_value w) = Local-pure _
 Local-in_range (minus_word w) = Local-pure _
 Local-in_range (float_value n w) = Local-pure _
 Local-in_range (strings_value w) = Local-pure _
-Local-in_range (braces_value w) = Local-pure _
+Local-in_range (braces_value w at) = Local-pure _
 
 Local-negative : (p : Span) → Local (negative p)
 unfolding negative

@@ -1,4 +1,3 @@
-pub mod AggregateGrammar
 pub mod NameGrammar
 pub mod Negation
 pub mod OptionGrammar

@@ -1,7 +1,7 @@
 -- How options are read.
 use Rattle.protox_lex.specs.Token.{Token, ident, int, float, sign}
 use Rattle.protox_lex.specs.declared.span.Span.{Span}
-use Rattle.protox_options.specs.AggregateGrammar.{aggregate}
+use Rattle.protox_aggregates.specs.AggregateGrammar.{aggregate}
 use Rattle.protox_options.specs.NameGrammar.{type_name, strings}
 use Rattle.protox_tokens.specs.Parser.{Parser, ◌>>=◌, ◌>>◌, ◌<$>◌, pure, sees, eat, expect, one, word, some_by, choose, is_string}
 use Rattle.protox_tokens.specs.Refusal.{an_option_value, a_number, lex_fault}
@@ -69,7 +69,7 @@ plain_value = one source an_option_value plain_of
 
 abbrev pub signed_or_plain : Option Span → Parser Value
 signed_or_plain (Some minus) = negative minus
-signed_or_plain None = choose (sees (sign s.LeftBrace)) (braces_value <$> aggregate) plain_value
+signed_or_plain None = choose (sees (sign s.LeftBrace)) ((λ a. braces_value a.0 a.1) <$> aggregate) plain_value
 
 -- An option's value: a string, or what stands behind a minus, or braces, or a word or a number.
 unfoldable pub value : Parser Value

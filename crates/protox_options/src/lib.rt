@@ -1,7 +1,6 @@
 //! Reads names, numbers, strings, ranges of numbers and options off the tokens of a source.
 #![tactic(auto)]
 
-mod aggregate;
 mod names;
 mod option_rules;
 mod range;

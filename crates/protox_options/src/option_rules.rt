@@ -11,8 +11,8 @@ ghost use Rattle.protox_tokens.specs.Stream.{stream};
 ghost use Rattle.protox_tree.specs.Tree.{float_value, minus_word};
 ghost use Rattle.protox_tree.specs.View.{name_part_view, name_view, value_view, body_view, bodies_view, option_view, option_list_view};
 
-use crate::aggregate::aggregate;
 use crate::names::{is_string, strings, type_name};
+use protox_aggregates::aggregate;
 use protox_lex::{Float, Int, LexError, LexErrorKind, Lexeme, Sign, Span, Token, token};
 use protox_tokens::{Fault, Stop, Tokens, across, one};
 use protox_tree::{

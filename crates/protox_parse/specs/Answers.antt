@@ -29,7 +29,7 @@ AreAtFault z faults =
 abbrev pub without_places : records.FileContent → records.FileContent
 without_places f = record f { source_code_info = None }
 
--- A record is that of a tree which the text spells, under this name. The texts of braces in it, which that does not tell, are any.
+-- A record is that of a tree which the text spells, under this name.
 abbrev pub IsAnswered : Text → Text → Result FileDescriptorProto ParseError → Type 0
 IsAnswered name z (Ok made) = (tree : trees.File) × Spells z (file_view tree) × IsFile name tree (without_places (records.file_view made))
 IsAnswered name z (Err Memory) = Unit {0}

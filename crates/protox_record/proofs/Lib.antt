@@ -1,5 +1,3 @@
-pub mod Loops
-pub mod Messages
-pub mod Oneofs
-pub mod Rows
-pub mod Types
+pub mod Apart
+pub mod Imports
+pub mod OneFile

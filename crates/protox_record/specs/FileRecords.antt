@@ -11,9 +11,9 @@ use Rattle.protox_declaration_records.specs.ServiceRecords.{service_of}
 use Rattle.protox_declaration_records.specs.Texts.{text_of}
 use Rattle.protox_lex.specs.Class.{Text}
 use Rattle.protox_lex.specs.declared.span.Span.{Span}
-use Rattle.protox_record.specs.FieldRecords.{extension_at}
-use Rattle.protox_record.specs.MessageRecords.{Declared, AreTypes, type_of_message, types_of_extend}
-use Rattle.protox_record.specs.Places.{place_of}
+use Rattle.protox_field_records.specs.FieldRecords.{extension_at}
+use Rattle.protox_message_records.specs.MessageRecords.{Declared, AreTypes, type_of_message, types_of_extend}
+use Rattle.protox_field_records.specs.Places.{place_of}
 use Rattle.protox_tree.specs.FileTree.{syntax_of}
 use Rattle.protox_tree.specs.FileView.{file_view}
 use Rattle.protox_tree.specs.Tree.{dotted}

@@ -5,18 +5,18 @@ ghost use Rattle.std.specs.List.{flat_map, fold};
 ghost use Rattle.descriptor_records.specs.Content as content;
 ghost use Rattle.protox_declaration_records.specs.OptionRecords.{options_of};
 ghost use Rattle.protox_record.specs.FileRecords as files;
-ghost use Rattle.protox_record.specs.MessageRecords.{Adds, AreTypes};
+ghost use Rattle.protox_message_records.specs.MessageRecords.{Adds, AreTypes};
 ghost use Rattle.protox_tree.specs.FileTree.{syntax_of};
 ghost use Rattle.protox_tree.specs.FileView as tree;
 
-use crate::field::extensions;
 use crate::import::{dependencies, places};
-use crate::message::{message_record, types_of_extend};
 use descriptor_records::{
     DescriptorProto, EnumDescriptorProto, FieldDescriptorProto, FileDescriptorProto, Options,
     ServiceDescriptorProto,
 };
 use protox_declaration_records::{declared, enum_record, option_record, service_record};
+use protox_field_records::extensions;
+use protox_message_records::{message_record, types_of_extend};
 use protox_tree::{File, FileItem, ImportKind, Syntax};
 use std::alloc::{AllocError, Global};
 

@@ -4,9 +4,9 @@ ghost use Rattle.std.specs.Prelude.{◌≡◌, ◌++◌, IfOk, OnOk};
 ghost use Rattle.std.specs.List.{flat_map};
 ghost use Rattle.descriptor_records.specs.Content.{texts_view};
 ghost use Rattle.protox_record.specs.FileRecords as files;
-ghost use Rattle.protox_record.specs.Places.{place_of};
 
 use protox_declaration_records::text;
+use protox_field_records::index;
 use protox_tree::{FileItem, Import, ImportKind};
 use std::alloc::{AllocError, Global};
 
@@ -71,11 +71,4 @@ fn is_of_kind(kind: ImportKind, import: &Import) -> bool
         (ImportKind::Public, ImportKind::Public) | (ImportKind::Weak, ImportKind::Weak) => true,
         (ImportKind::Public, ImportKind::Weak) | (ImportKind::Weak, ImportKind::Public) => false,
     }
-}
-
-/// The place of an element in a list. A source that an `i32` counts has no longer lists.
-pub fn index(place: usize) -> i32
-    ensures { result ≡ place_of place }
-{
-    i32::try_from(place).unwrap_or(i32::MAX)
 }

@@ -59,8 +59,8 @@ pub data Value : Type 0 where
   -- whether a minus stands before a float, and what stands behind it; the span begins with the minus
   float_value : Bool → Word → Value
   strings_value : List Word → Value
-  -- braces, and what stands in them, of which their text tells more
-  braces_value : Span → Value
+  -- braces: the text of the tokens in them, and where they stand
+  braces_value : Text → Span → Value
 
 pub record Body : Type 0 where
   pub name : List NamePart

@@ -75,7 +75,7 @@ value_view (values.NegativeWord i) = tree.minus_word (ident_view i)
 value_view (values.Int i) = tree.int_value i
 value_view (values.Float negative f) = tree.float_value negative (float_view f)
 value_view (values.String s) = tree.strings_value (strings_view s)
-value_view (values.Aggregate a) = tree.braces_value a.span
+value_view (values.Aggregate a) = tree.braces_value (string_bytes a.text) a.span
 
 abbrev pub body_view : OptionBody → tree.Body
 body_view b = record { name = name_view b.name.items; value = value_view b.value }

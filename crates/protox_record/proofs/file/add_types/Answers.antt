@@ -1,7 +1,7 @@
 use Rattle.std.proofs.Common.{◌≡◌, ◌∷◌, [], rules}
-use Rattle.protox_record.proofs.Types.{adds_pushed}
+use Rattle.protox_message_records.proofs.Types.{adds_pushed}
 use Rattle.protox_record.specs.FileRecords.{types_at}
-use Rattle.protox_record.specs.MessageRecords.{type_of_message}
+use Rattle.protox_message_records.specs.MessageRecords.{type_of_message}
 use Rattle.protox_record.proofs.file.add_types.Goals as goal
 
 pub returns-in_ok-push-in-Message : goal.returns-in_ok-push-in-Message

@@ -2,7 +2,7 @@ use Rattle.std.proofs.Common.{map, take}
 use Rattle.std.specs.List.{flat_map}
 use Rattle.descriptor_records.specs.Content.{message_view, messages_of}
 use Rattle.protox_record.specs.FileRecords.{types_at}
-use Rattle.protox_record.specs.MessageRecords.{AreTypes}
+use Rattle.protox_message_records.specs.MessageRecords.{AreTypes}
 use Rattle.protox_record.proofs.file.messages.Given as goal
 
 abbrev pub invariant-each : goal.invariant-each

@@ -1,8 +1,8 @@
 use Rattle.std.proofs.Common.{◌≡◌, ◌∙◌, ◌+◌, ◌++◌, ◌∷◌, [], length, take, ap, sym, arith, zero-add}
 use Rattle.std.proofs.lemmas.List.{length-append}
 use Rattle.std.specs.List.{flat_map}
-use Rattle.protox_record.proofs.Loops.{next}
-use Rattle.protox_record.proofs.Rows.{places_more}
+use Rattle.protox_field_records.proofs.Loops.{next}
+use Rattle.protox_record.proofs.Imports.{places_more}
 use Rattle.protox_record.specs.FileRecords.{import_at, place_at, places_from}
 use Rattle.protox_record.proofs.import.places.Goals as goal
 

@@ -1,0 +1,4 @@
+pub mod AggregateLaws
+pub mod Braces
+pub mod Turns
+pub mod Written

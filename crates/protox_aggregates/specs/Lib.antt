@@ -1,0 +1,2 @@
+pub mod AggregateGrammar
+pub mod BraceTexts

@@ -1,0 +1,5 @@
+pub mod FieldName
+pub mod FieldRecords
+pub mod Layers
+pub mod MapEntries
+pub mod Places

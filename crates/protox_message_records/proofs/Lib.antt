@@ -1,0 +1,6 @@
+pub mod Messages
+pub mod OneRecord
+pub mod Oneofs
+pub mod Rows
+pub mod Taken
+pub mod Types

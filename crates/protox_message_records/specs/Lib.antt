@@ -1,0 +1,2 @@
+pub mod MessageRecords
+pub mod SyntheticOneofs

@@ -1,6 +1,0 @@
-use Rattle.std.proofs.Common.{◌≡◌, ◌++◌, map, take}
-use Rattle.protox_record.specs.MessageRecords.{reserved_range_of}
-use Rattle.protox_record.proofs.item.add_reserved_ranges.Given as goal
-
-abbrev pub invariant-each : goal.invariant-each
-invariant-each l = l.records.items ≡ l.initial.records.items ++ map reserved_range_of (take l.range-index l.range-items)

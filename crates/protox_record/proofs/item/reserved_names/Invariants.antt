@@ -1,8 +1,0 @@
-use Rattle.std.proofs.Common.{◌≡◌, take}
-use Rattle.std.specs.List.{flat_map}
-use Rattle.descriptor_records.specs.Content.{texts_view}
-use Rattle.protox_record.specs.MessageRecords.{reserved_names_at}
-use Rattle.protox_record.proofs.item.reserved_names.Given as goal
-
-abbrev pub invariant-each : goal.invariant-each
-invariant-each l = texts_view l.names ≡ flat_map reserved_names_at (take l.item-index l.item-items)

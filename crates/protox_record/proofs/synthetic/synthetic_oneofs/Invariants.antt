@@ -1,8 +1,0 @@
-use Rattle.std.proofs.Common.{map, take}
-use Rattle.std.specs.List.{flat_map}
-use Rattle.descriptor_records.specs.Content.{oneof_view}
-use Rattle.protox_record.specs.MessageRecords.{AreNamedAfter, alone_at}
-use Rattle.protox_record.proofs.synthetic.synthetic_oneofs.Given as goal
-
-abbrev pub invariant-each : goal.invariant-each
-invariant-each l = AreNamedAfter (flat_map (alone_at l.syntax) (take l.item-index l.item-items)) (map oneof_view l.oneofs.items)
