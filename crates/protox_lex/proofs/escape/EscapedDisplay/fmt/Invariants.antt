@@ -1,4 +1,4 @@
-use Rattle.std.proofs.Common.{◌++◌, ◌∷◌, take}
+use Rattle.std.proofs.Common.{take}
 use Rattle.std.specs.Fmt.{HasWritten, IsPlainFormatter}
 use Rattle.protox_lex.specs.Escapes.{escaped}
 use Rattle.protox_lex.proofs.escape.EscapedDisplay.fmt.Given as goal
