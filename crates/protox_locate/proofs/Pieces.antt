@@ -1,5 +1,5 @@
 -- The pieces of a gap, one by one.
-use Rattle.std.proofs.Common.{◌≡◌, ℕ, zero, suc, ◌+◌, ◌-◌, ◌<◌, ◌≤◌, List, [], ◌∷◌, drop, take, length, ap, sym, ◌∙◌, arith, refl, length-drop}
+use Rattle.std.proofs.Common.{◌≡◌, ℕ, zero, suc, ◌+◌, ◌-◌, ◌<◌, ◌≤◌, [], ◌∷◌, drop, take, length, ap, sym, ◌∙◌, arith, refl, length-drop}
 use Rattle.std.specs.Prelude.{min}
 use Rattle.std.specs.List.{position_or_len}
 use Rattle.std.proofs.lemmas.List.{drop-drop, take_min, take_rest}

@@ -1,7 +1,7 @@
 -- The comments of a gap between two tokens, and what they belong to.
 --
 -- Source: the comment of `Location` in `SourceCodeInfo` of protobuf's `descriptor.proto`.
-use Rattle.std.specs.Prelude.{ℕ, zero, suc, ◌+◌, ◌-◌, Bool, true, false, ◌&&◌, ◌||◌, if◌then◌else◌, ◌==◌, List, [], ◌∷◌, ◌++◌, length, map, take, drop, slice_index, slice_get, Option, None, Some, option_map, is_some}
+use Rattle.std.specs.Prelude.{ℕ, zero, suc, ◌+◌, ◌-◌, Bool, true, false, ◌&&◌, ◌||◌, if◌then◌else◌, ◌==◌, List, [], ◌∷◌, ◌++◌, length, take, drop, slice_index, slice_get, Option, None}
 use Rattle.std.specs.List.{flat_map, fold, position_or_len, prefix_len, slice_split}
 use Rattle.std.specs.Str.Lossy.{utf8_lossy}
 use Rattle.descriptor_records.specs.Content.{text_view, texts_view}

@@ -10,7 +10,7 @@ use protox_lex::Comments;
 use std::alloc::{AllocError, Global};
 
 /// What follows a gap.
-#[derive(Clone, Copy, PartialEq, Eq)]
+#[derive(Clone, Copy)]
 pub enum Behind {
     Statement,
     /// The brace that closes what the gap stands in.
@@ -31,7 +31,7 @@ pub struct GapComments {
 }
 
 /// How many line ends there are, as far as it matters.
-#[derive(Clone, Copy, PartialEq, Eq)]
+#[derive(Clone, Copy)]
 enum LineEnds {
     None,
     One,

@@ -1,5 +1,5 @@
 use Rattle.std.proofs.Common.{◌≡◌, ◌-◌, ◌≤◌, length, drop}
-use Rattle.protox_locate.specs.Gap.{comments_in, pieces, read_all, read_view, unread}
+use Rattle.protox_locate.specs.Gap.{pieces, read_all, read_view, unread}
 use Rattle.protox_locate.proofs.gap.gap_comments.Given as goal
 
 abbrev pub invariant-pieces : goal.invariant-pieces

@@ -1,4 +1,4 @@
-use Rattle.std.proofs.Common.{◌≡◌, sym, ◌∙◌, refl}
+use Rattle.std.proofs.Common.{sym, ◌∙◌, refl}
 use Rattle.protox_locate.specs.Gap.{line_end, other_byte, read_view}
 use Rattle.protox_locate.specs.declared.gap.Mark.TheVariants as marks
 use Rattle.protox_locate.proofs.Pieces.{block_on, line_on, read_on}

@@ -25,5 +25,5 @@ lines-preserved c =
     record {
       within = c.find-end.ensures.within.1;
       so_far = ap (λ x. x ++ told_behind (drop end z)) made
-      ∙ next_line z c.lines.bytes.items line at end c.lines-test.true (c.find-end.ensures.first refl) refl c.lines.invariant.so_far;
+          ∙ next_line z c.lines.bytes.items line at end c.lines-test.true (c.find-end.ensures.first refl) refl c.lines.invariant.so_far;
     }
