@@ -17,6 +17,7 @@ pub struct Comments {
     is_open: bool,
     /// A blank line follows the last block.
     is_detached: bool,
+    ghost open_is_unparted: { is_open ≡ true → is_detached ≡ false },
 }
 
 impl Comments {
@@ -26,6 +27,7 @@ impl Comments {
     pub fn new(alloc: Global) -> Comments
         ensures texts { (blocks result).texts ≡ [] }
         ensures open { (blocks result).is_open ≡ false }
+        ensures parted { (blocks result).is_parted ≡ false }
     {
         Comments {
             blocks: Vec::new(alloc),
@@ -49,6 +51,7 @@ impl Comments {
         ensures lengthens { OnOk result ((blocks self.old).is_open ≡ true → (blocks self.new).texts ≡ lengthened (blocks self.old).texts text.now) }
         ensures opens { OnOk result ((blocks self.old).is_open ≡ false → (blocks self.new).texts ≡ (blocks self.old).texts ++ text.now ∷ []) }
         ensures open { OnOk result ((blocks self.new).is_open ≡ true) }
+        ensures parted { OnOk result ((blocks self.new).is_parted ≡ false) }
         ensures err { OnErr result (blocks self.new ≡ blocks self.old) }
     {
         if self.is_open {
@@ -131,8 +134,10 @@ impl Comments {
 
     /// Takes the first block.
     pub fn take_trailing(&mut self) -> Option<String>
-        ensures { MatchOption result (((blocks self.old).texts ≡ []) × (blocks self.new ≡ blocks self.old))
+        ensures first { MatchOption result (((blocks self.old).texts ≡ []) × (blocks self.new ≡ blocks self.old))
             (λ t. (blocks self.old).texts ≡ string_bytes t ∷ (blocks self.new).texts) }
+        ensures open { (blocks self.new).is_open ≡ (blocks self.old).is_open }
+        ensures parted { (blocks self.new).is_parted ≡ (blocks self.old).is_parted }
     {
         if self.blocks.is_empty() {
             None

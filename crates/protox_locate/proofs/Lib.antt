@@ -1,0 +1,4 @@
+pub mod Belonging
+pub mod Finds
+pub mod Margins
+pub mod Pieces

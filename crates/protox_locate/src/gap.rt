@@ -1,13 +1,16 @@
 //! The comments that stand between two tokens.
 
-ghost use Rattle.std.specs.Prelude.{◌<◌, ◌≤◌, length, IfOk};
+ghost use Rattle.std.specs.Prelude.{◌≡◌, ◌+◌, ◌<◌, ◌≤◌, ◌&&◌, length, drop, IfOk, OnOk, string_bytes};
+ghost use Rattle.std.specs.List.{position_or_len};
+ghost use Rattle.std.specs.Str.Lossy.{utf8_lossy};
+ghost use Rattle.protox_locate.specs.Gap as gap;
 
 use memchr::{memchr, memmem};
 use protox_lex::Comments;
 use std::alloc::{AllocError, Global};
 
 /// What follows a gap.
-#[derive(Clone, Copy, PartialEq, Eq)]
+#[derive(Clone, Copy)]
 pub enum Behind {
     Statement,
     /// The brace that closes what the gap stands in.
@@ -27,75 +30,132 @@ pub struct GapComments {
     pub leading: Option<String>,
 }
 
+/// How many line ends there are, as far as it matters.
+#[derive(Clone, Copy)]
+enum LineEnds {
+    None,
+    One,
+    More,
+}
+
+/// What begins at a place of a gap.
+#[derive(Clone, Copy)]
+enum Mark {
+    /// `//`
+    Line,
+    /// `/*`
+    Block,
+    /// A line feed.
+    Feed,
+    Other,
+}
+
 /// How far a gap is read.
 #[derive(Drop)]
 struct Reader {
     comments: Comments,
     /// The line ends since the last comment or the start; the one that a line comment ends with counts.
-    feeds: usize,
+    line_ends: LineEnds,
     /// The line ends in front of the first block.
-    first_line: usize,
+    first_line: LineEnds,
     /// A blank line follows the first block.
     is_first_parted: bool,
 }
 
 impl Reader {
-    fn new(alloc: Global) -> Reader {
+    fn new(alloc: Global) -> Reader
+        ensures { gap.read_view result ≡ gap.unread }
+    {
         Reader {
             comments: Comments::new(alloc),
-            feeds: 0,
-            first_line: 0,
+            line_ends: LineEnds::None,
+            first_line: LineEnds::None,
             is_first_parted: false,
         }
     }
 
     /// A line end. The second one since a comment ends a blank line.
-    fn feed(&mut self) {
-        self.feeds = self.feeds.saturating_add(1);
-        if self.feeds == 2 {
-            self.comments.detach();
-            if self.comments.count() == 1 {
-                self.is_first_parted = true;
+    fn feed(&mut self)
+        ensures { gap.read_view self.new ≡ gap.read (gap.read_view self.old) gap.line_end }
+    {
+        match self.line_ends {
+            LineEnds::None => self.line_ends = LineEnds::One,
+            LineEnds::One => {
+                self.line_ends = LineEnds::More;
+                self.comments.detach();
+                self.is_first_parted = self.is_first_parted || self.comments.count() == 1;
             }
+            LineEnds::More => {}
         }
     }
 
-    fn line_comment(&mut self, text: &[u8]) -> Result<(), AllocError> {
+    fn line_comment(&mut self, alloc: Global, text: &[u8]) -> Result<(), AllocError>
+        ensures { OnOk result (gap.read_view self.new ≡ gap.read (gap.read_view self.old) (gap.line_comment text.now)) }
+    {
         self.meet();
-        if let Ok(text) = str::from_utf8(text) {
-            self.comments.line_comment(text)?;
-        }
-        self.feeds = 1;
+        let text = String::from_utf8_lossy(alloc, text)?;
+        self.comments.line_comment(text.as_str())?;
+        self.line_ends = LineEnds::One;
         Ok(())
     }
 
-    fn block_comment(&mut self, alloc: Global, text: &[u8]) -> Result<(), AllocError> {
+    fn block_comment(&mut self, alloc: Global, text: &[u8]) -> Result<(), AllocError>
+        ensures { OnOk result (gap.read_view self.new ≡ gap.read (gap.read_view self.old) (gap.block_comment text.now)) }
+    {
         self.meet();
         let text = without_margins(alloc, text)?;
         self.comments.block_comment(text.as_str())?;
-        self.feeds = 0;
+        self.line_ends = LineEnds::None;
         Ok(())
     }
 
     /// Notes the line of the first comment.
-    fn meet(&mut self) {
+    fn meet(&mut self)
+        ensures { gap.read_view self.new ≡ record (gap.read_view self.old) { before_first = gap.met (gap.read_view self.old) } }
+    {
         if self.comments.count() == 0 {
-            self.first_line = self.feeds;
+            self.first_line = self.line_ends;
         }
     }
 
     /// The first block belongs to the statement in front: it begins on that one's last line, or on the next line and is parted
     /// from what follows.
-    fn is_first_trailing(&self, behind: Behind) -> bool {
-        let is_alone = self.comments.count() == 1 && behind == Behind::Brace;
-        self.first_line == 0 || self.first_line == 1 && (self.is_first_parted || is_alone)
+    fn is_first_trailing(&self, behind: Behind) -> bool
+        ensures { result ≡ gap.trails behind (gap.read_view self.now) }
+    {
+        let is_alone = self.comments.count() == 1 && matches!(behind, Behind::Brace);
+        match self.first_line {
+            LineEnds::None => true,
+            LineEnds::One => self.is_first_parted || is_alone,
+            LineEnds::More => false,
+        }
+    }
+
+    /// The blocks by what they belong to.
+    fn into_comments(mut self, may_trail: bool, behind: Behind) -> GapComments
+        ensures { let read = gap.read_view self in
+            gap.notes_view result ≡ gap.notes_of (may_trail && gap.trails behind read) read.notes }
+    {
+        let is_taken = may_trail && self.is_first_trailing(behind);
+        let trailing = if is_taken {
+            self.comments.take_trailing()
+        } else {
+            None
+        };
+        let (detached, leading) = self.comments.take_leading();
+        GapComments {
+            trailing,
+            detached,
+            leading,
+        }
     }
 }
 
 /// The first place from `at` on that has the byte, or the end.
 fn find(bytes: &[u8], at: usize, wanted: u8) -> usize
     requires { at ≤ length bytes.now }
-    ensures { (at ≤ result) × (result ≤ length bytes.now) }
+    ensures within { (at ≤ result) × (result ≤ length bytes.now) }
+    ensures first { wanted ≡ 10 → result ≡ at + position_or_len gap.is_feed (drop at bytes.now) }
 {
     match memchr(wanted, &bytes[at..]) {
         Some(place) => at + place,
@@ -106,7 +166,8 @@ fn find(bytes: &[u8], at: usize, wanted: u8) -> usize
 /// The place of the first `*/` from `at` on, or the end.
 fn find_close(bytes: &[u8], at: usize) -> usize
     requires { at ≤ length bytes.now }
-    ensures { (at ≤ result) × (result ≤ length bytes.now) }
+    ensures within { (at ≤ result) × (result ≤ length bytes.now) }
+    ensures first { result ≡ at + gap.before_close (drop at bytes.now) }
 {
     match memmem::find(&bytes[at..], b"*/") {
         Some(place) => at + place,
@@ -114,37 +175,51 @@ fn find_close(bytes: &[u8], at: usize) -> usize
     }
 }
 
-fn is_blank(b: &u8) -> bool {
+fn is_blank(b: &u8) -> bool
+    ensures { result ≡ gap.is_blank b.now }
+{
     matches!(*b, b' ' | b'\t' | 11 | 12 | b'\r')
 }
 
 /// A line without the white space and the one `*` in front.
-fn without_margin(line: &[u8]) -> &[u8] {
-    let start = match line.iter().position(|b| !is_blank(b)) {
-        Some(start) => start,
-        None => line.len(),
-    };
-    match line.get(start..) {
-        Some([b'*', rest @ ..]) => rest,
-        Some(rest) => rest,
-        None => line,
+fn without_margin(line: &[u8]) -> &[u8]
+    ensures { result.now ≡ gap.without_margin line.now }
+{
+    let mut start = 0;
+    'blanks: while start < line.len() && is_blank(&line[start]) {
+        start += 1;
+    }
+    match &line[start..] {
+        [b'*', rest @ ..] => rest,
+        rest => rest,
     }
 }
 
 /// The text between the marks of a block comment: each line but the first loses its margin.
-fn without_margins(alloc: Global, text: &[u8]) -> Result<String, AllocError> {
+fn without_margins(alloc: Global, text: &[u8]) -> Result<String, AllocError>
+    ensures { IfOk result (λ made. string_bytes made ≡ utf8_lossy (gap.without_margins text.now)) }
+{
     let mut bytes = Vec::with_capacity(alloc, text.len())?;
-    let mut is_first = true;
-    for line in text.split(|b| *b == b'\n') {
-        if is_first {
-            bytes.extend_from_slice(line)?;
-        } else {
-            bytes.push(b'\n')?;
-            bytes.extend_from_slice(without_margin(line))?;
-        }
-        is_first = false;
+    let mut at = find(text, 0, b'\n');
+    bytes.extend_from_slice(&text[..at])?;
+    'lines: while at < text.len() {
+        let end = find(text, at + 1, b'\n');
+        bytes.push(b'\n')?;
+        bytes.extend_from_slice(without_margin(&text[at + 1..end]))?;
+        at = end;
     }
     String::from_utf8_lossy(alloc, bytes.as_slice())
+}
+
+fn first_mark(bytes: &[u8]) -> Mark
+    ensures { result ≡ gap.mark_of bytes.now }
+{
+    match bytes {
+        [b'/', b'/', ..] => Mark::Line,
+        [b'/', b'*', ..] => Mark::Block,
+        [b'\n', ..] => Mark::Feed,
+        _ => Mark::Other,
+    }
 }
 
 /// Reads the comment, white space or line end at a place, and gives the place behind it.
@@ -155,24 +230,26 @@ fn read_piece(
     at: usize,
 ) -> Result<usize, AllocError>
     requires { at < length bytes.now }
-    ensures { IfOk result (λ end. (at < end) × (end ≤ length bytes.now)) }
+    ensures within { IfOk result (λ end. (at < end) × (end ≤ length bytes.now)) }
+    ensures reads { IfOk result (λ end. gap.read_all (gap.read_view reader.new) (gap.pieces (drop end bytes.now))
+        ≡ gap.read_all (gap.read_view reader.old) (gap.pieces (drop at bytes.now))) }
 {
-    match &bytes[at..] {
-        [b'/', b'/', ..] => {
+    match first_mark(&bytes[at..]) {
+        Mark::Line => {
             let end = bytes.len().min(find(bytes, at + 2, b'\n') + 1);
-            reader.line_comment(&bytes[at + 2..end])?;
+            reader.line_comment(alloc, &bytes[at + 2..end])?;
             Ok(end)
         }
-        [b'/', b'*', ..] => {
+        Mark::Block => {
             let end = find_close(bytes, at + 2);
             reader.block_comment(alloc, &bytes[at + 2..end])?;
             Ok(bytes.len().min(end + 2))
         }
-        [b'\n', ..] => {
+        Mark::Feed => {
             reader.feed();
             Ok(at + 1)
         }
-        _ => Ok(at + 1),
+        Mark::Other => Ok(at + 1),
     }
 }
 
@@ -182,21 +259,13 @@ pub fn gap_comments(
     bytes: &[u8],
     may_trail: bool,
     behind: Behind,
-) -> Result<GapComments, AllocError> {
+) -> Result<GapComments, AllocError>
+    ensures { IfOk result (λ made. gap.notes_view made ≡ gap.comments_in bytes.now may_trail behind) }
+{
     let mut reader = Reader::new(alloc);
     let mut at = 0;
     'pieces: while at < bytes.len() {
         at = read_piece(alloc, &mut reader, bytes, at)?;
     }
-    let trailing = if may_trail && reader.is_first_trailing(behind) {
-        reader.comments.take_trailing()
-    } else {
-        None
-    };
-    let (detached, leading) = reader.comments.take_leading();
-    Ok(GapComments {
-        trailing,
-        detached,
-        leading,
-    })
+    Ok(reader.into_comments(may_trail, behind))
 }
