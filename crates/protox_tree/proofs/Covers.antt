@@ -3,16 +3,19 @@ use Rattle.std.proofs.Common.{◌≡◌, ℕ, ◌-◌, ◌<◌, List, length, So
 use Rattle.std.specs.Prelude.{map, option_map, slice_get, get_or}
 use Rattle.std.proofs.lemmas.List.{length-map}
 use Rattle.std.proofs.lemmas.Option.{slice_get-map, slice_get-get_or}
-use Rattle.protox_lex.specs.declared.literal.String as literals
-use Rattle.protox_tree.specs.Tree.{span_between, words_span}
-use Rattle.protox_tree.specs.View.{literal_view, literals_view}
+use Rattle.protox_lex.specs.declared.span.Span.{Span}
+use Rattle.protox_tree.specs.Places.{across}
+use Rattle.protox_tree.specs.Tree.{span_between, spans_cover}
 
-literal_at : (ls : List literals.String) (k : ℕ) (d : literals.String) → k < length ls → slice_get (map (λ w. w.span) (literals_view ls)) k ≡ Some (get_or ls k d).span
-literal_at ls k d h = slice_get-map (λ w. w.span) (literals_view ls) k ∙ ap (option_map (λ w. w.span)) (slice_get-map literal_view ls k ∙ ap (option_map literal_view) (slice_get-get_or ls k d h))
+-- parts as they are seen in the tree, each with its place
+module _ {A W : Type 0} (view : A → W) (place : W → Span) where
+  at_index : (xs : List A) (k : ℕ) (d : A) → k < length xs → slice_get (map place (map view xs)) k ≡ Some (place (view (get_or xs k d)))
+  at_index xs k d h = slice_get-map place (map view xs) k ∙ ap (option_map place) (slice_get-map view xs k ∙ ap (option_map view) (slice_get-get_or xs k d h))
 
-pub literals_cover : (ls : List literals.String) (d e : literals.String) → 0 < length ls → words_span (literals_view ls) ≡ record { start = (get_or ls 0 d).span.start; end = (get_or ls (length ls - 1) e).span.end }
-literals_cover ls d e h =
-    let same : length (map (λ w. w.span) (literals_view ls)) ≡ length ls = length-map (literals_view ls) (λ w. w.span) ∙ length-map ls literal_view in
-    ap (λ n. span_between (slice_get (map (λ w. w.span) (literals_view ls)) 0) (slice_get (map (λ w. w.span) (literals_view ls)) (n - 1))) same
-    ∙ ap (λ o. span_between o (slice_get (map (λ w. w.span) (literals_view ls)) (length ls - 1))) (literal_at ls 0 d h)
-    ∙ ap (λ o. span_between (Some (get_or ls 0 d).span) o) (literal_at ls (length ls - 1) e (omega (arith, h)))
+  pub cover : (xs : List A) (d e : A) → 0 < length xs → spans_cover (map place (map view xs)) ≡ across (place (view (get_or xs 0 d))) (place (view (get_or xs (length xs - 1) e)))
+  cover xs d e h =
+      let spans = map place (map view xs) in
+      let same : length spans ≡ length xs = length-map (map view xs) place ∙ length-map xs view in
+      ap (λ n. span_between (slice_get spans 0) (slice_get spans (n - 1))) same
+      ∙ ap (λ o. span_between o (slice_get spans (length xs - 1))) (at_index xs 0 d h)
+      ∙ ap (λ o. span_between (Some (place (view (get_or xs 0 d)))) o) (at_index xs (length xs - 1) e (omega (arith, h)))

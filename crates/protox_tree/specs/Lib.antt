@@ -3,6 +3,7 @@ pub mod FileView
 pub mod LexicalKinds
 pub mod Nest
 pub mod NestView
+pub mod Places
 pub mod Scalar
 pub mod Spans
 pub mod Tree

@@ -1,5 +1,5 @@
 -- The tree of a source: what the values of `src/` say, without the memory that they take.
-use Rattle.std.specs.Prelude.{◌-◌, Bool, false, if◌then◌else◌, List, [], ◌∷◌, ◌++◌, length, map, Option, Some, is_some, slice_get}
+use Rattle.std.specs.Prelude.{◌-◌, Bool, true, false, if◌then◌else◌, List, [], ◌∷◌, ◌++◌, length, map, Option, None, Some, is_some, codes, slice_get}
 use Rattle.std.specs.List.{flat_map}
 use Rattle.std.specs.Str.{bytes_eq}
 use Rattle.protox_lex.specs.Class.{Text}
@@ -83,6 +83,14 @@ abbrev pub has_name : Text → List NamePart → Bool
 has_name name [] = false
 has_name name (part ∷ []) = is_plain name part
 has_name name (part ∷ (next ∷ more)) = false
+
+-- what the words `true` and `false` say
+abbrev pub bool_of : Value → Option Bool
+bool_of (word_value w) =
+    if bytes_eq w.text (codes "true") then Some true
+    else if bytes_eq w.text (codes "false") then Some false
+    else None
+bool_of _ = None
 
 -- ---- ranges
 

@@ -35,7 +35,7 @@ pub struct FullIdent {
 }
 
 impl FullIdent {
-    ghost use Rattle.protox_tree.specs.Tree.{dotted};
+    ghost use Rattle.protox_tree.specs.Tree.{dotted, words_span};
     ghost use Rattle.protox_tree.specs.View.{full_view, idents_view};
 
     /// Of one part. Refused only for want of memory.
@@ -57,7 +57,9 @@ impl FullIdent {
     }
 
     /// From the first part to the last.
-    pub fn span(&self) -> Span {
+    pub fn span(&self) -> Span
+        ensures { result ≡ words_span (full_view self.now) }
+    {
         let first = self.parts[0].span;
         let last = self.parts[self.parts.len() - 1].span;
         Span {
@@ -102,11 +104,14 @@ pub struct TypeName {
 }
 
 impl TypeName {
+    ghost use Rattle.protox_tree.specs.Places.{type_name_span};
     ghost use Rattle.protox_tree.specs.Tree.{type_text};
     ghost use Rattle.protox_tree.specs.View.{type_name_view};
 
     /// From the leading dot, if there is one, to the last part.
-    pub fn span(&self) -> Span {
+    pub fn span(&self) -> Span
+        ensures { result ≡ type_name_span (type_name_view self.now) }
+    {
         let name = self.name.span();
         match self.leading_dot {
             Some(dot) => Span {

@@ -17,11 +17,14 @@ pub enum OptionNamePart {
 }
 
 impl OptionNamePart {
+    ghost use Rattle.protox_tree.specs.Places.{part_span};
     ghost use Rattle.protox_tree.specs.Tree as tree;
     ghost use Rattle.protox_tree.specs.View.{name_part_view};
 
     /// With the parentheses, if there are any.
-    pub fn span(&self) -> Span {
+    pub fn span(&self) -> Span
+        ensures { result ≡ part_span (name_part_view self.now) }
+    {
         match self {
             OptionNamePart::Ident(ident) => ident.span,
             OptionNamePart::Extension(_, span) => *span,
@@ -61,7 +64,13 @@ pub enum OptionValue {
 }
 
 impl OptionValue {
-    pub fn span(&self) -> Span {
+    ghost use Rattle.protox_tree.specs.Places.{value_span};
+    ghost use Rattle.protox_tree.specs.Tree.{bool_of};
+    ghost use Rattle.protox_tree.specs.View.{value_view};
+
+    pub fn span(&self) -> Span
+        ensures { result ≡ value_span (value_view self.now) }
+    {
         match self {
             OptionValue::Ident(ident) | OptionValue::NegativeWord(ident) => ident.span,
             OptionValue::Int(int) => int.span,
@@ -77,7 +86,9 @@ impl OptionValue {
     }
 
     /// What the identifiers `true` and `false` say.
-    pub fn as_bool(&self) -> Option<bool> {
+    pub fn as_bool(&self) -> Option<bool>
+        ensures { result ≡ bool_of (value_view self.now) }
+    {
         match self {
             OptionValue::Ident(ident) => match ident.value.as_str() {
                 "true" => Some(true),
@@ -136,6 +147,7 @@ pub struct OptionBody {
 }
 
 impl OptionBody {
+    ghost use Rattle.protox_tree.specs.Places as places;
     ghost use Rattle.protox_tree.specs.Tree as tree;
     ghost use Rattle.protox_tree.specs.View.{body_view};
 
@@ -150,7 +162,9 @@ impl OptionBody {
     }
 
     /// From the first part of the name to the last.
-    pub fn name_span(&self) -> Span {
+    pub fn name_span(&self) -> Span
+        ensures { result ≡ places.name_span (body_view self.now).name }
+    {
         let first = self.name[0].span();
         let last = self.name[self.name.len() - 1].span();
         Span {
@@ -160,7 +174,9 @@ impl OptionBody {
     }
 
     /// From the name to the value.
-    pub fn span(&self) -> Span {
+    pub fn span(&self) -> Span
+        ensures { result ≡ places.body_span (body_view self.now) }
+    {
         Span {
             start: self.name_span().start,
             end: self.value.span().end,

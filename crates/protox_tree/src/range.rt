@@ -1,5 +1,8 @@
 //! Ranges of numbers.
 
+ghost use Rattle.std.specs.Prelude.{◌≡◌};
+ghost use Rattle.protox_tree.specs.Places as places;
+
 use crate::option::OptionList;
 use crate::text::Strings;
 use protox_lex::{Int, Span};
@@ -22,12 +25,16 @@ pub struct ReservedRange {
 }
 
 impl ReservedRange {
-    pub fn start_span(&self) -> Span {
+    pub fn start_span(&self) -> Span
+        ensures { result ≡ self.now.start.span }
+    {
         self.start.span
     }
 
     /// That of the start, where no other bound is written.
-    pub fn end_span(&self) -> Span {
+    pub fn end_span(&self) -> Span
+        ensures { result ≡ places.end_span self.now.start self.now.end }
+    {
         match self.end {
             RangeEnd::None => self.start.span,
             RangeEnd::Int(int) => int.span,
@@ -35,7 +42,9 @@ impl ReservedRange {
         }
     }
 
-    pub fn span(&self) -> Span {
+    pub fn span(&self) -> Span
+        ensures { result ≡ places.range_span self.now }
+    {
         Span {
             start: self.start.span.start,
             end: self.end_span().end,

@@ -2,6 +2,7 @@
 
 ghost use Rattle.std.specs.Prelude.{◌≡◌, IfOk, option_map, string_bytes};
 ghost use Rattle.std.specs.Str.{bytes_eq};
+ghost use Rattle.protox_tree.specs.Places.{ty_span};
 ghost use Rattle.protox_tree.specs.Scalar.{scalar_of, scalar_type, written_name};
 ghost use Rattle.protox_tree.specs.View.{ty_view};
 
@@ -101,7 +102,9 @@ impl Ty {
         }
     }
 
-    pub fn span(&self) -> Span {
+    pub fn span(&self) -> Span
+        ensures { result ≡ ty_span (ty_view self.now) }
+    {
         match self {
             Ty::Scalar(_, span) => *span,
             Ty::Named(name) => name.span(),

@@ -1,6 +1,8 @@
 use Rattle.std.proofs.Common.{rules, ◌≡◌, ◌<◌, ◌-◌, length, ap, sym, ◌∙◌}
 use Rattle.std.specs.Prelude.{get_or}
-use Rattle.protox_tree.proofs.Covers.{literals_cover}
+use Rattle.protox_tree.proofs.Covers.{cover}
+use Rattle.protox_tree.specs.Places.{across}
+use Rattle.protox_tree.specs.View.{literal_view}
 use Rattle.protox_tree.proofs.text.Strings.span.Goals as goal
 
 pub returns : goal.returns
@@ -9,6 +11,6 @@ returns c =
     let some : 0 < length ls = search rules in
     let first : c.index.result.now ≡ get_or ls 0 c.index.result.now = search rules in
     let last : c.index-2.result.now ≡ get_or ls (length ls - 1) c.index-2.result.now = search rules in
-    sym (literals_cover ls c.index.result.now c.index-2.result.now some
-    ∙ ap (λ l. record { start = l.span.start; end = (get_or ls (length ls - 1) c.index-2.result.now).span.end }) (sym first)
-    ∙ ap (λ l. record { start = c.index.result.now.span.start; end = l.span.end }) (sym last))
+    sym (cover literal_view (λ w. w.span) ls c.index.result.now c.index-2.result.now some
+    ∙ ap (λ l. across l.span (get_or ls (length ls - 1) c.index-2.result.now).span) (sym first)
+    ∙ ap (λ l. across c.index.result.now.span l.span) (sym last))
