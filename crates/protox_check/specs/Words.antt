@@ -1,10 +1,9 @@
 -- Words of which the rules are made.
-use Rattle.std.specs.Prelude.{Bool, if◌then◌else◌, List, [], ◌∷◌, ◌++◌, Option, slice_get}
+use Rattle.std.specs.Prelude.{Bool, true, false, if◌then◌else◌, List, [], ◌∷◌, ◌++◌, Option, slice_get}
 use Rattle.std.specs.List.{flat_map}
 use Rattle.protox_tree.specs.declared.error.ParseErrorKind.{ParseErrorKind}
 use Rattle.protox_tree.specs.declared.types.Syntax.{Syntax}
 use Rattle.protox_tree.specs.declared.types.Syntax.TheVariants as syntaxes
-use Rattle.std.specs.Prelude.{true, false}
 
 -- this fault, where there is reason to tell it
 abbrev pub told_if : Bool → ParseErrorKind → List ParseErrorKind
