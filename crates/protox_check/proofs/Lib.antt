@@ -1,1 +1,2 @@
-pub mod TreeFaults
+pub mod Behind
+pub mod Nests

@@ -1,1 +1,6 @@
-pub mod TreeFaults
+pub mod Faults
+pub mod FieldOptions
+pub mod Fields
+pub mod Ranges
+pub mod Texts
+pub mod Words

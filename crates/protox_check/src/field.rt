@@ -1,23 +1,39 @@
-//! The checks of one field.
+//! The checks of a field before its options.
 
-ghost use Rattle.std.specs.Prelude.{◌≡◌, true, IfSome, OnOk};
-ghost use Rattle.protox_check.specs.TreeFaults.{is_of_tree, of_no_tree};
+ghost use Rattle.std.specs.Prelude.{◌≡◌, ◌++◌, OnOk, None, Some};
+ghost use Rattle.protox_check.specs.Fields as spec;
+ghost use Rattle.protox_tree.specs.NestView.{kind_view};
+ghost use Rattle.protox_tree.specs.Scalar.{scalar_type};
+ghost use Rattle.protox_tree.specs.View.{ident_view, ty_view};
 
-use crate::default::suits;
-use crate::{check_text, tell};
+use crate::{is_proto3, tell, tell_if};
 use descriptor_records::{FieldType, Label};
 use protox_lex::{Int, Span};
-use protox_tree::{Field, FieldKind, OptionBody, OptionValue, ParseErrorKind, Syntax, Ty};
-use std::alloc::{AllocError, Global};
+use protox_tree::{Field, FieldKind, Ident, ParseErrorKind, Syntax, Ty};
+use std::alloc::AllocError;
 
 const MAX_FIELD_NUMBER: i32 = 536870911;
 
 /// What a field stands in directly.
-#[derive(Clone, Copy, PartialEq, Eq)]
+#[derive(Clone, Copy)]
 pub enum Holder {
     Message,
     Oneof,
     Extend,
+}
+
+impl Holder {
+    fn is_oneof(self) -> bool
+        ensures { result ≡ spec.is_oneof self }
+    {
+        matches!(self, Holder::Oneof)
+    }
+
+    fn is_extend(self) -> bool
+        ensures { result ≡ spec.is_extend self }
+    {
+        matches!(self, Holder::Extend)
+    }
 }
 
 /// What stands before a field's options.
@@ -27,48 +43,40 @@ pub fn check_field_head(
     field: &Field,
     faults: &mut Vec<ParseErrorKind>,
 ) -> Result<(), AllocError>
-    ensures { OnOk result (of_no_tree faults.new.items ≡ of_no_tree faults.old.items) }
+    ensures { OnOk result (faults.new.items ≡ faults.old.items ++ spec.head_faults syntax holder (spec.head_view field.now)) }
 {
-    let is_map = matches!(field.kind, FieldKind::Map(_));
-    match field.label {
-        None => check_no_label(syntax, holder, field, faults)?,
-        Some((Label::Required, span)) if syntax == Syntax::Proto3 => {
-            tell(faults, ParseErrorKind::RequiredInProto3 { span })?;
-        }
-        Some(_) => {}
-    }
-    if let FieldKind::Group(_) = &field.kind {
-        check_group(syntax, field, faults)?;
-    }
-    if let Some((label, span)) = field.label {
-        check_label(holder, is_map, span, faults)?;
-        check_holder(holder, field, faults)?;
-        if label == Label::Required && holder == Holder::Extend {
-            tell(faults, ParseErrorKind::RequiredExtension { span })?;
-        }
-    } else {
-        check_holder(holder, field, faults)?;
-    }
-    check_names(field, faults)?;
-    match number_fault(field.number) {
-        Some(fault) => tell(faults, fault),
-        None => Ok(()),
-    }
+    check_presence(syntax, holder, field, faults)?;
+    check_group(syntax, field, faults)?;
+    check_label(holder, field, faults)?;
+    check_holder(holder, field, faults)?;
+    check_required(holder, field.label, faults)?;
+    check_name(&field.kind, &field.name, faults)?;
+    check_number(field.number, faults)
 }
 
-fn check_no_label(
+fn check_presence(
     syntax: Syntax,
     holder: Holder,
     field: &Field,
     faults: &mut Vec<ParseErrorKind>,
 ) -> Result<(), AllocError>
-    ensures { OnOk result (of_no_tree faults.new.items ≡ of_no_tree faults.old.items) }
+    ensures { OnOk result (faults.new.items ≡ faults.old.items ++ spec.presence_faults syntax holder (kind_view field.now.kind) field.now.span field.now.label) }
 {
-    let is_map = matches!(field.kind, FieldKind::Map(_));
-    if syntax == Syntax::Proto2 && holder != Holder::Oneof && !is_map {
-        tell(faults, ParseErrorKind::MissingLabel { span: field.span })?;
+    match field.label {
+        Some((label, span)) => {
+            let is_required = is_proto3(syntax) && is_required(label);
+            tell_if(
+                is_required,
+                ParseErrorKind::RequiredInProto3 { span },
+                faults,
+            )
+        }
+        None => {
+            let is_missing = !is_proto3(syntax) && !holder.is_oneof() && !is_map(&field.kind);
+            let span = field.span;
+            tell_if(is_missing, ParseErrorKind::MissingLabel { span }, faults)
+        }
     }
-    Ok(())
 }
 
 fn check_group(
@@ -76,29 +84,33 @@ fn check_group(
     field: &Field,
     faults: &mut Vec<ParseErrorKind>,
 ) -> Result<(), AllocError>
-    ensures { OnOk result (of_no_tree faults.new.items ≡ of_no_tree faults.old.items) }
+    ensures { OnOk result (faults.new.items ≡ faults.old.items ++ spec.group_faults syntax (kind_view field.now.kind) field.now.span) }
 {
-    if syntax == Syntax::Proto3 {
-        tell(faults, ParseErrorKind::GroupInProto3 { span: field.span })?;
-    }
-    Ok(())
+    let is_group = is_proto3(syntax) && is_group(&field.kind);
+    let span = field.span;
+    tell_if(is_group, ParseErrorKind::GroupInProto3 { span }, faults)
 }
 
 fn check_label(
     holder: Holder,
-    is_map: bool,
-    span: Span,
+    field: &Field,
     faults: &mut Vec<ParseErrorKind>,
 ) -> Result<(), AllocError>
-    ensures { OnOk result (of_no_tree faults.new.items ≡ of_no_tree faults.old.items) }
+    ensures { OnOk result (faults.new.items ≡ faults.old.items ++ spec.label_faults holder (kind_view field.now.kind) field.now.label) }
 {
-    if holder == Holder::Oneof {
-        tell(faults, ParseErrorKind::OneofFieldWithLabel { span })?;
-    }
-    if is_map {
-        tell(faults, ParseErrorKind::MapFieldWithLabel { span })?;
-    }
-    Ok(())
+    let Some((_, span)) = field.label else {
+        return Ok(());
+    };
+    tell_if(
+        holder.is_oneof(),
+        ParseErrorKind::OneofFieldWithLabel { span },
+        faults,
+    )?;
+    tell_if(
+        is_map(&field.kind),
+        ParseErrorKind::MapFieldWithLabel { span },
+        faults,
+    )
 }
 
 /// Maps stand in messages alone.
@@ -107,171 +119,111 @@ fn check_holder(
     field: &Field,
     faults: &mut Vec<ParseErrorKind>,
 ) -> Result<(), AllocError>
-    ensures { OnOk result (of_no_tree faults.new.items ≡ of_no_tree faults.old.items) }
+    ensures { OnOk result (faults.new.items ≡ faults.old.items ++ spec.holder_faults holder (kind_view field.now.kind) field.now.span) }
 {
     let span = field.span;
-    if let FieldKind::Map(_) = &field.kind {
-        match holder {
-            Holder::Message => {}
-            Holder::Oneof => tell(faults, ParseErrorKind::MapFieldInOneof { span })?,
-            Holder::Extend => tell(faults, ParseErrorKind::MapFieldInExtend { span })?,
-        }
-    }
-    Ok(())
+    let is_map = is_map(&field.kind);
+    tell_if(
+        holder.is_oneof() && is_map,
+        ParseErrorKind::MapFieldInOneof { span },
+        faults,
+    )?;
+    tell_if(
+        holder.is_extend() && is_map,
+        ParseErrorKind::MapFieldInExtend { span },
+        faults,
+    )
+}
+
+fn check_required(
+    holder: Holder,
+    label: Option<(Label, Span)>,
+    faults: &mut Vec<ParseErrorKind>,
+) -> Result<(), AllocError>
+    ensures { OnOk result (faults.new.items ≡ faults.old.items ++ spec.required_faults holder label) }
+{
+    let Some((label, span)) = label else {
+        return Ok(());
+    };
+    let is_required = holder.is_extend() && is_required(label);
+    tell_if(
+        is_required,
+        ParseErrorKind::RequiredExtension { span },
+        faults,
+    )
 }
 
 /// The name of a group and the key of a map.
-fn check_names(field: &Field, faults: &mut Vec<ParseErrorKind>) -> Result<(), AllocError>
-    ensures { OnOk result (of_no_tree faults.new.items ≡ of_no_tree faults.old.items) }
+fn check_name(
+    kind: &FieldKind,
+    name: &Ident,
+    faults: &mut Vec<ParseErrorKind>,
+) -> Result<(), AllocError>
+    ensures { OnOk result (faults.new.items ≡ faults.old.items ++ spec.name_faults (kind_view kind.now) (ident_view name.now)) }
 {
-    match &field.kind {
-        FieldKind::Group(_) if !begins_upper(field.name.value.as_str()) => {
-            let span = field.name.span;
-            tell(faults, ParseErrorKind::InvalidGroupName { span })?;
+    match kind {
+        FieldKind::Normal(_) => Ok(()),
+        FieldKind::Group(_) => {
+            let begins_upper = begins_upper(name.value.as_str());
+            let span = name.span;
+            tell_if(
+                !begins_upper,
+                ParseErrorKind::InvalidGroupName { span },
+                faults,
+            )
         }
-        FieldKind::Map(map) if !is_key_type(&map.key) => {
+        FieldKind::Map(map) => {
+            let is_key = is_key_type(&map.key);
             let span = map.key.span();
-            tell(faults, ParseErrorKind::InvalidMapKeyType { span })?;
+            tell_if(!is_key, ParseErrorKind::InvalidMapKeyType { span }, faults)
         }
-        _ => {}
     }
-    Ok(())
 }
 
-fn begins_upper(name: &str) -> bool {
+/// The number of a field is one of those that fields may have.
+fn check_number(number: Int, faults: &mut Vec<ParseErrorKind>) -> Result<(), AllocError>
+    ensures { OnOk result (faults.new.items ≡ faults.old.items ++ spec.number_faults number) }
+{
+    let span = number.span;
+    match number.as_i32() {
+        Some(19000..=19999) => tell(faults, ParseErrorKind::ReservedMessageNumber { span }),
+        Some(1..=MAX_FIELD_NUMBER) => Ok(()),
+        _ => tell(faults, ParseErrorKind::InvalidMessageNumber { span }),
+    }
+}
+
+fn is_map(kind: &FieldKind) -> bool
+    ensures { result ≡ spec.is_map (kind_view kind.now) }
+{
+    matches!(kind, FieldKind::Map(_))
+}
+
+fn is_group(kind: &FieldKind) -> bool
+    ensures { result ≡ spec.is_group (kind_view kind.now) }
+{
+    matches!(kind, FieldKind::Group(_))
+}
+
+fn is_required(label: Label) -> bool
+    ensures { result ≡ spec.is_required label }
+{
+    matches!(label, Label::Required)
+}
+
+fn begins_upper(name: &str) -> bool
+    ensures { result ≡ spec.begins_upper name.now }
+{
     match name.as_bytes() {
         [first, ..] => first.is_ascii_uppercase(),
         [] => false,
     }
 }
 
-fn is_key_type(ty: &Ty) -> bool {
+fn is_key_type(ty: &Ty) -> bool
+    ensures { result ≡ spec.is_key_type (scalar_type (ty_view ty.now)) }
+{
     match ty.proto_ty() {
         None | Some(FieldType::Double | FieldType::Float | FieldType::Bytes) => false,
         Some(_) => true,
-    }
-}
-
-/// Why a number is none of a field.
-fn number_fault(number: Int) -> Option<ParseErrorKind>
-    ensures { IfSome result (λ fault. is_of_tree fault ≡ true) }
-{
-    let span = number.span;
-    match number.as_i32() {
-        Some(19000..=19999) => Some(ParseErrorKind::ReservedMessageNumber { span }),
-        Some(1..=MAX_FIELD_NUMBER) => None,
-        _ => Some(ParseErrorKind::InvalidMessageNumber { span }),
-    }
-}
-
-/// The first `default` and the first `json_name` that were met.
-#[derive(Clone, Copy)]
-struct Met {
-    default: Option<Span>,
-    json_name: Option<Span>,
-}
-
-/// The options `default` and `json_name` of a field.
-pub fn check_field_options(
-    alloc: Global,
-    syntax: Syntax,
-    field: &Field,
-    faults: &mut Vec<ParseErrorKind>,
-) -> Result<(), AllocError>
-    ensures { OnOk result (of_no_tree faults.new.items ≡ of_no_tree faults.old.items) }
-{
-    let mut met = Met {
-        default: None,
-        json_name: None,
-    };
-    if let Some(list) = &field.options {
-        'each: for option in &list.options {
-            if option.has_name("default") {
-                check_default(alloc, syntax, field, option, met.default, faults)?;
-                met.default = met.default.or(Some(option.span()));
-            } else if option.has_name("json_name") {
-                check_json_name(alloc, option, met.json_name, faults)?;
-                met.json_name = met.json_name.or(Some(option.span()));
-            }
-        }
-    }
-    Ok(())
-}
-
-fn check_default(
-    alloc: Global,
-    syntax: Syntax,
-    field: &Field,
-    option: &OptionBody,
-    first: Option<Span>,
-    faults: &mut Vec<ParseErrorKind>,
-) -> Result<(), AllocError>
-    ensures { OnOk result (of_no_tree faults.new.items ≡ of_no_tree faults.old.items) }
-{
-    let span = option.span();
-    let suits = suits(field, &option.value);
-    if syntax == Syntax::Proto3 {
-        tell(faults, ParseErrorKind::DefaultInProto3 { span })?;
-    }
-    if !suits {
-        tell(faults, ParseErrorKind::InvalidDefault { span })?;
-    }
-    check_first(first, span, faults)?;
-    if suits && is_string(field) {
-        check_string(alloc, &option.value, faults)?;
-    }
-    Ok(())
-}
-
-fn check_json_name(
-    alloc: Global,
-    option: &OptionBody,
-    first: Option<Span>,
-    faults: &mut Vec<ParseErrorKind>,
-) -> Result<(), AllocError>
-    ensures { OnOk result (of_no_tree faults.new.items ≡ of_no_tree faults.old.items) }
-{
-    check_first(first, option.span(), faults)?;
-    if let OptionValue::String(_) = &option.value {
-        check_string(alloc, &option.value, faults)
-    } else {
-        let span = option.value.span();
-        tell(faults, ParseErrorKind::InvalidJsonName { span })
-    }
-}
-
-fn check_first(
-    first: Option<Span>,
-    second: Span,
-    faults: &mut Vec<ParseErrorKind>,
-) -> Result<(), AllocError>
-    ensures { OnOk result (of_no_tree faults.new.items ≡ of_no_tree faults.old.items) }
-{
-    if let Some(first) = first {
-        tell(
-            faults,
-            ParseErrorKind::DuplicateFieldOption { first, second },
-        )?;
-    }
-    Ok(())
-}
-
-fn is_string(field: &Field) -> bool {
-    match &field.kind {
-        FieldKind::Normal(ty) => ty.proto_ty() == Some(FieldType::String),
-        FieldKind::Group(_) | FieldKind::Map(_) => false,
-    }
-}
-
-fn check_string(
-    alloc: Global,
-    value: &OptionValue,
-    faults: &mut Vec<ParseErrorKind>,
-) -> Result<(), AllocError>
-    ensures { OnOk result (of_no_tree faults.new.items ≡ of_no_tree faults.old.items) }
-{
-    match value {
-        OptionValue::String(strings) => check_text(alloc, strings, faults),
-        _ => Ok(()),
     }
 }

@@ -1,13 +1,21 @@
 //! The checks of ranges, and of enums.
 
-ghost use Rattle.std.specs.Prelude.{◌≡◌, OnOk};
-ghost use Rattle.protox_check.specs.TreeFaults.{of_no_tree};
+ghost use Rattle.std.specs.Prelude.{◌≡◌, ◌++◌, OnOk, if◌then◌else◌, None, Some, not};
+ghost use Rattle.std.specs.List.{flat_map};
+ghost use Rattle.protox_check.specs.Ranges as spec;
+ghost use Rattle.protox_check.specs.Texts.{text_faults};
+ghost use Rattle.protox_check.specs.Words.{told_if};
+ghost use Rattle.protox_check.specs.declared.range.Numbers.TheVariants as numbers;
+ghost use Rattle.protox_lex.specs.Signed.{signed};
+ghost use Rattle.protox_tree.specs.NestView.{extensions_view};
+ghost use Rattle.protox_tree.specs.View.{enum_item_view, enum_view, names_view, reserved_items_view, reserved_view};
+ghost use Rattle.protox_tree.specs.declared.error.ParseErrorKind.TheVariants as kinds;
 
-use crate::{check_text, tell};
+use crate::{check_text, is_proto3, tell_if};
 use protox_lex::Int;
 use protox_tree::{
     Enum, EnumItem, Extensions, ParseErrorKind, RangeEnd, Reserved, ReservedItems, ReservedRange,
-    Syntax,
+    Strings, Syntax,
 };
 use std::alloc::{AllocError, Global};
 
@@ -19,7 +27,9 @@ enum Numbers {
 }
 
 /// A bound, if it is one of the numbers.
-fn bound(numbers: Numbers, int: Int) -> Option<i32> {
+fn bound(numbers: Numbers, int: Int) -> Option<i32>
+    ensures { result ≡ (if spec.is_bound numbers int then Some (signed int) else None) }
+{
     let bound = int.as_i32()?;
     match numbers {
         Numbers::Fields if bound < 1 || bound > 536870911 => None,
@@ -32,12 +42,14 @@ fn check_bound(
     int: Int,
     faults: &mut Vec<ParseErrorKind>,
 ) -> Result<(), AllocError>
-    ensures { OnOk result (of_no_tree faults.new.items ≡ of_no_tree faults.old.items) }
+    ensures { OnOk result (faults.new.items ≡ faults.old.items ++ spec.bound_faults numbers int) }
 {
-    if bound(numbers, int).is_none() {
-        tell(faults, ParseErrorKind::InvalidRange { span: int.span })?;
-    }
-    Ok(())
+    let is_bound = bound(numbers, int).is_some();
+    tell_if(
+        !is_bound,
+        ParseErrorKind::InvalidRange { span: int.span },
+        faults,
+    )
 }
 
 fn check_range(
@@ -45,24 +57,21 @@ fn check_range(
     range: ReservedRange,
     faults: &mut Vec<ParseErrorKind>,
 ) -> Result<(), AllocError>
-    ensures { OnOk result (of_no_tree faults.new.items ≡ of_no_tree faults.old.items) }
+    ensures { OnOk result (faults.new.items ≡ faults.old.items ++ spec.range_faults numbers range) }
 {
     let RangeEnd::Int(end) = range.end else {
         return check_bound(numbers, range.start, faults);
     };
     match (bound(numbers, range.start), bound(numbers, end)) {
         (Some(first), Some(last)) => {
-            if first > last {
-                let span = range.span();
-                tell(faults, ParseErrorKind::InvalidRange { span })?;
-            }
+            let span = range.span();
+            tell_if(first > last, ParseErrorKind::InvalidRange { span }, faults)
         }
         _ => {
             check_bound(numbers, range.start, faults)?;
-            check_bound(numbers, end, faults)?;
+            check_bound(numbers, end, faults)
         }
     }
-    Ok(())
 }
 
 fn check_ranges(
@@ -70,7 +79,7 @@ fn check_ranges(
     ranges: &Vec<ReservedRange>,
     faults: &mut Vec<ParseErrorKind>,
 ) -> Result<(), AllocError>
-    ensures { OnOk result (of_no_tree faults.new.items ≡ of_no_tree faults.old.items) }
+    ensures { OnOk result (faults.new.items ≡ faults.old.items ++ spec.ranges_faults numbers ranges.now.items) }
 {
     'each: for range in ranges {
         check_range(numbers, *range, faults)?;
@@ -83,12 +92,14 @@ pub fn check_extensions(
     extensions: &Extensions,
     faults: &mut Vec<ParseErrorKind>,
 ) -> Result<(), AllocError>
-    ensures { OnOk result (of_no_tree faults.new.items ≡ of_no_tree faults.old.items) }
+    ensures { OnOk result (faults.new.items ≡ faults.old.items ++ spec.extensions_faults syntax (extensions_view extensions.now)) }
 {
-    if syntax == Syntax::Proto3 {
-        let span = extensions.span;
-        tell(faults, ParseErrorKind::ExtensionRangeInProto3 { span })?;
-    }
+    let span = extensions.span;
+    tell_if(
+        is_proto3(syntax),
+        ParseErrorKind::ExtensionRangeInProto3 { span },
+        faults,
+    )?;
     check_ranges(Numbers::Fields, &extensions.ranges, faults)
 }
 
@@ -98,17 +109,25 @@ fn check_items(
     items: &ReservedItems,
     faults: &mut Vec<ParseErrorKind>,
 ) -> Result<(), AllocError>
-    ensures { OnOk result (of_no_tree faults.new.items ≡ of_no_tree faults.old.items) }
+    ensures { OnOk result (faults.new.items ≡ faults.old.items ++ spec.reserved_faults numbers (reserved_items_view items.now)) }
 {
     match items {
         ReservedItems::Ranges(ranges) => check_ranges(numbers, ranges, faults),
-        ReservedItems::Names(names) => {
-            'each: for name in names {
-                check_text(alloc, name, faults)?;
-            }
-            Ok(())
-        }
+        ReservedItems::Names(names) => check_names(alloc, names, faults),
     }
+}
+
+fn check_names(
+    alloc: Global,
+    names: &Vec<Strings>,
+    faults: &mut Vec<ParseErrorKind>,
+) -> Result<(), AllocError>
+    ensures { OnOk result (faults.new.items ≡ faults.old.items ++ flat_map text_faults (names_view names.now.items)) }
+{
+    'each: for name in names {
+        check_text(alloc, name, faults)?;
+    }
+    Ok(())
 }
 
 /// The `reserved` statement of a message.
@@ -117,7 +136,7 @@ pub fn check_reserved(
     reserved: &Reserved,
     faults: &mut Vec<ParseErrorKind>,
 ) -> Result<(), AllocError>
-    ensures { OnOk result (of_no_tree faults.new.items ≡ of_no_tree faults.old.items) }
+    ensures { OnOk result (faults.new.items ≡ faults.old.items ++ spec.reserved_faults numbers.Fields (reserved_view reserved.now).items) }
 {
     check_items(alloc, Numbers::Fields, &reserved.items, faults)
 }
@@ -127,7 +146,7 @@ pub fn check_enum(
     enumeration: &Enum,
     faults: &mut Vec<ParseErrorKind>,
 ) -> Result<(), AllocError>
-    ensures { OnOk result (of_no_tree faults.new.items ≡ of_no_tree faults.old.items) }
+    ensures { OnOk result (faults.new.items ≡ faults.old.items ++ spec.enum_faults (enum_view enumeration.now)) }
 {
     'each: for item in &enumeration.items {
         check_enum_item(alloc, item, faults)?;
@@ -140,19 +159,25 @@ fn check_enum_item(
     item: &EnumItem,
     faults: &mut Vec<ParseErrorKind>,
 ) -> Result<(), AllocError>
-    ensures { OnOk result (of_no_tree faults.new.items ≡ of_no_tree faults.old.items) }
+    ensures { OnOk result (faults.new.items ≡ faults.old.items ++ spec.enum_item_faults (enum_item_view item.now)) }
 {
     match item {
-        EnumItem::Value(value) => {
-            let span = value.number.span;
-            if value.number.as_i32().is_none() {
-                tell(faults, ParseErrorKind::InvalidEnumNumber { span })?;
-            }
-            Ok(())
-        }
+        EnumItem::Value(value) => check_enum_number(value.number, faults),
         EnumItem::Reserved(reserved) => {
             check_items(alloc, Numbers::EnumValues, &reserved.items, faults)
         }
         EnumItem::Option(_) | EnumItem::Empty(_) => Ok(()),
     }
+}
+
+fn check_enum_number(number: Int, faults: &mut Vec<ParseErrorKind>) -> Result<(), AllocError>
+    ensures { OnOk result (faults.new.items ≡ faults.old.items ++ told_if (not (spec.is_i32 (signed number))) (kinds.InvalidEnumNumber number.span)) }
+{
+    let is_number = bound(Numbers::EnumValues, number).is_some();
+    let span = number.span;
+    tell_if(
+        !is_number,
+        ParseErrorKind::InvalidEnumNumber { span },
+        faults,
+    )
 }

@@ -2,10 +2,11 @@
 use Rattle.descriptor_records.specs.Content as records
 use Rattle.descriptor_records.specs.Content.{FileContent}
 use Rattle.descriptor_records.specs.declared.file.FileDescriptorProto.{FileDescriptorProto}
-use Rattle.protox_check.specs.TreeFaults.{of_no_tree}
+use Rattle.protox_check.specs.Faults as checks
+use Rattle.protox_file.proofs.Texts.{not_both, same_tree}
 use Rattle.protox_file.specs.Sources.{Spells, RefusedBy}
 use Rattle.protox_lex.specs.Class.{Text}
-use Rattle.protox_parse.specs.Answers.{IsAnswered, without_places}
+use Rattle.protox_parse.specs.Answers.{HasFaults, IsAnswered, without_places}
 use Rattle.protox_parse.specs.Refusals.{faults_of}
 use Rattle.protox_parse.specs.declared.error.ParseError.{ParseError}
 use Rattle.protox_parse.specs.declared.error.Refusal.{Refusal}
@@ -13,10 +14,11 @@ use Rattle.protox_parse.specs.declared.error.ParseError.TheVariants.{Memory, Ref
 use Rattle.protox_record.specs.FileRecords.{IsFile}
 use Rattle.protox_tokens.specs.Refusal.{Fault}
 use Rattle.protox_tokens.specs.Told.{IsToldAs}
+use Rattle.protox_tree.specs.FileTree.{File}
 use Rattle.protox_tree.specs.FileView.{file_view}
 use Rattle.protox_tree.specs.declared.file.File as trees
 use Rattle.protox_tree.specs.declared.error.ParseErrorKind.{ParseErrorKind}
-use Rattle.std.proofs.Common.{◌≡◌, ◌∙◌, inl, inr, [], ◌∷◌, Some, Result, Ok, Err, ap, sym, subst}
+use Rattle.std.proofs.Common.{◌≡◌, ◌⊎◌, ◌∙◌, inl, inr, [], ◌∷◌, Some, Result, Ok, Err, ap, sym, subst}
 use Rattle.std.specs.Prelude.{IfErr, IfOk}
 
 -- the name of a record of a file
@@ -28,11 +30,22 @@ pub placed : (name : Text) (tree : trees.File) (made : FileContent) → IsFile n
 placed name tree made h = subst (IsFile name tree) (h.is ∙ sym (ap without_places h.is)) h
 
 pub spelled : (name z : Text) (tree : trees.File) (r : Result FileDescriptorProto ParseError) → Spells z (file_view tree)
-    → IfErr r (λ e. of_no_tree (faults_of e) ≡ []) → IfOk r (λ made. IsFile name tree (without_places (records.file_view made))) → IsAnswered name z r
-spelled name z tree (Ok made) s h is = (tree, s, is)
-spelled name z tree (Err Memory) s h is = tt
-spelled name z tree (Err (Refused r)) s h is = inr (file_view tree, s, h)
+    → IfErr r (λ e. (e ≡ Memory) ⊎ HasFaults (file_view tree) (faults_of e)) → IfOk r (λ made. checks.faults_of (file_view tree) ≡ [])
+    → IfOk r (λ made. IsFile name tree (without_places (records.file_view made))) → IsAnswered name z r
+spelled name z tree (Ok made) s h none is = (tree, s, none, is)
+spelled name z tree (Err Memory) s h none is = tt
+spelled name z tree (Err (Refused r)) s (inl m) none is = absurd (cc m)
+spelled name z tree (Err (Refused r)) s (inr h) none is = inr (file_view tree, s, h)
 
 pub unspelled : (name z : Text) (f : Fault) (r : Refusal) (kind : ParseErrorKind) → RefusedBy z f
     → r.faults.items ≡ kind ∷ [] → IsToldAs f kind → IsAnswered name z (Err (Refused r))
 unspelled name z f r kind refused alone told = inl (f, refused, (kind, alone, told))
+
+-- a text that spells a tree is refused with all faults of this one
+pub all_told : (name z : Text) (r : Refusal) (tree : File) → Spells z tree → IsAnswered name z (Err (Refused r)) → HasFaults tree r.faults.items
+all_told name z r tree s (inl untold) = absurd (not_both z tree untold.0 s untold.1)
+all_told name z r tree s (inr other) = subst (λ t. HasFaults t r.faults.items) (same_tree z other.0 tree other.1 s) other.2
+
+-- and it is recorded only if this one has none
+pub none_recorded : (name z : Text) (made : FileDescriptorProto) (tree : File) → Spells z tree → IsAnswered name z (Ok made) → checks.faults_of tree ≡ []
+none_recorded name z made tree s h = ap checks.faults_of (same_tree z tree (file_view h.0) s h.1) ∙ h.2

@@ -1,7 +1,7 @@
 -- What a source is answered with.
 use Rattle.descriptor_records.specs.Content as records
 use Rattle.descriptor_records.specs.declared.file.FileDescriptorProto.{FileDescriptorProto}
-use Rattle.protox_check.specs.TreeFaults.{of_no_tree}
+use Rattle.protox_check.specs.Faults as checks
 use Rattle.protox_file.specs.Sources.{Spells, RefusedBy}
 use Rattle.protox_lex.specs.Class.{Text}
 use Rattle.protox_parse.specs.declared.error.ParseError.{ParseError}
@@ -13,24 +13,30 @@ use Rattle.protox_tree.specs.FileTree.{File}
 use Rattle.protox_tree.specs.FileView.{file_view}
 use Rattle.protox_tree.specs.declared.file.File as trees
 use Rattle.protox_tree.specs.declared.error.ParseErrorKind.{ParseErrorKind}
-use Rattle.std.specs.Prelude.{◌≡◌, ◌⊎◌, ◌∷◌, [], List, None, Result, Ok, Err}
+use Rattle.std.specs.Prelude.{◌≡◌, ◌<◌, ◌⊎◌, ◌∷◌, [], List, None, Result, Ok, Err, length}
 
 -- this fault, alone
 abbrev pub Tells : Fault → List ParseErrorKind → Type 0
 Tells fault faults = (kind : ParseErrorKind) × (faults ≡ kind ∷ []) × IsToldAs fault kind
 
--- Why a source is refused: it spells no tree, and its first fault is told; or it spells one, and what is told are faults of trees.
+-- these are all faults of a tree, in order, and there are some
+abbrev pub HasFaults : File → List ParseErrorKind → Type 0
+HasFaults tree faults = (faults ≡ checks.faults_of tree) × (0 < length faults)
+
+-- Why a source is refused: it spells no tree, and its first fault is told; or it spells one that has faults, and all of them are told.
 abbrev pub AreAtFault : Text → List ParseErrorKind → Type 0
 AreAtFault z faults =
     ((fault : Fault) × RefusedBy z fault × Tells fault faults)
-    ⊎ ((tree : File) × Spells z tree × (of_no_tree faults ≡ []))
+    ⊎ ((tree : File) × Spells z tree × HasFaults tree faults)
 
 -- what a record has beside the places of its declarations
 abbrev pub without_places : records.FileContent → records.FileContent
 without_places f = record f { source_code_info = None }
 
--- A record is that of a tree which the text spells, under this name.
+-- A record is that of a tree without faults which the text spells, under this name.
 abbrev pub IsAnswered : Text → Text → Result FileDescriptorProto ParseError → Type 0
-IsAnswered name z (Ok made) = (tree : trees.File) × Spells z (file_view tree) × IsFile name tree (without_places (records.file_view made))
+IsAnswered name z (Ok made) =
+    (tree : trees.File) × Spells z (file_view tree) × (checks.faults_of (file_view tree) ≡ [])
+    × IsFile name tree (without_places (records.file_view made))
 IsAnswered name z (Err Memory) = Unit {0}
 IsAnswered name z (Err (Refused r)) = AreAtFault z r.faults.items

@@ -2,12 +2,13 @@
 
 ghost use Rattle.std.specs.Prelude.{◌≡◌, ◌⊎◌, ◌≤◌, ◌<◌, ◌^◌, ◌∷◌, [], Some, IfOk, IfErr, IsErrAnd, length, option_map, string_bytes};
 ghost use Rattle.descriptor_records.specs.Content.{file_view};
-ghost use Rattle.protox_check.specs.TreeFaults.{of_no_tree};
+ghost use Rattle.protox_check.specs.Faults as checks;
 ghost use Rattle.protox_lex.specs.Lines.{feeds_of};
 ghost use Rattle.protox_lex.specs.Resolver.{feeds};
-ghost use Rattle.protox_parse.specs.Answers.{IsAnswered, without_places};
+ghost use Rattle.protox_parse.specs.Answers.{HasFaults, IsAnswered, without_places};
 ghost use Rattle.protox_parse.specs.Refusals.{IsRefusalOf, faults_of};
 ghost use Rattle.protox_record.specs.FileRecords.{IsFile};
+ghost use Rattle.protox_tree.specs.FileView as trees;
 ghost use Rattle.protox_tree.specs.declared.error.ParseErrorKind.TheVariants.{FileTooLarge};
 ghost use Rattle.protox_parse.specs.declared.error.ParseError.TheVariants.{Memory};
 
@@ -62,7 +63,8 @@ fn described(
     ensures named { IfOk result (λ file. option_map string_bytes file.name ≡ Some name.now) }
     ensures refused { IfErr result (λ e. (e ≡ Memory) ⊎ IsRefusalOf name.now source.now e) }
     ensures recorded { IfOk result (λ made. IsFile name.now file.now (without_places (file_view made))) }
-    ensures of_trees { IfErr result (λ e. of_no_tree (faults_of e) ≡ []) }
+    ensures faultless { IfOk result (λ _. checks.faults_of (trees.file_view file.now) ≡ []) }
+    ensures faulty { IfErr result (λ e. (e ≡ Memory) ⊎ HasFaults (trees.file_view file.now) (faults_of e)) }
 {
     let faults = check_file(alloc, file)?;
     if !faults.is_empty() {

@@ -99,7 +99,7 @@ descriptor_name = codes "google/protobuf/descriptor.proto"
 abbrev pub sources_of : List (Bor (List ℕ) × Bor (List ℕ)) → List (List ℕ × List ℕ)
 sources_of sources = map (λ s. (s.0.now, s.1.now)) sources
 
--- the file is the record of a tree that the source spells
+-- the file is the record of a tree without faults that the source spells
 abbrev pub IsFileOf : List ℕ × List ℕ → FileDescriptorProto → Type 0
 IsFileOf s f = IsAnswered s.0 s.1 (Ok f)
 

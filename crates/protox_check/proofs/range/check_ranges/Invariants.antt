@@ -1,6 +1,7 @@
-use Rattle.std.proofs.Common.{◌≡◌}
-use Rattle.protox_check.specs.TreeFaults.{of_no_tree}
+use Rattle.std.proofs.Common.{◌≡◌, ◌++◌, take}
+use Rattle.std.specs.List.{flat_map}
+use Rattle.protox_check.specs.Ranges.{range_faults}
 use Rattle.protox_check.proofs.range.check_ranges.Given as goal
 
 abbrev pub invariant-each : goal.invariant-each
-invariant-each l = of_no_tree l.faults.items ≡ of_no_tree l.initial.faults.items
+invariant-each l = l.faults.items ≡ l.initial.faults.items ++ flat_map (range_faults l.numbers) (take l.range-index l.range-items)

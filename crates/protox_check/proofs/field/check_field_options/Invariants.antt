@@ -1,6 +1,0 @@
-use Rattle.std.proofs.Common.{◌≡◌}
-use Rattle.protox_check.specs.TreeFaults.{of_no_tree}
-use Rattle.protox_check.proofs.field.check_field_options.Given as goal
-
-abbrev pub invariant-each : goal.invariant-each
-invariant-each l = of_no_tree l.faults.items ≡ of_no_tree l.initial.faults.items
