@@ -16,7 +16,8 @@
 static const char SOURCE[] = "syntax = \"proto3\"; package p; message M { int32 foo = 1; N nested = 3; } message N { int32 bar = 2; }";
 static const char BYTES[] = "\x08\x96\x01\x1a\x02\x10\x42";
 static matzupol_schema schema = MATZUPOL_CLOSED;
-static char answer[1024];
+static char answer[1024], whole[1024];
+static size_t whole_len;
 static int refusals;
 
 static matzupol_code add(void) {
@@ -35,7 +36,7 @@ static matzupol_code encode_bad(void) { return matzupol_encode(&schema, "p.M", 3
 static matzupol_code decode(void) { return matzupol_decode(&schema, "p.M", 3, BYTES, 7); }
 static matzupol_code recode(void) { return matzupol_recode(&schema, "p.M", 3, BYTES, 7); }
 static matzupol_code unknown(void) { return matzupol_decode(&schema, "p.Q", 3, "", 0); }
-static matzupol_code add_set(void) { return matzupol_add_set(&schema, answer, matzupol_answer_len(&schema)); }
+static matzupol_code add_set(void) { return matzupol_add_set(&schema, whole, whole_len); }
 static matzupol_code reopen(void) { return matzupol_open(&schema); }
 
 /* A call ends so, if need be at the second time. */
@@ -50,13 +51,11 @@ static void ends(matzupol_code wanted, matzupol_code (*call)(void)) {
 }
 
 int main(void) {
-    char whole[1024];
-    size_t len;
     ends(MATZUPOL_DONE, reopen);
     ends(MATZUPOL_DONE, add);
     ends(MATZUPOL_DONE, set);
-    len = matzupol_answer_len(&schema);
-    memcpy(whole, answer, len);
+    whole_len = matzupol_answer_len(&schema);
+    memcpy(whole, answer, whole_len);
     ends(MATZUPOL_LINK, add_bad);
     ends(MATZUPOL_TEXT, encode_bad);
     ends(MATZUPOL_UNKNOWN_TYPE, unknown);
@@ -67,10 +66,10 @@ int main(void) {
     ends(MATZUPOL_DONE, recode);
     EXPECT(!memcmp(answer, BYTES, 7));
     ends(MATZUPOL_DONE, set);
-    EXPECT(matzupol_answer_len(&schema) == len && !memcmp(answer, whole, len));
+    EXPECT(matzupol_answer_len(&schema) == whole_len && !memcmp(answer, whole, whole_len));
     ends(MATZUPOL_DONE, add_set);
     ends(MATZUPOL_DONE, set);
-    EXPECT(matzupol_answer_len(&schema) == len && !memcmp(answer, whole, len));
+    EXPECT(matzupol_answer_len(&schema) == whole_len && !memcmp(answer, whole, whole_len));
     matzupol_close(&schema);
     return refusals > 1;
 }

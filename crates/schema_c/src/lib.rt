@@ -4,9 +4,6 @@
 //! `unchecked` test that.
 #![tactic(auto)]
 
-#[cfg(test)]
-mod tests;
-
 ghost use Rattle.std.specs.Prelude.{◌≡◌, None};
 ghost use Rattle.schema_slot.specs.Calls.{AddsSet, Copied, Copies, Decodes, Encodes, Forgets, GivesSet, Links, On, Opens, Places, Recodes, Waits, length_in};
 ghost use Rattle.schema_slot.specs.Held.{answer, file_text};
