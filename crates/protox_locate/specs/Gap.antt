@@ -134,13 +134,17 @@ fed line_ends.One r = record {
 }
 fed line_ends.More r = r
 
-abbrev pub read : Read → Piece → Read
-read r (line_comment t) = record {
-  notes = with_line r.notes (utf8_lossy t);
+-- a line comment of this text is met
+abbrev pub with_line_comment : Read → Text → Read
+with_line_comment r t = record {
+  notes = with_line r.notes t;
   since = line_ends.One;
   before_first = met r;
   is_first_parted = r.is_first_parted;
 }
+
+abbrev pub read : Read → Piece → Read
+read r (line_comment t) = with_line_comment r (utf8_lossy t)
 read r (block_comment t) = record {
   notes = with_block r.notes (utf8_lossy (without_margins t));
   since = line_ends.None;

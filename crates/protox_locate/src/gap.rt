@@ -89,12 +89,23 @@ impl Reader {
         }
     }
 
+    /// Bytes that are no text are kept with a replacement character for what is none.
     fn line_comment(&mut self, alloc: Global, text: &[u8]) -> Result<(), AllocError>
         ensures { OnOk result (gap.read_view self.new ≡ gap.read (gap.read_view self.old) (gap.line_comment text.now)) }
     {
-        self.meet();
+        if let Ok(text) = str::from_utf8(text) {
+            return self.line(text);
+        }
         let text = String::from_utf8_lossy(alloc, text)?;
-        self.comments.line_comment(text.as_str())?;
+        self.line(text.as_str())
+    }
+
+    /// A line comment of this text.
+    fn line(&mut self, text: &str) -> Result<(), AllocError>
+        ensures { OnOk result (gap.read_view self.new ≡ gap.with_line_comment (gap.read_view self.old) text.now) }
+    {
+        self.meet();
+        self.comments.line_comment(text)?;
         self.line_ends = LineEnds::One;
         Ok(())
     }
