@@ -174,11 +174,7 @@ pub extern "C" fn matzupol_unchecked_answer_len(slot: &mut Slot, alloc: Global) 
 
 /// Copies the answer, or the text of why the last call was refused, to the front of a buffer.
 #[unsafe(no_mangle)]
-pub extern "C" fn matzupol_unchecked_answer(
-    slot: &mut Slot,
-    alloc: Global,
-    into: &mut [u8],
-) -> u32
+pub extern "C" fn matzupol_unchecked_answer(slot: &mut Slot, alloc: Global, into: &mut [u8]) -> u32
     ensures copied { Copies answer slot.old.value result into.old into.new }
     ensures kept { slot.new.value ≡ slot.old.value }
 {
@@ -220,11 +216,7 @@ pub extern "C" fn matzupol_unchecked_file(slot: &mut Slot, alloc: Global, into: 
 
 /// Tells the line and the column at which that fault begins, both from 1; 0 where they are not known.
 #[unsafe(no_mangle)]
-pub extern "C" fn matzupol_unchecked_place(
-    slot: &mut Slot,
-    alloc: Global,
-    place: &mut Place,
-) -> u32
+pub extern "C" fn matzupol_unchecked_place(slot: &mut Slot, alloc: Global, place: &mut Place) -> u32
     ensures told { Places slot.old.value result (place.old.line, place.old.column) (place.new.line, place.new.column) }
     ensures kept { slot.new.value ≡ slot.old.value }
 {

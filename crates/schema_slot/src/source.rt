@@ -25,10 +25,7 @@ impl Source {
 }
 
 /// Sources as a schema takes them.
-pub(crate) fn lent(
-    alloc: Global,
-    sources: &Vec<Source>,
-) -> Result<Vec<(&str, &str)>, AllocError>
+pub(crate) fn lent(alloc: Global, sources: &Vec<Source>) -> Result<Vec<(&str, &str)>, AllocError>
     ensures { IfOk result (λ pairs. sources_of pairs.items ≡ map pair_of sources.now.items) }
 {
     let mut pairs = Vec::with_capacity(alloc, sources.len())?;

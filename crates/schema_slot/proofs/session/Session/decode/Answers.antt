@@ -9,7 +9,8 @@ pub returns-in-Ok-decode : goal.returns-in-Ok-decode
 returns-in-Ok-decode c =
     let old = pool c.args.self.now in
     let name = c.args.type_name.now in
-    let named : c.in-Ok.type_name.now ≡ name = search rules in
-    (c.done.ensures.kept,
-        ends_done _ (λ s. Decoded old name c.args.bytes.now) (BytesRefused old name c.args.bytes.now) _ _ c.done.ensures.code (search rules) c.done.ensures.answered.1
-        (subst (λ n. Decoded old n c.args.bytes.now) named c.in-Ok-decode.ensures.ok))
+    let named : c.in-Ok.type_name.now ≡ name = search rules in (
+      c.done.ensures.kept,
+      ends_done _ (λ s. Decoded old name c.args.bytes.now) (BytesRefused old name c.args.bytes.now) _ _ c.done.ensures.code (search rules) c.done.ensures.answered.1
+          (subst (λ n. Decoded old n c.args.bytes.now) named c.in-Ok-decode.ensures.ok),
+    )

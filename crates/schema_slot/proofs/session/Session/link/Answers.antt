@@ -10,7 +10,9 @@ returns-in-Ok c =
     let new = c.done.new.self in
     let those : map pair_of c.replace-sources.result.items ≡ waiting old = search rules in
     let there : c.add.new.schema.pool ≡ pool new = search rules in
-    let linked = subst (λ w. SourcesLinked (pool old) w c.add.new.schema.pool) those c.in-Ok.ensures.ok in
-    (search rules, unless_done _ _ c.done.ensures.code,
-        ends_done _ (λ s. SourcesLinked (pool old) (waiting old) (pool s) × (answer s ≡ [])) (SourcesRefused (pool old) (waiting old)) _ _ c.done.ensures.code tt c.done.ensures.answered.1
-        (subst (λ p. SourcesLinked (pool old) (waiting old) p) there linked, search rules))
+    let linked = subst (λ w. SourcesLinked (pool old) w c.add.new.schema.pool) those c.in-Ok.ensures.ok in (
+      search rules,
+      unless_done _ _ c.done.ensures.code,
+      ends_done _ (λ s. SourcesLinked (pool old) (waiting old) (pool s) × (answer s ≡ [])) (SourcesRefused (pool old) (waiting old)) _ _ c.done.ensures.code tt c.done.ensures.answered.1
+          (subst (λ p. SourcesLinked (pool old) (waiting old) p) there linked, search rules),
+    )
