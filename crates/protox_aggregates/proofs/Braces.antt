@@ -2,19 +2,14 @@
 use Rattle.protox_lex.specs.Token.{sign}
 use Rattle.protox_lex.specs.declared.span.Span.{Span}
 use Rattle.protox_lex.specs.declared.token.Sign.{Sign}
-use Rattle.protox_aggregates.specs.AggregateGrammar.{must, fields_with, braces_at, open_by, opening, braces, aggregate}
-use Rattle.protox_aggregates.specs.BraceTexts.{Writes, text_by}
-use Rattle.protox_aggregates.proofs.Written.{text_fails, text_is}
-use Rattle.protox_lex.specs.Class.{Text}
-use Rattle.protox_lex.specs.declared.token.Sign.TheVariants as s
-use Rattle.protox_tokens.specs.Span.{across}
-use Rattle.protox_tokens.specs.Parser.{Parser, and_then, ◌>>=◌, ◌>>◌, pure, expect_in}
+use Rattle.protox_aggregates.specs.AggregateGrammar.{must, fields_with, braces_at, open_by, opening, braces}
+use Rattle.protox_tokens.specs.Parser.{Parser, and_then, ◌>>◌, pure, expect_in}
 use Rattle.protox_tokens.specs.Refusal.{Fault, fault_view, too_deep}
 use Rattle.protox_tokens.specs.Reads.{Fails}
-use Rattle.protox_tokens.specs.Stream.{Stream, source, text}
+use Rattle.protox_tokens.specs.Stream.{Stream, text}
 use Rattle.protox_tokens.specs.declared.fault.Stop.{Stop}
 use Rattle.protox_tokens.specs.declared.fault.Stop.TheVariants.{Memory, Refused}
-use Rattle.std.proofs.Common.{◌≡◌, ℕ, zero, suc, ◌-◌, Some, Ok, Err, [], refl, ap, subst, ◌∙◌, arith}
+use Rattle.std.proofs.Common.{◌≡◌, ℕ, zero, suc, ◌-◌, Some, Ok, Err, refl, ap, ◌∙◌, arith}
 
 module _ (first close : Sign) (ts : Stream) (here : braces_at ts ≡ Some (first, close)) where
   unopened : (f : Fault) → expect_in text (sign first) ts ≡ Err f → opening ts ≡ Err f
@@ -49,38 +44,3 @@ module _ (first close : Sign) (ts : Stream) (here : braces_at ts ≡ Some (first
 pub one_less : (n : ℕ) → (n ≡ 0 → ⊥) → n ≡ suc (n - 1)
 one_less zero h = absurd (h refl)
 one_less (suc n) h = omega arith
-
--- ---- the outer pair
-
-abbrev inside : Parser (Unit {0})
-inside = fields_with (braces 100) s.RightBrace
-
-abbrev closed : Span → Text → Span → Parser (Text × Span)
-closed first word close = pure (word, across first close)
-
-abbrev read_on : Span → Text → Parser (Text × Span)
-read_on first word = expect_in text (sign s.RightBrace) >>= closed first word
-
-abbrev read_in : Span → Parser (Text × Span)
-read_in first = text_by inside >>= read_on first
-
-module _ (ts r : Stream) (first : Span) (opened : expect_in source (sign s.LeftBrace) ts ≡ Ok (first, r)) where
-  pub inner_fails : (e : Stop) → Fails e (inside r) → Fails e (aggregate ts)
-  unfolding aggregate
-  inner_fails Memory h = tt
-  inner_fails (Refused f) h = ap (λ o. and_then o read_in) opened ∙ ap (λ o. and_then o (read_on first)) (text_fails inside r (Refused f) h)
-
-  module _ (u : Stream) (before w : Text) (empty : before ≡ []) (some : inside r ≡ Ok (tt, u)) (writes : Writes r before u w) where
-    text_read : text_by inside r ≡ Ok (w, u)
-    text_read = text_is inside r u w some (subst (λ t. Writes r t u w) empty writes)
-
-    up_to_close : aggregate ts ≡ and_then (expect_in text (sign s.RightBrace) u) (closed first w)
-    unfolding aggregate
-    up_to_close = ap (λ o. and_then o read_in) opened ∙ ap (λ o. and_then o (read_on first)) text_read
-
-    pub close_fails : (e : Stop) → Fails e (expect_in text (sign s.RightBrace) u) → Fails e (aggregate ts)
-    close_fails Memory h = tt
-    close_fails (Refused f) h = up_to_close ∙ ap (λ o. and_then o (closed first w)) h
-
-    pub whole_is : (close : Span) (v : Stream) → expect_in text (sign s.RightBrace) u ≡ Ok (close, v) → aggregate ts ≡ Ok ((w, across first close), v)
-    whole_is close v h = up_to_close ∙ ap (λ o. and_then o (closed first w)) h

@@ -15,11 +15,8 @@ use Rattle.protox_lex.specs.declared.span.Span.{Span}
 use Rattle.protox_lex.specs.declared.token.Sign.{Sign}
 use Rattle.protox_tokens.proofs.Local.{Cut, Local, LocalAt}
 use Rattle.protox_tokens.specs.Parser.{Outcome, Parser, and_then, eat_in, eaten, expect_in, is, pass_in, pure, same, saw, taken, value_of}
-use Rattle.protox_tokens.specs.Reads.{Fails}
-use Rattle.protox_tokens.specs.Refusal.{Fault, fault_view, this}
+use Rattle.protox_tokens.specs.Refusal.{this}
 use Rattle.protox_tokens.specs.Stream.{Piece, piece, last, Seen, Stream, look, peek, tail, text}
-use Rattle.protox_tokens.specs.declared.fault.Stop.{Stop}
-use Rattle.protox_tokens.specs.declared.fault.Stop.TheVariants.{Memory, Refused}
 use denote.Enum.Bare.{same_true}
 
 pub writes_none : (s : Stream) (t : Text) → Writes s t s t
@@ -124,13 +121,6 @@ front_of xs r =
 
 text_of_front : (ts xs r : Stream) → ts ≡ xs ++ r → text_of (take (length ts - length r) ts) ≡ text_of xs
 text_of_front ts xs r e = rw e (ap text_of (front_of xs r))
-
-pub text_is : (p : Parser (Unit {0})) (ts r : Stream) (t : Text) → p ts ≡ Ok (tt, r) → Writes ts [] r t → text_by p ts ≡ Ok (t, r)
-text_is p ts r t e w = ap (text_up_to ts) e ∙ ap (λ o. Ok (o, r)) (text_of_front ts w.tokens r w.passed ∙ sym w.written)
-
-pub text_fails : (p : Parser (Unit {0})) (ts : Stream) (e : Stop) → Fails e (p ts) → Fails e (text_by p ts)
-text_fails p ts Memory h = tt
-text_fails p ts (Refused f) h = ap (text_up_to ts) h
 
 module _ (p : Parser (Unit {0})) where
   cut_text : (ts r : Stream) → Cut p ts r (λ s. Ok (tt, s)) → Cut (text_by p) ts r (λ s. Ok (text_of (take (length ts - length r) ts), s))
