@@ -8,21 +8,22 @@ static matzupol_schema schema, older;
 
 /* Without the fields in a oneof, of which the newer type leaves none out, and maps: an older type of the newer. */
 static const char OLDER[] =
-    "syntax = \"proto2\"; package p;\n"
+    "syntax = \"proto2\"; package p; import \"packed.proto\";\n"
     "message M {\n"
-    "  optional int64 l = 2; optional string s = 12; optional M m = 15; repeated int32 ys = 18 [packed = true]; repeated M ms = 20;\n"
+    "  optional int64 l = 2; optional string s = 12; optional M m = 15; repeated M ms = 20;\n"
     "  map<string, M> sm = 23; oneof o { int32 oa = 25; string ob = 26; M om = 27; } optional P three = 32;\n"
     "  extensions 100 to 199;\n"
     "}\n"
-    "extend M { repeated M exts = 101; }\n"
-    "message P { optional int32 foo = 1; }\n";
+    "extend M { repeated M exts = 101; }\n";
+static const char OLDER_PACKED[] = "syntax = \"proto3\"; package p; message P { P nested = 3; repeated int32 xs = 4; map<int32, P> m = 5; }";
 
 static matzupol_code recode(matzupol_schema *by, answer bytes) { return matzupol_recode(by, TYPE, strlen(TYPE), bytes.bytes, bytes.len); }
 
 int LLVMFuzzerTestOneInput(const uint8_t *data, size_t size) {
     if (!schema.full) {
         schema = rich();
-        older = of_source("older.proto", OLDER);
+        older = of_source("packed.proto", OLDER_PACKED);
+        add_source(&older, "older.proto", OLDER);
     }
     matzupol_code decoded = matzupol_decode(&schema, TYPE, strlen(TYPE), data, size);
     matzupol_code recoded = matzupol_recode(&schema, TYPE, strlen(TYPE), data, size);

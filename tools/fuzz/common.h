@@ -44,15 +44,20 @@ static inline matzupol_schema opened(void) {
     return schema;
 }
 
-/* A schema of one source. */
-static inline matzupol_schema of_source(const char *name, const char *text) {
-    matzupol_schema schema = opened();
-    PROMISE(matzupol_source(&schema, name, strlen(name), text, strlen(text)) == MATZUPOL_DONE);
-    if (matzupol_link(&schema) != MATZUPOL_DONE) {
-        answer fault = answer_of(&schema);
+/* Adds a source that fits. */
+static inline void add_source(matzupol_schema *schema, const char *name, const char *text) {
+    PROMISE(matzupol_source(schema, name, strlen(name), text, strlen(text)) == MATZUPOL_DONE);
+    if (matzupol_link(schema) != MATZUPOL_DONE) {
+        answer fault = answer_of(schema);
         fprintf(stderr, "%.*s\n", (int)fault.len, fault.bytes);
         abort();
     }
+}
+
+/* A schema of one source. */
+static inline matzupol_schema of_source(const char *name, const char *text) {
+    matzupol_schema schema = opened();
+    add_source(&schema, name, text);
     return schema;
 }
 
