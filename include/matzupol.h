@@ -12,7 +12,8 @@
  *     }
  *     matzupol_close(&schema);
  *
- * A call answers a code, MATZUPOL_DONE where it did what it is for. Where it is refused, the schema is as it was, and until the next
+ * A call answers a code, MATZUPOL_DONE where it did what it is for. Where it is refused, the schema is as it was (`matzupol_open` leaves
+ * it closed, `matzupol_link` keeps no source), and until the next
  * call that answers a code `matzupol_answer` gives the text of the fault, `matzupol_file` and `matzupol_place` its file and place.
  * The calls that give these, and `matzupol_code_text`, change nothing.
  *
@@ -57,7 +58,7 @@ typedef struct matzupol_place_at {
 typedef enum matzupol_code {
     MATZUPOL_DONE = 0,
     MATZUPOL_NOT_OPEN = 1,     /* the schema is closed */
-    MATZUPOL_MEMORY = 2,       /* memory ran out; nothing was lost */
+    MATZUPOL_MEMORY = 2,       /* memory ran out; the schema is as it was */
     MATZUPOL_ROOM = 3,         /* the buffer is shorter than what belongs into it, and is as it was */
     MATZUPOL_NOT_UTF8 = 4,     /* a name or a text is not UTF-8 */
     MATZUPOL_PARSE = 5,        /* a source is no protobuf file */
@@ -112,8 +113,8 @@ static inline matzupol_code matzupol_source(matzupol_schema *schema, const void 
     return schema ? (matzupol_code)matzupol_unchecked_source(schema, n, name_len, t, text_len) : MATZUPOL_NOT_OPEN;
 }
 
-/* Links the sources that were kept with each other and with the schema's files, as one batch, imports included: those whose names
- * the schema has are passed over. Whatever comes, none is kept any more. PARSE, LINK or OPTIONS tells the first fault. */
+/* Links the sources that were kept with each other and with the schema's files, as one batch: those whose names
+ * the schema has are passed over, and no import is loaded that was not kept. Whatever comes, none is kept any more. PARSE, LINK or OPTIONS tells the first fault. */
 static inline matzupol_code matzupol_link(matzupol_schema *schema) {
     return schema ? (matzupol_code)matzupol_unchecked_link(schema) : MATZUPOL_NOT_OPEN;
 }

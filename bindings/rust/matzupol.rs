@@ -74,7 +74,7 @@ impl std::error::Error for Error {}
 /// Protobuf files that fit together. A refused call leaves them as they were.
 pub struct Schema(Slot);
 
-// What a schema owns names no thread; a call takes it alone.
+// Not proved of the library: what a schema owns is memory that names no thread, and a call takes it alone.
 unsafe impl Send for Schema {}
 
 impl Schema {
