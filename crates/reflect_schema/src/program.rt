@@ -199,6 +199,13 @@ fn write_line<W: Write>(alloc: Global, stream: &mut W, text: impl fmt::Display +
     }
 }
 
+/// Writes the version, whose text ends its line itself; a stream that refuses it gets no more.
+fn write_version<W: Write>(alloc: Global, stream: &mut W, version: clap::Error) {
+    if let Ok(line) = format!(in alloc; "{version}") {
+        let _ = stream.write_all(line.as_str().as_bytes());
+    }
+}
+
 /// Writes help, or why the command line is refused, and gives the status.
 fn tell_usage<W: Write, E: Write>(
     alloc: Global,
@@ -212,6 +219,9 @@ fn tell_usage<W: Write, E: Write>(
     } else if error.use_stderr() {
         write_line(alloc, errors, error);
         2
+    } else if error.kind() == ErrorKind::DisplayVersion {
+        write_version(alloc, output, error);
+        0
     } else {
         write_line(alloc, output, error);
         0
