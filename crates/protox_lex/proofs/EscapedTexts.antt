@@ -5,18 +5,20 @@ use Rattle.protox_lex.specs.declared.escape.Meaning.{Meaning}
 use Rattle.protox_lex.specs.Class.{Text}
 use Rattle.protox_lex.specs.Lex.{escape}
 use Rattle.protox_lex.specs.Spelled.{IsEscaped, other_byte, one_escape}
+use Rattle.protox_lex.proofs.EscapeForms.{escape_of, escape_spelled}
 
 byte_on : (b : ℕ) (y : Text) → b ≢ 92 → IsEscaped (b ∷ y) → IsEscaped y
 byte_on b y other (other_byte c x ne rest) = rest
-byte_on b y other (one_escape x e esc rest) = absurd (other refl)
+byte_on b y other (one_escape x n m is rest) = absurd (other refl)
 
 escape_on : (b : ℕ) (y : Text) (e : Meaning × ℕ) → b ≡ 92 → escape y ≡ Ok e → IsEscaped (b ∷ y) → IsEscaped (drop e.1 y)
 escape_on b y e slash esc (other_byte c x ne rest) = absurd (ne slash)
-escape_on b y e slash esc (one_escape x f known rest) = let same : ◌≡◌ {A = Result (Meaning × ℕ) ℕ} (Ok f) (Ok e) = sym known ∙ esc in let e1 : f ≡ e = cc in subst (λ k. IsEscaped (drop k.1 y)) e1 rest
+escape_on b y e slash esc (one_escape x n m is rest) =
+    let same : ◌≡◌ {A = Result (Meaning × ℕ) ℕ} (Ok (m, n)) (Ok e) = sym (escape_of x n m is) ∙ esc in let e1 : (m, n) ≡ e = cc in subst (λ k. IsEscaped (drop k.1 y)) e1 rest
 
 no_escape_on : (b : ℕ) (y : Text) (n : ℕ) → b ≡ 92 → escape y ≡ Err n → IsEscaped (b ∷ y) → ⊥
 no_escape_on b y n slash esc (other_byte c x ne rest) = ne slash
-no_escape_on b y n slash esc (one_escape x f known rest) = let wrong : ◌≡◌ {A = Result (Meaning × ℕ) ℕ} (Ok f) (Err n) = sym known ∙ esc in cc
+no_escape_on b y n slash esc (one_escape x k m is rest) = let wrong : ◌≡◌ {A = Result (Meaning × ℕ) ℕ} (Ok (m, k)) (Err n) = sym (escape_of x k m is) ∙ esc in cc
 
 -- the byte at a place, and what is left behind it
 rest_is : (raw : Text) (at b : ℕ) → at < length raw → get_or raw at 0 ≡ b → drop at raw ≡ b ∷ drop (at + 1) raw
@@ -41,7 +43,7 @@ past_escape raw at e lt slash esc h =
     let place : at + 1 + e.1 ≡ at + (e.1 + 1) = omega arith in
     let left : drop e.1 (drop (at + 1) raw) ≡ drop (at + (e.1 + 1)) raw = drop-drop e.1 (at + 1) raw ∙ ap (λ k. drop k raw) place in
     record {
-      back = λ r. h.back (subst IsEscaped (sym first) (one_escape (drop (at + 1) raw) e esc (subst IsEscaped (sym left) r)));
+      back = λ r. h.back (subst IsEscaped (sym first) (one_escape (drop (at + 1) raw) e.1 e.0 (escape_spelled (drop (at + 1) raw) e esc) (subst IsEscaped (sym left) r)));
       on = λ r. subst IsEscaped left (escape_on 92 (drop (at + 1) raw) e refl esc (subst IsEscaped first (h.on r)));
     }
 

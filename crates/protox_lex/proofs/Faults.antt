@@ -13,6 +13,7 @@ use Rattle.protox_lex.proofs.Pieces.{IsFlaw}
 use Rattle.protox_lex.proofs.Numbers.{within_text}
 use Rattle.protox_lex.proofs.CommentCuts.{comment_mark}
 use Rattle.protox_lex.proofs.CommentSpelling.{text_unmarked}
+use Rattle.protox_lex.proofs.EscapeForms.{no_escape_spelled}
 use Rattle.protox_lex.proofs.StringSpelling.{contents_spelled}
 use Rattle.protox_lex.proofs.PieceSpelling.{piece_text, longest_of}
 
@@ -51,7 +52,7 @@ fault_of z kinds.InvalidStringEscape start end h =
     let lt : n < length h.1 = within_text h.1 n 91 h.4.0 in
     let rest : drop n h.1 ≡ 92 ∷ w = rest_is h.1 n lt ∙ ap (λ b. b ∷ w) h.4.0 in
     let none : escape_len (escape w) ≡ 0 = sym (ap (unit_len h.0) rest) ∙ (contents_spelled h.0 h.1).none in
-    (h.0, h.1, drop n h.1, h.2, h.3, (contents_spelled h.0 h.1).contents, (w, fault_len (escape w), rest, no_escape (escape w) none, place h.1 z h.0 n start h.2 (omega arith) h.4.1, omega (arith, h.4.1, h.4.2)))
+    (h.0, h.1, drop n h.1, h.2, h.3, (contents_spelled h.0 h.1).contents, (w, fault_len (escape w), rest, no_escape_spelled w (fault_len (escape w)) (no_escape (escape w) none), place h.1 z h.0 n start h.2 (omega arith) h.4.1, omega (arith, h.4.1, h.4.2)))
 fault_of z kinds.InvalidStringCharacters start end h =
     let n = contents_len h.0 h.1 in
     let w = drop (n + 1) h.1 in

@@ -24,3 +24,5 @@ pub mod Faults
 pub mod Lexing
 pub mod OneReading
 pub mod EscapedTexts
+pub mod EscapeForms
+pub mod StringMeaning

@@ -14,6 +14,7 @@ use Rattle.protox_lex.specs.Lex.{Cut, is_plain, unit_len, contents_len, unclosed
 use Rattle.protox_lex.specs.Longest.{prefix_of, IsLongest, IsAlone, IsFault, Lexes, ends, passes, takes, stops}
 use Rattle.protox_lex.proofs.Pieces.{piece_of, IsCut}
 use Rattle.protox_lex.specs.Spelled.{is_quote, Contents, Unmarked}
+use Rattle.protox_lex.proofs.EscapeForms.{no_escape_of}
 use Rattle.protox_lex.proofs.Numbers.{within_text}
 use Rattle.protox_lex.proofs.StringCuts.{string_closed}
 use Rattle.protox_lex.proofs.StringSpelling.{ReadTo, contents_read}
@@ -157,7 +158,7 @@ blame z kinds.InvalidToken start end h = of_nothing (λ m. no_piece_none (take m
 blame z kinds.NoSpaceBetweenIntAndIdent start end h = of_number h.0 h.1 (cut_of z (token (int h.0)) h.1 h.2) (inl h.3) (same_flaw _ _ _ _ _ h.4 h.5 ∙ rw h.3 refl)
 blame z kinds.IntegerOutOfRange start end h = of_number h.0 h.1 (cut_of z (token (int h.0)) h.1 h.2) (inr h.4) (same_flaw _ _ _ _ _ h.5 h.6 ∙ rw h.3 refl)
 blame z kinds.UnterminatedString start end h = open_end z h.0 h.1 h.2 h.3 h.4 h.5 start end h.6.0 h.6.1 h.6.2
-blame z kinds.InvalidStringEscape start end h = open_escape z h.0 h.1 h.2 h.3 h.4 h.5 start end h.6.0 h.6.1 h.6.2 h.6.3 h.6.4 h.6.5
+blame z kinds.InvalidStringEscape start end h = open_escape z h.0 h.1 h.2 h.3 h.4 h.5 start end h.6.0 h.6.1 h.6.2 (no_escape_of h.6.0 h.6.1 h.6.3) h.6.4 h.6.5
 blame z kinds.InvalidStringCharacters start end h = open_line z h.0 h.1 h.2 h.3 h.4 h.5 start end h.6.0 h.6.1 h.6.2 h.6.3 h.6.4 h.6.5
 blame z kinds.NestedBlockComment start end h = comment_blame z h.0 h.2.0 start end h.1 h.2.1 h.2.2 h.2.3 h.2.4 h.2.5
 blame z kinds.UnterminatedComment start end h = unended_blame z h.0 start end h.1 h.2.0 h.2.1 h.2.2

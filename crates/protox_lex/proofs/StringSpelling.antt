@@ -1,55 +1,17 @@
 -- A text is a string exactly where it is spelled as one.
-use Rattle.std.proofs.Common.{◌≡◌, ℕ, zero, suc, ◌+◌, ◌≤◌, Bool, true, false, eqb, ltb, ◌&&◌, ◌||◌, not, Option, Some, None, [], ◌∷◌, ◌++◌, take, drop, length, Ok, Err, ap, sym, subst, ◌∙◌, arith, refl, length-take, length-drop, length-append, ◌⊎◌, inl, inr, min}
+use Rattle.std.proofs.Common.{◌≡◌, ℕ, zero, suc, ◌+◌, ◌≤◌, Bool, true, false, eqb, ◌&&◌, ◌||◌, not, Some, [], ◌∷◌, ◌++◌, take, drop, length, Ok, Err, ap, sym, subst, ◌∙◌, arith, refl, length-take, length-drop, length-append, ◌⊎◌, inl, inr}
 use Rattle.std.specs.Prelude.{slice_index, ◌==◌}
-use Rattle.std.specs.List.{prefix_len}
-use Rattle.std.proofs.lemmas.Bool.{eqb-true, ltb-false, and_parts}
+use Rattle.std.proofs.lemmas.Bool.{eqb-true, and_parts}
 use Rattle.std.proofs.lemmas.List.{drop-drop}
-use Rattle.std.proofs.lemmas.List.Sums.{prefix_len-le-length}
 use Rattle.std.proofs.Math.Seq.{take-append_seam, drop-append_seam, get_or-append_seam}
-use Rattle.protox_lex.specs.declared.class.Class.TheVariants as class
-use Rattle.protox_lex.specs.declared.escape.Meaning.{Meaning}
-use Rattle.protox_lex.specs.Class.{Text, is_in}
-use Rattle.protox_lex.specs.Lex.{Escaped, value, short, simple, simple_of, hex, octal_escape, unicode, escape, is_plain, unit_len, contents_from, contents_len}
+use Rattle.protox_lex.specs.Class.{Text}
+use Rattle.protox_lex.specs.Lex.{Escaped, escape, is_plain, unit_len, contents_from, contents_len}
 use Rattle.protox_lex.specs.Spelled.{is_quote, Contents, ends, plain_byte, escaped, IsString}
 use Rattle.protox_lex.proofs.Pieces.{if_all, literal_of}
 use Rattle.protox_lex.proofs.Contents.{contents_pass, contents_end}
-use Rattle.protox_lex.proofs.Escapes.{byte_of_len, char_of_len, hex_len}
+use Rattle.protox_lex.proofs.EscapeForms.{escape_of, escape_spelled}
 use Rattle.protox_lex.proofs.FloatSpelling.{last_byte}
 use Rattle.protox_lex.proofs.StringCuts.{first_unit, one_quote, literal_is}
-
--- ---- an escape ends within its text
-
-hex_within : (c : ℕ) (y : Text) (x : Meaning × ℕ) → hex (c ∷ y) ≡ Ok x → x.1 ≤ length (c ∷ y)
-unfolding hex
-hex_within c y x h = omega (arith, hex_len (min (1 + prefix_len (is_in class.Hex) y) 3) y x h, prefix_len-le-length (is_in class.Hex) y)
-
-octal_within : (c : ℕ) (y : Text) (x : Meaning × ℕ) → octal_escape (c ∷ y) ≡ Ok x → x.1 ≤ length (c ∷ y)
-unfolding octal_escape
-octal_within c y x h =
-    let e = min (0 + prefix_len (is_in class.Octal) (c ∷ y)) 3 in
-    omega (arith, byte_of_len (short (value 8 (take e (c ∷ y)))) e x h, prefix_len-le-length (is_in class.Octal) (c ∷ y))
-
-unicode_within : (c : ℕ) (y : Text) (d : ℕ) (x : Meaning × ℕ) → unicode (c ∷ y) d ≡ Ok x → x.1 ≤ length (c ∷ y)
-unfolding unicode
-unicode_within c y d x h = by (ltb (1 + prefix_len (is_in class.Hex) y) (d + 1)) refl where
-  by : (b : Bool) → ltb (1 + prefix_len (is_in class.Hex) y) (d + 1) ≡ b → x.1 ≤ length (c ∷ y)
-  by true t = absurd (let f = rw t at h in cc)
-  by false t = omega (arith, char_of_len (short (value 16 (take d y))) (d + 1) x (rw t at h), ltb-false _ _ t, prefix_len-le-length (is_in class.Hex) y)
-
-simple_within : (c : ℕ) (y : Text) (o : Option ℕ) (x : Meaning × ℕ) → simple_of o ≡ Ok x → x.1 ≤ length (c ∷ y)
-simple_within c y (Some b) x h = let e : 1 ≡ x.1 = cc in omega arith
-simple_within c y None x h = absurd (cc)
-
-escape_within : (y : Text) (x : Meaning × ℕ) → escape y ≡ Ok x → x.1 ≤ length y
-unfolding escape
-escape_within [] x h = absurd (cc)
-escape_within (c ∷ y) x h = by (c == 120 || c == 88) refl (c == 117) refl (c == 85) refl (is_in class.Octal c) refl where
-  by : (t1 : Bool) → (c == 120 || c == 88) ≡ t1 → (t2 : Bool) → (c == 117) ≡ t2 → (t3 : Bool) → (c == 85) ≡ t3 → (t4 : Bool) → is_in class.Octal c ≡ t4 → x.1 ≤ length (c ∷ y)
-  by true e1 t2 _ t3 _ t4 _ = hex_within c y x (rw e1 at h)
-  by false e1 true e2 t3 _ t4 _ = unicode_within c y 4 x (rw (e1, e2) at h)
-  by false e1 false e2 true e3 t4 _ = unicode_within c y 8 x (rw (e1, e2, e3) at h)
-  by false e1 false e2 false e3 true e4 = octal_within c y x (rw (e1, e2, e3, e4) at h)
-  by false e1 false e2 false e3 false e4 = simple_within c y (simple c) x (rw (e1, e2, e3, e4) at h)
 
 -- ---- contents
 
@@ -73,11 +35,12 @@ contents_read q rest (b ∷ y) none (plain_byte b' y' plain more) =
     let r = contents_read q rest y none more in
     let e : contents_len q (b ∷ y) ≡ suc (contents_len q y) = first_unit q b y false (escape y) true (plain_no_slash q b plain) refl plain in
     record { sum = omega (arith, e, r.sum); left = ap (λ k. drop k (b ∷ y)) e ∙ r.left }
-contents_read q rest (b ∷ y) none (escaped y' x esc more) =
-    let r = contents_read q rest (drop x.1 y) none more in
-    let within : x.1 ≤ length y = escape_within y x esc in
-    let e : contents_len q (92 ∷ y) ≡ suc (x.1 + contents_len q (drop x.1 y)) = first_unit q 92 y true (Ok x) (is_plain q 92) refl esc refl ∙ ap suc (contents_pass q x.1 y within) in
-    record { sum = omega (arith, e, r.sum, length-drop x.1 y); left = ap (λ k. drop k (92 ∷ y)) e ∙ sym (drop-drop (contents_len q (drop x.1 y)) x.1 y) ∙ r.left }
+contents_read q rest (b ∷ y) none (escaped y' n m is more) =
+    let r = contents_read q rest (drop n y) none more in
+    let esc = escape_of y n m is in
+    let within = is.0.within in
+    let e : contents_len q (92 ∷ y) ≡ suc (n + contents_len q (drop n y)) = first_unit q 92 y true (Ok (m, n)) (is_plain q 92) refl esc refl ∙ ap suc (contents_pass q n y within) in
+    record { sum = omega (arith, e, r.sum, length-drop n y); left = ap (λ k. drop k (92 ∷ y)) e ∙ sym (drop-drop (contents_len q (drop n y)) n y) ∙ r.left }
 
 -- the text is contents up to where no more of them begins
 pub record IsEnd (q : ℕ) (y rest : Text) : Type 0 where
@@ -94,11 +57,12 @@ read_unit : (q most b : ℕ) (y : Text) → length y ≤ most → ReadsAll q mos
 read_unit q most b y le later = by (b == 92) refl (escape y) refl (is_plain q b) refl where
   by : (s : Bool) → (b == 92) ≡ s → (o : Escaped) → escape y ≡ o → (p : Bool) → is_plain q b ≡ p → IsEnd q (b ∷ y) (drop (contents_len q (b ∷ y)) (b ∷ y))
   by true slash (Ok x) esc p plain =
-      let within : x.1 ≤ length y = escape_within y x esc in
+      let is = escape_spelled y x esc in
+      let within = is.0.within in
       let rest : IsEnd q (drop x.1 y) (drop (contents_len q (drop x.1 y)) (drop x.1 y)) = later (drop x.1 y) (omega (arith, length-drop x.1 y)) in
       let e : contents_len q (b ∷ y) ≡ suc (x.1 + contents_len q (drop x.1 y)) = first_unit q b y true (Ok x) p slash esc plain ∙ ap suc (contents_pass q x.1 y within) in
       let left : drop (contents_len q (b ∷ y)) (b ∷ y) ≡ drop (contents_len q (drop x.1 y)) (drop x.1 y) = ap (λ k. drop k (b ∷ y)) e ∙ sym (drop-drop (contents_len q (drop x.1 y)) x.1 y) in
-      let all : Contents q (drop (contents_len q (drop x.1 y)) (drop x.1 y)) (b ∷ y) = subst (λ k. Contents q (drop (contents_len q (drop x.1 y)) (drop x.1 y)) (k ∷ y)) (sym (eqb-true b 92 slash)) (escaped y x esc rest.contents) in
+      let all : Contents q (drop (contents_len q (drop x.1 y)) (drop x.1 y)) (b ∷ y) = subst (λ k. Contents q (drop (contents_len q (drop x.1 y)) (drop x.1 y)) (k ∷ y)) (sym (eqb-true b 92 slash)) (escaped y x.1 x.0 is rest.contents) in
       subst (IsEnd q (b ∷ y)) (sym left) (record { contents = all; none = rest.none })
   by true slash (Err n) esc p plain = end_here q (b ∷ y) (first_unit q b y true (Err n) p slash esc plain) (rw (slash, esc) refl)
   by false slash o esc true plain =

@@ -9,7 +9,9 @@ pub mod Resolver
 pub mod Signed
 pub mod Blocks
 pub mod Spelled
+pub mod StringMeaning
 pub mod TextFormat
 pub mod Longest
 pub mod Printed
 pub mod Escapes
+pub mod FaultTexts

@@ -1,7 +1,7 @@
 -- The rule of the longest match, apart from how it is read.
 --
 -- Sources: "Lexical elements" of the protobuf language specification and of the text format specification, on protobuf.dev.
-use Rattle.std.specs.Prelude.{◌≡◌, ℕ, ◌+◌, ◌-◌, ◌^◌, ◌<◌, ◌≤◌, Bool, true, false, ◌&&◌, ◌||◌, if◌then◌else◌, ◌==◌, List, [], ◌∷◌, length, take, drop, slice_index, min, Some, Err}
+use Rattle.std.specs.Prelude.{◌≡◌, ℕ, ◌+◌, ◌-◌, ◌^◌, ◌<◌, ◌≤◌, Bool, true, false, ◌&&◌, ◌||◌, if◌then◌else◌, ◌==◌, List, [], ◌∷◌, length, take, drop, slice_index, min, Some}
 use Rattle.std.specs.List.{list_all}
 use Rattle.protox_lex.specs.declared.class.Class.TheVariants as class
 use Rattle.protox_lex.specs.declared.error.LexErrorKind.{LexErrorKind}
@@ -9,8 +9,8 @@ use Rattle.protox_lex.specs.declared.error.LexErrorKind.TheVariants as kinds
 use Rattle.protox_lex.specs.declared.token.Sign.{Sign}
 use Rattle.protox_lex.specs.Class.{Text, is_in, past}
 use Rattle.protox_lex.specs.Token.{Token, ident, int, float, str, sign, comment, Piece, gap, token, Lexeme, token_at, fault_at}
-use Rattle.protox_lex.specs.Lex.{is_hex, value, escape, sign_of, char_len}
-use Rattle.protox_lex.specs.Spelled.{IsDigits, IsDecimals, IsFloat, is_quote, IsString, Contents, Unmarked, IsBlock, is_line}
+use Rattle.protox_lex.specs.Lex.{is_hex, value, sign_of, char_len}
+use Rattle.protox_lex.specs.Spelled.{IsDigits, IsDecimals, IsFloat, is_quote, NoEscape, IsString, Contents, Unmarked, IsBlock, is_line}
 
 -- All these bytes are one piece.
 pub data IsPiece (z : Text) : Piece → Type 0 where
@@ -64,14 +64,14 @@ Unclosed z P = (quote : ℕ) × (y : Text) × (rest : Text) × (z ≡ quote ∷ 
 abbrev pub Unended : Text → (Text → Type 0) → Type 0
 Unended z P = (y : Text) × (z ≡ 47 ∷ 42 ∷ y) × P y
 
--- Why a text can't be cut further, and the bytes at fault. A backslash that begins no escape is at fault with as many bytes behind it as
--- the refusal of the escape counts.
+-- Why a text can't be cut further, and the bytes at fault. A backslash that begins no escape is at fault with the bytes of the form
+-- behind it that means nothing, if there is one.
 abbrev pub IsFault : Text → LexErrorKind → ℕ → ℕ → Type 0
 IsFault z kinds.InvalidToken start end = (start ≡ 0) × (end ≡ min (length z) (char_len (slice_index z 0))) × (is_quote (slice_index z 0) ≡ false) × ((m : ℕ) (p : Piece) → IsPiece (take m z) p → ⊥)
 IsFault z kinds.NoSpaceBetweenIntAndIdent start end = (i : ℕ) × (n : ℕ) × IsLongest z (token (int i)) n × (is_in class.Letter (slice_index z n) ≡ true) × (start ≡ prefix_of z n) × (end ≡ past class.Alphabetic z (n + 1))
 IsFault z kinds.IntegerOutOfRange start end = (i : ℕ) × (n : ℕ) × IsLongest z (token (int i)) n × (is_in class.Letter (slice_index z n) ≡ false) × (2 ^ 64 ≤ i) × (start ≡ 0) × (end ≡ n)
 IsFault z kinds.UnterminatedString start end = Unclosed z (λ rest. (rest ≡ []) × (start ≡ 0) × (end ≡ length z))
-IsFault z kinds.InvalidStringEscape start end = Unclosed z (λ rest. (w : Text) × (n : ℕ) × (rest ≡ 92 ∷ w) × (escape w ≡ Err n) × (start + length rest ≡ length z) × (end ≡ start + 1 + n))
+IsFault z kinds.InvalidStringEscape start end = Unclosed z (λ rest. (w : Text) × (n : ℕ) × (rest ≡ 92 ∷ w) × NoEscape w n × (start + length rest ≡ length z) × (end ≡ start + 1 + n))
 IsFault z kinds.InvalidStringCharacters start end = Unclosed z (λ rest. (b : ℕ) × (w : Text) × (rest ≡ b ∷ w) × ((b == 10 || b == 0) ≡ true) × (start + length rest ≡ length z) × (end ≡ start + 1))
 IsFault z kinds.NestedBlockComment start end = Unended z (λ y. (k : ℕ) × Unmarked y k × (slice_index y k ≡ 47) × (slice_index y (k + 1) ≡ 42) × (start ≡ k + 2) × (end ≡ k + 4))
 IsFault z kinds.UnterminatedComment start end = Unended z (λ y. Unmarked y (length y) × (start ≡ 0) × (end ≡ length z))

@@ -1,10 +1,11 @@
 -- Tokens as they are printed, which is how the text of an option's braces has them.
-use Rattle.std.specs.Prelude.{◌++◌, [], ◌∷◌, codes}
+use Rattle.std.specs.Prelude.{if◌then◌else◌, ◌++◌, [], ◌∷◌, codes}
 use Rattle.std.specs.Fmt.{decimal}
 use Rattle.protox_lex.specs.Class.{Text}
 use Rattle.protox_lex.specs.Escapes.{escaped}
 use Rattle.protox_lex.specs.Lex.{unescaped}
 use Rattle.protox_lex.specs.Token.{Token, ident, int, float, str, sign, comment}
+use Rattle.protox_lex.specs.declared.literal.Int.{Int}
 use Rattle.protox_lex.specs.declared.token.Sign.{Sign}
 use Rattle.protox_lex.specs.declared.token.Sign.TheVariants as s
 
@@ -33,3 +34,7 @@ token_text (float t) = t
 token_text (str raw) = 34 ∷ (escaped (unescaped raw) ++ 34 ∷ [])
 token_text (sign k) = sign_text k
 token_text comment = codes "#"
+
+-- An integer that a tree keeps, in decimal, behind a minus if it is negative.
+abbrev pub int_text : Int → Text
+int_text n = (if n.negative then codes "-" else []) ++ decimal n.value

@@ -1,5 +1,8 @@
 //! Why a source cannot be cut into tokens.
 
+ghost use Rattle.std.specs.Prelude.{◌≡◌, Some};
+ghost use Rattle.protox_lex.specs.FaultTexts.{fault_text};
+
 use crate::span::Span;
 use std::error::Error;
 use std::fmt;
@@ -31,7 +34,9 @@ pub enum LexErrorKind {
 
 impl LexErrorKind {
     /// The fault in a few words.
-    pub fn text(self) -> &'static str {
+    pub fn text(self) -> &'static str
+        ensures { result.now ≡ fault_text self }
+    {
         match self {
             LexErrorKind::InvalidToken => "invalid token",
             LexErrorKind::IntegerOutOfRange => "integer is out of range",
@@ -54,6 +59,8 @@ impl LexErrorKind {
 }
 
 impl fmt::Display for LexErrorKind {
+    ghost output = { λ k. Some (fault_text k) };
+
     fn fmt<W: fmt::Write>(&self, f: &mut fmt::Formatter<W>) -> fmt::Result {
         f.write_str(self.text())
     }
@@ -67,6 +74,8 @@ pub struct LexError {
 }
 
 impl fmt::Display for LexError {
+    ghost output = { λ e. Some (fault_text e.kind) };
+
     fn fmt<W: fmt::Write>(&self, f: &mut fmt::Formatter<W>) -> fmt::Result {
         write!(f, "{}", self.kind)
     }

@@ -2,7 +2,7 @@
 
 ghost use Rattle.std.specs.Int.{w32, w64};
 ghost use Rattle.std.specs.Option.{SomeIff};
-ghost use Rattle.std.specs.Prelude.{◌≡◌, ◌<◌, ◌^◌, MatchResult, FitsSigned, false};
+ghost use Rattle.std.specs.Prelude.{◌≡◌, ◌<◌, ◌^◌, MatchResult, FitsSigned, Some, false};
 ghost use Rattle.std.specs.Str.{IsUtf8};
 ghost use Rattle.std.specs.String.{string_bytes};
 
@@ -62,6 +62,10 @@ impl Int {
 
 /// Its sign and decimal digits.
 impl fmt::Display for Int {
+    ghost use Rattle.protox_lex.specs.Printed.{int_text};
+
+    ghost output = { λ n. Some (int_text n) };
+
     fn fmt<W: fmt::Write>(&self, f: &mut fmt::Formatter<W>) -> fmt::Result {
         if self.negative {
             f.write_str("-")?;
@@ -78,6 +82,8 @@ pub struct Float {
 }
 
 impl fmt::Display for Float {
+    ghost output = { λ x. Some (string_bytes x.text) };
+
     fn fmt<W: fmt::Write>(&self, f: &mut fmt::Formatter<W>) -> fmt::Result {
         f.write_str(self.text.as_str())
     }
@@ -109,6 +115,10 @@ impl String {
 
 /// The bytes, escaped, without quotes.
 impl fmt::Display for String {
+    ghost use Rattle.protox_lex.specs.Escapes.{escaped};
+
+    ghost output = { λ s. Some (escaped s.value.items) };
+
     fn fmt<W: fmt::Write>(&self, f: &mut fmt::Formatter<W>) -> fmt::Result {
         write!(f, "{}", Escaped(self.value.as_slice()))
     }
