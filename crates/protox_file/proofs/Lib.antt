@@ -1,3 +1,4 @@
 pub mod FileLaws
 pub mod Spans
 pub mod Texts
+pub mod OlderSources

@@ -1,3 +1,4 @@
 pub mod FileGrammar
 pub mod Languages
 pub mod Sources
+pub mod OlderGrammar

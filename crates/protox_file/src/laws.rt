@@ -4,6 +4,7 @@
 //! fault.
 
 ghost use Rattle.protox_file.specs.FileGrammar.{file};
+ghost use Rattle.protox_file.specs.OlderGrammar.{SpellsOlder};
 ghost use Rattle.protox_file.specs.Sources.{Spells, RefusedBy, IsDead};
 ghost use Rattle.protox_lex.specs.Class.{Text};
 ghost use Rattle.protox_lex.specs.Token.{Token};
@@ -31,4 +32,9 @@ pub fn spelled_is_not_refused()
 /// No file begins with the tokens of one that is refused, up to and including the token that is not expected.
 pub fn refused_tokens_begin_no_file()
     ensures { (ts : Stream) (x : Expected) (t : Token) (at : spans.Span) → file ts ≡ Err (unexpected x t at) → IsDead ts x t at }
+{}
+
+/// What spelled a tree while options stood only behind a last extension range with an end spells the same tree.
+pub fn older_sources_spell_the_same()
+    ensures { (z : Text) (a : tree.File) → SpellsOlder z a → Spells z a }
 {}

@@ -1,6 +1,6 @@
 //! Why a source is refused.
 
-ghost use Rattle.std.specs.Prelude.{◌≡◌, ◌<◌, IfOk, option_map, string_bytes, vec_len};
+ghost use Rattle.std.specs.Prelude.{◌≡◌, ◌<◌, IfOk, Some, option_map, string_bytes, vec_len};
 
 use protox_lex::{LineResolver, Span};
 use protox_tree::ParseErrorKind;
@@ -120,6 +120,10 @@ impl ParseError {
 
 /// The text of the first fault.
 impl fmt::Display for ParseError {
+    ghost use Rattle.protox_parse.specs.Refusals.{told};
+
+    ghost output = { λ e. Some (told e) };
+
     fn fmt<W: fmt::Write>(&self, f: &mut fmt::Formatter<W>) -> fmt::Result {
         match self {
             ParseError::Memory => f.write_str("out of memory"),
@@ -130,6 +134,10 @@ impl fmt::Display for ParseError {
 
 /// The file, the line and column from 1 where the first fault has a place, and its text.
 impl fmt::Debug for ParseError {
+    ghost use Rattle.protox_parse.specs.Refusals.{told_at};
+
+    ghost debug_output = { λ e. Some (told_at e) };
+
     fn fmt<W: fmt::Write>(&self, f: &mut fmt::Formatter<W>) -> fmt::Result {
         if let ParseError::Refused(refusal) = self {
             write!(f, "{}:", refusal.file)?;

@@ -1,3 +1,4 @@
+pub mod FaultTexts
 pub mod FileTree
 pub mod FileView
 pub mod LexicalKinds
@@ -7,4 +8,5 @@ pub mod Places
 pub mod Scalar
 pub mod Spans
 pub mod Tree
+pub mod TreeTexts
 pub mod View

@@ -1,6 +1,7 @@
 //! What is wrong with a source.
 
-ghost use Rattle.std.specs.Prelude.{◌≡◌};
+ghost use Rattle.std.specs.Prelude.{◌≡◌, Some, option_map};
+ghost use Rattle.protox_tree.specs.FaultTexts.{expected_text, expected_words, label_of, help_of};
 
 use protox_lex::{LexError, LexErrorKind, Span, Token};
 use std::fmt;
@@ -32,7 +33,9 @@ pub enum ExpectedToken {
 
 impl ExpectedToken {
     /// The words for what is no one token.
-    fn text(&self) -> &'static str {
+    fn text(&self) -> &'static str
+        ensures { result.now ≡ expected_words self.now }
+    {
         match self {
             ExpectedToken::Token(_) => "a token",
             ExpectedToken::Ident => "an identifier",
@@ -51,6 +54,8 @@ impl ExpectedToken {
 }
 
 impl fmt::Display for ExpectedToken {
+    ghost output = { λ t. Some (expected_text t) };
+
     fn fmt<W: fmt::Write>(&self, f: &mut fmt::Formatter<W>) -> fmt::Result {
         match self {
             ExpectedToken::Token(token) => write!(f, "'{token}'"),
@@ -294,7 +299,9 @@ impl ParseErrorKind {
     }
 
     /// A few words for the place at fault.
-    pub fn label(&self) -> &'static str {
+    pub fn label(&self) -> &'static str
+        ensures { result.now ≡ label_of self.now }
+    {
         match self {
             ParseErrorKind::FileTooLarge | ParseErrorKind::UnexpectedEof { .. } => "",
             ParseErrorKind::InvalidMessageNumber { .. }
@@ -312,7 +319,9 @@ impl ParseErrorKind {
     }
 
     /// What the author can do, where there is more to say than the text of the fault.
-    pub fn help(&self) -> Option<&'static str> {
+    pub fn help(&self) -> Option<&'static str>
+        ensures { option_map (λ h. h.now) result ≡ help_of self.now }
+    {
         match self {
             ParseErrorKind::InvalidMessageNumber { .. } => {
                 Some("the number must be between 1 and 536870911, inclusive")

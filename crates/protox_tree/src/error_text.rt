@@ -1,10 +1,15 @@
 //! How faults print.
 
+ghost use Rattle.std.specs.Prelude.{◌≡◌, Some};
+ghost use Rattle.protox_tree.specs.FaultTexts.{plain_words, said};
+
 use crate::error::ParseErrorKind;
 use protox_lex::LexErrorKind;
 use std::fmt;
 
 impl fmt::Display for ParseErrorKind {
+    ghost output = { λ k. Some (said k) };
+
     fn fmt<W: fmt::Write>(&self, f: &mut fmt::Formatter<W>) -> fmt::Result {
         match self {
             ParseErrorKind::UnexpectedToken {
@@ -20,8 +25,10 @@ impl fmt::Display for ParseErrorKind {
     }
 }
 
-/// The text of a fault that names nothing.
-fn fixed_text(kind: &ParseErrorKind) -> &'static str {
+/// What is wrong, in a few words.
+fn fixed_text(kind: &ParseErrorKind) -> &'static str
+    ensures { result.now ≡ plain_words kind.now }
+{
     match kind {
         ParseErrorKind::InvalidToken { .. } => LexErrorKind::InvalidToken.text(),
         ParseErrorKind::IntegerOutOfRange { .. } => LexErrorKind::IntegerOutOfRange.text(),

@@ -1,6 +1,6 @@
 //! Names.
 
-ghost use Rattle.std.specs.Prelude.{◌≡◌, ◌<◌, IfOk, string_bytes, vec_len};
+ghost use Rattle.std.specs.Prelude.{◌≡◌, ◌<◌, [], ◌∷◌, Some, IfOk, string_bytes, vec_len};
 
 use protox_lex::Span;
 use std::alloc::{AllocError, Global};
@@ -22,6 +22,8 @@ impl Ident {
 }
 
 impl fmt::Display for Ident {
+    ghost output = { λ i. Some (string_bytes i.value) };
+
     fn fmt<W: fmt::Write>(&self, f: &mut fmt::Formatter<W>) -> fmt::Result {
         f.write_str(self.value.as_str())
     }
@@ -36,10 +38,12 @@ pub struct FullIdent {
 
 impl FullIdent {
     ghost use Rattle.protox_tree.specs.Tree.{dotted, words_span};
-    ghost use Rattle.protox_tree.specs.View.{full_view, idents_view};
+    ghost use Rattle.protox_tree.specs.View.{full_view, ident_view, idents_view};
 
     /// Of one part. Refused only for want of memory.
-    pub fn from_ident(alloc: Global, ident: Ident) -> Result<FullIdent, AllocError> {
+    pub fn from_ident(alloc: Global, ident: Ident) -> Result<FullIdent, AllocError>
+        ensures { IfOk result (λ name. full_view name ≡ ident_view ident ∷ []) }
+    {
         let mut parts = Vec::with_capacity(alloc, 1)?;
         parts.push(ident)?;
         Ok(FullIdent { parts })
@@ -52,7 +56,9 @@ impl FullIdent {
         FullIdent { parts }
     }
 
-    pub fn parts(&self) -> &[Ident] {
+    pub fn parts(&self) -> &[Ident]
+        ensures { idents_view result.now ≡ full_view self.now }
+    {
         self.parts.as_slice()
     }
 
@@ -85,12 +91,17 @@ impl FullIdent {
 }
 
 impl fmt::Display for FullIdent {
+    ghost use Rattle.protox_tree.specs.Tree.{dotted};
+    ghost use Rattle.protox_tree.specs.View.{full_view};
+
+    ghost output = { λ n. Some (dotted (full_view n)) };
+
     fn fmt<W: fmt::Write>(&self, f: &mut fmt::Formatter<W>) -> fmt::Result {
-        for (i, part) in self.parts.iter().enumerate() {
-            if i > 0 {
-                f.write_str(".")?;
+        if let Some((first, others)) = self.parts.as_slice().split_first() {
+            f.write_str(first.value.as_str())?;
+            'others: for part in others {
+                write!(f, ".{part}")?;
             }
-            f.write_str(part.value.as_str())?;
         }
         Ok(())
     }
@@ -135,6 +146,11 @@ impl TypeName {
 }
 
 impl fmt::Display for TypeName {
+    ghost use Rattle.protox_tree.specs.Tree.{type_text};
+    ghost use Rattle.protox_tree.specs.View.{type_name_view};
+
+    ghost output = { λ n. Some (type_text (type_name_view n)) };
+
     fn fmt<W: fmt::Write>(&self, f: &mut fmt::Formatter<W>) -> fmt::Result {
         if self.leading_dot.is_some() {
             f.write_str(".")?;

@@ -8,6 +8,7 @@ mod file;
 mod ident;
 mod message;
 mod option;
+mod option_text;
 mod range;
 mod service;
 mod text;

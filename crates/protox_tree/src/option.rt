@@ -1,12 +1,11 @@
 //! Options.
 
-ghost use Rattle.std.specs.Prelude.{◌≡◌, ◌<◌, vec_len};
+ghost use Rattle.std.specs.Prelude.{◌≡◌, ◌<◌, IfOk, string_bytes, vec_len};
 
 use crate::ident::{Ident, TypeName};
 use crate::text::Strings;
-use protox_lex::{Escaped, Float, Int, Span};
+use protox_lex::{Float, Int, Span};
 use std::alloc::{AllocError, Global};
-use std::fmt;
 
 /// A part of an option's name.
 #[derive(Drop)]
@@ -66,6 +65,7 @@ pub enum OptionValue {
 impl OptionValue {
     ghost use Rattle.protox_tree.specs.Places.{value_span};
     ghost use Rattle.protox_tree.specs.Tree.{bool_of};
+    ghost use Rattle.protox_tree.specs.TreeTexts.{value_text};
     ghost use Rattle.protox_tree.specs.View.{value_view};
 
     pub fn span(&self) -> Span
@@ -81,7 +81,9 @@ impl OptionValue {
     }
 
     /// The value's tokens, with one space between each two. Refused only for want of memory.
-    pub fn to_token_string(&self, alloc: Global) -> Result<String, AllocError> {
+    pub fn to_token_string(&self, alloc: Global) -> Result<String, AllocError>
+        ensures { IfOk result (λ text. string_bytes text ≡ value_text (value_view self.now)) }
+    {
         format!(in alloc; "{self}")
     }
 
@@ -98,43 +100,6 @@ impl OptionValue {
             _ => None,
         }
     }
-}
-
-/// The value's tokens, with one space between each two.
-impl fmt::Display for OptionValue {
-    fn fmt<W: fmt::Write>(&self, f: &mut fmt::Formatter<W>) -> fmt::Result {
-        match self {
-            OptionValue::Ident(ident) => write!(f, "{ident}"),
-            OptionValue::NegativeWord(ident) => write!(f, "- {ident}"),
-            OptionValue::Int(int) => {
-                write_sign(f, int.negative)?;
-                write!(f, "{}", int.value)
-            }
-            OptionValue::Float { negative, number } => {
-                write_sign(f, *negative)?;
-                f.write_str(number.text.as_str())
-            }
-            OptionValue::String(strings) => write_strings(f, strings),
-            OptionValue::Aggregate(aggregate) if aggregate.text.as_str().is_empty() => {
-                f.write_str("{ }")
-            }
-            OptionValue::Aggregate(aggregate) => write!(f, "{{ {} }}", aggregate.text),
-        }
-    }
-}
-
-fn write_sign<W: fmt::Write>(f: &mut fmt::Formatter<W>, negative: bool) -> fmt::Result {
-    f.write_str(if negative { "- " } else { "" })
-}
-
-fn write_strings<W: fmt::Write>(f: &mut fmt::Formatter<W>, strings: &Strings) -> fmt::Result {
-    for (i, literal) in strings.literals().iter().enumerate() {
-        if i > 0 {
-            f.write_str(" ")?;
-        }
-        write!(f, "\"{}\"", Escaped(literal.value.as_slice()))?;
-    }
-    Ok(())
 }
 
 /// An option's name and value.

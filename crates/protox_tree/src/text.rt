@@ -23,7 +23,9 @@ impl Strings {
         Strings { literals }
     }
 
-    pub fn literals(&self) -> &[Literal] {
+    pub fn literals(&self) -> &[Literal]
+        ensures { literals_view result.now ≡ strings_view self.now }
+    {
         self.literals.as_slice()
     }
 

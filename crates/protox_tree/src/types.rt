@@ -1,6 +1,6 @@
 //! Types, and the two syntaxes.
 
-ghost use Rattle.std.specs.Prelude.{◌≡◌, IfOk, option_map, string_bytes};
+ghost use Rattle.std.specs.Prelude.{◌≡◌, Some, IfOk, option_map, string_bytes};
 ghost use Rattle.std.specs.Str.{bytes_eq};
 ghost use Rattle.protox_tree.specs.Places.{ty_span};
 ghost use Rattle.protox_tree.specs.Scalar.{scalar_of, scalar_type, written_name};
@@ -20,6 +20,10 @@ pub enum Syntax {
 }
 
 impl fmt::Display for Syntax {
+    ghost use Rattle.protox_tree.specs.TreeTexts.{syntax_text};
+
+    ghost output = { λ s. Some (syntax_text s) };
+
     fn fmt<W: fmt::Write>(&self, f: &mut fmt::Formatter<W>) -> fmt::Result {
         f.write_str(match self {
             Syntax::Proto2 => "proto2",
