@@ -1,1 +1,5 @@
+pub mod Declarations
+pub mod Files
 pub mod Gap
+pub mod Located
+pub mod Messages
