@@ -4,7 +4,7 @@ use Rattle.std.proofs.Math.ListN.{set}
 use Rattle.descriptor_records.specs.Content.{LocationContent, location_view, text_view}
 use Rattle.descriptor_records.specs.declared.source_info.Location.{Location}
 use Rattle.protox_lex.specs.Class.{Text}
-use Rattle.protox_locate.specs.Located.{trailed_at}
+use Rattle.protox_locate.specs.Collected.{trailed_at}
 
 pub trailed_set : (ls : List Location) (k : ℕ) (l : Location) (t : Option (String Global)) → k < length ls → l ≡ get_or ls k l
     → map location_view (set ls k (record l { trailing_comments = t })) ≡ trailed_at k (text_view t) (map location_view ls)

@@ -1,12 +1,11 @@
 -- What is met in a file, and the locations of it.
 --
 -- Source: the comments of `SourceCodeInfo` and of `Location` in protobuf's `descriptor.proto`.
-use Rattle.std.specs.Prelude.{◌≡◌, ℕ, Bool, List, [], ◌∷◌, ◌++◌, map, Option, None, Some}
+use Rattle.std.specs.Prelude.{ℕ, Bool, List, [], ◌∷◌, ◌++◌, Option, None, Some}
 use Rattle.std.specs.Cmp.Lexicographic.{slice_cmp}
 use Rattle.std.specs.List.Sorted.{IsSortedBy, IsStableBy}
 use Rattle.std.specs.Ordering.{int_cmp, is_lt}
-use Rattle.descriptor_records.specs.Content.{LocationContent, location_view}
-use Rattle.descriptor_records.specs.declared.source_info.Location.{Location}
+use Rattle.descriptor_records.specs.Content.{LocationContent}
 use Rattle.descriptor_records.specs.declared.tag.file.TheConstants as files
 use Rattle.protox_lex.specs.Class.{Text}
 use Rattle.protox_lex.specs.declared.span.Span.{Span}
@@ -93,14 +92,14 @@ file_events f = part [] [] f.span ∷ [] ++ syntax_events f.syntax ++ each item_
 -- ---- the order of locations
 
 -- the path of one is less than that of the other
-abbrev pub is_before : Location → Location → Bool
-is_before a b = is_lt (slice_cmp int_cmp a.path.items b.path.items)
+abbrev pub is_before : LocationContent → LocationContent → Bool
+is_before a b = is_lt (slice_cmp int_cmp a.path b.path)
 
--- These are the locations of such content, by path, those of one path in their order.
-abbrev pub AreByPath : List LocationContent → List Location → Type 0
-AreByPath contents sorted =
-    (found : List Location) × (map location_view found ≡ contents) × IsSortedBy is_before sorted × IsStableBy is_before found sorted
+-- the same locations by path, those of one path in their order
+pub record AreByPath (found sorted : List LocationContent) : Type 0 where
+  pub ascend : IsSortedBy is_before sorted
+  pub same : IsStableBy is_before found sorted
 
 -- These are the locations of a file that has this tree, in a source with these line feeds.
-abbrev pub AreLocations : Text → List ℕ → File → List Location → Type 0
+abbrev pub AreLocations : Text → List ℕ → File → List LocationContent → Type 0
 AreLocations source line_feeds tree sorted = AreByPath (located source line_feeds (file_events tree)) sorted

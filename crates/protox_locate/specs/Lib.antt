@@ -1,3 +1,4 @@
+pub mod Collected
 pub mod Declarations
 pub mod Files
 pub mod Gap

@@ -1,19 +1,14 @@
 -- The locations of a source, as its statements and their parts come.
 --
 -- Source: the comments of `SourceCodeInfo` and of `Location` in protobuf's `descriptor.proto`.
-use Rattle.std.specs.Prelude.{ℕ, zero, suc, ◌+◌, ◌-◌, ℤ, Bool, true, false, ◌&&◌, if◌then◌else◌, nat_le, List, [], ◌∷◌, ◌++◌, length, map, min, Option, None, slice_range}
-use Rattle.std.specs.List.{fold}
-use Rattle.descriptor_records.specs.Content.{LocationContent, location_view}
+use Rattle.std.specs.Prelude.{ℕ, ◌+◌, ◌-◌, ℤ, Bool, true, false, ◌&&◌, if◌then◌else◌, nat_le, List, [], ◌∷◌, ◌++◌, length, min, None, slice_range}
+use Rattle.descriptor_records.specs.Content.{LocationContent}
 use Rattle.protox_lex.specs.Class.{Text}
 use Rattle.protox_lex.specs.Lines.{span_at}
-use Rattle.protox_lex.specs.Resolver.{feeds}
 use Rattle.protox_lex.specs.declared.span.Span.{Span}
 use Rattle.protox_locate.specs.Gap.{Notes, comments_in}
 use Rattle.protox_locate.specs.declared.gap.Behind.{Behind}
 use Rattle.protox_locate.specs.declared.gap.Behind.TheVariants as behinds
-use Rattle.protox_locate.specs.declared.locator.Front.{Front}
-use Rattle.protox_locate.specs.declared.locator.Front.TheVariants as fronts
-use Rattle.protox_locate.specs.declared.locator.Locator.{Locator}
 
 abbrev pub Path : Type 0
 Path = List ℤ
@@ -29,17 +24,6 @@ pub data Event : Type 0 where
   -- a statement that is empty
   empty : Span → Event
 
--- The locations so far; where the gap begins that comes next, and what stands in front of it.
-pub record State : Type 0 where
-  pub source : Text
-  pub line_feeds : List ℕ
-  pub locations : List LocationContent
-  pub gap_start : ℕ
-  pub front : Front
-
-abbrev pub start : Text → List ℕ → State
-start source line_feeds = record { source = source; line_feeds = line_feeds; locations = []; gap_start = 0; front = fronts.Nothing }
-
 -- ---- places
 
 -- an offset, as far as an `int32` counts
@@ -53,6 +37,7 @@ place_at line_feeds span = span_at line_feeds (counted span.start) (counted span
 abbrev pub inside : Span → ℕ
 inside braces = counted braces.start + 1
 
+-- the location of what the second path leads to from the first, without comments
 abbrev pub location : List ℕ → Path → Path → Span → LocationContent
 location line_feeds path tail span = record {
   path = path ++ tail;
@@ -62,78 +47,46 @@ location line_feeds path tail span = record {
   leading_detached_comments = [];
 }
 
--- ---- comments
+-- ---- gaps
 
 -- the bytes between two places of a text
 abbrev pub between : Text → ℕ → ℕ → Text
 between z from to = if nat_le from to && nat_le to (length z) then slice_range z from to else []
 
--- Behind an opening brace and behind a semicolon, also one of an empty statement, comments can trail.
-abbrev pub may_trail : Front → Bool
-may_trail fronts.Nothing = false
-may_trail fronts.Empty = true
-may_trail (fronts.Statement k) = true
+-- where the gap in front of these ends, in a text of this length, and what stands there
+abbrev pub gap_end : ℕ → List Event → ℕ × Behind
+gap_end size [] = (size, behinds.End)
+gap_end size (part path tail span ∷ es) = gap_end size es
+gap_end size (statement path tail span end ∷ es) = (span.start, behinds.Statement)
+gap_end size (closing braces ∷ es) = (braces.end - 1, behinds.Brace)
+gap_end size (empty span ∷ es) = (span.start, behinds.Statement)
 
--- the comments of the gap that ends here
-abbrev pub notes_before : State → ℕ → Behind → Notes
-notes_before s end behind = comments_in (between s.source s.gap_start end) (may_trail s.front) behind
+-- the comments of the gap that begins here, in front of these; one of them may trail what stands before it, or not
+abbrev pub gap_notes : Text → ℕ → Bool → List Event → Notes
+gap_notes z from may_trail es = comments_in (between z from (gap_end (length z) es).0) may_trail (gap_end (length z) es).1
 
--- the locations, where the one at this place has this trailing comment
-abbrev pub trailed_at : ℕ → Option Text → List LocationContent → List LocationContent
-trailed_at k t [] = []
-trailed_at zero t (l ∷ ls) = record l { trailing_comments = t } ∷ ls
-trailed_at (suc k) t (l ∷ ls) = l ∷ trailed_at k t ls
+-- ---- locations
 
--- The trailing comment is that of the statement in front. An empty statement has no location, and its comments are dropped.
-abbrev pub trailed : Front → Option Text → List LocationContent → List LocationContent
-trailed fronts.Nothing t ls = ls
-trailed fronts.Empty t ls = ls
-trailed (fronts.Statement k) t ls = trailed_at k t ls
-
--- the gap that ends here is read
-abbrev pub behind_gap : State → ℕ → Behind → State
-behind_gap s end behind = record s {
-  locations = trailed s.front (notes_before s end behind).trailing s.locations;
-  front = fronts.Nothing;
+-- a location with comments of the gap before a statement and of the gap behind it
+abbrev pub commented : Notes → Notes → LocationContent → LocationContent
+commented before behind l = record l {
+  leading_comments = before.leading;
+  trailing_comments = behind.trailing;
+  leading_detached_comments = before.detached;
 }
 
--- ---- what each event adds
+-- The locations of what is met behind a place, where a gap begins, whose first comment may trail what stands before it, or not. Parts
+-- have no comments. Behind a statement's semicolon or opening brace comments may trail, behind a closing brace none. An empty
+-- statement has no location, so a comment that trails it is dropped.
+abbrev pub located_from : Text → List ℕ → ℕ → Bool → List Event → List LocationContent
+located_from z feeds from may_trail [] = []
+located_from z feeds from may_trail (part path tail span ∷ es) = location feeds path tail span ∷ located_from z feeds from may_trail es
+located_from z feeds from may_trail (statement path tail span end ∷ es) =
+    commented (gap_notes z from may_trail (statement path tail span end ∷ es)) (gap_notes z end true es) (location feeds path tail span)
+    ∷ located_from z feeds end true es
+located_from z feeds from may_trail (closing braces ∷ es) = located_from z feeds braces.end false es
+located_from z feeds from may_trail (empty span ∷ es) = located_from z feeds span.end true es
 
-abbrev pub commented : Notes → LocationContent → LocationContent
-commented n l = record l { leading_comments = n.leading; leading_detached_comments = n.detached }
-
--- one more location, of the statement in front of the gap that begins here
-abbrev pub with_statement : State → LocationContent → ℕ → State
-with_statement s l end = record s {
-  locations = s.locations ++ l ∷ [];
-  gap_start = end;
-  front = fronts.Statement (length s.locations);
-}
-
-abbrev pub meet : State → Event → State
--- A part has no comments.
-meet s (part path tail span) = record s { locations = s.locations ++ location s.line_feeds path tail span ∷ [] }
--- The comments of the gap before a statement are its own or those of what stands in front.
-meet s (statement path tail span end) =
-    with_statement (behind_gap s span.start behinds.Statement) (commented (notes_before s span.start behinds.Statement) (location s.line_feeds path tail span)) end
--- Before a closing brace comments belong to what stands in front, or to nothing.
-meet s (closing braces) = record (behind_gap s (braces.end - 1) behinds.Brace) { gap_start = braces.end }
-meet s (empty span) = record (behind_gap s span.start behinds.Statement) { gap_start = span.end; front = fronts.Empty }
-
-abbrev pub meets : State → List Event → State
-meets s es = fold meet s es
-
--- The locations of all that is met in a source, in its order.
+-- The locations of all that is met in a source with these line feeds, in its order.
 abbrev pub located : Text → List ℕ → List Event → List LocationContent
-located source line_feeds es = (behind_gap (meets (start source line_feeds) es) (length source) behinds.End).locations
-
--- ---- what the code shows
-
-abbrev pub state : Locator → State
-state l = record {
-  source = l.source.now;
-  line_feeds = feeds l.lines.now;
-  locations = map location_view l.locations.items;
-  gap_start = l.gap_start;
-  front = l.front;
-}
+located z feeds es = located_from z feeds 0 false es

@@ -41,10 +41,14 @@ extensions_events path count e =
 abbrev pub label_span : Option (Label × Span) → Option Span
 label_span = option_map (λ l. l.1)
 
--- A type has its number where it is written as a word, and else its name. A group has both.
+-- A type has its number where it is written as a word, and else its name.
+abbrev pub ty_events : Path → Ty → List Event
+ty_events path (scalar t span) = part path (fields.TYPE ∷ []) span ∷ []
+ty_events path (named t) = part path (fields.TYPE_NAME ∷ []) (type_name_span t) ∷ []
+
+-- A group has both.
 abbrev pub type_events : Path → Span → Kind → List Event
-type_events path name (normal (scalar t span)) = part path (fields.TYPE ∷ []) span ∷ []
-type_events path name (normal (named t)) = part path (fields.TYPE_NAME ∷ []) (type_name_span t) ∷ []
+type_events path name (normal t) = ty_events path t
 type_events path name (group (a_group word braces items)) = part path (fields.TYPE ∷ []) word ∷ (part path (fields.TYPE_NAME ∷ []) name ∷ [])
 type_events path name (map_kind m) = part path (fields.TYPE_NAME ∷ []) m.span ∷ []
 

@@ -1,6 +1,6 @@
 ghost use Rattle.std.specs.Prelude.{◌≡◌, OnOk};
 ghost use Rattle.protox_locate.specs.Declarations as spec;
-ghost use Rattle.protox_locate.specs.Located.{meets, state};
+ghost use Rattle.protox_locate.specs.Collected.{meets, state};
 ghost use Rattle.protox_tree.specs.View.{enum_item_view, enum_value_view, enum_view};
 
 use crate::locator::Locator;

@@ -1,7 +1,8 @@
 ghost use Rattle.std.specs.Prelude.{◌≡◌, [], IfOk, OnOk, option_map};
+ghost use Rattle.descriptor_records.specs.Content.{source_info_view};
 ghost use Rattle.protox_lex.specs.Resolver.{feeds};
 ghost use Rattle.protox_locate.specs.Files as spec;
-ghost use Rattle.protox_locate.specs.Located.{meets, state};
+ghost use Rattle.protox_locate.specs.Collected.{meets, state};
 ghost use Rattle.protox_locate.specs.Messages.{after_extend, extend_events};
 ghost use Rattle.protox_tree.specs.NestView.{extend_view};
 ghost use Rattle.protox_tree.specs.FileView.{file_item_view, file_view, import_view, syntax_view};
@@ -59,7 +60,7 @@ pub fn source_info(
     lines: &LineResolver,
     file: &File,
 ) -> Result<SourceCodeInfo, AllocError>
-    ensures { IfOk result (λ info. spec.AreLocations source.now (feeds lines.now) (file_view file.now) info.location.items) }
+    ensures { IfOk result (λ info. spec.AreLocations source.now (feeds lines.now) (file_view file.now) (source_info_view info)) }
 {
     let mut locator = Locator::new(alloc, source, lines);
     statements(&mut locator, file)?;

@@ -1,10 +1,11 @@
-ghost use Rattle.std.specs.Prelude.{◌≡◌, ◌++◌, ◌∷◌, [], IfOk, OnOk, length};
+ghost use Rattle.std.specs.Prelude.{◌≡◌, ◌++◌, ◌∷◌, [], IfOk, OnOk, length, map};
 ghost use Rattle.descriptor_records.specs.Content.{location_view, text_view, texts_view};
 ghost use Rattle.protox_lex.specs.Resolver.{feeds};
 ghost use Rattle.protox_locate.specs.declared.gap.Behind.TheVariants.{End};
 ghost use Rattle.protox_locate.specs.Declarations.{part_if};
 ghost use Rattle.protox_locate.specs.Files.{AreByPath};
-ghost use Rattle.protox_locate.specs.Located as spec;
+ghost use Rattle.protox_locate.specs.Collected as spec;
+ghost use Rattle.protox_locate.specs.Located as located;
 
 use crate::gap::{Behind, GapComments, gap_comments};
 use descriptor_records::{Location, join_path};
@@ -61,7 +62,7 @@ impl<'a> Locator<'a> {
 
     /// The location of what `tail` leads to from the record at `path`, without comments.
     fn location(&self, path: &[i32], tail: &[i32], span: Span) -> Result<Location, AllocError>
-        ensures { IfOk result (λ made. location_view made ≡ spec.location (feeds self.now.lines.now) path.now tail.now span) }
+        ensures { IfOk result (λ made. location_view made ≡ located.location (feeds self.now.lines.now) path.now tail.now span) }
     {
         let span = Span {
             start: span.start.min(LAST_OFFSET),
@@ -78,7 +79,7 @@ impl<'a> Locator<'a> {
 
     /// Adds the location of a part that has no comments: what `tail` leads to from the record at `path`.
     pub fn add(&mut self, path: &[i32], tail: &[i32], span: Span) -> Result<(), AllocError>
-        ensures { OnOk result (spec.state self.new ≡ spec.meet (spec.state self.old) (spec.part path.now tail.now span)) }
+        ensures { OnOk result (spec.state self.new ≡ spec.meet (spec.state self.old) (located.part path.now tail.now span)) }
     {
         let location = self.location(path, tail, span)?;
         self.locations.push(location)?;
@@ -102,7 +103,7 @@ impl<'a> Locator<'a> {
 
     /// Adds the location of a statement whose semicolon or opening brace ends at `end`, with the comments in front of it.
     fn begin(&mut self, path: &[i32], tail: &[i32], span: Span, end: usize) -> Result<(), AllocError>
-        ensures { OnOk result (spec.state self.new ≡ spec.meet (spec.state self.old) (spec.statement path.now tail.now span end)) }
+        ensures { OnOk result (spec.state self.new ≡ spec.meet (spec.state self.old) (located.statement path.now tail.now span end)) }
     {
         let (detached, leading) = self.read_gap(span.start, Behind::Statement)?;
         let mut location = self.location(path, tail, span)?;
@@ -117,7 +118,7 @@ impl<'a> Locator<'a> {
 
     /// Adds the location of a statement that ends with a semicolon.
     pub fn statement(&mut self, path: &[i32], tail: &[i32], span: Span) -> Result<(), AllocError>
-        ensures { OnOk result (spec.state self.new ≡ spec.meet (spec.state self.old) (spec.statement path.now tail.now span span.end)) }
+        ensures { OnOk result (spec.state self.new ≡ spec.meet (spec.state self.old) (located.statement path.now tail.now span span.end)) }
     {
         self.begin(path, tail, span, span.end)
     }
@@ -130,14 +131,14 @@ impl<'a> Locator<'a> {
         span: Span,
         braces: Span,
     ) -> Result<(), AllocError>
-        ensures { OnOk result (spec.state self.new ≡ spec.meet (spec.state self.old) (spec.statement path.now tail.now span (spec.inside braces))) }
+        ensures { OnOk result (spec.state self.new ≡ spec.meet (spec.state self.old) (located.statement path.now tail.now span (located.inside braces))) }
     {
         self.begin(path, tail, span, braces.start.min(LAST_OFFSET) + 1)
     }
 
     /// What stands in the braces was met.
     pub fn leave(&mut self, braces: Span) -> Result<(), AllocError>
-        ensures { OnOk result (spec.state self.new ≡ spec.meet (spec.state self.old) (spec.closing braces)) }
+        ensures { OnOk result (spec.state self.new ≡ spec.meet (spec.state self.old) (located.closing braces)) }
     {
         self.read_gap(braces.end.saturating_sub(1), Behind::Brace)?;
         self.gap_start = braces.end;
@@ -146,7 +147,7 @@ impl<'a> Locator<'a> {
 
     /// An empty statement has no location, and comments in front of it and behind it are no statement's.
     pub fn pass(&mut self, empty: Span) -> Result<(), AllocError>
-        ensures { OnOk result (spec.state self.new ≡ spec.meet (spec.state self.old) (spec.empty empty)) }
+        ensures { OnOk result (spec.state self.new ≡ spec.meet (spec.state self.old) (located.empty empty)) }
     {
         self.read_gap(empty.start, Behind::Statement)?;
         self.gap_start = empty.end;
@@ -191,7 +192,7 @@ impl<'a> Locator<'a> {
     /// All locations, by path, those of one path in source order.
     pub fn finish(mut self) -> Result<Vec<Location>, AllocError>
         ensures { let old = spec.state self.entry in
-            IfOk result (λ made. AreByPath (spec.behind_gap old (length old.source) End).locations made.items) }
+            IfOk result (λ made. AreByPath (spec.behind_gap old (length old.source) End).locations (map location_view made.items)) }
     {
         let end = self.source.len();
         self.read_gap(end, Behind::End)?;
@@ -203,7 +204,7 @@ impl<'a> Locator<'a> {
 
 /// The bytes between two places, or none where these are no places of the text, or not in this order.
 fn gap(source: &[u8], from: usize, to: usize) -> &[u8]
-    ensures { result.now ≡ spec.between source.now from to }
+    ensures { result.now ≡ located.between source.now from to }
 {
     source.get(from..to).unwrap_or(&[])
 }

@@ -1,13 +1,13 @@
 //! Messages, and what stands in them.
 
 ghost use Rattle.std.specs.Prelude.{◌≡◌, OnOk, map};
-ghost use Rattle.protox_locate.specs.Located.{meets, state};
+ghost use Rattle.protox_locate.specs.Collected.{meets, state};
 ghost use Rattle.protox_locate.specs.Messages as spec;
 ghost use Rattle.protox_tree.specs.Nest.{item_extend, item_field, item_oneof, items_of};
 ghost use Rattle.protox_tree.specs.NestView.{added_view, extend_view, field_view, group_view, item_view, member_view, message_view, oneof_view};
 
 use crate::enums::enumeration;
-use crate::fields::field_parts;
+use crate::fields::{field_statement, group_field};
 use crate::locator::Locator;
 use crate::options::option_statement;
 use crate::ranges::{ReservedLists, extensions, reserved};
@@ -240,23 +240,22 @@ fn field(
     ensures counted { OnOk result (counts.new ≡ spec.after_field counts.old (field_view field.now)) }
 {
     let at = locator.entry(path, tags.field, counts.fields.next())?;
+    let here = at.as_slice();
     match &field.kind {
         FieldKind::Group(body) => {
-            locator.add(at.as_slice(), &[], field.span)?;
-            field_parts(locator, at.as_slice(), extendee, field)?;
-            let at = locator.entry(path, tags.nested_type, counts.types.next())?;
-            group(locator, at.as_slice(), field.span, field.name.span, body)?;
+            group_field(locator, here, extendee, field)?;
+            let inner = locator.entry(path, tags.nested_type, counts.types.next())?;
+            let inside = inner.as_slice();
+            group(locator, inside, field.span, field.name.span, body)?;
             Ok(())
         }
         FieldKind::Map(_) => {
             counts.types.next();
-            locator.statement(at.as_slice(), &[], field.span)?;
-            field_parts(locator, at.as_slice(), extendee, field)?;
+            field_statement(locator, here, extendee, field)?;
             Ok(())
         }
         FieldKind::Normal(_) => {
-            locator.statement(at.as_slice(), &[], field.span)?;
-            field_parts(locator, at.as_slice(), extendee, field)?;
+            field_statement(locator, here, extendee, field)?;
             Ok(())
         }
     }
@@ -346,7 +345,7 @@ pub fn extend(
 {
     locator.enter(path, &[tags.field], statement.span, statement.braces)?;
     let extendee = statement.extendee.span();
-    'added: for item in &statement.items {
+    'inside: for item in &statement.items {
         added(locator, path, tags, counts, extendee, item)?;
     }
     locator.leave(statement.braces)?;

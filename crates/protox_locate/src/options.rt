@@ -2,7 +2,7 @@
 
 ghost use Rattle.std.specs.Prelude.{◌≡◌, OnOk, option_map};
 ghost use Rattle.protox_locate.specs.Declarations as spec;
-ghost use Rattle.protox_locate.specs.Located.{meets, state};
+ghost use Rattle.protox_locate.specs.Collected.{meets, state};
 ghost use Rattle.protox_tree.specs.View.{body_view, option_list_view, option_view};
 
 use crate::locator::Locator;

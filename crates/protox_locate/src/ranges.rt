@@ -4,7 +4,7 @@ ghost use Rattle.std.specs.Prelude.{◌≡◌, OnOk, option_map};
 ghost use Rattle.std.specs.List.{fold};
 ghost use Rattle.protox_locate.specs.Declarations as spec;
 ghost use Rattle.protox_locate.specs.Messages.{extensions_events, after_range, extension_events};
-ghost use Rattle.protox_locate.specs.Located.{meets, state};
+ghost use Rattle.protox_locate.specs.Collected.{meets, state};
 ghost use Rattle.protox_tree.specs.NestView.{extensions_view};
 ghost use Rattle.protox_tree.specs.View.{names_view, option_list_view, reserved_view, strings_view};
 
@@ -35,7 +35,7 @@ pub fn extensions(
     ensures counted { OnOk result (count.new ≡ fold after_range count.old statement.now.ranges.items) }
 {
     locator.statement(path, &[tag::message::EXTENSION_RANGE], statement.span)?;
-    'ranges: for one in &statement.ranges {
+    'entries: for one in &statement.ranges {
         extension_range(locator, path, count, &statement.options, one)?;
     }
     Ok(())
@@ -90,7 +90,7 @@ fn reserved_ranges(
     ensures located { OnOk result (state locator.new ≡ meets (state locator.old) (spec.each (spec.entry_events path.now tag) spec.after_entry count.old ranges.now)) }
     ensures counted { OnOk result (count.new ≡ fold spec.after_entry count.old ranges.now) }
 {
-    'ranges: for one in ranges {
+    'entries: for one in ranges {
         reserved_range(locator, path, tag, count, *one)?;
     }
     Ok(())

@@ -1,6 +1,7 @@
 ghost use Rattle.std.specs.Prelude.{◌≡◌, [], OnOk, option_map};
 ghost use Rattle.protox_locate.specs.Declarations as spec;
-ghost use Rattle.protox_locate.specs.Located.{meet, meets, state, statement};
+ghost use Rattle.protox_locate.specs.Collected.{meet, meets, state};
+ghost use Rattle.protox_locate.specs.Located.{statement};
 ghost use Rattle.protox_tree.specs.View.{method_body_view, method_item_view, method_type_view, method_view, service_item_view, service_view};
 
 use crate::locator::Locator;

@@ -1,7 +1,8 @@
 use Rattle.std.proofs.Common.{◌≡◌, ◌∷◌, [], ◌++◌, List, map, ap, sym, subst, ◌∙◌, refl, rules}
 use Rattle.descriptor_records.specs.declared.tag.enumeration.TheConstants as enums
 use Rattle.protox_locate.specs.Declarations.{after_enum_item, each, enum_item_events, no_values}
-use Rattle.protox_locate.specs.Located.{Event, closing, inside, meet, meets, part, state, statement}
+use Rattle.protox_locate.specs.Collected.{meet, meets, state}
+use Rattle.protox_locate.specs.Located.{Event, closing, inside, part, statement}
 use Rattle.protox_locate.specs.declared.enums.EnumCounts.{EnumCounts}
 use Rattle.protox_tree.specs.View.{enum_item_view}
 use Rattle.protox_tree.specs.declared.enumeration.EnumItem.{EnumItem}

@@ -1,6 +1,6 @@
 use Rattle.std.proofs.Common.{◌≡◌, drop, map}
 use Rattle.protox_locate.specs.Declarations.{after_enum_item, each, enum_item_events, no_values}
-use Rattle.protox_locate.specs.Located.{meets, state}
+use Rattle.protox_locate.specs.Collected.{meets, state}
 use Rattle.protox_tree.specs.View.{enum_item_view}
 use Rattle.protox_locate.proofs.enums.enumeration.Given as goal
 

@@ -1,6 +1,7 @@
 use Rattle.std.proofs.Common.{◌≡◌, ◌∷◌, [], ◌++◌, List, map, ap, sym, subst, ◌∙◌, refl, rules}
 use Rattle.protox_locate.specs.Declarations.{each}
-use Rattle.protox_locate.specs.Located.{Event, closing, inside, meet, meets, part, state, statement}
+use Rattle.protox_locate.specs.Collected.{meet, meets, state}
+use Rattle.protox_locate.specs.Located.{Event, closing, inside, part, statement}
 use Rattle.protox_locate.specs.Files.{after_item, item_events, no_counts, syntax_events}
 use Rattle.protox_locate.specs.declared.file.FileCounts.{FileCounts}
 use Rattle.protox_tree.specs.FileView.{file_item_view, file_view}

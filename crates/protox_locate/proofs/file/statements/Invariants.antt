@@ -1,6 +1,6 @@
 use Rattle.std.proofs.Common.{◌≡◌, drop, map}
 use Rattle.protox_locate.specs.Declarations.{each}
-use Rattle.protox_locate.specs.Located.{meets, state}
+use Rattle.protox_locate.specs.Collected.{meets, state}
 use Rattle.protox_locate.specs.Files.{after_item, item_events, no_counts}
 use Rattle.protox_tree.specs.FileView.{file_item_view}
 use Rattle.protox_locate.proofs.file.statements.Given as goal

@@ -1,5 +1,5 @@
 use Rattle.std.proofs.Common.{◌≡◌, drop, map}
-use Rattle.protox_locate.specs.Located.{meets, state}
+use Rattle.protox_locate.specs.Collected.{meets, state}
 use Rattle.protox_locate.specs.Messages.{added_events, after_added, after_members, in_oneof, items_events, members_events, no_counts}
 use Rattle.protox_tree.specs.Nest.{added_of, items_of, members_of}
 use Rattle.protox_tree.specs.NestView.{added_view, item_view, member_view}
@@ -17,8 +17,8 @@ invariant-oneof-members l = record {
   counted : after_members l.counts (members_of (map member_view (drop l.item-index l.item-items))) ≡ after_members (in_oneof l.fields) (members_of (map member_view l.item-items));
 }
 
-abbrev pub invariant-extend-added : goal.invariant-extend-added
-invariant-extend-added l = record {
+abbrev pub invariant-extend-inside : goal.invariant-extend-inside
+invariant-extend-inside l = record {
   located : meets (state l.locator) (added_events l.path l.tags l.counts l.extendee (added_of (map added_view (drop l.item-index l.item-items))))
   ≡ meets (state l.initial.locator) (added_events l.path l.tags l.initial.counts l.extendee (added_of (map added_view l.item-items)));
   counted : after_added l.counts (added_of (map added_view (drop l.item-index l.item-items))) ≡ after_added l.initial.counts (added_of (map added_view l.item-items));

@@ -1,7 +1,8 @@
 use Rattle.std.proofs.Common.{◌≡◌, ◌∷◌, [], ◌++◌, List, map, ap, sym, subst, ◌∙◌, refl, rules}
 use Rattle.descriptor_records.specs.declared.tag.field.TheConstants as fields
 use Rattle.protox_locate.specs.Declarations.{after_field_option, each, field_option_events, inner_span, none}
-use Rattle.protox_locate.specs.Located.{Event, closing, inside, meet, meets, part, state, statement}
+use Rattle.protox_locate.specs.Collected.{meet, meets, state}
+use Rattle.protox_locate.specs.Located.{Event, closing, inside, part, statement}
 use Rattle.protox_locate.specs.declared.slot.Count.{Count}
 use Rattle.protox_tree.specs.View.{body_view, option_list_view}
 use Rattle.protox_tree.specs.declared.option.OptionBody.{OptionBody}

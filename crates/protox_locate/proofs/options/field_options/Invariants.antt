@@ -1,6 +1,6 @@
 use Rattle.std.proofs.Common.{◌≡◌, drop, map}
 use Rattle.protox_locate.specs.Declarations.{after_field_option, each, field_option_events, none}
-use Rattle.protox_locate.specs.Located.{meets, state}
+use Rattle.protox_locate.specs.Collected.{meets, state}
 use Rattle.protox_tree.specs.View.{body_view}
 use Rattle.protox_locate.proofs.options.field_options.Given as goal
 

@@ -1,6 +1,7 @@
 use Rattle.std.proofs.Common.{◌≡◌, ◌∷◌, [], subst, rules}
 use Rattle.descriptor_records.specs.declared.tag.TheConstants.{UNINTERPRETED_OPTION}
-use Rattle.protox_locate.specs.Located.{meet, part, state}
+use Rattle.protox_locate.specs.Collected.{meet, state}
+use Rattle.protox_locate.specs.Located.{part}
 use Rattle.protox_locate.proofs.options.option_body.Goals as goal
 
 pub returns-clause-located : goal.returns-clause-located

@@ -1,6 +1,7 @@
 use Rattle.std.proofs.Common.{◌≡◌, ℤ, ◌∷◌, [], List, map, ap, sym, subst, ◌∙◌, refl, rules, w32, to_z, of_z}
 use Rattle.protox_locate.specs.Declarations.{after_body, body_events, each, inner_span, none}
-use Rattle.protox_locate.specs.Located.{Event, meet, meets, part, state}
+use Rattle.protox_locate.specs.Collected.{meet, meets, state}
+use Rattle.protox_locate.specs.Located.{Event, part}
 use Rattle.protox_locate.specs.declared.slot.Count.{Count}
 use Rattle.protox_tree.specs.View.{body_view, option_list_view}
 use Rattle.protox_tree.specs.declared.option.OptionBody.{OptionBody}

@@ -1,6 +1,7 @@
 use Rattle.std.proofs.Common.{◌≡◌, ◌∷◌, [], ap, subst, ◌∙◌, rules}
 use Rattle.descriptor_records.specs.declared.tag.reserved_range.TheConstants as ranges
-use Rattle.protox_locate.specs.Located.{meet, part, state}
+use Rattle.protox_locate.specs.Collected.{meet, state}
+use Rattle.protox_locate.specs.Located.{part}
 use Rattle.protox_tree.specs.Places.{end_span, range_span}
 use Rattle.protox_locate.proofs.ranges.range.Goals as goal
 

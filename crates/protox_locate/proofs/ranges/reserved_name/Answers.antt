@@ -1,5 +1,6 @@
 use Rattle.std.proofs.Common.{◌≡◌, ◌∷◌, [], subst, rules}
-use Rattle.protox_locate.specs.Located.{meet, part, state}
+use Rattle.protox_locate.specs.Collected.{meet, state}
+use Rattle.protox_locate.specs.Located.{part}
 use Rattle.protox_locate.proofs.ranges.reserved_name.Goals as goal
 
 pub returns-clause-located : goal.returns-clause-located

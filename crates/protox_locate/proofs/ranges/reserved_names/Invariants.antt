@@ -1,7 +1,7 @@
 use Rattle.std.proofs.Common.{◌≡◌, drop, map}
 use Rattle.std.specs.List.{fold}
 use Rattle.protox_locate.specs.Declarations.{after_name, each, name_events}
-use Rattle.protox_locate.specs.Located.{meets, state}
+use Rattle.protox_locate.specs.Collected.{meets, state}
 use Rattle.protox_tree.specs.View.{strings_view}
 use Rattle.protox_locate.proofs.ranges.reserved_names.Given as goal
 

@@ -1,6 +1,7 @@
 use Rattle.std.proofs.Common.{◌≡◌, ◌∷◌, [], ◌++◌, List, map, ap, sym, subst, ◌∙◌, refl, rules}
 use Rattle.protox_locate.specs.Declarations.{after_method_item, each, method_item_events, none}
-use Rattle.protox_locate.specs.Located.{Event, closing, inside, meet, meets, part, state, statement}
+use Rattle.protox_locate.specs.Collected.{meet, meets, state}
+use Rattle.protox_locate.specs.Located.{Event, closing, inside, part, statement}
 use Rattle.protox_locate.specs.declared.slot.Count.{Count}
 use Rattle.protox_tree.specs.View.{method_item_view}
 use Rattle.protox_tree.specs.declared.service.MethodItem.{MethodItem}

@@ -1,6 +1,6 @@
 use Rattle.std.proofs.Common.{◌≡◌, drop, map}
 use Rattle.protox_locate.specs.Declarations.{after_method_item, each, method_item_events, none}
-use Rattle.protox_locate.specs.Located.{meets, state}
+use Rattle.protox_locate.specs.Collected.{meets, state}
 use Rattle.protox_tree.specs.View.{method_item_view}
 use Rattle.protox_locate.proofs.services.method_body.Given as goal
 

@@ -1,6 +1,6 @@
 use Rattle.std.proofs.Common.{◌≡◌, drop, map}
 use Rattle.protox_locate.specs.Declarations.{after_service_item, each, no_methods, service_item_events}
-use Rattle.protox_locate.specs.Located.{meets, state}
+use Rattle.protox_locate.specs.Collected.{meets, state}
 use Rattle.protox_tree.specs.View.{service_item_view}
 use Rattle.protox_locate.proofs.services.service.Given as goal
 

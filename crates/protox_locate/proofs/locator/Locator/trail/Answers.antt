@@ -4,7 +4,7 @@ use Rattle.std.proofs.lemmas.Bool.{false≢true}
 use Rattle.std.proofs.lemmas.List.{length-map}
 use Rattle.descriptor_records.specs.Content.{LocationContent, location_view, text_view}
 use Rattle.protox_lex.specs.Resolver.{feeds}
-use Rattle.protox_locate.specs.Located.{State}
+use Rattle.protox_locate.specs.Collected.{State}
 use Rattle.protox_locate.proofs.Trailing.{trailed_past, trailed_set}
 use Rattle.protox_locate.proofs.locator.Locator.trail.Goals as goal
 
