@@ -80,10 +80,7 @@ fn statements(locator: &mut Locator<'_>, file: &File) -> Result<(), AllocError>
     Ok(())
 }
 
-fn syntax(
-    locator: &mut Locator<'_>,
-    statement: &Option<SyntaxStatement>,
-) -> Result<(), AllocError>
+fn syntax(locator: &mut Locator<'_>, statement: &Option<SyntaxStatement>) -> Result<(), AllocError>
     ensures { OnOk result (state locator.new ≡ meets (state locator.old) (spec.syntax_events (option_map syntax_view statement.now))) }
 {
     match statement {

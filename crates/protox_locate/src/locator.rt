@@ -102,7 +102,13 @@ impl<'a> Locator<'a> {
     }
 
     /// Adds the location of a statement whose semicolon or opening brace ends at `end`, with the comments in front of it.
-    fn begin(&mut self, path: &[i32], tail: &[i32], span: Span, end: usize) -> Result<(), AllocError>
+    fn begin(
+        &mut self,
+        path: &[i32],
+        tail: &[i32],
+        span: Span,
+        end: usize,
+    ) -> Result<(), AllocError>
         ensures { OnOk result (spec.state self.new ≡ spec.meet (spec.state self.old) (located.statement path.now tail.now span end)) }
     {
         let (detached, leading) = self.read_gap(span.start, Behind::Statement)?;

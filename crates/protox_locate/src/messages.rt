@@ -321,7 +321,13 @@ fn member(
             Ok(())
         }
         OneofItem::Option(option) => {
-            option_statement(locator, at, tag::oneof::OPTIONS, &mut counts.options, option)?;
+            option_statement(
+                locator,
+                at,
+                tag::oneof::OPTIONS,
+                &mut counts.options,
+                option,
+            )?;
             Ok(())
         }
         OneofItem::Empty(span) => {

@@ -53,7 +53,12 @@ fn extension_range(
 {
     let at = locator.entry(path, tag::message::EXTENSION_RANGE, count.next())?;
     range(locator, at.as_slice(), one)?;
-    option_list(locator, at.as_slice(), tag::extension_range::OPTIONS, options)?;
+    option_list(
+        locator,
+        at.as_slice(),
+        tag::extension_range::OPTIONS,
+        options,
+    )?;
     Ok(())
 }
 

@@ -87,11 +87,7 @@ fn method(locator: &mut Locator<'_>, path: &[i32], statement: &Method) -> Result
     Ok(())
 }
 
-fn begin_method(
-    locator: &mut Locator<'_>,
-    path: &[i32],
-    method: &Method,
-) -> Result<(), AllocError>
+fn begin_method(locator: &mut Locator<'_>, path: &[i32], method: &Method) -> Result<(), AllocError>
     ensures { OnOk result (state locator.new ≡ meet (state locator.old) (statement path.now [] method.now.span (spec.end_in method.now.span (option_map method_body_view method.now.body)))) }
 {
     match &method.body {

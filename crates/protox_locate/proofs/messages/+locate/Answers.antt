@@ -119,11 +119,11 @@ oneof-members-preserved t c =
     let step = c.in_ok-member.ensures in
     record {
       located = next_met (λ n x. member_events path at n (member_view x)) (λ n x. after_member n (member_view x)) (λ n xs. members_events path at n (members_of (map member_view xs))) (λ n x xs. refl)
-      items c.members.item-index c.item-item.result (state c.members.locator) (state c.member.new.locator) c.members.counts c.member.new.counts c.members-test.true c.item-item.is step.located step.counted
-      ∙ c.members.invariant.located;
+          items c.members.item-index c.item-item.result (state c.members.locator) (state c.member.new.locator) c.members.counts c.member.new.counts c.members-test.true c.item-item.is step.located step.counted
+          ∙ c.members.invariant.located;
       counted = next_counted (λ n x. after_member n (member_view x)) (λ n xs. after_members n (members_of (map member_view xs))) (λ n x xs. refl)
-      items c.members.item-index c.item-item.result c.members.counts c.member.new.counts c.members-test.true c.item-item.is step.counted
-      ∙ c.members.invariant.counted;
+          items c.members.item-index c.item-item.result c.members.counts c.member.new.counts c.members-test.true c.item-item.is step.counted
+          ∙ c.members.invariant.counted;
     }
 
 pub oneof-returns-clause-located : goal.oneof-returns-clause-located
@@ -160,11 +160,11 @@ extend-inside-preserved t c =
     let step = c.in_ok-added.ensures in
     record {
       located = next_met (λ n x. added_item_events path tags n extendee (added_view x)) (λ n x. after_added_item n (added_view x)) (λ n xs. added_events path tags n extendee (added_of (map added_view xs))) (λ n x xs. refl)
-      items c.inside.item-index c.item-item.result (state c.inside.locator) (state c.added.new.locator) c.inside.counts c.added.new.counts c.inside-test.true c.item-item.is step.located step.counted
-      ∙ c.inside.invariant.located;
+          items c.inside.item-index c.item-item.result (state c.inside.locator) (state c.added.new.locator) c.inside.counts c.added.new.counts c.inside-test.true c.item-item.is step.located step.counted
+          ∙ c.inside.invariant.located;
       counted = next_counted (λ n x. after_added_item n (added_view x)) (λ n xs. after_added n (added_of (map added_view xs))) (λ n x xs. refl)
-      items c.inside.item-index c.item-item.result c.inside.counts c.added.new.counts c.inside-test.true c.item-item.is step.counted
-      ∙ c.inside.invariant.counted;
+          items c.inside.item-index c.item-item.result c.inside.counts c.added.new.counts c.inside-test.true c.item-item.is step.counted
+          ∙ c.inside.invariant.counted;
     }
 
 pub extend-returns-clause-located : goal.extend-returns-clause-located
@@ -182,8 +182,8 @@ extend-returns-clause-located t c =
     let inside_is = sym (all_met (all extendee) (λ n. refl) c.deref-item-items.result.now c.inside.item-index (state c.inside.locator) c.inside.counts c.inside-test.false) ∙ c.inside.invariant.located in
     c.in_ok-leave.ensures
     ∙ ap (λ s. meet s (closing e.braces)) (
-      inside_is ∙ ap (λ xs. meets (state c.enter.new.self) (all extendee counts xs)) c.deref-item-items.ensures.value ∙ ap (λ s. meets s (all extendee counts items)) enter
-      ∙ ap (λ s. meets (meet old begun) (all s counts items)) c.span-extendee.ensures
+    inside_is ∙ ap (λ xs. meets (state c.enter.new.self) (all extendee counts xs)) c.deref-item-items.ensures.value ∙ ap (λ s. meets s (all extendee counts items)) enter
+    ∙ ap (λ s. meets (meet old begun) (all s counts items)) c.span-extendee.ensures
     )
     ∙ sym (meets_append old (begun ∷ all (type_name_span (type_name_view e.extendee)) counts items) (closing e.braces ∷ []))
     ∙ ap (λ v. meets old (extend_events path tags counts v)) (sym (extend_is e))

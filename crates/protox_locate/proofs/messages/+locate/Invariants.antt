@@ -13,13 +13,13 @@ invariant-items-items l =
 abbrev pub invariant-oneof-members : goal.invariant-oneof-members
 invariant-oneof-members l = record {
   located : meets (state l.locator) (members_events l.path l.at l.counts (members_of (map member_view (drop l.item-index l.item-items))))
-  ≡ meets (state l.initial.locator) (members_events l.path l.at (in_oneof l.fields) (members_of (map member_view l.item-items)));
+      ≡ meets (state l.initial.locator) (members_events l.path l.at (in_oneof l.fields) (members_of (map member_view l.item-items)));
   counted : after_members l.counts (members_of (map member_view (drop l.item-index l.item-items))) ≡ after_members (in_oneof l.fields) (members_of (map member_view l.item-items));
 }
 
 abbrev pub invariant-extend-inside : goal.invariant-extend-inside
 invariant-extend-inside l = record {
   located : meets (state l.locator) (added_events l.path l.tags l.counts l.extendee (added_of (map added_view (drop l.item-index l.item-items))))
-  ≡ meets (state l.initial.locator) (added_events l.path l.tags l.initial.counts l.extendee (added_of (map added_view l.item-items)));
+      ≡ meets (state l.initial.locator) (added_events l.path l.tags l.initial.counts l.extendee (added_of (map added_view l.item-items)));
   counted : after_added l.counts (added_of (map added_view (drop l.item-index l.item-items))) ≡ after_added l.initial.counts (added_of (map added_view l.item-items));
 }

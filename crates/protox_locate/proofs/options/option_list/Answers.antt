@@ -29,7 +29,7 @@ returns c =
     subst (λ s. state c.add.new.self ≡ meet (state c.args.locator.now) (part path (c.args.options ∷ []) s)) c.inner_span.ensures (search rules) in
     let bodies : ℤ → List OptionBody → List Event = λ o xs. each (body_events path o) after_body none (map body_view xs) in
     rw c.in-Some.is (
-      sym (all_met {A = OptionBody} (λ (n : Count) xs. each (body_events path options) after_body n (map body_view xs)) (λ n. refl) items c.bodies.option-index (state c.bodies.locator) c.bodies.count c.bodies-test.false)
-      ∙ c.bodies.invariant ∙ ap (λ s. meets s (bodies options items)) add ∙ ap (λ xs. meets (meet (state c.args.locator.now) begun) (bodies options xs)) c.deref-option-items.ensures.value
-      ∙ ap (λ o. meets (meet (state c.args.locator.now) begun) (bodies o list.options.items)) same
+    sym (all_met {A = OptionBody} (λ (n : Count) xs. each (body_events path options) after_body n (map body_view xs)) (λ n. refl) items c.bodies.option-index (state c.bodies.locator) c.bodies.count c.bodies-test.false)
+    ∙ c.bodies.invariant ∙ ap (λ s. meets s (bodies options items)) add ∙ ap (λ xs. meets (meet (state c.args.locator.now) begun) (bodies options xs)) c.deref-option-items.ensures.value
+    ∙ ap (λ o. meets (meet (state c.args.locator.now) begun) (bodies o list.options.items)) same
     )

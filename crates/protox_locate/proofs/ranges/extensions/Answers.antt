@@ -24,8 +24,8 @@ entries-preserved c =
     let step = c.in_ok-extension_range.ensures in
     record {
       located = next_met_at (extension_events path options) after_range (each (extension_events path options) after_range) (λ n x xs. refl)
-      zero entries c.entries.one-index (state c.entries.locator) (state c.extension_range.new.locator) c.entries.count c.extension_range.new.count c.entries-test.true step.located step.counted
-      ∙ c.entries.invariant.located;
+          zero entries c.entries.one-index (state c.entries.locator) (state c.extension_range.new.locator) c.entries.count c.extension_range.new.count c.entries-test.true step.located step.counted
+          ∙ c.entries.invariant.located;
       counted = next_counted_at after_range (fold after_range) (λ n x xs. refl) zero entries c.entries.one-index c.entries.count c.extension_range.new.count c.entries-test.true step.counted ∙ c.entries.invariant.counted;
     }
 
@@ -38,9 +38,9 @@ returns c =
     let all : Count → List ReservedRange → List Event = each (extension_events path options) after_range in
     record {
       located = sym (all_met all (λ n. refl) entries c.entries.one-index (state c.entries.locator) c.entries.count c.entries-test.false)
-      ∙ c.entries.invariant.located
-      ∙ ap (λ xs. meets (state c.statement.new.self) (all c.args.count.now xs)) c.deref-one-items.ensures.value
-      ∙ ap (λ s. meets s (all c.args.count.now made.ranges.items)) c.in_ok-statement.ensures;
+          ∙ c.entries.invariant.located
+          ∙ ap (λ xs. meets (state c.statement.new.self) (all c.args.count.now xs)) c.deref-one-items.ensures.value
+          ∙ ap (λ s. meets s (all c.args.count.now made.ranges.items)) c.in_ok-statement.ensures;
       counted = sym (all_counted (fold after_range) entries c.entries.one-index c.entries.count c.entries-test.false)
-      ∙ c.entries.invariant.counted ∙ ap (fold after_range c.args.count.now) c.deref-one-items.ensures.value;
+          ∙ c.entries.invariant.counted ∙ ap (fold after_range c.args.count.now) c.deref-one-items.ensures.value;
     }

@@ -15,9 +15,9 @@ names-preserved c =
     let step = c.in_ok-reserved_name.ensures in
     record {
       located = next_met (λ n x. name_events path tag n (strings_view x)) (λ n x. after_name n (strings_view x)) (λ n xs. each (name_events path tag) after_name n (map strings_view xs)) (λ n x xs. refl)
-      names c.names.name-index c.name-item.result (state c.names.locator) (state c.reserved_name.new.locator) count c.reserved_name.new.count c.names-test.true c.name-item.is step.located step.counted
-      ∙ c.names.invariant.located;
+          names c.names.name-index c.name-item.result (state c.names.locator) (state c.reserved_name.new.locator) count c.reserved_name.new.count c.names-test.true c.name-item.is step.located step.counted
+          ∙ c.names.invariant.located;
       counted = next_counted (λ n x. after_name n (strings_view x)) (λ n xs. fold after_name n (map strings_view xs)) (λ n x xs. refl)
-      names c.names.name-index c.name-item.result count c.reserved_name.new.count c.names-test.true c.name-item.is step.counted
-      ∙ c.names.invariant.counted;
+          names c.names.name-index c.name-item.result count c.reserved_name.new.count c.names-test.true c.name-item.is step.counted
+          ∙ c.names.invariant.counted;
     }

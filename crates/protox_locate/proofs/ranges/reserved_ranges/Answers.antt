@@ -19,7 +19,7 @@ entries-preserved c =
     let step = c.in_ok-reserved_range.ensures in
     record {
       located = next_met_at (entry_events path tag) after_entry (each (entry_events path tag) after_entry) (λ n x xs. refl)
-      zero entries c.entries.one-index (state c.entries.locator) (state c.reserved_range.new.locator) c.entries.count c.reserved_range.new.count c.entries-test.true step.located step.counted
-      ∙ c.entries.invariant.located;
+          zero entries c.entries.one-index (state c.entries.locator) (state c.reserved_range.new.locator) c.entries.count c.reserved_range.new.count c.entries-test.true step.located step.counted
+          ∙ c.entries.invariant.located;
       counted = next_counted_at after_entry (fold after_entry) (λ n x xs. refl) zero entries c.entries.one-index c.entries.count c.reserved_range.new.count c.entries-test.true step.counted ∙ c.entries.invariant.counted;
     }

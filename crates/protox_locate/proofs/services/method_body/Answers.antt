@@ -23,6 +23,6 @@ returns c =
     let all : Count → List MethodItem → List Event = λ n xs. each (method_item_events c.args.path.now) after_method_item n (map method_item_view xs) in
     let inside_is = sym (all_met all (λ n. refl) items c.items.item-index (state c.items.locator) c.items.options c.items-test.false) ∙ c.items.invariant in
     rw c.in-Some.is (
-      c.in_ok-leave.ensures ∙ ap (λ s. meet s (closing body.braces)) (inside_is ∙ ap (λ xs. meets (state c.args.locator.now) (all none xs)) c.deref-item-items.ensures.value)
-      ∙ sym (meets_append (state c.args.locator.now) (all none body.items.items) (closing body.braces ∷ []))
+    c.in_ok-leave.ensures ∙ ap (λ s. meet s (closing body.braces)) (inside_is ∙ ap (λ xs. meets (state c.args.locator.now) (all none xs)) c.deref-item-items.ensures.value)
+    ∙ sym (meets_append (state c.args.locator.now) (all none body.items.items) (closing body.braces ∷ []))
     )
