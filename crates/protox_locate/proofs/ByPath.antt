@@ -1,6 +1,6 @@
 -- What values show has the order of the values.
 use mathlib.Core.Path.{fun_ext}
-use Rattle.std.proofs.Common.{◌≡◌, ◌⊎◌, inl, inr, ℕ, ◌+◌, ◌<◌, Bool, true, false, Ordering, Less, Equal, Greater, not, ◌&&◌, cond, List, [], ◌∷◌, map, length, slice_index_or, ap, sym, refl, ◌∙◌, arith}
+use Rattle.std.proofs.Common.{◌≡◌, ◌⊎◌, inl, inr, ◌+◌, ◌<◌, Bool, true, false, Ordering, Less, Equal, Greater, not, ◌&&◌, cond, List, [], ◌∷◌, map, length, slice_index_or, ap, sym, refl, ◌∙◌, arith}
 use Rattle.std.proofs.lemmas.Bool.{false≢true}
 use Rattle.std.proofs.lemmas.Cmp.{alike_right}
 use Rattle.std.proofs.lemmas.List.{get_or-map, length-map}

@@ -1,10 +1,10 @@
 -- What is collected one by one are the locations of all that is met.
-use Rattle.std.proofs.Common.{◌≡◌, true, ℕ, zero, suc, ◌+◌, ◌-◌, ◌<◌, List, [], ◌∷◌, ◌++◌, Option, length, ap, sym, refl, ◌∙◌, arith, append_assoc}
+use Rattle.std.proofs.Common.{◌≡◌, true, ℕ, zero, suc, ◌<◌, List, [], ◌∷◌, ◌++◌, Option, length, ap, sym, refl, ◌∙◌, arith, append_assoc}
 use Rattle.std.proofs.lemmas.List.{append-nil, length-append}
 use Rattle.descriptor_records.specs.Content.{LocationContent}
 use Rattle.protox_lex.specs.Class.{Text}
 use Rattle.protox_locate.specs.Collected.{State, behind_gap, led_by, may_trail, meet, meets, notes_before, start, trailed, trailed_at}
-use Rattle.protox_locate.specs.Located.{Event, closing, commented, empty, gap_notes, located, located_from, location, part, statement}
+use Rattle.protox_locate.specs.Located.{Event, closing, empty, gap_notes, located, located_from, location, part, statement}
 use Rattle.protox_locate.specs.declared.gap.Behind.TheVariants as behinds
 use Rattle.protox_locate.specs.declared.locator.Front.{Front}
 use Rattle.protox_locate.specs.declared.locator.Front.TheVariants as fronts

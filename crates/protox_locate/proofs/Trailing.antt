@@ -1,5 +1,5 @@
 -- The location of the statement in front gets its trailing comment.
-use Rattle.std.proofs.Common.{◌≡◌, ℕ, zero, suc, ◌<◌, ◌≤◌, List, [], ◌∷◌, Option, String, Global, map, length, get_or, ap, sym, ◌∙◌, refl, arith}
+use Rattle.std.proofs.Common.{◌≡◌, ℕ, zero, suc, ◌<◌, ◌≤◌, List, [], ◌∷◌, Option, String, Global, map, length, get_or, ap, refl, arith}
 use Rattle.std.proofs.Math.ListN.{set}
 use Rattle.descriptor_records.specs.Content.{LocationContent, location_view, text_view}
 use Rattle.descriptor_records.specs.declared.source_info.Location.{Location}

@@ -1,5 +1,5 @@
 -- The locations that are collected of a source, one by one.
-use Rattle.std.specs.Prelude.{ℕ, zero, suc, ◌-◌, Bool, true, false, List, [], ◌∷◌, ◌++◌, length, map, Option, None}
+use Rattle.std.specs.Prelude.{ℕ, zero, suc, ◌-◌, Bool, true, false, List, [], ◌∷◌, ◌++◌, length, map, Option}
 use Rattle.std.specs.List.{fold}
 use Rattle.descriptor_records.specs.Content.{LocationContent, location_view}
 use Rattle.protox_lex.specs.Class.{Text}

@@ -8,7 +8,6 @@ use Rattle.descriptor_records.specs.declared.tag.extension_range.TheConstants as
 use Rattle.descriptor_records.specs.declared.tag.field.TheConstants as fields
 use Rattle.descriptor_records.specs.declared.tag.message.TheConstants as messages
 use Rattle.descriptor_records.specs.declared.tag.oneof.TheConstants as oneofs
-use Rattle.protox_lex.specs.declared.literal.Int.{Int}
 use Rattle.protox_lex.specs.declared.span.Span.{Span}
 use Rattle.protox_locate.specs.Declarations.{after_reserved, each, entry, enum_events, field_list_events, list_events, more, no_lists, none, option_events, part_if, range_events, reserved_events}
 use Rattle.protox_locate.specs.Located.{Event, Path, closing, empty, inside, part, statement}
@@ -17,9 +16,9 @@ use Rattle.protox_locate.specs.declared.messages.OneofCounts.{OneofCounts}
 use Rattle.protox_locate.specs.declared.slot.Count.{Count}
 use Rattle.protox_locate.specs.declared.slot.FieldCounts.{FieldCounts}
 use Rattle.protox_locate.specs.declared.slot.FieldTags.{FieldTags}
-use Rattle.protox_tree.specs.Nest.{Added, AddedItem, Extend, Extensions, Field, Group, Item, Items, Kind, MapType, Member, Members, Message, Oneof, a_group, added_empty, added_field, extend, field, group, item_empty, item_enum, item_extend, item_extensions, item_field, item_message, item_oneof, item_option, item_reserved, map_kind, member_empty, member_field, member_option, message, more_added, more_items, more_members, no_items, no_members, none_added, normal, oneof}
+use Rattle.protox_tree.specs.Nest.{Added, AddedItem, Extend, Extensions, Field, Group, Item, Items, Kind, Member, Members, Message, Oneof, a_group, added_empty, added_field, extend, field, group, item_empty, item_enum, item_extend, item_extensions, item_field, item_message, item_oneof, item_option, item_reserved, map_kind, member_empty, member_field, member_option, message, more_added, more_items, more_members, no_items, no_members, none_added, normal, oneof}
 use Rattle.protox_tree.specs.Places.{type_name_span}
-use Rattle.protox_tree.specs.Tree.{OptionList, Ty, Word, named, scalar}
+use Rattle.protox_tree.specs.Tree.{OptionList, Ty, named, scalar}
 use Rattle.protox_tree.specs.declared.range.ReservedRange.{ReservedRange}
 
 -- ---- extension ranges

@@ -1,12 +1,12 @@
-use Rattle.std.proofs.Common.{◌≡◌, ◌∷◌, [], ◌++◌, List, map, ap, sym, subst, ◌∙◌, refl, rules}
+use Rattle.std.proofs.Common.{◌∷◌, [], List, map, ap, sym, ◌∙◌, refl}
 use Rattle.descriptor_records.specs.declared.tag.enumeration.TheConstants as enums
 use Rattle.protox_locate.specs.Declarations.{after_enum_item, each, enum_item_events, no_values}
-use Rattle.protox_locate.specs.Collected.{meet, meets, state}
+use Rattle.protox_locate.specs.Collected.{meets, state}
 use Rattle.protox_locate.specs.Located.{Event, closing, inside, part, statement}
 use Rattle.protox_locate.specs.declared.enums.EnumCounts.{EnumCounts}
 use Rattle.protox_tree.specs.View.{enum_item_view}
 use Rattle.protox_tree.specs.declared.enumeration.EnumItem.{EnumItem}
-use Rattle.protox_locate.proofs.Meets.{all_met, braced, meets_append, next_met}
+use Rattle.protox_locate.proofs.Meets.{all_met, braced, next_met}
 use Rattle.protox_locate.proofs.enums.enumeration.Goals as goal
 
 pub items-preserved : goal.items-preserved

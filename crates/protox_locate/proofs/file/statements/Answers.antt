@@ -1,12 +1,12 @@
-use Rattle.std.proofs.Common.{◌≡◌, ◌∷◌, [], ◌++◌, List, map, ap, sym, subst, ◌∙◌, refl, rules}
+use Rattle.std.proofs.Common.{◌∷◌, [], List, map, ap, sym, ◌∙◌, refl}
 use Rattle.protox_locate.specs.Declarations.{each}
-use Rattle.protox_locate.specs.Collected.{meet, meets, state}
-use Rattle.protox_locate.specs.Located.{Event, closing, inside, part, statement}
+use Rattle.protox_locate.specs.Collected.{meets, state}
+use Rattle.protox_locate.specs.Located.{Event, part}
 use Rattle.protox_locate.specs.Files.{after_item, item_events, no_counts, syntax_events}
 use Rattle.protox_locate.specs.declared.file.FileCounts.{FileCounts}
 use Rattle.protox_tree.specs.FileView.{file_item_view, file_view}
 use Rattle.protox_tree.specs.declared.file.FileItem.{FileItem}
-use Rattle.protox_locate.proofs.Meets.{all_met, braced, meets_append, next_met}
+use Rattle.protox_locate.proofs.Meets.{all_met, meets_append, next_met}
 use Rattle.protox_locate.proofs.file.statements.Goals as goal
 
 pub items-preserved : goal.items-preserved

@@ -1,4 +1,4 @@
-use Rattle.std.proofs.Common.{◌≡◌, ◌∙◌, ◌∷◌, [], ◌++◌, List, map, ap, sym, refl, rules}
+use Rattle.std.proofs.Common.{◌≡◌, ◌∙◌, ◌∷◌, [], List, map, ap, sym, refl, rules}
 use Rattle.descriptor_records.specs.declared.tag.message.TheConstants as messages
 use Rattle.descriptor_records.specs.declared.tag.oneof.TheConstants as oneofs
 use Rattle.protox_lex.specs.declared.span.Span.{Span}
@@ -10,7 +10,7 @@ use Rattle.protox_locate.specs.declared.messages.MessageCounts.{MessageCounts}
 use Rattle.protox_locate.specs.declared.messages.OneofCounts.{OneofCounts}
 use Rattle.protox_locate.specs.declared.slot.FieldCounts.{FieldCounts}
 use Rattle.protox_tree.specs.Nest.{added_of, items_of, members_of}
-use Rattle.protox_tree.specs.NestView.{added_view, extend_view, field_view, group_view, item_view, member_view, message_view, oneof_view}
+use Rattle.protox_tree.specs.NestView.{added_view, field_view, group_view, item_view, member_view}
 use Rattle.protox_tree.specs.Places.{type_name_span}
 use Rattle.protox_tree.specs.View.{type_name_view}
 use Rattle.protox_tree.specs.declared.message.ExtendItem.{ExtendItem}

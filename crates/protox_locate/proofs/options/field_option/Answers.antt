@@ -2,7 +2,7 @@ use Rattle.std.proofs.Common.{◌≡◌, ◌∷◌, [], true, false, if◌then�
 use Rattle.std.specs.Prelude.{OnOk}
 use Rattle.descriptor_records.specs.declared.tag.field.TheConstants as fields
 use Rattle.protox_locate.specs.Collected.{meets, state}
-use Rattle.protox_locate.specs.Declarations.{body_events, field_option_events}
+use Rattle.protox_locate.specs.Declarations.{body_events}
 use Rattle.protox_locate.specs.Located.{Event, Path, part}
 use Rattle.protox_locate.specs.declared.slot.Count.{Count}
 use Rattle.protox_tree.specs.Places.{value_span}

@@ -1,12 +1,12 @@
-use Rattle.std.proofs.Common.{◌≡◌, ◌∷◌, [], ◌++◌, List, map, ap, sym, subst, ◌∙◌, refl, rules}
+use Rattle.std.proofs.Common.{◌≡◌, ◌∷◌, [], List, map, ap, sym, subst, ◌∙◌, refl, rules}
 use Rattle.descriptor_records.specs.declared.tag.field.TheConstants as fields
 use Rattle.protox_locate.specs.Declarations.{after_field_option, each, field_option_events, inner_span, none}
 use Rattle.protox_locate.specs.Collected.{meet, meets, state}
-use Rattle.protox_locate.specs.Located.{Event, closing, inside, part, statement}
+use Rattle.protox_locate.specs.Located.{Event, part}
 use Rattle.protox_locate.specs.declared.slot.Count.{Count}
 use Rattle.protox_tree.specs.View.{body_view, option_list_view}
 use Rattle.protox_tree.specs.declared.option.OptionBody.{OptionBody}
-use Rattle.protox_locate.proofs.Meets.{all_met, braced, meets_append, next_met}
+use Rattle.protox_locate.proofs.Meets.{all_met, next_met}
 use Rattle.protox_locate.proofs.options.field_options.Goals as goal
 
 pub bodies-preserved : goal.bodies-preserved

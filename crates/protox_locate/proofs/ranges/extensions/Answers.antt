@@ -1,4 +1,4 @@
-use Rattle.std.proofs.Common.{◌≡◌, ◌∙◌, List, ap, false, refl, sym}
+use Rattle.std.proofs.Common.{◌∙◌, List, ap, false, refl, sym}
 use Rattle.std.specs.List.{fold}
 use Rattle.std.specs.Prelude.{option_map}
 use Rattle.protox_locate.specs.Collected.{meets, state}

@@ -1,4 +1,4 @@
-use Rattle.std.proofs.Common.{◌≡◌, ◌∙◌, false, refl, to_z, of_z, w32}
+use Rattle.std.proofs.Common.{◌∙◌, false, refl, to_z, of_z, w32}
 use Rattle.std.specs.List.{fold}
 use Rattle.protox_locate.specs.Collected.{state}
 use Rattle.protox_locate.specs.Declarations.{after_entry, each, entry_events}

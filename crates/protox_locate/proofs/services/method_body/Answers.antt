@@ -1,11 +1,11 @@
-use Rattle.std.proofs.Common.{◌≡◌, ◌∷◌, [], ◌++◌, List, map, ap, sym, subst, ◌∙◌, refl, rules}
+use Rattle.std.proofs.Common.{◌∷◌, [], List, map, ap, sym, ◌∙◌, refl}
 use Rattle.protox_locate.specs.Declarations.{after_method_item, each, method_item_events, none}
 use Rattle.protox_locate.specs.Collected.{meet, meets, state}
-use Rattle.protox_locate.specs.Located.{Event, closing, inside, part, statement}
+use Rattle.protox_locate.specs.Located.{Event, closing}
 use Rattle.protox_locate.specs.declared.slot.Count.{Count}
 use Rattle.protox_tree.specs.View.{method_item_view}
 use Rattle.protox_tree.specs.declared.service.MethodItem.{MethodItem}
-use Rattle.protox_locate.proofs.Meets.{all_met, braced, meets_append, next_met}
+use Rattle.protox_locate.proofs.Meets.{all_met, meets_append, next_met}
 use Rattle.protox_locate.proofs.services.method_body.Goals as goal
 
 pub items-preserved : goal.items-preserved

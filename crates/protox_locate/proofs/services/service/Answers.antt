@@ -1,12 +1,12 @@
-use Rattle.std.proofs.Common.{◌≡◌, ◌∷◌, [], ◌++◌, List, map, ap, sym, subst, ◌∙◌, refl, rules}
+use Rattle.std.proofs.Common.{◌∷◌, [], List, map, ap, sym, ◌∙◌, refl}
 use Rattle.descriptor_records.specs.declared.tag.service.TheConstants as services
 use Rattle.protox_locate.specs.Declarations.{after_service_item, each, no_methods, service_item_events}
-use Rattle.protox_locate.specs.Collected.{meet, meets, state}
+use Rattle.protox_locate.specs.Collected.{meets, state}
 use Rattle.protox_locate.specs.Located.{Event, closing, inside, part, statement}
 use Rattle.protox_locate.specs.declared.services.ServiceCounts.{ServiceCounts}
 use Rattle.protox_tree.specs.View.{service_item_view}
 use Rattle.protox_tree.specs.declared.service.ServiceItem.{ServiceItem}
-use Rattle.protox_locate.proofs.Meets.{all_met, braced, meets_append, next_met}
+use Rattle.protox_locate.proofs.Meets.{all_met, braced, next_met}
 use Rattle.protox_locate.proofs.services.service.Goals as goal
 
 pub items-preserved : goal.items-preserved

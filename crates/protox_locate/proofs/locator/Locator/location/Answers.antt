@@ -1,4 +1,4 @@
-use Rattle.std.proofs.Common.{◌≡◌, ℕ, ℤ, List, [], ◌++◌, None, map, ap, ◌∙◌, string_bytes}
+use Rattle.std.proofs.Common.{ℕ, ℤ, List, ◌++◌, None, map, ap, ◌∙◌, string_bytes}
 use Rattle.descriptor_records.specs.Content.{LocationContent}
 use Rattle.protox_lex.specs.Lines.{span_at}
 use Rattle.protox_lex.specs.Resolver.{feeds}
