@@ -13,7 +13,8 @@ use Rattle.protox_locate.specs.declared.gap.Behind.TheVariants as behinds
 abbrev pub Path : Type 0
 Path = List ℤ
 
--- What is met in a source, in its order. The place of each is told by the path of a record and by what leads on from there.
+-- What is met in a source, in its order. The place of each is told by the path of a record and by
+-- what leads on from there.
 pub data Event : Type 0 where
   -- a part of a statement
   part : Path → Path → Span → Event
@@ -61,9 +62,12 @@ gap_end size (statement path tail span end ∷ es) = (span.start, behinds.Statem
 gap_end size (closing braces ∷ es) = (braces.end - 1, behinds.Brace)
 gap_end size (empty span ∷ es) = (span.start, behinds.Statement)
 
--- the comments of the gap that begins here, in front of these; one of them may trail what stands before it, or not
+-- the comments of the gap that begins here, in front of these; the first may trail what stands
+-- before it, or not
 abbrev pub gap_notes : Text → ℕ → Bool → List Event → Notes
-gap_notes z from may_trail es = comments_in (between z from (gap_end (length z) es).0) may_trail (gap_end (length z) es).1
+gap_notes z from may_trail es =
+    let end = gap_end (length z) es in
+    comments_in (between z from end.0) may_trail end.1
 
 -- ---- locations
 
@@ -75,15 +79,18 @@ commented before behind l = record l {
   leading_detached_comments = before.detached;
 }
 
--- The locations of what is met behind a place, where a gap begins, whose first comment may trail what stands before it, or not. Parts
--- have no comments. Behind a statement's semicolon or opening brace comments may trail, behind a closing brace none. An empty
--- statement has no location, so a comment that trails it is dropped.
+-- The locations of what is met behind a place, where a gap begins, whose first comment may trail
+-- what stands before it, or not. Parts have no comments. Behind a statement's semicolon or opening
+-- brace a comment may trail, behind a closing brace none. An empty statement has no location, so a
+-- comment that trails it is dropped.
 abbrev pub located_from : Text → List ℕ → ℕ → Bool → List Event → List LocationContent
 located_from z feeds from may_trail [] = []
-located_from z feeds from may_trail (part path tail span ∷ es) = location feeds path tail span ∷ located_from z feeds from may_trail es
+located_from z feeds from may_trail (part path tail span ∷ es) =
+    location feeds path tail span ∷ located_from z feeds from may_trail es
 located_from z feeds from may_trail (statement path tail span end ∷ es) =
-    commented (gap_notes z from may_trail (statement path tail span end ∷ es)) (gap_notes z end true es) (location feeds path tail span)
-    ∷ located_from z feeds end true es
+    let before = gap_notes z from may_trail (statement path tail span end ∷ es) in
+    let behind = gap_notes z end true es in
+    commented before behind (location feeds path tail span) ∷ located_from z feeds end true es
 located_from z feeds from may_trail (closing braces ∷ es) = located_from z feeds braces.end false es
 located_from z feeds from may_trail (empty span ∷ es) = located_from z feeds span.end true es
 
