@@ -1,3 +1,8 @@
+ghost use Rattle.std.specs.Prelude.{◌≡◌, OnOk};
+ghost use Rattle.protox_locate.specs.Declarations as spec;
+ghost use Rattle.protox_locate.specs.Collected.{meets, state};
+ghost use Rattle.protox_tree.specs.View.{enum_item_view, enum_value_view, enum_view};
+
 use crate::locator::Locator;
 use crate::options::{option_list, option_statement};
 use crate::ranges::{ReservedLists, reserved};
@@ -6,50 +11,86 @@ use descriptor_records::tag;
 use protox_tree::{Enum, EnumItem, EnumValue};
 use std::alloc::AllocError;
 
+/// How many entries the lists of an enum's record have so far.
+#[derive(Clone, Copy)]
+struct EnumCounts {
+    values: Count,
+    options: Count,
+    lists: ReservedLists,
+}
+
+impl EnumCounts {
+    fn new() -> EnumCounts
+        ensures { result ≡ spec.no_values }
+    {
+        let (ranges, names) = (
+            tag::enumeration::RESERVED_RANGE,
+            tag::enumeration::RESERVED_NAME,
+        );
+        EnumCounts {
+            values: Count::new(),
+            options: Count::new(),
+            lists: ReservedLists::new(ranges, names),
+        }
+    }
+}
+
 /// The locations of an enum whose record stands at a path.
 pub fn enumeration(
     locator: &mut Locator<'_>,
     path: &[i32],
     statement: &Enum,
-) -> Result<(), AllocError> {
-    let place = locator.begin(path, &[], statement.span)?;
+) -> Result<(), AllocError>
+    ensures { OnOk result (state locator.new ≡ meets (state locator.old) (spec.enum_events path.now (enum_view statement.now))) }
+{
+    locator.enter(path, &[], statement.span, statement.braces)?;
     locator.add(path, &[tag::enumeration::NAME], statement.name.span)?;
-    locator.enter(place, statement.braces);
-    let mut values = Count::new();
-    let mut options = Count::new();
-    let mut lists = ReservedLists::new(
-        tag::enumeration::RESERVED_RANGE,
-        tag::enumeration::RESERVED_NAME,
-    );
-    for item in &statement.items {
-        match item {
-            EnumItem::Value(one) => value(locator, path, values.next(), one)?,
-            EnumItem::Option(option) => {
-                option_statement(
-                    locator,
-                    path,
-                    tag::enumeration::OPTIONS,
-                    &mut options,
-                    option,
-                )?;
-            }
-            EnumItem::Reserved(statement) => reserved(locator, path, &mut lists, statement)?,
-            EnumItem::Empty(span) => locator.pass(*span)?,
-        }
+    let mut counts = EnumCounts::new();
+    'items: for item in &statement.items {
+        enum_item(locator, path, &mut counts, item)?;
     }
-    locator.leave(statement.braces)
+    locator.leave(statement.braces)?;
+    Ok(())
 }
 
-fn value(
+fn enum_item(
     locator: &mut Locator<'_>,
     path: &[i32],
-    place: i32,
-    value: &EnumValue,
-) -> Result<(), AllocError> {
-    let at = locator.entry(path, tag::enumeration::VALUE, place)?;
-    let path = at.as_slice();
+    counts: &mut EnumCounts,
+    item: &EnumItem,
+) -> Result<(), AllocError>
+    ensures located { OnOk result (state locator.new ≡ meets (state locator.old) (spec.enum_item_events path.now counts.old (enum_item_view item.now))) }
+    ensures counted { OnOk result (counts.new ≡ spec.after_enum_item counts.old (enum_item_view item.now)) }
+{
+    match item {
+        EnumItem::Value(one) => {
+            let place = counts.values.next();
+            let at = locator.entry(path, tag::enumeration::VALUE, place)?;
+            value(locator, at.as_slice(), one)?;
+            Ok(())
+        }
+        EnumItem::Option(option) => {
+            let options = tag::enumeration::OPTIONS;
+            option_statement(locator, path, options, &mut counts.options, option)?;
+            Ok(())
+        }
+        EnumItem::Reserved(statement) => {
+            reserved(locator, path, &mut counts.lists, statement)?;
+            Ok(())
+        }
+        EnumItem::Empty(span) => {
+            locator.pass(*span)?;
+            Ok(())
+        }
+    }
+}
+
+fn value(locator: &mut Locator<'_>, path: &[i32], value: &EnumValue) -> Result<(), AllocError>
+    ensures { OnOk result (state locator.new ≡ meets (state locator.old) (spec.value_events path.now (enum_value_view value.now))) }
+{
     locator.statement(path, &[], value.span)?;
     locator.add(path, &[tag::enum_value::NAME], value.name.span)?;
     locator.add(path, &[tag::enum_value::NUMBER], value.number.span)?;
-    option_list(locator, path, tag::enum_value::OPTIONS, &value.options)
+    option_list(locator, path, tag::enum_value::OPTIONS, &value.options)?;
+    Ok(())
 }

@@ -1,6 +1,6 @@
 //! Where the parts of a source stand, with the comments of its statements, as `SourceCodeInfo` of protobuf's
 //! `descriptor.proto` says.
-#![tactic(auto)]
+#![tactic(auto, using(crate::proofs::Meets::meets_append))]
 
 mod enums;
 mod fields;

@@ -1,3 +1,12 @@
+ghost use Rattle.std.specs.Prelude.{◌≡◌, ◌++◌, ◌∷◌, [], IfOk, OnOk, length, map};
+ghost use Rattle.descriptor_records.specs.Content.{location_view, text_view, texts_view};
+ghost use Rattle.protox_lex.specs.Resolver.{feeds};
+ghost use Rattle.protox_locate.specs.declared.gap.Behind.TheVariants.{End};
+ghost use Rattle.protox_locate.specs.Declarations.{part_if};
+ghost use Rattle.protox_locate.specs.Files.{AreByPath};
+ghost use Rattle.protox_locate.specs.Collected as spec;
+ghost use Rattle.protox_locate.specs.Located as located;
+
 use crate::gap::{Behind, GapComments, gap_comments};
 use descriptor_records::{Location, join_path};
 use protox_lex::{LineResolver, Span};
@@ -31,7 +40,9 @@ const LAST_OFFSET: usize = 0x7fff_ffff;
 
 impl<'a> Locator<'a> {
     /// No locations yet of a source whose lines are these. Takes no memory.
-    pub fn new(alloc: Global, source: &'a str, lines: &'a LineResolver) -> Locator<'a> {
+    pub fn new(alloc: Global, source: &'a str, lines: &'a LineResolver) -> Locator<'a>
+        ensures { spec.state result ≡ spec.start source.now (feeds lines.now) }
+    {
         Locator {
             alloc,
             source: source.as_bytes(),
@@ -43,65 +54,107 @@ impl<'a> Locator<'a> {
     }
 
     /// The path of the entry of a list in the record at a path.
-    pub fn entry(&self, path: &[i32], tag: i32, place: i32) -> Result<Vec<i32>, AllocError> {
+    pub fn entry(&self, path: &[i32], tag: i32, place: i32) -> Result<Vec<i32>, AllocError>
+        ensures { IfOk result (λ at. at.items ≡ path.now ++ tag ∷ place ∷ []) }
+    {
         join_path(self.alloc, path, &[tag, place])
     }
 
-    /// Adds the location of a part that has no comments: what `tail` leads to from the record at `path`.
-    pub fn add(&mut self, path: &[i32], tail: &[i32], span: Span) -> Result<(), AllocError> {
+    /// The location of what `tail` leads to from the record at `path`, without comments.
+    fn location(&self, path: &[i32], tail: &[i32], span: Span) -> Result<Location, AllocError>
+        ensures { IfOk result (λ made. location_view made ≡ located.location (feeds self.now.lines.now) path.now tail.now span) }
+    {
         let span = Span {
             start: span.start.min(LAST_OFFSET),
             end: span.end.min(LAST_OFFSET),
         };
-        self.locations.push(Location {
+        Ok(Location {
             path: join_path(self.alloc, path, tail)?,
             span: self.lines.resolve_span(self.alloc, span)?,
             leading_comments: None,
             trailing_comments: None,
             leading_detached_comments: Vec::new(self.alloc),
-        })?;
+        })
+    }
+
+    /// Adds the location of a part that has no comments: what `tail` leads to from the record at `path`.
+    pub fn add(&mut self, path: &[i32], tail: &[i32], span: Span) -> Result<(), AllocError>
+        ensures { OnOk result (spec.state self.new ≡ spec.meet (spec.state self.old) (located.part path.now tail.now span)) }
+    {
+        let location = self.location(path, tail, span)?;
+        self.locations.push(location)?;
         Ok(())
     }
 
-    /// Adds the location of a statement, with the comments in front of it. The answer is its place among the locations.
-    pub fn begin(&mut self, path: &[i32], tail: &[i32], span: Span) -> Result<usize, AllocError> {
-        let (detached, leading) = self.read_gap(span.start, Behind::Statement)?;
-        let place = self.locations.len();
-        self.add(path, tail, span)?;
-        if let Some(location) = self.locations.last_mut() {
-            location.leading_detached_comments = detached;
-            location.leading_comments = leading;
+    /// Adds the location of a part that may be left out.
+    pub fn add_some(
+        &mut self,
+        path: &[i32],
+        tail: &[i32],
+        span: Option<Span>,
+    ) -> Result<(), AllocError>
+        ensures { OnOk result (spec.state self.new ≡ spec.meets (spec.state self.old) (part_if path.now tail.now span)) }
+    {
+        match span {
+            Some(span) => self.add(path, tail, span),
+            None => Ok(()),
         }
-        Ok(place)
     }
 
-    /// The statement at a place ends with the semicolon that ends here.
-    pub fn end(&mut self, place: usize, end: usize) {
+    /// Adds the location of a statement whose semicolon or opening brace ends at `end`, with the comments in front of it.
+    fn begin(
+        &mut self,
+        path: &[i32],
+        tail: &[i32],
+        span: Span,
+        end: usize,
+    ) -> Result<(), AllocError>
+        ensures { OnOk result (spec.state self.new ≡ spec.meet (spec.state self.old) (located.statement path.now tail.now span end)) }
+    {
+        let (detached, leading) = self.read_gap(span.start, Behind::Statement)?;
+        let mut location = self.location(path, tail, span)?;
+        location.leading_detached_comments = detached;
+        location.leading_comments = leading;
+        let place = self.locations.len();
+        self.locations.push(location)?;
         self.gap_start = end;
         self.front = Front::Statement(place);
+        Ok(())
     }
 
     /// Adds the location of a statement that ends with a semicolon.
-    pub fn statement(&mut self, path: &[i32], tail: &[i32], span: Span) -> Result<(), AllocError> {
-        let place = self.begin(path, tail, span)?;
-        self.end(place, span.end);
-        Ok(())
+    pub fn statement(&mut self, path: &[i32], tail: &[i32], span: Span) -> Result<(), AllocError>
+        ensures { OnOk result (spec.state self.new ≡ spec.meet (spec.state self.old) (located.statement path.now tail.now span span.end)) }
+    {
+        self.begin(path, tail, span, span.end)
     }
 
-    /// What stands in the braces of the statement at a place comes next.
-    pub fn enter(&mut self, place: usize, braces: Span) {
-        self.end(place, braces.start.saturating_add(1));
+    /// Adds the location of a statement with braces. What stands in these comes next.
+    pub fn enter(
+        &mut self,
+        path: &[i32],
+        tail: &[i32],
+        span: Span,
+        braces: Span,
+    ) -> Result<(), AllocError>
+        ensures { OnOk result (spec.state self.new ≡ spec.meet (spec.state self.old) (located.statement path.now tail.now span (located.inside braces))) }
+    {
+        self.begin(path, tail, span, braces.start.min(LAST_OFFSET) + 1)
     }
 
     /// What stands in the braces was met.
-    pub fn leave(&mut self, braces: Span) -> Result<(), AllocError> {
+    pub fn leave(&mut self, braces: Span) -> Result<(), AllocError>
+        ensures { OnOk result (spec.state self.new ≡ spec.meet (spec.state self.old) (located.closing braces)) }
+    {
         self.read_gap(braces.end.saturating_sub(1), Behind::Brace)?;
         self.gap_start = braces.end;
         Ok(())
     }
 
     /// An empty statement has no location, and comments in front of it and behind it are no statement's.
-    pub fn pass(&mut self, empty: Span) -> Result<(), AllocError> {
+    pub fn pass(&mut self, empty: Span) -> Result<(), AllocError>
+        ensures { OnOk result (spec.state self.new ≡ spec.meet (spec.state self.old) (located.empty empty)) }
+    {
         self.read_gap(empty.start, Behind::Statement)?;
         self.gap_start = empty.end;
         self.front = Front::Empty;
@@ -114,36 +167,50 @@ impl<'a> Locator<'a> {
         &mut self,
         end: usize,
         behind: Behind,
-    ) -> Result<(Vec<String>, Option<String>), AllocError> {
-        let bytes = self.source.get(self.gap_start..end).unwrap_or(&[]);
+    ) -> Result<(Vec<String>, Option<String>), AllocError>
+        ensures read { OnOk result (spec.state self.new ≡ spec.behind_gap (spec.state self.old) end behind) }
+        ensures detached { IfOk result (λ left. texts_view left.0 ≡ (spec.notes_before (spec.state self.old) end behind).detached) }
+        ensures leading { IfOk result (λ left. text_view left.1 ≡ (spec.notes_before (spec.state self.old) end behind).leading) }
+    {
         let may_trail = !matches!(self.front, Front::Nothing);
+        let bytes = gap(self.source, self.gap_start, end);
         let GapComments {
             trailing,
             detached,
             leading,
         } = gap_comments(self.alloc, bytes, may_trail, behind)?;
         if let Front::Statement(place) = self.front {
-            if let Some(location) = self.locations.get_mut(place) {
-                location.trailing_comments = trailing;
-            }
+            self.trail(place, trailing);
         }
         self.front = Front::Nothing;
         Ok((detached, leading))
     }
 
+    /// Gives the location at a place this trailing comment.
+    fn trail(&mut self, place: usize, comment: Option<String>)
+        ensures { spec.state self.new ≡ record (spec.state self.old) { locations = spec.trailed_at place (text_view comment) (spec.state self.old).locations } }
+    {
+        if let Some(location) = self.locations.get_mut(place) {
+            location.trailing_comments = comment;
+        }
+    }
+
     /// All locations, by path, those of one path in source order.
-    pub fn finish(mut self) -> Result<Vec<Location>, AllocError> {
+    pub fn finish(mut self) -> Result<Vec<Location>, AllocError>
+        ensures { let old = spec.state self.entry in
+            IfOk result (λ made. AreByPath (spec.behind_gap old (length old.source) End).locations (map location_view made.items)) }
+    {
         let end = self.source.len();
         self.read_gap(end, Behind::End)?;
-        let Locator {
-            alloc: _,
-            source: _,
-            lines: _,
-            mut locations,
-            gap_start: _,
-            front: _,
-        } = self;
+        let mut locations = self.locations;
         locations.sort_by(|a, b| a.path.cmp(&b.path))?;
         Ok(locations)
     }
+}
+
+/// The bytes between two places, or none where these are no places of the text, or not in this order.
+fn gap(source: &[u8], from: usize, to: usize) -> &[u8]
+    ensures { result.now ≡ located.between source.now from to }
+{
+    source.get(from..to).unwrap_or(&[])
 }

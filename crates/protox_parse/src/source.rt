@@ -5,9 +5,8 @@ ghost use Rattle.descriptor_records.specs.Content.{file_view};
 ghost use Rattle.protox_check.specs.Faults as checks;
 ghost use Rattle.protox_lex.specs.Lines.{feeds_of};
 ghost use Rattle.protox_lex.specs.Resolver.{feeds};
-ghost use Rattle.protox_parse.specs.Answers.{HasFaults, IsAnswered, without_places};
+ghost use Rattle.protox_parse.specs.Answers.{HasFaults, IsAnswered, IsRecordOf};
 ghost use Rattle.protox_parse.specs.Refusals.{IsRefusalOf, faults_of};
-ghost use Rattle.protox_record.specs.FileRecords.{IsFile};
 ghost use Rattle.protox_tree.specs.FileView as trees;
 ghost use Rattle.protox_tree.specs.declared.error.ParseErrorKind.TheVariants.{FileTooLarge};
 ghost use Rattle.protox_parse.specs.declared.error.ParseError.TheVariants.{Memory};
@@ -62,7 +61,7 @@ fn described(
     requires { feeds lines.now ≡ feeds_of source.now }
     ensures named { IfOk result (λ file. option_map string_bytes file.name ≡ Some name.now) }
     ensures refused { IfErr result (λ e. (e ≡ Memory) ⊎ IsRefusalOf name.now source.now e) }
-    ensures recorded { IfOk result (λ made. IsFile name.now file.now (without_places (file_view made))) }
+    ensures recorded { IfOk result (λ made. IsRecordOf name.now source.now file.now (file_view made)) }
     ensures faultless { IfOk result (λ _. checks.faults_of (trees.file_view file.now) ≡ []) }
     ensures faulty { IfErr result (λ e. (e ≡ Memory) ⊎ HasFaults (trees.file_view file.now) (faults_of e)) }
 {
