@@ -1,12 +1,11 @@
 //! Why a source is refused.
 
-ghost use Rattle.std.specs.Prelude.{◌≡◌, ◌<◌, IfOk, Some, option_map, string_bytes, vec_len};
+ghost use Rattle.std.specs.Prelude.{◌≡◌, ◌<◌, IfOk, option_map, string_bytes, vec_len};
 
 use protox_lex::{LineResolver, Span};
 use protox_tree::ParseErrorKind;
 use std::alloc::{AllocError, AllocFailed, Global};
 use std::error::Error;
-use std::fmt;
 
 /// Why a source has no record.
 #[derive(Drop)]
@@ -115,38 +114,6 @@ impl ParseError {
             ParseError::Memory => &[],
             ParseError::Refused(refusal) => refusal.faults.as_slice(),
         }
-    }
-}
-
-/// The text of the first fault.
-impl fmt::Display for ParseError {
-    ghost use Rattle.protox_parse.specs.Refusals.{told};
-
-    ghost output = { λ e. Some (told e) };
-
-    fn fmt<W: fmt::Write>(&self, f: &mut fmt::Formatter<W>) -> fmt::Result {
-        match self {
-            ParseError::Memory => f.write_str("out of memory"),
-            ParseError::Refused(refusal) => write!(f, "{}", refusal.faults[0]),
-        }
-    }
-}
-
-/// The file, the line and column from 1 where the first fault has a place, and its text.
-impl fmt::Debug for ParseError {
-    ghost use Rattle.protox_parse.specs.Refusals.{told_at};
-
-    ghost debug_output = { λ e. Some (told_at e) };
-
-    fn fmt<W: fmt::Write>(&self, f: &mut fmt::Formatter<W>) -> fmt::Result {
-        if let ParseError::Refused(refusal) = self {
-            write!(f, "{}:", refusal.file)?;
-            if let Some((line, column)) = refusal.position {
-                write!(f, "{}:{}:", i64::from(line) + 1, i64::from(column) + 1)?;
-            }
-            f.write_str(" ")?;
-        }
-        write!(f, "{self}")
     }
 }
 

@@ -2,6 +2,7 @@
 #![tactic(auto)]
 
 mod error;
+mod error_text;
 pub mod laws;
 mod source;
 
