@@ -1,6 +1,7 @@
 -- What the refusal of a source tells.
-use Rattle.std.specs.Prelude.{◌≡◌, ◌^◌, ℕ, ℤ, pos, List, [], if◌then◌else◌, nat_lt, Option, None, Some, codes, slice_get, string_bytes}
+use Rattle.std.specs.Prelude.{◌≡◌, ◌^◌, ℕ, ℤ, pos, ◌+ℤ◌, List, [], ◌++◌, if◌then◌else◌, nat_lt, Option, None, Some, codes, slice_get, string_bytes}
 use Rattle.std.specs.Borrow.{Bor}
+use Rattle.std.specs.Fmt.{signed_decimal}
 use Rattle.std.specs.Option.{option_and_then}
 use Rattle.protox_lex.specs.Class.{Text}
 use Rattle.protox_lex.specs.Lines.{feeds_of, line_at, column_at}
@@ -58,3 +59,13 @@ said_first (Some kind) = said kind
 
 abbrev pub told : ParseError → List ℕ
 told e = said_first (first_fault e)
+
+-- a line and a column from 1, with a colon behind each
+abbrev pub place_text : Option (ℤ × ℤ) → List ℕ
+place_text None = []
+place_text (Some at) = signed_decimal (at.0 +ℤ pos 1) ++ (codes ":" ++ (signed_decimal (at.1 +ℤ pos 1) ++ codes ":"))
+
+-- the same behind the file and the place
+abbrev pub told_at : ParseError → List ℕ
+told_at Memory = told Memory
+told_at (Refused r) = (string_bytes r.file ++ codes ":") ++ (place_text r.position ++ (codes " " ++ told (Refused r)))
