@@ -1,6 +1,6 @@
 ghost use Rattle.std.specs.Prelude.{◌≡◌, ◌⊎◌, option_map};
-ghost use Rattle.std.specs.Fmt.{DisplaysOnOk};
-ghost use Rattle.schema_core.specs.Texts.{said};
+ghost use Rattle.std.specs.Fmt.{DisplaysOnOk, WritesOnOk};
+ghost use Rattle.schema_core.specs.Texts.{place_text, said, words};
 
 use option_parts::{OptionError, OptionErrorKind};
 use protox_parse::ParseError as SourceError;
@@ -63,9 +63,9 @@ impl SchemaError {
         Some((line.checked_add(1)?, column.checked_add(1)?))
     }
 
-    /// The text without a place.
-    fn write_text<W: fmt::Write>(&self, f: &mut fmt::Formatter<W>) -> fmt::Result
-        ensures { DisplaysOnOk W.write_str_gives f.old result (said self.now) f.new }
+    /// The words without a place.
+    fn write_words<W: fmt::Write>(&self, f: &mut fmt::Formatter<W>) -> fmt::Result
+        ensures { DisplaysOnOk W.write_str_gives f.old result (words self.now) f.new }
     {
         match self {
             SchemaError::Parse(error) => write!(f, "{error}"),
@@ -85,15 +85,27 @@ impl fmt::Display for SchemaError {
     ghost output = { λ e. said e };
 
     fn fmt<W: fmt::Write>(&self, f: &mut fmt::Formatter<W>) -> fmt::Result {
-        if let Some(file) = self.file() {
-            write!(f, "{file}:")?;
-            if let Some((line, column)) = self.position() {
-                write!(f, "{line}:{column}:")?;
-            }
-            f.write_str(" ")?;
-        }
-        self.write_text(f)
+        write_place(f, self.file(), self.position())?;
+        self.write_words(f)
     }
+}
+
+/// A file, and where in it, in front of words.
+fn write_place<W: fmt::Write>(
+    f: &mut fmt::Formatter<W>,
+    file: Option<&str>,
+    position: Option<(usize, usize)>,
+) -> fmt::Result
+    ensures { WritesOnOk W.write_str_gives f.old result (place_text (option_map (λ t. t.now) file.entry) position) f.new }
+{
+    let Some(file) = file else {
+        return Ok(());
+    };
+    write!(f, "{file}:")?;
+    if let Some((line, column)) = position {
+        write!(f, "{line}:{column}:")?;
+    }
+    f.write_str(" ")
 }
 
 impl fmt::Debug for SchemaError {
