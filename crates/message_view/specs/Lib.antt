@@ -1,0 +1,3 @@
+pub mod Singles
+pub mod Types
+pub mod Views
