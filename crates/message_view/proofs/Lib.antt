@@ -1,5 +1,13 @@
+pub mod Accepting
+pub mod Admitting
+pub mod Decoded
+pub mod Elements
+pub mod Entries
 pub mod Fields
 pub mod Keys
+pub mod Left
+pub mod Oneofs
 pub mod Plain
 pub mod Scalars
 pub mod Seen
+pub mod Sound

@@ -1,3 +1,4 @@
 pub mod Singles
+pub mod Sound
 pub mod Types
 pub mod Views

@@ -1,7 +1,27 @@
-//! Laws.
-ghost use Rattle.std.specs.Prelude.{◌≡◌, ℕ};
+//! Laws of what `decode` says of bytes and messages, each the contract of a function that does nothing. They speak of the types of
+//! a pool, and of a message as one of these.
+ghost use Rattle.std.specs.Prelude.{◌≡◌, ℕ, List};
+ghost use Rattle.protobuf_model.specs.Coded.{IsAccepted, Mean};
+ghost use Rattle.reflect_decode.specs.Spelled.{IsSpelled, TellsWhy};
+ghost use Rattle.reflect_message.specs.declared.message.DynamicMessage.{DynamicMessage};
+ghost use Rattle.reflect_pool.specs.declared.message.MessageDescriptor.{MessageDescriptor};
+ghost use Rattle.reflect_wire.specs.Written.{AreBytes};
+ghost use Rattle.reflect_wire.specs.declared.wire_error.WireError.{WireError};
+ghost use Rattle.reflect_wire.specs.declared.wire_error.WireError.TheVariants.{Memory};
+ghost use Rattle.message_view.specs.Sound.{IsSound, IsWhole};
+ghost use Rattle.message_view.specs.Types.{name_at, types_of};
+ghost use Rattle.message_view.specs.Views.{view};
 
-/// One.
-pub fn one()
-    ensures { (n : ℕ) → n ≡ n }
+/// The type accepts bytes that `decode` answers, and they mean the message that it gives.
+pub fn decoded_bytes_mean_the_message()
+    ensures { (d : MessageDescriptor) → IsSound d.pool.now → (bytes : List ℕ) → AreBytes bytes
+        → (m : DynamicMessage) → m.descriptor ≡ d → IsSpelled d bytes m
+        → Mean (types_of d.pool.now) (name_at d.pool.now d.index) bytes (view m) }
+{}
+
+/// The type accepts no bytes that `decode` refuses, but for want of memory.
+pub fn refused_bytes_are_not_accepted()
+    ensures { (d : MessageDescriptor) → IsSound d.pool.now → IsWhole d.pool.now
+        → (bytes : List ℕ) (e : WireError) → (e ≡ Memory → ⊥) → TellsWhy d bytes e
+        → IsAccepted (types_of d.pool.now) (name_at d.pool.now d.index) bytes → ⊥ }
 {}

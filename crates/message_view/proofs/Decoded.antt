@@ -1,0 +1,50 @@
+-- What `decode` says of bytes, in the words of the model.
+use Rattle.std.proofs.Common.{◌≡◌, ◌<◌, ℕ, List, length, None, refl, sym, ap, ◌∙◌, subst}
+use Rattle.reflect_tables.specs.Types.{PoolType}
+use Rattle.reflect_pool.specs.declared.message.MessageDescriptor.{MessageDescriptor}
+use Rattle.reflect_wire.specs.Written.{AreBytes}
+use Rattle.reflect_wire.specs.Records.{Payload}
+use Rattle.reflect_wire.specs.declared.wire_error.WireError.{WireError}
+use Rattle.reflect_wire.specs.declared.wire_error.WireError.TheVariants as errors
+use Rattle.reflect_message.specs.Contents.{content_of}
+use Rattle.reflect_message.specs.declared.message.DynamicMessage.{DynamicMessage}
+use Rattle.reflect_decode.specs.Levels.{TakesAt}
+use Rattle.reflect_decode.specs.Refused.{BodyFault}
+use Rattle.reflect_decode.specs.Spelled.{IsSpelled, TellsWhy}
+use Rattle.message_laws.proofs.Excluding.{excluded}
+use Rattle.protobuf_model.specs.Coded.{Mean, IsAccepted}
+use Rattle.message_view.specs.Sound.{IsSound, IsWhole}
+use Rattle.message_view.specs.Types.{name_at, types_of}
+use Rattle.message_view.specs.Views.{view, view_of}
+use Rattle.message_view.proofs.Accepting.{accepted}
+use Rattle.message_view.proofs.Admitting.{admitted}
+use Rattle.message_view.proofs.Left.{AreLeft, leaves_meaning}
+use Rattle.message_view.proofs.Seen.{view_opened}
+use Rattle.message_view.proofs.Sound.{named}
+
+-- a message that is decoded is what the bytes mean
+pub decoded_means : (d : MessageDescriptor) → IsSound d.pool.now → (bytes : List ℕ) → AreBytes bytes → (m : DynamicMessage) → m.descriptor ≡ d → IsSpelled d bytes m → Mean (types_of d.pool.now) (name_at d.pool.now d.index) bytes (view m)
+decoded_means d sound bytes b m type (rs, spelled, keeps, some, also, fields, (extensions, apart), accepts) =
+    let pool = d.pool.now in
+    let left : AreLeft (TakesAt 100) d (content_of m) rs = record { unknown = keeps; fields = fields; extensions = extensions } in
+    let told = named pool sound.names in
+    let means = leaves_meaning pool sound.keys sound.defaults (types_of pool) told 100 d refl (content_of m) rs left in
+    let seen = view_opened m ∙ ap (λ (d : MessageDescriptor). view_of d.pool.now d.index (content_of m)) type in
+    (rs, record { spelled = spelled; accepted = accepted pool sound.keys (types_of pool) told 100 d refl bytes rs b spelled accepts }, means ∙ sym seen)
+
+-- and bytes that are refused are not accepted
+pub refused : (d : MessageDescriptor) → IsSound d.pool.now → IsWhole d.pool.now → (bytes : List ℕ) (e : WireError) → BodyFault 100 d.pool.now d.index None bytes e → IsAccepted (types_of d.pool.now) (name_at d.pool.now d.index) bytes → ⊥
+refused d sound there bytes e fault (rs, read) =
+    let pool = d.pool.now in
+    excluded pool sound.keys 100 d.index bytes e fault rs read.spelled (admitted pool there.pooled sound.keys there.entries (types_of pool) (named pool sound.names) 100 d refl rs read.accepted)
+
+pub told_refused : (d : MessageDescriptor) → IsSound d.pool.now → IsWhole d.pool.now → (bytes : List ℕ) (e : WireError) → (e ≡ errors.Memory → ⊥) → TellsWhy d bytes e → IsAccepted (types_of d.pool.now) (name_at d.pool.now d.index) bytes → ⊥
+told_refused d sound there bytes errors.Memory other why h = other refl
+told_refused d sound there bytes errors.Truncated other why h = refused d sound there bytes errors.Truncated why h
+told_refused d sound there bytes errors.BadVarint other why h = refused d sound there bytes errors.BadVarint why h
+told_refused d sound there bytes errors.BadKey other why h = refused d sound there bytes errors.BadKey why h
+told_refused d sound there bytes errors.BadWireType other why h = refused d sound there bytes errors.BadWireType why h
+told_refused d sound there bytes errors.EndGroupMismatch other why h = refused d sound there bytes errors.EndGroupMismatch why h
+told_refused d sound there bytes errors.TooDeep other why h = refused d sound there bytes errors.TooDeep why h
+told_refused d sound there bytes errors.BadUtf8 other why h = refused d sound there bytes errors.BadUtf8 why h
+told_refused d sound there bytes errors.TooLong other why h = refused d sound there bytes errors.TooLong why h

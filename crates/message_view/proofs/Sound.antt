@@ -1,0 +1,23 @@
+-- The types of a pool by their names.
+use Rattle.std.proofs.Common.{◌≡◌, ◌<◌, ℕ, zero, suc, Bool, true, false, true≢false, cond, List, [], ◌∷◌, length, Option, Some, None, refl, sym, ap, ◌∙◌, subst, bytes_eq, arith}
+use Rattle.std.specs.Cmp.Lexicographic.{bytes_decides}
+use Rattle.std.specs.Prelude.{slice_index_or}
+use Rattle.reflect_tables.specs.Types.{PoolType, MessageType, no_type}
+use Rattle.protobuf_model.specs.Types.{Name}
+use Rattle.message_view.specs.Sound.{HaveNames}
+use Rattle.message_view.specs.Types.{name_at, field_at, place_in, types_of}
+
+abbrev name_in : List MessageType → ℕ → Name
+name_in ms i = (slice_index_or ms i no_type).full_name
+
+-- where no two names are the same, a name stands for its place
+found_at : (ms : List MessageType) (i : ℕ) → i < length ms → ((k : ℕ) → k < length ms → name_in ms i ≡ name_in ms k → i ≡ k) → place_in ms (name_in ms i) ≡ i
+found_at [] i lt apart = absurd (omega (arith, lt))
+found_at (m ∷ ms) zero lt apart = ap (λ b. cond b 0 (suc (place_in ms m.full_name))) ((bytes_decides m.full_name m.full_name).1 refl)
+found_at (m ∷ ms) (suc i) lt apart = by (bytes_eq m.full_name (name_in ms i)) refl (found_at ms i (omega (arith, lt)) (λ k less e. let same = apart (suc k) (omega (arith, less)) e in omega (arith, same))) where
+  by : (b : Bool) → bytes_eq m.full_name (name_in ms i) ≡ b → place_in ms (name_in ms i) ≡ i → cond b 0 (suc (place_in ms (name_in ms i))) ≡ suc i
+  by true is later = let same = apart 0 (omega arith) (sym ((bytes_decides m.full_name (name_in ms i)).0 is)) in absurd (omega (arith, same))
+  by false is later = ap suc later
+
+pub named : (pool : PoolType) → HaveNames pool → (i n : ℕ) → i < length pool.messages → types_of pool (name_at pool i) n ≡ field_at pool i n
+named pool names i n lt = ap (λ i. field_at pool i n) (found_at pool.messages i lt (λ k less e. names i k lt less e))

@@ -1,0 +1,38 @@
+-- What pools have that files were linked into, as far as messages of their types depend on it.
+use Rattle.std.specs.Prelude.{◌≡◌, ◌<◌, ℕ, length, true, Some}
+use Rattle.reflect_tables.specs.Types.{PoolType, FieldType, KindType, ArePooled}
+use Rattle.reflect_pool.specs.Shapes.{is_entry}
+use Rattle.reflect_message.specs.KindTypes.{IsScalarType}
+use Rattle.reflect_message.specs.Known.{entry_field}
+use Rattle.message_laws.specs.MapKeys.{HaveMapKeys}
+use Rattle.protobuf_model.specs.Scalars.{Suits}
+use Rattle.message_view.specs.Singles.{scalar_of}
+use Rattle.message_view.specs.Types.{name_at, default_of}
+
+-- no two message types have one full name
+abbrev pub HaveNames : PoolType → Type 0
+HaveNames pool =
+    (i k : ℕ) → i < length pool.messages → k < length pool.messages → name_at pool i ≡ name_at pool k → i ≡ k
+
+-- the entries of each map have a key under 1 and a value under 2
+abbrev pub HaveEntryFields : PoolType → Type 0
+HaveEntryFields pool =
+    (t : KindType) → is_entry pool t ≡ true
+    → (keys values : FieldType) × (entry_field pool t 1 ≡ Some keys) × (entry_field pool t 2 ≡ Some values)
+
+-- the default of a part of a map's entries, which stands where an entry has none, is a value of the part's kind
+abbrev pub HaveEntryDefaults : PoolType → Type 0
+HaveEntryDefaults pool =
+    (t : KindType) (n : ℕ) (f : FieldType) → is_entry pool t ≡ true → entry_field pool t n ≡ Some f
+    → IsScalarType f.kind → Suits (scalar_of f.kind) (default_of pool f)
+
+-- what the program reads of each message type, however the pool came about
+pub record IsSound (pool : PoolType) : Type 0 where
+  pub names : HaveNames pool
+  pub keys : HaveMapKeys pool
+  pub defaults : HaveEntryDefaults pool
+
+-- the types that it names are there
+pub record IsWhole (pool : PoolType) : Type 0 where
+  pub pooled : ArePooled pool
+  pub entries : HaveEntryFields pool
