@@ -1,6 +1,7 @@
 pub mod Accepting
 pub mod Admitting
 pub mod Decoded
+pub mod Defaults
 pub mod Elements
 pub mod Entries
 pub mod Fields
