@@ -8,6 +8,7 @@ pub mod Fields
 pub mod Keys
 pub mod Left
 pub mod Oneofs
+pub mod Ordering
 pub mod Plain
 pub mod Scalars
 pub mod Seen
