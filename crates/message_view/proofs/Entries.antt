@@ -114,13 +114,13 @@ kind_some pool types.bytes h = (_, refl)
 kind_some pool (types.enumeration i) h = (_, refl)
 kind_some pool t h = absurd h
 
-some_default : (pool : PoolType) (f : FieldType) → IsScalarType f.kind → (d : held.Single) × (default_in pool f ≡ Some d)
+pub some_default : (pool : PoolType) (f : FieldType) → IsScalarType f.kind → (d : held.Single) × (default_in pool f ≡ Some d)
 some_default pool f h = by (option_and_then (declared_in pool f.kind) f.default) where
   by : (o : Option held.Single) → (d : held.Single) × (option_or o (kind_default pool f.kind) ≡ Some d)
   by (Some d) = (d, refl)
   by None = kind_some pool f.kind h
 
-default_is : (pool : PoolType) (f : FieldType) (v : held.Single) → default_in pool f ≡ Some v → default_of pool f ≡ single_view v
+pub default_is : (pool : PoolType) (f : FieldType) (v : held.Single) → default_in pool f ≡ Some v → default_of pool f ≡ single_view v
 default_is pool f v e = ap (λ o. elim o [ None ↦ model.text [] | Some v ↦ single_view v ]) e
 
 -- what records leave as a single value

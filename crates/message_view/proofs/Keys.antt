@@ -18,7 +18,7 @@ use Rattle.protobuf_model.proofs.KeyOrder.{same_true}
 use Rattle.message_view.specs.Singles.{single_view}
 
 -- what an order says of whether two are equal, and whether the first is below
-abbrev Says : Ordering → Bool → Bool → Type 0
+abbrev pub Says : Ordering → Bool → Bool → Type 0
 Says Less s b = (s ≡ false) × (b ≡ true)
 Says Equal s b = s ≡ true
 Says Greater s b = (s ≡ false) × (b ≡ false)
@@ -46,7 +46,7 @@ self : (z : ℤ) → same_int z z ≡ true
 self (pos n) = grind arith
 self (negsuc n) = grind arith
 
-int_says : (y z : ℤ) → Says (int_cmp y z) (same_int y z) (below_int y z)
+pub int_says : (y z : ℤ) → Says (int_cmp y z) (same_int y z) (below_int y z)
 int_says y z = by (int_cmp y z) (int_ranked y z (int_cmp y z) refl) where
   by : (o : Ordering) → MatchOrdering o (y <ℤ z) (y ≡ z) (z <ℤ y) → Says o (same_int y z) (below_int y z)
   by Less lt = lower y z lt

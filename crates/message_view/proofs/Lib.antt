@@ -5,6 +5,7 @@ pub mod Defaults
 pub mod Elements
 pub mod Entries
 pub mod Fields
+pub mod Forms
 pub mod Keys
 pub mod Left
 pub mod Oneofs
@@ -13,3 +14,4 @@ pub mod Plain
 pub mod Scalars
 pub mod Seen
 pub mod Sound
+pub mod Written

@@ -23,7 +23,7 @@ use Rattle.protobuf_model.specs.Scalars as scalars
 use Rattle.protobuf_model.proofs.Singles.{zigzag_back}
 use Rattle.message_view.specs.Singles.{scalar_of, single_view}
 
-zigzag_same : (z : ℤ) → means.zigzag z ≡ scalars.zigzag z
+pub zigzag_same : (z : ℤ) → means.zigzag z ≡ scalars.zigzag z
 zigzag_same (pos n) = refl
 zigzag_same (negsuc n) = let e : 2 * (n + 1) - 1 ≡ 2 * n + 1 = omega arith in e
 

@@ -42,7 +42,7 @@ stepped o = value_step (map-Value blocks.Held Value DynamicMessage Parts Placed 
 opened : (v : Value) → content_view v ≡ stepped (out-Value v)
 opened v = fold_out-Value Placed Content Message Placed held_step value_step message_step parts_step v
 
-abbrev single_in : Value-F blocks.Held Value DynamicMessage Parts → Option held.Single
+abbrev pub single_in : Value-F blocks.Held Value DynamicMessage Parts → Option held.Single
 single_in o = elim o [
   | Value-F.Bool b ↦ Some (held.truth b)
   | Value-F.I32 z ↦ Some (held.int32 z)
@@ -75,7 +75,7 @@ single_seen v w e = opened v ∙ by (out-Value v) e where
   by (Value-F.List vs) e = absurd (cc e)
   by (Value-F.Map es) e = absurd (cc e)
 
-abbrev message_of : Value-F blocks.Held Value DynamicMessage Parts → Option DynamicMessage
+abbrev pub message_of : Value-F blocks.Held Value DynamicMessage Parts → Option DynamicMessage
 message_of o = elim o [
   | Value-F.Bool b ↦ None
   | Value-F.I32 z ↦ None
@@ -109,7 +109,7 @@ message_seen v m e = opened v ∙ by (out-Value v) e where
   by (Value-F.List vs) e = absurd (cc e)
   by (Value-F.Map es) e = absurd (cc e)
 
-abbrev items_of : Value-F blocks.Held Value DynamicMessage Parts → Option (List Value)
+abbrev pub items_of : Value-F blocks.Held Value DynamicMessage Parts → Option (List Value)
 items_of o = elim o [
   | Value-F.Bool b ↦ None
   | Value-F.I32 z ↦ None
@@ -139,7 +139,7 @@ list_seen v vs e = opened v ∙ by (out-Value v) e where
   by (Value-F.Message m) e = absurd (cc e)
   by (Value-F.Map es) e = absurd (cc e)
 
-abbrev entries_in : Value-F blocks.Held Value DynamicMessage Parts → Option (List (MapKey × Value))
+abbrev pub entries_in : Value-F blocks.Held Value DynamicMessage Parts → Option (List (MapKey × Value))
 entries_in o = elim o [
   | Value-F.Bool b ↦ None
   | Value-F.I32 z ↦ None
@@ -192,13 +192,13 @@ none_held pool i n = by (known_field pool i n) (known_extension pool i n) where
   by None (Some x) = refl
   by None None = refl
 
-abbrev entries_opened : Held-F blocks.Held Value DynamicMessage Parts → List (ℕ × Value)
+abbrev pub entries_opened : Held-F blocks.Held Value DynamicMessage Parts → List (ℕ × Value)
 entries_opened o = elim o [ | Held-F.Nothing ↦ [] | Held-F.Block b ↦ b.value.fields ]
 
-abbrev extensions_opened : Held-F blocks.Held Value DynamicMessage Parts → List (ℕ × Value)
+abbrev pub extensions_opened : Held-F blocks.Held Value DynamicMessage Parts → List (ℕ × Value)
 extensions_opened o = elim o [ | Held-F.Nothing ↦ [] | Held-F.Block b ↦ b.value.extensions ]
 
-abbrev unknown_opened : Held-F blocks.Held Value DynamicMessage Parts → List (ℕ × Payload)
+abbrev pub unknown_opened : Held-F blocks.Held Value DynamicMessage Parts → List (ℕ × Payload)
 unknown_opened o = elim o [ | Held-F.Nothing ↦ [] | Held-F.Block b ↦ undeclared b.value.unknown ]
 
 held_seen : (h : blocks.Held) (pool : PoolType) (i : ℕ) → held_view h pool i ≡ held_under pool i (contents_view (fields_in h)) (contents_view (extensions_in h)) (unknown_in h)

@@ -1,13 +1,14 @@
 -- What pools have that files were linked into, as far as messages of their types depend on it.
-use Rattle.std.specs.Prelude.{◌≡◌, ◌<◌, ℕ, length, true, Some}
+use Rattle.std.specs.Prelude.{◌≡◌, ◌⊎◌, ◌<◌, ℕ, length, true, false, Some}
 use Rattle.reflect_tables.specs.Types.{PoolType, FieldType, KindType, ArePooled}
-use Rattle.reflect_pool.specs.Shapes.{is_entry}
+use Rattle.reflect_pool.specs.Shapes.{is_entry, is_repeated}
 use Rattle.reflect_message.specs.KindTypes.{IsScalarType}
-use Rattle.reflect_message.specs.Known.{entry_field}
+use Rattle.reflect_message.specs.Known.{entry_field, known_field, known_extension}
 use Rattle.message_laws.specs.MapKeys.{HaveMapKeys}
+use Rattle.protobuf_model.specs.Bytes.{is_packable}
 use Rattle.protobuf_model.specs.Scalars.{Suits}
 use Rattle.message_view.specs.Singles.{scalar_of}
-use Rattle.message_view.specs.Types.{name_at, default_of}
+use Rattle.message_view.specs.Types.{name_at, kind_in, default_of}
 
 -- no two message types have one full name
 abbrev pub HaveNames : PoolType → Type 0
@@ -36,3 +37,13 @@ pub record IsSound (pool : PoolType) : Type 0 where
 pub record IsWhole (pool : PoolType) : Type 0 where
   pub pooled : ArePooled pool
   pub entries : HaveEntryFields pool
+
+-- a field of the type at a place has the number, or an extension of it
+abbrev pub HasField : PoolType → ℕ → ℕ → FieldType → Type 0
+HasField pool i n f = (known_field pool i n ≡ Some f) ⊎ (known_extension pool i n ≡ Some f)
+
+-- fields that repeat have no presence, and are packed only where their kind can be
+pub record AreRepeated (pool : PoolType) : Type 0 where
+  pub unset : (i n : ℕ) (f : FieldType) → HasField pool i n f → is_repeated f.cardinality ≡ true → f.presence ≡ false
+  pub packed : (i n : ℕ) (f : FieldType) → HasField pool i n f → is_repeated f.cardinality ≡ true → f.packed ≡ true
+      → is_packable (kind_in pool f.group f.kind) ≡ true
