@@ -1,6 +1,6 @@
 -- Records in the order of their numbers.
 use Rattle.std.proofs.Common.{◌≡◌, ◌⊎◌, inl, inr, ◌<◌, ◌≤◌, ℕ, zero, suc, ◌+◌, ◌-◌, ◌^◌, ◌==◌, Bool, true, false, cond, nat_lt, nat_le, List, [], ◌∷◌, ◌++◌, map, Option, Some, None, refl, sym, ap, ◌∙◌, subst, append-nil, append_assoc, arith}
-use Rattle.std.specs.List.{filter, flat_map}
+use Rattle.std.specs.List.{AllByRecursion, filter, flat_map}
 use Rattle.reflect_wire.specs.Records.{Payload}
 use Rattle.reflect_entries.specs.Entries.{value_at}
 use Rattle.reflect_entries.specs.Sets.{up_to, above}
@@ -229,3 +229,16 @@ module _ {V : Type 0} (under : ℕ × V → List Payload) where
             ∙ ap (λ ps. ps ++ (payloads n (above e.0 rs) ++ found (value_at es n) n)) (payloads-other n e.0 (under e) (λ is. omega (arith, is, gt)))
             ∙ ap (λ ps. ps ++ found (value_at es n) n) behind
             ∙ sym (ap (λ b. payloads n (above low rs) ++ found (cond b (Some e.1) (value_at es n)) n) other)
+
+pub run_all : (u w : ℕ → List Payload) → ((n : ℕ) → 1 ≤ n → u n ≡ w n) → run u field_numbers ≡ run w field_numbers
+unfolding field_numbers
+run_all u w same = run_same u w 1 (2 ^ 29 - 1) same
+
+-- each entry is found under its number
+pub found_each : {V : Type 0} → (low high : ℕ) (es : List (ℕ × V)) → Rise low high es → AllByRecursion (λ (e : ℕ × V). value_at es e.0 ≡ Some e.1) es
+found_each low high [] h = tt
+found_each {V} low high (e ∷ es) h = (ap (λ b. cond b (Some e.1) (value_at es e.0)) (let self : (e.0 == e.0) ≡ true = grind arith in self), later es (suc e.0) (omega arith) h.1 (found_each (suc e.0) high es h.1)) where
+  later : (fs : List (ℕ × V)) (l : ℕ) → e.0 < l → Rise l high fs → AllByRecursion (λ (f : ℕ × V). value_at es f.0 ≡ Some f.1) fs → AllByRecursion (λ (f : ℕ × V). value_at (e ∷ es) f.0 ≡ Some f.1) fs
+  later [] l lt rise all = tt
+  later (f ∷ fs) l lt rise all =
+      (ap (λ b. cond b (Some e.1) (value_at es f.0)) (apart f.0 e.0 (λ is. omega (arith, is, lt, rise.0))) ∙ all.0, later fs (suc f.0) (omega (arith, lt, rise.0)) rise.1 all.1)

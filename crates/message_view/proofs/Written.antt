@@ -8,7 +8,7 @@ use Rattle.protobuf_model.specs.Keys.{below_int}
 use Rattle.reflect_tables.specs.Types.{PoolType, FieldType, KindType, type_at}
 use Rattle.reflect_tables.specs.Types as types
 use Rattle.reflect_pool.specs.Kinds.{IsKind}
-use Rattle.reflect_pool.specs.Shapes.{is_repeated, holds_list, holds_map}
+use Rattle.reflect_pool.specs.Shapes.{is_entry, is_repeated, holds_list, holds_map}
 use Rattle.reflect_pool.specs.declared.kind.Kind.TheVariants as publics
 use Rattle.reflect_wire.specs.Records.{Payload, varint, delimited, group, key_of}
 use Rattle.reflect_wire.specs.declared.wire_key.WireType.TheVariants.{StartGroup, EndGroup}
@@ -252,3 +252,114 @@ module _ (pool : PoolType) (types_of : Types) (inner : DynamicMessage → Type 0
   map_same f keys values (e ∷ es) type whole first second fits =
       ap (λ bs. payload_field f.number bs ++ flat_map (entry_bytes pool f keys values) (forms_of es)) (entry_same f keys values e type whole first second fits.0)
       ∙ ap (λ bs. payload_field f.number (bytes (entry_records (key_at pool keys) (part_of pool values) (key_single e.0) (content_view e.1) (payloads_one values (content_view e.1)))) ++ bs) (map_same f keys values es type whole first second fits.1)
+
+  -- what stands under a field of a label
+  abbrev under_as : FieldType → Option ℕ → Bool → (map_too repeated : Bool) → Held → List Payload
+  under_as f o x map_too repeated h =
+      payloads_under types_of (Some (record { part = part_of pool (cond map_too (entry_part pool f 2) f); label = cond map_too (keyed (key_at pool (entry_part pool f 1))) (cond repeated (many f.packed) one); oneof = o; extension = x })) h
+
+  abbrev Same : FieldType → Value → Option ℕ → Bool → (map_too repeated : Bool) → Type 0
+  Same f v o x map_too repeated = content_bytes pool f (form_of v) ≡ bytes (numbered f.number (under_as f o x map_too repeated (held_in pool f (Some (content_view v)))))
+
+  under_one : (f : FieldType) (o : Option ℕ) (x : Bool) (c : Content) → ((w : Single) × (c ≡ single w)) ⊎ ((m : Message) × (c ≡ message m))
+      → unless_default f.presence (default_of pool f) c (payloads_one f c) ≡ under_as f o x false false (held_in pool f (Some c))
+  under_one f o x c (inl (w, is)) = subst (λ c. unless_default f.presence (default_of pool f) c (payloads_one f c) ≡ under_as f o x false false (held_in pool f (Some c))) (sym is) (by (f.presence || not (same w (default_of pool f)))) where
+    by : (b : Bool) → cond b (payloads_one f (single w)) [] ≡ under_as f o x false false (cond b (content (single w)) absent)
+    by true = refl
+    by false = refl
+  under_one f o x c (inr (m, is)) = subst (λ c. unless_default f.presence (default_of pool f) c (payloads_one f c) ≡ under_as f o x false false (held_in pool f (Some c))) (sym is) refl
+
+  one_seen : (f : FieldType) (v : Value) → is_float f.kind ≡ false → FitsOne inner pool f v → ((w : Single) × (content_view v ≡ single w)) ⊎ ((m : Message) × (content_view v ≡ message m))
+  one_seen f v whole fits = by (sort_of f.kind) where
+    by : Sort f.kind → ((w : Single) × (content_view v ≡ single w)) ⊎ ((m : Message) × (content_view v ≡ message m))
+    by (floating e) = absurd (true≢false (sym e ∙ whole))
+    by (plain type) = let w = fits.plain type in inl (single_view w.0, single_seen v w.0 w.1)
+    by (message_type type) = let m = fits.nested type in inr (view m.0, message_seen v m.0 m.1)
+
+  -- a field of one value
+  single_same : (f : FieldType) (v : Value) (o : Option ℕ) (x : Bool) → is_float f.kind ≡ false → FitsOne inner pool f v → Same f v o x false false
+  single_same f v o x whole fits = set_bytes f v whole fits ∙ ap (λ ps. bytes (numbered f.number ps)) (under_one f o x (content_view v) (one_seen f v whole fits))
+
+  packable_scalar : (t : KindType) (g : Bool) → is_float t ≡ false → is_packable (kind_in pool g t) ≡ true → IsScalarType t
+  packable_scalar t g whole e = by (sort_of t) where
+    no_message : (t : KindType) → IsMessageType t → is_packable (kind_in pool g t) ≡ true → ⊥
+    no_message (types.message i) type e = cc e
+    no_message t type e = absurd type
+
+    by : Sort t → IsScalarType t
+    by (plain type) = type
+    by (floating k) = absurd (true≢false (sym k ∙ whole))
+    by (message_type type) = absurd (no_message t type e)
+
+  -- a list
+  many_same : (f : FieldType) (v : Value) (o : Option ℕ) (x : Bool) → is_float f.kind ≡ false → f.presence ≡ false → (f.packed ≡ true → is_packable (kind_in pool f.group f.kind) ≡ true)
+      → (vs : List Value) → list_items v ≡ Some vs → AllByRecursion (FitsOne inner pool f) vs → Same f v o x false true
+  many_same f v o x whole unset packs vs is fits =
+      ap (content_bytes pool f) (list_form_seen v vs is) ∙ by vs fits ∙ sym (ap (λ c. bytes (numbered f.number (under_as f o x false true (held_in pool f (Some c))))) (list_seen v vs is)) where
+        rows : (vs : List Value) → AllByRecursion (FitsOne inner pool f) vs → (b : Bool) → f.packed ≡ b
+            → cond b (payload_field f.number (row_in f.kind (map form_of vs))) (list_bytes f (map form_of vs))
+            ≡ bytes (numbered f.number (cond (b && is_packable (kind_in pool f.group f.kind)) (delimited (bare (each_payload types_of (part_of pool f) (chain_of (map content_view vs)))) ∷ []) (each_payload types_of (part_of pool f) (chain_of (map content_view vs)))))
+        rows vs fits true e =
+            let can = packs e in
+            ap (payload_field f.number) (row_same f vs (packable_scalar f.kind f.group whole can) fits)
+            ∙ sym (append-nil (field_bytes (f.number, delimited (bare (each_payload types_of (part_of pool f) (chain_of (map content_view vs)))))))
+            ∙ sym (ap (λ b. bytes (numbered f.number (cond b (delimited (bare (each_payload types_of (part_of pool f) (chain_of (map content_view vs)))) ∷ []) (each_payload types_of (part_of pool f) (chain_of (map content_view vs)))))) can)
+        rows vs fits false e = list_same f vs whole fits
+
+        by : (vs : List Value) → AllByRecursion (FitsOne inner pool f) vs → content_bytes pool f (list_form (map form_of vs)) ≡ bytes (numbered f.number (under_as f o x false true (held_in pool f (Some (list (chain_of (map content_view vs)))))))
+        by [] fits = ap (λ b. cond (b || false) ((list_form []).whole pool f) []) unset
+        by (u ∷ us) fits = ap (λ b. cond b ((list_form (map form_of (u ∷ us))).whole pool f) []) (or_true f.presence) ∙ rows (u ∷ us) fits f.packed refl
+
+  -- a map
+  keyed_same : HaveMapKeys pool → HaveEntryFields pool → (f : FieldType) (v : Value) (o : Option ℕ) (x repeated : Bool) → holds_floats pool f ≡ false → holds_map pool f ≡ true → f.presence ≡ false
+      → (es : List (MapKey × Value)) → map_entries v ≡ Some es → AllByRecursion (λ (e : MapKey × Value). (values : FieldType) → entry_field pool f.kind 2 ≡ Some values → FitsOne inner pool values e.1) es → Same f v o x true repeated
+  keyed_same keys_of parts f v o x repeated whole is_map unset es is fits =
+      ap (content_bytes pool f) (map_form_seen v es is) ∙ by es fits ∙ sym (ap (λ c. bytes (numbered f.number (under_as f o x true repeated (held_in pool f (Some c))))) (map_seen v es is)) where
+        there : (keys values : FieldType) × (entry_field pool f.kind 1 ≡ Some keys) × (entry_field pool f.kind 2 ≡ Some values)
+        there = parts f.kind (entry_of_map pool f is_map)
+
+        of_values : (es : List (MapKey × Value)) → AllByRecursion (λ (e : MapKey × Value). (values : FieldType) → entry_field pool f.kind 2 ≡ Some values → FitsOne inner pool values e.1) es → AllByRecursion (λ (e : MapKey × Value). FitsOne inner pool there.1 e.1) es
+        of_values [] fits = tt
+        of_values (e ∷ es) fits = (fits.0 there.1 there.3, of_values es fits.1)
+
+        entries_same : (es : List (MapKey × Value)) → AllByRecursion (λ (e : MapKey × Value). (values : FieldType) → entry_field pool f.kind 2 ≡ Some values → FitsOne inner pool values e.1) es
+            → map_bytes pool f (forms_of es) ≡ bytes (numbered f.number (entry_payloads types_of (key_at pool (entry_part pool f 1)) (part_of pool (entry_part pool f 2)) (entries_of (pairs_view es))))
+        entries_same es fits =
+            let keys = there.0 in
+            let values = there.1 in
+            let type = key_scalar keys.kind (keys_of f.kind keys (entry_of_map pool f is_map) there.2).0 in
+            ap (λ o. elim o [ None ↦ [] | Some keys ↦ elim (entry_field pool f.kind 2) [ None ↦ [] | Some values ↦ flat_map (entry_bytes pool f keys values) (forms_of es) ] ]) there.2
+            ∙ ap (λ o. elim o [ None ↦ [] | Some values ↦ flat_map (entry_bytes pool f keys values) (forms_of es) ]) there.3
+            ∙ map_same f keys values es type (no_float_values pool f values whole is_map there.3) (entry_number pool f.kind 1 keys there.2) (entry_number pool f.kind 2 values there.3) (of_values es fits)
+            ∙ sym (ap (λ g. bytes (numbered f.number (entry_payloads types_of (key_at pool g) (part_of pool (entry_part pool f 2)) (entries_of (pairs_view es))))) (part_is pool f 1 keys there.2)
+            ∙ ap (λ g. bytes (numbered f.number (entry_payloads types_of (key_at pool keys) (part_of pool g) (entries_of (pairs_view es))))) (part_is pool f 2 values there.3))
+
+        by : (es : List (MapKey × Value)) → AllByRecursion (λ (e : MapKey × Value). (values : FieldType) → entry_field pool f.kind 2 ≡ Some values → FitsOne inner pool values e.1) es
+            → content_bytes pool f (map_form (forms_of es)) ≡ bytes (numbered f.number (under_as f o x true repeated (held_in pool f (Some (dictionary (entries_of (pairs_view es)))))))
+        by [] fits = ap (λ b. cond (b || false) (map_bytes pool f []) []) unset
+        by (e ∷ es) fits = ap (λ b. cond b (map_bytes pool f (forms_of (e ∷ es))) []) (or_true f.presence) ∙ entries_same (e ∷ es) fits
+
+  -- a field, by its label
+  pub field_same : HaveMapKeys pool → HaveEntryFields pool → (f : FieldType) (v : Value) (o : Option ℕ) (x : Bool) → holds_floats pool f ≡ false → (is_repeated f.cardinality ≡ true → f.presence ≡ false)
+      → (is_repeated f.cardinality ≡ true → f.packed ≡ true → is_packable (kind_in pool f.group f.kind) ≡ true) → FitsAs inner pool f (holds_map pool f) (holds_list pool f) v
+      → content_bytes pool f (form_of v) ≡ bytes (numbered f.number (payloads_under types_of (Some (field_of pool o x f)) (held_in pool f (Some (content_view v)))))
+  field_same keys_of parts f v o x whole unset packs fits = by (holds_map pool f) refl where
+    repeats : holds_map pool f ≡ true → is_repeated f.cardinality ≡ true
+    repeats e = second (is_entry pool f.kind) (is_repeated f.cardinality) (not f.group) e where
+      second : (a b c : Bool) → (a && (b && c)) ≡ true → b ≡ true
+      second true true c e = refl
+      second true false c e = absurd (cc e)
+      second false b c e = absurd (cc e)
+
+    lists : (b : Bool) → is_repeated f.cardinality ≡ b → FitsAs inner pool f false b v → Same f v o x false b
+    lists true is k = many_same f v o x (not_float pool f whole) (unset is) (packs is) k.0 k.1 k.2
+    lists false is k = single_same f v o x (not_float pool f whole) k
+
+    by : (b : Bool) → holds_map pool f ≡ b → Same f v o x (holds_map pool f) (is_repeated f.cardinality)
+    by true is =
+        let here = subst (λ b. FitsAs inner pool f b (holds_list pool f) v) is fits in
+        subst (λ b. Same f v o x b (is_repeated f.cardinality)) (sym is) (keyed_same keys_of parts f v o x (is_repeated f.cardinality) whole is (unset (repeats is)) here.0 here.1 here.2)
+    by false is =
+        let here = subst (λ b. FitsAs inner pool f b (holds_list pool f) v) is fits in
+        let same_list = list_is pool f (holds_list pool f) is refl in
+        subst (λ b. Same f v o x b (is_repeated f.cardinality)) (sym is) (lists (is_repeated f.cardinality) refl (subst (λ b. FitsAs inner pool f false b v) (sym same_list) here))
