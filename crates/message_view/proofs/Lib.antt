@@ -15,3 +15,4 @@ pub mod Scalars
 pub mod Seen
 pub mod Sound
 pub mod Written
+pub mod Arranging
