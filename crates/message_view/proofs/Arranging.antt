@@ -1,5 +1,5 @@
 -- The bytes of a message, in the program's words and in the model's.
-use Rattle.std.proofs.Common.{◌≡◌, ◌<◌, ◌≤◌, ◌⊎◌, inl, inr, ℕ, suc, ◌-◌, ◌^◌, ◌==◌, Bool, true, false, cond, not, nat_lt, nat_le, List, [], ◌∷◌, ◌++◌, map, reverse, length, Option, Some, None, option_map, refl, sym, ap, ◌∙◌, subst, append-nil, append_assoc, arith}
+use Rattle.std.proofs.Common.{◌≡◌, ◌<◌, ◌≤◌, ◌⊎◌, inl, inr, ℕ, zero, suc, ◌-◌, ◌^◌, ◌==◌, Bool, true, false, cond, not, nat_lt, nat_le, List, [], ◌∷◌, ◌++◌, map, reverse, length, Option, Some, None, option_map, refl, sym, ap, ◌∙◌, subst, append-nil, append_assoc, arith}
 use Rattle.std.specs.List.{AllByRecursion, filter, flat_map}
 use Rattle.std.proofs.lemmas.List.{reverse-append}
 use Rattle.reflect_tables.specs.Types.{PoolType, FieldType}
@@ -34,7 +34,7 @@ use Rattle.message_view.specs.Views.{held_in, held_either, content_view, content
 use Rattle.message_view.proofs.Accepting.{known_whole, extension_known_whole}
 use Rattle.message_view.proofs.Fields.{known, known_extension_is}
 use Rattle.message_view.proofs.Forms.{bytes_opened}
-use Rattle.message_view.proofs.Ordering.{Ascend, Rise, ascend_filter, in_order, run_all, filter_in, listed, found, listed_at, listed_ascends, mixed, mixed_at, mixed_ascends, found_each}
+use Rattle.message_view.proofs.Ordering.{Ascend, Rise, above_ascend, between_ascend, in_order, run_all, filter_in, filter_out, missing, listed, found, listed_at, listed_ascends, mixed, mixed_at, mixed_ascends, found_each}
 use Rattle.message_view.proofs.Seen.{value_at-view, view_opened}
 use Rattle.message_view.proofs.Written.{bytes, FitsAs, field_same}
 
@@ -196,3 +196,103 @@ module _ (d : MessageDescriptor) (keys_of : HaveMapKeys d.pool.now) (parts : Hav
             none_of : (x : Option FieldType) → [] ≡ cond (is_declared (either_field pool d.index None x)) (payloads_under types_of (either_field pool d.index None x) (held_either pool None x (Some (content_view v)) (value_at (contents_view c.extensions) n) (payloads n c.unknown))) []
             none_of None = refl
             none_of (Some y) = refl
+
+  -- and what extensions and records have
+  second_at : (n : ℕ) → payloads n c.unknown ++ found second (value_at c.extensions n) n ≡ cond (is_declared (type n)) [] (under n)
+  second_at n = by (known_field pool d.index n) refl (known_extension pool d.index n) refl (value_at c.extensions n) refl ∙ sym (ap (λ o. cond (is_declared o) [] (payloads_under types_of o (view_of pool d.index c n))) (told n)) where
+    abbreviated : Option FieldType → Option FieldType → Option model.Content → Held
+    abbreviated f x o = held_either pool f x (value_at (contents_view c.fields) n) o (payloads n c.unknown)
+
+    no_records : (n : ℕ) → IsDeclared d n → payloads n c.unknown ≡ []
+    no_records n is = shaped.declared n is
+
+    shown : (f x : Option FieldType) (v : Option Value) → known_field pool d.index n ≡ f → known_extension pool d.index n ≡ x → value_at c.extensions n ≡ v
+        → payloads n c.unknown ++ found second v n ≡ cond (is_declared (either_field pool d.index f x)) [] (payloads_under types_of (either_field pool d.index f x) (held_either pool f x (value_at (contents_view c.fields) n) (option_map content_view v) (payloads n c.unknown)))
+    shown (Some g) x v is also at =
+        let f = known d n g is in
+        let number : (field_type f.0).number ≡ n = ap (λ (t : FieldType). t.number) f.2 ∙ f.3 in
+        let none : v ≡ None = sym at ∙ sym (ap (value_at c.extensions) number) ∙ shaped.apart f.0 f.1 in
+        ap (λ ps. ps ++ found second v n) (no_records n (inl (f.0, f.1, number))) ∙ ap (λ o. found second o n) none
+    shown None (Some g) v is also at =
+        let x = known_extension_is d n g also in
+        let number : (extension_type x.0).number ≡ n = ap (λ (t : FieldType). t.number) x.2 ∙ x.3 in
+        ap (λ ps. ps ++ found second v n) (no_records n (inr (x.0, x.1, number))) ∙ of_value v where
+          of_value : (v : Option Value) → found second v n ≡ payloads_under types_of (Some (field_of pool None true g)) (held_in pool g (option_map content_view v))
+          of_value None = refl
+          of_value (Some v) = ap (λ o. of_extension o (known_extension pool d.index n) v) is ∙ ap (λ o. of_extension None o v) also
+    shown None None None is also at = append-nil (payloads n c.unknown)
+    shown None None (Some v) is also at =
+        ap (λ ps. payloads n c.unknown ++ ps) (ap (λ o. of_extension o (known_extension pool d.index n) v) is ∙ ap (λ o. of_extension None o v) also) ∙ append-nil (payloads n c.unknown)
+
+    by : (f : Option FieldType) → known_field pool d.index n ≡ f → (x : Option FieldType) → known_extension pool d.index n ≡ x → (v : Option Value) → value_at c.extensions n ≡ v
+        → payloads n c.unknown ++ found second (value_at c.extensions n) n ≡ cond (is_declared (field_at pool d.index n)) [] (payloads_under types_of (field_at pool d.index n) (view_of pool d.index c n))
+    by f is x also v at =
+        ap (λ o. payloads n c.unknown ++ found second o n) at ∙ shown f x v is also at
+        ∙ sym (ap (λ o. cond (is_declared (either_field pool d.index o (known_extension pool d.index n))) [] (whole o (known_extension pool d.index n) n)) is
+        ∙ ap (λ o. cond (is_declared (either_field pool d.index f o)) [] (whole f o n)) also
+        ∙ ap (λ o. cond (is_declared (either_field pool d.index f x)) [] (payloads_under types_of (either_field pool d.index f x) (held_either pool f x (value_at (contents_view c.fields) n) o (payloads n c.unknown)))) (value_at-view c.extensions n ∙ ap (option_map content_view) at))
+
+  -- the fields in order
+  fields_run : listed first c.fields ≡ run (λ n. cond (is_declared (type n)) (under n) []) field_numbers
+  fields_run =
+      in_order (listed first c.fields) (listed_ascends first 1 1 (2 ^ 29 - 1) c.fields (omega arith) (omega arith) shaped.fields_rise)
+      ∙ run_all (λ n. payloads n (listed first c.fields)) (λ n. cond (is_declared (type n)) (under n) []) (λ n le. listed_at first n 1 (2 ^ 29 - 1) c.fields shaped.fields_rise ∙ first_at n)
+
+  -- and the others
+  others_run : mixed second 0 c.extensions c.unknown ≡ run (λ n. cond (is_declared (type n)) [] (under n)) field_numbers
+  others_run =
+      let top = 2 ^ 29 - 1 in
+      let from_zero = mixed_ascends second 0 top c.extensions c.unknown (omega arith) shaped.extensions_rise (λ l h le. between_ascend l 1 top h c.unknown le shaped.unknown_ascend) (λ l le. above_ascend l 1 top c.unknown le shaped.unknown_ascend) in
+      in_order (mixed second 0 c.extensions c.unknown) (raised from_zero)
+      ∙ run_all (λ n. payloads n (mixed second 0 c.extensions c.unknown)) (λ n. cond (is_declared (type n)) [] (under n))
+      (λ n le. mixed_at second n 0 top c.extensions c.unknown shaped.extensions_rise
+      ∙ ap (λ ps. ps ++ found second (value_at c.extensions n) n) (filter_in (λ r. nat_lt 0 r.0) n c.unknown (λ r is. grind (arith, is, le))) ∙ second_at n) where
+        raised : Ascend 0 (2 ^ 29 - 1) (mixed second 0 c.extensions c.unknown) → Ascend 1 (2 ^ 29 - 1) (mixed second 0 c.extensions c.unknown)
+        raised h = positive (mixed second 0 c.extensions c.unknown) h none where
+          none : payloads 0 (mixed second 0 c.extensions c.unknown) ≡ []
+          none =
+              mixed_at second 0 0 (2 ^ 29 - 1) c.extensions c.unknown shaped.extensions_rise
+              ∙ ap (λ ps. ps ++ found second (value_at c.extensions 0) 0) (filter_out (λ r. nat_lt 0 r.0) 0 c.unknown (λ r is. grind (arith, is)))
+              ∙ ap (λ o. found second o 0) (missing second 0 1 (2 ^ 29 - 1) c.extensions (omega arith) shaped.extensions_rise)
+
+          positive : (rs : List (ℕ × Payload)) → Ascend 0 (2 ^ 29 - 1) rs → payloads 0 rs ≡ [] → Ascend 1 (2 ^ 29 - 1) rs
+          positive [] h e = omega arith
+          positive (r ∷ rs) h e = by (r.0 == 0) refl where
+            by : (b : Bool) → (r.0 == 0) ≡ b → Ascend 1 (2 ^ 29 - 1) (r ∷ rs)
+            by true is = absurd (cc (sym (ap (λ b. cond b (r.1 ∷ payloads 0 rs) (payloads 0 rs)) is) ∙ e))
+            by false is = (grind (arith, is), h.1)
+
+  -- the bytes of a message that holds this
+  pub content_same : content pool d.index (forms c.fields) (forms c.extensions) c.unknown ≡ bytes (arranged type under)
+  content_same =
+      let top = 2 ^ 29 - 1 in
+      ap (λ l. l ++ others_down pool d.index (reverse (forms c.extensions)) c.unknown) (fields_are c.fields (found_each 1 top c.fields shaped.fields_rise))
+      ∙ ap (λ l. bytes (listed first c.fields) ++ l)
+      (others_are pool d.index (reverse (forms c.extensions)) c.unknown
+      ∙ down_up (extension_bytes pool d.index) 0 1 top (forms c.extensions) c.unknown (rise_forms 1 top c.extensions shaped.extensions_rise)
+      ∙ others_up 0 c.extensions c.unknown (found_each 1 top c.extensions shaped.extensions_rise))
+      ∙ ap (λ rs. bytes rs ++ bytes (mixed second 0 c.extensions c.unknown)) fields_run
+      ∙ ap (λ rs. bytes (run (λ n. cond (is_declared (type n)) (under n) []) field_numbers) ++ bytes rs) others_run
+      ∙ sym (bytes_join (run (λ n. cond (is_declared (type n)) (under n) []) field_numbers) (run (λ n. cond (is_declared (type n)) [] (under n)) field_numbers))
+
+-- what a message holds at each depth
+pub Shaped : ℕ → DynamicMessage → Type 0
+Shaped zero m = ⊥
+Shaped (suc levels) m = IsShaped (Shaped levels) m.descriptor (content_of m)
+
+module _ (pool : PoolType) (keys_of : HaveMapKeys pool) (parts : HaveEntryFields pool) (repeats : AreRepeated pool) (types_of : Types) (told : (i n : ℕ) → i < length pool.messages → types_of (name_at pool i) n ≡ field_at pool i n) where
+  -- the bytes of a message are those of its view
+  pub shaped_bytes : (levels : ℕ) (m : DynamicMessage) → m.descriptor.pool.now ≡ pool → Shaped levels m → message_bytes m ≡ bytes_of types_of (name_at pool m.descriptor.index) (view m)
+  unfolding Shaped
+  shaped_bytes zero m there h = absurd h
+  shaped_bytes (suc levels) m there h = by (shaped_bytes levels) where
+    by : ((m : DynamicMessage) → m.descriptor.pool.now ≡ pool → Shaped levels m → message_bytes m ≡ bytes_of types_of (name_at pool m.descriptor.index) (view m)) → message_bytes m ≡ bytes_of types_of (name_at pool m.descriptor.index) (view m)
+    by below =
+        let d = m.descriptor in
+        let here = sym there in
+        let one = content_same d (subst HaveMapKeys here keys_of) (subst HaveEntryFields here parts) (subst AreRepeated here repeats) types_of
+        (λ n. subst (λ p. types_of (name_at p d.index) n ≡ field_at p d.index n) here (told d.index n (subst (λ p. d.index < length p.messages) there d.in_range)))
+        (Shaped levels) (λ m same. subst (λ p. Shaped levels m → message_bytes m ≡ bytes_of types_of (name_at p m.descriptor.index) (view m)) here (below m (same ∙ there))) (content_of m) h in
+        bytes_opened m ∙ one
+        ∙ sym (ap (bytes_of types_of (name_at d.pool.now d.index)) (view_opened m))
+        ∙ ap (λ p. bytes_of types_of (name_at p d.index) (view m)) there

@@ -242,3 +242,36 @@ found_each {V} low high (e ∷ es) h = (ap (λ b. cond b (Some e.1) (value_at es
   later [] l lt rise all = tt
   later (f ∷ fs) l lt rise all =
       (ap (λ b. cond b (Some e.1) (value_at es f.0)) (apart f.0 e.0 (λ is. omega (arith, is, lt, rise.0))) ∙ all.0, later fs (suc f.0) (omega (arith, lt, rise.0)) rise.1 all.1)
+
+-- those above a number, and among these those up to another
+pub above_ascend : (l m high : ℕ) (rs : List (ℕ × Payload)) → l ≤ high → Ascend m high rs → Ascend l high (above l rs)
+above_ascend l m high [] le a = le
+above_ascend l m high (r ∷ rs) le a = by (nat_lt l r.0) refl (above_ascend l r.0 high rs le a.1) where
+  all_above : (q : ℕ) (rs : List (ℕ × Payload)) → l < q → Ascend q high rs → above l rs ≡ rs
+  all_above q [] lt a = refl
+  all_above q (p ∷ rs) lt a = let more : l < p.0 = omega (arith, lt, a.0) in ap (λ b. cond b (p ∷ above l rs) (above l rs)) (let t : nat_lt l p.0 ≡ true = grind (arith, more) in t) ∙ ap (λ l. p ∷ l) (all_above p.0 rs more a.1)
+
+  by : (b : Bool) → nat_lt l r.0 ≡ b → Ascend l high (above l rs) → Ascend l high (cond b (r ∷ above l rs) (above l rs))
+  by false e later = later
+  by true e later = let lt : l < r.0 = grind (arith, e) in (omega (arith, lt), subst (Ascend r.0 high) (sym (all_above r.0 rs lt a.1)) a.1)
+
+pub up_to_ascend : (m high h : ℕ) (rs : List (ℕ × Payload)) → m ≤ h → Ascend m high rs → Ascend m h (up_to h rs)
+up_to_ascend m high h [] le a = le
+up_to_ascend m high h (r ∷ rs) le a = by (nat_le r.0 h) refl (up_to_ascend m high h rs le (lower m r.0 high rs a.0 a.1)) (λ here. up_to_ascend r.0 high h rs here a.1) where
+  by : (b : Bool) → nat_le r.0 h ≡ b → Ascend m h (up_to h rs) → (r.0 ≤ h → Ascend r.0 h (up_to h rs)) → Ascend m h (cond b (r ∷ up_to h rs) (up_to h rs))
+  by false e later other = later
+  by true e later other = (a.0, other (grind (arith, e)))
+
+-- from any number on
+pub between_ascend : (l m high h : ℕ) (rs : List (ℕ × Payload)) → l ≤ h → Ascend m high rs → Ascend l h (above l (up_to h rs))
+between_ascend l m high h rs le a = by (cases m h) where
+  cases : (m h : ℕ) → (m ≤ h) ⊎ (h < m)
+  cases m h = grind arith
+
+  none : (q : ℕ) (rs : List (ℕ × Payload)) → h < q → Ascend q high rs → up_to h rs ≡ []
+  none q [] lt a = refl
+  none q (p ∷ rs) lt a = let more : h < p.0 = omega (arith, lt, a.0) in ap (λ b. cond b (p ∷ up_to h rs) (up_to h rs)) (let t : nat_le p.0 h ≡ false = grind (arith, more) in t) ∙ none p.0 rs more a.1
+
+  by : (m ≤ h) ⊎ (h < m) → Ascend l h (above l (up_to h rs))
+  by (inl some) = above_ascend l m h (up_to h rs) le (up_to_ascend m high h rs some a)
+  by (inr lt) = subst (λ us. Ascend l h (above l us)) (sym (none m rs lt a)) le
