@@ -28,13 +28,14 @@ use Rattle.protobuf_model.specs.Types.{Name, Field, Types}
 use Rattle.protobuf_model.specs.Meaning.{payloads}
 use Rattle.protobuf_model.specs.Bytes.{field_numbers, numbered, run, is_declared, arranged, payloads_under, bytes_of}
 use Rattle.protobuf_model.proofs.Bridge.{bytes_join}
+use Rattle.message_view.specs.Ordered.{Ascend, Rise}
 use Rattle.message_view.specs.Sound.{HaveEntryFields, AreRepeated, HasField}
 use Rattle.message_view.specs.Types.{name_at, field_of, oneof_at, either_field, field_at}
 use Rattle.message_view.specs.Views.{held_in, held_either, content_view, contents_view, view, view_of}
 use Rattle.message_view.proofs.Accepting.{known_whole, extension_known_whole}
 use Rattle.message_view.proofs.Fields.{known, known_extension_is}
 use Rattle.message_view.proofs.Forms.{bytes_opened}
-use Rattle.message_view.proofs.Ordering.{Ascend, Rise, above_ascend, between_ascend, in_order, run_all, filter_in, filter_out, missing, listed, found, listed_at, listed_ascends, mixed, mixed_at, mixed_ascends, found_each}
+use Rattle.message_view.proofs.Ordering.{above_ascend, between_ascend, in_order, run_all, filter_in, filter_out, missing, listed, found, listed_at, listed_ascends, mixed, mixed_at, mixed_ascends, found_each}
 use Rattle.message_view.proofs.Seen.{value_at-view, view_opened}
 use Rattle.message_view.proofs.Written.{bytes, FitsAs, field_same}
 
@@ -276,14 +277,13 @@ module _ (d : MessageDescriptor) (keys_of : HaveMapKeys d.pool.now) (parts : Hav
       ∙ sym (bytes_join (run (λ n. cond (is_declared (type n)) (under n) []) field_numbers) (run (λ n. cond (is_declared (type n)) [] (under n)) field_numbers))
 
 -- what a message holds at each depth
-pub Shaped : ℕ → DynamicMessage → Type 0
+abbrev pub Shaped : ℕ → DynamicMessage → Type 0
 Shaped zero m = ⊥
 Shaped (suc levels) m = IsShaped (Shaped levels) m.descriptor (content_of m)
 
 module _ (pool : PoolType) (keys_of : HaveMapKeys pool) (parts : HaveEntryFields pool) (repeats : AreRepeated pool) (types_of : Types) (told : (i n : ℕ) → i < length pool.messages → types_of (name_at pool i) n ≡ field_at pool i n) where
   -- the bytes of a message are those of its view
   pub shaped_bytes : (levels : ℕ) (m : DynamicMessage) → m.descriptor.pool.now ≡ pool → Shaped levels m → message_bytes m ≡ bytes_of types_of (name_at pool m.descriptor.index) (view m)
-  unfolding Shaped
   shaped_bytes zero m there h = absurd h
   shaped_bytes (suc levels) m there h = by (shaped_bytes levels) where
     by : ((m : DynamicMessage) → m.descriptor.pool.now ≡ pool → Shaped levels m → message_bytes m ≡ bytes_of types_of (name_at pool m.descriptor.index) (view m)) → message_bytes m ≡ bytes_of types_of (name_at pool m.descriptor.index) (view m)

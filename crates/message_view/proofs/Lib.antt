@@ -16,3 +16,4 @@ pub mod Seen
 pub mod Sound
 pub mod Written
 pub mod Arranging
+pub mod Shapes

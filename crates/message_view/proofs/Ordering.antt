@@ -6,12 +6,8 @@ use Rattle.reflect_entries.specs.Entries.{value_at}
 use Rattle.reflect_entries.specs.Sets.{up_to, above}
 use Rattle.protobuf_model.specs.Meaning.{payloads}
 use Rattle.protobuf_model.specs.Bytes.{count_from, field_numbers, numbered, run}
+use Rattle.message_view.specs.Ordered.{Ascend, Rise}
 use Rattle.protobuf_model.proofs.Arranged.{payloads-append, payloads-own, payloads-other}
-
--- each number is that of the one before or above it, from one number up to another
-abbrev pub Ascend : ℕ → ℕ → List (ℕ × Payload) → Type 0
-Ascend low high [] = low ≤ high
-Ascend low high (r ∷ rs) = (low ≤ r.0) × Ascend r.0 high rs
 
 pub lower : (l low high : ℕ) (rs : List (ℕ × Payload)) → l ≤ low → Ascend low high rs → Ascend l high rs
 lower l low high [] le h = omega (arith, le, h)
@@ -120,11 +116,6 @@ filter_out test n (r ∷ rs) t = by (test r) refl (filter_out test n rs t) where
   by : (b : Bool) → test r ≡ b → payloads n (filter test rs) ≡ [] → payloads n (cond b (r ∷ filter test rs) (filter test rs)) ≡ []
   by true e ih = skipped n r (filter test rs) (λ is. absurd (cc (sym e ∙ t r is))) ∙ ih
   by false e ih = ih
-
--- entries in the order of their numbers, each number once
-abbrev pub Rise : {V : Type 0} → ℕ → ℕ → List (ℕ × V) → Type 0
-Rise low high [] = low ≤ suc high
-Rise low high (e ∷ es) = (low ≤ e.0) × Rise (suc e.0) high es
 
 module _ {V : Type 0} (under : ℕ × V → List Payload) where
   -- the records of the entries
