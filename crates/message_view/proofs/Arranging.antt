@@ -29,7 +29,7 @@ use Rattle.protobuf_model.specs.Meaning.{payloads}
 use Rattle.protobuf_model.specs.Bytes.{field_numbers, numbered, run, is_declared, arranged, payloads_under, bytes_of}
 use Rattle.protobuf_model.proofs.Bridge.{bytes_join}
 use Rattle.message_view.specs.Ordered.{Ascend, Rise}
-use Rattle.message_view.specs.Sound.{HaveEntryFields, AreRepeated, HasField}
+use Rattle.message_view.specs.Sound.{HaveEntryFields, HaveLists, HasField}
 use Rattle.message_view.specs.Types.{name_at, field_of, oneof_at, either_field, field_at}
 use Rattle.message_view.specs.Views.{held_in, held_either, content_view, contents_view, view, view_of}
 use Rattle.message_view.proofs.Accepting.{known_whole, extension_known_whole}
@@ -105,7 +105,7 @@ rise_forms : (low high : ℕ) (es : List (ℕ × Value)) → Rise low high es �
 rise_forms low high [] h = h
 rise_forms low high (e ∷ es) h = (h.0, rise_forms (suc e.0) high es h.1)
 
-module _ (d : MessageDescriptor) (keys_of : HaveMapKeys d.pool.now) (parts : HaveEntryFields d.pool.now) (repeats : AreRepeated d.pool.now) (types_of : Types) (told : (n : ℕ) → types_of (name_at d.pool.now d.index) n ≡ field_at d.pool.now d.index n)
+module _ (d : MessageDescriptor) (keys_of : HaveMapKeys d.pool.now) (parts : HaveEntryFields d.pool.now) (repeats : HaveLists d.pool.now) (types_of : Types) (told : (n : ℕ) → types_of (name_at d.pool.now d.index) n ≡ field_at d.pool.now d.index n)
     (inner : DynamicMessage → Type 0) (inner_bytes : (m : DynamicMessage) → m.descriptor.pool.now ≡ d.pool.now → inner m → message_bytes m ≡ bytes_of types_of (name_at d.pool.now m.descriptor.index) (view m)) (c : Content) (shaped : IsShaped inner d c) where
   abbrev pool : PoolType
   pool = d.pool.now
@@ -281,7 +281,7 @@ abbrev pub Shaped : ℕ → DynamicMessage → Type 0
 Shaped zero m = ⊥
 Shaped (suc levels) m = IsShaped (Shaped levels) m.descriptor (content_of m)
 
-module _ (pool : PoolType) (keys_of : HaveMapKeys pool) (parts : HaveEntryFields pool) (repeats : AreRepeated pool) (types_of : Types) (told : (i n : ℕ) → i < length pool.messages → types_of (name_at pool i) n ≡ field_at pool i n) where
+module _ (pool : PoolType) (keys_of : HaveMapKeys pool) (parts : HaveEntryFields pool) (repeats : HaveLists pool) (types_of : Types) (told : (i n : ℕ) → i < length pool.messages → types_of (name_at pool i) n ≡ field_at pool i n) where
   -- the bytes of a message are those of its view
   pub shaped_bytes : (levels : ℕ) (m : DynamicMessage) → m.descriptor.pool.now ≡ pool → Shaped levels m → message_bytes m ≡ bytes_of types_of (name_at pool m.descriptor.index) (view m)
   shaped_bytes zero m there h = absurd h
@@ -290,7 +290,7 @@ module _ (pool : PoolType) (keys_of : HaveMapKeys pool) (parts : HaveEntryFields
     by below =
         let d = m.descriptor in
         let here = sym there in
-        let one = content_same d (subst HaveMapKeys here keys_of) (subst HaveEntryFields here parts) (subst AreRepeated here repeats) types_of
+        let one = content_same d (subst HaveMapKeys here keys_of) (subst HaveEntryFields here parts) (subst HaveLists here repeats) types_of
         (λ n. subst (λ p. types_of (name_at p d.index) n ≡ field_at p d.index n) here (told d.index n (subst (λ p. d.index < length p.messages) there d.in_range)))
         (Shaped levels) (λ m same. subst (λ p. Shaped levels m → message_bytes m ≡ bytes_of types_of (name_at p m.descriptor.index) (view m)) here (below m (same ∙ there))) (content_of m) h in
         bytes_opened m ∙ one

@@ -18,7 +18,7 @@ use Rattle.protobuf_model.specs.Values.{nothing}
 use Rattle.protobuf_model.proofs.Bytewise.{accepted_in_pieces, merged_well}
 use Rattle.protobuf_model.proofs.Chains.{accepted_by_older}
 use Rattle.protobuf_model.proofs.Merging.{nothing_typed}
-use Rattle.message_view.specs.Sound.{IsSound, IsWhole}
+use Rattle.message_view.specs.Sound.{IsSound}
 use Rattle.message_view.specs.Types.{name_at, types_of}
 use Rattle.message_view.specs.Views.{view, view_of}
 use Rattle.message_view.proofs.Accepting.{accepted}
@@ -39,21 +39,21 @@ decoded_means d sound bytes b m type (rs, spelled, keeps, some, also, fields, (e
     (rs, record { spelled = spelled; accepted = accepted pool sound.keys (types_of pool) told 100 d refl bytes rs b spelled accepts }, means ∙ sym seen)
 
 -- and bytes that are refused are not accepted
-pub refused : (d : MessageDescriptor) → IsSound d.pool.now → IsWhole d.pool.now → (bytes : List ℕ) (e : WireError) → BodyFault 100 d.pool.now d.index None bytes e → IsAccepted (types_of d.pool.now) (name_at d.pool.now d.index) bytes → ⊥
-refused d sound there bytes e fault (rs, read) =
+pub refused : (d : MessageDescriptor) → IsSound d.pool.now → (bytes : List ℕ) (e : WireError) → BodyFault 100 d.pool.now d.index None bytes e → IsAccepted (types_of d.pool.now) (name_at d.pool.now d.index) bytes → ⊥
+refused d sound bytes e fault (rs, read) =
     let pool = d.pool.now in
-    excluded pool sound.keys 100 d.index bytes e fault rs read.spelled (admitted pool there.pooled sound.keys there.entries (types_of pool) (named pool sound.names) 100 d refl rs read.accepted)
+    excluded pool sound.keys 100 d.index bytes e fault rs read.spelled (admitted pool sound.pooled sound.keys sound.entries (types_of pool) (named pool sound.names) 100 d refl rs read.accepted)
 
-pub told_refused : (d : MessageDescriptor) → IsSound d.pool.now → IsWhole d.pool.now → (bytes : List ℕ) (e : WireError) → (e ≡ errors.Memory → ⊥) → TellsWhy d bytes e → IsAccepted (types_of d.pool.now) (name_at d.pool.now d.index) bytes → ⊥
-told_refused d sound there bytes errors.Memory other why h = other refl
-told_refused d sound there bytes errors.Truncated other why h = refused d sound there bytes errors.Truncated why h
-told_refused d sound there bytes errors.BadVarint other why h = refused d sound there bytes errors.BadVarint why h
-told_refused d sound there bytes errors.BadKey other why h = refused d sound there bytes errors.BadKey why h
-told_refused d sound there bytes errors.BadWireType other why h = refused d sound there bytes errors.BadWireType why h
-told_refused d sound there bytes errors.EndGroupMismatch other why h = refused d sound there bytes errors.EndGroupMismatch why h
-told_refused d sound there bytes errors.TooDeep other why h = refused d sound there bytes errors.TooDeep why h
-told_refused d sound there bytes errors.BadUtf8 other why h = refused d sound there bytes errors.BadUtf8 why h
-told_refused d sound there bytes errors.TooLong other why h = refused d sound there bytes errors.TooLong why h
+pub told_refused : (d : MessageDescriptor) → IsSound d.pool.now → (bytes : List ℕ) (e : WireError) → (e ≡ errors.Memory → ⊥) → TellsWhy d bytes e → IsAccepted (types_of d.pool.now) (name_at d.pool.now d.index) bytes → ⊥
+told_refused d sound bytes errors.Memory other why h = other refl
+told_refused d sound bytes errors.Truncated other why h = refused d sound bytes errors.Truncated why h
+told_refused d sound bytes errors.BadVarint other why h = refused d sound bytes errors.BadVarint why h
+told_refused d sound bytes errors.BadKey other why h = refused d sound bytes errors.BadKey why h
+told_refused d sound bytes errors.BadWireType other why h = refused d sound bytes errors.BadWireType why h
+told_refused d sound bytes errors.EndGroupMismatch other why h = refused d sound bytes errors.EndGroupMismatch why h
+told_refused d sound bytes errors.TooDeep other why h = refused d sound bytes errors.TooDeep why h
+told_refused d sound bytes errors.BadUtf8 other why h = refused d sound bytes errors.BadUtf8 why h
+told_refused d sound bytes errors.TooLong other why h = refused d sound bytes errors.TooLong why h
 
 -- what is decoded suits its type
 pub decoded_suits : (d : MessageDescriptor) → IsSound d.pool.now → (bytes : List ℕ) → AreBytes bytes → (m : DynamicMessage) → m.descriptor ≡ d → IsSpelled d bytes m → SuitsType (types_of d.pool.now) (name_at d.pool.now d.index) (view m)
@@ -66,17 +66,17 @@ spelled_accepted : (d : MessageDescriptor) → IsSound d.pool.now → (bytes : L
 spelled_accepted d sound bytes b m type h = let means = decoded_means d sound bytes b m type h in (means.0, means.1)
 
 -- and no older type refuses it
-pub older_decodes : (old new : MessageDescriptor) → IsSound old.pool.now → IsWhole old.pool.now → IsSound new.pool.now
+pub older_decodes : (old new : MessageDescriptor) → IsSound old.pool.now → IsSound new.pool.now
     → IsOlder (types_of old.pool.now) (name_at old.pool.now old.index) (types_of new.pool.now) (name_at new.pool.now new.index)
     → (bytes : List ℕ) → AreBytes bytes → (m : DynamicMessage) → m.descriptor ≡ new → IsSpelled new bytes m → (e : WireError) → (e ≡ errors.Memory → ⊥) → TellsWhy old bytes e → ⊥
-older_decodes old new sound there also older bytes b m type h e other why =
-    told_refused old sound there bytes e other why
+older_decodes old new sound also older bytes b m type h e other why =
+    told_refused old sound bytes e other why
     (accepted_by_older (types_of old.pool.now) (types_of new.pool.now) (name_at old.pool.now old.index) (name_at new.pool.now new.index) bytes older (spelled_accepted new also bytes b m type h))
 
 -- nor are decoded bytes refused one behind the other
-pub pieces_decode : (d : MessageDescriptor) → IsSound d.pool.now → IsWhole d.pool.now → (a b : List ℕ) → AreBytes a → AreBytes b → (m n : DynamicMessage) → m.descriptor ≡ d → n.descriptor ≡ d → IsSpelled d a m → IsSpelled d b n
+pub pieces_decode : (d : MessageDescriptor) → IsSound d.pool.now → (a b : List ℕ) → AreBytes a → AreBytes b → (m n : DynamicMessage) → m.descriptor ≡ d → n.descriptor ≡ d → IsSpelled d a m → IsSpelled d b n
     → (e : WireError) → (e ≡ errors.Memory → ⊥) → TellsWhy d (a ++ b) e → ⊥
-pieces_decode d sound there a b ab bb m n type also h k e other why =
+pieces_decode d sound a b ab bb m n type also h k e other why =
     let first = spelled_accepted d sound a ab m type h in
     let second = spelled_accepted d sound b bb n also k in
-    told_refused d sound there (a ++ b) e other why ((accepted_in_pieces (types_of d.pool.now) (name_at d.pool.now d.index) a b first).1 second)
+    told_refused d sound (a ++ b) e other why ((accepted_in_pieces (types_of d.pool.now) (name_at d.pool.now d.index) a b first).1 second)

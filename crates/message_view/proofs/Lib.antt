@@ -17,3 +17,4 @@ pub mod Sound
 pub mod Written
 pub mod Arranging
 pub mod Shapes
+pub mod Recoded

@@ -3,3 +3,4 @@ pub mod Sound
 pub mod Types
 pub mod Views
 pub mod Ordered
+pub mod Recoded

@@ -27,23 +27,21 @@ HaveEntryDefaults pool =
     (t : KindType) (n : ℕ) (f : FieldType) → is_entry pool t ≡ true → entry_field pool t n ≡ Some f
     → IsScalarType f.kind → Suits (scalar_of f.kind) (default_of pool f)
 
--- what the program reads of each message type, however the pool came about
-pub record IsSound (pool : PoolType) : Type 0 where
-  pub names : HaveNames pool
-  pub keys : HaveMapKeys pool
-  pub defaults : HaveEntryDefaults pool
-
--- the types that it names are there
-pub record IsWhole (pool : PoolType) : Type 0 where
-  pub pooled : ArePooled pool
-  pub entries : HaveEntryFields pool
-
 -- a field of the type at a place has the number, or an extension of it
 abbrev pub HasField : PoolType → ℕ → ℕ → FieldType → Type 0
 HasField pool i n f = (known_field pool i n ≡ Some f) ⊎ (known_extension pool i n ≡ Some f)
 
--- fields that repeat have no presence, and are packed only where their kind can be
-pub record AreRepeated (pool : PoolType) : Type 0 where
+-- fields that repeat have no presence, and are packed only where values of their kind can be
+pub record HaveLists (pool : PoolType) : Type 0 where
   pub unset : (i n : ℕ) (f : FieldType) → HasField pool i n f → is_repeated f.cardinality ≡ true → f.presence ≡ false
   pub packed : (i n : ℕ) (f : FieldType) → HasField pool i n f → is_repeated f.cardinality ≡ true → f.packed ≡ true
       → is_packable (kind_in pool f.group f.kind) ≡ true
+
+-- what messages depend on of the pool of their types, as the rules of files have it
+pub record IsSound (pool : PoolType) : Type 0 where
+  pub pooled : ArePooled pool
+  pub names : HaveNames pool
+  pub keys : HaveMapKeys pool
+  pub entries : HaveEntryFields pool
+  pub defaults : HaveEntryDefaults pool
+  pub lists : HaveLists pool
