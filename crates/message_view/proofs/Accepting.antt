@@ -1,5 +1,5 @@
 -- What the program accepts the type accepts.
-use Rattle.std.proofs.Common.{◌≡◌, ◌<◌, ◌⊎◌, inl, inr, ℕ, zero, suc, ◌==◌, ◌-◌, Bool, true, false, true≢false, cond, not, ◌&&◌, ◌||◌, List, [], ◌∷◌, ◌++◌, length, Option, Some, None, refl, sym, ap, ◌∙◌, subst, arith}
+use Rattle.std.proofs.Common.{◌≡◌, ◌<◌, ◌⊎◌, inl, inr, ℕ, zero, suc, ◌==◌, ◌-◌, Bool, true, false, true≢false, cond, ◌&&◌, ◌||◌, List, [], ◌∷◌, length, Option, Some, None, refl, sym, ap, ◌∙◌, subst, arith}
 use Rattle.std.specs.List.{AllByRecursion}
 use Rattle.std.specs.Option.{option_or}
 use Rattle.reflect_tables.specs.Types.{PoolType, FieldType, KindType}
@@ -9,7 +9,7 @@ use Rattle.reflect_pool.specs.Shapes.{is_repeated, holds_list, holds_map}
 use Rattle.reflect_pool.specs.declared.kind.Kind.{Kind}
 use Rattle.reflect_pool.specs.declared.kind.Kind.TheVariants as publics
 use Rattle.reflect_pool.specs.declared.message.MessageDescriptor.{MessageDescriptor}
-use Rattle.reflect_wire.specs.Records.{Payload, varint, fixed64, delimited, group, fixed32, Records, SpellsRecords}
+use Rattle.reflect_wire.specs.Records.{Payload, delimited, group, SpellsRecords}
 use Rattle.reflect_wire.specs.Views.{records_of}
 use Rattle.reflect_wire.specs.Written.{AreBytes, FitsPayload, FitsRecords}
 use Rattle.reflect_scalar.specs.Kinds.{kind_type, wire_type, packs}
@@ -17,23 +17,22 @@ use Rattle.reflect_scalar.specs.Meaning.{Means}
 use Rattle.reflect_scalar.specs.Singles as held
 use Rattle.reflect_scalar.proofs.Defaulted.{kind_is}
 use Rattle.reflect_message.specs.KindTypes.{IsScalarType, IsMessageType}
-use Rattle.reflect_message.specs.Known.{is_float, entry_field, has_floats, holds_floats, known_field, known_extension}
+use Rattle.reflect_message.specs.Known.{is_float, has_floats, holds_floats, known_field, known_extension}
 use Rattle.reflect_decode.specs.Accepts as decode
 use Rattle.reflect_decode.specs.Accepts.{AcceptsMessage, declared_at}
-use Rattle.reflect_decode.specs.Keeps as keeps
-use Rattle.reflect_decode.specs.Messages.{IsInside, IsEntryBody}
+use Rattle.reflect_decode.specs.Messages.{IsInside}
 use Rattle.reflect_decode.specs.Packed as packed
 use Rattle.message_laws.specs.MapKeys.{HaveMapKeys}
-use Rattle.protobuf_model.specs.Types.{Name, Field, Types, Key, Part, Label, one, many, keyed, scalar, nested}
+use Rattle.protobuf_model.specs.Types.{Name, Types, Key, Part, one, many, keyed, scalar}
 use Rattle.protobuf_model.specs.Scalars.{meant, Suits}
 use Rattle.protobuf_model.specs.Scalars as scalars
-use Rattle.protobuf_model.specs.Reader.{inside, inside_of, row}
+use Rattle.protobuf_model.specs.Reader.{inside_of}
 use Rattle.protobuf_model.specs.Meaning.{payloads}
 use Rattle.protobuf_model.specs.Accepts.{Acceptable, IsScalar, IsFramed, AcceptsPart, SpellsRow, IsPacked, AcceptsEntryRecord, HasLevel, AcceptsEntry, AcceptsField, AcceptsIn, AcceptsRecord, AcceptsBy, Accepts}
 use Rattle.protobuf_model.proofs.Bridge.{inside_is}
 use Rattle.protobuf_model.proofs.Rows.{row_spelled}
 use Rattle.message_view.specs.Singles.{scalar_of, single_view}
-use Rattle.message_view.specs.Types.{name_at, frame_of, kind_in, part_of, key_of, entry_part, values_of, label_of, field_of, oneof_at, either_field, field_at}
+use Rattle.message_view.specs.Types.{name_at, frame_of, kind_in, part_of, key_of, entry_part, values_of, label_of, either_field, field_at}
 use Rattle.message_view.proofs.Scalars.{meant_is, suits_is}
 use Rattle.message_view.proofs.Elements.{kind_scalar, kind_message, meant_in, wire_same, packs_same}
 use Rattle.message_view.proofs.Entries.{Sort, plain, floating, message_type, sort_of, key_scalar, no_float_values, entry_of_map, part_is}
@@ -131,8 +130,8 @@ module _ (pool : PoolType) (coded : decode.Acceptable) (accept : Acceptable) (le
       let one_k = payload_head (decode.AcceptsOne coded pool values) 2 r rs k in
       let here = plain_ones.0 in (
         entry_record accept (key_of pool keys) (part_of pool values) r.0 r.1
-        (λ is. subst (λ k. AcceptsPart accept k r.1) (kind_scalar pool keys.group keys.kind type) (one_accepted keys r.1 here.fits here.bytes (one_h.0 is)))
-        (λ is. one_accepted values r.1 here.fits here.bytes (one_k.0 is)),
+            (λ is. subst (λ k. AcceptsPart accept k r.1) (kind_scalar pool keys.group keys.kind type) (one_accepted keys r.1 here.fits here.bytes (one_h.0 is)))
+            (λ is. one_accepted values r.1 here.fits here.bytes (one_k.0 is)),
         records_accepted keys values type rs plain_ones.1 one_h.1 one_k.1,
       )
 
@@ -162,7 +161,7 @@ module _ (pool : PoolType) (coded : decode.Acceptable) (accept : Acceptable) (le
 
   abbrev Goal : FieldType → Payload → Bool → Bool → Type 0
   Goal f p map_too repeated =
-        AcceptsField accept levels (part_of pool (cond map_too (entry_part pool f 2) f)) (cond map_too (keyed (key_of pool (entry_part pool f 1))) (cond repeated (many f.packed) one)) p
+      AcceptsField accept levels (part_of pool (cond map_too (entry_part pool f 2) f)) (cond map_too (keyed (key_of pool (entry_part pool f 1))) (cond repeated (many f.packed) one)) p
 
   field_accepted : HaveMapKeys pool → (f : FieldType) → holds_floats pool f ≡ false → (p : Payload) → FitsPayload levels p → HasBytes p → decode.AcceptsField levels coded pool f p
       → AcceptsField accept levels (part_of pool (values_of pool f)) (label_of pool f) p

@@ -1,29 +1,26 @@
 -- What the type accepts the program accepts.
-use Rattle.std.proofs.Common.{◌≡◌, ◌<◌, ◌⊎◌, inl, inr, ℕ, ℤ, pos, negsuc, zero, suc, ◌==◌, ◌+◌, ◌-◌, ◌*◌, ◌/◌, ◌%◌, Bool, true, false, true≢false, cond, not, ◌&&◌, ◌||◌, List, [], ◌∷◌, ◌++◌, map, length, Option, Some, None, refl, sym, ap, ◌∙◌, subst, arith}
+use Rattle.std.proofs.Common.{◌≡◌, ◌<◌, ◌⊎◌, inl, inr, ℕ, pos, negsuc, zero, suc, ◌==◌, ◌/◌, ◌%◌, Bool, true, false, true≢false, cond, ◌&&◌, List, [], ◌∷◌, length, Option, Some, None, refl, sym, ap, ◌∙◌, subst, arith}
 use Rattle.std.specs.List.{AllByRecursion, find}
 use Rattle.std.specs.Option.{option_and_then, option_or}
 use Rattle.std.specs.Prelude.{slice_index_or}
-use Rattle.std.specs.Str.{IsUtf8}
 use Rattle.reflect_tables.specs.Types.{PoolType, FieldType, KindType, MessageType, ExtensionType, counts_of, IsWithin, MessageWithin, ExtensionWithin, ArePooled, type_at, no_type}
 use Rattle.reflect_tables.specs.Types as types
 use Rattle.reflect_tables.specs.declared.tables.Counts.{Counts}
 use Rattle.reflect_pool.specs.Kinds.{IsKind}
-use Rattle.reflect_pool.specs.Shapes.{is_entry, is_repeated, holds_list, holds_map}
+use Rattle.reflect_pool.specs.Shapes.{is_repeated, holds_list, holds_map}
 use Rattle.reflect_pool.specs.declared.kind.Kind.{Kind}
 use Rattle.reflect_pool.specs.declared.kind.Kind.TheVariants as publics
 use Rattle.reflect_pool.specs.declared.message.MessageDescriptor.{MessageDescriptor}
-use Rattle.reflect_wire.specs.Records.{Payload, varint, fixed64, delimited, group, fixed32, SpellsRecords}
-use Rattle.reflect_wire.specs.Views.{records_of}
+use Rattle.reflect_wire.specs.Records.{Payload, varint, fixed64, delimited, group, fixed32}
 use Rattle.reflect_scalar.specs.Kinds.{kind_type, wire_type, packs}
 use Rattle.reflect_scalar.specs.Meaning.{Means}
 use Rattle.reflect_scalar.specs.Meaning as means
 use Rattle.reflect_scalar.specs.Singles as held
 use Rattle.reflect_scalar.proofs.Defaulted.{kind_is}
 use Rattle.reflect_message.specs.KindTypes.{IsScalarType, IsMessageType}
-use Rattle.reflect_message.specs.Known.{is_float, numbered_field, entry_field, has_floats, holds_floats, if_held, known_field, known_extension}
+use Rattle.reflect_message.specs.Known.{is_float, numbered_field, entry_field, holds_floats, if_held, known_field, known_extension}
 use Rattle.reflect_decode.specs.Accepts as decode
 use Rattle.reflect_decode.specs.Accepts.{AcceptsMessage, declared_at}
-use Rattle.reflect_decode.specs.Messages.{IsInside, IsEntryBody}
 use Rattle.reflect_decode.specs.Packed as packed
 use Rattle.message_laws.specs.MapKeys.{HaveMapKeys}
 use Rattle.protobuf_model.specs.Values as model
@@ -35,9 +32,9 @@ use Rattle.protobuf_model.specs.Reader.{inside, inside_of, row, list_of}
 use Rattle.protobuf_model.specs.Meaning.{payloads}
 use Rattle.protobuf_model.specs.Accepts.{Acceptable, IsScalar, IsFramed, AcceptsPart, SpellsRow, IsPacked, AcceptsEntryRecord, HasLevel, AcceptsEntry, AcceptsField, AcceptsIn, AcceptsRecord, AcceptsBy, Accepts}
 use Rattle.protobuf_model.proofs.Reading.{records_back}
-use Rattle.message_view.specs.Singles.{scalar_of, single_view}
+use Rattle.message_view.specs.Singles.{scalar_of}
 use Rattle.message_view.specs.Sound.{HaveEntryFields}
-use Rattle.message_view.specs.Types.{name_at, frame_of, kind_in, part_of, key_of, entry_part, values_of, label_of, field_of, oneof_at, either_field, field_at}
+use Rattle.message_view.specs.Types.{name_at, frame_of, kind_in, part_of, key_of, entry_part, values_of, label_of, either_field, field_at}
 use Rattle.message_view.proofs.Accepting.{accept_of, accepts_at, known_whole, extension_known_whole, not_float}
 use Rattle.message_view.proofs.Elements.{kind_scalar, kind_message, wire_same, packs_same}
 use Rattle.message_view.proofs.Entries.{Sort, plain, floating, message_type, sort_of, key_scalar, no_float_values, entry_of_map, part_is}
@@ -213,7 +210,7 @@ module _ (d : MessageDescriptor) (pooled : ArePooled d.pool.now) (coded : decode
 
   abbrev From : FieldType → Payload → Bool → Bool → Type 0
   From f p map_too repeated =
-        AcceptsField accept levels (part_of pool (cond map_too (entry_part pool f 2) f)) (cond map_too (keyed (key_of pool (entry_part pool f 1))) (cond repeated (many f.packed) one)) p
+      AcceptsField accept levels (part_of pool (cond map_too (entry_part pool f 2) f)) (cond map_too (keyed (key_of pool (entry_part pool f 1))) (cond repeated (many f.packed) one)) p
 
   field_taken : HaveMapKeys pool → HaveEntryFields pool → (f : FieldType) → holds_floats pool f ≡ false → IsWithin (counts_of pool) f.kind → (p : Payload) → AcceptsField accept levels (part_of pool (values_of pool f)) (label_of pool f) p
       → decode.AcceptsField levels coded pool f p

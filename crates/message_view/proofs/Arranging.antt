@@ -1,35 +1,32 @@
 -- The bytes of a message, in the program's words and in the model's.
-use Rattle.std.proofs.Common.{◌≡◌, ◌<◌, ◌≤◌, ◌⊎◌, inl, inr, ℕ, zero, suc, ◌-◌, ◌^◌, ◌==◌, Bool, true, false, cond, not, nat_lt, nat_le, List, [], ◌∷◌, ◌++◌, map, reverse, length, Option, Some, None, option_map, refl, sym, ap, ◌∙◌, subst, append-nil, append_assoc, arith}
-use Rattle.std.specs.List.{AllByRecursion, filter, flat_map}
+use Rattle.std.proofs.Common.{◌≡◌, ◌<◌, ◌≤◌, inl, inr, ℕ, zero, suc, ◌-◌, ◌^◌, ◌==◌, Bool, true, false, cond, nat_lt, nat_le, List, [], ◌∷◌, ◌++◌, reverse, length, Option, Some, None, option_map, refl, sym, ap, ◌∙◌, subst, append-nil, append_assoc, arith}
+use Rattle.std.specs.List.{AllByRecursion, flat_map}
 use Rattle.std.proofs.lemmas.List.{reverse-append}
 use Rattle.reflect_tables.specs.Types.{PoolType, FieldType}
 use Rattle.reflect_pool.specs.FieldsLeft.{field_type}
-use Rattle.reflect_pool.specs.Shapes.{is_repeated, holds_list, holds_map}
+use Rattle.reflect_pool.specs.Shapes.{holds_list, holds_map}
 use Rattle.reflect_pool.specs.declared.message.MessageDescriptor.{MessageDescriptor}
 use Rattle.reflect_pool.specs.declared.field.FieldDescriptor.{FieldDescriptor}
 use Rattle.reflect_pool.specs.declared.extension.ExtensionDescriptor.{ExtensionDescriptor}
 use Rattle.reflect_wire.specs.Records.{Payload}
-use Rattle.reflect_wire.specs.Views.{records_of}
-use Rattle.reflect_wire.specs.Encoding.{records_bytes}
 use Rattle.reflect_entries.specs.Entries.{value_at}
-use Rattle.reflect_entries.specs.Pairs.{on_value}
 use Rattle.reflect_entries.specs.Sets.{up_to, above}
 use Rattle.reflect_scalar.specs.FieldTypes.{extension_type}
 use Rattle.reflect_message.specs.Bytes.{Form, content_bytes, declared_bytes, extension_bytes, others_down, content, form_of, forms, message_bytes}
 use Rattle.reflect_message.specs.Contents.{Content, content_of}
 use Rattle.reflect_message.specs.Declares.{Owns, OwnsExtension, IsDeclared}
-use Rattle.reflect_message.specs.Known.{holds_floats, known_field, known_extension}
+use Rattle.reflect_message.specs.Known.{known_field, known_extension}
 use Rattle.reflect_message.specs.declared.message.DynamicMessage.{DynamicMessage}
 use Rattle.reflect_message.specs.declared.value.Value.{Value}
 use Rattle.message_laws.specs.MapKeys.{HaveMapKeys}
 use Rattle.protobuf_model.specs.Values as model
 use Rattle.protobuf_model.specs.Values.{Held, Message, records, absent}
-use Rattle.protobuf_model.specs.Types.{Name, Field, Types}
+use Rattle.protobuf_model.specs.Types.{Field, Types}
 use Rattle.protobuf_model.specs.Meaning.{payloads}
 use Rattle.protobuf_model.specs.Bytes.{field_numbers, numbered, run, is_declared, arranged, payloads_under, bytes_of}
 use Rattle.protobuf_model.proofs.Bridge.{bytes_join}
 use Rattle.message_view.specs.Ordered.{Ascend, Rise}
-use Rattle.message_view.specs.Sound.{HaveEntryFields, HaveLists, HasField}
+use Rattle.message_view.specs.Sound.{HaveEntryFields, HaveLists}
 use Rattle.message_view.specs.Types.{name_at, field_of, oneof_at, either_field, field_at}
 use Rattle.message_view.specs.Views.{held_in, held_either, content_view, contents_view, view, view_of}
 use Rattle.message_view.proofs.Accepting.{known_whole, extension_known_whole}

@@ -1,9 +1,7 @@
 -- What `decode` says of bytes, in the words of the model.
-use Rattle.std.proofs.Common.{◌≡◌, ◌<◌, ℕ, List, ◌++◌, length, None, refl, sym, ap, ◌∙◌, subst}
-use Rattle.reflect_tables.specs.Types.{PoolType}
+use Rattle.std.proofs.Common.{◌≡◌, ℕ, List, ◌++◌, None, refl, sym, ap, ◌∙◌}
 use Rattle.reflect_pool.specs.declared.message.MessageDescriptor.{MessageDescriptor}
 use Rattle.reflect_wire.specs.Written.{AreBytes}
-use Rattle.reflect_wire.specs.Records.{Payload}
 use Rattle.reflect_wire.specs.declared.wire_error.WireError.{WireError}
 use Rattle.reflect_wire.specs.declared.wire_error.WireError.TheVariants as errors
 use Rattle.reflect_message.specs.Contents.{content_of}

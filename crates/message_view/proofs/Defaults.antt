@@ -1,22 +1,22 @@
 -- Defaults of maps' keys and values, in the words of the model.
-use Rattle.std.proofs.Common.{◌≡◌, ◌<◌, ℕ, pos, ◌==◌, ◌&&◌, Bool, true, false, cond, Option, Some, None, unwrap_or, refl, sym, ap, ◌∙◌, subst, arith}
+use Rattle.std.proofs.Common.{◌≡◌, ℕ, ◌==◌, ◌&&◌, Bool, true, false, cond, Option, Some, None, unwrap_or, refl, sym, ◌∙◌, subst, arith}
 use Rattle.std.specs.List.{find}
 use Rattle.std.specs.Option.{option_and_then}
 use Rattle.reflect_tables.specs.Types.{PoolType, FieldType, KindType, ExtensionType, no_field}
 use Rattle.reflect_tables.specs.Types as types
 use Rattle.reflect_pool.specs.Shapes.{is_repeated, holds_map}
-use Rattle.reflect_message.specs.KindTypes.{IsScalarType, IsMessageType}
-use Rattle.reflect_message.specs.Known.{is_float, entry_field, holds_floats, if_held, known_field, known_extension}
+use Rattle.reflect_message.specs.KindTypes.{IsMessageType}
+use Rattle.reflect_message.specs.Known.{entry_field, holds_floats, if_held, known_field, known_extension}
 use Rattle.message_laws.specs.MapKeys.{HaveMapKeys}
 use Rattle.protobuf_model.specs.Values.{Single}
-use Rattle.protobuf_model.specs.Types.{Name, Field, Label, one, many, keyed}
+use Rattle.protobuf_model.specs.Types.{one, many, keyed}
 use Rattle.protobuf_model.specs.Scalars.{Suits}
 use Rattle.protobuf_model.specs.Typed.{HasDefault, HasEntryDefaults, HasDefaults, HaveDefaults}
 use Rattle.message_view.specs.Singles.{scalar_of}
 use Rattle.message_view.specs.Sound.{HaveEntryDefaults}
-use Rattle.message_view.specs.Types.{default_of, part_of, key_of, kind_in, entry_part, values_of, label_of, field_of, oneof_at, either_field, place_in, types_of}
+use Rattle.message_view.specs.Types.{default_of, part_of, key_of, kind_in, entry_part, field_of, oneof_at, either_field, place_in, types_of}
 use Rattle.message_view.proofs.Elements.{kind_scalar}
-use Rattle.message_view.proofs.Entries.{Sort, plain, floating, message_type, sort_of, key_scalar, no_float_values, entry_of_map, part_is}
+use Rattle.message_view.proofs.Entries.{Sort, plain, floating, message_type, sort_of, key_scalar, no_float_values, entry_of_map}
 use Rattle.message_view.proofs.Fields.{held_is}
 
 -- what stands for a part that is not there has the default of its kind

@@ -1,5 +1,5 @@
 -- Records of single values and of lists, and what they leave.
-use Rattle.std.proofs.Common.{◌≡◌, inl, inr, ℕ, Bool, true, false, cond, List, [], ◌∷◌, ◌++◌, map, Option, Some, None, option_map, refl, sym, ap, ◌∙◌, subst, append-nil}
+use Rattle.std.proofs.Common.{◌≡◌, inl, inr, ℕ, Bool, List, [], ◌∷◌, ◌++◌, map, Option, Some, None, option_map, refl, sym, ap, ◌∙◌, subst, append-nil}
 use Rattle.std.specs.List.{flat_map}
 use Rattle.reflect_tables.specs.Types.{PoolType, FieldType, KindType}
 use Rattle.reflect_tables.specs.Types as types
@@ -7,27 +7,26 @@ use Rattle.reflect_pool.specs.Kinds.{IsKind}
 use Rattle.reflect_pool.specs.declared.kind.Kind.{Kind}
 use Rattle.reflect_pool.specs.declared.kind.Kind.TheVariants as publics
 use Rattle.reflect_pool.specs.declared.message.MessageDescriptor.{MessageDescriptor}
-use Rattle.reflect_wire.specs.Records.{Payload, delimited, wire_of}
+use Rattle.reflect_wire.specs.Records.{Payload}
 use Rattle.reflect_scalar.specs.Kinds.{kind_type, wire_type, packs}
 use Rattle.reflect_scalar.specs.Meaning.{Means}
 use Rattle.reflect_scalar.specs.Singles as held
 use Rattle.reflect_scalar.proofs.Defaulted.{kind_is}
 use Rattle.reflect_scalar.proofs.Meanings.{form_of_meaning}
 use Rattle.reflect_message.specs.Contents.{Content, content_of, nothing}
-use Rattle.reflect_message.specs.KindTypes.{IsScalarType, IsMessageType}
+use Rattle.reflect_message.specs.KindTypes.{IsScalarType}
 use Rattle.reflect_message.specs.Lists.{items_held}
-use Rattle.reflect_message.specs.Messages.{message_held}
 use Rattle.reflect_message.specs.Singles as singles
 use Rattle.reflect_message.specs.declared.message.DynamicMessage.{DynamicMessage}
 use Rattle.reflect_message.specs.declared.value.Value.{Value}
-use Rattle.reflect_decode.specs.Elements.{IsRow, AreElements}
+use Rattle.reflect_decode.specs.Elements.{AreElements}
 use Rattle.reflect_decode.specs.Messages.{Takes, IsMade, MergesMessage}
-use Rattle.reflect_decode.specs.Packed.{IsPacked, Continues}
-use Rattle.reflect_decode.specs.Scalars.{AreValues, ContinuesWith, IsLast, HoldsLast}
+use Rattle.reflect_decode.specs.Packed.{IsPacked}
+use Rattle.reflect_decode.specs.Scalars.{AreValues, ContinuesWith, HoldsLast}
 use Rattle.reflect_decode.specs.Taking.{AreMade, AddsMessages}
 use Rattle.protobuf_model.specs.Values as model
 use Rattle.protobuf_model.specs.Values.{single, message, list, Held, absent, chain_of}
-use Rattle.protobuf_model.specs.Types.{Part, scalar, nested}
+use Rattle.protobuf_model.specs.Types.{scalar, nested}
 use Rattle.protobuf_model.specs.Scalars.{meant}
 use Rattle.protobuf_model.specs.Scalars as scalars
 use Rattle.protobuf_model.specs.Reader.{inside_of}

@@ -1,5 +1,5 @@
 -- Records of maps, and what they leave.
-use Rattle.std.proofs.Common.{◌≡◌, ◌<◌, ℕ, Bool, true, false, true≢false, cond, not, ◌&&◌, ◌||◌, List, [], ◌∷◌, ◌++◌, map, Option, Some, None, option_map, unwrap_or, refl, sym, ap, ◌∙◌, subst}
+use Rattle.std.proofs.Common.{◌≡◌, ℕ, Bool, true, false, true≢false, not, ◌&&◌, ◌||◌, List, [], ◌∷◌, map, Option, Some, None, option_map, unwrap_or, refl, sym, ap, ◌∙◌, subst}
 use Rattle.std.specs.BTreeMap.{insert_entry}
 use Rattle.std.specs.List.{AllByRecursion, flat_map}
 use Rattle.std.specs.Option.{option_and_then, option_or}
@@ -17,7 +17,7 @@ use Rattle.reflect_message.specs.Maps.{entries_held}
 use Rattle.reflect_message.specs.Singles as singles
 use Rattle.reflect_message.specs.declared.value.Value.{Value}
 use Rattle.reflect_decode.specs.Keeps as keeps
-use Rattle.reflect_decode.specs.Maps.{key_order, LeavesSingle, LeavesKey, LeavesValue, IsEntry, PutEntries, ContinuesMap}
+use Rattle.reflect_decode.specs.Maps.{key_order, LeavesSingle, LeavesValue, IsEntry, PutEntries, ContinuesMap}
 use Rattle.reflect_decode.specs.Messages.{Takes}
 use Rattle.reflect_decode.specs.Refused.{IsKeyKind}
 use Rattle.protobuf_model.specs.Values as model
@@ -27,14 +27,14 @@ use Rattle.protobuf_model.specs.Types as kinds
 use Rattle.protobuf_model.specs.Scalars.{meant, Suits}
 use Rattle.protobuf_model.specs.Keys.{put}
 use Rattle.protobuf_model.specs.Reader.{inside_of}
-use Rattle.protobuf_model.specs.Meaning.{Merge, payloads, last_or, entry_value, entry, if_some, put_all, held_by}
+use Rattle.protobuf_model.specs.Meaning.{Merge, payloads, last_or, entry_value, entry, if_some, put_all}
 use Rattle.message_view.specs.Singles.{scalar_of, single_view}
 use Rattle.message_view.specs.Types.{default_of, part_of, key_of, entry_part}
 use Rattle.message_view.specs.Views.{held_in, content_view}
 use Rattle.message_view.specs.Sound.{HaveEntryDefaults}
 use Rattle.message_laws.specs.MapKeys.{HaveMapKeys}
 use Rattle.message_view.proofs.Elements.{kind_scalar, kind_message, meant_in, last_or_is, Nests, merged_is}
-use Rattle.message_view.proofs.Keys.{form_of, key_single, viewed, entry_put, forms_stay}
+use Rattle.message_view.proofs.Keys.{form_of, key_single, entry_put, forms_stay}
 use Rattle.message_view.proofs.Oneofs.{payloads_same}
 use Rattle.message_view.proofs.Seen.{single_seen, map_seen, pairs_view}
 
@@ -232,8 +232,7 @@ module _ (pool : PoolType) (keyed : HaveMapKeys pool) (defaults : HaveEntryDefau
       ∙ ap (λ ps. last_or (default_of pool keys) (flat_map (meant (scalar_of keys.kind)) ps)) (ap (payloads 1) body ∙ sym (payloads_same 1 rs))
       ∙ single_of pool keys (key_view k) (keeps.payloads 1 rs) (key_left type) in
       let value : entry_value inner the_value the_value.kind (payloads 2 (inside_of p)) ≡ content_view v =
-      ap (entry_value inner the_value the_value.kind) (ap (payloads 2) body ∙ sym (payloads_same 2 rs)) ∙ value_is values v (keeps.payloads 2 rs) two value_left in
-      (
+      ap (entry_value inner the_value the_value.kind) (ap (payloads 2) body ∙ sym (payloads_same 2 rs)) ∙ value_is values v (keeps.payloads 2 rs) two value_left in (
         ap (λ a. (a, entry_value inner the_value the_value.kind (payloads 2 (inside_of p)))) key ∙ ap (λ b. (key_single k, b)) value,
         left_form pool keys (key_view k) (keeps.payloads 1 rs) suits (key_left type) ∙ ap (λ (g : FieldType). form_at (scalar_of g.kind)) (sym (part_is pool f 1 keys one)),
       )

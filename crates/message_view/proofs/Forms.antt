@@ -1,8 +1,6 @@
 -- How values are written, one level at a time.
-use Rattle.std.proofs.Common.{◌≡◌, ℕ, Bool, List, [], ◌∷◌, ◌++◌, map, reverse, Option, Some, None, unwrap_or, string_bytes, refl, sym, ap, ◌∙◌}
-use Rattle.reflect_tables.specs.Types.{PoolType, FieldType}
-use Rattle.reflect_wire.specs.Records.{Payload}
-use Rattle.reflect_entries.specs.Undeclared.{undeclared}
+use Rattle.std.proofs.Common.{◌≡◌, ℕ, List, [], map, Some, unwrap_or, string_bytes, refl, ap, ◌∙◌}
+use Rattle.reflect_tables.specs.Types.{PoolType}
 use Rattle.reflect_scalar.specs.Singles as held
 use Rattle.reflect_scalar.specs.declared.map_key.MapKey.{MapKey}
 use Rattle.reflect_message.specs.Bytes.{Form, single_form, message_form, list_form, map_form, form_of, forms, content, held_bytes, message_bytes, value_step, message_step, held_step, parts_step}

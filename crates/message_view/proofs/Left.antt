@@ -1,17 +1,16 @@
 -- What records leave in a message, number by number and level by level.
-use Rattle.std.proofs.Common.{◌≡◌, ◌<◌, inl, inr, ℕ, zero, suc, Bool, true, false, true≢false, cond, not, ◌&&◌, ◌||◌, List, [], ◌∷◌, ◌++◌, map, length, Option, Some, None, option_map, refl, sym, ap, ◌∙◌, subst, append-nil, arith}
+use Rattle.std.proofs.Common.{◌≡◌, ◌<◌, inl, inr, ℕ, zero, suc, Bool, true, false, true≢false, cond, not, ◌&&◌, ◌||◌, List, [], ◌∷◌, ◌++◌, map, length, Option, Some, None, option_map, refl, sym, ap, ◌∙◌, subst}
 use mathlib.Core.Path.{fun_ext}
-use Rattle.std.specs.Option.{IsSome}
 use Rattle.reflect_tables.specs.Types.{PoolType, FieldType}
 use Rattle.reflect_pool.specs.FieldsLeft.{field_type}
 use Rattle.reflect_pool.specs.Shapes.{is_repeated, holds_list, holds_map}
 use Rattle.reflect_pool.specs.declared.message.MessageDescriptor.{MessageDescriptor}
 use Rattle.reflect_pool.specs.declared.field.FieldDescriptor.{FieldDescriptor}
 use Rattle.reflect_pool.specs.declared.extension.ExtensionDescriptor.{ExtensionDescriptor}
-use Rattle.reflect_wire.specs.Records.{Payload, delimited, group, SpellsRecords}
+use Rattle.reflect_wire.specs.Records.{Payload, delimited, group}
 use Rattle.reflect_entries.specs.Entries.{value_at}
-use Rattle.reflect_scalar.specs.FieldTypes.{field_pool, extension_pool, extension_type}
-use Rattle.reflect_message.specs.Contents.{Content, content_of, nothing}
+use Rattle.reflect_scalar.specs.FieldTypes.{extension_type}
+use Rattle.reflect_message.specs.Contents.{Content, nothing}
 use Rattle.reflect_message.specs.Declares.{Owns, OwnsExtension}
 use Rattle.reflect_message.specs.Known.{is_float, has_floats, holds_floats, known_field, known_extension}
 use Rattle.reflect_message.specs.Oneofs.{AreChosen}
@@ -19,7 +18,7 @@ use Rattle.reflect_message.specs.declared.value.Value.{Value}
 use Rattle.reflect_decode.specs.Fields.{LeavesField, LeavesExtension}
 use Rattle.reflect_decode.specs.Keeps as keeps
 use Rattle.reflect_decode.specs.Keeps.{Keeps}
-use Rattle.reflect_decode.specs.Levels.{TakenAt, TakesAt, MergesAt}
+use Rattle.reflect_decode.specs.Levels.{TakenAt, TakesAt}
 use Rattle.reflect_decode.specs.Messages.{Takes, AreInside, IsInside, IsEntryBody}
 use Rattle.reflect_decode.specs.Spares.{Merges}
 use Rattle.reflect_decode.specs.Taking.{TakesAs, Leaves}

@@ -1,22 +1,21 @@
 -- Members of oneofs, and which records of a field stand.
-use Rattle.std.proofs.Common.{◌≡◌, ◌≢◌, ◌⊎◌, inl, inr, ℕ, ◌==◌, ◌&&◌, ◌||◌, not, Bool, true, false, true≢false, cond, List, [], ◌∷◌, ◌++◌, map, Option, None, Some, unwrap_or, refl, sym, ap, ◌∙◌, subst, arith}
-use Rattle.std.specs.List.{filter}
+use Rattle.std.proofs.Common.{◌≡◌, ◌≢◌, ℕ, ◌==◌, ◌&&◌, ◌||◌, not, Bool, true, false, true≢false, cond, List, [], ◌∷◌, map, Option, None, Some, refl, sym, ap, ◌∙◌, arith}
 use Rattle.std.specs.Option.{option_and_then}
-use Rattle.reflect_tables.specs.Types.{PoolType, FieldType}
+use Rattle.reflect_tables.specs.Types.{FieldType}
 use Rattle.reflect_pool.specs.FieldsLeft.{field_type}
 use Rattle.reflect_pool.specs.Parts.{members_of}
 use Rattle.reflect_pool.specs.declared.message.MessageDescriptor.{MessageDescriptor}
 use Rattle.reflect_pool.specs.declared.field.FieldDescriptor.{FieldDescriptor}
 use Rattle.reflect_wire.specs.Records.{Payload}
 use Rattle.reflect_entries.specs.Members.{first_number, first_member_of}
-use Rattle.reflect_message.specs.Declares.{Declares, Owns}
+use Rattle.reflect_message.specs.Declares.{Owns}
 use Rattle.reflect_message.specs.Known.{known_field, known_extension}
 use Rattle.reflect_message.specs.Oneofs.{IsSibling}
 use Rattle.reflect_decode.specs.Fields.{NoSibling}
 use Rattle.reflect_decode.specs.Keeps as keeps
 use Rattle.protobuf_model.specs.Types.{Field, oneof_of, same_oneof, rival}
 use Rattle.protobuf_model.specs.Meaning.{is_in, payloads}
-use Rattle.message_view.specs.Types.{oneof_at, either_field, field_at}
+use Rattle.message_view.specs.Types.{either_field, field_at}
 use Rattle.message_view.proofs.Fields.{owned, known}
 
 -- the payloads of a number, by one test and by another

@@ -1,12 +1,11 @@
 -- Records that bytes spell fit their forms, and what is inside them are bytes.
-use Rattle.std.proofs.Common.{◌≡◌, ℕ, zero, suc, ◌<◌, ◌-◌, ◌^◌, List, [], ◌∷◌, ◌++◌, get_or, sym, subst, arith}
+use Rattle.std.proofs.Common.{ℕ, zero, suc, ◌<◌, ◌-◌, ◌^◌, List, [], ◌∷◌, ◌++◌, get_or, sym, subst, arith}
 use Rattle.std.specs.Int.{w32, w64, from_le_bytes}
 use Rattle.std.specs.List.{AllByRecursion}
 use Rattle.reflect_wire.specs.Records.{Payload, varint, fixed64, delimited, group, fixed32, Records, no_records, more_records, SpellsPayload, SpellsRecords}
 use Rattle.reflect_wire.specs.Views.{records_of}
 use Rattle.reflect_wire.specs.Written.{AreBytes, FitsPayload, FitsRecords}
 use Rattle.reflect_wire.proofs.Spelling.{records_fit}
-use Rattle.protobuf_model.specs.Accepts.{SpellsRow}
 
 abbrev mutual
   pub HasBytes : Payload → Type 0

@@ -1,5 +1,5 @@
 -- What is recoded, in the words of the model.
-use Rattle.std.proofs.Common.{◌≡◌, ◌↔◌, ◌<◌, ◌^◌, ℕ, List, [], ◌∷◌, map, length, refl, sym, ap, ◌∙◌, subst}
+use Rattle.std.proofs.Common.{◌≡◌, ◌↔◌, ◌<◌, ◌^◌, ℕ, List, [], ◌∷◌, map, length, sym, ap, ◌∙◌, subst}
 use Rattle.std.specs.List.{AllByRecursion}
 use Rattle.reflect_pool.specs.declared.message.MessageDescriptor.{MessageDescriptor}
 use Rattle.reflect_wire.specs.Written.{AreBytes}
@@ -11,9 +11,8 @@ use Rattle.reflect_message.specs.declared.message.DynamicMessage.{DynamicMessage
 use Rattle.reflect_decode.specs.Levels.{TakesAt}
 use Rattle.reflect_decode.specs.Spelled.{IsSpelled, TellsWhy}
 use Rattle.protobuf_model.specs.Bytes.{bytes_of}
-use Rattle.protobuf_model.specs.Coded.{Mean, IsAccepted, IsRecoded, IsRecodedThrough, AreOlderThan}
+use Rattle.protobuf_model.specs.Coded.{Mean, IsRecoded, IsRecodedThrough, AreOlderThan}
 use Rattle.protobuf_model.specs.Older.{IsOlder}
-use Rattle.protobuf_model.specs.Types.{Name, Types}
 use Rattle.protobuf_model.specs.Values.{Message, nothing}
 use Rattle.protobuf_model.proofs.Bytewise.{bytes_mean, one_form, one_meaning}
 use Rattle.protobuf_model.proofs.Chains.{passes, passes_through, same_as_direct}
@@ -25,7 +24,6 @@ use Rattle.message_view.specs.Views.{view}
 use Rattle.message_view.proofs.Arranging.{shaped_bytes}
 use Rattle.message_view.proofs.Decoded.{decoded_means, decoded_suits, told_refused}
 use Rattle.message_view.proofs.Defaults.{have_defaults}
-use Rattle.message_view.proofs.Left.{AreLeft}
 use Rattle.message_view.proofs.Shapes.{AreKept, kept_shaped}
 use Rattle.message_view.proofs.Sound.{named}
 

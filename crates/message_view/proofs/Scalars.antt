@@ -1,21 +1,15 @@
 -- Kinds of single values, in the pool's words and in the model's.
-use Rattle.std.proofs.Common.{◌≡◌, ◌⊎◌, inl, inr, ℕ, ℤ, pos, negsuc, ◌+◌, ◌-◌, ◌*◌, ◌%◌, ◌^◌, ◌<◌, Bool, true, false, cond, List, [], ◌∷◌, Option, None, Some, refl, sym, ap, ◌∙◌, subst, arith}
+use Rattle.std.proofs.Common.{◌≡◌, ℕ, ℤ, pos, negsuc, ◌+◌, ◌-◌, ◌*◌, ◌^◌, ◌<◌, [], ◌∷◌, refl, sym, ap, ◌∙◌, subst, arith}
 use Rattle.std.proofs.Math.Facts.{sfits_to_z}
-use Rattle.std.specs.Int.{w32, w64, cast_signed}
-use Rattle.reflect_tables.specs.Types.{PoolType, KindType}
-use Rattle.reflect_tables.specs.Types as types
-use Rattle.reflect_pool.specs.Kinds.{IsKind}
 use Rattle.reflect_pool.specs.declared.kind.Kind.{Kind}
 use Rattle.reflect_pool.specs.declared.kind.Kind.TheVariants as publics
-use Rattle.reflect_wire.specs.Records.{Payload, varint, fixed64, delimited, group, fixed32, wire_of}
+use Rattle.reflect_wire.specs.Records.{Payload, varint, fixed64, delimited, fixed32}
 use Rattle.reflect_wire.specs.Written.{FitsPayload}
-use Rattle.reflect_scalar.specs.Kinds.{kind_type, wire_type, packs}
+use Rattle.reflect_scalar.specs.Kinds.{kind_type}
 use Rattle.reflect_scalar.specs.Meaning.{Means}
 use Rattle.reflect_scalar.specs.Meaning as means
 use Rattle.reflect_scalar.specs.Singles as held
-use Rattle.reflect_scalar.specs.Defaults.{same_single}
-use Rattle.reflect_scalar.proofs.Defaulted.{kind_is}
-use Rattle.protobuf_model.specs.Values.{Single, truth, int32, int64, uint32, uint64, text, blob, enumerated}
+use Rattle.protobuf_model.specs.Values.{int32, int64}
 use Rattle.protobuf_model.specs.Types.{Scalar}
 use Rattle.protobuf_model.specs.Types as kinds
 use Rattle.protobuf_model.specs.Scalars.{unzigzag, low, meant, Suits, same, same_int, same_bool}

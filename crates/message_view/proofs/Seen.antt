@@ -1,10 +1,9 @@
 -- What is seen of values and of messages, one level at a time.
-use Rattle.std.proofs.Common.{◌≡◌, ℕ, ◌==◌, Bool, true, false, cond, List, [], ◌∷◌, map, Option, Some, None, option_map, unwrap_or, string_bytes, refl, sym, ap, ◌∙◌}
+use Rattle.std.proofs.Common.{◌≡◌, ℕ, ◌==◌, Bool, true, false, cond, List, [], ◌∷◌, map, Option, Some, None, option_map, unwrap_or, string_bytes, refl, ap, ◌∙◌}
 use mathlib.Core.Path.{fun_ext}
 use Rattle.reflect_tables.specs.Types.{PoolType, FieldType}
 use Rattle.reflect_wire.specs.Records.{Payload}
 use Rattle.reflect_entries.specs.Entries.{value_at}
-use Rattle.reflect_entries.specs.Pairs.{on_value}
 use Rattle.reflect_entries.specs.Undeclared.{undeclared}
 use Rattle.reflect_scalar.specs.Keys.{key_view}
 use Rattle.reflect_scalar.specs.Singles as held
@@ -24,7 +23,7 @@ use Rattle.reflect_message.specs.declared.parts.Held.TheOpen.{Held-F, Value-F}
 use Rattle.reflect_message.specs.declared.parts.Held.TheViews.{out-Value}
 use Rattle.reflect_message.specs.declared.parts.Parts.{Parts}
 use Rattle.reflect_message.specs.declared.value.Value.{Value}
-use Rattle.protobuf_model.specs.Values.{Single, Content, single, message, list, dictionary, Held, Message, absent, chain_of, entries_of}
+use Rattle.protobuf_model.specs.Values.{Single, Content, single, message, list, dictionary, Message, absent, chain_of, entries_of}
 use Rattle.message_view.specs.Singles.{single_view}
 use Rattle.message_view.specs.Views.{held_either, held_under, held_step, value_step, message_step, parts_step, content_view, held_view, view, contents_view, view_of}
 
@@ -193,13 +192,13 @@ none_held pool i n = by (known_field pool i n) (known_extension pool i n) where
   by None None = refl
 
 abbrev pub entries_opened : Held-F blocks.Held Value DynamicMessage Parts → List (ℕ × Value)
-entries_opened o = elim o [ | Held-F.Nothing ↦ [] | Held-F.Block b ↦ b.value.fields ]
+entries_opened o = elim o [ Held-F.Nothing ↦ [] | Held-F.Block b ↦ b.value.fields ]
 
 abbrev pub extensions_opened : Held-F blocks.Held Value DynamicMessage Parts → List (ℕ × Value)
-extensions_opened o = elim o [ | Held-F.Nothing ↦ [] | Held-F.Block b ↦ b.value.extensions ]
+extensions_opened o = elim o [ Held-F.Nothing ↦ [] | Held-F.Block b ↦ b.value.extensions ]
 
 abbrev pub unknown_opened : Held-F blocks.Held Value DynamicMessage Parts → List (ℕ × Payload)
-unknown_opened o = elim o [ | Held-F.Nothing ↦ [] | Held-F.Block b ↦ undeclared b.value.unknown ]
+unknown_opened o = elim o [ Held-F.Nothing ↦ [] | Held-F.Block b ↦ undeclared b.value.unknown ]
 
 held_seen : (h : blocks.Held) (pool : PoolType) (i : ℕ) → held_view h pool i ≡ held_under pool i (contents_view (fields_in h)) (contents_view (extensions_in h)) (unknown_in h)
 held_seen h pool i = ap (λ s. s pool i) (fold_out-Held Placed Content Message Placed held_step value_step message_step parts_step h) ∙ by (out-Held h) where

@@ -18,11 +18,9 @@ use Rattle.reflect_scalar.specs.FieldTypes.{field_pool, extension_type}
 use Rattle.reflect_scalar.specs.Singles as held
 use Rattle.reflect_scalar.specs.declared.map_key.MapKey.{MapKey}
 use Rattle.reflect_message.specs.Contents.{Content, content_of, nothing}
-use Rattle.reflect_message.specs.Declares.{Owns, OwnsExtension, IsDeclared}
+use Rattle.reflect_message.specs.Declares.{Owns, OwnsExtension}
 use Rattle.reflect_message.specs.KindTypes.{IsScalarType, IsMessageType}
-use Rattle.reflect_message.specs.Known.{is_float, entry_field, holds_floats, known_field}
-use Rattle.reflect_message.specs.Lists.{list_items}
-use Rattle.reflect_message.specs.Maps.{map_entries}
+use Rattle.reflect_message.specs.Known.{entry_field, holds_floats, known_field}
 use Rattle.reflect_message.specs.Messages.{message_in}
 use Rattle.reflect_message.specs.Singles as singles
 use Rattle.reflect_message.specs.declared.message.DynamicMessage.{DynamicMessage}

@@ -1,8 +1,7 @@
 -- The bytes of what fields hold, in the program's words and in the model's.
-use Rattle.std.proofs.Common.{◌≡◌, ◌⊎◌, inl, inr, ◌<◌, ℕ, ℤ, pos, negsuc, ◌==◌, Bool, true, false, true≢false, cond, not, ◌&&◌, ◌||◌, List, [], ◌∷◌, ◌++◌, map, length, Option, Some, None, Ordering, Less, Equal, Greater, refl, sym, ap, ◌∙◌, subst, append-nil, append_assoc, arith}
+use Rattle.std.proofs.Common.{◌≡◌, ◌⊎◌, inl, inr, ℕ, ℤ, ◌==◌, Bool, true, false, true≢false, cond, not, ◌&&◌, ◌||◌, List, [], ◌∷◌, ◌++◌, map, Option, Some, None, Ordering, Less, Equal, Greater, refl, sym, ap, ◌∙◌, subst, append-nil, arith}
 use Rattle.std.specs.Bool.{beq}
 use Rattle.std.specs.List.{AllByRecursion, find, flat_map}
-use Rattle.std.specs.Option.{option_and_then}
 use Rattle.std.specs.Ordering.{int_cmp, int_eq, is_eq}
 use Rattle.protobuf_model.specs.Keys.{below_int}
 use Rattle.reflect_tables.specs.Types.{PoolType, FieldType, KindType, type_at}
@@ -15,15 +14,14 @@ use Rattle.reflect_wire.specs.declared.wire_key.WireType.TheVariants.{StartGroup
 use Rattle.reflect_wire.specs.Views.{records_of}
 use Rattle.reflect_wire.specs.Encoding.{key_bytes, payload_bytes, field_bytes, records_bytes}
 use Rattle.reflect_codec.specs.Fields.{payload_field}
-use Rattle.reflect_scalar.specs.Defaults.{default_in, same_single}
+use Rattle.reflect_scalar.specs.Defaults.{same_single}
 use Rattle.reflect_scalar.specs.Keys.{key_view}
 use Rattle.reflect_scalar.specs.Singles as held
 use Rattle.reflect_scalar.specs.Written.{plain_bytes}
 use Rattle.reflect_scalar.specs.declared.map_key.MapKey.{MapKey}
-use Rattle.reflect_message.specs.Bytes.{payload_in, record_in, bare_in, framed, Form, is_default, content_bytes, single_form, message_form, list_bytes, row_in, list_form, key_part, entry_bytes, map_bytes, map_form, form_of, message_bytes}
-use Rattle.reflect_message.specs.Bytes as coded
+use Rattle.reflect_message.specs.Bytes.{payload_in, record_in, bare_in, framed, Form, is_default, content_bytes, list_bytes, row_in, list_form, key_part, entry_bytes, map_bytes, map_form, form_of, message_bytes}
 use Rattle.reflect_message.specs.KindTypes.{IsScalarType, IsMessageType}
-use Rattle.reflect_message.specs.Known.{is_float, entry_field, has_floats, holds_floats}
+use Rattle.reflect_message.specs.Known.{is_float, entry_field, holds_floats}
 use Rattle.reflect_message.specs.Lists.{list_items}
 use Rattle.reflect_message.specs.Maps.{map_entries}
 use Rattle.reflect_message.specs.Messages.{message_in}
@@ -31,15 +29,15 @@ use Rattle.reflect_message.specs.Singles as singles
 use Rattle.reflect_message.specs.declared.message.DynamicMessage.{DynamicMessage}
 use Rattle.reflect_message.specs.declared.value.Value.{Value}
 use Rattle.message_laws.specs.MapKeys.{HaveMapKeys}
-use Rattle.protobuf_model.specs.Values.{Single, Content, single, message, list, dictionary, Contents, no_contents, more_contents, Entries, no_entries, more_entries, Held, content, records, Message, absent, chain_of, entries_of}
-use Rattle.protobuf_model.specs.Types.{Name, sized, tagged, Kind, scalar, nested, Part, Key, Label, one, many, keyed, Field, Types}
+use Rattle.protobuf_model.specs.Values.{Single, Content, single, message, list, dictionary, Held, content, Message, absent, chain_of, entries_of}
+use Rattle.protobuf_model.specs.Types.{Name, nested, one, many, keyed, Types}
 use Rattle.protobuf_model.specs.Scalars.{written_as, same, same_int, same_bool}
-use Rattle.protobuf_model.specs.Bytes.{numbered, in_kind, in_frame, is_packable, type_of, bare, unless_default, entry_records, payloads_in, payloads_under, each_payload, entry_payloads, written, bytes_of}
+use Rattle.protobuf_model.specs.Bytes.{numbered, in_kind, in_frame, is_packable, bare, unless_default, entry_records, payloads_in, payloads_under, each_payload, entry_payloads, written, bytes_of}
 use Rattle.protobuf_model.proofs.Bridge.{bytes_join}
 use Rattle.protobuf_model.proofs.Pieces.{map_append, flat_map-append}
 use Rattle.message_view.specs.Singles.{scalar_of, single_view}
 use Rattle.message_view.specs.Sound.{HaveEntryFields}
-use Rattle.message_view.specs.Types.{name_at, frame_of, kind_in, default_of, part_of, key_of as key_at, entry_part, values_of, label_of, field_of}
+use Rattle.message_view.specs.Types.{name_at, frame_of, kind_in, default_of, part_of, key_of as key_at, entry_part, field_of}
 use Rattle.message_view.specs.Views.{held_in, content_view, view}
 use Rattle.message_view.proofs.Scalars.{zigzag_same}
 use Rattle.message_view.proofs.Accepting.{not_float}

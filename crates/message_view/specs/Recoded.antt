@@ -1,5 +1,5 @@
 -- Bytes that are decoded and encoded again.
-use Rattle.std.specs.Prelude.{◌≡◌, ◌<◌, ◌^◌, ℕ, List, [], ◌∷◌, map, length}
+use Rattle.std.specs.Prelude.{◌≡◌, ◌<◌, ◌^◌, ℕ, List, [], ◌∷◌, length}
 use Rattle.reflect_pool.specs.declared.message.MessageDescriptor.{MessageDescriptor}
 use Rattle.reflect_wire.specs.Written.{AreBytes}
 use Rattle.reflect_message.specs.Bytes.{message_bytes}

@@ -1,5 +1,5 @@
 -- What messages are in the words of the model: one function from numbers to what stands under them.
-use Rattle.std.specs.Prelude.{ℕ, List, [], ◌∷◌, map, Bool, true, false, cond, ◌||◌, not, Option, None, Some, string_bytes}
+use Rattle.std.specs.Prelude.{ℕ, List, map, Bool, true, false, cond, ◌||◌, not, Option, None, Some, string_bytes}
 use Rattle.reflect_tables.specs.Types.{PoolType, FieldType}
 use Rattle.reflect_wire.specs.Records.{Payload}
 use Rattle.reflect_entries.specs.Entries.{value_at}
@@ -13,7 +13,7 @@ use Rattle.reflect_message.specs.declared.parts.Held as parts
 use Rattle.reflect_message.specs.declared.parts.Held.TheFolds.{fold-Held, fold-Value}
 use Rattle.reflect_message.specs.declared.parts.Held.TheOpen.{Held-F, Parts-F, Value-F, DynamicMessage-F}
 use Rattle.reflect_message.specs.declared.value.Value.{Value}
-use Rattle.protobuf_model.specs.Values.{Single, truth, int32, int64, uint32, uint64, text, blob, enumerated, Content, single, message, list, dictionary, no_contents, more_contents, no_entries, more_entries, Held, content, records, Message, absent, chain_of, entries_of}
+use Rattle.protobuf_model.specs.Values.{truth, int32, int64, uint32, uint64, text, blob, enumerated, Content, single, message, list, dictionary, no_contents, more_contents, no_entries, more_entries, Held, content, records, Message, absent, chain_of, entries_of}
 use Rattle.protobuf_model.specs.Scalars.{same}
 use Rattle.protobuf_model.specs.Meaning.{payloads}
 use Rattle.message_view.specs.Singles.{single_view}

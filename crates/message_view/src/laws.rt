@@ -45,7 +45,7 @@ pub fn decoded_bytes_are_decoded_by_older_types()
     ensures { (old new : MessageDescriptor)
         → IsSound old.pool.now → IsSound new.pool.now
         → IsOlder (types_of old.pool.now) (name_at old.pool.now old.index)
-            (types_of new.pool.now) (name_at new.pool.now new.index)
+        (types_of new.pool.now) (name_at new.pool.now new.index)
         → (bytes : List ℕ) → AreBytes bytes
         → (m : DynamicMessage) → m.descriptor ≡ new → IsSpelled new bytes m
         → (e : WireError) → (e ≡ Memory → ⊥) → TellsWhy old bytes e → ⊥ }
@@ -105,7 +105,7 @@ pub fn recoded_bytes_are_equal_where_messages_are()
 pub fn bytes_pass_through_an_older_type()
     ensures { (old new : MessageDescriptor) → IsSound old.pool.now → IsSound new.pool.now
         → IsOlder (types_of old.pool.now) (name_at old.pool.now old.index)
-            (types_of new.pool.now) (name_at new.pool.now new.index)
+        (types_of new.pool.now) (name_at new.pool.now new.index)
         → (bytes out : List ℕ) → AreBytes bytes → Recodes old bytes out → length out < 2 ^ 64
         → (m : Message) → Mean (types_of new.pool.now) (name_at new.pool.now new.index) bytes m
         → Mean (types_of new.pool.now) (name_at new.pool.now new.index) out m }
