@@ -99,7 +99,7 @@ kind_for d (types.message i) h = (publics.Message (record { pool = d.pool; index
 kind_for d (types.enumeration i) h = (publics.Enum (record { pool = d.pool; index = i; in_range = h }), (refl, refl))
 
 -- what a list has for each of its elements it has for those that are found
-found_holds : {X : Type 0} (P : X → Type 0) (test : X → Bool) (xs : List X) (x : X) → AllByRecursion P xs → find test xs ≡ Some x → P x
+pub found_holds : {X : Type 0} (P : X → Type 0) (test : X → Bool) (xs : List X) (x : X) → AllByRecursion P xs → find test xs ≡ Some x → P x
 found_holds P test [] x h e = absurd (cc e)
 found_holds P test (y ∷ ys) x h e = by (λ k. found_holds P test ys x h.1 k) (test y) refl where
   by : (find test ys ≡ Some x → P x) → (b : Bool) → test y ≡ b → P x

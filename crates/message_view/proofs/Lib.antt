@@ -18,3 +18,4 @@ pub mod Written
 pub mod Arranging
 pub mod Shapes
 pub mod Recoded
+mod Example

@@ -1,6 +1,9 @@
 -- What is recoded, in the words of the model.
-use Rattle.std.proofs.Common.{◌≡◌, ◌↔◌, ◌<◌, ◌^◌, ℕ, List, [], ◌∷◌, map, length, sym, ap, ◌∙◌, subst}
+use Rattle.std.proofs.Common.{◌≡◌, ◌↔◌, ◌<◌, ◌^◌, ℕ, List, [], ◌∷◌, map, length, sym, ap, ◌∙◌, subst, Some}
 use Rattle.std.specs.List.{AllByRecursion}
+use Rattle.reflect_tables.specs.Types.{PoolType, no_type}
+use Rattle.reflect_pool.specs.Dots.{without_dot}
+use Rattle.reflect_pool.specs.FindsNames.{FindsMessage}
 use Rattle.reflect_pool.specs.declared.message.MessageDescriptor.{MessageDescriptor}
 use Rattle.reflect_wire.specs.Written.{AreBytes}
 use Rattle.reflect_wire.specs.declared.wire_error.WireError.{WireError}
@@ -103,3 +106,12 @@ chain_normal new ds sound also older bytes out x y b h r s =
     let chain = through ds also bytes out b h in
     let direct = recodes new sound bytes y b s in
     same_as_direct (types_of new.pool.now) (name_at new.pool.now new.index) (have_defaults new.pool.now sound.keys sound.defaults) (map type_of ds) older bytes out x y (direct.1.0, direct.1.1) chain.0 (recodes new sound out x chain.1 r) direct
+
+-- a type that is found has the name
+pub found_named : (d : MessageDescriptor) (p : PoolType) (name : List ℕ) → FindsMessage p name (Some d) → name_at p d.index ≡ without_dot name
+found_named d p name found = found.1.0 no_type
+
+pub recodes_named : (p : PoolType) (name : List ℕ) (d : MessageDescriptor) → IsSound p → d.pool.now ≡ p → FindsMessage p name (Some d) → (bytes out : List ℕ) → AreBytes bytes → Recodes d bytes out → IsRecoded (types_of p) (without_dot name) bytes out
+recodes_named p name d sound there found bytes out b r =
+    subst (λ n. IsRecoded (types_of p) n bytes out) (found_named d p name found)
+    (subst (λ p. IsRecoded (types_of p) (name_at p d.index) bytes out) there (recodes d (subst IsSound (sym there) sound) bytes out b r))

@@ -1,6 +1,6 @@
 //! Laws of what `decode` and `encode` say of bytes and messages, each the contract of a function that does nothing. They speak of
 //! the types of a pool, and of a message as one of these.
-ghost use Rattle.std.specs.Prelude.{◌≡◌, ◌↔◌, ◌<◌, ◌^◌, ◌++◌, ℕ, List, map, length};
+ghost use Rattle.std.specs.Prelude.{◌≡◌, ◌↔◌, ◌<◌, ◌^◌, ◌++◌, ℕ, List, map, length, Some};
 ghost use Rattle.std.specs.List.{AllByRecursion};
 ghost use Rattle.protobuf_model.specs.Coded.{AreOlderThan, IsAccepted, IsRecoded, Mean, SuitsType};
 ghost use Rattle.protobuf_model.specs.Bytes.{bytes_of};
@@ -8,6 +8,9 @@ ghost use Rattle.protobuf_model.specs.Values.{Message};
 ghost use Rattle.protobuf_model.specs.Older.{IsOlder};
 ghost use Rattle.reflect_decode.specs.Spelled.{IsSpelled, TellsWhy};
 ghost use Rattle.reflect_message.specs.declared.message.DynamicMessage.{DynamicMessage};
+ghost use Rattle.reflect_pool.specs.Dots.{without_dot};
+ghost use Rattle.reflect_pool.specs.FindsNames.{FindsMessage};
+ghost use Rattle.reflect_tables.specs.Types.{PoolType};
 ghost use Rattle.reflect_pool.specs.declared.message.MessageDescriptor.{MessageDescriptor};
 ghost use Rattle.reflect_wire.specs.Written.{AreBytes};
 ghost use Rattle.reflect_wire.specs.declared.wire_error.WireError.{WireError};
@@ -128,4 +131,18 @@ pub fn chains_have_one_normal_form()
         → AreOlderThan (types_of new.pool.now) (name_at new.pool.now new.index) (map type_of ds)
         → (bytes out x y : List ℕ) → AreBytes bytes → RecodesThrough ds bytes out
         → Recodes new out x → Recodes new bytes y → x ≡ y }
+{}
+
+/// A type that is found by a name has it.
+pub fn a_found_type_has_the_name()
+    ensures { (d : MessageDescriptor) (pool : PoolType) (name : List ℕ) → FindsMessage pool name (Some d)
+        → name_at pool d.index ≡ without_dot name }
+{}
+
+/// What the program recodes by a type's name the type of the name does.
+pub fn bytes_are_recoded_by_name()
+    ensures { (pool : PoolType) (name : List ℕ) (d : MessageDescriptor)
+        → IsSound pool → d.pool.now ≡ pool → FindsMessage pool name (Some d)
+        → (bytes out : List ℕ) → AreBytes bytes → Recodes d bytes out
+        → IsRecoded (types_of pool) (without_dot name) bytes out }
 {}
