@@ -33,7 +33,8 @@ IfMessage inner v = (m : DynamicMessage) → message_in v ≡ Some m → inner m
 pub record EachMessage (inner : DynamicMessage → Type 0) (v : Value) : Type 0 where
   pub alone : IfMessage inner v
   pub listed : (vs : List Value) → list_items v ≡ Some vs → AllByRecursion (IfMessage inner) vs
-  pub keyed : (es : List (MapKey × Value)) → map_entries v ≡ Some es → AllByRecursion (λ e. IfMessage inner e.1) es
+  pub keyed : (es : List (MapKey × Value)) → map_entries v ≡ Some es
+      → AllByRecursion (λ e. IfMessage inner e.1) es
 
 -- the numbers of fields, of extensions and of other records ascend
 pub record AreOrdered (inner : DynamicMessage → Type 0) (c : Content) : Type 0 where

@@ -25,4 +25,5 @@ type_of d = (types_of d.pool.now, name_at d.pool.now d.index)
 abbrev pub RecodesThrough : List MessageDescriptor → List ℕ → List ℕ → Type 0
 RecodesThrough [] bytes out = bytes ≡ out
 RecodesThrough (d ∷ ds) bytes out =
-    (next : List ℕ) × Recodes d bytes next × AreBytes next × (length next < 2 ^ 64) × RecodesThrough ds next out
+    (next : List ℕ) × Recodes d bytes next × AreBytes next × (length next < 2 ^ 64)
+    × RecodesThrough ds next out

@@ -6,7 +6,8 @@ use Rattle.protobuf_model.specs.Types.{Scalar}
 use Rattle.protobuf_model.specs.Types as kinds
 use Rattle.reflect_scalar.specs.Singles as held
 
--- what values of a type that is no message are; of floating-point numbers, which messages do not hold, their bits
+-- what values of a type that is no message are; of floating-point numbers, which messages do not
+-- hold, their bits
 abbrev pub scalar_of : KindType → Scalar
 scalar_of types.double = kinds.fixed64
 scalar_of types.float = kinds.fixed32

@@ -13,15 +13,18 @@ use Rattle.message_view.specs.Types.{name_at, kind_in, default_of}
 -- no two message types have one full name
 abbrev pub HaveNames : PoolType → Type 0
 HaveNames pool =
-    (i k : ℕ) → i < length pool.messages → k < length pool.messages → name_at pool i ≡ name_at pool k → i ≡ k
+    (i k : ℕ) → i < length pool.messages → k < length pool.messages
+    → name_at pool i ≡ name_at pool k → i ≡ k
 
 -- the entries of each map have a key under 1 and a value under 2
 abbrev pub HaveEntryFields : PoolType → Type 0
 HaveEntryFields pool =
     (t : KindType) → is_entry pool t ≡ true
-    → (keys values : FieldType) × (entry_field pool t 1 ≡ Some keys) × (entry_field pool t 2 ≡ Some values)
+    → (keys values : FieldType)
+    × (entry_field pool t 1 ≡ Some keys) × (entry_field pool t 2 ≡ Some values)
 
--- the default of a part of a map's entries, which stands where an entry has none, is a value of the part's kind
+-- the default of a part of a map's entries, which stands where an entry has none, is a value of the
+-- part's kind
 abbrev pub HaveEntryDefaults : PoolType → Type 0
 HaveEntryDefaults pool =
     (t : KindType) (n : ℕ) (f : FieldType) → is_entry pool t ≡ true → entry_field pool t n ≡ Some f
@@ -33,9 +36,10 @@ HasField pool i n f = (known_field pool i n ≡ Some f) ⊎ (known_extension poo
 
 -- fields that repeat have no presence, and are packed only where values of their kind can be
 pub record HaveLists (pool : PoolType) : Type 0 where
-  pub unset : (i n : ℕ) (f : FieldType) → HasField pool i n f → is_repeated f.cardinality ≡ true → f.presence ≡ false
-  pub packed : (i n : ℕ) (f : FieldType) → HasField pool i n f → is_repeated f.cardinality ≡ true → f.packed ≡ true
-      → is_packable (kind_in pool f.group f.kind) ≡ true
+  pub unset : (i n : ℕ) (f : FieldType) → HasField pool i n f → is_repeated f.cardinality ≡ true
+      → f.presence ≡ false
+  pub packed : (i n : ℕ) (f : FieldType) → HasField pool i n f → is_repeated f.cardinality ≡ true
+      → f.packed ≡ true → is_packable (kind_in pool f.group f.kind) ≡ true
 
 -- what messages depend on of the pool of their types, as the rules of files have it
 pub record IsSound (pool : PoolType) : Type 0 where

@@ -29,10 +29,18 @@ abbrev pub default_of : PoolType → FieldType → Single
 default_of pool f = elim (default_in pool f) [ None ↦ text [] | Some v ↦ single_view v ]
 
 abbrev pub part_of : PoolType → FieldType → Part
-part_of pool f = record { kind = kind_in pool f.group f.kind; presence = f.presence; default = default_of pool f }
+part_of pool f = record {
+  kind = kind_in pool f.group f.kind;
+  presence = f.presence;
+  default = default_of pool f;
+}
 
 abbrev pub key_of : PoolType → FieldType → Key
-key_of pool f = record { kind = scalar_of f.kind; presence = f.presence; default = default_of pool f }
+key_of pool f = record {
+  kind = scalar_of f.kind;
+  presence = f.presence;
+  default = default_of pool f;
+}
 
 -- the key of a map's entries under 1, and the value under 2
 abbrev pub entry_part : PoolType → FieldType → ℕ → FieldType

@@ -34,19 +34,25 @@ held_in pool f None = absent
 held_in pool f (Some c) = cond (is_set pool f c) (content c) absent
 
 -- what stands under a number: what its field holds, or else its extension, or else its records
-abbrev pub held_either : PoolType → Option FieldType → Option FieldType → (field extension : Option Content) → List Payload → Held
+abbrev pub held_either : PoolType → (f x : Option FieldType) → (field extension : Option Content)
+    → List Payload → Held
 held_either pool (Some f) x field extension ps = held_in pool f field
 held_either pool None (Some x) field extension ps = held_in pool x extension
 held_either pool None None field extension ps = records ps
 
 -- the fields, the extensions and the records of a message of the type at a place
-abbrev pub held_under : PoolType → ℕ → (fields extensions : List (ℕ × Content)) → List (ℕ × Payload) → Message
+abbrev pub held_under : PoolType → ℕ → (fields extensions : List (ℕ × Content))
+    → List (ℕ × Payload) → Message
 held_under pool i fields extensions unknown n =
-    held_either pool (known_field pool i n) (known_extension pool i n) (value_at fields n) (value_at extensions n)
-    (payloads n unknown)
+    held_either pool (known_field pool i n) (known_extension pool i n)
+    (value_at fields n) (value_at extensions n) (payloads n unknown)
+
+-- what a message holds, as the type at a place has it
+abbrev pub Placed : Type 0
+Placed = PoolType → ℕ → Message
 
 -- one level of a value, of a message, of what it holds and of its parts
-abbrev pub value_step : Value-F (PoolType → ℕ → Message) Content Message (PoolType → ℕ → Message) → Content
+abbrev pub value_step : Value-F Placed Content Message Placed → Content
 value_step (Value-F.Bool b) = single (truth b)
 value_step (Value-F.I32 z) = single (int32 z)
 value_step (Value-F.I64 z) = single (int64 z)
@@ -57,27 +63,28 @@ value_step (Value-F.Bytes b) = single (blob b.items)
 value_step (Value-F.EnumNumber z) = single (enumerated z)
 value_step (Value-F.Message m) = message m
 value_step (Value-F.List vs) = list (chain_of vs.items)
-value_step (Value-F.Map es) = dictionary (entries_of (map (λ e. (single_view (key_view e.0), e.1)) es.entries))
+value_step (Value-F.Map es) =
+    dictionary (entries_of (map (λ e. (single_view (key_view e.0), e.1)) es.entries))
 
-abbrev pub message_step : DynamicMessage-F (PoolType → ℕ → Message) Content Message (PoolType → ℕ → Message) → Message
+abbrev pub message_step : DynamicMessage-F Placed Content Message Placed → Message
 message_step m = m.held m.descriptor.pool.now m.descriptor.index
 
-abbrev pub held_step : Held-F (PoolType → ℕ → Message) Content Message (PoolType → ℕ → Message) → PoolType → ℕ → Message
+abbrev pub held_step : Held-F Placed Content Message Placed → Placed
 held_step Held-F.Nothing = λ pool i n. absent
 held_step (Held-F.Block b) = b.value
 
-abbrev pub parts_step : Parts-F (PoolType → ℕ → Message) Content Message (PoolType → ℕ → Message) → PoolType → ℕ → Message
+abbrev pub parts_step : Parts-F Placed Content Message Placed → Placed
 parts_step p = λ pool i. held_under pool i p.fields p.extensions (undeclared p.unknown)
 
 -- a value, at each depth
 abbrev pub content_view : Value → Content
 content_view =
-    fold-Value (PoolType → ℕ → Message) Content Message (PoolType → ℕ → Message) held_step value_step message_step parts_step
+    fold-Value Placed Content Message Placed held_step value_step message_step parts_step
 
 -- what a message holds, by the place of its type
-abbrev pub held_view : parts.Held → PoolType → ℕ → Message
+abbrev pub held_view : parts.Held → Placed
 held_view =
-    fold-Held (PoolType → ℕ → Message) Content Message (PoolType → ℕ → Message) held_step value_step message_step parts_step
+    fold-Held Placed Content Message Placed held_step value_step message_step parts_step
 
 -- a message, at each depth, each by its own type
 abbrev pub view : DynamicMessage → Message

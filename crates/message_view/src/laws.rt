@@ -1,5 +1,5 @@
-//! Laws of what `decode` and `encode` say of bytes and messages, each the contract of a function that does nothing. They speak of
-//! the types of a pool, and of a message as one of these.
+//! Laws of what `decode` and `encode` say of bytes and messages, each the contract of a function that
+//! does nothing. They speak of the types of a pool, and of a message as one of these.
 ghost use Rattle.std.specs.Prelude.{◌≡◌, ◌↔◌, ◌<◌, ◌^◌, ◌++◌, ℕ, List, map, length, Some};
 ghost use Rattle.std.specs.List.{AllByRecursion};
 ghost use Rattle.protobuf_model.specs.Coded.{AreOlderThan, IsAccepted, IsRecoded, Mean, SuitsType};
@@ -43,7 +43,8 @@ pub fn decoded_messages_suit_the_type()
         → SuitsType (types_of d.pool.now) (name_at d.pool.now d.index) (view m) }
 {}
 
-/// Bytes that `decode` answers by a type it refuses by no older type, of this or of another pool, but for want of memory.
+/// Bytes that `decode` answers by a type it refuses by no older type, of this or of another pool, but
+/// for want of memory.
 pub fn decoded_bytes_are_decoded_by_older_types()
     ensures { (old new : MessageDescriptor)
         → IsSound old.pool.now → IsSound new.pool.now
@@ -58,7 +59,8 @@ pub fn decoded_bytes_are_decoded_by_older_types()
 pub fn decoded_bytes_are_decoded_together()
     ensures { (d : MessageDescriptor) → IsSound d.pool.now
         → (a b : List ℕ) → AreBytes a → AreBytes b
-        → (m n : DynamicMessage) → m.descriptor ≡ d → n.descriptor ≡ d → IsSpelled d a m → IsSpelled d b n
+        → (m n : DynamicMessage) → m.descriptor ≡ d → n.descriptor ≡ d
+        → IsSpelled d a m → IsSpelled d b n
         → (e : WireError) → (e ≡ Memory → ⊥) → TellsWhy d (a ++ b) e → ⊥ }
 {}
 
@@ -72,7 +74,8 @@ pub fn decoded_messages_are_written_in_one_form()
 /// What the program recodes the type does.
 pub fn recoded_bytes_are_those_of_the_type()
     ensures { (d : MessageDescriptor) → IsSound d.pool.now → (bytes out : List ℕ) → AreBytes bytes
-        → Recodes d bytes out → IsRecoded (types_of d.pool.now) (name_at d.pool.now d.index) bytes out }
+        → Recodes d bytes out
+        → IsRecoded (types_of d.pool.now) (name_at d.pool.now d.index) bytes out }
 {}
 
 /// Recoded bytes mean what the bytes do, where they are no more than a length can say.
@@ -99,7 +102,8 @@ pub fn recoded_bytes_stay()
 
 /// Two recodings are equal exactly if the decoded messages are.
 pub fn recoded_bytes_are_equal_where_messages_are()
-    ensures { (d : MessageDescriptor) → IsSound d.pool.now → (a b x y : List ℕ) → AreBytes a → AreBytes b
+    ensures { (d : MessageDescriptor) → IsSound d.pool.now
+        → (a b x y : List ℕ) → AreBytes a → AreBytes b
         → (r : Recodes d a x) (s : Recodes d b y) → length x < 2 ^ 64 → length y < 2 ^ 64
         → (x ≡ y) ↔ (view r.message ≡ view s.message) }
 {}
@@ -135,8 +139,8 @@ pub fn chains_have_one_normal_form()
 
 /// A type that is found by a name has it.
 pub fn a_found_type_has_the_name()
-    ensures { (d : MessageDescriptor) (pool : PoolType) (name : List ℕ) → FindsMessage pool name (Some d)
-        → name_at pool d.index ≡ without_dot name }
+    ensures { (d : MessageDescriptor) (pool : PoolType) (name : List ℕ)
+        → FindsMessage pool name (Some d) → name_at pool d.index ≡ without_dot name }
 {}
 
 /// What the program recodes by a type's name the type of the name does.
