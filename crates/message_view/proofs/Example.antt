@@ -1,15 +1,14 @@
 -- A pool that is sound: a message with a number, a packed list and a map.
-use Rattle.std.proofs.Common.{◌≡◌, ◌⊎◌, inl, inr, ◌<◌, ℕ, pos, zero, suc, ◌==◌, Bool, true, false, cond, List, [], ◌∷◌, length, Option, Some, None, refl, sym, ap, ◌∙◌, subst, arith}
-use Rattle.std.specs.List.{AllByRecursion, find}
+use Rattle.std.proofs.Common.{◌≡◌, inl, inr, ◌<◌, ℕ, pos, zero, suc, ◌==◌, true, false, [], ◌∷◌, Option, Some, None, refl, sym, ap, ◌∙◌, subst, arith}
+use Rattle.std.specs.List.{AllByRecursion}
 use Rattle.std.specs.Option.{option_and_then}
 use Rattle.std.specs.Prelude.{slice_index_or}
 use Rattle.reflect_tables.specs.Types.{PoolType, FieldType, KindType, MessageType, ChildrenWithin, MessageWithin, ArePooled, counts_of, no_children, no_field, no_type, type_at}
 use Rattle.reflect_tables.specs.Types as types
 use Rattle.reflect_tables.specs.declared.kind.Cardinality.TheVariants.{Repeated}
 use Rattle.reflect_tables.specs.declared.kind.Syntax.TheVariants.{Proto3}
-use Rattle.reflect_pool.specs.Shapes.{is_entry, is_repeated}
-use Rattle.reflect_message.specs.KindTypes.{IsScalarType}
-use Rattle.reflect_message.specs.Known.{entry_field, if_held, numbered_field, known_field, known_extension}
+use Rattle.reflect_pool.specs.Shapes.{is_repeated}
+use Rattle.reflect_message.specs.Known.{if_held, numbered_field}
 use Rattle.reflect_decode.specs.Refused.{HoldsKeys}
 use Rattle.message_laws.specs.MapKeys.{HaveMapKeys}
 use Rattle.protobuf_model.specs.Types.{one, many, keyed, scalar}
@@ -19,7 +18,7 @@ use Rattle.protobuf_model.specs.Scalars.{Suits}
 use Rattle.protobuf_model.specs.Bytes.{is_packable}
 use Rattle.message_view.specs.Singles.{scalar_of}
 use Rattle.message_view.specs.Sound.{HaveNames, HaveEntryFields, HaveEntryDefaults, HasField, IsSound}
-use Rattle.message_view.specs.Types.{name_at, kind_in, default_of, types_of}
+use Rattle.message_view.specs.Types.{kind_in, default_of, types_of}
 use Rattle.message_view.proofs.Admitting.{found_holds}
 use Rattle.message_view.proofs.Fields.{held_is}
 
