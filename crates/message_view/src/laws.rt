@@ -1,6 +1,6 @@
 //! Laws of what `decode` and `encode` say of bytes and messages, each the contract of a function that
 //! does nothing. They speak of the types of a pool, and of a message as one of these.
-ghost use Rattle.std.specs.Prelude.{◌≡◌, ◌↔◌, ◌<◌, ◌^◌, ◌++◌, ℕ, List, map, length, Some};
+ghost use Rattle.std.specs.Prelude.{◌≡◌, ◌↔◌, ◌<◌, ◌^◌, ◌++◌, ℕ, List, map, length, Some, String};
 ghost use Rattle.std.specs.List.{AllByRecursion};
 ghost use Rattle.protobuf_model.specs.Coded.{AreOlderThan, IsAccepted, IsRecoded, Mean, SuitsType};
 ghost use Rattle.protobuf_model.specs.Bytes.{bytes_of};
@@ -10,7 +10,13 @@ ghost use Rattle.reflect_decode.specs.Spelled.{IsSpelled, TellsWhy};
 ghost use Rattle.reflect_message.specs.declared.message.DynamicMessage.{DynamicMessage};
 ghost use Rattle.reflect_pool.specs.Dots.{without_dot};
 ghost use Rattle.reflect_pool.specs.FindsNames.{FindsMessage};
-ghost use Rattle.reflect_tables.specs.Types.{PoolType};
+ghost use Rattle.reflect_pool.specs.Linked.{IsLinked};
+ghost use Rattle.reflect_scope.specs.declared.definition.Definition.{Definition};
+ghost use Rattle.reflect_scope.specs.declared.seen.Links.{Links};
+ghost use Rattle.reflect_tables.specs.ExtensionNumbers.{KeyType};
+ghost use Rattle.reflect_tables.specs.Types.{ArePooled, PoolType};
+ghost use Rattle.std.specs.BTreeMap.{BTreeMap};
+ghost use Rattle.std.specs.declared.alloc.Global.{Global};
 ghost use Rattle.reflect_pool.specs.declared.message.MessageDescriptor.{MessageDescriptor};
 ghost use Rattle.reflect_wire.specs.Written.{AreBytes};
 ghost use Rattle.reflect_wire.specs.declared.wire_error.WireError.{WireError};
@@ -18,9 +24,16 @@ ghost use Rattle.reflect_wire.specs.declared.wire_error.WireError.TheVariants.{M
 ghost use Rattle.reflect_message.specs.Bytes.{message_bytes};
 ghost use Rattle.message_view.specs.Ordered.{IsOrdered};
 ghost use Rattle.message_view.specs.Recoded.{Recodes, RecodesThrough, type_of};
-ghost use Rattle.message_view.specs.Sound.{IsSound};
+ghost use Rattle.message_view.specs.Sound.{HaveNames, IsSound};
 ghost use Rattle.message_view.specs.Types.{name_at, types_of};
 ghost use Rattle.message_view.specs.Views.{view};
+
+/// The parts of a linked pool fit together, and no two of its message types have one name.
+pub fn linked_pools_have_names()
+    ensures { (pool : PoolType) (names : BTreeMap (String Global) Definition)
+        (file_names : BTreeMap (String Global) ℕ) (places : BTreeMap KeyType ℕ) (links : List Links)
+        → IsLinked pool names file_names places links → ArePooled pool × HaveNames pool }
+{}
 
 /// The type accepts bytes that `decode` answers, and they mean the message that it gives.
 pub fn decoded_bytes_mean_the_message()
