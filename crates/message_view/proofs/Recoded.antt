@@ -153,3 +153,11 @@ nothing_recoded d m type empty = record {
 
   nothing_ordered : AreOrdered (OrderedTo 100) contents.nothing
   nothing_ordered = record { fields = omega arith; extensions = omega arith; unknown = omega arith; held = λ n v e. absurd (cc e); extended = λ n v e. absurd (cc e) }
+
+-- what was encoded of a decoded message is decoded to the same message
+pub encoded_read : (d : MessageDescriptor) → IsSound d.pool.now → (bytes out : List ℕ) → AreBytes bytes → AreBytes out → (r : Recodes d bytes out) → length out < 2 ^ 64 → (n : DynamicMessage) → n.descriptor ≡ d → IsSpelled d out n → view n ≡ view r.message
+encoded_read d sound bytes out b c r short n type h =
+    let types = types_of d.pool.now in
+    let t = name_at d.pool.now d.index in
+    let before = decoded_means d sound bytes b r.message r.type r.decoded in
+    one_meaning types t nothing out (view n) (view r.message) (decoded_means d sound out c n type h) (recoded_means d sound bytes out b r short (view r.message) before)

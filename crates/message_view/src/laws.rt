@@ -106,6 +106,13 @@ pub fn recoded_bytes_are_decoded()
         → (e : WireError) → (e ≡ Memory → ⊥) → TellsWhy d out e → ⊥ }
 {}
 
+/// What `decode` gives of them is the message that was encoded.
+pub fn encoded_messages_are_decoded_as_they_were()
+    ensures { (d : MessageDescriptor) → IsSound d.pool.now → (bytes out : List ℕ)
+        → AreBytes bytes → AreBytes out → (r : Recodes d bytes out) → length out < 2 ^ 64
+        → (m : DynamicMessage) → m.descriptor ≡ d → IsSpelled d out m → view m ≡ view r.message }
+{}
+
 /// Recoded again they are the same.
 pub fn recoded_bytes_stay()
     ensures { (d : MessageDescriptor) → IsSound d.pool.now → (bytes out again : List ℕ)
