@@ -1,0 +1,120 @@
+-- How values are written, one level at a time.
+use Rattle.std.proofs.Common.{◌≡◌, ℕ, List, [], map, Some, unwrap_or, string_bytes, refl, ap, ◌∙◌}
+use Rattle.reflect_tables.specs.Types.{PoolType}
+use Rattle.reflect_scalar.specs.Singles as held
+use Rattle.reflect_scalar.specs.declared.map_key.MapKey.{MapKey}
+use Rattle.reflect_message.specs.Bytes.{Form, single_form, message_form, list_form, map_form, form_of, forms, content, held_bytes, message_bytes, value_step, message_step, held_step, parts_step}
+use Rattle.reflect_message.specs.Held.{fields_in, extensions_in, unknown_in}
+use Rattle.reflect_message.specs.Lists.{list_items}
+use Rattle.reflect_message.specs.Maps.{map_entries}
+use Rattle.reflect_message.specs.Messages.{message_in}
+use Rattle.reflect_message.specs.Singles as singles
+use Rattle.reflect_message.specs.Contents.{content_of}
+use Rattle.reflect_message.specs.declared.message.DynamicMessage.{DynamicMessage}
+use Rattle.reflect_message.specs.declared.parts.Held.{out-Held}
+use Rattle.reflect_message.specs.declared.parts.Held as blocks
+use Rattle.reflect_message.specs.declared.parts.Held.TheFolds.{map-Value, map-Held, fold-Held, fold-Value, fold-DynamicMessage, fold-Parts, fold_out-Value, fold_out-Held, fold_out-Parts, fold_out-DynamicMessage}
+use Rattle.reflect_message.specs.declared.parts.Held.TheOpen.{Held-F, Value-F}
+use Rattle.reflect_message.specs.declared.parts.Held.TheViews.{out-Value}
+use Rattle.reflect_message.specs.declared.parts.Parts.{Parts}
+use Rattle.reflect_message.specs.declared.value.Value.{Value}
+use Rattle.message_view.proofs.Seen.{single_in, message_of, items_of, entries_in, entries_opened, extensions_opened, unknown_opened}
+
+abbrev Placed : Type 0
+Placed = PoolType → ℕ → List ℕ
+
+abbrev stepped : Value-F blocks.Held Value DynamicMessage Parts → Form
+stepped o = value_step (map-Value blocks.Held Value DynamicMessage Parts Placed Form (List ℕ) Placed
+    (fold-Held Placed Form (List ℕ) Placed held_step value_step message_step parts_step)
+    (fold-Value Placed Form (List ℕ) Placed held_step value_step message_step parts_step)
+    (fold-DynamicMessage Placed Form (List ℕ) Placed held_step value_step message_step parts_step)
+    (fold-Parts Placed Form (List ℕ) Placed held_step value_step message_step parts_step) o)
+
+opened : (v : Value) → form_of v ≡ stepped (out-Value v)
+opened v = fold_out-Value Placed Form (List ℕ) Placed held_step value_step message_step parts_step v
+
+unwrapped : (a w : held.Single) → Some a ≡ Some w → single_form a ≡ single_form w
+unwrapped a w e = ap (λ o. single_form (unwrap_or o a)) e
+
+pub single_form_seen : (v : Value) (w : held.Single) → singles.single v ≡ Some w → form_of v ≡ single_form w
+single_form_seen v w e = opened v ∙ by (out-Value v) e where
+  by : (o : Value-F blocks.Held Value DynamicMessage Parts) → single_in o ≡ Some w → stepped o ≡ single_form w
+  by (Value-F.Bool b) e = unwrapped (held.truth b) w e
+  by (Value-F.I32 z) e = unwrapped (held.int32 z) w e
+  by (Value-F.I64 z) e = unwrapped (held.int64 z) w e
+  by (Value-F.U32 n) e = unwrapped (held.uint32 n) w e
+  by (Value-F.U64 n) e = unwrapped (held.uint64 n) w e
+  by (Value-F.String t) e = unwrapped (held.text (string_bytes t)) w e
+  by (Value-F.Bytes b) e = unwrapped (held.blob b.items) w e
+  by (Value-F.EnumNumber z) e = unwrapped (held.enumerated z) w e
+  by (Value-F.Message m) e = absurd (cc e)
+  by (Value-F.List vs) e = absurd (cc e)
+  by (Value-F.Map es) e = absurd (cc e)
+
+-- a message that is a value is written as the message that it is
+folded : (m : DynamicMessage) → fold-DynamicMessage Placed Form (List ℕ) Placed held_step value_step message_step parts_step m ≡ message_bytes m
+folded m = fold_out-DynamicMessage Placed Form (List ℕ) Placed held_step value_step message_step parts_step m
+
+pub message_form_seen : (v : Value) (m : DynamicMessage) → message_in v ≡ Some m → form_of v ≡ message_form (message_bytes m)
+message_form_seen v m e = opened v ∙ by (out-Value v) e where
+  by : (o : Value-F blocks.Held Value DynamicMessage Parts) → message_of o ≡ Some m → stepped o ≡ message_form (message_bytes m)
+  by (Value-F.Message n) e = ap message_form (folded n) ∙ ap (λ o. message_form (message_bytes (unwrap_or o n))) e
+  by (Value-F.Bool b) e = absurd (cc e)
+  by (Value-F.I32 z) e = absurd (cc e)
+  by (Value-F.I64 z) e = absurd (cc e)
+  by (Value-F.U32 n) e = absurd (cc e)
+  by (Value-F.U64 n) e = absurd (cc e)
+  by (Value-F.String t) e = absurd (cc e)
+  by (Value-F.Bytes b) e = absurd (cc e)
+  by (Value-F.EnumNumber z) e = absurd (cc e)
+  by (Value-F.List vs) e = absurd (cc e)
+  by (Value-F.Map es) e = absurd (cc e)
+
+pub list_form_seen : (v : Value) (vs : List Value) → list_items v ≡ Some vs → form_of v ≡ list_form (map form_of vs)
+list_form_seen v vs e = opened v ∙ by (out-Value v) e where
+  by : (o : Value-F blocks.Held Value DynamicMessage Parts) → items_of o ≡ Some vs → stepped o ≡ list_form (map form_of vs)
+  by (Value-F.List ws) e = ap (λ o. list_form (map form_of (unwrap_or o []))) e
+  by (Value-F.Bool b) e = absurd (cc e)
+  by (Value-F.I32 z) e = absurd (cc e)
+  by (Value-F.I64 z) e = absurd (cc e)
+  by (Value-F.U32 n) e = absurd (cc e)
+  by (Value-F.U64 n) e = absurd (cc e)
+  by (Value-F.String t) e = absurd (cc e)
+  by (Value-F.Bytes b) e = absurd (cc e)
+  by (Value-F.EnumNumber z) e = absurd (cc e)
+  by (Value-F.Message m) e = absurd (cc e)
+  by (Value-F.Map es) e = absurd (cc e)
+
+abbrev pub forms_of : List (MapKey × Value) → List (MapKey × Form)
+forms_of es = map (λ e. (e.0, form_of e.1)) es
+
+pub map_form_seen : (v : Value) (es : List (MapKey × Value)) → map_entries v ≡ Some es → form_of v ≡ map_form (forms_of es)
+map_form_seen v es e = opened v ∙ by (out-Value v) e where
+  by : (o : Value-F blocks.Held Value DynamicMessage Parts) → entries_in o ≡ Some es → stepped o ≡ map_form (forms_of es)
+  by (Value-F.Map fs) e = ap (λ o. map_form (forms_of (unwrap_or o []))) e
+  by (Value-F.Bool b) e = absurd (cc e)
+  by (Value-F.I32 z) e = absurd (cc e)
+  by (Value-F.I64 z) e = absurd (cc e)
+  by (Value-F.U32 n) e = absurd (cc e)
+  by (Value-F.U64 n) e = absurd (cc e)
+  by (Value-F.String t) e = absurd (cc e)
+  by (Value-F.Bytes b) e = absurd (cc e)
+  by (Value-F.EnumNumber z) e = absurd (cc e)
+  by (Value-F.Message m) e = absurd (cc e)
+  by (Value-F.List vs) e = absurd (cc e)
+
+held_seen : (h : blocks.Held) (pool : PoolType) (i : ℕ) → held_bytes h pool i ≡ content pool i (forms (fields_in h)) (forms (extensions_in h)) (unknown_in h)
+held_seen h pool i = ap (λ s. s pool i) (fold_out-Held Placed Form (List ℕ) Placed held_step value_step message_step parts_step h) ∙ by (out-Held h) where
+  by : (o : Held-F blocks.Held Value DynamicMessage Parts)
+      → held_step (map-Held blocks.Held Value DynamicMessage Parts Placed Form (List ℕ) Placed
+      (fold-Held Placed Form (List ℕ) Placed held_step value_step message_step parts_step)
+      (fold-Value Placed Form (List ℕ) Placed held_step value_step message_step parts_step)
+      (fold-DynamicMessage Placed Form (List ℕ) Placed held_step value_step message_step parts_step)
+      (fold-Parts Placed Form (List ℕ) Placed held_step value_step message_step parts_step) o) pool i
+      ≡ content pool i (forms (entries_opened o)) (forms (extensions_opened o)) (unknown_opened o)
+  by Held-F.Nothing = refl
+  by (Held-F.Block b) = ap (λ s. s pool i) (fold_out-Parts Placed Form (List ℕ) Placed held_step value_step message_step parts_step b.value)
+
+-- the bytes of a message, by what it holds
+pub bytes_opened : (m : DynamicMessage) → message_bytes m ≡ content m.descriptor.pool.now m.descriptor.index (forms (content_of m).fields) (forms (content_of m).extensions) (content_of m).unknown
+bytes_opened m = held_seen m.held m.descriptor.pool.now m.descriptor.index

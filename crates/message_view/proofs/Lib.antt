@@ -1,0 +1,21 @@
+pub mod Accepting
+pub mod Admitting
+pub mod Decoded
+pub mod Defaults
+pub mod Elements
+pub mod Entries
+pub mod Fields
+pub mod Forms
+pub mod Keys
+pub mod Left
+pub mod Oneofs
+pub mod Ordering
+pub mod Plain
+pub mod Scalars
+pub mod Seen
+pub mod Sound
+pub mod Written
+pub mod Arranging
+pub mod Shapes
+pub mod Recoded
+mod Example
