@@ -1,0 +1,91 @@
+-- What schemas decode and recode is what the model's types do.
+use Rattle.std.proofs.Common.{◌≡◌, ◌<◌, ◌^◌, ◌∙◌, ℕ, List, [], ◌∷◌, length, map, ap, sym, subst}
+use Rattle.std.specs.List.{AllByRecursion}
+use Rattle.protobuf_model.specs.Bytes.{bytes_of}
+use Rattle.protobuf_model.specs.Coded.{AreOlderThan, IsAccepted, IsRecoded, IsRecodedThrough, Mean}
+use Rattle.protobuf_model.specs.Older.{IsOlder}
+use Rattle.protobuf_model.specs.Typed.{HaveDefaults}
+use Rattle.protobuf_model.specs.Types.{Name, Types}
+use Rattle.protobuf_model.specs.Values.{Message, nothing}
+use Rattle.protobuf_model.proofs.Bytewise.{bytes_mean, merged_well, one_meaning}
+use Rattle.protobuf_model.proofs.Chains.{passes, same_as_direct}
+use Rattle.protobuf_model.proofs.Merging.{nothing_typed}
+use Rattle.reflect_pool.specs.Dots.{without_dot}
+use Rattle.reflect_pool.specs.declared.message.MessageDescriptor.{MessageDescriptor}
+use Rattle.reflect_tables.specs.Types.{PoolType}
+use Rattle.reflect_wire.specs.Written.{AreBytes}
+use Rattle.message_view.specs.Recoded.{Recodes}
+use Rattle.message_view.specs.Sound.{IsSound}
+use Rattle.message_view.specs.Types.{name_at, types_of}
+use Rattle.message_view.proofs.Decoded.{decoded_means}
+use Rattle.message_view.proofs.Defaults.{have_defaults}
+use Rattle.message_view.proofs.Recoded.{found_named, recodes_named}
+use Rattle.schema_core.specs.Payloads.{Decoded, Recoded}
+use Rattle.schema_laws.specs.Schemas.{IsSteady, SchemaType, type_of, RecodedThrough}
+
+pub accepted : (p : PoolType) → IsSound p → (name bytes : List ℕ) → AreBytes bytes → Decoded p name bytes → IsAccepted (types_of p) (without_dot name) bytes
+accepted p sound name bytes b (m, (d, (there, found), type, apart, spelled)) =
+    let means = decoded_means d (subst IsSound (sym there) sound) bytes b m type spelled in
+    subst (λ n. IsAccepted (types_of p) n bytes) (found_named d p name found)
+    (subst (λ p. IsAccepted (types_of p) (name_at p d.index) bytes) there (means.0, means.1))
+
+-- what a schema recodes, as decoding by its type and encoding
+abbrev as_recoded : (p : PoolType) → IsSteady p → (name bytes out : List ℕ) → Recoded p name bytes out → (d : MessageDescriptor) × Recodes d bytes out
+as_recoded p steady name bytes out (m, read, written) = (
+  read.0,
+  record {
+    message = m;
+    type = read.2;
+    decoded = read.4;
+    ordered = steady.ordered name bytes m read;
+    encoded = sym written;
+  },
+)
+
+pub recodes : (p : PoolType) → IsSteady p → (name bytes out : List ℕ) → AreBytes bytes → Recoded p name bytes out → IsRecoded (types_of p) (without_dot name) bytes out
+recodes p steady name bytes out b h = recodes_named p name h.1.0 steady.sound h.1.1.0 h.1.1.1 bytes out b (as_recoded p steady name bytes out h).1
+
+defaults : (p : PoolType) → IsSound p → HaveDefaults (types_of p)
+defaults p sound = have_defaults p sound.keys sound.defaults
+
+-- what a type writes again of bytes means what they do
+recoded_means : (types : Types) → HaveDefaults types → (t : Name) (bytes out : List ℕ) → IsRecoded types t bytes out → length out < 2 ^ 64 → (m : Message) → Mean types t bytes m → Mean types t out m
+recoded_means types d t bytes out r short m means =
+    let same : r.0 ≡ m = one_meaning types t nothing bytes r.0 m r.1 means in
+    let its : bytes_of types t m ≡ out = sym (ap (bytes_of types t) same) ∙ r.2 in
+    let suits = merged_well types d t nothing m bytes (nothing_typed 100 types t) means in
+    subst (λ b. Mean types t b m) its (bytes_mean types t m suits (subst (λ b. length b < 2 ^ 64) (sym its) short))
+
+pub same_meaning : (p : PoolType) → IsSteady p → (name bytes out : List ℕ) → AreBytes bytes → Recoded p name bytes out → length out < 2 ^ 64 → (m : Message)
+    → Mean (types_of p) (without_dot name) bytes m → Mean (types_of p) (without_dot name) out m
+same_meaning p steady name bytes out b h short m means = recoded_means (types_of p) (defaults p steady.sound) (without_dot name) bytes out (recodes p steady name bytes out b h) short m means
+
+pub stays : (p : PoolType) → IsSteady p → (name bytes out again : List ℕ) → AreBytes bytes → AreBytes out → Recoded p name bytes out → length out < 2 ^ 64 → Recoded p name out again → again ≡ out
+stays p steady name bytes out again b c h short k =
+    let types = types_of p in
+    let t = without_dot name in
+    let its = recodes p steady name bytes out b h in
+    let next = recodes p steady name out again c k in
+    let same : next.0 ≡ its.0 = one_meaning types t nothing out next.0 its.0 next.1 (recoded_means types (defaults p steady.sound) t bytes out its short its.0 its.1) in
+    sym next.2 ∙ ap (bytes_of types t) same ∙ its.2
+
+pub passed : (old new : SchemaType) → IsSteady old.0 → IsSound new.0 → IsOlder (types_of old.0) (without_dot old.1) (types_of new.0) (without_dot new.1)
+    → (bytes out : List ℕ) → AreBytes bytes → Recoded old.0 old.1 bytes out → length out < 2 ^ 64
+    → (m : Message) → Mean (types_of new.0) (without_dot new.1) bytes m → Mean (types_of new.0) (without_dot new.1) out m
+passed old new steady sound older bytes out b h short m means =
+    passes (types_of old.0) (types_of new.0) (without_dot old.1) (without_dot new.1) bytes out m older (defaults new.0 sound) means (recodes old.0 steady old.1 bytes out b h) short
+
+through : (ss : List SchemaType) → AllByRecursion (λ (s : SchemaType). IsSteady s.0) ss → (bytes out : List ℕ) → AreBytes bytes → RecodedThrough ss bytes out → IsRecodedThrough (map type_of ss) bytes out × AreBytes out
+through [] steady bytes out b h = (h, subst AreBytes h b)
+through (s ∷ ss) steady bytes out b (next, h, c, short, more) =
+    let rest = through ss steady.1 next out c more in
+    ((next, recodes s.0 steady.0 s.1 bytes next b h, short, rest.0), rest.1)
+
+pub one_normal_form : (new : SchemaType) (ss : List SchemaType) → IsSteady new.0 → AllByRecursion (λ (s : SchemaType). IsSteady s.0) ss
+    → AreOlderThan (types_of new.0) (without_dot new.1) (map type_of ss)
+    → (bytes out x y : List ℕ) → AreBytes bytes → RecodedThrough ss bytes out → Recoded new.0 new.1 out x → Recoded new.0 new.1 bytes y → x ≡ y
+one_normal_form new ss steady all older bytes out x y b h k l =
+    let chain = through ss all bytes out b h in
+    let direct = recodes new.0 steady new.1 bytes y b l in
+    same_as_direct (types_of new.0) (without_dot new.1) (defaults new.0 steady.sound) (map type_of ss) older bytes out x y (direct.1.0, direct.1.1) chain.0
+    (recodes new.0 steady new.1 out x chain.1 k) direct

@@ -1,0 +1,4 @@
+//! Laws of what a schema decodes and recodes, in the words of the model. It has no code.
+#![tactic(auto)]
+
+pub mod laws;
