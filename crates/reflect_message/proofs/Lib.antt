@@ -5,4 +5,5 @@ pub mod Known
 pub mod Lengthening
 pub mod Owning
 pub mod Setting
+pub mod Taking
 pub mod Trees

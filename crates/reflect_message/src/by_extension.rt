@@ -112,9 +112,13 @@ impl<'p> DynamicMessage<'p> {
         ensures presence { (extension_type extension.now).presence ≡ true → result ≡ value_at (extensions_of self.old) (extension_type extension.now).number }
         ensures taken { result ≡ held_if_set (extension_pool extension.now) (extension_type extension.now) (value_at (extensions_of self.old) (extension_type extension.now).number) }
     {
-        let mut parts = self.block()?;
-        let taken = content::take(&mut parts.extensions, extension);
-        self.put_block(parts);
-        taken
+        match self.block() {
+            Some(mut parts) => {
+                let taken = content::take(&mut parts.extensions, extension);
+                self.put_block(parts);
+                taken
+            }
+            None => None,
+        }
     }
 }

@@ -20,6 +20,7 @@ use crate::set_field_error::SetFieldError;
 use crate::validity::is_valid_for;
 use crate::value::Value;
 use reflect_pool::FieldDescriptor;
+use reflect_scalar::AnyField;
 use std::alloc::AllocError;
 
 impl<'p> DynamicMessage<'p> {
@@ -117,7 +118,7 @@ impl<'p> DynamicMessage<'p> {
         ensures extensions { extensions_of self.new ≡ extensions_of self.old }
         ensures unknown { unknown_of self.new ≡ unknown_of self.old }
     {
-        if !is_valid_for(&value, field) {
+        if !is_valid_for(&value, AnyField::Field(*field)) {
             return Err(SetFieldError::InvalidType {
                 field: *field,
                 value,
@@ -148,9 +149,13 @@ impl<'p> DynamicMessage<'p> {
         ensures presence { (field_type field.now).presence ≡ true → result ≡ value_at (fields_of self.old) (field_type field.now).number }
         ensures taken { result ≡ held_if_set (field_pool field.now) (field_type field.now) (value_at (fields_of self.old) (field_type field.now).number) }
     {
-        let mut parts = self.block()?;
-        let taken = content::take(&mut parts.fields, field);
-        self.put_block(parts);
-        taken
+        match self.block() {
+            Some(mut parts) => {
+                let taken = content::take(&mut parts.fields, field);
+                self.put_block(parts);
+                taken
+            }
+            None => None,
+        }
     }
 }

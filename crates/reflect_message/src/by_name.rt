@@ -78,7 +78,9 @@ impl<'p> DynamicMessage<'p> {
     pub fn take_field_by_name(&mut self, name: &str) -> Option<Value<'p>>
         ensures type_stays { self.new.descriptor ≡ self.old.descriptor }
     {
-        let field = declared_field_by_name(self.descriptor, name)?;
-        self.take_field(&field)
+        match declared_field_by_name(self.descriptor, name) {
+            Some(field) => self.take_field(&field),
+            None => None,
+        }
     }
 }

@@ -81,7 +81,9 @@ impl<'p> DynamicMessage<'p> {
     pub fn take_field_by_number(&mut self, number: u32) -> Option<Value<'p>>
         ensures type_stays { self.new.descriptor ≡ self.old.descriptor }
     {
-        let field = declared_field(self.descriptor, number)?;
-        self.take_field(&field)
+        match declared_field(self.descriptor, number) {
+            Some(field) => self.take_field(&field),
+            None => None,
+        }
     }
 }

@@ -49,9 +49,9 @@ pub fn take<'p, F: FieldDescriptorLike<'p>>(
     ensures presence { (F.says field.now).presence ≡ true → result ≡ value_at content.old (F.says field.now).number }
     ensures taken { result ≡ held_if_set (F.pool field.now) (F.says field.now) (value_at content.old (F.says field.now).number) }
 {
-    let held = content.take(field.number())?;
-    if is_present(&held, field) {
-        Some(held)
+    let held = content.take(field.number());
+    if is_set(held.as_ref(), field) {
+        held
     } else {
         None
     }

@@ -20,11 +20,16 @@ pub fn declared_field<'p>(
     ensures none { IfNone result ((f : FieldDescriptor) → Owns descriptor.entry f → (field_type f).number ≢ number) }
     ensures known { option_map field_type result ≡ known_field descriptor.entry.pool.now descriptor.entry.index number }
 {
-    let field = descriptor.get_field(number)?;
-    if holds_floats(&field) {
-        return None;
+    match descriptor.get_field(number) {
+        Some(field) => {
+            if holds_floats(&field) {
+                None
+            } else {
+                Some(field)
+            }
+        }
+        None => None,
     }
-    Some(field)
 }
 
 /// The field of a name that messages of the type hold.
@@ -34,11 +39,16 @@ pub fn declared_field_by_name<'p>(
 ) -> Option<FieldDescriptor<'p>>
     ensures { IfSome result (λ f. f.message ≡ descriptor.entry) }
 {
-    let field = descriptor.get_field_by_name(name)?;
-    if holds_floats(&field) {
-        return None;
+    match descriptor.get_field_by_name(name) {
+        Some(field) => {
+            if holds_floats(&field) {
+                None
+            } else {
+                Some(field)
+            }
+        }
+        None => None,
     }
-    Some(field)
 }
 
 /// The extension of a number that messages of the type hold.
@@ -51,9 +61,14 @@ pub fn declared_extension<'p>(
     ensures none { IfNone result ((x : ExtensionDescriptor) → OwnsExtension descriptor.entry x → (extension_type x).number ≢ number) }
     ensures known { option_map extension_type result ≡ known_extension descriptor.entry.pool.now descriptor.entry.index number }
 {
-    let extension = descriptor.get_extension(number)?;
-    if holds_floats(&extension) {
-        return None;
+    match descriptor.get_extension(number) {
+        Some(extension) => {
+            if holds_floats(&extension) {
+                None
+            } else {
+                Some(extension)
+            }
+        }
+        None => None,
     }
-    Some(extension)
 }

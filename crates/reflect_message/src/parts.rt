@@ -105,7 +105,7 @@ impl<'p> Parts<'p> {
         ensures unknown { self.new.unknown ≡ self.old.unknown }
     {
         self.choices.make_room(field)?;
-        self.fields.slot(field.number(), default)?;
+        fill(&mut self.fields, field.number(), default)?;
         self.clear_siblings(field);
         Ok(())
     }
@@ -118,8 +118,7 @@ impl<'p> Parts<'p> {
         ensures choices { self.new.choices ≡ self.old.choices }
         ensures unknown { self.new.unknown ≡ self.old.unknown }
     {
-        self.extensions.slot(number, default)?;
-        Ok(())
+        fill(&mut self.extensions, number, default)
     }
 
     /// Sets the field over what it held, and unsets the other members of its oneof. A refusal leaves what is held.
@@ -166,7 +165,20 @@ fn entries_clone<'p>(
     copy.reserve(entries.len())?;
     'entries: for (number, value) in entries.numbers().iter().zip(entries.values()) {
         // (of one number the first value counts, as for lookups: a borrow does not tell that numbers ascend)
-        copy.slot(*number, value.clone()?)?;
+        fill(&mut copy, *number, value.clone()?)?;
     }
     Ok(copy)
+}
+
+/// Puts the value where nothing stands under the number. A refusal leaves the entries.
+fn fill<'p>(
+    entries: &mut Entries<Value<'p>>,
+    number: u32,
+    value: Value<'p>,
+) -> Result<(), AllocError>
+    ensures updates { OnOk result (Updates entries.old entries.new number (Some (unwrap_or (value_at entries.old number) value.entry))) }
+    ensures err { OnErr result (entries.new ≡ entries.old) }
+{
+    entries.slot(number, value)?;
+    Ok(())
 }

@@ -39,15 +39,27 @@ impl<'p> DynamicMessage<'p> {
     /// Drops the records of numbers that the type does not declare, and gives copies of them in the order of
     /// `unknown_fields`. A refusal leaves the message.
     pub fn take_unknown_fields(&mut self) -> Result<Vec<UnknownField>, AllocError> {
-        let mut fields = Vec::new(self.allocator());
-        for field in self.unknown_fields() {
-            fields.push(field.clone()?)?;
-        }
+        let fields = self.unknown_copies()?;
         if let Held::Block(parts) = &mut self.held {
             parts.unknown.clear();
         }
         Ok(fields)
     }
+
+    /// Copies of the records of numbers that the type does not declare.
+    fn unknown_copies(&self) -> Result<Vec<UnknownField>, AllocError> {
+        let mut fields = Vec::new(self.allocator());
+        for field in self.unknown_fields() {
+            push_copy(&mut fields, field)?;
+        }
+        Ok(fields)
+    }
+}
+
+/// Puts a copy of the record behind the others.
+fn push_copy(fields: &mut Vec<UnknownField>, field: &UnknownField) -> Result<(), AllocError> {
+    fields.push(field.clone()?)?;
+    Ok(())
 }
 
 /// The fields that were taken out of a message, by ascending number.

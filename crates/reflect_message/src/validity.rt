@@ -16,16 +16,6 @@ use reflect_pool::{ExtensionDescriptor, FieldDescriptor, Kind, MessageDescriptor
 use reflect_scalar::{AnyField, FieldDescriptorLike, MapKey, holds_floats};
 use std::collections::BTreeMap;
 
-/// Each value suits the kind.
-fn are_valid<'p>(values: &[Value<'p>], kind: &Kind<'p>) -> bool {
-    for value in values {
-        if !value.is_valid(kind) {
-            return false;
-        }
-    }
-    true
-}
-
 /// The fields of a map's entry type, for keys and for values.
 pub fn entry_fields<'p>(kind: &Kind<'p>) -> Option<(FieldDescriptor<'p>, FieldDescriptor<'p>)>
     ensures some { (pool : PoolType) (k : KindType) → IsKind pool kind.now k → IfSome result (λ p. (field_pool p.0 ≡ pool) × (field_pool p.1 ≡ pool) × (entry_field pool k 1 ≡ Some (field_type p.0)) × (entry_field pool k 2 ≡ Some (field_type p.1))) }
@@ -37,86 +27,55 @@ pub fn entry_fields<'p>(kind: &Kind<'p>) -> Option<(FieldDescriptor<'p>, FieldDe
     }
 }
 
-/// Each key and each value suits the map's entry type.
-fn are_valid_entries<'p>(entries: &BTreeMap<MapKey, Value<'p>>, kind: &Kind<'p>) -> bool {
-    let Some((keys, values)) = entry_fields(kind) else {
-        return false;
-    };
-    for (key, value) in entries.iter() {
-        if !key.is_valid(&keys.kind()) || !value.is_valid(&values.kind()) {
-            return false;
-        }
-    }
-    true
-}
-
 /// The value suits a field or an extension, its label included. None suits one that messages do not hold.
-pub fn is_valid_for<'p, F: FieldDescriptorLike<'p>>(value: &Value<'p>, field: &F) -> bool {
-    if holds_floats(field) {
-        return false;
-    }
-    match value {
-        Value::List(values) => field.is_list() && are_valid(values.as_slice(), &field.kind()),
-        Value::Map(entries) => field.is_map() && are_valid_entries(entries, &field.kind()),
-        _ => !field.is_list() && !field.is_map() && value.is_valid(&field.kind()),
-    }
+pub fn is_valid_for<'p>(value: &Value<'p>, field: AnyField<'p>) -> bool {
+    !holds_floats(&field) && content_suits(value, field, Strictness::Surface)
 }
 
 impl<'p> Value<'p> {
     /// The value suits a field that holds one value of the kind: a message is of its type.
     pub fn is_valid(&self, kind: &Kind<'p>) -> bool {
-        match (self, kind) {
-            (Value::Message(message), Kind::Message(wanted)) => {
-                message.descriptor().is_same(wanted)
-            }
-            _ => match self.as_scalar() {
-                Some(scalar) => scalar.is_valid(kind),
-                None => false,
-            },
-        }
+        value_suits(self, kind, Strictness::Surface)
     }
 
     /// The value suits the field, its label included.
     pub fn is_valid_for_field(&self, field: &FieldDescriptor<'p>) -> bool {
-        is_valid_for(self, field)
+        is_valid_for(self, AnyField::Field(*field))
     }
 
     /// The value suits the extension, its label included.
     pub fn is_valid_for_extension(&self, extension: &ExtensionDescriptor<'p>) -> bool {
-        is_valid_for(self, extension)
+        is_valid_for(self, AnyField::Extension(*extension))
     }
 }
 
-/// How much a message must suit its type.
-#[derive(Clone, Copy, PartialEq)]
+/// How much a value must suit its field.
+#[derive(Clone, Copy)]
 enum Strictness {
-    /// Each content has the case of its field's kind and label.
+    /// A message is of its field's type, whatever it holds.
+    Surface,
+    /// At every depth each content has the case of its field's kind and label.
     Shape,
     /// And each message is of its field's type.
     Type,
 }
 
-/// One value suits the kind, and what a message holds suits its own type.
+/// One value suits the kind, and what a message holds suits its own type as far as that is asked.
 #[cycle(suits)]
 fn value_suits<'p>(value: &Value<'p>, kind: &Kind<'p>, strictness: Strictness) -> bool {
     match (value, kind) {
-        (Value::Message(message), Kind::Message(wanted)) => {
-            is_wanted(message.descriptor(), wanted, strictness)
-                && message_suits(message, strictness)
-        }
+        (Value::Message(message), Kind::Message(wanted)) => match strictness {
+            Strictness::Surface => message.descriptor().is_same(wanted),
+            Strictness::Shape => message_suits(message, strictness),
+            Strictness::Type => {
+                message.descriptor().is_same(wanted) && message_suits(message, strictness)
+            }
+        },
         _ => match value.as_scalar() {
             Some(scalar) => scalar.is_valid(kind),
             None => false,
         },
     }
-}
-
-fn is_wanted<'p>(
-    descriptor: MessageDescriptor<'p>,
-    wanted: &MessageDescriptor<'p>,
-    strictness: Strictness,
-) -> bool {
-    strictness == Strictness::Shape || descriptor.is_same(wanted)
 }
 
 /// Each value of a list suits the kind.
@@ -140,8 +99,9 @@ fn map_suits<'p>(
     let Some((keys, values)) = entry_fields(kind) else {
         return false;
     };
+    let (key_kind, value_kind) = (keys.kind(), values.kind());
     for (key, value) in entries.iter() {
-        if !key.is_valid(&keys.kind()) || !value_suits(value, &values.kind(), strictness) {
+        if !key.is_valid(&key_kind) || !value_suits(value, &value_kind, strictness) {
             return false;
         }
     }

@@ -90,9 +90,19 @@ fn map_clone<'p>(
 ) -> Result<BTreeMap<MapKey, Value<'p>>, AllocError> {
     let mut copy = BTreeMap::emptied(entries)?;
     for (key, value) in entries.iter() {
-        copy.insert(key.clone()?, value.clone()?)?;
+        insert_at(&mut copy, key, value.clone()?)?;
     }
     Ok(copy)
+}
+
+/// Puts the value under a copy of the key.
+fn insert_at<'p>(
+    entries: &mut BTreeMap<MapKey, Value<'p>>,
+    key: &MapKey,
+    value: Value<'p>,
+) -> Result<(), AllocError> {
+    entries.insert(key.clone()?, value)?;
+    Ok(())
 }
 
 impl<'p> From<MapKey> for Value<'p> {

@@ -55,7 +55,9 @@ impl<'m, 'p> Iterator for FieldValues<'m, 'p> {
 
     fn next(&mut self) -> Option<(FieldDescriptor<'p>, &'m Value<'p>)> {
         let descriptor = self.descriptor;
-        let entries = self.entries.as_mut()?;
+        let Some(entries) = &mut self.entries else {
+            return None;
+        };
         'entries: while let Some((number, value)) = entries.next() {
             if let Some(field) = descriptor.get_field(number) {
                 if is_present(value, &field) {
@@ -86,7 +88,9 @@ impl<'m, 'p> Iterator for ExtensionValues<'m, 'p> {
 
     fn next(&mut self) -> Option<(ExtensionDescriptor<'p>, &'m Value<'p>)> {
         let descriptor = self.descriptor;
-        let entries = self.entries.as_mut()?;
+        let Some(entries) = &mut self.entries else {
+            return None;
+        };
         'entries: while let Some((number, value)) = entries.next() {
             if let Some(extension) = descriptor.get_extension(number) {
                 if is_present(value, &extension) {

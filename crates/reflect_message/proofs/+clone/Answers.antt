@@ -1,8 +1,7 @@
-use Rattle.std.proofs.Common.{rules, Some, take, length, unwrap_or, sym, subst}
+use Rattle.std.proofs.Common.{rules, take, length, sym, subst}
 use Rattle.std.proofs.lemmas.List.{length_push}
 use Rattle.std.proofs.lemmas.List.Elements.{same_from_all_zip}
 use Rattle.std.proofs.lemmas.Slice.Zip.{zip_turn, zip_end}
-use Rattle.reflect_entries.specs.Entries.{Updates, value_at}
 use Rattle.reflect_message.specs.Copies.{AreCopies}
 use Rattle.reflect_message.specs.declared.value.Value.{the_lemmas}
 use Rattle.reflect_message.proofs.Copying.{copies_next, copies_all}
@@ -18,11 +17,10 @@ parts::entries_clone-entries-preserved t c =
     let values = c.values.result.now in
     let so_far = c.entries.yielded in
     let turn = zip_turn numbers values so_far c.into_iter-number-iterator.result c.entries.number-iterator c.next.new.self c.next.result (search rules) (search rules) c.entries.yielded_by (c.in-Some.number, c.in-Some.value) c.in-Some.is c.next.ensures.steps in
-    let next = c.slot.follows.lender c.in_ok-slot.field-0.now in
+    let next = c.fill.new.entries in
     let number = c.in-Some.number.now in
     let copy = c.in_ok-clone.field-0 in
-    let updates : Updates c.entries.copy next number (Some (unwrap_or (value_at c.entries.copy number) copy)) = search rules in
-    let more = copies_next c.args.entries.now c.entries.copy next (length so_far) number c.in-Some.value.now copy numbers values c.numbers.ensures c.values.ensures turn c.entries.invariant updates c.in_ok-clone.ensures in
+    let more = copies_next c.args.entries.now c.entries.copy next (length so_far) number c.in-Some.value.now copy numbers values c.numbers.ensures c.values.ensures turn c.entries.invariant c.in_ok-fill.ensures.updates c.in_ok-clone.ensures in
     subst (λ n. AreCopies (take n c.args.entries.now) next) (sym (length_push so_far (c.in-Some.number, c.in-Some.value))) more
 
 pub parts::entries_clone-returns : goal.parts::entries_clone-returns

@@ -4,8 +4,8 @@ use Rattle.reflect_message.specs.Held.{UpdatesField}
 use Rattle.reflect_message.proofs.Setting.{exclusive_unset}
 use Rattle.reflect_message.proofs.message.DynamicMessage.take_field.Goals as goal
 
-pub returns-clause-exclusive : goal.returns-clause-exclusive
-returns-clause-exclusive c =
+pub returns-in-Some-clause-exclusive : goal.returns-in-Some-clause-exclusive
+returns-in-Some-clause-exclusive c =
     let number = (field_type c.args.field.now).number in
     let updated : UpdatesField c.args.self.now c.put_block.new.self number None = search rules in
     exclusive_unset c.args.self.now c.put_block.new.self number updated
