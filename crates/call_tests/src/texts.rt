@@ -2,7 +2,7 @@
 
 use case_json::members::{items, text};
 use message_cases::{Answers, message_of, replay_calls, scalar_of, text_of};
-use reflect_dynamic::DynamicMessage;
+use reflect_dynamic::{DynamicMessage, MessageWalks};
 use reflect_format::{ParseError, Parser};
 use reflect_link::{DescriptorPool, Kind, MessageDescriptor};
 use reflect_print::{FormatOptions, WriteError, Writer};

@@ -4,6 +4,7 @@ use crate::changes::change;
 use crate::given::{list_of, value_of};
 use crate::shown::{write_outcome, write_taken, write_truth, write_value};
 use case_json::members::text;
+use reflect_access::TrySetField;
 use reflect_extend::ExtendMessage;
 use reflect_message::DynamicMessage;
 use serde_json::Value as Json;

@@ -4,6 +4,7 @@ use crate::changes::change_lent;
 use crate::given::value_of;
 use crate::shown::{write_held, write_outcome, write_taken, write_truth};
 use case_json::members::text;
+use reflect_access::FieldsByNumber;
 use reflect_message::DynamicMessage;
 use serde_json::Value as Json;
 use std::alloc::{AllocError, Global};

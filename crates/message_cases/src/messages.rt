@@ -8,6 +8,7 @@ use crate::by_number::answer_by_number;
 use crate::given::{text_of, u32_of};
 use crate::shown::{write_bytes, write_gap, write_hex, write_truth, write_value};
 use case_json::members::{bytes, text};
+use reflect_access::{MessageTests, MessageWalks, TakeContents};
 use reflect_decode::DecodeMessage;
 use reflect_encode::EncodeMessage;
 use reflect_message::DynamicMessage;

@@ -1,7 +1,8 @@
 //! Values as texts: what each of their readers answers, behind its name. Of a value that is no list and no map just one does.
 
+use reflect_access::SetFieldError;
 use reflect_encode::EncodeMessage;
-use reflect_message::{DynamicMessage, FieldRef, MapKey, SetFieldError, Value};
+use reflect_message::{DynamicMessage, FieldRef, MapKey, Value};
 use std::alloc::AllocError;
 use std::collections::BTreeMap;
 use std::fmt::Display;

@@ -5,6 +5,7 @@ use crate::changes::change;
 use crate::given::{extension_of, field_of, kind_of, value_of};
 use crate::shown::{write_key, write_truth, write_value};
 use case_json::members::text;
+use reflect_access::ValueTests;
 use reflect_message::Value;
 use reflect_pool::MessageDescriptor;
 use serde_json::Value as Json;

@@ -6,10 +6,12 @@ mod read_options;
 
 pub use descriptor_ext::{FieldDefault, KindExt};
 pub use read_options::ReadOptions;
+pub use reflect_access::{
+    ExtensionValues, FieldValues, FieldsByName, FieldsByNumber, MessageTests, MessageWalks,
+    SetFieldError, TakeContents, TakenExtensions, TakenFields, TrySetField, UnknownFields,
+    ValueTests,
+};
 pub use reflect_decode::DecodeMessage;
 pub use reflect_encode::EncodeMessage;
 pub use reflect_extend::ExtendMessage;
-pub use reflect_message::{
-    AnyField, DynamicMessage, ExtensionValues, FieldDescriptorLike, FieldRef, FieldValues, MapKey,
-    SetFieldError, TakenExtensions, TakenFields, UnknownFields, Value,
-};
+pub use reflect_message::{AnyField, DynamicMessage, FieldDescriptorLike, FieldRef, MapKey, Value};

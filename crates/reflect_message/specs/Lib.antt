@@ -3,11 +3,9 @@ pub mod Contents
 pub mod Copies
 pub mod Declares
 pub mod Defaults
-pub mod EntriesLeft
 pub mod Held
 pub mod KindTypes
 pub mod Known
-pub mod Left
 pub mod Lists
 pub mod MapKeys
 pub mod Maps

@@ -16,11 +16,8 @@ use crate::defaults::default_of;
 use crate::field_ref::FieldRef;
 use crate::message::DynamicMessage;
 use crate::message_parts::MessageParts;
-use crate::set_field_error::SetFieldError;
-use crate::validity::is_valid_for;
 use crate::value::Value;
 use reflect_pool::FieldDescriptor;
-use reflect_scalar::AnyField;
 use std::alloc::AllocError;
 
 impl<'p> DynamicMessage<'p> {
@@ -99,33 +96,6 @@ impl<'p> DynamicMessage<'p> {
         let outcome = parts.set_field(field, value);
         self.put_block(parts);
         outcome
-    }
-
-    /// Sets the field, one of the message's type, as `set_field` does.
-    ///
-    /// `InvalidType` hands field and value back where the field does not take the value; then, and for want of memory,
-    /// the message is unchanged.
-    pub fn try_set_field(
-        &mut self,
-        field: &FieldDescriptor<'p>,
-        value: Value<'p>,
-    ) -> Result<(), SetFieldError<'p>>
-        requires { Declares self.old.descriptor field.now }
-        ensures type_stays { self.new.descriptor ≡ self.old.descriptor }
-        ensures ok { OnOk result (SetsField self.old self.new field.now value.entry) }
-        ensures exclusive { Owns self.old.descriptor field.now → IsExclusive self.old → IsExclusive self.new }
-        ensures err { OnErr result (fields_of self.new ≡ fields_of self.old) }
-        ensures extensions { extensions_of self.new ≡ extensions_of self.old }
-        ensures unknown { unknown_of self.new ≡ unknown_of self.old }
-    {
-        if !is_valid_for(&value, AnyField::Field(*field)) {
-            return Err(SetFieldError::InvalidType {
-                field: *field,
-                value,
-            });
-        }
-        self.set_field(field, value)?;
-        Ok(())
     }
 
     /// Unsets the field, one of the message's type. Takes no memory.

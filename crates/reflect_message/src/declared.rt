@@ -32,25 +32,6 @@ pub fn declared_field<'p>(
     }
 }
 
-/// The field of a name that messages of the type hold.
-pub fn declared_field_by_name<'p>(
-    descriptor: MessageDescriptor<'p>,
-    name: &str,
-) -> Option<FieldDescriptor<'p>>
-    ensures { IfSome result (λ f. f.message ≡ descriptor.entry) }
-{
-    match descriptor.get_field_by_name(name) {
-        Some(field) => {
-            if holds_floats(&field) {
-                None
-            } else {
-                Some(field)
-            }
-        }
-        None => None,
-    }
-}
-
 /// The extension of a number that messages of the type hold.
 pub fn declared_extension<'p>(
     descriptor: MessageDescriptor<'p>,

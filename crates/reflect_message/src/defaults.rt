@@ -1,7 +1,9 @@
 //! Defaults: what stands for a field that is not set.
 
 ghost use Rattle.std.specs.Prelude.{◌≡◌, ◌||◌, not, true, None, Some, IsTrue, IfOk, option_map};
+ghost use Rattle.reflect_pool.specs.FieldsLeft.{field_type};
 ghost use Rattle.reflect_scalar.specs.Defaults.{default_in};
+ghost use Rattle.reflect_scalar.specs.FieldTypes.{extension_pool, extension_type, field_pool};
 ghost use Rattle.reflect_scalar.specs.Singles.{scalar_view};
 ghost use Rattle.reflect_message.specs.Bytes.{form_of, is_default, is_set};
 ghost use Rattle.reflect_message.specs.Defaults.{IsDefault};
@@ -48,16 +50,6 @@ pub fn default_of<'p, F: FieldDescriptorLike<'p>>(
         return Ok(Value::List(Vec::new(alloc)));
     }
     default_one(alloc, field)
-}
-
-/// The value is the default of a field or an extension.
-pub fn is_default_of<'p, F: FieldDescriptorLike<'p>>(value: &Value<'p>, field: &F) -> bool {
-    match value {
-        Value::Message(message) => message.is_empty(),
-        Value::List(values) => values.is_empty(),
-        Value::Map(entries) => entries.is_empty(),
-        _ => is_default_scalar(value.as_scalar(), field),
-    }
 }
 
 /// A single value is the default of a field or an extension.
@@ -120,7 +112,9 @@ impl<'p> Value<'p> {
     pub fn default_value_for_field(
         alloc: Global,
         field: &FieldDescriptor<'p>,
-    ) -> Result<Value<'p>, AllocError> {
+    ) -> Result<Value<'p>, AllocError>
+        ensures { IfOk result (IsDefault (field_pool field.now) (field_type field.now)) }
+    {
         default_of(alloc, field)
     }
 
@@ -128,28 +122,9 @@ impl<'p> Value<'p> {
     pub fn default_value_for_extension(
         alloc: Global,
         extension: &ExtensionDescriptor<'p>,
-    ) -> Result<Value<'p>, AllocError> {
+    ) -> Result<Value<'p>, AllocError>
+        ensures { IfOk result (IsDefault (extension_pool extension.now) (extension_type extension.now)) }
+    {
         default_of(alloc, extension)
-    }
-
-    /// The value is the default of a field that holds one value of the kind.
-    pub fn is_default(&self, kind: &Kind<'p>) -> bool {
-        match (self, kind) {
-            (Value::Message(message), Kind::Message(_)) => message.is_empty(),
-            _ => match (self.as_scalar(), Scalar::default_value(kind)) {
-                (Some(value), Some(default)) => value == default,
-                _ => false,
-            },
-        }
-    }
-
-    /// The value is the default of the field. An empty list, map or message is that of each field that may hold it.
-    pub fn is_default_for_field(&self, field: &FieldDescriptor<'p>) -> bool {
-        is_default_of(self, field)
-    }
-
-    /// The value is the default of the extension.
-    pub fn is_default_for_extension(&self, extension: &ExtensionDescriptor<'p>) -> bool {
-        is_default_of(self, extension)
     }
 }

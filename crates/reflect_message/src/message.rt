@@ -1,7 +1,6 @@
 ghost use Rattle.std.specs.Prelude.{◌≡◌, [], IfOk, IfSome, IfNone};
 ghost use Rattle.std.specs.Option.{option_copied, option_copied_mut};
 ghost use Rattle.reflect_entries.specs.Entries.{value_at};
-ghost use Rattle.reflect_message.specs.EntriesLeft.{entries_left};
 ghost use Rattle.reflect_entries.specs.Undeclared.{undeclared};
 ghost use Rattle.reflect_message.specs.Contents.{content_of, nothing};
 ghost use Rattle.reflect_message.specs.Copies.{AreCopies};
@@ -11,7 +10,6 @@ ghost use Rattle.reflect_message.specs.Trees.{held_tree};
 
 use crate::parts::{Held, Parts};
 use crate::value::Value;
-use reflect_entries::entries;
 use reflect_pool::{ExtensionDescriptor, FieldDescriptor, MessageDescriptor};
 use reflect_scalar::holds_floats;
 use std::alloc::{AllocError, Global};
@@ -75,13 +73,6 @@ impl<'p> DynamicMessage<'p> {
         })
     }
 
-    /// No field or extension is set, and there are no other records. Takes no memory.
-    pub fn is_empty(&self) -> bool {
-        self.unknown_fields().next().is_none()
-            && self.fields().next().is_none()
-            && self.extensions().next().is_none()
-    }
-
     /// The field is one of the message's type, and one that messages hold: no floating-point number, and no map of such.
     pub fn declares(&self, field: &FieldDescriptor<'p>) -> bool {
         field.parent_message().is_same(&self.descriptor) && !holds_floats(field)
@@ -132,28 +123,8 @@ impl<'p> DynamicMessage<'p> {
         }
     }
 
-    /// What the declared fields hold, by ascending number, if the message holds anything.
-    pub(crate) fn field_entries(&self) -> Option<entries::Iter<'_, Value<'p>>>
-        ensures { entries_left result ≡ fields_of self.now }
-    {
-        match &self.held {
-            Held::Block(parts) => Some(parts.fields.iter()),
-            Held::Nothing => None,
-        }
-    }
-
-    /// What the extensions hold, by ascending number, if the message holds anything.
-    pub(crate) fn extension_entries(&self) -> Option<entries::Iter<'_, Value<'p>>>
-        ensures { entries_left result ≡ extensions_of self.now }
-    {
-        match &self.held {
-            Held::Block(parts) => Some(parts.extensions.iter()),
-            Held::Nothing => None,
-        }
-    }
-
     /// The block of what the message holds, taken out, if it holds anything. Takes no memory.
-    pub(crate) fn block(&mut self) -> Option<Box<Parts<'p>>>
+    pub fn block(&mut self) -> Option<Box<Parts<'p>>>
         ensures type_stays { self.new.descriptor ≡ self.old.descriptor }
         ensures fields { IfSome result (λ block. block.value.fields ≡ fields_of self.old) }
         ensures choices { IfSome result (λ block. block.value.choices.members ≡ choices_of self.old) }

@@ -3,6 +3,7 @@
 use descriptor_records::{Options, UninterpretedOption};
 use option_parts::{OptionErrorKind, OptionScope, UNINTERPRETED_OPTION};
 use option_setter::{NameScope, OptionSetter, option_name};
+use reflect_access::FieldsByNumber;
 use reflect_decode::DecodeMessage;
 use reflect_encode::EncodeMessage;
 use reflect_link::MessageDescriptor;

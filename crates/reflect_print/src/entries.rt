@@ -2,6 +2,7 @@
 
 use crate::error::WriteError;
 use crate::options::FormatOptions;
+use reflect_access::{FieldsByNumber, MessageWalks};
 use reflect_message::{DynamicMessage, FieldRef, Value};
 use reflect_pool::{ExtensionDescriptor, FieldDescriptor};
 use reflect_wire::UnknownField;

@@ -10,6 +10,7 @@ use crate::error::WriteError;
 use crate::options::FormatOptions;
 use crate::output::{put, put_bracketed, put_quoted, put_shown};
 use crate::place::Place;
+use reflect_access::MessageWalks;
 use reflect_message::{DynamicMessage, MapKey, Value};
 use reflect_pool::{ExtensionDescriptor, FieldDescriptor, Kind};
 use reflect_wire::UnknownField;

@@ -1,6 +1,6 @@
 use Rattle.std.proofs.Common.{length, ◌≤◌}
 use Rattle.reflect_entries.specs.Ahead.{left}
-use Rattle.reflect_message.proofs.walks.ExtensionValuesIterator.next.Given as goal
+use Rattle.reflect_access.proofs.walks.ExtensionValuesIterator.next.Given as goal
 
 abbrev pub invariant-entries : goal.invariant-entries
 invariant-entries l = length (left l.entries) ≤ length (left l.initial.entries)

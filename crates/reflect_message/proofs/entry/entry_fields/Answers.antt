@@ -5,7 +5,7 @@ use Rattle.reflect_pool.specs.declared.kind.Kind.{Kind}
 use Rattle.reflect_pool.specs.declared.kind.Kind.TheVariants as kinds
 use Rattle.reflect_pool.specs.declared.message.MessageDescriptor.{MessageDescriptor}
 use Rattle.reflect_message.proofs.Known.{entry_is, field_missing, here}
-use Rattle.reflect_message.proofs.validity.entry_fields.Goals as goal
+use Rattle.reflect_message.proofs.entry.entry_fields.Goals as goal
 
 if_none : {T : Type 0} (P : Type 0) (o : Option T) → o ≡ None → P → IfNone o P
 if_none P o e h = subst (λ o. IfNone o P) (sym e) h

@@ -2,7 +2,7 @@
 use Rattle.std.specs.Prelude.{ℕ, List, [], None, Some}
 use Rattle.reflect_wire.specs.Records.{Payload}
 use Rattle.reflect_entries.specs.Left.{unread}
-use Rattle.reflect_message.specs.declared.walks.UnknownFields.{UnknownFields}
+use Rattle.reflect_access.specs.declared.walks.UnknownFields.{UnknownFields}
 
 -- the records of undeclared numbers that are left, by ascending number
 abbrev pub records_left : UnknownFields → List (ℕ × Payload)

@@ -1,6 +1,6 @@
 use Rattle.std.proofs.Common.{◌≤◌, length}
 use Rattle.reflect_entries.specs.Ahead.{taken}
-use Rattle.reflect_message.proofs.taken.TakenFieldsIterator.next.Given as goal
+use Rattle.reflect_access.proofs.taken.TakenFieldsIterator.next.Given as goal
 
 abbrev pub invariant-entries : goal.invariant-entries
 invariant-entries l = length (taken l.self.entries) ≤ length (taken l.initial.self.entries)

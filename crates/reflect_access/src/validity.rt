@@ -1,57 +1,21 @@
 //! Which values suit which fields.
 
-ghost use Rattle.std.specs.Prelude.{◌≡◌, ◌⊎◌, IfSome, IfNone, Some, None};
-ghost use Rattle.reflect_tables.specs.Types.{PoolType, KindType};
-ghost use Rattle.reflect_pool.specs.FieldsLeft.{field_type};
-ghost use Rattle.reflect_pool.specs.Kinds.{IsKind};
-ghost use Rattle.reflect_scalar.specs.FieldTypes.{field_pool};
-ghost use Rattle.reflect_message.specs.Known.{entry_field};
-
-use crate::declared::{declared_extension, declared_field};
-use crate::message::DynamicMessage;
-use crate::parts::{Held, Parts};
-use crate::scalar_value::ScalarValue;
-use crate::value::Value;
-use reflect_pool::{ExtensionDescriptor, FieldDescriptor, Kind, MessageDescriptor};
+use reflect_message::{
+    DynamicMessage, Held, MessageParts, Parts, ScalarValue, Value, declared_extension,
+    declared_field, entry_fields,
+};
+use reflect_pool::{Kind, MessageDescriptor};
 use reflect_scalar::{AnyField, FieldDescriptorLike, MapKey, holds_floats};
 use std::collections::BTreeMap;
-
-/// The fields of a map's entry type, for keys and for values.
-pub fn entry_fields<'p>(kind: &Kind<'p>) -> Option<(FieldDescriptor<'p>, FieldDescriptor<'p>)>
-    ensures some { (pool : PoolType) (k : KindType) → IsKind pool kind.now k → IfSome result (λ p. (field_pool p.0 ≡ pool) × (field_pool p.1 ≡ pool) × (entry_field pool k 1 ≡ Some (field_type p.0)) × (entry_field pool k 2 ≡ Some (field_type p.1))) }
-    ensures none { (pool : PoolType) (k : KindType) → IsKind pool kind.now k → IfNone result ((entry_field pool k 1 ≡ None) ⊎ (entry_field pool k 2 ≡ None)) }
-{
-    match kind {
-        Kind::Message(entry) => Some((entry.get_field(1)?, entry.get_field(2)?)),
-        _ => None,
-    }
-}
 
 /// The value suits a field or an extension, its label included. None suits one that messages do not hold.
 pub fn is_valid_for<'p>(value: &Value<'p>, field: AnyField<'p>) -> bool {
     !holds_floats(&field) && content_suits(value, field, Strictness::Surface)
 }
 
-impl<'p> Value<'p> {
-    /// The value suits a field that holds one value of the kind: a message is of its type.
-    pub fn is_valid(&self, kind: &Kind<'p>) -> bool {
-        value_suits(self, kind, Strictness::Surface)
-    }
-
-    /// The value suits the field, its label included.
-    pub fn is_valid_for_field(&self, field: &FieldDescriptor<'p>) -> bool {
-        is_valid_for(self, AnyField::Field(*field))
-    }
-
-    /// The value suits the extension, its label included.
-    pub fn is_valid_for_extension(&self, extension: &ExtensionDescriptor<'p>) -> bool {
-        is_valid_for(self, AnyField::Extension(*extension))
-    }
-}
-
 /// How much a value must suit its field.
 #[derive(Clone, Copy)]
-enum Strictness {
+pub enum Strictness {
     /// A message is of its field's type, whatever it holds.
     Surface,
     /// At every depth each content has the case of its field's kind and label.
@@ -62,7 +26,7 @@ enum Strictness {
 
 /// One value suits the kind, and what a message holds suits its own type as far as that is asked.
 #[cycle(suits)]
-fn value_suits<'p>(value: &Value<'p>, kind: &Kind<'p>, strictness: Strictness) -> bool {
+pub fn value_suits<'p>(value: &Value<'p>, kind: &Kind<'p>, strictness: Strictness) -> bool {
     match (value, kind) {
         (Value::Message(message), Kind::Message(wanted)) => match strictness {
             Strictness::Surface => message.descriptor().is_same(wanted),
@@ -164,8 +128,8 @@ fn extensions_suit<'p>(
 /// What the message holds suits its type.
 #[cycle(suits)]
 fn message_suits(message: &DynamicMessage<'_>, strictness: Strictness) -> bool {
-    let descriptor = message.descriptor;
-    match &message.held {
+    let descriptor = message.descriptor();
+    match message.held() {
         Held::Block(parts) => {
             fields_suit(parts, descriptor, strictness)
                 && extensions_suit(parts, descriptor, strictness)
@@ -174,15 +138,22 @@ fn message_suits(message: &DynamicMessage<'_>, strictness: Strictness) -> bool {
     }
 }
 
-impl<'p> DynamicMessage<'p> {
+/// A message that is asked whether what it holds suits its type.
+pub trait MessageTests {
     /// At every depth each content has the case that its field's kind and label ask for, and so has each key of a map. Takes
     /// no memory.
-    pub fn is_encodable(&self) -> bool {
+    fn is_encodable(&self) -> bool;
+
+    /// The message is encodable, and at every depth each message is of its field's type. Takes no memory.
+    fn is_typed(&self) -> bool;
+}
+
+impl MessageTests for DynamicMessage<'_> {
+    fn is_encodable(&self) -> bool {
         message_suits(self, Strictness::Shape)
     }
 
-    /// The message is encodable, and at every depth each message is of its field's type. Takes no memory.
-    pub fn is_typed(&self) -> bool {
+    fn is_typed(&self) -> bool {
         message_suits(self, Strictness::Type)
     }
 }

@@ -1,38 +1,71 @@
 //! What a message holds, one content after another.
 
-use crate::defaults::is_present;
-use crate::message::DynamicMessage;
-use crate::parts::Held;
-use crate::value::Value;
 use reflect_entries::entries;
+use reflect_message::{DynamicMessage, Held, MessageParts, Value, is_present};
 use reflect_pool::{ExtensionDescriptor, FieldDescriptor, MessageDescriptor};
 use reflect_wire::UnknownField;
 
-impl<'p> DynamicMessage<'p> {
+/// A message that is walked over.
+pub trait MessageWalks<'p> {
     /// The fields that are set, with what they hold, by ascending number. Takes no memory.
-    pub fn fields(&self) -> FieldValues<'_, 'p> {
-        FieldValues {
-            descriptor: self.descriptor,
-            entries: self.field_entries(),
-        }
-    }
+    fn fields(&self) -> FieldValues<'_, 'p>;
 
     /// The extensions that are set, with what they hold, by ascending number. Takes no memory.
-    pub fn extensions(&self) -> ExtensionValues<'_, 'p> {
-        ExtensionValues {
-            descriptor: self.descriptor,
-            entries: self.extension_entries(),
-        }
-    }
+    fn extensions(&self) -> ExtensionValues<'_, 'p>;
 
     /// The records of numbers that the type does not declare, by ascending number, those of a number as they came. Takes no
     /// memory.
-    pub fn unknown_fields(&self) -> UnknownFields<'_> {
-        let records = match &self.held {
+    fn unknown_fields(&self) -> UnknownFields<'_>;
+
+    /// No field or extension is set, and there are no other records. Takes no memory.
+    fn is_empty(&self) -> bool;
+}
+
+impl<'p> MessageWalks<'p> for DynamicMessage<'p> {
+    fn fields(&self) -> FieldValues<'_, 'p> {
+        FieldValues {
+            descriptor: self.descriptor(),
+            entries: field_entries(self),
+        }
+    }
+
+    fn extensions(&self) -> ExtensionValues<'_, 'p> {
+        ExtensionValues {
+            descriptor: self.descriptor(),
+            entries: extension_entries(self),
+        }
+    }
+
+    fn unknown_fields(&self) -> UnknownFields<'_> {
+        let records = match self.held() {
             Held::Block(parts) => Some(parts.unknown.iter()),
             Held::Nothing => None,
         };
         UnknownFields { records }
+    }
+
+    fn is_empty(&self) -> bool {
+        self.unknown_fields().next().is_none()
+            && self.fields().next().is_none()
+            && self.extensions().next().is_none()
+    }
+}
+
+/// What the declared fields hold, by ascending number, if the message holds anything.
+fn field_entries<'m, 'p>(message: &'m DynamicMessage<'p>) -> Option<entries::Iter<'m, Value<'p>>> {
+    match message.held() {
+        Held::Block(parts) => Some(parts.fields.iter()),
+        Held::Nothing => None,
+    }
+}
+
+/// What the extensions hold, by ascending number, if the message holds anything.
+fn extension_entries<'m, 'p>(
+    message: &'m DynamicMessage<'p>,
+) -> Option<entries::Iter<'m, Value<'p>>> {
+    match message.held() {
+        Held::Block(parts) => Some(parts.extensions.iter()),
+        Held::Nothing => None,
     }
 }
 
@@ -47,7 +80,7 @@ pub struct FieldValues<'m, 'p> {
 impl<'m, 'p> Iterator for FieldValues<'m, 'p> {
     ghost use Rattle.std.specs.Prelude.{length};
     ghost use Rattle.std.specs.Iterator.{at_most};
-    ghost use Rattle.reflect_message.specs.EntriesLeft.{entries_left};
+    ghost use Rattle.reflect_access.specs.EntriesLeft.{entries_left};
 
     type Item = (FieldDescriptor<'p>, &'m Value<'p>);
 
@@ -80,7 +113,7 @@ pub struct ExtensionValues<'m, 'p> {
 impl<'m, 'p> Iterator for ExtensionValues<'m, 'p> {
     ghost use Rattle.std.specs.Prelude.{length};
     ghost use Rattle.std.specs.Iterator.{at_most};
-    ghost use Rattle.reflect_message.specs.EntriesLeft.{entries_left};
+    ghost use Rattle.reflect_access.specs.EntriesLeft.{entries_left};
 
     type Item = (ExtensionDescriptor<'p>, &'m Value<'p>);
 
@@ -112,7 +145,7 @@ pub struct UnknownFields<'m> {
 impl<'m> Iterator for UnknownFields<'m> {
     ghost use Rattle.std.specs.Iterator.{YieldsFirstBy, item_count};
     ghost use Rattle.reflect_wire.specs.Views.{field_view};
-    ghost use Rattle.reflect_message.specs.Left.{records_left};
+    ghost use Rattle.reflect_access.specs.Left.{records_left};
 
     type Item = &'m UnknownField;
 

@@ -1,59 +1,68 @@
 //! What was taken out of a message.
 
-use crate::defaults::is_present;
-use crate::message::DynamicMessage;
-use crate::message_parts::MessageParts;
-use crate::parts::Held;
-use crate::value::Value;
+use crate::walks::MessageWalks;
 use reflect_entries::{Entries, entries};
+use reflect_message::{DynamicMessage, MessageParts, Value, is_present};
 use reflect_pool::{ExtensionDescriptor, FieldDescriptor, MessageDescriptor};
 use reflect_wire::UnknownField;
 use std::alloc::AllocError;
 use std::mem;
 
-impl<'p> DynamicMessage<'p> {
+/// A message whose contents are taken out.
+pub trait TakeContents<'p> {
     /// Unsets all fields, and gives those that were set with what they held, by ascending number. Takes no memory.
-    pub fn take_fields(&mut self) -> TakenFields<'p> {
-        let mut taken = Entries::new(self.allocator());
-        if let Held::Block(parts) = &mut self.held {
-            mem::swap(&mut taken, &mut parts.fields);
-        }
-        TakenFields {
-            descriptor: self.descriptor,
-            entries: taken.into_iter(),
-        }
-    }
+    fn take_fields(&mut self) -> TakenFields<'p>;
 
     /// Unsets all extensions, and gives those that were set with what they held, by ascending number. Takes no memory.
-    pub fn take_extensions(&mut self) -> TakenExtensions<'p> {
-        let mut taken = Entries::new(self.allocator());
-        if let Held::Block(parts) = &mut self.held {
-            mem::swap(&mut taken, &mut parts.extensions);
-        }
-        TakenExtensions {
-            descriptor: self.descriptor,
-            entries: taken.into_iter(),
-        }
-    }
+    fn take_extensions(&mut self) -> TakenExtensions<'p>;
 
     /// Drops the records of numbers that the type does not declare, and gives copies of them in the order of
     /// `unknown_fields`. A refusal leaves the message.
-    pub fn take_unknown_fields(&mut self) -> Result<Vec<UnknownField>, AllocError> {
-        let fields = self.unknown_copies()?;
-        if let Held::Block(parts) = &mut self.held {
-            parts.unknown.clear();
+    fn take_unknown_fields(&mut self) -> Result<Vec<UnknownField>, AllocError>;
+}
+
+impl<'p> TakeContents<'p> for DynamicMessage<'p> {
+    fn take_fields(&mut self) -> TakenFields<'p> {
+        let mut taken = Entries::new(self.allocator());
+        if let Some(mut parts) = self.block() {
+            mem::swap(&mut taken, &mut parts.fields);
+            self.put_block(parts);
         }
-        Ok(fields)
+        TakenFields {
+            descriptor: self.descriptor(),
+            entries: taken.into_iter(),
+        }
     }
 
-    /// Copies of the records of numbers that the type does not declare.
-    fn unknown_copies(&self) -> Result<Vec<UnknownField>, AllocError> {
-        let mut fields = Vec::new(self.allocator());
-        for field in self.unknown_fields() {
-            push_copy(&mut fields, field)?;
+    fn take_extensions(&mut self) -> TakenExtensions<'p> {
+        let mut taken = Entries::new(self.allocator());
+        if let Some(mut parts) = self.block() {
+            mem::swap(&mut taken, &mut parts.extensions);
+            self.put_block(parts);
+        }
+        TakenExtensions {
+            descriptor: self.descriptor(),
+            entries: taken.into_iter(),
+        }
+    }
+
+    fn take_unknown_fields(&mut self) -> Result<Vec<UnknownField>, AllocError> {
+        let fields = unknown_copies(self)?;
+        if let Some(mut parts) = self.block() {
+            parts.unknown.clear();
+            self.put_block(parts);
         }
         Ok(fields)
     }
+}
+
+/// Copies of the records of numbers that the type does not declare.
+fn unknown_copies(message: &DynamicMessage<'_>) -> Result<Vec<UnknownField>, AllocError> {
+    let mut fields = Vec::new(message.allocator());
+    for field in message.unknown_fields() {
+        push_copy(&mut fields, field)?;
+    }
+    Ok(fields)
 }
 
 /// Puts a copy of the record behind the others.

@@ -1,0 +1,2 @@
+pub mod EntriesLeft
+pub mod Left

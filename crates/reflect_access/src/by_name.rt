@@ -1,0 +1,125 @@
+//! Fields by their names.
+
+ghost use Rattle.std.specs.Prelude.{◌≡◌, IfSome, OnErr};
+ghost use Rattle.reflect_message.specs.Held.{fields_of};
+
+use crate::set_field_error::{SetFieldError, TrySetField};
+use reflect_message::{DynamicMessage, FieldRef, Value};
+use reflect_pool::{FieldDescriptor, MessageDescriptor};
+use reflect_scalar::holds_floats;
+use std::alloc::AllocError;
+
+/// The field of a name that messages of the type hold.
+fn declared_field_by_name<'p>(
+    descriptor: MessageDescriptor<'p>,
+    name: &str,
+) -> Option<FieldDescriptor<'p>>
+    ensures { IfSome result (λ f. f.message ≡ descriptor.entry) }
+{
+    match descriptor.get_field_by_name(name) {
+        Some(field) => {
+            if holds_floats(&field) {
+                None
+            } else {
+                Some(field)
+            }
+        }
+        None => None,
+    }
+}
+
+/// A message whose fields are called by their names.
+pub trait FieldsByName<'p> {
+    ghost use Rattle.reflect_message.specs.declared.message.DynamicMessage.{DynamicMessage};
+
+    /// The message that it is.
+    ghost message: { Self → DynamicMessage };
+
+    /// The field of the name is set. Takes no memory.
+    fn has_field_by_name(&self, name: &str) -> bool;
+
+    /// What the field of the name holds, or its default; `None` where there is no such field.
+    fn get_field_by_name(&self, name: &str) -> Result<Option<FieldRef<'_, 'p>>, AllocError>;
+
+    /// What the field of the name holds, to be changed, as `get_field_mut` gives it; `None` where there is no such field.
+    fn get_field_by_name_mut(&mut self, name: &str) -> Result<Option<&mut Value<'p>>, AllocError>;
+
+    /// Sets the field of the name to a value that suits it; without such a field nothing happens. A refusal leaves the
+    /// message.
+    fn set_field_by_name(&mut self, name: &str, value: Value<'p>) -> Result<(), AllocError>
+        ensures type_stays { (message self.new).descriptor ≡ (message self.old).descriptor }
+        ensures err { OnErr result (fields_of (message self.new) ≡ fields_of (message self.old)) };
+
+    /// Sets the field of the name, as `try_set_field` does. `NotFound` where there is no such field.
+    fn try_set_field_by_name(
+        &mut self,
+        name: &str,
+        value: Value<'p>,
+    ) -> Result<(), SetFieldError<'p>>
+        ensures type_stays { (message self.new).descriptor ≡ (message self.old).descriptor }
+        ensures err { OnErr result (fields_of (message self.new) ≡ fields_of (message self.old)) };
+
+    /// Unsets the field of the name, if there is one. Takes no memory.
+    fn clear_field_by_name(&mut self, name: &str)
+        ensures type_stays { (message self.new).descriptor ≡ (message self.old).descriptor };
+
+    /// Unsets the field of the name and gives what it held, if there is one and it was set. Takes no memory.
+    fn take_field_by_name(&mut self, name: &str) -> Option<Value<'p>>
+        ensures type_stays { (message self.new).descriptor ≡ (message self.old).descriptor };
+}
+
+impl<'p> FieldsByName<'p> for DynamicMessage<'p> {
+    ghost message = { λ m. m };
+
+    fn has_field_by_name(&self, name: &str) -> bool {
+        match declared_field_by_name(self.descriptor(), name) {
+            Some(field) => self.has_field(&field),
+            None => false,
+        }
+    }
+
+    fn get_field_by_name(&self, name: &str) -> Result<Option<FieldRef<'_, 'p>>, AllocError> {
+        match declared_field_by_name(self.descriptor(), name) {
+            Some(field) => Ok(Some(self.get_field(&field)?)),
+            None => Ok(None),
+        }
+    }
+
+    fn get_field_by_name_mut(&mut self, name: &str) -> Result<Option<&mut Value<'p>>, AllocError> {
+        match declared_field_by_name(self.descriptor(), name) {
+            Some(field) => Ok(Some(self.get_field_mut(&field)?)),
+            None => Ok(None),
+        }
+    }
+
+    fn set_field_by_name(&mut self, name: &str, value: Value<'p>) -> Result<(), AllocError> {
+        match declared_field_by_name(self.descriptor(), name) {
+            Some(field) => self.set_field(&field, value),
+            None => Ok(()),
+        }
+    }
+
+    fn try_set_field_by_name(
+        &mut self,
+        name: &str,
+        value: Value<'p>,
+    ) -> Result<(), SetFieldError<'p>> {
+        match declared_field_by_name(self.descriptor(), name) {
+            Some(field) => self.try_set_field(&field, value),
+            None => Err(SetFieldError::NotFound),
+        }
+    }
+
+    fn clear_field_by_name(&mut self, name: &str) {
+        if let Some(field) = declared_field_by_name(self.descriptor(), name) {
+            self.clear_field(&field);
+        }
+    }
+
+    fn take_field_by_name(&mut self, name: &str) -> Option<Value<'p>> {
+        match declared_field_by_name(self.descriptor(), name) {
+            Some(field) => self.take_field(&field),
+            None => None,
+        }
+    }
+}

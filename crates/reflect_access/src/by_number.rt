@@ -1,0 +1,112 @@
+//! Fields by their numbers.
+
+ghost use Rattle.std.specs.Prelude.{◌≡◌, IsSome, IsTrue, OnErr};
+ghost use Rattle.reflect_entries.specs.Entries.{value_at};
+ghost use Rattle.reflect_message.specs.Held.{fields_of};
+
+use crate::set_field_error::{SetFieldError, TrySetField};
+use reflect_message::{DynamicMessage, FieldRef, Value, declared_field};
+use std::alloc::AllocError;
+
+/// A message whose fields are called by their numbers.
+pub trait FieldsByNumber<'p> {
+    ghost use Rattle.reflect_message.specs.declared.message.DynamicMessage.{DynamicMessage};
+
+    /// The message that it is.
+    ghost message: { Self → DynamicMessage };
+
+    /// The field of the number is set. Takes no memory.
+    fn has_field_by_number(&self, number: u32) -> bool
+        ensures { IsTrue result → IsSome (value_at (fields_of (message self.now)) number) };
+
+    /// What the field of the number holds, or its default; `None` where there is no such field.
+    fn get_field_by_number(&self, number: u32) -> Result<Option<FieldRef<'_, 'p>>, AllocError>;
+
+    /// What the field of the number holds, to be changed, as `get_field_mut` gives it; `None` where there is no such field.
+    fn get_field_by_number_mut(
+        &mut self,
+        number: u32,
+    ) -> Result<Option<&mut Value<'p>>, AllocError>;
+
+    /// Sets the field of the number to a value that suits it; without such a field nothing happens. A refusal leaves the
+    /// message.
+    fn set_field_by_number(&mut self, number: u32, value: Value<'p>) -> Result<(), AllocError>
+        ensures type_stays { (message self.new).descriptor ≡ (message self.old).descriptor }
+        ensures err { OnErr result (fields_of (message self.new) ≡ fields_of (message self.old)) };
+
+    /// Sets the field of the number, as `try_set_field` does. `NotFound` where there is no such field.
+    fn try_set_field_by_number(
+        &mut self,
+        number: u32,
+        value: Value<'p>,
+    ) -> Result<(), SetFieldError<'p>>
+        ensures type_stays { (message self.new).descriptor ≡ (message self.old).descriptor }
+        ensures err { OnErr result (fields_of (message self.new) ≡ fields_of (message self.old)) };
+
+    /// Unsets the field of the number, if there is one. Takes no memory.
+    fn clear_field_by_number(&mut self, number: u32)
+        ensures type_stays { (message self.new).descriptor ≡ (message self.old).descriptor };
+
+    /// Unsets the field of the number and gives what it held, if there is one and it was set. Takes no memory.
+    fn take_field_by_number(&mut self, number: u32) -> Option<Value<'p>>
+        ensures type_stays { (message self.new).descriptor ≡ (message self.old).descriptor };
+}
+
+impl<'p> FieldsByNumber<'p> for DynamicMessage<'p> {
+    ghost message = { λ m. m };
+
+    fn has_field_by_number(&self, number: u32) -> bool {
+        match declared_field(self.descriptor(), number) {
+            Some(field) => self.has_field(&field),
+            None => false,
+        }
+    }
+
+    fn get_field_by_number(&self, number: u32) -> Result<Option<FieldRef<'_, 'p>>, AllocError> {
+        match declared_field(self.descriptor(), number) {
+            Some(field) => Ok(Some(self.get_field(&field)?)),
+            None => Ok(None),
+        }
+    }
+
+    fn get_field_by_number_mut(
+        &mut self,
+        number: u32,
+    ) -> Result<Option<&mut Value<'p>>, AllocError> {
+        match declared_field(self.descriptor(), number) {
+            Some(field) => Ok(Some(self.get_field_mut(&field)?)),
+            None => Ok(None),
+        }
+    }
+
+    fn set_field_by_number(&mut self, number: u32, value: Value<'p>) -> Result<(), AllocError> {
+        match declared_field(self.descriptor(), number) {
+            Some(field) => self.set_field(&field, value),
+            None => Ok(()),
+        }
+    }
+
+    fn try_set_field_by_number(
+        &mut self,
+        number: u32,
+        value: Value<'p>,
+    ) -> Result<(), SetFieldError<'p>> {
+        match declared_field(self.descriptor(), number) {
+            Some(field) => self.try_set_field(&field, value),
+            None => Err(SetFieldError::NotFound),
+        }
+    }
+
+    fn clear_field_by_number(&mut self, number: u32) {
+        if let Some(field) = declared_field(self.descriptor(), number) {
+            self.clear_field(&field);
+        }
+    }
+
+    fn take_field_by_number(&mut self, number: u32) -> Option<Value<'p>> {
+        match declared_field(self.descriptor(), number) {
+            Some(field) => self.take_field(&field),
+            None => None,
+        }
+    }
+}

@@ -1,0 +1,70 @@
+//! Values that are asked whether they suit fields, and whether they are their defaults.
+
+use crate::validity::{Strictness, is_valid_for, value_suits};
+use crate::walks::MessageWalks;
+use reflect_message::{ScalarValue, Value, is_default_scalar};
+use reflect_pool::{ExtensionDescriptor, FieldDescriptor, Kind};
+use reflect_scalar::{AnyField, FieldDescriptorLike, Scalar};
+
+/// A value that is asked about fields.
+pub trait ValueTests<'p> {
+    /// The value suits a field that holds one value of the kind: a message is of its type.
+    fn is_valid(&self, kind: &Kind<'p>) -> bool;
+
+    /// The value suits the field, its label included.
+    fn is_valid_for_field(&self, field: &FieldDescriptor<'p>) -> bool;
+
+    /// The value suits the extension, its label included.
+    fn is_valid_for_extension(&self, extension: &ExtensionDescriptor<'p>) -> bool;
+
+    /// The value is the default of a field that holds one value of the kind.
+    fn is_default(&self, kind: &Kind<'p>) -> bool;
+
+    /// The value is the default of the field. An empty list, map or message is that of each field that may hold it.
+    fn is_default_for_field(&self, field: &FieldDescriptor<'p>) -> bool;
+
+    /// The value is the default of the extension.
+    fn is_default_for_extension(&self, extension: &ExtensionDescriptor<'p>) -> bool;
+}
+
+impl<'p> ValueTests<'p> for Value<'p> {
+    fn is_valid(&self, kind: &Kind<'p>) -> bool {
+        value_suits(self, kind, Strictness::Surface)
+    }
+
+    fn is_valid_for_field(&self, field: &FieldDescriptor<'p>) -> bool {
+        is_valid_for(self, AnyField::Field(*field))
+    }
+
+    fn is_valid_for_extension(&self, extension: &ExtensionDescriptor<'p>) -> bool {
+        is_valid_for(self, AnyField::Extension(*extension))
+    }
+
+    fn is_default(&self, kind: &Kind<'p>) -> bool {
+        match (self, kind) {
+            (Value::Message(message), Kind::Message(_)) => message.is_empty(),
+            _ => match (self.as_scalar(), Scalar::default_value(kind)) {
+                (Some(value), Some(default)) => value == default,
+                _ => false,
+            },
+        }
+    }
+
+    fn is_default_for_field(&self, field: &FieldDescriptor<'p>) -> bool {
+        is_default_of(self, field)
+    }
+
+    fn is_default_for_extension(&self, extension: &ExtensionDescriptor<'p>) -> bool {
+        is_default_of(self, extension)
+    }
+}
+
+/// The value is the default of a field or an extension.
+fn is_default_of<'p, F: FieldDescriptorLike<'p>>(value: &Value<'p>, field: &F) -> bool {
+    match value {
+        Value::Message(message) => message.is_empty(),
+        Value::List(values) => values.is_empty(),
+        Value::Map(entries) => entries.is_empty(),
+        _ => is_default_scalar(value.as_scalar(), field),
+    }
+}
