@@ -1,7 +1,8 @@
 //! Fields by their names.
 
-ghost use Rattle.std.specs.Prelude.{◌≡◌, IfSome, OnErr};
-ghost use Rattle.reflect_message.specs.Held.{fields_of};
+ghost use Rattle.std.specs.Prelude.{◌≡◌, IfErr, IfNone, IfOk, IfSome, OnErr, OnOk};
+ghost use Rattle.reflect_access.specs.Called.{HasName, IsMeant, Lends, NoneMeant, SetsMeant, StaysWhole, TakesMeant, TellsMeant, UnsetsMeant};
+ghost use Rattle.reflect_access.specs.Refused.{RefusesSet};
 
 use crate::set_field_error::{SetFieldError, TrySetField};
 use reflect_message::{DynamicMessage, FieldRef, Value};
@@ -14,7 +15,8 @@ fn declared_field_by_name<'p>(
     descriptor: MessageDescriptor<'p>,
     name: &str,
 ) -> Option<FieldDescriptor<'p>>
-    ensures { IfSome result (λ f. f.message ≡ descriptor.entry) }
+    ensures meant { IfSome result (IsMeant (HasName name.now) descriptor.entry) }
+    ensures none { IfNone result (NoneMeant (HasName name.now) descriptor.entry) }
 {
     match descriptor.get_field_by_name(name) {
         Some(field) => {
@@ -36,19 +38,25 @@ pub trait FieldsByName<'p> {
     ghost message: { Self → DynamicMessage };
 
     /// The field of the name is set. Takes no memory.
-    fn has_field_by_name(&self, name: &str) -> bool;
+    fn has_field_by_name(&self, name: &str) -> bool
+        ensures { TellsMeant (HasName name.now) (message self.now) result };
 
     /// What the field of the name holds, or its default; `None` where there is no such field.
-    fn get_field_by_name(&self, name: &str) -> Result<Option<FieldRef<'_, 'p>>, AllocError>;
+    fn get_field_by_name(&self, name: &str) -> Result<Option<FieldRef<'_, 'p>>, AllocError>
+        ensures { IfOk result (Lends (HasName name.now) (message self.now)) };
 
     /// What the field of the name holds, to be changed, as `get_field_mut` gives it; `None` where there is no such field.
-    fn get_field_by_name_mut(&mut self, name: &str) -> Result<Option<&mut Value<'p>>, AllocError>;
+    fn get_field_by_name_mut(
+        &mut self,
+        name: &str,
+    ) -> Result<Option<&mut Value<'p>>, AllocError>;
 
     /// Sets the field of the name to a value that suits it; without such a field nothing happens. A refusal leaves the
     /// message.
     fn set_field_by_name(&mut self, name: &str, value: Value<'p>) -> Result<(), AllocError>
         ensures type_stays { (message self.new).descriptor ≡ (message self.old).descriptor }
-        ensures err { OnErr result (fields_of (message self.new) ≡ fields_of (message self.old)) };
+        ensures ok { OnOk result (SetsMeant (HasName name.now) (message self.old) (message self.new) value.entry) }
+        ensures err { OnErr result (StaysWhole (message self.old) (message self.new)) };
 
     /// Sets the field of the name, as `try_set_field` does. `NotFound` where there is no such field.
     fn try_set_field_by_name(
@@ -57,15 +65,19 @@ pub trait FieldsByName<'p> {
         value: Value<'p>,
     ) -> Result<(), SetFieldError<'p>>
         ensures type_stays { (message self.new).descriptor ≡ (message self.old).descriptor }
-        ensures err { OnErr result (fields_of (message self.new) ≡ fields_of (message self.old)) };
+        ensures ok { OnOk result (SetsMeant (HasName name.now) (message self.old) (message self.new) value.entry) }
+        ensures refused { IfErr result (RefusesSet (HasName name.now) (message self.old).descriptor value.entry) }
+        ensures err { OnErr result (StaysWhole (message self.old) (message self.new)) };
 
     /// Unsets the field of the name, if there is one. Takes no memory.
     fn clear_field_by_name(&mut self, name: &str)
-        ensures type_stays { (message self.new).descriptor ≡ (message self.old).descriptor };
+        ensures type_stays { (message self.new).descriptor ≡ (message self.old).descriptor }
+        ensures unsets { UnsetsMeant (HasName name.now) (message self.old) (message self.new) };
 
     /// Unsets the field of the name and gives what it held, if there is one and it was set. Takes no memory.
     fn take_field_by_name(&mut self, name: &str) -> Option<Value<'p>>
-        ensures type_stays { (message self.new).descriptor ≡ (message self.old).descriptor };
+        ensures type_stays { (message self.new).descriptor ≡ (message self.old).descriptor }
+        ensures takes { TakesMeant (HasName name.now) (message self.old) (message self.new) result };
 }
 
 impl<'p> FieldsByName<'p> for DynamicMessage<'p> {
@@ -85,7 +97,10 @@ impl<'p> FieldsByName<'p> for DynamicMessage<'p> {
         }
     }
 
-    fn get_field_by_name_mut(&mut self, name: &str) -> Result<Option<&mut Value<'p>>, AllocError> {
+    fn get_field_by_name_mut(
+        &mut self,
+        name: &str,
+    ) -> Result<Option<&mut Value<'p>>, AllocError> {
         match declared_field_by_name(self.descriptor(), name) {
             Some(field) => Ok(Some(self.get_field_mut(&field)?)),
             None => Ok(None),

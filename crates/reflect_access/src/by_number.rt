@@ -1,8 +1,11 @@
 //! Fields by their numbers.
 
-ghost use Rattle.std.specs.Prelude.{◌≡◌, IsSome, IsTrue, OnErr};
+ghost use Rattle.std.specs.Prelude.{◌≡◌, IfErr, IfOk, IsSome, IsTrue, OnErr, OnOk};
 ghost use Rattle.reflect_entries.specs.Entries.{value_at};
 ghost use Rattle.reflect_message.specs.Held.{fields_of};
+ghost use Rattle.reflect_message.specs.Oneofs.{IsExclusive};
+ghost use Rattle.reflect_access.specs.Called.{HasNumber, Lends, SetsMeant, StaysWhole, TakesMeant, TellsMeant, UnsetsMeant};
+ghost use Rattle.reflect_access.specs.Refused.{RefusesSet};
 
 use crate::set_field_error::{SetFieldError, TrySetField};
 use reflect_message::{DynamicMessage, FieldRef, Value, declared_field};
@@ -17,10 +20,12 @@ pub trait FieldsByNumber<'p> {
 
     /// The field of the number is set. Takes no memory.
     fn has_field_by_number(&self, number: u32) -> bool
-        ensures { IsTrue result → IsSome (value_at (fields_of (message self.now)) number) };
+        ensures held { IsTrue result → IsSome (value_at (fields_of (message self.now)) number) }
+        ensures tells { TellsMeant (HasNumber number) (message self.now) result };
 
     /// What the field of the number holds, or its default; `None` where there is no such field.
-    fn get_field_by_number(&self, number: u32) -> Result<Option<FieldRef<'_, 'p>>, AllocError>;
+    fn get_field_by_number(&self, number: u32) -> Result<Option<FieldRef<'_, 'p>>, AllocError>
+        ensures { IfOk result (Lends (HasNumber number) (message self.now)) };
 
     /// What the field of the number holds, to be changed, as `get_field_mut` gives it; `None` where there is no such field.
     fn get_field_by_number_mut(
@@ -32,7 +37,9 @@ pub trait FieldsByNumber<'p> {
     /// message.
     fn set_field_by_number(&mut self, number: u32, value: Value<'p>) -> Result<(), AllocError>
         ensures type_stays { (message self.new).descriptor ≡ (message self.old).descriptor }
-        ensures err { OnErr result (fields_of (message self.new) ≡ fields_of (message self.old)) };
+        ensures ok { OnOk result (SetsMeant (HasNumber number) (message self.old) (message self.new) value.entry) }
+        ensures exclusive { IsExclusive (message self.old) → IsExclusive (message self.new) }
+        ensures err { OnErr result (StaysWhole (message self.old) (message self.new)) };
 
     /// Sets the field of the number, as `try_set_field` does. `NotFound` where there is no such field.
     fn try_set_field_by_number(
@@ -41,15 +48,20 @@ pub trait FieldsByNumber<'p> {
         value: Value<'p>,
     ) -> Result<(), SetFieldError<'p>>
         ensures type_stays { (message self.new).descriptor ≡ (message self.old).descriptor }
-        ensures err { OnErr result (fields_of (message self.new) ≡ fields_of (message self.old)) };
+        ensures ok { OnOk result (SetsMeant (HasNumber number) (message self.old) (message self.new) value.entry) }
+        ensures exclusive { IsExclusive (message self.old) → IsExclusive (message self.new) }
+        ensures refused { IfErr result (RefusesSet (HasNumber number) (message self.old).descriptor value.entry) }
+        ensures err { OnErr result (StaysWhole (message self.old) (message self.new)) };
 
     /// Unsets the field of the number, if there is one. Takes no memory.
     fn clear_field_by_number(&mut self, number: u32)
-        ensures type_stays { (message self.new).descriptor ≡ (message self.old).descriptor };
+        ensures type_stays { (message self.new).descriptor ≡ (message self.old).descriptor }
+        ensures unsets { UnsetsMeant (HasNumber number) (message self.old) (message self.new) };
 
     /// Unsets the field of the number and gives what it held, if there is one and it was set. Takes no memory.
     fn take_field_by_number(&mut self, number: u32) -> Option<Value<'p>>
-        ensures type_stays { (message self.new).descriptor ≡ (message self.old).descriptor };
+        ensures type_stays { (message self.new).descriptor ≡ (message self.old).descriptor }
+        ensures takes { TakesMeant (HasNumber number) (message self.old) (message self.new) result };
 }
 
 impl<'p> FieldsByNumber<'p> for DynamicMessage<'p> {

@@ -1,9 +1,10 @@
 //! Fields set to values that need not suit them.
 
-ghost use Rattle.std.specs.Prelude.{◌≡◌, OnErr, OnOk};
+ghost use Rattle.std.specs.Prelude.{◌≡◌, IfErr, OnErr, OnOk};
 ghost use Rattle.reflect_message.specs.Declares.{Declares, Owns};
-ghost use Rattle.reflect_message.specs.Held.{fields_of, extensions_of, unknown_of};
 ghost use Rattle.reflect_message.specs.Oneofs.{IsExclusive, SetsField};
+ghost use Rattle.reflect_access.specs.Called.{StaysWhole};
+ghost use Rattle.reflect_access.specs.Refused.{HandsBack};
 
 use crate::validity::is_valid_for;
 use reflect_message::{DynamicMessage, Value};
@@ -66,9 +67,8 @@ pub trait TrySetField<'p> {
         ensures type_stays { (message self.new).descriptor ≡ (message self.old).descriptor }
         ensures ok { OnOk result (SetsField (message self.old) (message self.new) field.now value.entry) }
         ensures exclusive { Owns (message self.old).descriptor field.now → IsExclusive (message self.old) → IsExclusive (message self.new) }
-        ensures err { OnErr result (fields_of (message self.new) ≡ fields_of (message self.old)) }
-        ensures extensions { extensions_of (message self.new) ≡ extensions_of (message self.old) }
-        ensures unknown { unknown_of (message self.new) ≡ unknown_of (message self.old) };
+        ensures refused { IfErr result (HandsBack field.now value.entry) }
+        ensures err { OnErr result (StaysWhole (message self.old) (message self.new)) };
 }
 
 impl<'p> TrySetField<'p> for DynamicMessage<'p> {

@@ -1,5 +1,14 @@
 //! What a message holds, one content after another.
 
+ghost use Rattle.std.specs.Prelude.{◌≡◌, IfSome, option_map};
+ghost use Rattle.std.specs.Bool.{Decides};
+ghost use Rattle.reflect_pool.specs.FieldsLeft.{field_type};
+ghost use Rattle.reflect_scalar.specs.FieldTypes.{extension_type};
+ghost use Rattle.reflect_message.specs.Held.{fields_of, extensions_of, unknown_of};
+ghost use Rattle.reflect_access.specs.EntriesLeft.{entries_left};
+ghost use Rattle.reflect_access.specs.Left.{records_left};
+ghost use Rattle.reflect_access.specs.Walked.{HoldsNothing, extensions_left, fields_left, of_message, set_extension, set_extensions_of, set_field, set_fields_of};
+
 use reflect_entries::entries;
 use reflect_message::{DynamicMessage, Held, MessageParts, Value, is_present};
 use reflect_pool::{ExtensionDescriptor, FieldDescriptor, MessageDescriptor};
@@ -7,21 +16,32 @@ use reflect_wire::UnknownField;
 
 /// A message that is walked over.
 pub trait MessageWalks<'p> {
+    ghost use Rattle.reflect_message.specs.declared.message.DynamicMessage.{DynamicMessage};
+
+    /// The message that it is.
+    ghost message: { Self → DynamicMessage };
+
     /// The fields that are set, with what they hold, by ascending number. Takes no memory.
-    fn fields(&self) -> FieldValues<'_, 'p>;
+    fn fields(&self) -> FieldValues<'_, 'p>
+        ensures { fields_left result ≡ of_message (message self.now).descriptor (set_fields_of (message self.now)) };
 
     /// The extensions that are set, with what they hold, by ascending number. Takes no memory.
-    fn extensions(&self) -> ExtensionValues<'_, 'p>;
+    fn extensions(&self) -> ExtensionValues<'_, 'p>
+        ensures { extensions_left result ≡ set_extensions_of (message self.now) };
 
     /// The records of numbers that the type does not declare, by ascending number, those of a number as they came. Takes no
     /// memory.
-    fn unknown_fields(&self) -> UnknownFields<'_>;
+    fn unknown_fields(&self) -> UnknownFields<'_>
+        ensures { records_left result ≡ unknown_of (message self.now) };
 
     /// No field or extension is set, and there are no other records. Takes no memory.
-    fn is_empty(&self) -> bool;
+    fn is_empty(&self) -> bool
+        ensures { Decides result (HoldsNothing (message self.now)) };
 }
 
 impl<'p> MessageWalks<'p> for DynamicMessage<'p> {
+    ghost message = { λ m. m };
+
     fn fields(&self) -> FieldValues<'_, 'p> {
         FieldValues {
             descriptor: self.descriptor(),
@@ -52,7 +72,9 @@ impl<'p> MessageWalks<'p> for DynamicMessage<'p> {
 }
 
 /// What the declared fields hold, by ascending number, if the message holds anything.
-fn field_entries<'m, 'p>(message: &'m DynamicMessage<'p>) -> Option<entries::Iter<'m, Value<'p>>> {
+fn field_entries<'m, 'p>(message: &'m DynamicMessage<'p>) -> Option<entries::Iter<'m, Value<'p>>>
+    ensures { entries_left result ≡ fields_of message.now }
+{
     match message.held() {
         Held::Block(parts) => Some(parts.fields.iter()),
         Held::Nothing => None,
@@ -62,10 +84,53 @@ fn field_entries<'m, 'p>(message: &'m DynamicMessage<'p>) -> Option<entries::Ite
 /// What the extensions hold, by ascending number, if the message holds anything.
 fn extension_entries<'m, 'p>(
     message: &'m DynamicMessage<'p>,
-) -> Option<entries::Iter<'m, Value<'p>>> {
+) -> Option<entries::Iter<'m, Value<'p>>>
+    ensures { entries_left result ≡ extensions_of message.now }
+{
     match message.held() {
         Held::Block(parts) => Some(parts.extensions.iter()),
         Held::Nothing => None,
+    }
+}
+
+/// The field of the number, if it is set by the value that stands there.
+pub fn field_if_set<'p>(
+    descriptor: MessageDescriptor<'p>,
+    number: u32,
+    value: &Value<'p>,
+) -> Option<FieldDescriptor<'p>>
+    ensures message { IfSome result (λ f. f.message ≡ descriptor.entry) }
+    ensures set { option_map (λ f. (field_type f, value.now)) result ≡ set_field descriptor.entry.pool.now descriptor.entry.index (number, value.now) }
+{
+    match descriptor.get_field(number) {
+        Some(field) => {
+            if is_present(value, &field) {
+                Some(field)
+            } else {
+                None
+            }
+        }
+        None => None,
+    }
+}
+
+/// The extension of the number, if it is set by the value that stands there.
+pub fn extension_if_set<'p>(
+    descriptor: MessageDescriptor<'p>,
+    number: u32,
+    value: &Value<'p>,
+) -> Option<ExtensionDescriptor<'p>>
+    ensures { option_map (λ x. (extension_type x, value.now)) result ≡ set_extension descriptor.entry.pool.now descriptor.entry.index (number, value.now) }
+{
+    match descriptor.get_extension(number) {
+        Some(extension) => {
+            if is_present(value, &extension) {
+                Some(extension)
+            } else {
+                None
+            }
+        }
+        None => None,
     }
 }
 
@@ -78,13 +143,14 @@ pub struct FieldValues<'m, 'p> {
 }
 
 impl<'m, 'p> Iterator for FieldValues<'m, 'p> {
-    ghost use Rattle.std.specs.Prelude.{length};
-    ghost use Rattle.std.specs.Iterator.{at_most};
-    ghost use Rattle.reflect_access.specs.EntriesLeft.{entries_left};
+    ghost use Rattle.std.specs.Iterator.{YieldsFirstBy, item_count};
+    ghost use Rattle.reflect_access.specs.Walked.{field_lent, fields_left};
 
     type Item = (FieldDescriptor<'p>, &'m Value<'p>);
 
-    ghost remaining = { λ s. at_most (length (entries_left s.entries)) };
+    ghost next_gives = { YieldsFirstBy field_lent fields_left };
+
+    ghost remaining = { item_count fields_left };
 
     fn next(&mut self) -> Option<(FieldDescriptor<'p>, &'m Value<'p>)> {
         let descriptor = self.descriptor;
@@ -92,10 +158,8 @@ impl<'m, 'p> Iterator for FieldValues<'m, 'p> {
             return None;
         };
         'entries: while let Some((number, value)) = entries.next() {
-            if let Some(field) = descriptor.get_field(number) {
-                if is_present(value, &field) {
-                    return Some((field, value));
-                }
+            if let Some(field) = field_if_set(descriptor, number, value) {
+                return Some((field, value));
             }
         }
         None
@@ -111,13 +175,14 @@ pub struct ExtensionValues<'m, 'p> {
 }
 
 impl<'m, 'p> Iterator for ExtensionValues<'m, 'p> {
-    ghost use Rattle.std.specs.Prelude.{length};
-    ghost use Rattle.std.specs.Iterator.{at_most};
-    ghost use Rattle.reflect_access.specs.EntriesLeft.{entries_left};
+    ghost use Rattle.std.specs.Iterator.{YieldsFirstBy, item_count};
+    ghost use Rattle.reflect_access.specs.Walked.{extension_lent, extensions_left};
 
     type Item = (ExtensionDescriptor<'p>, &'m Value<'p>);
 
-    ghost remaining = { λ s. at_most (length (entries_left s.entries)) };
+    ghost next_gives = { YieldsFirstBy extension_lent extensions_left };
+
+    ghost remaining = { item_count extensions_left };
 
     fn next(&mut self) -> Option<(ExtensionDescriptor<'p>, &'m Value<'p>)> {
         let descriptor = self.descriptor;
@@ -125,10 +190,8 @@ impl<'m, 'p> Iterator for ExtensionValues<'m, 'p> {
             return None;
         };
         'entries: while let Some((number, value)) = entries.next() {
-            if let Some(extension) = descriptor.get_extension(number) {
-                if is_present(value, &extension) {
-                    return Some((extension, value));
-                }
+            if let Some(extension) = extension_if_set(descriptor, number, value) {
+                return Some((extension, value));
             }
         }
         None
