@@ -1,5 +1,5 @@
 -- The field that is found by a number or a name is the one that is meant.
-use Rattle.std.proofs.Common.{◌≡◌, ◌≢◌, ℕ, Bool, true, false, List, Option, None, Some, bytes_eq, refl, sym, ap, ◌∙◌, subst}
+use Rattle.std.proofs.Common.{◌≡◌, ◌≢◌, ℕ, Result, Ok, Err, OnOk, IfErr, List, Option, None, Some, bytes_eq, sym, ap, ◌∙◌, subst}
 use Rattle.std.proofs.lemmas.Slice.Eq.{bytes_eq-Decides}
 use Rattle.std.specs.List.{find}
 use Rattle.reflect_tables.specs.Types.{PoolType, FieldType, type_at, no_field}
@@ -11,7 +11,24 @@ use Rattle.reflect_scalar.proofs.First.{Tells, find_none, find_some}
 use Rattle.reflect_scalar.specs.FieldTypes.{field_pool}
 use Rattle.reflect_scalar.specs.Floats.{HoldsFloats}
 use Rattle.reflect_message.specs.Declares.{Declares, Owns}
-use Rattle.reflect_access.specs.Called.{HasNumber, HasName, IsMeant, NoneMeant}
+use Rattle.reflect_message.specs.declared.value.Value.{Value}
+use Rattle.reflect_access.specs.Called.{Asked, HasNumber, HasName, IsMeant, NoneMeant}
+use Rattle.reflect_access.specs.Refused.{HandsBack, RefusesSet}
+use Rattle.reflect_access.specs.declared.set_field_error.SetFieldError.{SetFieldError}
+use Rattle.reflect_access.specs.declared.set_field_error.SetFieldError.TheVariants as errors
+
+-- what follows of a fact, follows of it where it holds of an answer
+pub if_ok : {T E P Q : Type 0} (r : Result T E) → (P → Q) → OnOk r P → OnOk r Q
+if_ok (Ok x) f h = f h
+if_ok (Err e) f h = tt
+
+-- field and value that are handed back are those that were meant
+pub hands_back : (P : Asked) (m : MessageDescriptor) (f : FieldDescriptor) (v : Value) → IsMeant P m f
+    → (r : Result (Unit {0}) SetFieldError) → IfErr r (HandsBack f v) → IfErr r (RefusesSet P m v)
+hands_back P m f v meant (Ok x) h = tt
+hands_back P m f v meant (Err errors.NotFound) h = absurd h
+hands_back P m f v meant (Err (errors.InvalidType g w)) h = (subst (IsMeant P m) (sym h.0) meant, h.1)
+hands_back P m f v meant (Err errors.Memory) h = tt
 
 -- a field of the type is declared in it
 pub declares : (m : MessageDescriptor) (f : FieldDescriptor) → f.message ≡ m → Declares m f

@@ -1,5 +1,5 @@
 -- One step of a walk over what a message holds.
-use Rattle.std.proofs.Common.{◌≡◌, ◌×◌, ℕ, ◌==◌, ◌&&◌, Bool, true, false, cond, List, [], ◌∷◌, map, Option, None, Some, option_map, cons_option, refl, sym, ap, ◌∙◌, arith}
+use Rattle.std.proofs.Common.{◌≡◌, ℕ, ◌==◌, ◌&&◌, not, Bool, true, false, true≢false, cond, List, [], ◌∷◌, map, MatchOption, Option, None, Some, is_some, option_map, refl, sym, ap, ◌∙◌, arith}
 use Rattle.std.specs.List.{filter_map}
 use Rattle.std.specs.Option.{option_and_then}
 use Rattle.reflect_tables.specs.Types.{PoolType, FieldType, ExtensionType, no_extension}
@@ -18,11 +18,29 @@ use Rattle.reflect_access.specs.Walked.{Holding, if_set, set_field, numbered_ext
 module _ {X Y : Type 0} (h : X → Option Y) where
   -- what gives nothing is passed over
   pub passed_over : (x : X) (xs : List X) → h x ≡ None → filter_map h (x ∷ xs) ≡ filter_map h xs
-  passed_over x xs e = ap (λ o. cons_option o (filter_map h xs)) e
+  passed_over x xs e = rw e refl
 
   -- what gives something comes first
   pub comes_first : (x : X) (y : Y) (xs : List X) → h x ≡ Some y → filter_map h (x ∷ xs) ≡ y ∷ filter_map h xs
-  comes_first x y xs e = ap (λ o. cons_option o (filter_map h xs)) e
+  comes_first x y xs e = rw e refl
+
+-- where a walk gives nothing, nothing was ahead, and where nothing was, it gives nothing
+module _ {A B : Type 0} (view : A → B) (ahead left : List B) where
+  pub nothing_ahead : (r : Option A) → MatchOption r ((ahead ≡ []) × (left ≡ [])) (λ x. ahead ≡ view x ∷ left) → is_some r ≡ false → ahead ≡ []
+  nothing_ahead None h e = h.0
+  nothing_ahead (Some x) h e = absurd (true≢false e)
+
+  pub nothing_given : (r : Option A) → MatchOption r ((ahead ≡ []) × (left ≡ [])) (λ x. ahead ≡ view x ∷ left) → ahead ≡ [] → is_some r ≡ false
+  nothing_given None h e = refl
+  nothing_given (Some x) h e = absurd (cc (h, e))
+
+pub nothing_held : {A B : Type 0} (view : A → B) → (xs : List A) → map view xs ≡ [] → xs ≡ []
+nothing_held view [] e = refl
+nothing_held view (x ∷ xs) e = absurd (cc e)
+
+pub not_false : (b : Bool) → not b ≡ false → b ≡ true
+not_false true e = refl
+not_false false e = absurd (true≢false e)
 
 module _ (m : MessageDescriptor) (n : ℕ) (v : Value) where
   pub no_field_set : FindsField (λ g. g.number ≡ n) m None → set_field m.pool.now m.index (n, v) ≡ None

@@ -42,6 +42,11 @@ impl<'p> fmt::Debug for SetFieldError<'p> {
 }
 
 impl<'p> From<AllocError> for SetFieldError<'p> {
+    ghost use Rattle.std.specs.Prelude.{◌≡◌};
+    ghost use Rattle.reflect_access.specs.declared.set_field_error.SetFieldError.TheVariants.{Memory};
+
+    ghost from_gives = { λ e x. x ≡ Memory };
+
     fn from(_error: AllocError) -> SetFieldError<'p> {
         SetFieldError::Memory
     }

@@ -65,9 +65,10 @@ impl<'p> MessageWalks<'p> for DynamicMessage<'p> {
     }
 
     fn is_empty(&self) -> bool {
-        self.unknown_fields().next().is_none()
-            && self.fields().next().is_none()
-            && self.extensions().next().is_none()
+        if self.unknown_fields().next().is_some() || self.fields().next().is_some() {
+            return false;
+        }
+        self.extensions().next().is_none()
     }
 }
 

@@ -1,0 +1,11 @@
+use Rattle.std.proofs.Common.{inl, subst}
+use Rattle.reflect_pool.specs.declared.message.MessageDescriptor.{MessageDescriptor}
+use Rattle.reflect_access.specs.Called.{HasName, IsMeant}
+use Rattle.reflect_access.proofs.Calling.{if_ok}
+use Rattle.reflect_access.proofs.by_name.DynamicMessageFieldsByName.set_field_by_name.Goals as goal
+
+pub returns-in-Some-clause-ok : goal.returns-in-Some-clause-ok
+returns-in-Some-clause-ok c =
+    let f = c.in-Some.field in
+    let meant = subst (λ (d : MessageDescriptor). IsMeant (HasName c.args.name.now) d f) c.descriptor.ensures c.in-Some.ensures.meant in
+    if_ok c.set_field.result (λ sets. inl (f, meant, sets)) c.set_field.ensures.ok
