@@ -25,14 +25,15 @@ use Rattle.protobuf_model.specs.Types.{Field, Types}
 use Rattle.protobuf_model.specs.Meaning.{payloads}
 use Rattle.protobuf_model.specs.Bytes.{field_numbers, numbered, run, is_declared, arranged, payloads_under, bytes_of}
 use Rattle.protobuf_model.proofs.Bridge.{bytes_join}
-use Rattle.message_view.specs.Ordered.{Ascend, Rise}
+use Rattle.reflect_decode.specs.Ordered.{Ascend}
+use Rattle.reflect_decode.proofs.Ordering.{above_ascend}
 use Rattle.message_view.specs.Sound.{HaveEntryFields, HaveLists}
 use Rattle.message_view.specs.Types.{name_at, field_of, oneof_at, either_field, field_at}
 use Rattle.message_view.specs.Views.{held_in, held_either, content_view, contents_view, view, view_of}
 use Rattle.message_view.proofs.Accepting.{known_whole, extension_known_whole}
 use Rattle.message_view.proofs.Fields.{known, known_extension_is}
 use Rattle.message_view.proofs.Forms.{bytes_opened}
-use Rattle.message_view.proofs.Ordering.{above_ascend, between_ascend, in_order, run_all, filter_in, filter_out, missing, listed, found, listed_at, listed_ascends, mixed, mixed_at, mixed_ascends, found_each}
+use Rattle.message_view.proofs.Ordering.{Rise, between_ascend, in_order, run_all, filter_in, filter_out, missing, listed, found, listed_at, listed_ascends, mixed, mixed_at, mixed_ascends, found_each}
 use Rattle.message_view.proofs.Seen.{value_at-view, view_opened}
 use Rattle.message_view.proofs.Written.{bytes, FitsAs, field_same}
 

@@ -28,7 +28,7 @@ use Rattle.message_view.proofs.Sound.{named}
 
 -- a message that is decoded is what the bytes mean
 pub decoded_means : (d : MessageDescriptor) → IsSound d.pool.now → (bytes : List ℕ) → AreBytes bytes → (m : DynamicMessage) → m.descriptor ≡ d → IsSpelled d bytes m → Mean (types_of d.pool.now) (name_at d.pool.now d.index) bytes (view m)
-decoded_means d sound bytes b m type (rs, spelled, keeps, some, also, fields, (extensions, apart), accepts) =
+decoded_means d sound bytes b m type (rs, spelled, keeps, some, also, fields, (extensions, apart), accepts, _) =
     let pool = d.pool.now in
     let left : AreLeft (TakesAt 100) d (content_of m) rs = record { unknown = keeps; fields = fields; extensions = extensions } in
     let told = named pool sound.names in

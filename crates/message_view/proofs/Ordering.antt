@@ -1,25 +1,61 @@
 -- Records in the order of their numbers.
 use Rattle.std.proofs.Common.{◌≡◌, ◌⊎◌, inl, inr, ◌<◌, ◌≤◌, ℕ, zero, suc, ◌+◌, ◌-◌, ◌^◌, ◌==◌, Bool, true, false, cond, nat_lt, nat_le, List, [], ◌∷◌, ◌++◌, Option, Some, None, refl, sym, ap, ◌∙◌, subst, append-nil, arith}
 use Rattle.std.specs.List.{AllByRecursion, filter, flat_map}
+use Rattle.std.specs.Option.{IsSome}
 use Rattle.reflect_wire.specs.Records.{Payload}
-use Rattle.reflect_entries.specs.Entries.{value_at}
+use Rattle.reflect_entries.specs.Entries.{IsAscending, value_at}
 use Rattle.reflect_entries.specs.Sets.{up_to, above}
+use Rattle.reflect_message.specs.declared.value.Value.{Value}
+use Rattle.reflect_decode.specs.Ordered.{AreNumbered, Ascend, last}
+use Rattle.reflect_decode.proofs.Ordering.{lower, ascend_append, above_ascend, up_to_ascend}
 use Rattle.protobuf_model.specs.Meaning.{payloads}
 use Rattle.protobuf_model.specs.Bytes.{count_from, field_numbers, numbered, run}
-use Rattle.message_view.specs.Ordered.{Ascend, Rise}
 use Rattle.protobuf_model.proofs.Arranged.{payloads-append, payloads-own, payloads-other}
 
-pub lower : (l low high : ℕ) (rs : List (ℕ × Payload)) → l ≤ low → Ascend low high rs → Ascend l high rs
-lower l low high [] le h = omega (arith, le, h)
-lower l low high (r ∷ rs) le h = (omega (arith, le, h.0), h.1)
+-- each number is above the one before it, from one number up to another
+abbrev pub Rise : {V : Type 0} → ℕ → ℕ → List (ℕ × V) → Type 0
+Rise low high [] = low ≤ suc high
+Rise low high (e ∷ es) = (low ≤ e.0) × Rise (suc e.0) high es
+
+-- a number that a field may have
+abbrev IsNumber : ℕ × Value → Type 0
+IsNumber e = (1 ≤ e.0) × (e.0 ≤ last)
+
+numbers_of : (es : List (ℕ × Value)) → ((n : ℕ) → IsSome (value_at es n) → (1 ≤ n) × (n ≤ last))
+    → AllByRecursion IsNumber es
+numbers_of [] within = tt
+numbers_of (e ∷ es) within = (within e.0 here, numbers_of es (λ n some. within n (later n some))) where
+  self : (n : ℕ) → (n == n) ≡ true
+  self n = grind arith
+
+  here : IsSome (value_at (e ∷ es) e.0)
+  here = subst (λ b. IsSome (cond b (Some e.1) (value_at es e.0))) (sym (self e.0)) refl
+
+  later : (n : ℕ) → IsSome (value_at es n) → IsSome (value_at (e ∷ es) n)
+  later n some = by (n == e.0) where
+    by : (b : Bool) → IsSome (cond b (Some e.1) (value_at es n))
+    by true = refl
+    by false = some
+
+rise_behind : (e : ℕ × Value) (es : List (ℕ × Value)) → IsAscending (e ∷ es) → AllByRecursion IsNumber (e ∷ es)
+    → Rise (suc e.0) last es
+rise_behind e [] up all = omega (arith, all.0.1)
+rise_behind e (f ∷ es) up all =
+    let here : e.0 < f.0 = up 0 1 e (omega arith) (omega arith) in
+    (omega (arith, here), rise_behind f es behind all.1) where
+      behind : IsAscending (f ∷ es)
+      behind i j d lt below = up (suc i) (suc j) d (omega (arith, lt)) (omega (arith, below))
+
+-- from the lowest number of a field up to the highest
+pub rises : (es : List (ℕ × Value)) → AreNumbered es → Rise 1 (2 ^ 29 - 1) es
+rises [] h = omega arith
+rises (e ∷ es) h =
+    let all = numbers_of (e ∷ es) h.within in
+    (all.0.0, rise_behind e es h.ascending all)
 
 ends : (low high : ℕ) (rs : List (ℕ × Payload)) → Ascend low high rs → low ≤ high
 ends low high [] h = h
 ends low high (r ∷ rs) h = let rest = ends r.0 high rs h.1 in omega (arith, rest, h.0)
-
-pub ascend_append : (low mid high : ℕ) (a b : List (ℕ × Payload)) → Ascend low mid a → Ascend mid high b → Ascend low high (a ++ b)
-ascend_append low mid high [] b h k = lower low mid high b h k
-ascend_append low mid high (r ∷ a) b h k = (h.0, ascend_append r.0 mid high a b h.1 k)
 
 pub ascend_numbered : (n : ℕ) (ps : List Payload) → Ascend n n (numbered n ps)
 ascend_numbered n [] = omega arith
@@ -233,25 +269,6 @@ found_each {V} low high (e ∷ es) h = (ap (λ b. cond b (Some e.1) (value_at es
   later [] l lt rise all = tt
   later (f ∷ fs) l lt rise all =
       (ap (λ b. cond b (Some e.1) (value_at es f.0)) (apart f.0 e.0 (λ is. omega (arith, is, lt, rise.0))) ∙ all.0, later fs (suc f.0) (omega (arith, lt, rise.0)) rise.1 all.1)
-
--- those above a number, and among these those up to another
-pub above_ascend : (l m high : ℕ) (rs : List (ℕ × Payload)) → l ≤ high → Ascend m high rs → Ascend l high (above l rs)
-above_ascend l m high [] le a = le
-above_ascend l m high (r ∷ rs) le a = by (nat_lt l r.0) refl (above_ascend l r.0 high rs le a.1) where
-  all_above : (q : ℕ) (rs : List (ℕ × Payload)) → l < q → Ascend q high rs → above l rs ≡ rs
-  all_above q [] lt a = refl
-  all_above q (p ∷ rs) lt a = let more : l < p.0 = omega (arith, lt, a.0) in ap (λ b. cond b (p ∷ above l rs) (above l rs)) (let t : nat_lt l p.0 ≡ true = grind (arith, more) in t) ∙ ap (λ l. p ∷ l) (all_above p.0 rs more a.1)
-
-  by : (b : Bool) → nat_lt l r.0 ≡ b → Ascend l high (above l rs) → Ascend l high (cond b (r ∷ above l rs) (above l rs))
-  by false e later = later
-  by true e later = let lt : l < r.0 = grind (arith, e) in (omega (arith, lt), subst (Ascend r.0 high) (sym (all_above r.0 rs lt a.1)) a.1)
-
-pub up_to_ascend : (m high h : ℕ) (rs : List (ℕ × Payload)) → m ≤ h → Ascend m high rs → Ascend m h (up_to h rs)
-up_to_ascend m high h [] le a = le
-up_to_ascend m high h (r ∷ rs) le a = by (nat_le r.0 h) refl (up_to_ascend m high h rs le (lower m r.0 high rs a.0 a.1)) (λ here. up_to_ascend r.0 high h rs here a.1) where
-  by : (b : Bool) → nat_le r.0 h ≡ b → Ascend m h (up_to h rs) → (r.0 ≤ h → Ascend r.0 h (up_to h rs)) → Ascend m h (cond b (r ∷ up_to h rs) (up_to h rs))
-  by false e later other = later
-  by true e later other = (a.0, other (grind (arith, e)))
 
 -- from any number on
 pub between_ascend : (l m high h : ℕ) (rs : List (ℕ × Payload)) → l ≤ h → Ascend m high rs → Ascend l h (above l (up_to h rs))

@@ -1,5 +1,5 @@
 -- What is recoded, in the words of the model.
-use Rattle.std.proofs.Common.{◌≡◌, inl, None, arith, refl, ◌↔◌, ◌<◌, ◌^◌, ℕ, List, [], ◌∷◌, map, length, sym, ap, ◌∙◌, subst, Some}
+use Rattle.std.proofs.Common.{◌≡◌, inl, None, refl, ◌↔◌, ◌<◌, ◌^◌, ℕ, List, [], ◌∷◌, map, length, sym, ap, ◌∙◌, subst, Some}
 use Rattle.std.specs.List.{AllByRecursion}
 use Rattle.reflect_tables.specs.Types.{PoolType, no_type}
 use Rattle.reflect_pool.specs.Dots.{without_dot}
@@ -22,14 +22,15 @@ use Rattle.reflect_decode.specs.Spares.{HoldsRead}
 use Rattle.reflect_message.specs.Contents.{content_of}
 use Rattle.reflect_message.specs.declared.message.DynamicMessage.{DynamicMessage}
 use Rattle.reflect_decode.specs.Levels.{TakesAt}
+use Rattle.reflect_decode.specs.Ordered.{IsOrdered}
 use Rattle.reflect_decode.specs.Spelled.{IsSpelled, TellsWhy}
+use Rattle.reflect_decode.proofs.Ordering.{nothing_ordered}
 use Rattle.protobuf_model.specs.Bytes.{bytes_of}
 use Rattle.protobuf_model.specs.Coded.{Mean, IsRecoded, IsRecodedThrough, AreOlderThan}
 use Rattle.protobuf_model.specs.Older.{IsOlder}
 use Rattle.protobuf_model.specs.Values.{Message, nothing}
 use Rattle.protobuf_model.proofs.Bytewise.{bytes_mean, one_form, one_meaning}
 use Rattle.protobuf_model.proofs.Chains.{passes, passes_through, same_as_direct}
-use Rattle.message_view.specs.Ordered.{AreOrdered, OrderedTo, IsOrdered}
 use Rattle.message_view.specs.Recoded.{Recodes, type_of, RecodesThrough}
 use Rattle.message_view.specs.Sound.{IsSound}
 use Rattle.message_view.specs.Types.{name_at, types_of}
@@ -42,17 +43,17 @@ use Rattle.message_view.proofs.Shapes.{AreKept, kept_shaped}
 use Rattle.message_view.proofs.Sound.{named}
 
 -- what is decoded is written in the one form of what it means
-pub decoded_written : (d : MessageDescriptor) → IsSound d.pool.now → (bytes : List ℕ) (m : DynamicMessage) → m.descriptor ≡ d → IsSpelled d bytes m → IsOrdered m → message_bytes m ≡ bytes_of (types_of d.pool.now) (name_at d.pool.now d.index) (view m)
-decoded_written d sound bytes m type (rs, spelled, keeps, some, also, fields, (extensions, apart), accepts) ordered =
-    let left : AreKept (TakesAt 100) d (content_of m) rs = record { left = record { unknown = keeps; fields = fields; extensions = extensions }; apart = apart } in
-    let shaped = kept_shaped 100 m rs (subst (λ d. AreKept (TakesAt 100) d (content_of m) rs) (sym type) left) ordered in
+pub decoded_written : (d : MessageDescriptor) → IsSound d.pool.now → (bytes : List ℕ) (m : DynamicMessage) → m.descriptor ≡ d → IsSpelled d bytes m → message_bytes m ≡ bytes_of (types_of d.pool.now) (name_at d.pool.now d.index) (view m)
+decoded_written d sound bytes m type (rs, spelled, keeps, some, also, fields, (extensions, apart), accepts, ordered) =
+    let left : AreKept (TakesAt 100) d (content_of m) rs = record { left = record { unknown = keeps; fields = fields; extensions = extensions }; apart = apart; ordered = ordered } in
+    let shaped = kept_shaped 100 m rs (subst (λ d. AreKept (TakesAt 100) d (content_of m) rs) (sym type) left) in
     let pool = d.pool.now in
     shaped_bytes pool sound.keys sound.entries sound.lists (types_of pool) (named pool sound.names) 101 m (ap (λ (d : MessageDescriptor). d.pool.now) type) shaped
     ∙ ap (λ (d : MessageDescriptor). bytes_of (types_of pool) (name_at pool d.index) (view m)) type
 
 -- recoding is the model's
 pub recodes : (d : MessageDescriptor) → IsSound d.pool.now → (bytes out : List ℕ) → AreBytes bytes → Recodes d bytes out → IsRecoded (types_of d.pool.now) (name_at d.pool.now d.index) bytes out
-recodes d sound bytes out b r = (view r.message, decoded_means d sound bytes b r.message r.type r.decoded, sym (decoded_written d sound bytes r.message r.type r.decoded r.ordered) ∙ r.encoded)
+recodes d sound bytes out b r = (view r.message, decoded_means d sound bytes b r.message r.type r.decoded, sym (decoded_written d sound bytes r.message r.type r.decoded) ∙ r.encoded)
 
 -- recoded bytes mean what the bytes do
 pub recoded_means : (d : MessageDescriptor) → IsSound d.pool.now → (bytes out : List ℕ) → AreBytes bytes → Recodes d bytes out → length out < 2 ^ 64 → (m : Message) → Mean (types_of d.pool.now) (name_at d.pool.now d.index) bytes m → Mean (types_of d.pool.now) (name_at d.pool.now d.index) out m
@@ -132,8 +133,7 @@ pub nothing_recoded : (d : MessageDescriptor) (m : DynamicMessage) → m.descrip
 nothing_recoded d m type empty = record {
   message = m;
   type = type;
-  decoded = ([], refl, keeps_nothing, none_read (content_of m).fields (ap (λ (c : contents.Content). c.fields) empty), none_read (content_of m).extensions (ap (λ (c : contents.Content). c.extensions) empty), fields_left, (extensions_left, λ f owns. none_at (content_of m).extensions (ap (λ (c : contents.Content). c.extensions) empty) (field_type f).number), tt);
-  ordered = subst (AreOrdered (OrderedTo 100)) (sym empty) nothing_ordered;
+  decoded = ([], refl, keeps_nothing, none_read (content_of m).fields (ap (λ (c : contents.Content). c.fields) empty), none_read (content_of m).extensions (ap (λ (c : contents.Content). c.extensions) empty), fields_left, (extensions_left, λ f owns. none_at (content_of m).extensions (ap (λ (c : contents.Content). c.extensions) empty) (field_type f).number), tt, subst IsOrdered (sym empty) nothing_ordered);
   encoded = bytes_opened m ∙ ap (λ (c : contents.Content). content m.descriptor.pool.now m.descriptor.index (forms c.fields) (forms c.extensions) c.unknown) empty;
 } where
   none_at : (es : List (ℕ × Value)) → es ≡ [] → (n : ℕ) → value_at es n ≡ None
@@ -150,9 +150,6 @@ nothing_recoded d m type empty = record {
 
   extensions_left : (x : ExtensionDescriptor) → OwnsExtension d x → LeavesExtension (TakesAt 100) d x None (value_at (content_of m).extensions (extension_type x).number) []
   extensions_left x owns apart = none_at (content_of m).extensions (ap (λ (c : contents.Content). c.extensions) empty) (extension_type x).number
-
-  nothing_ordered : AreOrdered (OrderedTo 100) contents.nothing
-  nothing_ordered = record { fields = omega arith; extensions = omega arith; unknown = omega arith; held = λ n v e. absurd (cc e); extended = λ n v e. absurd (cc e) }
 
 -- what was encoded of a decoded message is decoded to the same message
 pub encoded_read : (d : MessageDescriptor) → IsSound d.pool.now → (bytes out : List ℕ) → AreBytes bytes → AreBytes out → (r : Recodes d bytes out) → length out < 2 ^ 64 → (n : DynamicMessage) → n.descriptor ≡ d → IsSpelled d out n → view n ≡ view r.message

@@ -30,17 +30,19 @@ use Rattle.reflect_decode.specs.Keeps as keeps
 use Rattle.reflect_decode.specs.Levels.{TakenAt, TakesAt}
 use Rattle.reflect_decode.specs.Maps.{key_order, LeavesSingle, LeavesValue, IsEntry, PutEntries, ContinuesMap}
 use Rattle.reflect_decode.specs.Messages.{Takes, IsMade, MergesMessage}
+use Rattle.reflect_decode.specs.Ordered.{IsOrdered}
 use Rattle.reflect_decode.specs.Scalars.{LeavesAs, HoldsLast, ContinuesWith}
 use Rattle.reflect_decode.specs.Spares.{Merges}
 use Rattle.reflect_decode.specs.Taking.{AreMade, AddsMessages, TakesAs, Leaves}
+use Rattle.reflect_decode.proofs.Ordering.{nothing_ordered}
 use Rattle.reflect_decode.proofs.Telling.{both_kinds}
-use Rattle.message_view.specs.Ordered.{IfMessage, EachMessage, AreOrdered, OrderedTo}
 use Rattle.message_view.proofs.Arranging.{IsShaped, Shaped}
 use Rattle.message_view.proofs.Accepting.{not_float}
 use Rattle.message_view.proofs.Entries.{Sort, plain, floating, message_type, sort_of, some_default}
 use Rattle.message_view.proofs.Fields.{owned_whole, extension_whole, none_owned}
 use Rattle.message_view.proofs.Left.{AreLeft, merged_left}
 use Rattle.message_view.proofs.Oneofs.{payloads_same}
+use Rattle.message_view.proofs.Ordering.{rises}
 use Rattle.message_view.proofs.Written.{FitsOne, FitsAs}
 
 -- of a value as one
@@ -140,37 +142,16 @@ module _ (takes : Takes) (inner : DynamicMessage → Type 0) (makes : Makes take
     by true is c e = map_fits (h.2 is)
     by false is c e = lists is (holds_list pool f) refl (sort_of f.kind)
 
--- where the messages inside are in order, they suit
-module _ (order shape : DynamicMessage → Type 0) (pool : PoolType) where
-  abbrev pub Conditional : DynamicMessage → Type 0
-  Conditional m = order m → shape m
-
-  one_ordered : (f : FieldType) (v : Value) → FitsOne Conditional pool f v → IfMessage order v → FitsOne shape pool f v
-  one_ordered f v fits ordered = record { plain = fits.plain; nested = λ type. let m = fits.nested type in (m.0, m.1, m.2, m.3 (ordered m.0 m.1)) }
-
-  all_ordered : (f : FieldType) (vs : List Value) → AllByRecursion (FitsOne Conditional pool f) vs → AllByRecursion (IfMessage order) vs → AllByRecursion (FitsOne shape pool f) vs
-  all_ordered f [] fits ordered = tt
-  all_ordered f (v ∷ vs) fits ordered = (one_ordered f v fits.0 ordered.0, all_ordered f vs fits.1 ordered.1)
-
-  entries_ordered : (t : KindType) (es : List (MapKey × Value)) → AllByRecursion (λ (e : MapKey × Value). (values : FieldType) → entry_field pool t 2 ≡ Some values → FitsOne Conditional pool values e.1) es → AllByRecursion (λ (e : MapKey × Value). IfMessage order e.1) es
-      → AllByRecursion (λ (e : MapKey × Value). (values : FieldType) → entry_field pool t 2 ≡ Some values → FitsOne shape pool values e.1) es
-  entries_ordered t [] fits ordered = tt
-  entries_ordered t (e ∷ es) fits ordered = ((λ values is. one_ordered values e.1 (fits.0 values is) ordered.0), entries_ordered t es fits.1 ordered.1)
-
-  field_ordered : (f : FieldType) (v : Value) (b c : Bool) → FitsAs Conditional pool f b c v → EachMessage order v → FitsAs shape pool f b c v
-  field_ordered f v true c fits ordered = (fits.0, fits.1, entries_ordered f.kind fits.0 fits.2 (ordered.keyed fits.0 fits.1))
-  field_ordered f v false true fits ordered = (fits.0, fits.1, all_ordered f fits.0 fits.2 (ordered.listed fits.0 fits.1))
-  field_ordered f v false false fits ordered = one_ordered f v fits ordered.alone
-
 -- a message where nothing stood
 pub record AreKept (takes : Takes) (d : MessageDescriptor) (c : Content) (rs : List (ℕ × Payload)) : Type 0 where
   pub left : AreLeft takes d c rs
   pub apart : (f : FieldDescriptor) → Owns d f → value_at c.extensions (field_type f).number ≡ None
+  pub ordered : IsOrdered c
 
 pub merged_kept : (takes : Takes) (d : MessageDescriptor) (c : Content) (rs : List (ℕ × Payload)) → Merges takes d nothing c rs → AreKept takes d c rs
-merged_kept takes d c rs h = record { left = merged_left takes d c rs h; apart = h.extended.behind }
+merged_kept takes d c rs h = record { left = merged_left takes d c rs h; apart = h.extended.behind; ordered = h.ordered nothing_ordered }
 
-module _ (takes : Takes) (order shape : DynamicMessage → Type 0) (makes : Makes takes (λ m. order m → shape m)) (d : MessageDescriptor) (c : Content) (rs : List (ℕ × Payload)) (kept : AreKept takes d c rs) (ordered : AreOrdered order c) where
+module _ (takes : Takes) (shape : DynamicMessage → Type 0) (makes : Makes takes shape) (d : MessageDescriptor) (c : Content) (rs : List (ℕ × Payload)) (kept : AreKept takes d c rs) where
   leaves_of : (f : FieldDescriptor) (new : Option Value) → LeavesField takes d f None new rs → (ps : List Payload) × Leaves takes (field_pool f) (field_type f) None new ps
   leaves_of f new (inl h) = (_, h.1)
   leaves_of f new (inr h) = (_, h.6)
@@ -180,8 +161,7 @@ module _ (takes : Takes) (order shape : DynamicMessage → Type 0) (makes : Make
       let g = field_type f in
       let some = leaves_of f (value_at c.fields g.number) (kept.left.fields f owns) in
       let leaves = subst (λ o. Leaves takes d.pool.now g None o some.0) at (subst (λ p. Leaves takes p g None (value_at c.fields g.number) some.0) owns.0.1 some.1) in
-      field_ordered order shape d.pool.now g v (holds_map d.pool.now g) (holds_list d.pool.now g)
-      (field_fits takes (λ m. order m → shape m) makes d.pool.now g v some.0 (owned_whole d f owns) leaves) (ordered.held g.number v at)
+      field_fits takes shape makes d.pool.now g v some.0 (owned_whole d f owns) leaves
 
   fits_extension : (x : ExtensionDescriptor) → OwnsExtension d x → known_field d.pool.now d.index (extension_type x).number ≡ None → (v : Value) → value_at c.extensions (extension_type x).number ≡ Some v
       → FitsAs shape d.pool.now (extension_type x) (holds_map d.pool.now (extension_type x)) (holds_list d.pool.now (extension_type x)) v
@@ -189,25 +169,24 @@ module _ (takes : Takes) (order shape : DynamicMessage → Type 0) (makes : Make
       let g = extension_type x in
       let ps = keeps.payloads g.number rs in
       let leaves = subst (λ o. Leaves takes d.pool.now g None o ps) at (subst (λ p. Leaves takes p g None (value_at c.extensions g.number) ps) owns.0.0 (kept.left.extensions x owns (none_owned d g.number none))) in
-      field_ordered order shape d.pool.now g v (holds_map d.pool.now g) (holds_list d.pool.now g)
-      (field_fits takes (λ m. order m → shape m) makes d.pool.now g v ps (extension_whole d x owns) leaves) (ordered.extended g.number v at)
+      field_fits takes shape makes d.pool.now g v ps (extension_whole d x owns) leaves
 
   pub shapes : IsShaped shape d c
   shapes = record {
-    fields_rise = ordered.fields;
-    extensions_rise = ordered.extensions;
-    unknown_ascend = ordered.unknown;
+    fields_rise = rises c.fields kept.ordered.fields;
+    extensions_rise = rises c.extensions kept.ordered.extensions;
+    unknown_ascend = kept.ordered.unknown;
     fields = fits_field;
     extensions = fits_extension;
     apart = kept.apart;
     declared = λ n is. sym (payloads_same n c.unknown) ∙ ap (map (λ (r : ℕ × Payload). r.1)) (kept.left.unknown.declared n is);
   }
 
-makes_at : (levels : ℕ) → Makes (TakesAt levels) (λ m. OrderedTo levels m → Shaped levels m)
+makes_at : (levels : ℕ) → Makes (TakesAt levels) (Shaped levels)
 unfolding TakenAt
-makes_at zero = record { messages = λ grouped m ps h ordered. absurd h }
-makes_at (suc levels) = record { messages = λ grouped m ps h ordered. shapes (TakesAt levels) (OrderedTo levels) (Shaped levels) (makes_at levels) m.descriptor (content_of m) h.0 (merged_kept (TakesAt levels) m.descriptor (content_of m) h.0 h.2) ordered }
+makes_at zero = record { messages = λ grouped m ps h. absurd h }
+makes_at (suc levels) = record { messages = λ grouped m ps h. shapes (TakesAt levels) (Shaped levels) (makes_at levels) m.descriptor (content_of m) h.0 (merged_kept (TakesAt levels) m.descriptor (content_of m) h.0 h.2) }
 
 -- a message that records leave where nothing stood
-pub kept_shaped : (levels : ℕ) (m : DynamicMessage) (rs : List (ℕ × Payload)) → AreKept (TakesAt levels) m.descriptor (content_of m) rs → OrderedTo (suc levels) m → Shaped (suc levels) m
-kept_shaped levels m rs kept ordered = shapes (TakesAt levels) (OrderedTo levels) (Shaped levels) (makes_at levels) m.descriptor (content_of m) rs kept ordered
+pub kept_shaped : (levels : ℕ) (m : DynamicMessage) (rs : List (ℕ × Payload)) → AreKept (TakesAt levels) m.descriptor (content_of m) rs → Shaped (suc levels) m
+kept_shaped levels m rs kept = shapes (TakesAt levels) (Shaped levels) (makes_at levels) m.descriptor (content_of m) rs kept

@@ -2,5 +2,4 @@ pub mod Singles
 pub mod Sound
 pub mod Types
 pub mod Views
-pub mod Ordered
 pub mod Recoded

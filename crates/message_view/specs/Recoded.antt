@@ -6,15 +6,13 @@ use Rattle.reflect_message.specs.Bytes.{message_bytes}
 use Rattle.reflect_message.specs.declared.message.DynamicMessage.{DynamicMessage}
 use Rattle.reflect_decode.specs.Spelled.{IsSpelled}
 use Rattle.protobuf_model.specs.Types.{Name, Types}
-use Rattle.message_view.specs.Ordered.{IsOrdered}
 use Rattle.message_view.specs.Types.{name_at, types_of}
 
--- `decode` gives a message of the bytes, in order, and `encode` writes these of it
+-- `decode` gives a message of the bytes, and `encode` writes these of it
 pub record Recodes (d : MessageDescriptor) (bytes out : List ℕ) : Type 0 where
   pub message : DynamicMessage
   pub type : message.descriptor ≡ d
   pub decoded : IsSpelled d bytes message
-  pub ordered : IsOrdered message
   pub encoded : message_bytes message ≡ out
 
 -- the type of a descriptor, and its name

@@ -22,7 +22,6 @@ ghost use Rattle.reflect_wire.specs.Written.{AreBytes};
 ghost use Rattle.reflect_wire.specs.declared.wire_error.WireError.{WireError};
 ghost use Rattle.reflect_wire.specs.declared.wire_error.WireError.TheVariants.{Memory};
 ghost use Rattle.reflect_message.specs.Bytes.{message_bytes};
-ghost use Rattle.message_view.specs.Ordered.{IsOrdered};
 ghost use Rattle.message_view.specs.Recoded.{Recodes, RecodesThrough, type_of};
 ghost use Rattle.message_view.specs.Sound.{HaveNames, IsSound};
 ghost use Rattle.message_view.specs.Types.{name_at, types_of};
@@ -80,7 +79,7 @@ pub fn decoded_bytes_are_decoded_together()
 /// `encode` writes a decoded message in the one form of what the bytes mean.
 pub fn decoded_messages_are_written_in_one_form()
     ensures { (d : MessageDescriptor) → IsSound d.pool.now → (bytes : List ℕ)
-        → (m : DynamicMessage) → m.descriptor ≡ d → IsSpelled d bytes m → IsOrdered m
+        → (m : DynamicMessage) → m.descriptor ≡ d → IsSpelled d bytes m
         → message_bytes m ≡ bytes_of (types_of d.pool.now) (name_at d.pool.now d.index) (view m) }
 {}
 

@@ -1,5 +1,5 @@
 -- Records of undeclared numbers, record by record.
-use Rattle.std.proofs.Common.{◌≡◌, ◌≢◌, inl, inr, Result, Ok, Err, IfOk, ℕ, ◌==◌, Bool, true, false, true≢false, cond, nat_lt, nat_le, List, [], ◌∷◌, ◌++◌, map, refl, sym, ap, ◌∙◌, subst, append_assoc, append-nil, arith}
+use Rattle.std.proofs.Common.{◌≡◌, ◌≢◌, inl, inr, Result, Ok, Err, IfOk, ℕ, ◌==◌, Bool, true, false, true≢false, cond, nat_lt, nat_le, List, [], ◌∷◌, ◌++◌, map, refl, sym, ap, ◌∙◌, subst, append_assoc, append-nil, ◌≤◌, arith}
 use Rattle.std.specs.Borrow.{Bor}
 use Rattle.std.specs.List.{filter}
 use Rattle.std.proofs.lemmas.List.{map-append}
@@ -17,6 +17,8 @@ use Rattle.reflect_scalar.specs.FieldTypes.{extension_type}
 use Rattle.reflect_message.specs.Declares.{Owns, OwnsExtension, NoField, IsDeclared}
 use Rattle.reflect_decode.specs.Keeps.{numbered, payloads, Keeps}
 use Rattle.reflect_decode.specs.Merging.{IsRun, run_records}
+use Rattle.reflect_decode.specs.Ordered.{Ascend, last}
+use Rattle.reflect_decode.proofs.Ordering.{record_placed}
 
 module _ {X : Type 0} (t s : X → Bool) where
   -- a test of what passes another
@@ -114,8 +116,14 @@ module _ (m : MessageDescriptor) where
 
   module _ (levels : ℕ) (key : WireKey) (bytes : List ℕ) where
     pub kept_if_read : (old new : List (ℕ × Payload)) (r : Result (Bor (List ℕ)) WireError) → (IsDeclared m key.number → ⊥)
+        → 1 ≤ key.number → key.number ≤ last
         → IfOk r (λ rest. (p : Payload) × Fronts (IsValue levels key) bytes p rest.now × (new ≡ with_record old (key.number, p)))
-        → IfOk r (λ rest. (run : List Payload × Payload) × Fronts (IsRun levels key) bytes run rest.now × Keeps m old new (run_records key.number run))
-    kept_if_read old new (Ok rest) none h =
-        (([], h.0), (h.1.0, ([], h.1.0, refl, h.1.1, refl), h.1.2), keeps_record old new key.number h.0 none h.2)
-    kept_if_read old new (Err e) none h = tt
+        → IfOk r (λ rest. (run : List Payload × Payload) × Fronts (IsRun levels key) bytes run rest.now × Keeps m old new (run_records key.number run)
+        × (Ascend 1 last old → Ascend 1 last new))
+    kept_if_read old new (Ok rest) none least most h = (
+      ([], h.0),
+      (h.1.0, ([], h.1.0, refl, h.1.1, refl), h.1.2),
+      keeps_record old new key.number h.0 none h.2,
+      λ ascends. subst (Ascend 1 last) (sym h.2) (record_placed 1 last key.number h.0 old least most ascends),
+    )
+    kept_if_read old new (Err e) none least most h = tt

@@ -9,6 +9,7 @@ pub mod Keeping
 pub mod Kept
 pub mod Mapping
 pub mod Nesting
+pub mod Ordering
 pub mod Owning
 pub mod Packing
 pub mod Refusing

@@ -1,5 +1,5 @@
 -- What stays under numbers that are not read, record by record.
-use Rattle.std.proofs.Common.{◌≡◌, ◌≢◌, ◌⊎◌, inl, inr, Result, Ok, Err, IfOk, ℕ, ◌==◌, true, cond, List, [], ◌∷◌, ◌++◌, None, Some, refl, sym, ap, ◌∙◌, subst, arith}
+use Rattle.std.proofs.Common.{◌≡◌, ◌≢◌, ◌⊎◌, inl, inr, Result, Ok, Err, IfOk, ℕ, ◌==◌, true, cond, ◌≤◌, List, [], ◌∷◌, ◌++◌, None, Some, refl, sym, ap, ◌∙◌, subst, arith}
 use Rattle.std.specs.Borrow.{Bor}
 use Rattle.std.specs.List.{AllByRecursion}
 use Rattle.std.proofs.lemmas.List.Elements.{filter-append}
@@ -11,7 +11,7 @@ use Rattle.reflect_wire.specs.Records.{Payload, SpellsRecords}
 use Rattle.reflect_wire.specs.Views.{records_of}
 use Rattle.reflect_wire.specs.declared.wire_key.WireKey.{WireKey}
 use Rattle.reflect_wire.specs.declared.wire_error.WireError.{WireError}
-use Rattle.reflect_entries.specs.Entries.{value_at}
+use Rattle.reflect_entries.specs.Entries.{IsAscending, value_at}
 use Rattle.reflect_pool.specs.declared.extension.ExtensionDescriptor.{ExtensionDescriptor}
 use Rattle.reflect_scalar.specs.FieldTypes.{field_pool, extension_pool, extension_type}
 use Rattle.reflect_message.specs.Contents.{Content, nothing}
@@ -21,6 +21,7 @@ use Rattle.reflect_decode.specs.Fields.{HoldFields, HoldExtensions}
 use Rattle.reflect_decode.specs.Keeps.{numbered, Keeps}
 use Rattle.reflect_decode.specs.Merging.{IsBody, IsRun, run_records}
 use Rattle.reflect_decode.specs.Messages.{Takes}
+use Rattle.reflect_decode.specs.Ordered.{AreNumbered, Ascend, IsOrdered, last}
 use Rattle.reflect_message.specs.Declares.{Owns, OwnsExtension, NoField}
 use Rattle.reflect_message.specs.Oneofs.{AreChosen, MakesRoom, Chooses, Unsets, sibling}
 use Rattle.reflect_message.specs.Held.{Same}
@@ -34,6 +35,7 @@ use Rattle.reflect_decode.proofs.Extending.{extended_none, extended_both, extend
 use Rattle.reflect_decode.proofs.Filling.{filled_none, filled_both, filled_apart, filled_run, filled_empty}
 use Rattle.reflect_decode.proofs.Joining.{Joins}
 use Rattle.reflect_decode.proofs.Keeping.{two_empty, keeps_none, keeps_more, keeps_declared, field_declared}
+use Rattle.reflect_decode.proofs.Ordering.{Holds, numbered_put, nothing_ordered}
 use Rattle.reflect_decode.proofs.Running.{whole_body}
 use Rattle.reflect_decode.proofs.Suiting.{nothing_suits}
 
@@ -94,6 +96,7 @@ module _ (inner : Takes) (m : MessageDescriptor) where
     extensions = extensions_same a.extensions a.extensions [] refl;
     extended = extended_none inner m a.extensions;
     unknown = keeps_none m a.unknown;
+    ordered = λ before. before;
   }
 
   pub merges_more : Joins inner → (a b c : Content) (rs ts : List (ℕ × Payload)) → Merges inner m a b rs → Merges inner m b c ts → Merges inner m a c (rs ++ ts)
@@ -103,13 +106,15 @@ module _ (inner : Takes) (m : MessageDescriptor) where
     extensions = extensions_more a.extensions b.extensions c.extensions rs ts h.extensions k.extensions;
     extended = extended_both inner m joins a.extensions b.extensions c.extensions rs ts h.extended k.extended;
     unknown = keeps_more m a.unknown b.unknown c.unknown rs ts h.unknown k.unknown;
+    ordered = λ before. k.ordered (h.ordered before);
   }
 
   -- records of a field, for whose choice room is made, and which is then noted
   pub merges_field : (g : FieldDescriptor) → Owns m g → (n : ℕ) → (field_type g).number ≡ n → (old new : Content) (room : List (ℕ × ℕ)) (between : List (ℕ × Value)) (run : List Payload × Payload)
       → MakesRoom g old.choices room → ((k : ℕ) → k ≢ n → Same old.fields between k) → Leaves inner (field_pool g) (field_type g) (value_at old.fields n) (value_at between n) (run.0 ++ run.1 ∷ [])
-      → Unsets g room between new.fields → Chooses g room new.choices → new.extensions ≡ old.extensions → new.unknown ≡ old.unknown → Merges inner m old new (run_records n run)
-  merges_field g owns n is old new room between run made put leaves unsets chooses extensions unknown =
+      → Unsets g room between new.fields → Chooses g room new.choices → new.extensions ≡ old.extensions → new.unknown ≡ old.unknown
+      → (1 ≤ n) × (n ≤ last) → (IsAscending old.fields → IsAscending new.fields) → Merges inner m old new (run_records n run)
+  merges_field g owns n is old new room between run made put leaves unsets chooses extensions unknown within rising =
       let number = (field_type g).number in
       let there : (k : ℕ) → k ≢ number → Same old.fields between k = λ k e. put k (λ s. e (s ∙ sym is)) in
       let left = subst (λ n. Leaves inner (field_pool g) (field_type g) (value_at old.fields n) (value_at between n) (run.0 ++ run.1 ∷ [])) (sym is) leaves in
@@ -122,8 +127,16 @@ module _ (inner : Takes) (m : MessageDescriptor) where
         extensions = extensions_same old.extensions new.extensions (run_records number run) extensions;
         extended = extended_apart inner m old.extensions new.extensions number run (λ x owned free e. free g owns (sym e)) extensions;
         unknown = keeps_declared m old.unknown new.unknown number run unknown (field_declared m g number owns refl);
+        ordered = λ before. record {
+          fields = numbered_put n within old.fields new.fields rising (λ k other. by k other (is_or_not (sibling g room) k)) before.fields;
+          extensions = subst AreNumbered (sym extensions) before.extensions;
+          unknown = subst (Ascend 1 last) (sym unknown) before.unknown;
+        };
       } in
-      subst (λ n. Merges inner m old new (run_records n run)) is merged
+      subst (λ n. Merges inner m old new (run_records n run)) is merged where
+        by : (k : ℕ) → k ≢ n → (sibling g room ≡ Some k) ⊎ (sibling g room ≢ Some k) → Holds n within old.fields new.fields k
+        by k other (inl e) = inr (unsets.unset k e)
+        by k other (inr not) = inl (unsets.others k not ∙ put k other)
 
   module _ (levels : ℕ) (key : WireKey) (bytes : List ℕ) (old new : Content) where
     -- where records are kept, nothing else changes
@@ -131,7 +144,8 @@ module _ (inner : Takes) (m : MessageDescriptor) where
     Answers rest = (run : List Payload × Payload) × Fronts (IsRun levels key) bytes run rest × Merges inner m old new (run_records key.number run) × (Suits levels m old → Accepts levels m (run_records key.number run))
 
     pub merges_kept : (r : Result (Bor (List ℕ)) WireError) → None ≡ known_field m.pool.now m.index key.number → None ≡ known_extension m.pool.now m.index key.number → NoField m key.number → ((x : ExtensionDescriptor) → OwnsExtension m x → (extension_type x).number ≢ key.number) → new.fields ≡ old.fields → new.choices ≡ old.choices → new.extensions ≡ old.extensions
-        → IfOk r (λ rest. (run : List Payload × Payload) × Fronts (IsRun levels key) bytes run rest.now × Keeps m old.unknown new.unknown (run_records key.number run))
+        → IfOk r (λ rest. (run : List Payload × Payload) × Fronts (IsRun levels key) bytes run rest.now × Keeps m old.unknown new.unknown (run_records key.number run)
+        × (Ascend 1 last old.unknown → Ascend 1 last new.unknown))
         → IfOk r (λ rest. Answers rest.now)
     merges_kept (Ok rest) no_field no_extension none apart fields choices extensions h = (
       h.0,
@@ -142,6 +156,11 @@ module _ (inner : Takes) (m : MessageDescriptor) where
         extensions = extensions_same old.extensions new.extensions (run_records key.number h.0) extensions;
         extended = extended_apart inner m old.extensions new.extensions key.number h.0 (λ x owns free. apart x owns) extensions;
         unknown = h.2;
+        ordered = λ before. record {
+          fields = subst AreNumbered (sym fields) before.fields;
+          extensions = subst AreNumbered (sym extensions) before.extensions;
+          unknown = h.3 before.unknown;
+        };
       },
       λ suits. run_of_others levels m key.number h.0 no_field no_extension,
     )
@@ -149,11 +168,12 @@ module _ (inner : Takes) (m : MessageDescriptor) where
 
     -- records of an extension
     pub merges_extension : (r : Result (Bor (List ℕ)) WireError) → NoField m key.number → (x : ExtensionDescriptor) → None ≡ known_field m.pool.now m.index key.number → Some (extension_type x) ≡ known_extension m.pool.now m.index key.number → OwnsExtension m x → (extension_type x).number ≡ key.number → new.fields ≡ old.fields → new.choices ≡ old.choices → new.unknown ≡ old.unknown
+        → (1 ≤ key.number) × (key.number ≤ last) → (IsAscending old.extensions → IsAscending new.extensions)
         → ((k : ℕ) → k ≢ key.number → Same old.extensions new.extensions k)
         → IfOk r (λ rest. (run : List Payload × Payload) × Fronts (IsRun levels key) bytes run rest.now × Leaves inner (extension_pool x) (extension_type x) (value_at old.extensions key.number) (value_at new.extensions key.number) (run.0 ++ run.1 ∷ [])
         × (HeldSuits (SuitsBelow levels) (extension_pool x) (extension_type x) (value_at old.extensions key.number) → AllByRecursion (AcceptsField levels (AcceptsMessage levels) (extension_pool x) (extension_type x)) (run.0 ++ run.1 ∷ [])))
         → IfOk r (λ rest. Answers rest.now)
-    merges_extension (Ok rest) none x no_field known owns is fields choices unknown others h = (
+    merges_extension (Ok rest) none x no_field known owns is fields choices unknown within rising others h = (
       h.0,
       h.1,
       record {
@@ -162,17 +182,22 @@ module _ (inner : Takes) (m : MessageDescriptor) where
         extensions = extensions_run old.extensions new.extensions key.number h.0 others;
         extended = extended_run inner m x owns key.number is none old.extensions new.extensions h.0 others h.2;
         unknown = keeps_declared m old.unknown new.unknown key.number h.0 unknown (inr (x, owns, is));
+        ordered = λ before. record {
+          fields = subst AreNumbered (sym fields) before.fields;
+          extensions = numbered_put key.number within old.extensions new.extensions rising (λ k other. inl (others k other)) before.extensions;
+          unknown = subst (Ascend 1 last) (sym unknown) before.unknown;
+        };
       },
       λ suits. run_of_extension levels m key.number (extension_pool x) (extension_type x) h.0 no_field known owns.0.0 (h.3 (held suits)),
     ) where
       held : Suits levels m old → HeldSuits (SuitsBelow levels) (extension_pool x) (extension_type x) (value_at old.extensions key.number)
       held suits = subst (λ n. HeldSuits (SuitsBelow levels) (extension_pool x) (extension_type x) (value_at old.extensions n)) is (suits.extensions x owns (subst (NoField m) (sym is) none))
-    merges_extension (Err e) none x no_field known owns is fields choices unknown others h = tt
+    merges_extension (Err e) none x no_field known owns is fields choices unknown within rising others h = tt
 
 -- what a message that held nothing holds of the records
 pub decoded : (inner : Takes) (m type : MessageDescriptor) (levels : ℕ) (bytes rest : List ℕ) (a b : Content) (rs : List (ℕ × Payload)) → type ≡ m → Fronts (IsBody None levels) bytes rs rest → rest ≡ [] → Merges inner type a b rs
     → a.fields ≡ [] → a.extensions ≡ [] → a.unknown ≡ [] → AreChosen type a.choices a.fields → a ≡ nothing → (Suits levels type a → Accepts levels type rs)
-    → (rs : List (ℕ × Payload)) × SpellsRecords levels bytes (records_of rs) × Keeps m [] b.unknown rs × HoldsRead b.fields rs × HoldsRead b.extensions rs × HoldFields inner m b.fields rs × HoldExtensions inner m b.extensions rs × Accepts levels m rs
+    → (rs : List (ℕ × Payload)) × SpellsRecords levels bytes (records_of rs) × Keeps m [] b.unknown rs × HoldsRead b.fields rs × HoldsRead b.extensions rs × HoldFields inner m b.fields rs × HoldExtensions inner m b.extensions rs × Accepts levels m rs × IsOrdered b
 decoded inner m type levels bytes rest a b rs same read whole h fields extensions unknown chosen empty accepted =
     let merged = subst (λ m. Merges inner m a b rs) same h in (
       rs,
@@ -183,6 +208,7 @@ decoded inner m type levels bytes rest a b rs same read whole h fields extension
       filled_empty inner m a b rs fields (merged.filled (subst (λ m. AreChosen m a.choices a.fields) same chosen)),
       extended_empty inner m a.extensions b.extensions rs extensions merged.extended,
       subst (λ t. Accepts levels t rs) same (accepted (subst (Suits levels type) (sym empty) (nothing_suits (SuitsBelow levels) type))),
+      merged.ordered (subst IsOrdered (sym empty) nothing_ordered),
     ) where
       by : (n : ℕ) → Same a.fields b.fields n ⊎ ((value_at b.fields n ≡ None) × ReadsMember m rs) → value_at b.fields n ≡ None
       by n (inl is) = is ∙ ap (λ l. value_at l n) fields

@@ -7,6 +7,7 @@ pub mod Maps
 pub mod Merged
 pub mod Merging
 pub mod Messages
+pub mod Ordered
 pub mod Packed
 pub mod Refused
 pub mod Scalars

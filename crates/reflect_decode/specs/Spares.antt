@@ -13,6 +13,7 @@ use Rattle.reflect_message.specs.Declares.{Declares, Owns, OwnsExtension}
 use Rattle.reflect_decode.specs.Fields.{LeavesField, LeavesExtension}
 use Rattle.reflect_decode.specs.Keeps.{numbered, Keeps}
 use Rattle.reflect_decode.specs.Messages.{Takes}
+use Rattle.reflect_decode.specs.Ordered.{IsOrdered}
 use Rattle.reflect_message.specs.Oneofs.{AreChosen}
 use Rattle.reflect_message.specs.Held.{Same}
 use Rattle.reflect_message.specs.declared.value.Value.{Value}
@@ -43,10 +44,12 @@ pub record FillsExtensions (inner : Takes) (m : MessageDescriptor) (old new : Li
   pub each : (x : ExtensionDescriptor) → OwnsExtension m x → LeavesExtension inner m x (value_at old (extension_type x).number) (value_at new (extension_type x).number) read
   pub behind : (f : FieldDescriptor) → Owns m f → Same old new (field_type f).number
 
--- the records are taken in: what they do not name stays, and those of undeclared numbers are kept
+-- the records are taken in: what they do not name stays, those of undeclared numbers are kept, and what was in the order of
+-- its numbers stays so
 pub record Merges (inner : Takes) (m : MessageDescriptor) (old new : Content) (read : List (ℕ × Payload)) : Type 0 where
   pub fields : SparesFields m old.fields new.fields read
   pub filled : AreChosen m old.choices old.fields → FillsFields inner m old new read
   pub extensions : SparesExtensions old.extensions new.extensions read
   pub extended : FillsExtensions inner m old.extensions new.extensions read
   pub unknown : Keeps m old.unknown new.unknown read
+  pub ordered : IsOrdered old → IsOrdered new

@@ -21,7 +21,7 @@ use Rattle.message_view.proofs.Decoded.{decoded_means}
 use Rattle.message_view.proofs.Defaults.{have_defaults}
 use Rattle.message_view.proofs.Recoded.{found_named, recodes_named}
 use Rattle.schema_core.specs.Payloads.{Decoded, Recoded}
-use Rattle.schema_laws.specs.Schemas.{IsSteady, SchemaType, type_of, RecodedThrough}
+use Rattle.schema_laws.specs.Schemas.{SchemaType, type_of, RecodedThrough}
 
 pub accepted : (p : PoolType) → IsSound p → (name bytes : List ℕ) → AreBytes bytes → Decoded p name bytes → IsAccepted (types_of p) (without_dot name) bytes
 accepted p sound name bytes b (m, (d, (there, found), type, apart, spelled)) =
@@ -30,20 +30,19 @@ accepted p sound name bytes b (m, (d, (there, found), type, apart, spelled)) =
     (subst (λ p. IsAccepted (types_of p) (name_at p d.index) bytes) there (means.0, means.1))
 
 -- what a schema recodes, as decoding by its type and encoding
-abbrev as_recoded : (p : PoolType) → IsSteady p → (name bytes out : List ℕ) → Recoded p name bytes out → (d : MessageDescriptor) × Recodes d bytes out
-as_recoded p steady name bytes out (m, read, written) = (
+abbrev as_recoded : (p : PoolType) (name bytes out : List ℕ) → Recoded p name bytes out → (d : MessageDescriptor) × Recodes d bytes out
+as_recoded p name bytes out (m, read, written) = (
   read.0,
   record {
     message = m;
     type = read.2;
     decoded = read.4;
-    ordered = steady.ordered name bytes m read;
     encoded = sym written;
   },
 )
 
-pub recodes : (p : PoolType) → IsSteady p → (name bytes out : List ℕ) → AreBytes bytes → Recoded p name bytes out → IsRecoded (types_of p) (without_dot name) bytes out
-recodes p steady name bytes out b h = recodes_named p name h.1.0 steady.sound h.1.1.0 h.1.1.1 bytes out b (as_recoded p steady name bytes out h).1
+pub recodes : (p : PoolType) → IsSound p → (name bytes out : List ℕ) → AreBytes bytes → Recoded p name bytes out → IsRecoded (types_of p) (without_dot name) bytes out
+recodes p sound name bytes out b h = recodes_named p name h.1.0 sound h.1.1.0 h.1.1.1 bytes out b (as_recoded p name bytes out h).1
 
 defaults : (p : PoolType) → IsSound p → HaveDefaults (types_of p)
 defaults p sound = have_defaults p sound.keys sound.defaults
@@ -56,36 +55,36 @@ recoded_means types d t bytes out r short m means =
     let suits = merged_well types d t nothing m bytes (nothing_typed 100 types t) means in
     subst (λ b. Mean types t b m) its (bytes_mean types t m suits (subst (λ b. length b < 2 ^ 64) (sym its) short))
 
-pub same_meaning : (p : PoolType) → IsSteady p → (name bytes out : List ℕ) → AreBytes bytes → Recoded p name bytes out → length out < 2 ^ 64 → (m : Message)
+pub same_meaning : (p : PoolType) → IsSound p → (name bytes out : List ℕ) → AreBytes bytes → Recoded p name bytes out → length out < 2 ^ 64 → (m : Message)
     → Mean (types_of p) (without_dot name) bytes m → Mean (types_of p) (without_dot name) out m
-same_meaning p steady name bytes out b h short m means = recoded_means (types_of p) (defaults p steady.sound) (without_dot name) bytes out (recodes p steady name bytes out b h) short m means
+same_meaning p sound name bytes out b h short m means = recoded_means (types_of p) (defaults p sound) (without_dot name) bytes out (recodes p sound name bytes out b h) short m means
 
-pub stays : (p : PoolType) → IsSteady p → (name bytes out again : List ℕ) → AreBytes bytes → AreBytes out → Recoded p name bytes out → length out < 2 ^ 64 → Recoded p name out again → again ≡ out
-stays p steady name bytes out again b c h short k =
+pub stays : (p : PoolType) → IsSound p → (name bytes out again : List ℕ) → AreBytes bytes → AreBytes out → Recoded p name bytes out → length out < 2 ^ 64 → Recoded p name out again → again ≡ out
+stays p sound name bytes out again b c h short k =
     let types = types_of p in
     let t = without_dot name in
-    let its = recodes p steady name bytes out b h in
-    let next = recodes p steady name out again c k in
-    let same : next.0 ≡ its.0 = one_meaning types t nothing out next.0 its.0 next.1 (recoded_means types (defaults p steady.sound) t bytes out its short its.0 its.1) in
+    let its = recodes p sound name bytes out b h in
+    let next = recodes p sound name out again c k in
+    let same : next.0 ≡ its.0 = one_meaning types t nothing out next.0 its.0 next.1 (recoded_means types (defaults p sound) t bytes out its short its.0 its.1) in
     sym next.2 ∙ ap (bytes_of types t) same ∙ its.2
 
-pub passed : (old new : SchemaType) → IsSteady old.0 → IsSound new.0 → IsOlder (types_of old.0) (without_dot old.1) (types_of new.0) (without_dot new.1)
+pub passed : (old new : SchemaType) → IsSound old.0 → IsSound new.0 → IsOlder (types_of old.0) (without_dot old.1) (types_of new.0) (without_dot new.1)
     → (bytes out : List ℕ) → AreBytes bytes → Recoded old.0 old.1 bytes out → length out < 2 ^ 64
     → (m : Message) → Mean (types_of new.0) (without_dot new.1) bytes m → Mean (types_of new.0) (without_dot new.1) out m
-passed old new steady sound older bytes out b h short m means =
-    passes (types_of old.0) (types_of new.0) (without_dot old.1) (without_dot new.1) bytes out m older (defaults new.0 sound) means (recodes old.0 steady old.1 bytes out b h) short
+passed old new sound also older bytes out b h short m means =
+    passes (types_of old.0) (types_of new.0) (without_dot old.1) (without_dot new.1) bytes out m older (defaults new.0 also) means (recodes old.0 sound old.1 bytes out b h) short
 
-through : (ss : List SchemaType) → AllByRecursion (λ (s : SchemaType). IsSteady s.0) ss → (bytes out : List ℕ) → AreBytes bytes → RecodedThrough ss bytes out → IsRecodedThrough (map type_of ss) bytes out × AreBytes out
-through [] steady bytes out b h = (h, subst AreBytes h b)
-through (s ∷ ss) steady bytes out b (next, h, c, short, more) =
-    let rest = through ss steady.1 next out c more in
-    ((next, recodes s.0 steady.0 s.1 bytes next b h, short, rest.0), rest.1)
+through : (ss : List SchemaType) → AllByRecursion (λ (s : SchemaType). IsSound s.0) ss → (bytes out : List ℕ) → AreBytes bytes → RecodedThrough ss bytes out → IsRecodedThrough (map type_of ss) bytes out × AreBytes out
+through [] sound bytes out b h = (h, subst AreBytes h b)
+through (s ∷ ss) sound bytes out b (next, h, c, short, more) =
+    let rest = through ss sound.1 next out c more in
+    ((next, recodes s.0 sound.0 s.1 bytes next b h, short, rest.0), rest.1)
 
-pub one_normal_form : (new : SchemaType) (ss : List SchemaType) → IsSteady new.0 → AllByRecursion (λ (s : SchemaType). IsSteady s.0) ss
+pub one_normal_form : (new : SchemaType) (ss : List SchemaType) → IsSound new.0 → AllByRecursion (λ (s : SchemaType). IsSound s.0) ss
     → AreOlderThan (types_of new.0) (without_dot new.1) (map type_of ss)
     → (bytes out x y : List ℕ) → AreBytes bytes → RecodedThrough ss bytes out → Recoded new.0 new.1 out x → Recoded new.0 new.1 bytes y → x ≡ y
-one_normal_form new ss steady all older bytes out x y b h k l =
+one_normal_form new ss sound all older bytes out x y b h k l =
     let chain = through ss all bytes out b h in
-    let direct = recodes new.0 steady new.1 bytes y b l in
-    same_as_direct (types_of new.0) (without_dot new.1) (defaults new.0 steady.sound) (map type_of ss) older bytes out x y (direct.1.0, direct.1.1) chain.0
-    (recodes new.0 steady new.1 out x chain.1 k) direct
+    let direct = recodes new.0 sound new.1 bytes y b l in
+    same_as_direct (types_of new.0) (without_dot new.1) (defaults new.0 sound) (map type_of ss) older bytes out x y (direct.1.0, direct.1.1) chain.0
+    (recodes new.0 sound new.1 out x chain.1 k) direct

@@ -1,19 +1,11 @@
 -- Schemas that recode, one after the other.
 use Rattle.std.specs.Prelude.{◌≡◌, ◌<◌, ◌^◌, ℕ, List, [], ◌∷◌, length}
 use Rattle.protobuf_model.specs.Types.{Name, Types}
-use Rattle.reflect_message.specs.declared.message.DynamicMessage.{DynamicMessage}
 use Rattle.reflect_pool.specs.Dots.{without_dot}
 use Rattle.reflect_tables.specs.Types.{PoolType}
 use Rattle.reflect_wire.specs.Written.{AreBytes}
-use Rattle.message_view.specs.Ordered.{IsOrdered}
-use Rattle.message_view.specs.Sound.{IsSound}
 use Rattle.message_view.specs.Types.{types_of}
-use Rattle.schema_core.specs.Payloads.{IsRead, Recoded}
-
--- its types are sound, and the messages that are read hold their numbers in order, as no contract says yet
-pub record IsSteady (p : PoolType) : Type 0 where
-  pub sound : IsSound p
-  pub ordered : (name bytes : List ℕ) (m : DynamicMessage) → IsRead p name bytes m → IsOrdered m
+use Rattle.schema_core.specs.Payloads.{Recoded}
 
 -- a schema, by its pool, and the name of a type of it
 abbrev pub SchemaType : Type 0

@@ -12,7 +12,7 @@ ghost use Rattle.reflect_wire.specs.Written.{AreBytes};
 ghost use Rattle.message_view.specs.Sound.{IsSound};
 ghost use Rattle.message_view.specs.Types.{types_of};
 ghost use Rattle.schema_core.specs.Payloads.{Decoded, Recoded};
-ghost use Rattle.schema_laws.specs.Schemas.{IsSteady, RecodedThrough, SchemaType, type_of};
+ghost use Rattle.schema_laws.specs.Schemas.{RecodedThrough, SchemaType, type_of};
 
 /// The type accepts bytes that a schema decodes.
 pub fn decoded_bytes_are_accepted()
@@ -22,26 +22,26 @@ pub fn decoded_bytes_are_accepted()
 
 /// What a schema recodes is the one form of what the bytes mean to the named type.
 pub fn schemas_recode_as_types_do()
-    ensures { (p : PoolType) → IsSteady p → (name bytes out : List ℕ) → AreBytes bytes
+    ensures { (p : PoolType) → IsSound p → (name bytes out : List ℕ) → AreBytes bytes
         → Recoded p name bytes out → IsRecoded (types_of p) (without_dot name) bytes out }
 {}
 
 /// Recoded bytes mean what the bytes do, where they are no more than a length can say.
 pub fn recoded_bytes_mean_the_same()
-    ensures { (p : PoolType) → IsSteady p → (name bytes out : List ℕ) → AreBytes bytes
+    ensures { (p : PoolType) → IsSound p → (name bytes out : List ℕ) → AreBytes bytes
         → Recoded p name bytes out → length out < 2 ^ 64 → (m : Message)
         → Mean (types_of p) (without_dot name) bytes m → Mean (types_of p) (without_dot name) out m }
 {}
 
 /// Recoded again they are the same.
 pub fn recoded_bytes_stay()
-    ensures { (p : PoolType) → IsSteady p → (name bytes out again : List ℕ) → AreBytes bytes → AreBytes out
+    ensures { (p : PoolType) → IsSound p → (name bytes out again : List ℕ) → AreBytes bytes → AreBytes out
         → Recoded p name bytes out → length out < 2 ^ 64 → Recoded p name out again → again ≡ out }
 {}
 
 /// What an older schema recodes means to the newer what the bytes do.
 pub fn bytes_pass_through_an_older_schema()
-    ensures { (old new : SchemaType) → IsSteady old.0 → IsSound new.0
+    ensures { (old new : SchemaType) → IsSound old.0 → IsSound new.0
         → IsOlder (types_of old.0) (without_dot old.1) (types_of new.0) (without_dot new.1)
         → (bytes out : List ℕ) → AreBytes bytes → Recoded old.0 old.1 bytes out → length out < 2 ^ 64
         → (m : Message) → Mean (types_of new.0) (without_dot new.1) bytes m
@@ -51,7 +51,7 @@ pub fn bytes_pass_through_an_older_schema()
 /// Behind any chain of schemas whose types are older than the newest's, the newest recodes to what it recodes the bytes themselves to.
 pub fn chains_of_schemas_have_one_normal_form()
     ensures { (new : SchemaType) (ss : List SchemaType)
-        → IsSteady new.0 → AllByRecursion (λ (s : SchemaType). IsSteady s.0) ss
+        → IsSound new.0 → AllByRecursion (λ (s : SchemaType). IsSound s.0) ss
         → AreOlderThan (types_of new.0) (without_dot new.1) (map type_of ss)
         → (bytes out x y : List ℕ) → AreBytes bytes → RecodedThrough ss bytes out
         → Recoded new.0 new.1 out x → Recoded new.0 new.1 bytes y → x ≡ y }

@@ -188,11 +188,12 @@ merge_record-returns-in-Some-clause-read t c =
     let found = c.in-Some in
     let known : option_map field_type c.declared_field.result ≡ Some (field_type found.field) = search rules in
     let room = c.in_ok-make_room.ensures in
-    let cleared = c.clear_siblings.ensures in
+    let cleared = c.unset_sibling.ensures in
     let made = makes_room found.field _ _ room.first room.stays room.others in (
       run.0,
       run.1,
-      merges_field (TakesAt raw.levels) type found.field found.ensures.owns raw.key.number found.ensures.number _ _ _ _ run.0 made c.in_ok-rest.ensures.others run.2 cleared.unsets (cleared.chooses room.room) cleared.extensions (ap undeclared cleared.unknown),
+      merges_field (TakesAt raw.levels) type found.field found.ensures.owns raw.key.number found.ensures.number _ _ _ _ run.0 made c.in_ok-rest.ensures.others run.2 cleared.unsets (cleared.chooses room.room) cleared.extensions (ap undeclared cleared.unknown) (omega (arith, raw.positive), omega (arith, raw.small))
+          (λ ascends. cleared.ascending (c.in_ok-rest.ensures.ascending ascends)),
       λ suits. run_of_field raw.levels type raw.key.number (field_pool found.field) (field_type found.field) run.0 (sym known ∙ c.declared_field.ensures.known) found.ensures.owns.0.1
           (run.3 (subst (λ n. HeldSuits (SuitsBelow raw.levels) (field_pool found.field) (field_type found.field) (value_at c.args.parts.now.fields n)) found.ensures.number (suits.fields found.field found.ensures.owns))),
     )
@@ -204,15 +205,16 @@ merge_record-returns-in-Some-declared_extension-clause-read t c =
     let merged = c.merge_field-in-Some-declared_extension in
     let no_field : option_map field_type c.declared_field.result ≡ None = search rules in
     let known : option_map extension_type c.declared_extension.result ≡ Some (extension_type found.extension) = search rules in
-    merges_extension (TakesAt raw.levels) c.args.descriptor raw.levels raw.key raw.bytes.now _ _ merged.result c.in_default.ensures.none found.extension (sym no_field ∙ c.declared_field.ensures.known) (sym known ∙ c.declared_extension.ensures.known) found.ensures.owns found.ensures.number refl refl refl merged.ensures.others merged.ensures.read
+    merges_extension (TakesAt raw.levels) c.args.descriptor raw.levels raw.key raw.bytes.now _ _ merged.result c.in_default.ensures.none found.extension (sym no_field ∙ c.declared_field.ensures.known) (sym known ∙ c.declared_extension.ensures.known) found.ensures.owns found.ensures.number refl refl refl
+    (omega (arith, raw.positive), omega (arith, raw.small)) merged.ensures.ascending merged.ensures.others merged.ensures.read
 
 pub merge_record-returns-clause-read : goal.merge_record-returns-clause-read
 merge_record-returns-clause-read t c =
     let raw = c.args.raw in
     let none = not_declared c.args.descriptor raw.key.number c.in_default.ensures.none c.in_default-declared_extension.ensures.none in
-    let kept = kept_if_read c.args.descriptor raw.levels raw.key raw.bytes.now _ _ c.keep_unknown.result none c.keep_unknown.ensures.kept in
     let no_field : option_map field_type c.declared_field.result ≡ None = search rules in
     let no_extension : option_map extension_type c.declared_extension.result ≡ None = search rules in
+    let kept = kept_if_read c.args.descriptor raw.levels raw.key raw.bytes.now _ _ c.keep_unknown.result none (omega (arith, raw.positive)) (omega (arith, raw.small)) c.keep_unknown.ensures.kept in
     merges_kept (TakesAt raw.levels) c.args.descriptor raw.levels raw.key raw.bytes.now _ _ c.keep_unknown.result (sym no_field ∙ c.declared_field.ensures.known) (sym no_extension ∙ c.declared_extension.ensures.known) c.in_default.ensures.none c.in_default-declared_extension.ensures.none refl refl refl kept
 
 pub merge_records-records-preserved : goal.merge_records-records-preserved
@@ -548,6 +550,7 @@ merge_field-returns-in_err-scalar-in_default t c =
     let no_map : holds_map pool type ≡ false = search rules in
     let no_list : holds_list pool type ≡ false = search rules in
     record {
+      ascending = λ ascends. ascends;
       others = λ n other. refl;
       read = rw (p.1) tt;
       shorter = rw (p.1) tt;
@@ -566,6 +569,7 @@ merge_field-returns-in_default-2 t c =
     let no_list : holds_list pool type ≡ false = search rules in
     let is = subst (λ k. IsKind pool k type.kind) kind.is c.kind-kind.ensures in
     record {
+      ascending = search rules;
       others = search rules;
       read = tt;
       shorter = tt;
