@@ -4,7 +4,6 @@ pub mod Fields
 pub mod Keeps
 pub mod Levels
 pub mod Maps
-pub mod Merged
 pub mod Merging
 pub mod Messages
 pub mod Ordered

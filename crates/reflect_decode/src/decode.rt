@@ -15,7 +15,6 @@ ghost use Rattle.reflect_tables.specs.Types.{PoolType, KindType};
 ghost use Rattle.reflect_pool.specs.FieldsLeft.{field_type};
 ghost use Rattle.reflect_pool.specs.Kinds.{IsKind};
 ghost use Rattle.reflect_entries.specs.Entries.{IsAscending, value_at};
-ghost use Rattle.reflect_entries.specs.Members.{first_member_of};
 ghost use Rattle.reflect_entries.specs.Sets.{with_record};
 ghost use Rattle.reflect_entries.specs.Undeclared.{undeclared};
 ghost use Rattle.reflect_scalar.specs.FieldTypes.{field_pool, either_pool, either_type};
@@ -26,14 +25,13 @@ ghost use Rattle.reflect_decode.specs.Accepts.{Accepts, AcceptsElement, AcceptsE
 ghost use Rattle.reflect_decode.specs.Elements.{Appends, ContinuesList};
 ghost use Rattle.reflect_decode.specs.Levels.{TakenAt, TakesAt, MergesAt};
 ghost use Rattle.reflect_decode.specs.Keeps.{payloads};
-ghost use Rattle.reflect_decode.specs.Maps.{ChangesPart, ContinuesMap, LeavesKey, LeavesValue, PutEntries, key_order};
+ghost use Rattle.reflect_decode.specs.Maps.{ChangesPart, ContinuesMap, LeavesKey, LeavesValue, PutEntries};
 ghost use Rattle.reflect_decode.specs.Merging.{IsBody, IsRun, run_records};
 ghost use Rattle.reflect_decode.specs.Packed.{IsPacked, PackedFault, Continues};
 ghost use Rattle.reflect_message.specs.KindTypes.{IsMessageType};
 ghost use Rattle.reflect_message.specs.Held.{Same};
 ghost use Rattle.reflect_message.specs.Lists.{list_items};
-ghost use Rattle.reflect_message.specs.Maps.{map_entries};
-ghost use Rattle.reflect_message.specs.Oneofs.{Chooses, Unsets};
+ghost use Rattle.reflect_message.specs.Maps.{key_order, map_entries};
 ghost use Rattle.reflect_decode.specs.Refused.{BodyFault, ElementFault, EntryFault, FieldFault, MapFault, MessageFault, OneFault, PartFault, RecordFault, RunFault, Within};
 ghost use Rattle.reflect_decode.specs.Suits.{HeldSuits, PartSuits, Suits, SuitsBelow};
 ghost use Rattle.reflect_decode.specs.Taking.{Leaves};
@@ -184,7 +182,7 @@ fn merge_record<'p, 'b>(
     if let Some(field) = declared_field(descriptor, number) {
         parts.choices.make_room(&field)?;
         let rest = merge_field(&mut parts.fields, alloc, AnyField::Field(field), raw)?;
-        unset_sibling(parts, &field);
+        parts.clear_siblings(&field);
         return Ok(rest);
     }
     if let Some(extension) = declared_extension(descriptor, number) {
@@ -192,19 +190,6 @@ fn merge_record<'p, 'b>(
         return merge_field(&mut parts.extensions, alloc, extension, raw);
     }
     keep_unknown(&mut parts.unknown, alloc, raw)
-}
-
-/// Unsets the other member of the field's oneof that is noted, if one is. Numbers that ascend still do.
-fn unset_sibling<'p>(parts: &mut Parts<'p>, field: &FieldDescriptor<'p>)
-    ensures ascending { IsAscending parts.old.fields → IsAscending parts.new.fields }
-    ensures unsets { Unsets field.now parts.old.choices.members parts.old.fields parts.new.fields }
-    ensures chooses { ((first : ℕ) → first_member_of field.now ≡ Some first → IsSome (value_at parts.old.choices.members first)) → Chooses field.now parts.old.choices.members parts.new.choices.members }
-    ensures extensions { parts.new.extensions ≡ parts.old.extensions }
-    ensures unknown { parts.new.unknown ≡ parts.old.unknown }
-{
-    if let Some(sibling) = parts.choices.choose(field) {
-        parts.fields.take(sibling);
-    }
 }
 
 /// The record of a number that the type does not declare, and what is behind it.

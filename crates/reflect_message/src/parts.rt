@@ -2,7 +2,7 @@
 
 ghost use Rattle.std.specs.Prelude.{◌≡◌, ℕ, [], Some, IfOk, OnOk, OnErr};
 ghost use Rattle.std.specs.Option.{IsSome, unwrap_or};
-ghost use Rattle.reflect_entries.specs.Entries.{Updates, value_at};
+ghost use Rattle.reflect_entries.specs.Entries.{IsAscending, Updates, value_at};
 ghost use Rattle.reflect_entries.specs.Members.{first_member_of};
 ghost use Rattle.reflect_entries.specs.Undeclared.{undeclared};
 ghost use Rattle.reflect_message.specs.Copies.{AreCopies};
@@ -141,9 +141,10 @@ impl<'p> Parts<'p> {
         Ok(())
     }
 
-    /// Unsets the other members of the oneof of a field, for whose choice there is room.
+    /// Unsets the other members of the oneof of a field, for whose choice there is room. Numbers that ascend still do.
     pub fn clear_siblings(&mut self, field: &FieldDescriptor<'p>)
         ensures unsets { Unsets field.now self.old.choices.members self.old.fields self.new.fields }
+        ensures ascending { IsAscending self.old.fields → IsAscending self.new.fields }
         ensures chooses { ((first : ℕ) → first_member_of field.now ≡ Some first → IsSome (value_at self.old.choices.members first)) → Chooses field.now self.old.choices.members self.new.choices.members }
         ensures extensions { self.new.extensions ≡ self.old.extensions }
         ensures unknown { self.new.unknown ≡ self.old.unknown }

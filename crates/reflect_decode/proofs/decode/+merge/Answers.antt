@@ -188,7 +188,7 @@ merge_record-returns-in-Some-clause-read t c =
     let found = c.in-Some in
     let known : option_map field_type c.declared_field.result ≡ Some (field_type found.field) = search rules in
     let room = c.in_ok-make_room.ensures in
-    let cleared = c.unset_sibling.ensures in
+    let cleared = c.clear_siblings.ensures in
     let made = makes_room found.field _ _ room.first room.stays room.others in (
       run.0,
       run.1,
