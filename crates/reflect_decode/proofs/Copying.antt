@@ -34,10 +34,11 @@ merged levels m type bytes rest old a b rs same read whole taken accepted copied
       subst (λ t. Accepts levels t rs) same (accepted (copy_suits levels type old a copied before)),
 )
 
-pub merged_chosen : (inner : Takes) (m type new : MessageDescriptor) (old a b : Content) (rs : List (ℕ × Payload))
-    → type ≡ m → new ≡ type → Merges inner type a b rs → IsCopy old a → AreChosen m old.choices old.fields
-    → AreChosen new b.choices b.fields
+pub merged_chosen : (inner : Takes) (m type new : MessageDescriptor) (old a b : Content)
+    (rs : List (ℕ × Payload)) → type ≡ m → new ≡ type → Merges inner type a b rs → IsCopy old a
+    → AreChosen m old.choices old.fields → AreChosen new b.choices b.fields
 merged_chosen inner m type new old a b rs is same h copied chosen =
     let before = subst (λ t. AreChosen t old.choices old.fields) (sym is) chosen in
-    let copy = chosen_copied type old.choices a.choices old.fields a.fields copied.choices copied.fields before in
+    let copy =
+    chosen_copied type old.choices a.choices old.fields a.fields copied.choices copied.fields before in
     subst (λ t. AreChosen t b.choices b.fields) (sym same) (h.filled copy).chosen

@@ -158,12 +158,14 @@ suits_below below levels e m c h =
     subst (λ l. SuitsBelow l m c) (sym above) h
 
 module _ (levels : ℕ)
-    (keeps : (m : MessageDescriptor) (a b : Content) → IsCopy a b → SuitsBelow levels m a → SuitsBelow levels m b) where
+    (keeps : (m : MessageDescriptor) (a b : Content) → IsCopy a b → SuitsBelow levels m a
+    → SuitsBelow levels m b) where
   one_copied : (pool : PoolType) (t : KindType) (v w : Value) → tree w ≡ tree v
       → IsSuiting (SuitsBelow levels) pool t v → IsSuiting (SuitsBelow levels) pool t w
   one_copied pool t v w e (m, is, kind, suits) =
       let n = message_alike v w e m is in
-      let inner = keeps m.descriptor (content_of m) (content_of n.0) (content_alike m n.0 n.3) suits in (
+      let copied = content_alike m n.0 n.3 in
+      let inner = keeps m.descriptor (content_of m) (content_of n.0) copied suits in (
         n.0,
         n.1,
         subst (λ d. IsKind pool (kinds.Message d) t) (sym n.2) kind,
@@ -171,13 +173,14 @@ module _ (levels : ℕ)
       )
 
   as_copied : (pool : PoolType) (t : KindType) (keyed listed : Bool) (v w : Value) → tree w ≡ tree v
-      → SuitsAs (SuitsBelow levels) pool t keyed listed v → SuitsAs (SuitsBelow levels) pool t keyed listed w
+      → SuitsAs (SuitsBelow levels) pool t keyed listed v
+      → SuitsAs (SuitsBelow levels) pool t keyed listed w
   as_copied pool t true listed v w e suits = map_alike v w e ∙ suits
   as_copied pool t false true v w e suits = list_alike v w e ∙ suits
   as_copied pool t false false v w e suits = λ type. one_copied pool t v w e (suits type)
 
-  held_copied : (pool : PoolType) (f : FieldType) (o p : Option Value) → option_map tree p ≡ option_map tree o
-      → HeldSuits (SuitsBelow levels) pool f o → HeldSuits (SuitsBelow levels) pool f p
+  held_copied : (pool : PoolType) (f : FieldType) (o p : Option Value)
+      → option_map tree p ≡ option_map tree o → HeldSuits (SuitsBelow levels) pool f o → HeldSuits (SuitsBelow levels) pool f p
   held_copied pool f o None e suits = tt
   held_copied pool f None (Some w) e suits = absurd (cc e)
   held_copied pool f (Some v) (Some w) e suits =
@@ -187,19 +190,23 @@ module _ (levels : ℕ)
   copied_by : (m : MessageDescriptor) (a b : Content) → IsCopy a b → SuitsBy (SuitsBelow levels) m a
       → SuitsBy (SuitsBelow levels) m b
   copied_by m a b copied suits = record {
-    chosen = chosen_copied m a.choices b.choices a.fields b.fields copied.choices copied.fields suits.chosen;
-    fields = λ f owns. held_copied (field_pool f) (field_type f) _ _ (copied.fields (field_type f).number) (suits.fields f owns);
+    chosen =
+        chosen_copied m a.choices b.choices a.fields b.fields copied.choices copied.fields suits.chosen;
+    fields = λ f owns.
+        held_copied (field_pool f) (field_type f) _ _ (copied.fields (field_type f).number)
+        (suits.fields f owns);
     extensions = λ x owns free.
-        held_copied (extension_pool x) (extension_type x) _ _ (copied.extensions (extension_type x).number)
-        (suits.extensions x owns free);
+        held_copied (extension_pool x) (extension_type x) _ _
+        (copied.extensions (extension_type x).number) (suits.extensions x owns free);
   }
 
-below_copied : (levels : ℕ) (m : MessageDescriptor) (a b : Content) → IsCopy a b → SuitsBelow levels m a
-    → SuitsBelow levels m b
+below_copied : (levels : ℕ) (m : MessageDescriptor) (a b : Content) → IsCopy a b
+    → SuitsBelow levels m a → SuitsBelow levels m b
 below_copied zero m a b copied suits = tt
-below_copied (suc levels) m a b copied suits = copied_by levels (below_copied levels) m a b copied suits
+below_copied (suc levels) m a b copied suits =
+    copied_by levels (below_copied levels) m a b copied suits
 
 -- what suits a type suits it in a copy
-pub copy_suits : (levels : ℕ) (m : MessageDescriptor) (a b : Content) → IsCopy a b → SuitsBy (SuitsBelow levels) m a
-    → SuitsBy (SuitsBelow levels) m b
+pub copy_suits : (levels : ℕ) (m : MessageDescriptor) (a b : Content) → IsCopy a b
+    → SuitsBy (SuitsBelow levels) m a → SuitsBy (SuitsBelow levels) m b
 copy_suits levels m a b copied suits = copied_by levels (below_copied levels) m a b copied suits

@@ -8,6 +8,7 @@ pub mod Merging
 pub mod Messages
 pub mod Ordered
 pub mod Packed
+pub mod Reading
 pub mod Refused
 pub mod Scalars
 pub mod Spares

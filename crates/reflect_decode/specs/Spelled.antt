@@ -18,16 +18,19 @@ use Rattle.reflect_decode.specs.Spares.{HoldsRead}
 use Rattle.reflect_decode.specs.Suits.{Suits}
 use Rattle.reflect_message.specs.declared.message.DynamicMessage.{DynamicMessage}
 
--- the bytes spell records, at most 100 levels deep, that the type accepts, and the message holds exactly what these leave in
--- one of the type, by ascending numbers
+-- the bytes spell records, at most 100 levels deep, that the type accepts, and the message holds
+-- exactly what these leave in one of the type, by ascending numbers
 abbrev pub IsSpelled : MessageDescriptor → List ℕ → DynamicMessage → Type 0
 IsSpelled d bytes m =
-    (rs : List (ℕ × Payload)) × SpellsRecords 100 bytes (records_of rs) × Keeps d [] (unknown_of m) rs
-    × HoldsRead (fields_of m) rs × HoldsRead (extensions_of m) rs × HoldFields (TakesAt 100) d (fields_of m) rs
-    × HoldExtensions (TakesAt 100) d (extensions_of m) rs × Accepts 100 d rs × IsOrdered (content_of m)
+    (rs : List (ℕ × Payload)) × SpellsRecords 100 bytes (records_of rs)
+    × Keeps d [] (unknown_of m) rs
+    × HoldsRead (fields_of m) rs × HoldsRead (extensions_of m) rs
+    × HoldFields (TakesAt 100) d (fields_of m) rs
+    × HoldExtensions (TakesAt 100) d (extensions_of m) rs
+    × Accepts 100 d rs × IsOrdered (content_of m)
 
--- the bytes spell such records, and the new message holds exactly what these leave in a copy of the old one; where what the old
--- one holds suits the type, the type accepts each of them
+-- the bytes spell such records, and the new message holds exactly what these leave in a copy of the
+-- old one; where what the old one holds suits the type, the type accepts each of them
 abbrev pub IsMerged : MessageDescriptor → List ℕ → DynamicMessage → DynamicMessage → Type 0
 IsMerged d bytes old new =
     (rs : List (ℕ × Payload)) × (copy : Content) × SpellsRecords 100 bytes (records_of rs)

@@ -14,7 +14,7 @@ use Rattle.reflect_message.specs.Messages.{message_in}
 use Rattle.reflect_message.specs.Trees.{ValueTree, MessageTree, Place, branch, row, dictionary, parts, empty, full, place_of, dictionary_of, held_step, parts_step, value_step, message_step, tree, held_tree, places, entry_tree}
 use Rattle.reflect_message.specs.declared.message.DynamicMessage.{DynamicMessage}
 use Rattle.reflect_message.specs.declared.parts.Held.{Held, out-Held}
-use Rattle.reflect_message.specs.declared.parts.Held.TheFolds.{map-Value, map-Held, fold-Held, fold-Value, fold-DynamicMessage, fold-Parts, fold_out-Value, fold_out-Held, fold_out-DynamicMessage}
+use Rattle.reflect_message.specs.declared.parts.Held.TheFolds.{map-Value, map-Held, fold-DynamicMessage, fold-Parts, fold_out-Value, fold_out-Held, fold_out-DynamicMessage}
 use Rattle.reflect_message.specs.declared.parts.Held.TheOpen.{Held-F, Value-F}
 use Rattle.reflect_message.specs.declared.parts.Held.TheViews.{out-Value}
 use Rattle.reflect_message.specs.declared.parts.Parts.{Parts}
@@ -25,21 +25,31 @@ use Rattle.reflect_message.proofs.Trees.{parts_folded}
 abbrev Open : Type 0
 Open = Value-F Held Value DynamicMessage Parts
 
+abbrev message_folded : DynamicMessage → ValueTree
+message_folded =
+    fold-DynamicMessage MessageTree ValueTree ValueTree MessageTree
+    held_step value_step message_step parts_step
+
+abbrev parts_folded_in : Parts → MessageTree
+parts_folded_in =
+    fold-Parts MessageTree ValueTree ValueTree MessageTree
+    held_step value_step message_step parts_step
+
 -- one level of its tree
 abbrev stepped : Open → ValueTree
-stepped o = value_step (map-Value Held Value DynamicMessage Parts MessageTree ValueTree ValueTree MessageTree
-    (fold-Held MessageTree ValueTree ValueTree MessageTree held_step value_step message_step parts_step)
-    (fold-Value MessageTree ValueTree ValueTree MessageTree held_step value_step message_step parts_step)
-    (fold-DynamicMessage MessageTree ValueTree ValueTree MessageTree held_step value_step message_step parts_step)
-    (fold-Parts MessageTree ValueTree ValueTree MessageTree held_step value_step message_step parts_step) o)
+stepped o = value_step
+    (map-Value Held Value DynamicMessage Parts MessageTree ValueTree ValueTree MessageTree
+    held_tree tree message_folded parts_folded_in o)
 
 opened : (v : Value) → tree v ≡ stepped (out-Value v)
-opened v = fold_out-Value MessageTree ValueTree ValueTree MessageTree held_step value_step message_step parts_step v
+opened v =
+    fold_out-Value MessageTree ValueTree ValueTree MessageTree
+    held_step value_step message_step parts_step v
 
-folded : (m : DynamicMessage)
-    → fold-DynamicMessage MessageTree ValueTree ValueTree MessageTree held_step value_step message_step parts_step m
-    ≡ branch m.descriptor (held_tree m.held)
-folded m = fold_out-DynamicMessage MessageTree ValueTree ValueTree MessageTree held_step value_step message_step parts_step m
+folded : (m : DynamicMessage) → message_folded m ≡ branch m.descriptor (held_tree m.held)
+folded m =
+    fold_out-DynamicMessage MessageTree ValueTree ValueTree MessageTree
+    held_step value_step message_step parts_step m
 
 -- ---- maps
 
@@ -59,14 +69,19 @@ entries_in o = elim o [
 ]
 
 inside : (es : List (MapKey × Value))
-    → map (λ (e : MapKey × ValueTree). (key_view e.0, e.1)) (map (λ (e : MapKey × Value). (e.0, tree e.1)) es) ≡ map entry_tree es
+    → map (λ (e : MapKey × ValueTree). (key_view e.0, e.1)) (map (λ (e : MapKey × Value). (e.0, tree e.1)) es)
+    ≡ map entry_tree es
 inside [] = refl
 inside (e ∷ es) = ap (λ l. entry_tree e ∷ l) (inside es)
 
-pub map_seen : (v : Value) (es : List (MapKey × Value)) → map_entries v ≡ Some es → tree v ≡ dictionary (dictionary_of (map entry_tree es))
+pub map_seen : (v : Value) (es : List (MapKey × Value)) → map_entries v ≡ Some es
+    → tree v ≡ dictionary (dictionary_of (map entry_tree es))
 map_seen v es e = opened v ∙ by (out-Value v) e where
-  by : (o : Open) → entries_in o ≡ Some es → stepped o ≡ dictionary (dictionary_of (map entry_tree es))
-  by (Value-F.Map fs) e = ap (λ l. dictionary (dictionary_of l)) (inside fs.entries) ∙ ap (λ o. dictionary (dictionary_of (map entry_tree (unwrap_or o [])))) e
+  by : (o : Open) → entries_in o ≡ Some es
+      → stepped o ≡ dictionary (dictionary_of (map entry_tree es))
+  by (Value-F.Map fs) e =
+      ap (λ l. dictionary (dictionary_of l)) (inside fs.entries)
+      ∙ ap (λ o. dictionary (dictionary_of (map entry_tree (unwrap_or o [])))) e
   by (Value-F.Bool b) e = absurd (cc e)
   by (Value-F.I32 z) e = absurd (cc e)
   by (Value-F.I64 z) e = absurd (cc e)
@@ -182,16 +197,19 @@ message_told v = ap message_tree (opened v) ∙ by (out-Value v) where
   by (Value-F.Map es) = refl
 
 pub message_alike : (v w : Value) → tree w ≡ tree v → (m : DynamicMessage) → message_in v ≡ Some m
-    → (n : DynamicMessage) × (message_in w ≡ Some n) × (n.descriptor ≡ m.descriptor) × (held_tree n.held ≡ held_tree m.held)
+    → (n : DynamicMessage) × (message_in w ≡ Some n) × (n.descriptor ≡ m.descriptor)
+    × (held_tree n.held ≡ held_tree m.held)
 message_alike v w e m is = by (message_in w) refl where
   same : option_map branched (message_in w) ≡ Some (branched m)
   same = sym (message_told w) ∙ ap message_tree e ∙ message_told v ∙ ap (option_map branched) is
 
   by : (o : Option DynamicMessage) → message_in w ≡ o
-      → (n : DynamicMessage) × (message_in w ≡ Some n) × (n.descriptor ≡ m.descriptor) × (held_tree n.held ≡ held_tree m.held)
+      → (n : DynamicMessage) × (message_in w ≡ Some n) × (n.descriptor ≡ m.descriptor)
+      × (held_tree n.held ≡ held_tree m.held)
   by None none = absurd (cc (none, same))
   by (Some n) there =
-      let both : Some (branched n) ≡ Some (branched m) = sym (ap (option_map branched) there) ∙ same in
+      let both : Some (branched n) ≡ Some (branched m) =
+      sym (ap (option_map branched) there) ∙ same in
       let pair : branched n ≡ branched m = ap (λ o. unwrap_or o (branched n)) both in
       (n, there, ap (λ p. p.0) pair, ap (λ p. p.1) pair)
 
@@ -214,15 +232,14 @@ seen_held h = parts (places (fields_in h)) (choices_in h) (places (extensions_in
 
 held_opened : (h : Held) → held_tree h ≡ seen_held h
 held_opened h =
-    fold_out-Held MessageTree ValueTree ValueTree MessageTree held_step value_step message_step parts_step h
+    fold_out-Held MessageTree ValueTree ValueTree MessageTree
+    held_step value_step message_step parts_step h
     ∙ by (out-Held h) where
       by : (o : Held-F Held Value DynamicMessage Parts)
           → held_step (map-Held Held Value DynamicMessage Parts MessageTree ValueTree ValueTree MessageTree
-          (fold-Held MessageTree ValueTree ValueTree MessageTree held_step value_step message_step parts_step)
-          (fold-Value MessageTree ValueTree ValueTree MessageTree held_step value_step message_step parts_step)
-          (fold-DynamicMessage MessageTree ValueTree ValueTree MessageTree held_step value_step message_step parts_step)
-          (fold-Parts MessageTree ValueTree ValueTree MessageTree held_step value_step message_step parts_step) o)
-          ≡ parts (places (fields_in_block o)) (choices_in_block o) (places (extensions_in_block o)) (unknown_in_block o)
+          held_tree tree message_folded parts_folded_in o)
+          ≡ parts (places (fields_in_block o)) (choices_in_block o) (places (extensions_in_block o))
+          (unknown_in_block o)
       by Held-F.Nothing = refl
       by (Held-F.Block b) = parts_folded b.value
 
@@ -246,9 +263,11 @@ placed : (o : Option ValueTree) → of_place (place_of o) ≡ o
 placed None = refl
 placed (Some t) = refl
 
-pub content_alike : (m n : DynamicMessage) → held_tree n.held ≡ held_tree m.held → IsCopy (content_of m) (content_of n)
+pub content_alike : (m n : DynamicMessage) → held_tree n.held ≡ held_tree m.held
+    → IsCopy (content_of m) (content_of n)
 content_alike m n e =
-    let same : seen_held n.held ≡ seen_held m.held = sym (held_opened n.held) ∙ e ∙ held_opened m.held in
+    let same : seen_held n.held ≡ seen_held m.held =
+    sym (held_opened n.held) ∙ e ∙ held_opened m.held in
     record {
       fields = λ k. sym (placed _) ∙ ap (λ t. of_place (fields_at t k)) same ∙ placed _;
       choices = ap choices_at same;

@@ -36,4 +36,5 @@ key_order = ghosts.cmp
 
 -- the value is put under a copy of the key
 abbrev pub PutsCopy : MapKey → Value → List (MapKey × Value) → List (MapKey × Value) → Type 0
-PutsCopy key v old new = (copy : MapKey) × (key_view copy ≡ key_view key) × (new ≡ insert_entry key_order old copy v)
+PutsCopy key v old new =
+    (copy : MapKey) × (key_view copy ≡ key_view key) × (new ≡ insert_entry key_order old copy v)

@@ -13,8 +13,8 @@ use Rattle.reflect_message.specs.declared.parts.Held.TheOpen.{Held-F, Parts-F, V
 use Rattle.reflect_message.specs.declared.parts.Parts.{Parts}
 use Rattle.reflect_message.specs.declared.value.Value.{Value}
 
--- a single value, a message by its type and what it holds, a list, or a map by its entries; a message holds values under numbers,
--- the chosen members of oneofs, and records of undeclared numbers
+-- a single value, a message by its type and what it holds, a list, or a map by its entries; a message
+-- holds values under numbers, the chosen members of oneofs, and records of undeclared numbers
 mutual
   pub data ValueTree : Type 0 where
     leaf : Single → ValueTree

@@ -141,7 +141,8 @@ impl<'p> Parts<'p> {
         Ok(())
     }
 
-    /// Unsets the other members of the oneof of a field, for whose choice there is room. Numbers that ascend still do.
+    /// Unsets the other members of the oneof of a field, for whose choice there is room. Numbers that
+    /// ascend still do.
     pub fn clear_siblings(&mut self, field: &FieldDescriptor<'p>)
         ensures unsets { Unsets field.now self.old.choices.members self.old.fields self.new.fields }
         ensures ascending { IsAscending self.old.fields → IsAscending self.new.fields }
