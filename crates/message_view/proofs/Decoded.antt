@@ -8,7 +8,8 @@ use Rattle.reflect_message.specs.Contents.{content_of}
 use Rattle.reflect_message.specs.declared.message.DynamicMessage.{DynamicMessage}
 use Rattle.reflect_decode.specs.Levels.{TakesAt}
 use Rattle.reflect_decode.specs.Refused.{BodyFault}
-use Rattle.reflect_decode.specs.Spelled.{IsSpelled, TellsWhy}
+use Rattle.reflect_decode.specs.Spelled.{IsMerged, IsSpelled, TellsWhy}
+use Rattle.reflect_decode.specs.Suits.{Suits}
 use Rattle.message_laws.proofs.Excluding.{excluded}
 use Rattle.protobuf_model.specs.Coded.{Mean, IsAccepted, SuitsType}
 use Rattle.protobuf_model.specs.Older.{IsOlder}
@@ -70,6 +71,20 @@ pub older_decodes : (old new : MessageDescriptor) → IsSound old.pool.now → I
 older_decodes old new sound also older bytes b m type h e other why =
     told_refused old sound bytes e other why
     (accepted_by_older (types_of old.pool.now) (types_of new.pool.now) (name_at old.pool.now old.index) (name_at new.pool.now new.index) bytes older (spelled_accepted new also bytes b m type h))
+
+-- a type accepts what is merged into a message that suits it
+pub merged_accepted : (d : MessageDescriptor) → IsSound d.pool.now → (bytes : List ℕ) → AreBytes bytes
+    → (old new : DynamicMessage) → Suits 100 d (content_of old) → IsMerged d bytes old new
+    → IsAccepted (types_of d.pool.now) (name_at d.pool.now d.index) bytes
+merged_accepted d sound bytes b old new suits (rs, copy, spelled, copied, merges, accepts) =
+    let pool = d.pool.now in
+    let told = named pool sound.names in (
+      rs,
+      record {
+        spelled = spelled;
+        accepted = accepted pool sound.keys (types_of pool) told 100 d refl bytes rs b spelled (accepts suits);
+      },
+    )
 
 -- nor are decoded bytes refused one behind the other
 pub pieces_decode : (d : MessageDescriptor) → IsSound d.pool.now → (a b : List ℕ) → AreBytes a → AreBytes b → (m n : DynamicMessage) → m.descriptor ≡ d → n.descriptor ≡ d → IsSpelled d a m → IsSpelled d b n

@@ -13,11 +13,11 @@ use Rattle.reflect_scalar.specs.Singles as held
 use Rattle.reflect_scalar.specs.declared.map_key.MapKey.{MapKey}
 use Rattle.reflect_message.specs.KindTypes.{IsScalarType, IsMessageType}
 use Rattle.reflect_message.specs.Known.{is_float, entry_field, has_floats, holds_floats}
-use Rattle.reflect_message.specs.Maps.{entries_held}
+use Rattle.reflect_message.specs.Maps.{entries_held, key_order}
 use Rattle.reflect_message.specs.Singles as singles
 use Rattle.reflect_message.specs.declared.value.Value.{Value}
 use Rattle.reflect_decode.specs.Keeps as keeps
-use Rattle.reflect_decode.specs.Maps.{key_order, LeavesSingle, LeavesValue, IsEntry, PutEntries, ContinuesMap}
+use Rattle.reflect_decode.specs.Maps.{LeavesSingle, LeavesValue, IsEntry, PutEntries, ContinuesMap}
 use Rattle.reflect_decode.specs.Messages.{Takes}
 use Rattle.reflect_decode.specs.Refused.{IsKeyKind}
 use Rattle.protobuf_model.specs.Values as model

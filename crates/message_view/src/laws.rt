@@ -6,7 +6,9 @@ ghost use Rattle.protobuf_model.specs.Coded.{AreOlderThan, IsAccepted, IsRecoded
 ghost use Rattle.protobuf_model.specs.Bytes.{bytes_of};
 ghost use Rattle.protobuf_model.specs.Values.{Message};
 ghost use Rattle.protobuf_model.specs.Older.{IsOlder};
-ghost use Rattle.reflect_decode.specs.Spelled.{IsSpelled, TellsWhy};
+ghost use Rattle.reflect_decode.specs.Spelled.{IsMerged, IsSpelled, TellsWhy};
+ghost use Rattle.reflect_decode.specs.Suits.{Suits};
+ghost use Rattle.reflect_message.specs.Contents.{content_of};
 ghost use Rattle.reflect_message.specs.declared.message.DynamicMessage.{DynamicMessage};
 ghost use Rattle.reflect_pool.specs.Dots.{without_dot};
 ghost use Rattle.reflect_pool.specs.FindsNames.{FindsMessage};
@@ -74,6 +76,13 @@ pub fn decoded_bytes_are_decoded_together()
         → (m n : DynamicMessage) → m.descriptor ≡ d → n.descriptor ≡ d
         → IsSpelled d a m → IsSpelled d b n
         → (e : WireError) → (e ≡ Memory → ⊥) → TellsWhy d (a ++ b) e → ⊥ }
+{}
+
+/// The type accepts bytes that `merge` takes into a message that suits it.
+pub fn merged_bytes_are_accepted()
+    ensures { (d : MessageDescriptor) → IsSound d.pool.now → (bytes : List ℕ) → AreBytes bytes
+        → (old new : DynamicMessage) → Suits 100 d (content_of old) → IsMerged d bytes old new
+        → IsAccepted (types_of d.pool.now) (name_at d.pool.now d.index) bytes }
 {}
 
 /// `encode` writes a decoded message in the one form of what the bytes mean.

@@ -5,31 +5,40 @@ use Rattle.reflect_wire.specs.Records.{Payload, SpellsRecords}
 use Rattle.reflect_wire.specs.Views.{records_of}
 use Rattle.reflect_pool.specs.declared.message.MessageDescriptor.{MessageDescriptor}
 use Rattle.reflect_message.specs.Contents.{Content}
-use Rattle.reflect_message.specs.Copies.{AreCopies}
-use Rattle.reflect_decode.specs.Merged.{MergesFields, MergesExtensions}
-use Rattle.reflect_decode.specs.Keeps.{Keeps}
+use Rattle.reflect_message.specs.Copies.{IsCopy}
+use Rattle.reflect_message.specs.Oneofs.{AreChosen}
+use Rattle.reflect_message.proofs.Copying.{chosen_copied}
+use Rattle.reflect_decode.specs.Accepts.{Accepts}
+use Rattle.reflect_decode.specs.Levels.{MergesAt}
 use Rattle.reflect_decode.specs.Merging.{IsBody}
 use Rattle.reflect_decode.specs.Messages.{Takes}
-use Rattle.reflect_message.specs.Oneofs.{AreChosen}
 use Rattle.reflect_decode.specs.Spares.{Merges}
-use Rattle.reflect_message.proofs.Copying.{chosen_copied}
+use Rattle.reflect_decode.specs.Suits.{Suits}
 use Rattle.reflect_decode.proofs.Running.{whole_body}
+use Rattle.reflect_decode.proofs.Suiting.{copy_suits}
 
--- what a message holds into a copy of which records were taken in
-pub merged : (inner : Takes) (m type : MessageDescriptor) (levels : ℕ) (bytes rest : List ℕ) (old a b : Content) (rs : List (ℕ × Payload)) → type ≡ m → Fronts (IsBody None levels) bytes rs rest → rest ≡ [] → Merges inner type a b rs
-    → AreCopies old.fields a.fields → a.choices ≡ old.choices → AreCopies old.extensions a.extensions → a.unknown ≡ old.unknown
-    → (rs : List (ℕ × Payload)) × SpellsRecords levels bytes (records_of rs) × Keeps m old.unknown b.unknown rs × (AreChosen m old.choices old.fields → MergesFields inner m old.fields b.fields rs) × MergesExtensions inner m old.extensions b.extensions rs
-merged inner m type levels bytes rest old a b rs is read whole h fields choices extensions unknown =
-    let taken = subst (λ m. Merges inner m a b rs) is h in (
-      rs,
-      whole_body levels bytes rest rs read whole,
-      subst (λ l. Keeps m l b.unknown rs) unknown taken.unknown,
-      λ chosen. (a.fields, fields, (taken.filled (chosen_copied m old.choices a.choices old.fields a.fields choices fields chosen)).each),
-      (a.extensions, extensions, taken.extended),
-    )
+-- records that were taken into a copy
+pub merged : (levels : ℕ) (m type : MessageDescriptor) (bytes rest : List ℕ) (old a b : Content)
+    (rs : List (ℕ × Payload)) → type ≡ m → Fronts (IsBody None levels) bytes rs rest → rest ≡ []
+    → MergesAt levels type a b rs → (Suits levels type a → Accepts levels type rs) → IsCopy old a
+    → (rs : List (ℕ × Payload)) × (copy : Content) × SpellsRecords levels bytes (records_of rs)
+    × IsCopy old copy × MergesAt levels m copy b rs × (Suits levels m old → Accepts levels m rs)
+merged levels m type bytes rest old a b rs same read whole taken accepted copied = (
+  rs,
+  a,
+  whole_body levels bytes rest rs read whole,
+  copied,
+  subst (λ t. MergesAt levels t a b rs) same taken,
+  λ suits.
+      let before = subst (λ t. Suits levels t old) (sym same) suits in
+      subst (λ t. Accepts levels t rs) same (accepted (copy_suits levels type old a copied before)),
+)
 
-pub merged_chosen : (inner : Takes) (m type new : MessageDescriptor) (old a b : Content) (rs : List (ℕ × Payload)) → type ≡ m → new ≡ type → Merges inner type a b rs → AreCopies old.fields a.fields → a.choices ≡ old.choices → AreChosen m old.choices old.fields
-    → AreChosen new b.choices b.fields
-merged_chosen inner m type new old a b rs is same h fields choices chosen =
-    let copied = chosen_copied type old.choices a.choices old.fields a.fields choices fields (subst (λ t. AreChosen t old.choices old.fields) (sym is) chosen) in
-    subst (λ t. AreChosen t b.choices b.fields) (sym same) (h.filled copied).chosen
+pub merged_chosen : (inner : Takes) (m type new : MessageDescriptor) (old a b : Content)
+    (rs : List (ℕ × Payload)) → type ≡ m → new ≡ type → Merges inner type a b rs → IsCopy old a
+    → AreChosen m old.choices old.fields → AreChosen new b.choices b.fields
+merged_chosen inner m type new old a b rs is same h copied chosen =
+    let before = subst (λ t. AreChosen t old.choices old.fields) (sym is) chosen in
+    let copy =
+    chosen_copied type old.choices a.choices old.fields a.fields copied.choices copied.fields before in
+    subst (λ t. AreChosen t b.choices b.fields) (sym same) (h.filled copy).chosen

@@ -1,5 +1,5 @@
 -- What is left of bytes that were read from the front.
-use Rattle.std.proofs.Common.{◌≡◌, ℕ, ◌≤◌, ◌<◌, List, [], ◌∷◌, ◌++◌, length, arith, ap}
+use Rattle.std.proofs.Common.{◌≡◌, ◌==◌, ℕ, ◌≤◌, ◌<◌, true, List, [], ◌∷◌, ◌++◌, length, arith, refl, ap}
 use Rattle.std.proofs.lemmas.List.{length-append}
 use Rattle.reflect_wire.specs.Key.{IsKey}
 use Rattle.reflect_wire.specs.Reads.{Fronts}
@@ -15,3 +15,8 @@ key_shorter bytes rest key h = by h.0 h.1 h.2 where
   by : (front : List ℕ) → IsKey front key → bytes ≡ front ++ rest → length rest < length bytes
   by [] k e = absurd k.spelled.spelled
   by (b ∷ bs) k e = omega (arith, ap length e, length-append (b ∷ bs) rest)
+
+-- bytes of which none are left
+pub emptied : (bytes : List ℕ) → (length bytes == 0) ≡ true → bytes ≡ []
+emptied [] e = refl
+emptied (b ∷ bytes) e = absurd (grind (arith, e))

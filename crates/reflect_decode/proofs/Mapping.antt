@@ -24,8 +24,8 @@ use Rattle.reflect_decode.specs.Accepts.{AcceptsOne, AcceptsEntry, AcceptsMessag
 use Rattle.reflect_decode.specs.Keeps.{payloads}
 use Rattle.reflect_decode.specs.Levels.{TakesAt}
 use Rattle.reflect_message.specs.Known.{entry_field}
-use Rattle.reflect_decode.specs.Maps.{key_order, LeavesSingle, LeavesKey, LeavesValue, IsEntry, PutEntries, ContinuesMap, ChangesPart}
-use Rattle.reflect_message.specs.Maps.{map_entries}
+use Rattle.reflect_decode.specs.Maps.{LeavesSingle, LeavesKey, LeavesValue, IsEntry, PutEntries, ContinuesMap, ChangesPart}
+use Rattle.reflect_message.specs.Maps.{key_order, map_entries}
 use Rattle.reflect_decode.specs.Merging.{IsRun}
 use Rattle.reflect_decode.specs.Messages.{Takes}
 use Rattle.reflect_message.specs.Messages.{message_in}

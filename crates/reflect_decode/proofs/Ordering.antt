@@ -9,12 +9,13 @@ use Rattle.reflect_message.specs.Held.{Same}
 use Rattle.reflect_message.specs.declared.value.Value.{Value}
 use Rattle.reflect_decode.specs.Ordered.{AreNumbered, Ascend, IsOrdered, last}
 
-pub lower : (l low high : ℕ) (rs : List (ℕ × Payload)) → l ≤ low → Ascend low high rs → Ascend l high rs
+pub lower : (l low high : ℕ) (rs : List (ℕ × Payload)) → l ≤ low → Ascend low high rs
+    → Ascend l high rs
 lower l low high [] le h = omega (arith, le, h)
 lower l low high (r ∷ rs) le h = (omega (arith, le, h.0), h.1)
 
-pub ascend_append : (low mid high : ℕ) (a b : List (ℕ × Payload)) → Ascend low mid a → Ascend mid high b
-    → Ascend low high (a ++ b)
+pub ascend_append : (low mid high : ℕ) (a b : List (ℕ × Payload)) → Ascend low mid a
+    → Ascend mid high b → Ascend low high (a ++ b)
 ascend_append low mid high [] b h k = lower low mid high b h k
 ascend_append low mid high (r ∷ a) b h k = (h.0, ascend_append r.0 mid high a b h.1 k)
 
@@ -22,20 +23,22 @@ ascend_append low mid high (r ∷ a) b h k = (h.0, ascend_append r.0 mid high a 
 pub above_ascend : (l m high : ℕ) (rs : List (ℕ × Payload)) → l ≤ high → Ascend m high rs
     → Ascend l high (above l rs)
 above_ascend l m high [] le a = le
-above_ascend l m high (r ∷ rs) le a = by (nat_lt l r.0) refl (above_ascend l r.0 high rs le a.1) where
-  all_above : (q : ℕ) (rs : List (ℕ × Payload)) → l < q → Ascend q high rs → above l rs ≡ rs
-  all_above q [] lt a = refl
-  all_above q (p ∷ rs) lt a =
-      let more : l < p.0 = omega (arith, lt, a.0) in
-      let passes : nat_lt l p.0 ≡ true = grind (arith, more) in
-      ap (λ b. cond b (p ∷ above l rs) (above l rs)) passes ∙ ap (λ l. p ∷ l) (all_above p.0 rs more a.1)
+above_ascend l m high (r ∷ rs) le a =
+    by (nat_lt l r.0) refl (above_ascend l r.0 high rs le a.1) where
+      all_above : (q : ℕ) (rs : List (ℕ × Payload)) → l < q → Ascend q high rs → above l rs ≡ rs
+      all_above q [] lt a = refl
+      all_above q (p ∷ rs) lt a =
+          let more : l < p.0 = omega (arith, lt, a.0) in
+          let passes : nat_lt l p.0 ≡ true = grind (arith, more) in
+          ap (λ b. cond b (p ∷ above l rs) (above l rs)) passes
+          ∙ ap (λ l. p ∷ l) (all_above p.0 rs more a.1)
 
-  by : (b : Bool) → nat_lt l r.0 ≡ b → Ascend l high (above l rs)
-      → Ascend l high (cond b (r ∷ above l rs) (above l rs))
-  by false e later = later
-  by true e later =
-      let lt : l < r.0 = grind (arith, e) in
-      (omega (arith, lt), subst (Ascend r.0 high) (sym (all_above r.0 rs lt a.1)) a.1)
+      by : (b : Bool) → nat_lt l r.0 ≡ b → Ascend l high (above l rs)
+          → Ascend l high (cond b (r ∷ above l rs) (above l rs))
+      by false e later = later
+      by true e later =
+          let lt : l < r.0 = grind (arith, e) in
+          (omega (arith, lt), subst (Ascend r.0 high) (sym (all_above r.0 rs lt a.1)) a.1)
 
 -- those up to a number
 pub up_to_ascend : (m high h : ℕ) (rs : List (ℕ × Payload)) → m ≤ h → Ascend m high rs
@@ -45,7 +48,8 @@ up_to_ascend m high h (r ∷ rs) le a =
     by (nat_le r.0 h) refl (up_to_ascend m high h rs le (lower m r.0 high rs a.0 a.1))
     (λ here. up_to_ascend r.0 high h rs here a.1) where
       by : (b : Bool) → nat_le r.0 h ≡ b → Ascend m h (up_to h rs)
-          → (r.0 ≤ h → Ascend r.0 h (up_to h rs)) → Ascend m h (cond b (r ∷ up_to h rs) (up_to h rs))
+          → (r.0 ≤ h → Ascend r.0 h (up_to h rs))
+          → Ascend m h (cond b (r ∷ up_to h rs) (up_to h rs))
       by false e later other = later
       by true e later other = (a.0, other (grind (arith, e)))
 

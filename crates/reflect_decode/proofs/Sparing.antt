@@ -128,7 +128,9 @@ module _ (inner : Takes) (m : MessageDescriptor) where
         extended = extended_apart inner m old.extensions new.extensions number run (λ x owned free e. free g owns (sym e)) extensions;
         unknown = keeps_declared m old.unknown new.unknown number run unknown (field_declared m g number owns refl);
         ordered = λ before. record {
-          fields = numbered_put n within old.fields new.fields rising (λ k other. by k other (is_or_not (sibling g room) k)) before.fields;
+          fields =
+              numbered_put n within old.fields new.fields rising
+              (λ k other. by k other (is_or_not (sibling g room) k)) before.fields;
           extensions = subst AreNumbered (sym extensions) before.extensions;
           unknown = subst (Ascend 1 last) (sym unknown) before.unknown;
         };
@@ -184,7 +186,9 @@ module _ (inner : Takes) (m : MessageDescriptor) where
         unknown = keeps_declared m old.unknown new.unknown key.number h.0 unknown (inr (x, owns, is));
         ordered = λ before. record {
           fields = subst AreNumbered (sym fields) before.fields;
-          extensions = numbered_put key.number within old.extensions new.extensions rising (λ k other. inl (others k other)) before.extensions;
+          extensions =
+              numbered_put key.number within old.extensions new.extensions rising
+              (λ k other. inl (others k other)) before.extensions;
           unknown = subst (Ascend 1 last) (sym unknown) before.unknown;
         };
       },

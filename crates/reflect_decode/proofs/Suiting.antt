@@ -1,5 +1,5 @@
 -- What suits a message's type stays so while records are taken in.
-use Rattle.std.proofs.Common.{◌≡◌, ◌⊎◌, inl, inr, ℕ, zero, suc, Bool, true, false, List, [], ◌∷◌, Option, None, Some, ◌+◌, refl, sym, ap, subst, arith}
+use Rattle.std.proofs.Common.{◌≡◌, ◌⊎◌, inl, inr, ℕ, zero, suc, Bool, true, false, List, [], ◌∷◌, Option, None, Some, option_map, ◌+◌, refl, sym, ap, ◌∙◌, subst, arith}
 use Rattle.std.specs.Option.{IsSome, is_some}
 use Rattle.reflect_entries.specs.Entries.{value_at}
 use Rattle.reflect_tables.specs.Types.{PoolType, FieldType, KindType, double, float, int32, int64, uint32, uint64, sint32, sint64, fixed32, fixed64, sfixed32, sfixed64, bool, string, bytes, message, enumeration}
@@ -13,12 +13,16 @@ use Rattle.reflect_wire.specs.Records.{Payload}
 use Rattle.reflect_scalar.specs.FieldTypes.{field_pool, extension_pool, extension_type}
 use Rattle.reflect_scalar.specs.Floats.{IsFloat, HoldsFloats}
 use Rattle.reflect_message.specs.Contents.{Content, content_of, nothing}
+use Rattle.reflect_message.specs.Copies.{IsCopy}
 use Rattle.reflect_message.specs.Declares.{Owns}
 use Rattle.reflect_message.specs.KindTypes.{IsScalarType, IsMessageType}
 use Rattle.reflect_message.specs.Messages.{message_in, IsStart}
 use Rattle.reflect_message.specs.Oneofs.{AreChosen}
+use Rattle.reflect_message.specs.Trees.{tree}
 use Rattle.reflect_message.specs.declared.message.DynamicMessage.{DynamicMessage}
 use Rattle.reflect_message.specs.declared.value.Value.{Value}
+use Rattle.reflect_message.proofs.Alike.{content_alike, list_alike, map_alike, message_alike}
+use Rattle.reflect_message.proofs.Copying.{chosen_copied}
 use Rattle.reflect_decode.specs.Fields.{LeavesField}
 use Rattle.reflect_decode.specs.Levels.{TakenAt, TakesAt, MergesAt}
 use Rattle.reflect_decode.specs.Maps.{ChangesPart}
@@ -152,3 +156,57 @@ pub suits_below : (below levels : ℕ) → below + 1 ≡ levels → (m : Message
 suits_below below levels e m c h =
     let above : suc below ≡ levels = omega (arith, e) in
     subst (λ l. SuitsBelow l m c) (sym above) h
+
+module _ (levels : ℕ)
+    (keeps : (m : MessageDescriptor) (a b : Content) → IsCopy a b → SuitsBelow levels m a
+    → SuitsBelow levels m b) where
+  one_copied : (pool : PoolType) (t : KindType) (v w : Value) → tree w ≡ tree v
+      → IsSuiting (SuitsBelow levels) pool t v → IsSuiting (SuitsBelow levels) pool t w
+  one_copied pool t v w e (m, is, kind, suits) =
+      let n = message_alike v w e m is in
+      let copied = content_alike m n.0 n.3 in
+      let inner = keeps m.descriptor (content_of m) (content_of n.0) copied suits in (
+        n.0,
+        n.1,
+        subst (λ d. IsKind pool (kinds.Message d) t) (sym n.2) kind,
+        subst (λ d. SuitsBelow levels d (content_of n.0)) (sym n.2) inner,
+      )
+
+  as_copied : (pool : PoolType) (t : KindType) (keyed listed : Bool) (v w : Value) → tree w ≡ tree v
+      → SuitsAs (SuitsBelow levels) pool t keyed listed v
+      → SuitsAs (SuitsBelow levels) pool t keyed listed w
+  as_copied pool t true listed v w e suits = map_alike v w e ∙ suits
+  as_copied pool t false true v w e suits = list_alike v w e ∙ suits
+  as_copied pool t false false v w e suits = λ type. one_copied pool t v w e (suits type)
+
+  held_copied : (pool : PoolType) (f : FieldType) (o p : Option Value)
+      → option_map tree p ≡ option_map tree o → HeldSuits (SuitsBelow levels) pool f o → HeldSuits (SuitsBelow levels) pool f p
+  held_copied pool f o None e suits = tt
+  held_copied pool f None (Some w) e suits = absurd (cc e)
+  held_copied pool f (Some v) (Some w) e suits =
+      let same : tree w ≡ tree v = cc e in
+      as_copied pool f.kind (holds_map pool f) (holds_list pool f) v w same suits
+
+  copied_by : (m : MessageDescriptor) (a b : Content) → IsCopy a b → SuitsBy (SuitsBelow levels) m a
+      → SuitsBy (SuitsBelow levels) m b
+  copied_by m a b copied suits = record {
+    chosen =
+        chosen_copied m a.choices b.choices a.fields b.fields copied.choices copied.fields suits.chosen;
+    fields = λ f owns.
+        held_copied (field_pool f) (field_type f) _ _ (copied.fields (field_type f).number)
+        (suits.fields f owns);
+    extensions = λ x owns free.
+        held_copied (extension_pool x) (extension_type x) _ _
+        (copied.extensions (extension_type x).number) (suits.extensions x owns free);
+  }
+
+below_copied : (levels : ℕ) (m : MessageDescriptor) (a b : Content) → IsCopy a b
+    → SuitsBelow levels m a → SuitsBelow levels m b
+below_copied zero m a b copied suits = tt
+below_copied (suc levels) m a b copied suits =
+    copied_by levels (below_copied levels) m a b copied suits
+
+-- what suits a type suits it in a copy
+pub copy_suits : (levels : ℕ) (m : MessageDescriptor) (a b : Content) → IsCopy a b
+    → SuitsBy (SuitsBelow levels) m a → SuitsBy (SuitsBelow levels) m b
+copy_suits levels m a b copied suits = copied_by levels (below_copied levels) m a b copied suits

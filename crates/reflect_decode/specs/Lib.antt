@@ -4,11 +4,11 @@ pub mod Fields
 pub mod Keeps
 pub mod Levels
 pub mod Maps
-pub mod Merged
 pub mod Merging
 pub mod Messages
 pub mod Ordered
 pub mod Packed
+pub mod Reading
 pub mod Refused
 pub mod Scalars
 pub mod Spares

@@ -1,26 +1,20 @@
 -- What records leave in maps (protobuf.dev, "Encoding", Maps): each is an entry, whose key is its field 1 and whose value its field 2.
 use Rattle.std.specs.Prelude.{◌≡◌, ℕ, List, [], ◌∷◌, Option, None, Some}
 use Rattle.std.specs.BTreeMap.{insert_entry}
-use Rattle.std.specs.declared.cmp.Ordering.{Ordering}
 use Rattle.reflect_tables.specs.Types.{PoolType, FieldType, KindType}
 use Rattle.reflect_wire.specs.Records.{Payload}
 use Rattle.reflect_scalar.specs.Defaults.{default_in}
 use Rattle.reflect_scalar.specs.Keys.{key_view}
 use Rattle.reflect_scalar.specs.Singles.{Single}
 use Rattle.reflect_scalar.specs.declared.map_key.MapKey.{MapKey}
-use Rattle.reflect_scalar.specs.contracts.map_key.MapKeyOrd.TheImpl.{ghosts}
 use Rattle.reflect_decode.specs.Keeps.{payloads}
 use Rattle.reflect_message.specs.Known.{entry_field}
 use Rattle.reflect_decode.specs.Messages.{Takes, MergesMessage}
 use Rattle.reflect_message.specs.KindTypes.{IsScalarType, IsMessageType}
 use Rattle.reflect_decode.specs.Scalars.{IsLast}
 use Rattle.reflect_message.specs.Singles.{single}
-use Rattle.reflect_message.specs.Maps.{entries_held}
+use Rattle.reflect_message.specs.Maps.{entries_held, key_order}
 use Rattle.reflect_message.specs.declared.value.Value.{Value}
-
--- the order of keys
-abbrev pub key_order : MapKey → MapKey → Ordering
-key_order = ghosts.cmp
 
 -- what the records of a field leave as its single value: its default where there are none, else what the last one means
 abbrev pub LeavesSingle : PoolType → FieldType → Option Single → List Payload → Type 0

@@ -6,7 +6,8 @@ use Rattle.reflect_wire.specs.Records.{Payload}
 use Rattle.reflect_message.specs.Contents.{Content}
 use Rattle.reflect_message.specs.declared.value.Value.{Value}
 
--- the highest number that a field may have (protobuf.dev, "Language Guide", Assigning Field Numbers)
+-- the highest number that a field may have
+-- (protobuf.dev, "Language Guide", Assigning Field Numbers)
 abbrev pub last : ℕ
 last = 2 ^ 29 - 1
 

@@ -44,8 +44,8 @@ pub record FillsExtensions (inner : Takes) (m : MessageDescriptor) (old new : Li
   pub each : (x : ExtensionDescriptor) → OwnsExtension m x → LeavesExtension inner m x (value_at old (extension_type x).number) (value_at new (extension_type x).number) read
   pub behind : (f : FieldDescriptor) → Owns m f → Same old new (field_type f).number
 
--- the records are taken in: what they do not name stays, those of undeclared numbers are kept, and what was in the order of
--- its numbers stays so
+-- the records are taken in: what they do not name stays, those of undeclared numbers are kept, and
+-- what was in the order of its numbers stays so
 pub record Merges (inner : Takes) (m : MessageDescriptor) (old new : Content) (read : List (ℕ × Payload)) : Type 0 where
   pub fields : SparesFields m old.fields new.fields read
   pub filled : AreChosen m old.choices old.fields → FillsFields inner m old new read

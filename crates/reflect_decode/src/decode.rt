@@ -1,40 +1,28 @@
 //! From wire bytes to a message, record by record.
 
-ghost use Rattle.std.specs.Prelude.{◌≡◌, ◌≢◌, ℕ, ◌+◌, ◌<◌, ◌≤◌, List, [], ◌∷◌, ◌++◌, None, Some, length, IfOk, IfErr, OnOk, OnErr, IfSome};
+ghost use Rattle.std.specs.Prelude.{◌≡◌, ◌≢◌, ℕ, ◌+◌, ◌<◌, ◌≤◌, List, [], None, Some, length, IfOk, IfErr, OnOk, OnErr, IfSome};
 ghost use Rattle.std.specs.BTreeMap.{insert_entry};
-ghost use Rattle.std.specs.List.{AllByRecursion};
 ghost use Rattle.std.specs.Option.{IsSome};
 ghost use Rattle.reflect_wire.specs.Faults.{Tells, ValueFault};
 ghost use Rattle.reflect_wire.specs.Key.{IsKey};
 ghost use Rattle.reflect_wire.specs.Reads.{Fronts, Refuses, RefusesWhole};
-ghost use Rattle.reflect_wire.specs.Records.{Payload, IsValue, SpellsRecords};
-ghost use Rattle.reflect_wire.specs.Views.{field_view, records_of};
+ghost use Rattle.reflect_wire.specs.Records.{IsValue};
+ghost use Rattle.reflect_wire.specs.Views.{field_view};
 ghost use Rattle.reflect_wire.specs.declared.wire_error.WireError.TheVariants.{TooDeep};
 ghost use Rattle.reflect_wire.specs.declared.wire_key.WireType.TheVariants.{Varint};
-ghost use Rattle.reflect_tables.specs.Types.{PoolType, KindType};
 ghost use Rattle.reflect_pool.specs.FieldsLeft.{field_type};
-ghost use Rattle.reflect_pool.specs.Kinds.{IsKind};
 ghost use Rattle.reflect_entries.specs.Entries.{IsAscending, value_at};
-ghost use Rattle.reflect_entries.specs.Sets.{with_record};
 ghost use Rattle.reflect_entries.specs.Undeclared.{undeclared};
 ghost use Rattle.reflect_scalar.specs.FieldTypes.{field_pool, either_pool, either_type};
 ghost use Rattle.reflect_scalar.specs.Kinds.{wire_type};
 ghost use Rattle.reflect_scalar.specs.Singles.{Single};
 ghost use Rattle.reflect_message.specs.Contents.{content_of, content_in};
-ghost use Rattle.reflect_decode.specs.Accepts.{Accepts, AcceptsElement, AcceptsEntry, AcceptsField, AcceptsMessage, AcceptsOne, declared_at};
-ghost use Rattle.reflect_decode.specs.Elements.{Appends, ContinuesList};
-ghost use Rattle.reflect_decode.specs.Levels.{TakenAt, TakesAt, MergesAt};
-ghost use Rattle.reflect_decode.specs.Keeps.{payloads};
-ghost use Rattle.reflect_decode.specs.Maps.{ChangesPart, ContinuesMap, LeavesKey, LeavesValue, PutEntries, key_order};
-ghost use Rattle.reflect_decode.specs.Merging.{IsBody, IsRun, run_records};
 ghost use Rattle.reflect_decode.specs.Packed.{IsPacked, PackedFault, Continues};
+ghost use Rattle.reflect_decode.specs.Reading.{KeepsRecord, ReadsBody, ReadsElement, ReadsEntries, ReadsEntry, ReadsEntryRecord, ReadsField, ReadsList, ReadsMap, ReadsMessage, ReadsPart, ReadsRecord, TellsBody, TellsElement, TellsEntries, TellsEntryRecord, TellsField, TellsList, TellsMessage, TellsPart, TellsRecord};
 ghost use Rattle.reflect_message.specs.KindTypes.{IsMessageType};
 ghost use Rattle.reflect_message.specs.Held.{Same};
-ghost use Rattle.reflect_message.specs.Lists.{list_items};
-ghost use Rattle.reflect_message.specs.Maps.{map_entries};
-ghost use Rattle.reflect_decode.specs.Refused.{BodyFault, ElementFault, EntryFault, FieldFault, MapFault, MessageFault, OneFault, PartFault, RecordFault, RunFault, Within};
-ghost use Rattle.reflect_decode.specs.Suits.{HeldSuits, PartSuits, Suits, SuitsBelow};
-ghost use Rattle.reflect_decode.specs.Taking.{Leaves};
+ghost use Rattle.reflect_message.specs.Maps.{key_order, map_entries};
+ghost use Rattle.reflect_decode.specs.Refused.{EntryFault, Within};
 
 use reflect_entries::{Entries, UnknownRecords};
 use reflect_message::{
@@ -107,10 +95,11 @@ pub fn merge_body<'p, 'b>(
 ) -> Result<&'b [u8], WireError>
     requires nested { levels ≤ 100 }
     ensures same_type { message.new.descriptor ≡ message.old.descriptor }
-    ensures read { IfOk result (λ rest. (rs : List (ℕ × Payload)) × Fronts (IsBody group levels) bytes.now rs rest.now × MergesAt levels message.old.descriptor (content_of message.old) (content_of message.new) rs × (Suits levels message.old.descriptor (content_of message.old) → Accepts levels message.old.descriptor rs)) }
+    ensures read { ReadsBody levels group message.old.descriptor (content_of message.old)
+        (content_of message.new) bytes.now result }
     ensures whole { group ≡ None → IfOk result (λ rest. rest.now ≡ []) }
     ensures shorter { IfOk result (λ rest. length rest.now ≤ length bytes.now) }
-    ensures fault { Suits levels message.old.descriptor (content_of message.old) → IfErr result (Tells (BodyFault levels message.old.descriptor.pool.now message.old.descriptor.index group) bytes.now) }
+    ensures fault { TellsBody levels group message.old.descriptor (content_of message.old) bytes.now result }
 {
     if bytes.is_empty() && group.is_none() {
         return Ok(bytes);
@@ -139,10 +128,11 @@ fn merge_records<'p, 'b>(
     levels: u32,
 ) -> Result<&'b [u8], WireError>
     requires nested { levels ≤ 100 }
-    ensures read { IfOk result (λ rest. (rs : List (ℕ × Payload)) × Fronts (IsBody group levels) bytes.now rs rest.now × MergesAt levels descriptor.entry (content_in parts.old) (content_in parts.new) rs × (Suits levels descriptor.entry (content_in parts.old) → Accepts levels descriptor.entry rs)) }
+    ensures read { ReadsBody levels group descriptor.entry (content_in parts.old) (content_in parts.new)
+        bytes.now result }
     ensures whole { group ≡ None → IfOk result (λ rest. rest.now ≡ []) }
     ensures shorter { IfOk result (λ rest. length rest.now ≤ length bytes.now) }
-    ensures fault { Suits levels descriptor.entry (content_in parts.old) → IfErr result (Tells (BodyFault levels descriptor.entry.pool.now descriptor.entry.index group) bytes.now) }
+    ensures fault { TellsBody levels group descriptor.entry (content_in parts.old) bytes.now result }
 {
     let mut rest = bytes;
     'records: while !rest.is_empty() {
@@ -174,9 +164,11 @@ fn merge_record<'p, 'b>(
     descriptor: MessageDescriptor<'p>,
     raw: RawRecord<'b>,
 ) -> Result<&'b [u8], WireError>
-    ensures read { IfOk result (λ rest. (run : List Payload × Payload) × Fronts (IsRun raw.entry.levels raw.entry.key) raw.entry.bytes.now run rest.now × MergesAt raw.entry.levels descriptor.entry (content_in parts.old) (content_in parts.new) (run_records raw.entry.key.number run) × (Suits raw.entry.levels descriptor.entry (content_in parts.old) → Accepts raw.entry.levels descriptor.entry (run_records raw.entry.key.number run))) }
+    ensures read { ReadsRecord raw.entry.levels raw.entry.key descriptor.entry (content_in parts.old)
+        (content_in parts.new) raw.entry.bytes.now result }
     ensures shorter { IfOk result (λ rest. length rest.now ≤ length raw.entry.bytes.now) }
-    ensures fault { Suits raw.entry.levels descriptor.entry (content_in parts.old) → IfErr result (Tells (RunFault raw.entry.levels raw.entry.key (RecordFault raw.entry.levels (Within raw.entry.levels) descriptor.entry.pool.now (declared_at descriptor.entry.pool.now descriptor.entry.index raw.entry.key.number) raw.entry.key)) raw.entry.bytes.now) }
+    ensures fault { TellsRecord raw.entry.levels raw.entry.key descriptor.entry (content_in parts.old)
+        raw.entry.bytes.now result }
 {
     let number = raw.key.number;
     if let Some(field) = declared_field(descriptor, number) {
@@ -212,7 +204,8 @@ fn keep_unknown<'b>(
     alloc: Global,
     raw: RawRecord<'b>,
 ) -> Result<&'b [u8], WireError>
-    ensures kept { IfOk result (λ rest. (p : Payload) × Fronts (IsValue raw.entry.levels raw.entry.key) raw.entry.bytes.now p rest.now × (undeclared unknown.new ≡ with_record (undeclared unknown.old) (raw.entry.key.number, p))) }
+    ensures kept { KeepsRecord raw.entry.levels raw.entry.key (undeclared unknown.old) (undeclared unknown.new)
+        raw.entry.bytes.now result }
     ensures err { IfErr result (Refuses (IsValue raw.entry.levels raw.entry.key) raw.entry.bytes.now) }
     ensures fault { IfErr result (Tells (ValueFault raw.entry.levels raw.entry.key) raw.entry.bytes.now) }
     ensures left { OnErr result (undeclared unknown.new ≡ undeclared unknown.old) }
@@ -235,9 +228,14 @@ fn merge_field<'p, 'b>(
 ) -> Result<&'b [u8], WireError>
     ensures ascending { IsAscending content.old → IsAscending content.new }
     ensures others { (n : ℕ) → n ≢ raw.entry.key.number → Same content.old content.new n }
-    ensures read { IfOk result (λ rest. (run : List Payload × Payload) × Fronts (IsRun raw.entry.levels raw.entry.key) raw.entry.bytes.now run rest.now × Leaves (TakesAt raw.entry.levels) (either_pool field.entry) (either_type field.entry) (value_at content.old raw.entry.key.number) (value_at content.new raw.entry.key.number) (run.0 ++ run.1 ∷ []) × (HeldSuits (SuitsBelow raw.entry.levels) (either_pool field.entry) (either_type field.entry) (value_at content.old raw.entry.key.number) → AllByRecursion (AcceptsField raw.entry.levels (AcceptsMessage raw.entry.levels) (either_pool field.entry) (either_type field.entry)) (run.0 ++ run.1 ∷ []))) }
+    ensures read { ReadsField raw.entry.levels raw.entry.key (either_pool field.entry)
+        (either_type field.entry)
+        (value_at content.old raw.entry.key.number) (value_at content.new raw.entry.key.number)
+        raw.entry.bytes.now result }
     ensures shorter { IfOk result (λ rest. length rest.now ≤ length raw.entry.bytes.now) }
-    ensures fault { HeldSuits (SuitsBelow raw.entry.levels) (either_pool field.entry) (either_type field.entry) (value_at content.old raw.entry.key.number) → IfErr result (Tells (RunFault raw.entry.levels raw.entry.key (FieldFault raw.entry.levels (Within raw.entry.levels) (either_pool field.entry) (either_type field.entry) raw.entry.key)) raw.entry.bytes.now) }
+    ensures fault { TellsField raw.entry.levels raw.entry.key (either_pool field.entry)
+        (either_type field.entry)
+        (value_at content.old raw.entry.key.number) raw.entry.bytes.now result }
 {
     let number = raw.key.number;
     let kind = field.kind();
@@ -276,9 +274,11 @@ fn merge_message<'p, 'b>(
     raw: RawRecord<'b>,
 ) -> Result<&'b [u8], WireError>
     ensures same_type { message.new.descriptor ≡ message.old.descriptor }
-    ensures read { IfOk result (λ rest. (p : Payload) × Fronts (IsValue raw.entry.levels raw.entry.key) raw.entry.bytes.now p rest.now × TakenAt raw.entry.levels is_group message.old.descriptor (content_of message.old) (content_of message.new) (p ∷ []) × (SuitsBelow raw.entry.levels message.old.descriptor (content_of message.old) → AcceptsMessage raw.entry.levels is_group message.old.descriptor.pool.now message.old.descriptor.index p)) }
+    ensures read { ReadsMessage raw.entry.levels raw.entry.key is_group message.old.descriptor
+        (content_of message.old) (content_of message.new) raw.entry.bytes.now result }
     ensures shorter { IfOk result (λ rest. length rest.now ≤ length raw.entry.bytes.now) }
-    ensures fault { SuitsBelow raw.entry.levels message.old.descriptor (content_of message.old) → IfErr result (Tells (MessageFault (Within raw.entry.levels) is_group message.old.descriptor.pool.now message.old.descriptor.index raw.entry.key) raw.entry.bytes.now) }
+    ensures fault { TellsMessage raw.entry.levels raw.entry.key is_group message.old.descriptor
+        (content_of message.old) raw.entry.bytes.now result }
 {
     match raw.key.wire {
         WireType::LengthDelimited if !is_group => {
@@ -304,9 +304,11 @@ fn merge_list<'p, 'b>(
     is_group: bool,
     raw: RawRecord<'b>,
 ) -> Result<&'b [u8], WireError>
-    ensures read { IfOk result (λ rest. (run : List Payload × Payload) × Fronts (IsRun raw.entry.levels raw.entry.key) raw.entry.bytes.now run rest.now × ContinuesList (TakenAt raw.entry.levels is_group) kind.now (Some list.old) (Some list.new) (run.0 ++ run.1 ∷ []) × AllByRecursion (AcceptsElement (AcceptsMessage raw.entry.levels) is_group kind.now) (run.0 ++ run.1 ∷ [])) }
+    ensures read { ReadsList raw.entry.levels raw.entry.key is_group kind.now list.old list.new
+        raw.entry.bytes.now result }
     ensures shorter { IfOk result (λ rest. length rest.now ≤ length raw.entry.bytes.now) }
-    ensures fault { IsSome (list_items list.old) → IfErr result (Tells (RunFault raw.entry.levels raw.entry.key (ElementFault (Within raw.entry.levels) is_group kind.now raw.entry.key)) raw.entry.bytes.now) }
+    ensures fault { TellsList raw.entry.levels raw.entry.key is_group kind.now list.old
+        raw.entry.bytes.now result }
 {
     let Value::List(values) = list else {
         return Err(WireError::BadWireType);
@@ -330,9 +332,10 @@ fn merge_element<'p, 'b>(
     is_group: bool,
     raw: RawRecord<'b>,
 ) -> Result<&'b [u8], WireError>
-    ensures read { IfOk result (λ rest. (p : Payload) × Fronts (IsValue raw.entry.levels raw.entry.key) raw.entry.bytes.now p rest.now × Appends (TakenAt raw.entry.levels is_group) kind.now values.old.items values.new.items p × AcceptsElement (AcceptsMessage raw.entry.levels) is_group kind.now p) }
+    ensures read { ReadsElement raw.entry.levels raw.entry.key is_group kind.now values.old.items
+        values.new.items raw.entry.bytes.now result }
     ensures shorter { IfOk result (λ rest. length rest.now ≤ length raw.entry.bytes.now) }
-    ensures fault { IfErr result (Tells (ElementFault (Within raw.entry.levels) is_group kind.now raw.entry.key) raw.entry.bytes.now) }
+    ensures fault { TellsElement raw.entry.levels raw.entry.key is_group kind.now raw.entry.bytes.now result }
 {
     if let Kind::Message(inner) = kind {
         let mut message = DynamicMessage::new(alloc, *inner);
@@ -430,9 +433,10 @@ fn merge_map<'p, 'b>(
     kind: &Kind<'p>,
     raw: RawRecord<'b>,
 ) -> Result<&'b [u8], WireError>
-    ensures read { IfOk result (λ rest. (run : List Payload × Payload) × Fronts (IsRun raw.entry.levels raw.entry.key) raw.entry.bytes.now run rest.now × ((pool : PoolType) (t : KindType) → IsKind pool kind.now t → ContinuesMap (TakesAt raw.entry.levels) pool t (Some map.old) (Some map.new) (run.0 ++ run.1 ∷ [])) × ((pool : PoolType) (t : KindType) → IsKind pool kind.now t → AllByRecursion (AcceptsEntry raw.entry.levels (AcceptsMessage raw.entry.levels) pool t) (run.0 ++ run.1 ∷ []))) }
+    ensures read { ReadsMap raw.entry.levels raw.entry.key kind.now map.old map.new raw.entry.bytes.now result }
     ensures shorter { IfOk result (λ rest. length rest.now ≤ length raw.entry.bytes.now) }
-    ensures fault { IsSome (map_entries map.old) → (pool : PoolType) (t : KindType) → IsKind pool kind.now t → IfErr result (Tells (RunFault raw.entry.levels raw.entry.key (MapFault raw.entry.levels (Within raw.entry.levels) pool t raw.entry.key)) raw.entry.bytes.now) }
+    ensures fault { IsSome (map_entries map.old)
+        → TellsEntries raw.entry.levels raw.entry.key kind.now raw.entry.bytes.now result }
 {
     match map {
         Value::Map(entries) => merge_entries(entries, alloc, kind, raw),
@@ -448,9 +452,10 @@ fn merge_entries<'p, 'b>(
     kind: &Kind<'p>,
     raw: RawRecord<'b>,
 ) -> Result<&'b [u8], WireError>
-    ensures read { IfOk result (λ rest. (run : List Payload × Payload) × Fronts (IsRun raw.entry.levels raw.entry.key) raw.entry.bytes.now run rest.now × ((pool : PoolType) (t : KindType) → IsKind pool kind.now t → PutEntries (TakesAt raw.entry.levels) pool t entries.old.entries entries.new.entries (run.0 ++ run.1 ∷ [])) × ((pool : PoolType) (t : KindType) → IsKind pool kind.now t → AllByRecursion (AcceptsEntry raw.entry.levels (AcceptsMessage raw.entry.levels) pool t) (run.0 ++ run.1 ∷ []))) }
+    ensures read { ReadsEntries raw.entry.levels raw.entry.key kind.now entries.old.entries
+        entries.new.entries raw.entry.bytes.now result }
     ensures shorter { IfOk result (λ rest. length rest.now ≤ length raw.entry.bytes.now) }
-    ensures fault { (pool : PoolType) (t : KindType) → IsKind pool kind.now t → IfErr result (Tells (RunFault raw.entry.levels raw.entry.key (MapFault raw.entry.levels (Within raw.entry.levels) pool t raw.entry.key)) raw.entry.bytes.now) }
+    ensures fault { TellsEntries raw.entry.levels raw.entry.key kind.now raw.entry.bytes.now result }
 {
     if raw.key.wire != WireType::LengthDelimited {
         return Err(WireError::BadWireType);
@@ -509,8 +514,10 @@ fn entry_of<'p>(
     levels: u32,
 ) -> Result<(MapKey, Value<'p>), WireError>
     requires nested { levels ≤ 100 }
-    ensures read { IfOk result (λ e. (rs : List (ℕ × Payload)) × SpellsRecords levels body.now (records_of rs) × LeavesKey (field_pool keys.entry) (field_type keys.entry) e.0 (payloads 1 rs) × LeavesValue (TakesAt levels) (field_pool values.entry) (field_type values.entry) e.1 (payloads 2 rs) × (IsMessageType (field_type values.entry).kind → 0 < levels) × AllByRecursion (AcceptsOne (AcceptsMessage levels) (field_pool keys.entry) (field_type keys.entry)) (payloads 1 rs) × AllByRecursion (AcceptsOne (AcceptsMessage levels) (field_pool values.entry) (field_type values.entry)) (payloads 2 rs)) }
-    ensures fault { IfErr result (Tells (EntryFault levels (Within levels) (field_pool keys.entry) (field_type keys.entry) (field_pool values.entry) (field_type values.entry)) body.now) }
+    ensures read { ReadsEntry levels (field_pool keys.entry) (field_type keys.entry)
+        (field_pool values.entry) (field_type values.entry) body.now result }
+    ensures fault { IfErr result (Tells (EntryFault levels (Within levels) (field_pool keys.entry)
+        (field_type keys.entry) (field_pool values.entry) (field_type values.entry)) body.now) }
 {
     check_level(&values, levels)?;
     let mut held_key = default_one(alloc, &keys)?;
@@ -537,9 +544,13 @@ fn merge_entry<'p, 'b>(
     values: &FieldDescriptor<'p>,
     raw: RawRecord<'b>,
 ) -> Result<&'b [u8], WireError>
-    ensures read { IfOk result (λ rest. (p : Payload) × Fronts (IsValue raw.entry.levels raw.entry.key) raw.entry.bytes.now p rest.now × ChangesPart (TakesAt raw.entry.levels) (field_pool keys.now) (field_type keys.now) held_key.old held_key.new (payloads 1 ((raw.entry.key.number, p) ∷ [])) × ChangesPart (TakesAt raw.entry.levels) (field_pool values.now) (field_type values.now) value.old value.new (payloads 2 ((raw.entry.key.number, p) ∷ [])) × (PartSuits raw.entry.levels (field_pool keys.now) (field_type keys.now) held_key.old → AllByRecursion (AcceptsOne (AcceptsMessage raw.entry.levels) (field_pool keys.now) (field_type keys.now)) (payloads 1 ((raw.entry.key.number, p) ∷ []))) × (PartSuits raw.entry.levels (field_pool values.now) (field_type values.now) value.old → AllByRecursion (AcceptsOne (AcceptsMessage raw.entry.levels) (field_pool values.now) (field_type values.now)) (payloads 2 ((raw.entry.key.number, p) ∷ [])))) }
+    ensures read { ReadsEntryRecord raw.entry.levels raw.entry.key (field_pool keys.now) (field_type keys.now)
+        (field_pool values.now) (field_type values.now) (held_key.old, value.old)
+        (held_key.new, value.new) raw.entry.bytes.now result }
     ensures shorter { IfOk result (λ rest. length rest.now ≤ length raw.entry.bytes.now) }
-    ensures fault { PartSuits raw.entry.levels (field_pool keys.now) (field_type keys.now) held_key.old → PartSuits raw.entry.levels (field_pool values.now) (field_type values.now) value.old → IfErr result (Tells (PartFault raw.entry.levels (Within raw.entry.levels) (field_pool keys.now) (field_type keys.now) (field_pool values.now) (field_type values.now) raw.entry.key) raw.entry.bytes.now) }
+    ensures fault { TellsEntryRecord raw.entry.levels raw.entry.key (field_pool keys.now) (field_type keys.now)
+        (field_pool values.now) (field_type values.now) (held_key.old, value.old)
+        raw.entry.bytes.now result }
 {
     match raw.key.number {
         1 => merge_part(held_key, alloc, keys, raw),
@@ -556,9 +567,11 @@ fn merge_part<'p, 'b>(
     field: &FieldDescriptor<'p>,
     raw: RawRecord<'b>,
 ) -> Result<&'b [u8], WireError>
-    ensures read { IfOk result (λ rest. (p : Payload) × Fronts (IsValue raw.entry.levels raw.entry.key) raw.entry.bytes.now p rest.now × ChangesPart (TakesAt raw.entry.levels) (field_pool field.now) (field_type field.now) held.old held.new (p ∷ []) × (PartSuits raw.entry.levels (field_pool field.now) (field_type field.now) held.old → AcceptsOne (AcceptsMessage raw.entry.levels) (field_pool field.now) (field_type field.now) p)) }
+    ensures read { ReadsPart raw.entry.levels raw.entry.key (field_pool field.now) (field_type field.now)
+        held.old held.new raw.entry.bytes.now result }
     ensures shorter { IfOk result (λ rest. length rest.now ≤ length raw.entry.bytes.now) }
-    ensures fault { PartSuits raw.entry.levels (field_pool field.now) (field_type field.now) held.old → IfErr result (Tells (OneFault (Within raw.entry.levels) (field_pool field.now) (field_type field.now) raw.entry.key) raw.entry.bytes.now) }
+    ensures fault { TellsPart raw.entry.levels raw.entry.key (field_pool field.now) (field_type field.now)
+        held.old raw.entry.bytes.now result }
 {
     let kind = field.kind();
     if let Kind::Message(_inner) = kind {

@@ -1,6 +1,8 @@
 ghost use Rattle.std.specs.Prelude.{◌≡◌, IfErr, IfOk, OnOk, OnErr};
+ghost use Rattle.reflect_message.specs.Contents.{content_of};
 ghost use Rattle.reflect_message.specs.Oneofs.{IsExclusive};
 ghost use Rattle.reflect_decode.specs.Spelled.{IsSpelled, IsMerged, TellsWhy};
+ghost use Rattle.reflect_decode.specs.Suits.{Suits};
 
 use crate::decode::{MAX_LEVELS, merge_body};
 use reflect_message::{DynamicMessage, MessageParts};
@@ -35,9 +37,12 @@ pub trait DecodeMessage<'p>: Sized {
     /// Refused as `decode` is; the message is then unchanged.
     fn merge(&mut self, bytes: &[u8]) -> Result<(), WireError>
         ensures type_stays { (message self.new).descriptor ≡ (message self.old).descriptor }
-        ensures read { OnOk result (IsMerged (message self.old).descriptor bytes.now (message self.old) (message self.new)) }
+        ensures read { OnOk result (IsMerged (message self.old).descriptor bytes.now (message self.old)
+            (message self.new)) }
         ensures exclusive { IsExclusive (message self.old) → IsExclusive (message self.new) }
-        ensures err { OnErr result (self.new ≡ self.old) };
+        ensures err { OnErr result (self.new ≡ self.old) }
+        ensures fault { Suits 100 (message self.old).descriptor (content_of (message self.old))
+            → IfErr result (TellsWhy (message self.old).descriptor bytes.now) };
 }
 
 impl<'p> DecodeMessage<'p> for DynamicMessage<'p> {

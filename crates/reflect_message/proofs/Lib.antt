@@ -1,6 +1,8 @@
+pub mod Alike
 pub mod Choosing
 pub mod Copying
 pub mod Defaulting
+pub mod Entries
 pub mod Known
 pub mod Lengthening
 pub mod Owning

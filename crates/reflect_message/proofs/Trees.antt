@@ -24,7 +24,7 @@ value_at-map h (e ∷ es) n = by (n == e.0) (value_at-map h es n) where
 places_seen : (es : List (ℕ × Value)) → (λ n. place_of (value_at (map (on_value tree) es) n)) ≡ places es
 places_seen es = fun_ext (λ n. ap place_of (value_at-map tree es n))
 
-parts_folded : (p : Parts) → fold-Parts MessageTree ValueTree ValueTree MessageTree held_step value_step message_step parts_step p ≡ parts_tree p
+pub parts_folded : (p : Parts) → fold-Parts MessageTree ValueTree ValueTree MessageTree held_step value_step message_step parts_step p ≡ parts_tree p
 parts_folded p =
     fold_out-Parts MessageTree ValueTree ValueTree MessageTree held_step value_step message_step parts_step p
     ∙ ap (λ f. parts f p.choices.members (λ n. place_of (value_at (map (on_value tree) p.extensions) n)) (undeclared p.unknown)) (places_seen p.fields)

@@ -1,5 +1,9 @@
 -- Maps, entry by entry.
-use Rattle.std.specs.Prelude.{List, [], Option, None, Some}
+use Rattle.std.specs.Prelude.{◌≡◌, List, [], Option, None, Some}
+use Rattle.std.specs.BTreeMap.{insert_entry}
+use Rattle.std.specs.declared.cmp.Ordering.{Ordering}
+use Rattle.reflect_scalar.specs.Keys.{key_view}
+use Rattle.reflect_scalar.specs.contracts.map_key.MapKeyOrd.TheImpl.{ghosts}
 use Rattle.reflect_scalar.specs.declared.map_key.MapKey.{MapKey}
 use Rattle.reflect_message.specs.declared.value.Value.{Value}
 use Rattle.reflect_message.specs.declared.parts.Held.TheOpen.{Value-F}
@@ -25,3 +29,12 @@ map_entries v = elim (out-Value v) [
 abbrev pub entries_held : Option Value → Option (List (MapKey × Value))
 entries_held None = Some []
 entries_held (Some v) = map_entries v
+
+-- the order of keys
+abbrev pub key_order : MapKey → MapKey → Ordering
+key_order = ghosts.cmp
+
+-- the value is put under a copy of the key
+abbrev pub PutsCopy : MapKey → Value → List (MapKey × Value) → List (MapKey × Value) → Type 0
+PutsCopy key v old new =
+    (copy : MapKey) × (key_view copy ≡ key_view key) × (new ≡ insert_entry key_order old copy v)

@@ -1,5 +1,5 @@
 -- Messages that are values, and what stands for them where there are none.
-use Rattle.std.specs.Prelude.{◌≡◌, List, Option, None, Some}
+use Rattle.std.specs.Prelude.{◌≡◌, Option, None, Some}
 use Rattle.reflect_tables.specs.Types.{PoolType, KindType}
 use Rattle.reflect_pool.specs.Kinds.{IsKind}
 use Rattle.reflect_pool.specs.declared.kind.Kind.TheVariants as kinds

@@ -1,23 +1,26 @@
--- What values and messages hold, without where it lies in memory. Of the entries of maps nothing is told.
-use Rattle.std.specs.Prelude.{ℕ, List, [], ◌∷◌, Option, None, Some, option_map, string_bytes}
+-- What values and messages hold, without where it lies in memory.
+use Rattle.std.specs.Prelude.{ℕ, map, List, [], ◌∷◌, Option, None, Some, option_map, string_bytes}
 use Rattle.reflect_entries.specs.Entries.{value_at}
 use Rattle.reflect_entries.specs.Undeclared.{undeclared}
+use Rattle.reflect_pool.specs.declared.message.MessageDescriptor.{MessageDescriptor}
 use Rattle.reflect_wire.specs.Records.{Payload}
+use Rattle.reflect_scalar.specs.Keys.{key_view}
 use Rattle.reflect_scalar.specs.Singles.{Single, truth, int32, int64, uint32, uint64, text, blob, enumerated}
+use Rattle.reflect_scalar.specs.declared.map_key.MapKey.{MapKey}
 use Rattle.reflect_message.specs.declared.parts.Held.{Held}
 use Rattle.reflect_message.specs.declared.parts.Held.TheFolds.{fold-Held, fold-Value}
 use Rattle.reflect_message.specs.declared.parts.Held.TheOpen.{Held-F, Parts-F, Value-F, DynamicMessage-F}
 use Rattle.reflect_message.specs.declared.parts.Parts.{Parts}
 use Rattle.reflect_message.specs.declared.value.Value.{Value}
 
--- a single value, a message by the place of its type and what it holds, a list, or a map; a message holds values under numbers,
--- the chosen members of oneofs, and records of undeclared numbers
+-- a single value, a message by its type and what it holds, a list, or a map by its entries; a message
+-- holds values under numbers, the chosen members of oneofs, and records of undeclared numbers
 mutual
   pub data ValueTree : Type 0 where
     leaf : Single → ValueTree
-    branch : ℕ → MessageTree → ValueTree
+    branch : MessageDescriptor → MessageTree → ValueTree
     row : Row → ValueTree
-    dictionary : ValueTree
+    dictionary : Dictionary → ValueTree
 
   pub data MessageTree : Type 0 where
     parts : (fields : ℕ → Place) (choices : List (ℕ × ℕ)) (extensions : ℕ → Place) (unknown : List (ℕ × Payload)) → MessageTree
@@ -30,6 +33,10 @@ mutual
     no_values : Row
     more_values : ValueTree → Row → Row
 
+  pub data Dictionary : Type 0 where
+    no_entries : Dictionary
+    more_entries : Single → ValueTree → Dictionary → Dictionary
+
 -- what stands under a number
 abbrev pub place_of : Option ValueTree → Place
 place_of None = empty
@@ -39,6 +46,11 @@ place_of (Some t) = full t
 abbrev pub row_of : List ValueTree → Row
 row_of [] = no_values
 row_of (t ∷ ts) = more_values t (row_of ts)
+
+-- the entries of a map, by ascending key
+abbrev pub dictionary_of : List (Single × ValueTree) → Dictionary
+dictionary_of [] = no_entries
+dictionary_of (e ∷ es) = more_entries e.0 e.1 (dictionary_of es)
 
 -- a message that holds nothing
 abbrev pub nothing_held : MessageTree
@@ -65,11 +77,11 @@ value_step (Value-F.Bytes b) = leaf (blob b.items)
 value_step (Value-F.EnumNumber z) = leaf (enumerated z)
 value_step (Value-F.Message m) = m
 value_step (Value-F.List vs) = row (row_of vs.items)
-value_step (Value-F.Map es) = dictionary
+value_step (Value-F.Map es) = dictionary (dictionary_of (map (λ e. (key_view e.0, e.1)) es.entries))
 
 -- one level of a message
 abbrev pub message_step : DynamicMessage-F MessageTree ValueTree ValueTree MessageTree → ValueTree
-message_step m = branch m.descriptor.index m.held
+message_step m = branch m.descriptor m.held
 
 -- a value, at each depth
 abbrev pub tree : Value → ValueTree
@@ -86,3 +98,7 @@ places entries = λ n. place_of (option_map tree (value_at entries n))
 -- the parts of a message, at each depth
 abbrev pub parts_tree : Parts → MessageTree
 parts_tree p = parts (places p.fields) p.choices.members (places p.extensions) (undeclared p.unknown)
+
+-- an entry of a map, at each depth
+abbrev pub entry_tree : MapKey × Value → Single × ValueTree
+entry_tree e = (key_view e.0, tree e.1)

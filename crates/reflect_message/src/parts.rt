@@ -141,10 +141,11 @@ impl<'p> Parts<'p> {
         Ok(())
     }
 
-    /// Unsets the other members of the oneof of a field, for whose choice there is room.
+    /// Unsets the other members of the oneof of a field, for whose choice there is room. Numbers that
+    /// ascend still do.
     pub fn clear_siblings(&mut self, field: &FieldDescriptor<'p>)
-        ensures ascending { IsAscending self.old.fields → IsAscending self.new.fields }
         ensures unsets { Unsets field.now self.old.choices.members self.old.fields self.new.fields }
+        ensures ascending { IsAscending self.old.fields → IsAscending self.new.fields }
         ensures chooses { ((first : ℕ) → first_member_of field.now ≡ Some first → IsSome (value_at self.old.choices.members first)) → Chooses field.now self.old.choices.members self.new.choices.members }
         ensures extensions { self.new.extensions ≡ self.old.extensions }
         ensures unknown { self.new.unknown ≡ self.old.unknown }

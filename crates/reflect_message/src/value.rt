@@ -1,7 +1,8 @@
-ghost use Rattle.std.specs.Prelude.{◌≡◌, Some, IfOk, IfSome, map};
+ghost use Rattle.std.specs.Prelude.{◌≡◌, Some, IfOk, IfSome, OnOk, map};
 ghost use Rattle.reflect_scalar.specs.Keys.{key_view};
 ghost use Rattle.reflect_message.specs.MapKeys.{key_of_value, value_of_key};
-ghost use Rattle.reflect_message.specs.Trees.{tree};
+ghost use Rattle.reflect_message.specs.Maps.{PutsCopy};
+ghost use Rattle.reflect_message.specs.Trees.{entry_tree, tree};
 ghost use Rattle.reflect_message.specs.Singles.{single};
 
 use crate::message::DynamicMessage;
@@ -87,7 +88,9 @@ fn list_clone<'p>(values: &Vec<Value<'p>>) -> Result<Vec<Value<'p>>, AllocError>
 #[cycle(clone)]
 fn map_clone<'p>(
     entries: &BTreeMap<MapKey, Value<'p>>,
-) -> Result<BTreeMap<MapKey, Value<'p>>, AllocError> {
+) -> Result<BTreeMap<MapKey, Value<'p>>, AllocError>
+    ensures { IfOk result (λ copy. map entry_tree copy.entries ≡ map entry_tree entries.now.entries) }
+{
     let mut copy = BTreeMap::emptied(entries)?;
     for (key, value) in entries.iter() {
         insert_at(&mut copy, key, value.clone()?)?;
@@ -100,7 +103,9 @@ fn insert_at<'p>(
     entries: &mut BTreeMap<MapKey, Value<'p>>,
     key: &MapKey,
     value: Value<'p>,
-) -> Result<(), AllocError> {
+) -> Result<(), AllocError>
+    ensures { OnOk result (PutsCopy key.now value.entry entries.old.entries entries.new.entries) }
+{
     entries.insert(key.clone()?, value)?;
     Ok(())
 }

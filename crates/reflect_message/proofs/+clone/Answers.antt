@@ -1,10 +1,14 @@
-use Rattle.std.proofs.Common.{rules, take, length, sym, subst}
+use Rattle.std.proofs.Common.{rules, ◌≡◌, ◌++◌, Some, ap, ◌∙◌, take, length, sym, subst}
 use Rattle.std.proofs.lemmas.List.{length_push}
 use Rattle.std.proofs.lemmas.List.Elements.{same_from_all_zip}
 use Rattle.std.proofs.lemmas.Slice.Zip.{zip_turn, zip_end}
 use Rattle.reflect_message.specs.Copies.{AreCopies}
-use Rattle.reflect_message.specs.declared.value.Value.{the_lemmas}
+use Rattle.reflect_message.specs.Maps.{map_entries}
+use Rattle.reflect_message.specs.Trees.{dictionary, dictionary_of}
+use Rattle.reflect_message.specs.declared.value.Value.{Map, the_lemmas}
 use Rattle.reflect_message.proofs.Copying.{copies_next, copies_all}
+use Rattle.reflect_message.proofs.Alike.{map_seen}
+use Rattle.reflect_message.proofs.Entries.{copied_next}
 use Rattle.reflect_message.proofs.Trees.{held_tree-Block}
 use Rattle.reflect_message.proofs.+clone.Goals as goal
 
@@ -33,3 +37,20 @@ parts::entries_clone-returns t c =
 
 pub parts::Held::clone-returns-in_ok-new-in-Block-clause-content : goal.parts::Held::clone-returns-in_ok-new-in-Block-clause-content
 parts::Held::clone-returns-in_ok-new-in-Block-clause-content t c = search (rules, held_tree-Block)
+
+pub value::map_clone-loop-key-preserved : goal.value::map_clone-loop-key-preserved
+value::map_clone-loop-key-preserved t c =
+    let l = c.loop-key in
+    let all = c.args.entries.now.entries in
+    let left = c.next.new.self in
+    copied_next all left l.copy.entries c.insert_at.new.entries.entries (c.in-Some.key.now, c.in-Some.value.now) c.in_ok-clone.field-0 c.iter-key-items.ensures.ordered c.in_ok-clone.ensures c.in_ok-insert_at.ensures
+    (l.invariant.0, l.invariant.1 ∙ ap (λ es. l.invariant.0 ++ es) c.in-Some.ensures.steps, l.invariant.2)
+
+pub value::Value::clone-returns-in_ok-map_clone-in-Map : goal.value::Value::clone-returns-in_ok-map_clone-in-Map
+value::Value::clone-returns-in_ok-map_clone-in-Map t c =
+    let copied = c.in_ok-map_clone-in-Map in
+    let copy = copied.field-0 in
+    let old : map_entries c.args.self.now ≡ Some c.in-Map.entries.entries = search (rules, the_lemmas) in
+    let new : map_entries (Map copy) ≡ Some copy.entries = search (rules, the_lemmas) in
+    map_seen (Map copy) copy.entries new ∙ ap (λ l. dictionary (dictionary_of l)) copied.ensures
+    ∙ sym (map_seen c.args.self.now c.in-Map.entries.entries old)

@@ -15,6 +15,7 @@ use Rattle.reflect_scalar.specs.Singles.{scalar_view}
 use Rattle.reflect_message.specs.Contents.{content_of, content_in}
 use Rattle.reflect_decode.specs.Accepts.{AcceptsElement, AcceptsEntry, AcceptsMessage}
 use Rattle.reflect_decode.specs.Levels.{TakenAt, TakesAt}
+use Rattle.reflect_decode.specs.Maps.{LeavesSingle}
 use Rattle.reflect_message.specs.Maps.{map_entries}
 use Rattle.reflect_message.specs.Messages.{message_in}
 use Rattle.reflect_decode.specs.Merging.{IsBody, run_records}
@@ -33,10 +34,10 @@ use Rattle.reflect_decode.proofs.Appending.{appends_value, appends_row, appends_
 use Rattle.reflect_message.proofs.Choosing.{makes_room}
 use Rattle.reflect_decode.proofs.Holding.{same_content, merged_in, fault_in}
 use Rattle.reflect_decode.proofs.Keeping.{kept_if_read, not_declared}
-use Rattle.reflect_decode.proofs.Kept.{no_longer, key_shorter}
+use Rattle.reflect_decode.proofs.Kept.{emptied, no_longer, key_shorter}
 use Rattle.reflect_decode.proofs.Nesting.{accepts_at, appends_at, joins_at, value_unset, delimited_taken, group_taken}
 use Rattle.reflect_decode.proofs.Mapping.{key_step, value_step, part_single, part_message, put_more, map_put, entry_is_read, entry_accepts, key_read, value_read}
-use Rattle.reflect_decode.proofs.Running.{delimited_value, same_value, run_more, run_ends, run_behind, group_ends}
+use Rattle.reflect_decode.proofs.Running.{delimited_value, same_value, run_more, run_ends, run_behind, group_ends, whole_body}
 use Rattle.reflect_decode.proofs.Sparing.{merges_none, merges_more, merges_field, merges_kept, merges_extension}
 use Rattle.reflect_decode.proofs.Refusing.{entry_key_refused, entry_length, entry_refused, extension_refused, field_refused, group_refused, key_part, key_refused, keyless, list_at, list_refused, map_refused, message_fault, nested_refused, no_entries, no_items, no_key, no_message_there, one_refused, other_refused, part_fault, part_refused, record_refused, refused_as, refused_both, run_at, single_refused, sized_refused, slot_is_list, slot_is_map, slot_is_message, value_part}
 use Rattle.reflect_decode.proofs.Suiting.{empty_suits, suits_below, part_begins, part_stays_suiting, suits_stay}
@@ -356,6 +357,22 @@ entry_of-records-preserved t c =
       part_stays_suiting levels (field_pool values) (field_type values) _ _ _ read.3 inv.6,
       part_accepted _ 1 inv.0 (next.key.number, p) inv.7 (read.4 inv.5),
       part_accepted _ 2 inv.0 (next.key.number, p) inv.8 (read.5 inv.6),
+    )
+
+pub entry_of-returns-in-Some-clause-read : goal.entry_of-returns-in-Some-clause-read
+entry_of-returns-in-Some-clause-read t c =
+    let inv = c.records.invariant in
+    let keys = c.args.keys in
+    let none : c.records.rest.now ≡ [] = search (rules, emptied) in (
+      inv.0,
+      whole_body c.args.levels c.args.body.now c.records.rest.now inv.0 inv.1 none,
+      λ scalar.
+          subst (λ o. LeavesSingle (field_pool keys) (field_type keys) o (payloads 1 inv.0))
+          c.in-Some.ensures.single (inv.2 scalar),
+      inv.3,
+      c.in_ok-check_level.ensures.left,
+      inv.7,
+      inv.8,
     )
 
 pub entry_of-merge_entry-requires : goal.entry_of-merge_entry-requires
