@@ -124,7 +124,10 @@ linked_cut p q mark m n f g u v ls ks e up entries first numbers links linked al
       numbers = numbered_cut mark (numbers_of u) (numbers_of v) p.extensions (linked.named.in_order extensions) (places_kept (length (cut_to p mark).extensions) u v few.0 few.1) linked.numbers;
       imports = alone.imports;
       to_imports = links_cut mark (indexes_of f) (indexes_of g) p.files ls ks linked.files indexed alone.imports links linked.to_imports;
-      known = fun_ext (λ t. known_below mark m n up entries t ∙ ap (λ (k : Known). kept_first mark (k t)) linked.known ∙ known_cut mark p.records t);
+      known =
+          fun_ext (λ t. known_below mark m n up entries t
+          ∙ ap (λ (k : Known). kept_first mark (k t)) linked.known
+          ∙ known_cut mark p.records t);
       headers = headers_cut p mark linked.headers;
       entries = recorded_cut p mark (names_cut p mark) linked.entries;
     })
@@ -138,7 +141,8 @@ linked_same t q m n f g h u v w ls mid ks mark start e entries keeps first kept 
     let few = subst (λ k. FirstNumbers k v w) (ap (λ (r : PoolType). length r.extensions) e) numbers in
     let count : length (pool_of t).files ≡ length t.files.items = length-map t.files.items file_of in
     let same : n.entries ≡ m.entries = entries ∙ ap (λ k. below k m.entries) (start ∙ sym count) ∙ below_all (length (pool_of t).files) m.entries linked.below in
-    let names : known_of n ≡ known_of m = ap {B = Known} (λ es. λ t. lookup (λ k. is_eq (slice_cmp nat_cmp t (string_bytes k))) es) same in
+    let names : known_of n ≡ known_of m = ap {B = Known}
+    (λ es. λ t. lookup (λ k. is_eq (slice_cmp nat_cmp t (string_bytes k))) es) same in
     let indexed = indexed_back mark (indexes_of f) (indexes_of g) (indexes_of h) (pool_of t).files (start ∙ sym count) keeps (text_kept (λ i. nat_lt i mark) g h first.0 first.1) linked.files in
     subst (λ r. IsLinked r n h w ks) (sym e) (record {
       pooled = linked.pooled;

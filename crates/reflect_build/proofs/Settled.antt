@@ -21,17 +21,19 @@ pooled_with p rs h = record { declared = h.declared; messages = h.messages; chil
 
 -- what holds of a linked pool speaks of the names that its records give, and of their headers
 pub linked_settled : (p q : PoolType) (names : BTreeMap (String Global) Definition) (file_names : BTreeMap (String Global) ℕ) (places : BTreeMap KeyType ℕ) (links : List Links)
-    → IsSettled p q → map names_of_file q.records ≡ map names_of_file p.records → p.files ≡ map record_file q.records
+    → IsSettled p q → map names_of_file q.records ≡ map names_of_file p.records → p.files
+    ≡ map record_file q.records
     → IsLinked p names file_names places links → IsLinked q names file_names places links
-linked_settled p q names file_names places links settled same headers h = subst (λ r. IsLinked r names file_names places links) (sym settled) (record {
-  pooled = pooled_with p q.records h.pooled;
-  named = h.named;
-  below = h.below;
-  files = h.files;
-  numbers = h.numbers;
-  imports = h.imports;
-  to_imports = h.to_imports;
-  known = h.known ∙ sym (known_told nothing_known nothing_before 0 q.records p.records same);
-  headers = headers;
-  entries = λ s. h.entries s ∙ sym (names_told s [] nothing_before 0 q.records p.records same);
-})
+linked_settled p q names file_names places links settled same headers h =
+    subst (λ r. IsLinked r names file_names places links) (sym settled) (record {
+      pooled = pooled_with p q.records h.pooled;
+      named = h.named;
+      below = h.below;
+      files = h.files;
+      numbers = h.numbers;
+      imports = h.imports;
+      to_imports = h.to_imports;
+      known = h.known ∙ sym (known_told nothing_known nothing_before 0 q.records p.records same);
+      headers = headers;
+      entries = λ s. h.entries s ∙ sym (names_told s [] nothing_before 0 q.records p.records same);
+    })

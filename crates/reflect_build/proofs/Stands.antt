@@ -55,9 +55,12 @@ all_counted p o c extensions = length-map p.extensions extension_name ∙ sym c.
 all_counted p o c services = length-map p.services service_name ∙ sym c.services
 
 -- how much there is in a pool is what its records declare
-pub counts_are : (p : PoolType) (o : Offsets) → CountsOf p o → AreRecorded p → o ≡ counts_of_files p.records
+pub counts_are : (p : PoolType) (o : Offsets) → CountsOf p o → AreRecorded p → o
+    ≡ counts_of_files p.records
 counts_are p o c recorded =
-    let all : (s : Sort) → offset s o ≡ offset s (counts_of_files p.records) = λ s. sym (all_counted p o c s) ∙ recorded_count p recorded s in
+    let all : (s : Sort) → offset s o
+    ≡ offset s (counts_of_files p.records) = λ s. sym (all_counted p o c s)
+    ∙ recorded_count p recorded s in
     let ms = all messages in
     let es = all enums in
     let xs = all extensions in
@@ -104,9 +107,11 @@ pub linked_more : (old new : Tables) (were are : BTreeMap (String Global) Defini
     → known_of are ≡ known_behind (known_of were) (batch_declarations o first fs) → faults_along at (with_files (indexes_of had) first fs) (known_of were) (batch_declarations o first fs) ≡ []
     → KeepsFrom first (length fs) were.entries are.entries
     → ArePooled (pool_of new) → map file_of new.files.items ≡ map file_of old.files.items ++ map record_file fs → GoesOn old new (batch_declarations o first fs)
-    → AreNumbered (numbers_of marks) (map key_of (pool_of new).extensions) → map link_view ks ≡ map link_view ls ++ map (links_to (indexes_of has)) fs
+    → AreNumbered (numbers_of marks) (map key_of (pool_of new).extensions) → map link_view ks
+    ≡ map link_view ls ++ map (links_to (indexes_of has)) fs
     → AddsRecords (pool_of old) fs (pool_of new) → IsLinked (pool_of new) are has marks ks
-linked_more old new were are had has marked marks ls ks at o first fs linked counts start indexes single is none keeps pooled files goes numbered links adds =
+linked_more old new were are had has marked marks ls ks at o first fs linked counts start indexes
+    single is none keeps pooled files goes numbered links adds =
     let olds : length (pool_of old).files ≡ length old.files.items = length-map old.files.items file_of in
     let count : length (pool_of new).files ≡ length (pool_of old).files + length fs = ap length files ∙ length-append (map file_of old.files.items) (map record_file fs) ∙ ap (λ n. length (pool_of old).files + n) (length-map fs record_file) in
     let from : first ≡ length (pool_of old).files = start ∙ sym olds in
@@ -117,7 +122,8 @@ linked_more old new were are had has marked marks ls ks at o first fs linked cou
     (subst (λ n. AreIndexed (with_files (indexes_of had) n fs) (map name (pool_of old).files ++ map name (map record_file fs))) place
     (indexed_more at (indexes_of had) (map name (pool_of old).files) fs (subst (λ n. files_faults at (indexes_of had) n fs ≡ []) (sym place) single) linked.files))) in
     let same = counts_are (pool_of old) o counts linked.entries in
-    let records : first ≡ length (pool_of old).records = start ∙ sym (length-map old.files.items record_of) in
+    let records : first ≡ length (pool_of old).records = start
+    ∙ sym (length-map old.files.items record_of) in
     let found = subst (λ g. faults_along at g (known_of were) (batch_declarations o first fs) ≡ []) (sym indexes) none in
     record {
       pooled = pooled;
@@ -131,7 +137,11 @@ linked_more old new were are had has marked marks ls ks at o first fs linked cou
       numbers = numbered;
       imports = imports_more (indexes_of had) (indexes_of has) (pool_of old).files (pool_of new).files fs files linked.files indexed linked.imports at (known_of were) o first found;
       to_imports = links_more (indexes_of had) (indexes_of has) (pool_of old).files (pool_of new).files fs files linked.files indexed linked.imports ls ks linked.to_imports links;
-      known = known_added (pool_of old) (pool_of new) fs o first adds same records (known_of were) (known_of are) linked.known is;
+      known =
+          known_added (pool_of old) (pool_of new) fs o first adds same records (known_of were)
+          (known_of are) linked.known is;
       headers = sym (map_map record_file record_of new.files.items);
-      entries = recorded_added (pool_of old) (pool_of new) fs o first adds same records linked.entries (all_go_on old new (batch_declarations o first fs) goes);
+      entries =
+          recorded_added (pool_of old) (pool_of new) fs o first adds same records linked.entries
+          (all_go_on old new (batch_declarations o first fs) goes);
     }

@@ -35,8 +35,8 @@ pub record AreAdded (old : PoolType) (fs : List FileDescriptorProto) (t : Linked
   pub records : AddsRecords old fs new
 
 -- each reference of files whose names are declared means something; by these meanings the pool's new entries are those of the
--- declarations, no number is faulty, and no extension has the message and the number of another; its
--- new records are those of the files, with the names that these references mean
+-- declarations, no number is faulty, and no extension has the message and the number of another;
+-- its new records are those of the files, with the names that these references mean
 pub record FaultlessBatch (w : Linking) (fs : List FileDescriptorProto) (new : PoolType) : Type 0 where
   pub references : List Reference
   pub types : LinkedTypes

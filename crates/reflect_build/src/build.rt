@@ -126,13 +126,14 @@ pub trait BuildFiles {
         ensures { holds self.new ≡ cut_to (holds self.old) mark };
 
     /// Moves settled options, and the paths of locations that speak of them, into the files' records. One that names no
-    /// place of the pool is passed over. Takes no memory; the types stay as they are, and so does all
-    /// in the records but options and the paths of locations.
+    /// place of the pool is passed over. Takes no memory; the types stay as they are, and so does
+    /// all in the records but options and the paths of locations.
     fn settle(&mut self, edits: Vec<Edit>)
         ensures settled { IsSettled (holds self.old) (holds self.new) }
         ensures names { map names_of_file (holds self.new).records
             ≡ map names_of_file (holds self.old).records }
-        ensures bare { map bare_of (holds self.new).records ≡ map bare_of (holds self.old).records };
+        ensures bare { map bare_of (holds self.new).records
+            ≡ map bare_of (holds self.old).records };
 }
 
 impl BuildFiles for DescriptorPool {

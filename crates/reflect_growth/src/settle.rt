@@ -204,7 +204,8 @@ fn settle_edit(files: &mut Vec<StoredFile>, edit: Edit)
     }
 }
 
-/// Moves edits into the records, where all else stays. One that names no place of the files is passed over. Takes no memory.
+/// Moves edits into the records, where all else stays. One that names no place of the files is
+/// passed over. Takes no memory.
 pub fn settle_all(tables: &mut Tables, edits: Vec<Edit>)
     ensures settled { IsSettled (pool_of tables.old) (pool_of tables.new) }
     ensures names { map names_of_file (pool_of tables.new).records

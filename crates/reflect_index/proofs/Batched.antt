@@ -14,7 +14,8 @@ use Rattle.reflect_index.proofs.Counted.{file_next}
 use Rattle.reflect_index.proofs.Known.{offset, walked, none_left, none_right}
 use Rattle.reflect_index.proofs.Orders.{AreUpTo, up_to_more, walk_ordered}
 
-pub known_on : (known : Known) (xs ys : List Declaration) → known_behind known (xs ++ ys) ≡ known_behind (known_behind known xs) ys
+pub known_on : (known : Known) (xs ys : List Declaration) → known_behind known (xs ++ ys)
+    ≡ known_behind (known_behind known xs) ys
 known_on known [] ys = refl
 known_on known (x ∷ xs) ys = known_on (known_after known x) xs ys
 
@@ -26,7 +27,8 @@ faults_on at files known (x ∷ xs) ys =
     ap (λ fs. here ++ fs) (faults_on at files (known_after known x) xs ys)
     ∙ sym (append_assoc here (faults_along at files (known_after known x) xs) (faults_along at files (known_behind (known_after known x) xs) ys))
 
-pub names_on : (s : Sort) (names : List FullName) (xs ys : List Declaration) → with_names s names (xs ++ ys) ≡ with_names s (with_names s names xs) ys
+pub names_on : (s : Sort) (names : List FullName) (xs ys : List Declaration)
+    → with_names s names (xs ++ ys) ≡ with_names s (with_names s names xs) ys
 names_on s names [] ys = refl
 names_on s names (x ∷ xs) ys = names_on s (with_name s names x) xs ys
 

@@ -148,7 +148,8 @@ longer : (names : List FullName) (x : FullName) (n m : ℕ) → length names ≡
 longer names x n m len e = length-append names (x ∷ []) ∙ omega (arith, len, e)
 
 -- the counts go on with the names
-pub counts : (s : Sort) (names : List FullName) (name : List ℕ) (file : ℕ) (o : Offsets) (body : Body) → length names ≡ offset s o
+pub counts : (s : Sort) (names : List FullName) (name : List ℕ) (file : ℕ) (o : Offsets)
+    (body : Body) → length names ≡ offset s o
     → length (cond (is_of s body) (names ++ (name, file) ∷ []) names) ≡ offset s (past_one o body)
 counts messages names name file o (of_message m) len = longer names (name, file) _ _ len refl
 counts enums names name file o (of_message m) len = len

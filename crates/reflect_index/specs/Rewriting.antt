@@ -1,4 +1,4 @@
--- What stays of records, and what is written into them, where references are given their full names.
+-- What is written into records where references are given their full names, and what stays.
 use Rattle.std.specs.Prelude.{ℤ, pos, List, [], ◌∷◌, map, Option, Some, None}
 use Rattle.std.specs.Vec.Iter.{into_iter_items}
 use Rattle.std.specs.declared.alloc.Global.{Global}

@@ -29,7 +29,8 @@ fn type_of(kind: DefinitionKind) -> FieldType
 
 /// Writes the next reference in place of a name, if there is one.
 fn rewrite_name(name: &mut Option<String>, rest: &mut Rest)
-    ensures { (text_view name.new, left rest.new) ≡ write_name (left rest.old) (text_view name.old) }
+    ensures { (text_view name.new, left rest.new)
+        ≡ write_name (left rest.old) (text_view name.old) }
 {
     if name.is_some() {
         if let Some(reference) = rest.next() {
@@ -86,7 +87,8 @@ fn rewrite_extensions(extensions: &mut Vec<FieldDescriptorProto>, rest: &mut Res
 /// Rewrites the references of messages and of those in them: of a message's fields, then its
 /// messages, then its extensions.
 fn rewrite_messages(messages: &mut Vec<DescriptorProto>, rest: &mut Rest)
-    ensures names { map names_of_message messages.new.items ≡ map names_of_message messages.old.items }
+    ensures names { map names_of_message messages.new.items
+        ≡ map names_of_message messages.old.items }
     ensures written { (map message_view messages.new.items, left rest.new)
         ≡ write_each write_message (left rest.old) (map message_view messages.old.items) }
 {
@@ -138,16 +140,17 @@ fn rewrite_file(file: &mut FileDescriptorProto, rest: &mut Rest)
     rewrite_extensions(&mut file.extension, rest);
 }
 
-/// The files with each reference written as its full name behind a leading dot, and with each missing type of a field that has
-/// a type name filled in; all else in their records stays. The references are those of the files in the order in which a walk
-/// meets them.
+/// The files with each reference written as its full name behind a leading dot, and with each
+/// missing type of a field that has a type name filled in; all else in their records stays. The
+/// references are those of the files in the order in which a walk meets them.
 pub fn rewritten(
     mut files: Vec<FileDescriptorProto>,
     references: Vec<Reference>,
 ) -> Vec<FileDescriptorProto>
     ensures headers { map record_file result.items ≡ map record_file files.items }
     ensures names { map names_of_file result.items ≡ map names_of_file files.items }
-    ensures records { map file_view result.items ≡ written references.items (map file_view files.items) }
+    ensures records { map file_view result.items
+        ≡ written references.items (map file_view files.items) }
 {
     let mut rest = references.into_iter();
     for place in 0..files.len() {

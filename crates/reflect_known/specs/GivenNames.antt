@@ -1,4 +1,4 @@
--- The names that a file gives to what it declares, as its declarations are nested, and nothing else of it.
+-- The names that a file gives to what it declares, as its declarations are nested.
 use Rattle.std.specs.Prelude.{ℕ, List, map, Option}
 use Rattle.descriptor_records.specs.Content.{text_view}
 use Rattle.descriptor_records.specs.declared.enums.EnumDescriptorProto.{EnumDescriptorProto}

@@ -14,11 +14,13 @@ ghost use Rattle.reflect_known.specs.KnownNames.{known_behind};
 /// much of it.
 pub fn given_names_tell_what_is_known()
     ensures known { (known : Known) (before : Offsets) (first : ℕ)
-        (files others : List FileDescriptorProto) → map names_of_file files ≡ map names_of_file others
+        (files others : List FileDescriptorProto)
+        → map names_of_file files ≡ map names_of_file others
         → known_behind known (batch_declarations before first files)
         ≡ known_behind known (batch_declarations before first others) }
     ensures names { (s : Sort) (names : List FullName) (before : Offsets) (first : ℕ)
-        (files others : List FileDescriptorProto) → map names_of_file files ≡ map names_of_file others
+        (files others : List FileDescriptorProto)
+        → map names_of_file files ≡ map names_of_file others
         → with_names s names (batch_declarations before first files)
         ≡ with_names s names (batch_declarations before first others) }
     ensures counts { (before : Offsets) (files others : List FileDescriptorProto)

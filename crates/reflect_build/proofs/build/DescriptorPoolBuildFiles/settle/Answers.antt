@@ -9,5 +9,8 @@ pub from_parts-requires : goal.from_parts-requires
 from_parts-requires c =
     let p = c.take_parts-parts.result in
     let new = c.settle_all.new.tables in
-    let headers = ap (λ (q : PoolType). q.files) (sym c.settle_all.ensures.settled) ∙ sym (map_map record_file record_of new.files.items) in
-    linked_settled (pool_of p.tables) (pool_of new) p.names p.file_names p.extension_numbers p.links.items c.settle_all.ensures.settled c.settle_all.ensures.names headers c.take_parts-parts.ensures.fit
+    let headers = ap (λ (q : PoolType). q.files) (sym c.settle_all.ensures.settled)
+    ∙ sym (map_map record_file record_of new.files.items) in
+    linked_settled (pool_of p.tables) (pool_of new) p.names p.file_names p.extension_numbers
+    p.links.items c.settle_all.ensures.settled c.settle_all.ensures.names headers
+    c.take_parts-parts.ensures.fit
