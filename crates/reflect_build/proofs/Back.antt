@@ -15,7 +15,8 @@ use Rattle.reflect_pool.proofs.Grown.{all_through}
 use Rattle.reflect_build.proofs.Pooled.{map-append}
 
 -- all pass whose places are below
-filter_below : {Y : Type 0} (file : Y → ℕ) (n : ℕ) (ys : List Y) → AllByRecursion (λ y. file y < n) ys → filter (λ y. nat_lt (file y) n) ys ≡ ys
+pub filter_below : {Y : Type 0} (file : Y → ℕ) (n : ℕ) (ys : List Y)
+    → AllByRecursion (λ y. file y < n) ys → filter (λ y. nat_lt (file y) n) ys ≡ ys
 filter_below file n [] h = refl
 filter_below file n (y ∷ ys) h =
     let below = h.0 in

@@ -16,7 +16,8 @@ use Rattle.reflect_names.specs.Faults.{Fault}
 use Rattle.reflect_scope.specs.FileIndexes.{Indexes, link_view, is_index}
 use Rattle.reflect_names.specs.ImportedFiles.{file_of, import_at as import_of, links_to}
 use Rattle.reflect_scope.specs.Known.{Known}
-use Rattle.reflect_names.specs.NamePass.{known_behind, faults_along}
+use Rattle.reflect_known.specs.KnownNames.{known_behind}
+use Rattle.reflect_names.specs.NamePass.{faults_along}
 use Rattle.reflect_names.specs.Names.{Places, import_fault, public_fault, import_faults}
 use Rattle.reflect_tables.specs.Types.{FileType}
 use Rattle.reflect_tables.specs.Views.{record_file}

@@ -8,3 +8,4 @@ pub mod Pooled
 pub mod Refused
 pub mod Settled
 pub mod Stands
+pub mod Recorded

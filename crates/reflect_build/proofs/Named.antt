@@ -22,6 +22,8 @@ use Rattle.reflect_pool.specs.Linked.{IsLinked, key_of}
 use Rattle.reflect_build.proofs.Imported.{links_back, links_cut}
 use Rattle.reflect_build.proofs.Numbered.{numbered_back, numbered_cut, places_kept}
 use Rattle.reflect_build.proofs.Indexed.{indexed_cut, indexed_back}
+use Rattle.reflect_build.proofs.Recorded.{known_cut, headers_cut, recorded_cut}
+use Rattle.std.proofs.Math.Path.{fun_ext}
 use Rattle.std.proofs.Math.ListN.{length-map}
 use Rattle.reflect_names.proofs.Entries.{below_all}
 use Rattle.reflect_tables.specs.Views.{file_of, extension_of, pool_of}
@@ -122,6 +124,12 @@ linked_cut p q mark m n f g u v ls ks e up entries first numbers links linked al
       numbers = numbered_cut mark (numbers_of u) (numbers_of v) p.extensions (linked.named.in_order extensions) (places_kept (length (cut_to p mark).extensions) u v few.0 few.1) linked.numbers;
       imports = alone.imports;
       to_imports = links_cut mark (indexes_of f) (indexes_of g) p.files ls ks linked.files indexed alone.imports links linked.to_imports;
+      known =
+          fun_ext (λ t. known_below mark m n up entries t
+          ∙ ap (λ (k : Known). kept_first mark (k t)) linked.known
+          ∙ known_cut mark p.records t);
+      headers = headers_cut p mark linked.headers;
+      entries = recorded_cut p mark (names_cut p mark) linked.entries;
     })
 
 -- a refusal, behind which the names of the files that are there are left
@@ -133,14 +141,19 @@ linked_same t q m n f g h u v w ls mid ks mark start e entries keeps first kept 
     let few = subst (λ k. FirstNumbers k v w) (ap (λ (r : PoolType). length r.extensions) e) numbers in
     let count : length (pool_of t).files ≡ length t.files.items = length-map t.files.items file_of in
     let same : n.entries ≡ m.entries = entries ∙ ap (λ k. below k m.entries) (start ∙ sym count) ∙ below_all (length (pool_of t).files) m.entries linked.below in
+    let names : known_of n ≡ known_of m = ap {B = Known}
+    (λ es. λ t. lookup (λ k. is_eq (slice_cmp nat_cmp t (string_bytes k))) es) same in
     let indexed = indexed_back mark (indexes_of f) (indexes_of g) (indexes_of h) (pool_of t).files (start ∙ sym count) keeps (text_kept (λ i. nat_lt i mark) g h first.0 first.1) linked.files in
     subst (λ r. IsLinked r n h w ks) (sym e) (record {
       pooled = linked.pooled;
-      named = subst (λ k. AreNamed k (names_of (pool_of t))) (ap {B = Known} (λ es. λ t. lookup (λ k. is_eq (slice_cmp nat_cmp t (string_bytes k))) es) (sym same)) linked.named;
+      named = subst (λ k. AreNamed k (names_of (pool_of t))) (sym names) linked.named;
       below = subst (AllBelow (length (pool_of t).files)) (sym same) linked.below;
       files = indexed;
       numbers = numbered_back (length (pool_of t).extensions) (numbers_of u) (numbers_of v) (numbers_of w) (map key_of (pool_of t).extensions) (sym (length-map (pool_of t).extensions key_of))
           (subst (λ k. KeepsNumbers k (numbers_of u) (numbers_of v)) (sym long) kept) (places_kept (length (pool_of t).extensions) v w few.0 few.1) linked.numbers;
       imports = linked.imports;
       to_imports = links_back mark (indexes_of f) (indexes_of h) (pool_of t).files ls mid ks (start ∙ sym count) linked.files indexed linked.imports kept_links links linked.to_imports;
+      known = names ∙ linked.known;
+      headers = linked.headers;
+      entries = linked.entries;
     })

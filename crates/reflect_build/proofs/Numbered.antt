@@ -26,6 +26,7 @@ use Rattle.reflect_pool.specs.Linked.{AreNumbered, key_of}
 use Rattle.reflect_build.proofs.Back.{filter_from}
 use Rattle.reflect_build.proofs.Indexed.{low_some, taken}
 use Rattle.reflect_build.proofs.Pooled.{map-append}
+use Rattle.reflect_growth.proofs.Filters.{map_map}
 use Rattle.reflect_pool.proofs.Numbered.{key_total}
 
 -- the places where only those below a count are left
@@ -42,10 +43,6 @@ numbered_back mark old mid new keys count keeps same are = λ k i. (
       let lt : i < mark = omega (arith, long, count) in
       same k ∙ (low_some mark (mid k) i).1 ((keeps k i lt).0 ((are k i).1 e)) lt,
 )
-
-map_map : {X Y Z : Type 0} (f : Y → Z) (g : X → Y) (xs : List X) → map f (map g xs) ≡ map (λ x. f (g x)) xs
-map_map f g [] = refl
-map_map f g (x ∷ xs) = ap (λ zs. f (g x) ∷ zs) (map_map f g xs)
 
 later : (mark low : ℕ) (xs : List ExtensionType) → mark ≤ low → AllByRecursion (λ (y : FullName). low ≤ y.1) (map extension_name xs) → AllByRecursion (λ (x : ExtensionType). mark ≤ x.file) xs
 later mark low [] le all = tt

@@ -12,6 +12,7 @@ use Rattle.reflect_passes.specs.Extensions.{is_known}
 use Rattle.reflect_pool.specs.Linked.{IsLinked}
 use Rattle.reflect_build.specs.Refusals.{CountsOf, Linking, linking, with_declared, AreLinked, Means, AreTypes, FaultyBatch, Faulty, IsOf, new_files, FaultyFiles}
 use Rattle.reflect_pool.proofs.Numbered.{has_number}
+use Rattle.reflect_build.proofs.Stands.{counts_are}
 use Rattle.std.proofs.lemmas.Result.{err_from_is_err_and, IfErr-weaker}
 use Rattle.descriptor_records.specs.declared.file.FileDescriptorProto.{FileDescriptorProto}
 use Rattle.reflect_scope.specs.declared.seen.Links.{Links}
@@ -23,7 +24,7 @@ use Rattle.reflect_names.specs.ReferenceSteps.{target_of}
 use Rattle.reflect_index.specs.BatchEntries.{IsBatchOf}
 use Rattle.reflect_index.specs.DraftNames.{stored_message_name, stored_enum_name, stored_extension_name}
 use Rattle.reflect_tables.specs.Names.{messages, enums, extensions}
-use Rattle.reflect_index.specs.DeclaredNames.{with_names}
+use Rattle.reflect_known.specs.DeclaredNames.{with_names}
 use Rattle.reflect_tables.specs.Types.{PoolType}
 use Rattle.reflect_index.specs.OfDeclarations.{AllDeclared, messages_in, enums_in, stored_ranges, stored_values, declared_values}
 use Rattle.reflect_index.specs.declared.batch.Batch.{Batch}
@@ -148,6 +149,8 @@ is_of tables names file_names links numbers before first p linked counts start s
       numbers = λ k. has_number (numbers_of numbers) (pool_of tables).extensions linked.numbers k (is_known numbers k) refl;
       before = counts;
       first = start ∙ sym (length-map tables.files.items file_of);
+      known = linked.known;
+      counts = counts_are (pool_of tables) before counts linked.entries;
     })
 
 -- a pool's faulty files are faulty with what it knows

@@ -1,5 +1,5 @@
 -- A pool whose records were settled.
-use Rattle.std.proofs.Common.{ℕ, List, String, sym, subst}
+use Rattle.std.proofs.Common.{◌≡◌, ℕ, List, [], String, map, sym, subst, ◌∙◌}
 use Rattle.std.specs.BTreeMap.{BTreeMap}
 use Rattle.std.specs.declared.alloc.Global.{Global}
 use Rattle.descriptor_records.specs.declared.file.FileDescriptorProto.{FileDescriptorProto}
@@ -7,6 +7,10 @@ use Rattle.reflect_scope.specs.declared.definition.Definition.{Definition}
 use Rattle.reflect_scope.specs.declared.seen.Links.{Links}
 use Rattle.reflect_tables.specs.Types.{PoolType, ArePooled, IsSettled}
 use Rattle.reflect_tables.specs.ExtensionNumbers.{KeyType}
+use Rattle.reflect_tables.specs.Views.{record_file}
+use Rattle.reflect_known.specs.GivenNames.{names_of_file}
+use Rattle.reflect_known.specs.KnownNames.{nothing_known, nothing_before}
+use Rattle.reflect_known.proofs.GivenNames.{known_told, names_told}
 use Rattle.reflect_pool.specs.Linked.{IsLinked}
 
 abbrev with_records : PoolType → List FileDescriptorProto → PoolType
@@ -15,15 +19,21 @@ with_records p rs = record p { records = rs }
 pooled_with : (p : PoolType) (rs : List FileDescriptorProto) → ArePooled p → ArePooled (with_records p rs)
 pooled_with p rs h = record { declared = h.declared; messages = h.messages; children = h.children; listed = h.listed; enums = h.enums; extensions = h.extensions; services = h.services; few = h.few }
 
--- what holds of a linked pool names no record
+-- what holds of a linked pool speaks of the names that its records give, and of their headers
 pub linked_settled : (p q : PoolType) (names : BTreeMap (String Global) Definition) (file_names : BTreeMap (String Global) ℕ) (places : BTreeMap KeyType ℕ) (links : List Links)
-    → IsSettled p q → IsLinked p names file_names places links → IsLinked q names file_names places links
-linked_settled p q names file_names places links settled h = subst (λ r. IsLinked r names file_names places links) (sym settled) (record {
-  pooled = pooled_with p q.records h.pooled;
-  named = h.named;
-  below = h.below;
-  files = h.files;
-  numbers = h.numbers;
-  imports = h.imports;
-  to_imports = h.to_imports;
-})
+    → IsSettled p q → map names_of_file q.records ≡ map names_of_file p.records → p.files
+    ≡ map record_file q.records
+    → IsLinked p names file_names places links → IsLinked q names file_names places links
+linked_settled p q names file_names places links settled same headers h =
+    subst (λ r. IsLinked r names file_names places links) (sym settled) (record {
+      pooled = pooled_with p q.records h.pooled;
+      named = h.named;
+      below = h.below;
+      files = h.files;
+      numbers = h.numbers;
+      imports = h.imports;
+      to_imports = h.to_imports;
+      known = h.known ∙ sym (known_told nothing_known nothing_before 0 q.records p.records same);
+      headers = headers;
+      entries = λ s. h.entries s ∙ sym (names_told s [] nothing_before 0 q.records p.records same);
+    })

@@ -1,5 +1,5 @@
 -- The names of a pool and of a batch behind it.
-use Rattle.std.proofs.Common.{◌≡◌, ◌<◌, ◌+◌, ℕ, List, [], ◌∷◌, ◌++◌, map, length, Option, String, Global, ap, sym, subst, ◌∙◌, arith, refl}
+use Rattle.std.proofs.Common.{◌≡◌, ◌<◌, ◌+◌, ℕ, List, [], ◌∷◌, ◌++◌, map, length, Option, String, Global, ap, sym, subst, ◌∙◌, arith}
 use Rattle.std.proofs.Math.ListN.{length-map, length-append}
 use Rattle.std.proofs.lemmas.List.{append-nil}
 use Rattle.std.specs.List.{AllByRecursion}
@@ -17,22 +17,26 @@ use Rattle.reflect_names.specs.ImportedFiles.{links_to}
 use Rattle.reflect_names.specs.Names.{Places}
 use Rattle.reflect_names.specs.NameSteps.{KeepsFrom}
 use Rattle.reflect_names.proofs.Entries.{below_more}
-use Rattle.reflect_names.specs.NamePass.{known_behind, faults_along}
+use Rattle.reflect_known.specs.KnownNames.{known_behind, counts_of_files}
+use Rattle.reflect_names.specs.NamePass.{faults_along}
 use Rattle.reflect_tables.specs.Types.{PoolType, FileType, ArePooled, MessageWithin, EnumWithin, ExtensionWithin, ServiceWithin, counts_of}
 use Rattle.reflect_tables.specs.Names.{Sort, messages, enums, extensions, services, FullName, AreFound, AreInOrder, AreNamed, names_of, message_name, enum_name, extension_name, service_name, found}
-use Rattle.reflect_index.specs.DeclaredNames.{with_names}
-use Rattle.reflect_tables.specs.Views.{file_of, record_file, message_of, enum_of, extension_of, service_of, pool_of}
+use Rattle.reflect_known.specs.DeclaredNames.{with_names}
+use Rattle.reflect_tables.specs.Views.{file_of, record_of, record_file, message_of, enum_of, extension_of, service_of, pool_of}
 use Rattle.reflect_index.specs.DraftNames.{stored_message_name, stored_enum_name, stored_extension_name, stored_service_name}
 use Rattle.reflect_tables.specs.declared.tables.Tables.{Tables}
 use Rattle.reflect_index.proofs.Known.{offset}
 use Rattle.reflect_index.proofs.Orders.{AreUpTo}
 use Rattle.reflect_index.proofs.Batched.{Stand, batch_stands, names_behind}
 use Rattle.reflect_tables.specs.ExtensionNumbers.{KeyType, numbers_of}
-use Rattle.reflect_pool.specs.Linked.{IsLinked, AreIndexed, AreNumbered, key_of}
+use Rattle.reflect_pool.specs.Linked.{IsLinked, AreIndexed, AreNumbered, AreRecorded, key_of}
+use Rattle.reflect_build.specs.Accepted.{AddsRecords}
 use Rattle.reflect_build.specs.Refusals.{CountsOf}
+use Rattle.reflect_build.proofs.Recorded.{known_added, recorded_added, recorded_count}
 use Rattle.reflect_build.proofs.Imported.{imports_more, links_more}
 use Rattle.reflect_build.proofs.Indexed.{indexed_more}
 use Rattle.reflect_build.proofs.Pooled.{map-append}
+use Rattle.reflect_growth.proofs.Filters.{map_map}
 
 up_to : {Y : Type 0} (name : Y → FullName) (P : Y → Type 0) (n : ℕ) → ((y : Y) → P y → (name y).1 < n) → (ys : List Y) → AllByRecursion P ys → AreUpTo n (map name ys)
 up_to name P n step [] all = tt
@@ -50,6 +54,19 @@ all_counted p o c enums = length-map p.enums enum_name ∙ sym c.enums
 all_counted p o c extensions = length-map p.extensions extension_name ∙ sym c.extensions
 all_counted p o c services = length-map p.services service_name ∙ sym c.services
 
+-- how much there is in a pool is what its records declare
+pub counts_are : (p : PoolType) (o : Offsets) → CountsOf p o → AreRecorded p → o
+    ≡ counts_of_files p.records
+counts_are p o c recorded =
+    let all : (s : Sort) → offset s o
+    ≡ offset s (counts_of_files p.records) = λ s. sym (all_counted p o c s)
+    ∙ recorded_count p recorded s in
+    let ms = all messages in
+    let es = all enums in
+    let xs = all extensions in
+    let ss = all services in
+    λ i. record { messages = ms i; enums = es i; extensions = xs i; services = ss i }
+
 -- the names of a pool, and behind them those of a batch without faults
 pub named_more : (old new : PoolType) (known : Known) (at : ℕ → Places) (files : List ℕ → Option ℕ) (o : Offsets) (fs : List FileDescriptorProto) (now : Known)
     → ArePooled old → AreNamed known (names_of old) → CountsOf old o
@@ -66,10 +83,6 @@ named_more old new known at files o fs now pooled named counts is none more =
       found = λ s. subst (λ k. AreFound (found s k) (names_of new s)) (sym is) (subst (AreFound (found s (known_behind known ds))) (same s) (stands s).found);
       in_order = λ s. subst AreInOrder (same s) (stands s).in_order;
     }
-
-pub map_map : {X Y Z : Type 0} (f : Y → Z) (g : X → Y) (xs : List X) → map f (map g xs) ≡ map (λ x. f (g x)) xs
-map_map f g [] = refl
-map_map f g (x ∷ xs) = ap (λ zs. f (g x) ∷ zs) (map_map f g xs)
 
 -- the names of the tables' entries are those of the pool's
 named_as : {X Y : Type 0} (f : Y → FullName) (g : X → Y) (news olds : List X) (more : List FullName) → map (λ x. f (g x)) news ≡ map (λ x. f (g x)) olds ++ more → map f (map g news) ≡ map f (map g olds) ++ more
@@ -94,8 +107,11 @@ pub linked_more : (old new : Tables) (were are : BTreeMap (String Global) Defini
     → known_of are ≡ known_behind (known_of were) (batch_declarations o first fs) → faults_along at (with_files (indexes_of had) first fs) (known_of were) (batch_declarations o first fs) ≡ []
     → KeepsFrom first (length fs) were.entries are.entries
     → ArePooled (pool_of new) → map file_of new.files.items ≡ map file_of old.files.items ++ map record_file fs → GoesOn old new (batch_declarations o first fs)
-    → AreNumbered (numbers_of marks) (map key_of (pool_of new).extensions) → map link_view ks ≡ map link_view ls ++ map (links_to (indexes_of has)) fs → IsLinked (pool_of new) are has marks ks
-linked_more old new were are had has marked marks ls ks at o first fs linked counts start indexes single is none keeps pooled files goes numbered links =
+    → AreNumbered (numbers_of marks) (map key_of (pool_of new).extensions) → map link_view ks
+    ≡ map link_view ls ++ map (links_to (indexes_of has)) fs
+    → AddsRecords (pool_of old) fs (pool_of new) → IsLinked (pool_of new) are has marks ks
+linked_more old new were are had has marked marks ls ks at o first fs linked counts start indexes
+    single is none keeps pooled files goes numbered links adds =
     let olds : length (pool_of old).files ≡ length old.files.items = length-map old.files.items file_of in
     let count : length (pool_of new).files ≡ length (pool_of old).files + length fs = ap length files ∙ length-append (map file_of old.files.items) (map record_file fs) ∙ ap (λ n. length (pool_of old).files + n) (length-map fs record_file) in
     let from : first ≡ length (pool_of old).files = start ∙ sym olds in
@@ -105,6 +121,9 @@ linked_more old new were are had has marked marks ls ks at o first fs linked cou
     (subst (λ g. AreIndexed g (map name (pool_of old).files ++ map name (map record_file fs))) (sym indexes)
     (subst (λ n. AreIndexed (with_files (indexes_of had) n fs) (map name (pool_of old).files ++ map name (map record_file fs))) place
     (indexed_more at (indexes_of had) (map name (pool_of old).files) fs (subst (λ n. files_faults at (indexes_of had) n fs ≡ []) (sym place) single) linked.files))) in
+    let same = counts_are (pool_of old) o counts linked.entries in
+    let records : first ≡ length (pool_of old).records = start
+    ∙ sym (length-map old.files.items record_of) in
     let found = subst (λ g. faults_along at g (known_of were) (batch_declarations o first fs) ≡ []) (sym indexes) none in
     record {
       pooled = pooled;
@@ -118,4 +137,11 @@ linked_more old new were are had has marked marks ls ks at o first fs linked cou
       numbers = numbered;
       imports = imports_more (indexes_of had) (indexes_of has) (pool_of old).files (pool_of new).files fs files linked.files indexed linked.imports at (known_of were) o first found;
       to_imports = links_more (indexes_of had) (indexes_of has) (pool_of old).files (pool_of new).files fs files linked.files indexed linked.imports ls ks linked.to_imports links;
+      known =
+          known_added (pool_of old) (pool_of new) fs o first adds same records (known_of were)
+          (known_of are) linked.known is;
+      headers = sym (map_map record_file record_of new.files.items);
+      entries =
+          recorded_added (pool_of old) (pool_of new) fs o first adds same records linked.entries
+          (all_go_on old new (batch_declarations o first fs) goes);
     }

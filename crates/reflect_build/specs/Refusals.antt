@@ -14,14 +14,14 @@ use Rattle.reflect_scope.specs.FileIndexes.{Indexes, indexes_of, link_view}
 use Rattle.reflect_names.specs.FileNames.{with_files}
 use Rattle.reflect_names.specs.ImportedFiles.{links_to}
 use Rattle.reflect_scope.specs.Known.{Known, known_of}
-use Rattle.reflect_names.specs.NamePass.{known_behind}
+use Rattle.reflect_known.specs.KnownNames.{known_behind, known_of_files, counts_of_files}
 use Rattle.reflect_names.specs.ReferencePass.{BatchReferences}
 use Rattle.reflect_names.specs.ReferenceSteps.{target_of}
 use Rattle.reflect_names.specs.declared.resolve_visitor.Reference.{Reference}
 use Rattle.reflect_index.specs.BatchEntries.{IsBatchOf}
 use Rattle.reflect_index.specs.DraftNames.{stored_message_name, stored_enum_name, stored_extension_name}
 use Rattle.reflect_tables.specs.Names.{AreNamed, names_of, messages, enums, extensions}
-use Rattle.reflect_index.specs.DeclaredNames.{with_names}
+use Rattle.reflect_known.specs.DeclaredNames.{with_names}
 use Rattle.reflect_tables.specs.Types.{PoolType}
 use Rattle.reflect_tables.specs.Views.{pool_of}
 use Rattle.reflect_index.specs.OfDeclarations.{AllDeclared, messages_in, enums_in, stored_ranges, stored_values, declared_values}
@@ -102,7 +102,7 @@ abbrev pub Faulty : Linking → List FileDescriptorProto → List Fault → Type
 Faulty w fs xs = (xs ≡ name_faults w.indexes w.known w.before w.first fs) ⊎ ((name_faults w.indexes w.known w.before w.first fs ≡ []) × FaultyBatch (with_declared w fs) fs xs)
 
 -- what a pool is linked with: its entries, their names and those of its files, what its files import, and the numbers of its
--- extensions
+-- extensions; what is known, and how much there is, is what the records of its files give
 pub record IsOf (p : PoolType) (w : Linking) : Type 0 where
   pub tables : pool_of w.tables ≡ p
   pub named : AreNamed w.known (names_of p)
@@ -111,6 +111,8 @@ pub record IsOf (p : PoolType) (w : Linking) : Type 0 where
   pub numbers : (k : KeyType) → Decides (w.numbers k) (Contains (map key_of p.extensions) k)
   pub before : CountsOf p w.before
   pub first : w.first ≡ length p.files
+  pub known : w.known ≡ known_of_files p.records
+  pub counts : w.before ≡ counts_of_files p.records
 
 -- the files whose names are not known
 abbrev pub is_unknown : Indexes → FileDescriptorProto → Bool

@@ -11,13 +11,13 @@ ghost use Rattle.reflect_growth.specs.Growth.{Together, Appended};
 ghost use Rattle.reflect_tables.specs.Types.{ArePooled, AreFew, ListsMembers};
 ghost use Rattle.reflect_tables.specs.Views.{file_of, record_file, message_of, pool_of};
 ghost use Rattle.reflect_tables.specs.Names.{messages, enums, extensions, services};
-ghost use Rattle.reflect_index.specs.DeclaredNames.{with_names};
+ghost use Rattle.reflect_known.specs.DeclaredNames.{with_names};
 ghost use Rattle.reflect_index.specs.DraftNames.{stored_message_name, stored_enum_name, stored_extension_name, stored_service_name};
 ghost use Rattle.reflect_passes.specs.Errors.{Refuses};
 ghost use Rattle.reflect_tables.specs.ExtensionNumbers.{KeepsNumbers, numbers_of};
 ghost use Rattle.reflect_pool.specs.Linked.{IsLinked, AreNumbered, key_of};
 ghost use Rattle.reflect_build.specs.Refusals.{CountsOf, linking, FaultyBatch, Faulty};
-ghost use Rattle.reflect_build.specs.Accepted.{FaultlessBatch, Faultless, AddsNames};
+ghost use Rattle.reflect_build.specs.Accepted.{AddsRecords, FaultlessBatch, Faultless, AddsNames};
 
 use descriptor_records::FileDescriptorProto;
 use reflect_growth::{append, are_from, are_within};
@@ -103,6 +103,8 @@ fn link_declared(
     ensures enums { OnOk result (map stored_enum_name tables.new.enums.items ≡ map stored_enum_name tables.old.enums.items ++ with_names enums [] (batch_declarations before first files.items)) }
     ensures extensions { OnOk result (map stored_extension_name tables.new.extensions.items ≡ map stored_extension_name tables.old.extensions.items ++ with_names extensions [] (batch_declarations before first files.items)) }
     ensures services { OnOk result (map stored_service_name tables.new.services.items ≡ map stored_service_name tables.old.services.items ++ with_names services [] (batch_declarations before first files.items)) }
+    ensures records { OnOk result
+        (AddsRecords (pool_of tables.old) files.items (pool_of tables.new)) }
     ensures kept_links { take (length links.old.items) links.new.items ≡ links.old.items }
     ensures linked { OnOk result (map link_view links.new.items ≡ map link_view links.old.items ++ map (links_to (indexes_of file_names.now)) files.items) }
     ensures kept_numbers { KeepsNumbers (length tables.old.extensions.items) (numbers_of extension_numbers.old) (numbers_of extension_numbers.new) }

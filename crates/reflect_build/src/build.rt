@@ -1,9 +1,11 @@
 //! The calls that change a pool.
 
-ghost use Rattle.std.specs.Prelude.{◌≡◌, OnOk, OnErr, IfErr, length};
+ghost use Rattle.std.specs.Prelude.{◌≡◌, OnOk, OnErr, IfErr, length, map};
 ghost use Rattle.reflect_scope.specs.FileIndexes.{indexes_of};
+ghost use Rattle.reflect_known.specs.GivenNames.{names_of_file};
 ghost use Rattle.reflect_tables.specs.Types.{PoolType, IsSettled};
 ghost use Rattle.reflect_growth.specs.Cut.{cut_to};
+ghost use Rattle.reflect_growth.specs.Settled.{bare_of};
 ghost use Rattle.reflect_passes.specs.Errors.{Refuses};
 ghost use Rattle.reflect_pool.specs.Imports.{StandsAlone};
 ghost use Rattle.reflect_build.specs.Accepted.{FaultlessFiles, AddsFiles};
@@ -124,9 +126,14 @@ pub trait BuildFiles {
         ensures { holds self.new ≡ cut_to (holds self.old) mark };
 
     /// Moves settled options, and the paths of locations that speak of them, into the files' records. One that names no
-    /// place of the pool is passed over. Takes no memory; the types stay as they are.
+    /// place of the pool is passed over. Takes no memory; the types stay as they are, and so does
+    /// all in the records but options and the paths of locations.
     fn settle(&mut self, edits: Vec<Edit>)
-        ensures { IsSettled (holds self.old) (holds self.new) };
+        ensures settled { IsSettled (holds self.old) (holds self.new) }
+        ensures names { map names_of_file (holds self.new).records
+            ≡ map names_of_file (holds self.old).records }
+        ensures bare { map bare_of (holds self.new).records
+            ≡ map bare_of (holds self.old).records };
 }
 
 impl BuildFiles for DescriptorPool {

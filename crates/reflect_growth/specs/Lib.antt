@@ -1,2 +1,3 @@
 pub mod Growth
 pub mod Cut
+pub mod Settled

@@ -1,8 +1,11 @@
 //! Moves settled options, and the paths of locations that speak of them, into the files' records.
 
 ghost use Rattle.std.specs.Prelude.{◌≡◌, map};
+ghost use Rattle.reflect_known.specs.GivenNames.{enum_names, field_name, names_of_file, names_of_message, service_names};
 ghost use Rattle.reflect_tables.specs.Types.{IsSettled};
 ghost use Rattle.reflect_tables.specs.Views.{file_of, places_of, pool_of, record_file};
+ghost use Rattle.descriptor_records.specs.Content.{field_view, enum_view, service_view, message_view};
+ghost use Rattle.reflect_growth.specs.Settled.{names_of_stored, bare_field, bare_enum, bare_service, bare_message, bare_of, bare_stored};
 
 use descriptor_records::{
     DescriptorProto, EnumDescriptorProto, FieldDescriptorProto, FileDescriptorProto, Options,
@@ -34,13 +37,21 @@ fn first_step(path: &[i32]) -> Option<(i32, usize, &[i32])> {
     Some((*tag, usize::try_from(*place).ok()?, rest))
 }
 
-fn settle_field(fields: &mut Vec<FieldDescriptorProto>, place: usize, options: Options) {
+fn settle_field(fields: &mut Vec<FieldDescriptorProto>, place: usize, options: Options)
+    ensures names { map field_name fields.new.items ≡ map field_name fields.old.items }
+    ensures bare { map bare_field (map field_view fields.new.items)
+        ≡ map bare_field (map field_view fields.old.items) }
+{
     if let Some(field) = fields.get_mut(place) {
         field.options = Some(options);
     }
 }
 
-fn settle_enum(enums: &mut Vec<EnumDescriptorProto>, place: usize, rest: &[i32], options: Options) {
+fn settle_enum(enums: &mut Vec<EnumDescriptorProto>, place: usize, rest: &[i32], options: Options)
+    ensures names { map enum_names enums.new.items ≡ map enum_names enums.old.items }
+    ensures bare { map bare_enum (map enum_view enums.new.items)
+        ≡ map bare_enum (map enum_view enums.old.items) }
+{
     let Some(enumeration) = enums.get_mut(place) else {
         return;
     };
@@ -58,7 +69,11 @@ fn settle_service(
     place: usize,
     rest: &[i32],
     options: Options,
-) {
+)
+    ensures names { map service_names services.new.items ≡ map service_names services.old.items }
+    ensures bare { map bare_service (map service_view services.new.items)
+        ≡ map bare_service (map service_view services.old.items) }
+{
     let Some(service) = services.get_mut(place) else {
         return;
     };
@@ -71,19 +86,31 @@ fn settle_service(
     }
 }
 
-fn settle_range(message: &mut DescriptorProto, place: usize, options: Options) {
+fn settle_range(message: &mut DescriptorProto, place: usize, options: Options)
+    ensures names { names_of_message message.new ≡ names_of_message message.old }
+    ensures bare { bare_message (message_view message.new)
+        ≡ bare_message (message_view message.old) }
+{
     if let Some(range) = message.extension_range.get_mut(place) {
         range.options = Some(options);
     }
 }
 
-fn settle_oneof(message: &mut DescriptorProto, place: usize, options: Options) {
+fn settle_oneof(message: &mut DescriptorProto, place: usize, options: Options)
+    ensures names { names_of_message message.new ≡ names_of_message message.old }
+    ensures bare { bare_message (message_view message.new)
+        ≡ bare_message (message_view message.old) }
+{
     if let Some(oneof) = message.oneof_decl.get_mut(place) {
         oneof.options = Some(options);
     }
 }
 
-fn settle_message(message: &mut DescriptorProto, path: &[i32], options: Options) {
+fn settle_message(message: &mut DescriptorProto, path: &[i32], options: Options)
+    ensures names { names_of_message message.new ≡ names_of_message message.old }
+    ensures bare { bare_message (message_view message.new)
+        ≡ bare_message (message_view message.old) }
+{
     let Some((number, place, rest)) = first_step(path) else {
         message.options = Some(options);
         return;
@@ -104,7 +131,9 @@ fn settle_message(message: &mut DescriptorProto, path: &[i32], options: Options)
 }
 
 fn settle_file(file: &mut FileDescriptorProto, path: &[i32], options: Options)
-    ensures { record_file file.new ≡ record_file file.old }
+    ensures header { record_file file.new ≡ record_file file.old }
+    ensures names { names_of_file file.new ≡ names_of_file file.old }
+    ensures bare { bare_of file.new ≡ bare_of file.old }
 {
     let Some((number, place, rest)) = first_step(path) else {
         file.options = Some(options);
@@ -124,7 +153,9 @@ fn settle_file(file: &mut FileDescriptorProto, path: &[i32], options: Options)
 }
 
 fn move_location(file: &mut FileDescriptorProto, place: usize, path: Vec<i32>)
-    ensures { record_file file.new ≡ record_file file.old }
+    ensures header { record_file file.new ≡ record_file file.old }
+    ensures names { names_of_file file.new ≡ names_of_file file.old }
+    ensures bare { bare_of file.new ≡ bare_of file.old }
 {
     if let Some(info) = &mut file.source_code_info {
         if let Some(location) = info.location.get_mut(place) {
@@ -136,6 +167,8 @@ fn move_location(file: &mut FileDescriptorProto, place: usize, path: Vec<i32>)
 fn settle_options(files: &mut Vec<StoredFile>, file: usize, path: &[i32], options: Options)
     ensures files { map file_of files.new.items ≡ map file_of files.old.items }
     ensures declared { map places_of files.new.items ≡ map places_of files.old.items }
+    ensures names { map names_of_stored files.new.items ≡ map names_of_stored files.old.items }
+    ensures bare { map bare_stored files.new.items ≡ map bare_stored files.old.items }
 {
     if file < files.len() {
         settle_file(&mut files[file].record, path, options);
@@ -145,6 +178,8 @@ fn settle_options(files: &mut Vec<StoredFile>, file: usize, path: &[i32], option
 fn settle_location(files: &mut Vec<StoredFile>, file: usize, place: usize, path: Vec<i32>)
     ensures files { map file_of files.new.items ≡ map file_of files.old.items }
     ensures declared { map places_of files.new.items ≡ map places_of files.old.items }
+    ensures names { map names_of_stored files.new.items ≡ map names_of_stored files.old.items }
+    ensures bare { map bare_stored files.new.items ≡ map bare_stored files.old.items }
 {
     if file < files.len() {
         move_location(&mut files[file].record, place, path);
@@ -154,6 +189,8 @@ fn settle_location(files: &mut Vec<StoredFile>, file: usize, place: usize, path:
 fn settle_edit(files: &mut Vec<StoredFile>, edit: Edit)
     ensures files { map file_of files.new.items ≡ map file_of files.old.items }
     ensures declared { map places_of files.new.items ≡ map places_of files.old.items }
+    ensures names { map names_of_stored files.new.items ≡ map names_of_stored files.old.items }
+    ensures bare { map bare_stored files.new.items ≡ map bare_stored files.old.items }
 {
     match edit {
         Edit::Options {
@@ -167,9 +204,14 @@ fn settle_edit(files: &mut Vec<StoredFile>, edit: Edit)
     }
 }
 
-/// Moves edits into the records. One that names no place of the files is passed over. Takes no memory.
+/// Moves edits into the records, where all else stays. One that names no place of the files is
+/// passed over. Takes no memory.
 pub fn settle_all(tables: &mut Tables, edits: Vec<Edit>)
-    ensures { IsSettled (pool_of tables.old) (pool_of tables.new) }
+    ensures settled { IsSettled (pool_of tables.old) (pool_of tables.new) }
+    ensures names { map names_of_file (pool_of tables.new).records
+        ≡ map names_of_file (pool_of tables.old).records }
+    ensures bare { map bare_of (pool_of tables.new).records
+        ≡ map bare_of (pool_of tables.old).records }
 {
     settle_edits(&mut tables.files, edits);
 }
@@ -177,6 +219,8 @@ pub fn settle_all(tables: &mut Tables, edits: Vec<Edit>)
 fn settle_edits(files: &mut Vec<StoredFile>, edits: Vec<Edit>)
     ensures files { map file_of files.new.items ≡ map file_of files.old.items }
     ensures declared { map places_of files.new.items ≡ map places_of files.old.items }
+    ensures names { map names_of_stored files.new.items ≡ map names_of_stored files.old.items }
+    ensures bare { map bare_stored files.new.items ≡ map bare_stored files.old.items }
 {
     for edit in edits {
         settle_edit(files, edit);

@@ -5,15 +5,17 @@ use Rattle.reflect_walk.specs.declared.visit_parts.Offsets.{Offsets}
 use Rattle.reflect_walk.specs.Declarations.{Declaration, file_declarations, past_file}
 use Rattle.reflect_walk.specs.Batches.{batch_declarations, past_files}
 use Rattle.reflect_scope.specs.Known.{Known}
-use Rattle.reflect_names.specs.Names.{Places, known_after, faults_at}
-use Rattle.reflect_names.specs.NamePass.{known_behind, faults_along}
+use Rattle.reflect_known.specs.KnownNames.{known_after, known_behind}
+use Rattle.reflect_names.specs.Names.{Places, faults_at}
+use Rattle.reflect_names.specs.NamePass.{faults_along}
 use Rattle.reflect_tables.specs.Names.{Sort, FullName, AreFound, AreInOrder, found}
-use Rattle.reflect_index.specs.DeclaredNames.{is_of, with_name, with_names}
+use Rattle.reflect_known.specs.DeclaredNames.{is_of, with_name, with_names}
 use Rattle.reflect_index.proofs.Counted.{file_next}
 use Rattle.reflect_index.proofs.Known.{offset, walked, none_left, none_right}
 use Rattle.reflect_index.proofs.Orders.{AreUpTo, up_to_more, walk_ordered}
 
-known_on : (known : Known) (xs ys : List Declaration) → known_behind known (xs ++ ys) ≡ known_behind (known_behind known xs) ys
+pub known_on : (known : Known) (xs ys : List Declaration) → known_behind known (xs ++ ys)
+    ≡ known_behind (known_behind known xs) ys
 known_on known [] ys = refl
 known_on known (x ∷ xs) ys = known_on (known_after known x) xs ys
 
@@ -25,7 +27,8 @@ faults_on at files known (x ∷ xs) ys =
     ap (λ fs. here ++ fs) (faults_on at files (known_after known x) xs ys)
     ∙ sym (append_assoc here (faults_along at files (known_after known x) xs) (faults_along at files (known_behind (known_after known x) xs) ys))
 
-names_on : (s : Sort) (names : List FullName) (xs ys : List Declaration) → with_names s names (xs ++ ys) ≡ with_names s (with_names s names xs) ys
+pub names_on : (s : Sort) (names : List FullName) (xs ys : List Declaration)
+    → with_names s names (xs ++ ys) ≡ with_names s (with_names s names xs) ys
 names_on s names [] ys = refl
 names_on s names (x ∷ xs) ys = names_on s (with_name s names x) xs ys
 

@@ -4,7 +4,7 @@ use Rattle.std.proofs.lemmas.List.{append-nil}
 use Rattle.reflect_walk.specs.Tree.{MessageParts}
 use Rattle.reflect_walk.specs.Declarations.{Declaration, Body, of_file, of_message, of_field, of_oneof, of_enum, of_enum_value, of_service, of_method, of_extension, Runs}
 use Rattle.reflect_tables.specs.Names.{messages, enums, extensions, services}
-use Rattle.reflect_index.specs.DeclaredNames.{with_names}
+use Rattle.reflect_known.specs.DeclaredNames.{with_names}
 use Rattle.reflect_index.specs.DraftNames.{draft_name, enum_draft_name, stored_extension_name, stored_service_name}
 use Rattle.reflect_index.specs.IndexSteps.{Lists}
 use Rattle.reflect_index.specs.OfDeclarations.{RangesType, AllDeclared, AddsRanges, message_in, messages_in, draft_ranges, draft_values}

@@ -11,10 +11,11 @@ use Rattle.reflect_walk.specs.declared.visit_parts.Offsets.{Offsets}
 use Rattle.reflect_walk.specs.Declarations.{Declaration, Body, of_file, of_message, of_field, of_oneof, of_enum, of_enum_value, of_service, of_method, of_extension}
 use Rattle.reflect_scope.specs.Known.{Known, declared, is_taken, is_package, may_repeat}
 use Rattle.reflect_names.specs.Faults.{Fault}
-use Rattle.reflect_names.specs.Names.{Places, name_faults, named, packages, package_of, faults_at, known_after}
-use Rattle.reflect_names.specs.NamePass.{known_behind, faults_along}
+use Rattle.reflect_known.specs.KnownNames.{named, packages, package_of, known_after, known_behind}
+use Rattle.reflect_names.specs.Names.{Places, name_faults, faults_at}
+use Rattle.reflect_names.specs.NamePass.{faults_along}
 use Rattle.reflect_tables.specs.Names.{Sort, messages, enums, extensions, services, FullName, AreFound, found, with_file, place_in, place_of}
-use Rattle.reflect_index.specs.DeclaredNames.{is_of, with_name, with_names}
+use Rattle.reflect_known.specs.DeclaredNames.{is_of, with_name, with_names}
 use Rattle.reflect_tables.proofs.Founds.{found_same, found_more}
 use Rattle.reflect_index.proofs.Counted.{past_one, IsNext, AreNext}
 
@@ -147,7 +148,8 @@ longer : (names : List FullName) (x : FullName) (n m : ℕ) → length names ≡
 longer names x n m len e = length-append names (x ∷ []) ∙ omega (arith, len, e)
 
 -- the counts go on with the names
-counts : (s : Sort) (names : List FullName) (name : List ℕ) (file : ℕ) (o : Offsets) (body : Body) → length names ≡ offset s o
+pub counts : (s : Sort) (names : List FullName) (name : List ℕ) (file : ℕ) (o : Offsets)
+    (body : Body) → length names ≡ offset s o
     → length (cond (is_of s body) (names ++ (name, file) ∷ []) names) ≡ offset s (past_one o body)
 counts messages names name file o (of_message m) len = longer names (name, file) _ _ len refl
 counts enums names name file o (of_message m) len = len

@@ -8,3 +8,5 @@ pub mod Listed
 pub mod Valued
 pub mod Grown
 pub mod EntryRuns
+pub mod RewrittenMessages
+pub mod Writing

@@ -6,7 +6,7 @@ use Rattle.reflect_walk.specs.Declarations.{Declaration}
 use Rattle.reflect_walk.specs.declared.visit_parts.Offsets.{Offsets}
 use Rattle.reflect_scope.specs.declared.definition.Definition.{Definition}
 use Rattle.reflect_tables.specs.Names.{Sort, with_file, FullName, AreFound, AreInOrder, place_in, place_of}
-use Rattle.reflect_index.specs.DeclaredNames.{is_of, with_name, with_names}
+use Rattle.reflect_known.specs.DeclaredNames.{is_of, with_name, with_names}
 use Rattle.reflect_index.proofs.Counted.{AreNext, past_one}
 
 no_some : {X : Type 0} (x : X) → None ≡ Some x → ⊥

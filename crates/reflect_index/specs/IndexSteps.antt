@@ -2,7 +2,7 @@
 use Rattle.std.specs.Prelude.{◌≡◌, map}
 use Rattle.reflect_walk.specs.Declarations.{Declaration}
 use Rattle.reflect_tables.specs.Names.{messages, enums, extensions, services}
-use Rattle.reflect_index.specs.DeclaredNames.{with_name}
+use Rattle.reflect_known.specs.DeclaredNames.{with_name}
 use Rattle.reflect_index.specs.DraftNames.{draft_name, enum_draft_name, stored_extension_name, stored_service_name}
 use Rattle.reflect_index.specs.OfDeclarations.{draft_ranges, draft_values, AddsRanges, with_value}
 use Rattle.reflect_references.specs.Meanings.{rest_behind}

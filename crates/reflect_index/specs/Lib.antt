@@ -1,7 +1,6 @@
 pub mod OfDeclarations
 pub mod DraftNames
 pub mod IndexSteps
-pub mod DeclaredNames
 pub mod Members
 pub mod Along
 pub mod Entries
@@ -10,3 +9,4 @@ pub mod Grown
 pub mod Children
 pub mod Finished
 pub mod BatchEntries
+pub mod Rewriting

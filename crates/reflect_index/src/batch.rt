@@ -1,5 +1,5 @@
 ghost use Rattle.std.specs.Prelude.{◌≡◌, map, IfOk};
-ghost use Rattle.reflect_tables.specs.Views.{file_of, record_file, declared_of, places_of};
+ghost use Rattle.reflect_tables.specs.Views.{file_of, record_file, record_of, declared_of, places_of};
 
 use descriptor_records::FileDescriptorProto;
 use reflect_names::VisitError;
@@ -26,6 +26,7 @@ impl Batch {
         records: Vec<FileDescriptorProto>,
     ) -> Result<Tables, VisitError>
         ensures files { IfOk result (λ t. map file_of t.files.items ≡ map record_file records.items) }
+        ensures records { IfOk result (λ t. map record_of t.files.items ≡ records.items) }
         ensures declared { IfOk result (λ t. map places_of t.files.items ≡ map declared_of self.files.items) }
         ensures messages { IfOk result (λ t. t.messages.items ≡ self.messages.items) }
         ensures enums { IfOk result (λ t. t.enums.items ≡ self.enums.items) }
@@ -56,6 +57,7 @@ fn stored_files(
     declared: Vec<Declared>,
 ) -> Result<Vec<StoredFile>, VisitError>
     ensures files { IfOk result (λ v. map file_of v.items ≡ map record_file records.items) }
+    ensures records { IfOk result (λ v. map record_of v.items ≡ records.items) }
     ensures declared { IfOk result (λ v. map places_of v.items ≡ map declared_of declared.items) }
 {
     if declared.len() != records.len() {

@@ -6,8 +6,9 @@ use Rattle.reflect_walk.specs.Declarations.{Declaration, Runs}
 use Rattle.reflect_walk.specs.Batches.{KeptBy}
 use Rattle.reflect_scope.specs.Known.{known_of, below, AllBelow}
 use Rattle.reflect_names.specs.Faults.{Adds, place_at}
-use Rattle.reflect_names.specs.Names.{Places, known_after, faults_at}
-use Rattle.reflect_names.specs.NamePass.{known_behind, faults_along}
+use Rattle.reflect_known.specs.KnownNames.{known_after, known_behind}
+use Rattle.reflect_names.specs.Names.{Places, faults_at}
+use Rattle.reflect_names.specs.NamePass.{faults_along}
 use Rattle.reflect_names.specs.NameSteps.{Declares, Keeps, KeepsFrom}
 use Rattle.reflect_names.specs.declared.name_visitor.NameVisitor.{NameVisitor}
 use Rattle.reflect_names.proofs.Added.{adds_on, adds_none, same_places}

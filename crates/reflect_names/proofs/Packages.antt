@@ -3,7 +3,8 @@ use Rattle.std.proofs.Common.{◌≡◌, ℕ, ℤ, List, [], ◌∷◌, ◌++◌
 use Rattle.reflect_scope.specs.Means.{scopes, outer}
 use Rattle.reflect_scope.proofs.Scopes.{scopes_around, scopes_empty}
 use Rattle.reflect_scope.specs.Known.{Known, declared}
-use Rattle.reflect_names.specs.Names.{Places, packages, package_faults, package_of, taken}
+use Rattle.reflect_known.specs.KnownNames.{packages, package_of}
+use Rattle.reflect_names.specs.Names.{Places, package_faults, taken}
 use Rattle.reflect_names.specs.Faults.{Fault}
 
 pub packages_more : (known : Known) (file : ℕ) (s : List ℕ) → (length s ≡ 0 → ⊥) → packages known file (scopes s) ≡ packages (declared known s (package_of file)) file (scopes (outer s))

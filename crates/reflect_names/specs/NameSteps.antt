@@ -7,7 +7,8 @@ use Rattle.reflect_scope.specs.declared.definition.Definition.{Definition}
 use Rattle.reflect_walk.specs.Declarations.{Declaration}
 use Rattle.reflect_scope.specs.Known.{known_of, below, AllBelow}
 use Rattle.reflect_names.specs.Faults.{Adds, place_at}
-use Rattle.reflect_names.specs.Names.{faults_at, known_after}
+use Rattle.reflect_known.specs.KnownNames.{known_after}
+use Rattle.reflect_names.specs.Names.{faults_at}
 use Rattle.reflect_names.specs.declared.name_visitor.NameVisitor.{NameVisitor}
 
 pub record Declares (s : NameVisitor) (d : Declaration) (t : NameVisitor) : Type 0 where

@@ -9,33 +9,13 @@ use Rattle.descriptor_records.specs.declared.message.ExtensionRange.{ExtensionRa
 use Rattle.descriptor_records.specs.declared.message.ReservedRange.{ReservedRange}
 use Rattle.descriptor_records.specs.declared.service.MethodDescriptorProto.{MethodDescriptorProto}
 use Rattle.reflect_scope.specs.declared.definition.Definition.{Definition}
-use Rattle.reflect_scope.specs.declared.definition.DefinitionKind.{DefinitionKind}
-use Rattle.reflect_scope.specs.declared.definition.DefinitionKind.TheVariants as kind
 use Rattle.reflect_scope.specs.Means.{scopes}
 use Rattle.reflect_scope.specs.FileIndexes.{is_index}
 use Rattle.reflect_walk.specs.Tree.{text_of}
 use Rattle.reflect_walk.specs.Declarations.{Declaration, Body, of_file, of_message, of_field, of_oneof, of_enum, of_enum_value, of_service, of_method, of_extension, each, entry}
 use Rattle.reflect_scope.specs.Known.{Known, declared, is_taken}
+use Rattle.reflect_known.specs.KnownNames.{definition_of, package_of}
 use Rattle.reflect_names.specs.Faults.{Place, Fault, file_not_found, duplicate_name, unknown_syntax, missing, bad_import_index}
-
-abbrev pub kind_of : Declaration → DefinitionKind
-kind_of d = elim d.body [
-  | of_file f ↦ kind.Package
-  | of_message m ↦ kind.Message d.index
-  | of_field f ↦ kind.Field
-  | of_oneof o ↦ kind.Oneof
-  | of_enum e ↦ kind.Enum d.index
-  | of_enum_value v ↦ kind.EnumValue
-  | of_service s ↦ kind.Service d.index
-  | of_method m ↦ kind.Method
-  | of_extension x ↦ kind.Extension d.index
-]
-
-abbrev pub definition_of : Declaration → Definition
-definition_of d = record { file = d.file; kind = kind_of d }
-
-abbrev pub package_of : ℕ → Definition
-package_of file = record { file = file; kind = kind.Package }
 
 -- the places of one file
 abbrev pub Places : Type 0
@@ -53,14 +33,6 @@ taken at known path tag name d = cond (is_taken known name d) (duplicate_name na
 -- a declaration's name: taken, or missing
 abbrev pub name_faults : Places → Known → List ℤ → List ℕ → Bool → Definition → List Fault
 name_faults at known path name named d = cond named (taken at known path (pos 1) name d) (lacks at path (pos 1) false)
-
-abbrev pub named : Known → List ℕ → Bool → Definition → Known
-named known name is_named d = cond is_named (declared known name d) known
-
--- the scopes of a package are packages, but for the empty one
-abbrev pub packages : Known → ℕ → List (List ℕ) → Known
-packages known file [] = known
-packages known file (s ∷ ss) = elim s [ [] ↦ packages known file ss | b ∷ bs ↦ packages (declared known (b ∷ bs) (package_of file)) file ss ]
 
 abbrev pub package_faults : Places → Known → ℕ → List (List ℕ) → List Fault
 package_faults at known file [] = []
@@ -124,18 +96,4 @@ faults_at at known files d = elim d.body [
   | of_service s ↦ name_faults at known d.path d.name (is_some s.name) (definition_of d)
   | of_method m ↦ name_faults at known d.path d.name (is_some m.name) (definition_of d) ++ method_faults at d.path m
   | of_extension x ↦ name_faults at known d.path d.name (is_some x.name) (definition_of d) ++ (field_faults at d.path x ++ lacks at d.path (pos 2) (is_some x.extendee))
-]
-
--- the names that are known behind a declaration
-abbrev pub known_after : Known → Declaration → Known
-known_after known d = elim d.body [
-  | of_file f ↦ packages known d.file (scopes (text_of f.package))
-  | of_message m ↦ named known d.name (is_some m.name) (definition_of d)
-  | of_field f ↦ named known d.name (is_some f.name) (definition_of d)
-  | of_oneof o ↦ named known d.name (is_some o.name) (definition_of d)
-  | of_enum e ↦ named known d.name (is_some e.name) (definition_of d)
-  | of_enum_value v ↦ named known d.name (is_some v.name) (definition_of d)
-  | of_service s ↦ named known d.name (is_some s.name) (definition_of d)
-  | of_method m ↦ named known d.name (is_some m.name) (definition_of d)
-  | of_extension x ↦ named known d.name (is_some x.name) (definition_of d)
 ]

@@ -32,7 +32,8 @@ impl<'a> NameVisitor<'a> {
     ghost use Rattle.reflect_walk.specs.Batches.{batch_declarations, past_files};
     ghost use Rattle.reflect_scope.specs.Known.{known_of};
     ghost use Rattle.reflect_names.specs.Faults.{Adds, place_at};
-    ghost use Rattle.reflect_names.specs.NamePass.{known_behind, faults_along};
+    ghost use Rattle.reflect_known.specs.KnownNames.{known_behind};
+    ghost use Rattle.reflect_names.specs.NamePass.{faults_along};
     ghost use Rattle.reflect_names.specs.NameSteps.{KeepsFrom};
 
     /// Adds to `names` and `faults`. `file_names` has the indexes of all files, old and new, by their names.

@@ -8,7 +8,7 @@ ghost use Rattle.std.specs.List.{AllByRecursion};
 ghost use Rattle.reflect_tables.specs.Types.{ListsMembers};
 ghost use Rattle.reflect_tables.specs.Views.{message_of};
 ghost use Rattle.reflect_tables.specs.Names.{messages, enums, extensions, services};
-ghost use Rattle.reflect_index.specs.DeclaredNames.{with_names};
+ghost use Rattle.reflect_known.specs.DeclaredNames.{with_names};
 ghost use Rattle.reflect_index.specs.OfDeclarations.{AllDeclared, messages_in, enums_in, stored_ranges, stored_values, declared_values};
 ghost use Rattle.reflect_index.specs.BatchEntries.{IsBatchOf};
 ghost use Rattle.reflect_index.specs.DraftNames.{stored_message_name, stored_enum_name, stored_extension_name, stored_service_name};

@@ -6,7 +6,7 @@ ghost use Rattle.reflect_names.specs.Faults.{fault_view, list_of, another, batch
 ghost use Rattle.reflect_scope.specs.FileIndexes.{indexes_of, KeepsIndexes};
 ghost use Rattle.reflect_names.specs.FileNames.{with_files};
 ghost use Rattle.reflect_scope.specs.Known.{known_of};
-ghost use Rattle.reflect_names.specs.NamePass.{known_behind};
+ghost use Rattle.reflect_known.specs.KnownNames.{known_behind};
 ghost use Rattle.reflect_names.specs.NameSteps.{KeepsFrom};
 ghost use Rattle.reflect_names.specs.ReferencePass.{BatchReferences};
 ghost use Rattle.reflect_names.specs.ReferenceSteps.{target_of};

@@ -7,8 +7,12 @@ use Rattle.reflect_scope.specs.declared.seen.Links.{Links}
 use Rattle.reflect_scope.specs.FileIndexes.{Indexes, indexes_of, link_view}
 use Rattle.reflect_scope.specs.Known.{known_of, AllBelow}
 use Rattle.reflect_tables.specs.Types.{PoolType, ExtensionType, ArePooled}
-use Rattle.reflect_tables.specs.Names.{AreNamed, names_of}
+use Rattle.reflect_tables.specs.Names.{Sort, AreNamed, names_of}
+use Rattle.reflect_tables.specs.Views.{record_file}
 use Rattle.reflect_tables.specs.ExtensionNumbers.{KeyType, Numbers, numbers_of}
+use Rattle.reflect_walk.specs.Batches.{batch_declarations}
+use Rattle.reflect_known.specs.DeclaredNames.{with_names}
+use Rattle.reflect_known.specs.KnownNames.{nothing_before, known_of_files}
 use Rattle.reflect_pool.specs.Imports.{ImportsAreThere, imported_places, names_of_files}
 
 -- a pool that holds nothing
@@ -27,9 +31,15 @@ key_of x = (x.extendee, x.field.number)
 abbrev pub AreNumbered : Numbers → List KeyType → Type 0
 AreNumbered numbers keys = (k : KeyType) (i : ℕ) → (numbers k ≡ Some i → slice_get keys i ≡ Some k) × (slice_get keys i ≡ Some k → numbers k ≡ Some i)
 
+-- the names of the entries of each sort are those that the files' records declare
+abbrev pub AreRecorded : PoolType → Type 0
+AreRecorded p =
+    (s : Sort) → names_of p s ≡ with_names s [] (batch_declarations nothing_before 0 p.records)
+
 -- what entries name is there, a full name stands for a place exactly where it is the one at this place, all names are of the
 -- pool's files, each file's name stands for the file, and each extension's message and number for the extension; what files
--- import is there, and the links are to it
+-- import is there, and the links are to it; the files are those of the records, and what is known,
+-- and the names of the entries, is what the records give
 pub record IsLinked (p : PoolType) (names : BTreeMap (String Global) Definition) (file_names : BTreeMap (String Global) ℕ) (places : BTreeMap KeyType ℕ) (links : List Links) : Type 0 where
   pub pooled : ArePooled p
   pub named : AreNamed (known_of names) (names_of p)
@@ -38,3 +48,6 @@ pub record IsLinked (p : PoolType) (names : BTreeMap (String Global) Definition)
   pub numbers : AreNumbered (numbers_of places) (map key_of p.extensions)
   pub imports : ImportsAreThere p
   pub to_imports : map link_view links ≡ map (imported_places (indexes_of file_names)) p.files
+  pub known : known_of names ≡ known_of_files p.records
+  pub headers : p.files ≡ map record_file p.records
+  pub entries : AreRecorded p

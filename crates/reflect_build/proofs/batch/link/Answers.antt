@@ -6,7 +6,7 @@ use Rattle.reflect_build.specs.Refusals.{Linking, linking, with_declared}
 use Rattle.reflect_build.specs.Accepted.{FaultlessBatch}
 use Rattle.reflect_build.proofs.Refused.{refused_names, refused_behind}
 use Rattle.reflect_scope.specs.Known.{known_of}
-use Rattle.reflect_names.specs.NamePass.{known_behind}
+use Rattle.reflect_known.specs.KnownNames.{known_behind}
 use Rattle.reflect_names.specs.NameSteps.{KeepsFrom}
 use Rattle.reflect_passes.specs.NameFaults.{name_faults}
 use Rattle.reflect_walk.specs.Batches.{batch_declarations}
@@ -18,9 +18,11 @@ use Rattle.reflect_index.proofs.Known.{none_left, none_right}
 use Rattle.reflect_build.proofs.Stands.{all_go_on, linked_more}
 use Rattle.reflect_build.proofs.batch.link.Goals as goal
 
-by : {A E P Q R S T U V W X : Type 0} (r : Result A E) → OnOk r P → OnOk r Q → OnOk r R → OnOk r S → OnOk r T → OnOk r U → OnOk r V → OnOk r W → (P → Q → R → S → T → U → V → W → X) → OnOk r X
-by (Ok x) p q r s t u v w f = f p q r s t u v w
-by (Err e) p q r s t u v w f = p
+by : {A E P Q R S T U V W X Y : Type 0} (r : Result A E) → OnOk r P → OnOk r Q → OnOk r R → OnOk r S
+    → OnOk r T → OnOk r U → OnOk r V → OnOk r W → OnOk r X → (P → Q → R → S → T → U → V → W → X → Y)
+    → OnOk r Y
+by (Ok a) p q r s t u v w x f = f p q r s t u v w x
+by (Err e) p q r s t u v w x f = p
 
 pub returns-clause-linked : goal.returns-clause-linked
 returns-clause-linked c =
@@ -37,10 +39,14 @@ returns-clause-linked c =
     let none = subst (λ l. name_faults indexes (known_of were) c.args.before c.args.first l ≡ []) same c.in_ok-declare_names.ensures.ok in
     let keeps = subst (λ l. KeepsFrom c.args.first (length l) were.entries are.entries) same c.in_ok-declare_names.ensures.keeps in
     by c.link_declared.result c.link_declared.ensures.pooled c.link_declared.ensures.files c.link_declared.ensures.messages c.link_declared.ensures.enums c.link_declared.ensures.extensions c.link_declared.ensures.services c.link_declared.ensures.numbered
-    c.link_declared.ensures.linked
-    (λ pooled files ms es xs ss numbered links. linked_more c.args.tables.now c.link_declared.new.tables were are had has c.args.extension_numbers.now c.link_declared.new.extension_numbers c.args.links.now.items c.link_declared.new.links.items at c.args.before c.args.first fs
+    c.link_declared.ensures.linked c.link_declared.ensures.records
+    (λ pooled files ms es xs ss numbered links adds. linked_more c.args.tables.now
+    c.link_declared.new.tables were are had has c.args.extension_numbers.now
+    c.link_declared.new.extension_numbers c.args.links.now.items c.link_declared.new.links.items
+    at c.args.before c.args.first fs
     c.requires.linked c.requires.before c.requires.first placed (none_left (files_faults at indexes c.args.first fs) _ none)
-    named (none_right (files_faults at indexes c.args.first fs) _ none) keeps pooled files (record { messages = ms; enums = es; extensions = xs; services = ss }) numbered links)
+    named (none_right (files_faults at indexes c.args.first fs) _ none) keeps pooled files
+    (record { messages = ms; enums = es; extensions = xs; services = ss }) numbered links adds)
 
 pub returns-in_err-declare_names-clause-refused : goal.returns-in_err-declare_names-clause-refused
 returns-in_err-declare_names-clause-refused c =
@@ -64,8 +70,12 @@ returns-clause-refused c =
 pub returns-clause-added : goal.returns-clause-added
 returns-clause-added c =
     let fs = c.args.files.items in
-    by c.link_declared.result c.link_declared.ensures.pooled c.link_declared.ensures.files c.link_declared.ensures.messages c.link_declared.ensures.enums c.link_declared.ensures.extensions c.link_declared.ensures.services c.link_declared.ensures.numbered c.link_declared.ensures.linked
-    (λ pooled files ms es xs ss numbered links. record {
+    by c.link_declared.result c.link_declared.ensures.pooled c.link_declared.ensures.files
+    c.link_declared.ensures.messages c.link_declared.ensures.enums
+    c.link_declared.ensures.extensions c.link_declared.ensures.services
+    c.link_declared.ensures.numbered c.link_declared.ensures.linked
+    c.link_declared.ensures.records
+    (λ pooled files ms es xs ss numbered links adds. record {
       files = files;
       names = all_go_on c.args.tables.now c.link_declared.new.tables (batch_declarations c.args.before c.args.first fs) (record { messages = ms; enums = es; extensions = xs; services = ss });
     })

@@ -11,11 +11,11 @@ use Rattle.reflect_passes.specs.Errors.{Refuses}
 use Rattle.reflect_passes.specs.NumberFaults.{NumberFaults, doubled}
 use Rattle.reflect_passes.proofs.Listed.{places}
 use Rattle.reflect_build.specs.Refusals.{linking}
-use Rattle.reflect_build.proofs.Accepting.{added_behind, faultless}
+use Rattle.reflect_build.proofs.Accepting.{added_behind, records_behind, records_written, faultless}
 use Rattle.reflect_build.proofs.Refused.{mapped, before_mapped, types_with, types_of, means_of, refused_numbers, refused_extensions, refused_walk, refused_last}
 use Rattle.reflect_walk.specs.Batches.{batch_declarations}
 use Rattle.reflect_tables.specs.Names.{FullName, messages, enums, extensions, services}
-use Rattle.reflect_index.specs.DeclaredNames.{with_names}
+use Rattle.reflect_known.specs.DeclaredNames.{with_names}
 use Rattle.reflect_tables.specs.Views.{file_of, extension_of}
 use Rattle.reflect_index.specs.DraftNames.{stored_message_name, stored_enum_name, stored_extension_name, stored_service_name}
 use Rattle.reflect_build.proofs.Pooled.{map-append}
@@ -34,7 +34,10 @@ pub returns-clause-files : goal.returns-clause-files
 returns-clause-files c =
     let files = mapped _ _ c.with_records.result c.map_err-3.result c.map_err-3.ensures.cases c.with_records.ensures.files c.in_ok-more.more c.in_ok-more.was in
     on_mapped _ _ c.add.result c.map_err-4.result c.map_err-4.ensures.variant
-    (λ a. ap (map file_of) a.files ∙ map-append file_of c.args.tables.now.files.items c.in_ok-more.more.files.items ∙ ap (λ l. map file_of c.args.tables.now.files.items ++ l) (files ∙ c.rewritten.ensures)) c.add.ensures.appended
+    (λ a. ap (map file_of) a.files
+    ∙ map-append file_of c.args.tables.now.files.items c.in_ok-more.more.files.items
+    ∙ ap (λ l. map file_of c.args.tables.now.files.items ++ l)
+    (files ∙ c.rewritten.ensures.headers)) c.add.ensures.appended
 
 pub returns-clause-messages : goal.returns-clause-messages
 returns-clause-messages c =
@@ -67,6 +70,15 @@ returns-clause-services c =
     let more = mapped _ _ c.with_records.result c.map_err-3.result c.map_err-3.ensures.cases c.with_records.ensures.services c.in_ok-more.more c.in_ok-more.was in
     on_mapped _ _ c.add.result c.map_err-4.result c.map_err-4.ensures.variant
     (λ a. goes_on stored_service_name c.args.tables.now.services.items c.in_ok-more.more.services.items c.add.new.tables.services.items c.in_ok-batch.batch.services.items _ a.services more (batch ∙ ap (λ l. with_names services [] (batch_declarations c.args.before c.args.first l)) same)) c.add.ensures.appended
+
+pub returns-clause-records : goal.returns-clause-records
+returns-clause-records c =
+    let records = mapped _ _ c.with_records.result c.map_err-3.result c.map_err-3.ensures.cases
+    c.with_records.ensures.records c.in_ok-more.more c.in_ok-more.was in
+    on_mapped _ _ c.add.result c.map_err-4.result c.map_err-4.ensures.variant
+    (λ a. records_behind c.args.tables.now c.in_ok-more.more c.add.new.tables
+    c.rewritten.result.items c.args.files.items a records c.rewritten.ensures.names)
+    c.add.ensures.appended
 
 pub returns-clause-numbered : goal.returns-clause-numbered
 returns-clause-numbered c =
@@ -140,13 +152,27 @@ returns-clause-accepted c =
     let at = places f fs w.first (c.new.ensures.files ∙ c.as_slice-8.ensures.value) c.new.ensures.first in
     on_mapped _ _ c.add.result c.map_err-4.result c.map_err-4.ensures.variant
     (λ a. faultless w fs _ rs t means types
-    (added_behind c.args.tables.now c.in_ok-more.more c.add.new.tables batch fs w a (mapped _ _ c.with_records.result c.map_err-3.result c.map_err-3.ensures.cases c.with_records.ensures.files c.in_ok-more.more c.in_ok-more.was ∙ c.rewritten.ensures)
+    (added_behind c.args.tables.now c.in_ok-more.more c.add.new.tables batch fs w a
+    (mapped _ _ c.with_records.result c.map_err-3.result c.map_err-3.ensures.cases
+    c.with_records.ensures.files c.in_ok-more.more c.in_ok-more.was
+    ∙ c.rewritten.ensures.headers)
     (mapped _ _ c.with_records.result c.map_err-3.result c.map_err-3.ensures.cases c.with_records.ensures.declared c.in_ok-more.more c.in_ok-more.was)
     (mapped _ _ c.with_records.result c.map_err-3.result c.map_err-3.ensures.cases c.with_records.ensures.messages c.in_ok-more.more c.in_ok-more.was)
     (mapped _ _ c.with_records.result c.map_err-3.result c.map_err-3.ensures.cases c.with_records.ensures.enums c.in_ok-more.more c.in_ok-more.was)
     (mapped _ _ c.with_records.result c.map_err-3.result c.map_err-3.ensures.cases c.with_records.ensures.extensions c.in_ok-more.more c.in_ok-more.was)
-    (mapped _ _ c.with_records.result c.map_err-3.result c.map_err-3.ensures.cases c.with_records.ensures.services c.in_ok-more.more c.in_ok-more.was))
-    none f at c.in_ok-list_extensions.ensures.ok) c.add.ensures.appended
+    (mapped _ _ c.with_records.result c.map_err-3.result c.map_err-3.ensures.cases
+    c.with_records.ensures.services c.in_ok-more.more c.in_ok-more.was)
+    (records_behind c.args.tables.now c.in_ok-more.more c.add.new.tables c.rewritten.result.items fs
+    a
+    (mapped _ _ c.with_records.result c.map_err-3.result c.map_err-3.ensures.cases
+    c.with_records.ensures.records c.in_ok-more.more c.in_ok-more.was)
+    c.rewritten.ensures.names))
+    none f at c.in_ok-list_extensions.ensures.ok
+    (records_written c.args.tables.now c.in_ok-more.more c.add.new.tables rs fs
+    c.rewritten.result.items a
+    (mapped _ _ c.with_records.result c.map_err-3.result c.map_err-3.ensures.cases
+    c.with_records.ensures.records c.in_ok-more.more c.in_ok-more.was)
+    c.rewritten.ensures.records)) c.add.ensures.appended
 
 pub returns-in_err-map_err-clause-refused : goal.returns-in_err-map_err-clause-refused
 returns-in_err-map_err-clause-refused c =

@@ -4,7 +4,8 @@ use Rattle.reflect_scope.specs.Means.{scopes, outer}
 use Rattle.reflect_scope.proofs.Scopes.{outer_less}
 use Rattle.reflect_scope.specs.Known.{known_of, declared}
 use Rattle.reflect_names.specs.Faults.{Adds, place_at, list_of}
-use Rattle.reflect_names.specs.Names.{packages, package_faults, package_of, taken}
+use Rattle.reflect_known.specs.KnownNames.{packages, package_of}
+use Rattle.reflect_names.specs.Names.{package_faults, taken}
 use Rattle.reflect_names.specs.NameSteps.{entries-on}
 use Rattle.reflect_names.proofs.Added.{places_of_same}
 use Rattle.reflect_names.proofs.Packages.{packages_more, packages_last, faults_more, faults_last}

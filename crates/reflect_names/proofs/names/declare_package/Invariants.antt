@@ -4,7 +4,8 @@ use denote.Text.{Utf8}
 use Rattle.reflect_scope.specs.Means.{scopes}
 use Rattle.reflect_scope.specs.Known.{known_of}
 use Rattle.reflect_names.specs.Faults.{place_at, list_of}
-use Rattle.reflect_names.specs.Names.{packages, package_faults}
+use Rattle.reflect_known.specs.KnownNames.{packages}
+use Rattle.reflect_names.specs.Names.{package_faults}
 use Rattle.reflect_names.specs.NameSteps.{KeepsEntries}
 use Rattle.reflect_names.proofs.names.declare_package.Given as goal
 

@@ -2,7 +2,7 @@ use Rattle.std.proofs.Common.{◌≡◌, ◌∙◌, ◌++◌, List, [], Result, 
 use Rattle.reflect_walk.specs.Tree.{MessageParts}
 use Rattle.reflect_walk.specs.Batches.{batch_declarations}
 use Rattle.reflect_tables.specs.Names.{messages, enums, extensions, services}
-use Rattle.reflect_index.specs.DeclaredNames.{with_names}
+use Rattle.reflect_known.specs.DeclaredNames.{with_names}
 use Rattle.reflect_index.specs.DraftNames.{draft_name, enum_draft_name, stored_extension_name, stored_service_name}
 use Rattle.reflect_index.specs.OfDeclarations.{RangesType, AllDeclared, messages_in, draft_ranges, stored_ranges, draft_values}
 use Rattle.reflect_index.proofs.IndexRuns.{Behind, ran}

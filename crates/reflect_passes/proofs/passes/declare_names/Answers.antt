@@ -2,7 +2,8 @@ use Rattle.std.proofs.Common.{◌≡◌, [], OnOk, Result, Ok, Err, ap, subst, �
 use Rattle.reflect_names.specs.Faults.{Adds, list_of, place_at}
 use Rattle.reflect_scope.specs.FileIndexes.{indexes_of}
 use Rattle.reflect_scope.specs.Known.{known_of}
-use Rattle.reflect_names.specs.NamePass.{faults_along, known_behind}
+use Rattle.reflect_known.specs.KnownNames.{known_behind}
+use Rattle.reflect_names.specs.NamePass.{faults_along}
 use Rattle.reflect_walk.specs.Batches.{batch_declarations}
 use Rattle.reflect_passes.specs.NameFaults.{name_faults}
 use Rattle.reflect_passes.proofs.Listed.{names_listed, refused_by, same_known}

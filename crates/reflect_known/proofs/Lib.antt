@@ -1,0 +1,2 @@
+pub mod GivenNames
+pub mod MessageNames

@@ -1,0 +1,3 @@
+pub mod KnownNames
+pub mod GivenNames
+pub mod DeclaredNames
