@@ -1,6 +1,5 @@
 -- What schemas decode and recode is what the model's types do.
 use Rattle.std.proofs.Common.{◌≡◌, ◌<◌, ◌^◌, ◌∙◌, ℕ, List, [], ◌∷◌, length, map, ap, sym, subst}
-use Rattle.std.specs.List.{AllByRecursion}
 use Rattle.protobuf_model.specs.Bytes.{bytes_of}
 use Rattle.protobuf_model.specs.Coded.{AreOlderThan, IsAccepted, IsRecoded, IsRecodedThrough, Mean}
 use Rattle.protobuf_model.specs.Older.{IsOlder}
@@ -68,23 +67,31 @@ stays p sound name bytes out again b c h short k =
     let same : next.0 ≡ its.0 = one_meaning types t nothing out next.0 its.0 next.1 (recoded_means types (defaults p sound) t bytes out its short its.0 its.1) in
     sym next.2 ∙ ap (bytes_of types t) same ∙ its.2
 
-pub passed : (old new : SchemaType) → IsSound old.0 → IsSound new.0 → IsOlder (types_of old.0) (without_dot old.1) (types_of new.0) (without_dot new.1)
-    → (bytes out : List ℕ) → AreBytes bytes → Recoded old.0 old.1 bytes out → length out < 2 ^ 64
-    → (m : Message) → Mean (types_of new.0) (without_dot new.1) bytes m → Mean (types_of new.0) (without_dot new.1) out m
-passed old new sound also older bytes out b h short m means =
-    passes (types_of old.0) (types_of new.0) (without_dot old.1) (without_dot new.1) bytes out m older (defaults new.0 also) means (recodes old.0 sound old.1 bytes out b h) short
+pub passed : (old new : SchemaType)
+    → IsOlder (types_of old.0.pool) (without_dot old.1) (types_of new.0.pool) (without_dot new.1)
+    → (bytes out : List ℕ) → AreBytes bytes → Recoded old.0.pool old.1 bytes out
+    → length out < 2 ^ 64 → (m : Message) → Mean (types_of new.0.pool) (without_dot new.1) bytes m
+    → Mean (types_of new.0.pool) (without_dot new.1) out m
+passed old new older bytes out b h short m means =
+    passes (types_of old.0.pool) (types_of new.0.pool) (without_dot old.1) (without_dot new.1)
+    bytes out m older (defaults new.0.pool new.0.sound) means
+    (recodes old.0.pool old.0.sound old.1 bytes out b h) short
 
-through : (ss : List SchemaType) → AllByRecursion (λ (s : SchemaType). IsSound s.0) ss → (bytes out : List ℕ) → AreBytes bytes → RecodedThrough ss bytes out → IsRecodedThrough (map type_of ss) bytes out × AreBytes out
-through [] sound bytes out b h = (h, subst AreBytes h b)
-through (s ∷ ss) sound bytes out b (next, h, c, short, more) =
-    let rest = through ss sound.1 next out c more in
-    ((next, recodes s.0 sound.0 s.1 bytes next b h, short, rest.0), rest.1)
+through : (ss : List SchemaType) (bytes out : List ℕ) → AreBytes bytes → RecodedThrough ss bytes out
+    → IsRecodedThrough (map type_of ss) bytes out × AreBytes out
+through [] bytes out b h = (h, subst AreBytes h b)
+through (s ∷ ss) bytes out b (next, h, c, short, more) =
+    let rest = through ss next out c more in
+    ((next, recodes s.0.pool s.0.sound s.1 bytes next b h, short, rest.0), rest.1)
 
-pub one_normal_form : (new : SchemaType) (ss : List SchemaType) → IsSound new.0 → AllByRecursion (λ (s : SchemaType). IsSound s.0) ss
-    → AreOlderThan (types_of new.0) (without_dot new.1) (map type_of ss)
-    → (bytes out x y : List ℕ) → AreBytes bytes → RecodedThrough ss bytes out → Recoded new.0 new.1 out x → Recoded new.0 new.1 bytes y → x ≡ y
-one_normal_form new ss sound all older bytes out x y b h k l =
-    let chain = through ss all bytes out b h in
-    let direct = recodes new.0 sound new.1 bytes y b l in
-    same_as_direct (types_of new.0) (without_dot new.1) (defaults new.0 sound) (map type_of ss) older bytes out x y (direct.1.0, direct.1.1) chain.0
-    (recodes new.0 sound new.1 out x chain.1 k) direct
+pub one_normal_form : (new : SchemaType) (ss : List SchemaType)
+    → AreOlderThan (types_of new.0.pool) (without_dot new.1) (map type_of ss)
+    → (bytes out x y : List ℕ) → AreBytes bytes → RecodedThrough ss bytes out
+    → Recoded new.0.pool new.1 out x → Recoded new.0.pool new.1 bytes y → x ≡ y
+one_normal_form new ss older bytes out x y b h k l =
+    let types = types_of new.0.pool in
+    let chain = through ss bytes out b h in
+    let direct = recodes new.0.pool new.0.sound new.1 bytes y b l in
+    same_as_direct types (without_dot new.1) (defaults new.0.pool new.0.sound) (map type_of ss) older
+    bytes out x y (direct.1.0, direct.1.1) chain.0
+    (recodes new.0.pool new.0.sound new.1 out x chain.1 k) direct
