@@ -13,13 +13,16 @@ use Rattle.reflect_pool.specs.Dots.{without_dot}
 use Rattle.reflect_pool.specs.declared.message.MessageDescriptor.{MessageDescriptor}
 use Rattle.reflect_tables.specs.Types.{PoolType}
 use Rattle.reflect_wire.specs.Written.{AreBytes}
+use Rattle.reflect_wire.specs.declared.wire_error.WireError.{WireError}
+use Rattle.reflect_wire.specs.declared.wire_error.WireError.TheVariants.{Memory}
 use Rattle.message_view.specs.Recoded.{Recodes}
 use Rattle.message_view.specs.Sound.{IsSound}
 use Rattle.message_view.specs.Types.{name_at, types_of}
-use Rattle.message_view.proofs.Decoded.{decoded_means}
+use Rattle.message_view.proofs.Decoded.{decoded_means, told_refused}
 use Rattle.message_view.proofs.Defaults.{have_defaults}
 use Rattle.message_view.proofs.Recoded.{found_named, recodes_named}
 use Rattle.schema_core.specs.Payloads.{Decoded, Recoded}
+use Rattle.schema_core.specs.Refusals.{IsNoMessage}
 use Rattle.schema_laws.specs.Schemas.{SchemaType, type_of, RecodedThrough}
 
 pub accepted : (p : PoolType) → IsSound p → (name bytes : List ℕ) → AreBytes bytes → Decoded p name bytes → IsAccepted (types_of p) (without_dot name) bytes
@@ -27,6 +30,14 @@ accepted p sound name bytes b (m, (d, (there, found), type, apart, spelled)) =
     let means = decoded_means d (subst IsSound (sym there) sound) bytes b m type spelled in
     subst (λ n. IsAccepted (types_of p) n bytes) (found_named d p name found)
     (subst (λ p. IsAccepted (types_of p) (name_at p d.index) bytes) there (means.0, means.1))
+
+-- what a schema refuses as a message of a known type
+pub refused : (p : PoolType) → IsSound p → (name bytes : List ℕ) (e : WireError) → (e ≡ Memory → ⊥)
+    → IsNoMessage p name bytes e → IsAccepted (types_of p) (without_dot name) bytes → ⊥
+refused p sound name bytes e other (d, (there, found), told) h =
+    let named = subst (λ n. IsAccepted (types_of p) n bytes) (sym (found_named d p name found)) h in
+    told_refused d (subst IsSound (sym there) sound) bytes e other told
+    (subst (λ p. IsAccepted (types_of p) (name_at p d.index) bytes) (sym there) named)
 
 -- what a schema recodes, as decoding by its type and encoding
 abbrev as_recoded : (p : PoolType) (name bytes out : List ℕ) → Recoded p name bytes out → (d : MessageDescriptor) × Recodes d bytes out

@@ -1,16 +1,20 @@
-//! Laws of `Schema::decode` and `Schema::recode`, each the contract of a function that does nothing.
-//! `Decoded s.pool name bytes` and `Recoded s.pool name bytes out` are what these calls promise where
-//! a schema `s` answers: that the bytes spell a message of the named type, and that `out` is what is
-//! written of it.
+//! Laws of `Schema::decode` and `Schema::recode`, each the contract of a function that does
+//! nothing. `Decoded s.pool name bytes` and `Recoded s.pool name bytes out` are what these calls
+//! promise where a schema `s` answers: that the bytes spell a message of the named type, and that
+//! `out` is what is written of it. `IsNoMessage s.pool name bytes e` is what they promise where
+//! they refuse bytes as a message of a known type.
 ghost use Rattle.std.specs.Prelude.{◌≡◌, ◌<◌, ◌^◌, ℕ, List, length, map};
 ghost use Rattle.protobuf_model.specs.Coded.{AreOlderThan, IsAccepted, IsRecoded, Mean};
 ghost use Rattle.protobuf_model.specs.Older.{IsOlder};
 ghost use Rattle.protobuf_model.specs.Values.{Message};
 ghost use Rattle.reflect_pool.specs.Dots.{without_dot};
 ghost use Rattle.reflect_wire.specs.Written.{AreBytes};
+ghost use Rattle.reflect_wire.specs.declared.wire_error.WireError.{WireError};
+ghost use Rattle.reflect_wire.specs.declared.wire_error.WireError.TheVariants.{Memory};
 ghost use Rattle.message_view.specs.Sound.{IsSound};
 ghost use Rattle.message_view.specs.Types.{types_of};
 ghost use Rattle.schema_core.specs.Payloads.{Decoded, Recoded};
+ghost use Rattle.schema_core.specs.Refusals.{IsNoMessage};
 ghost use Rattle.schema_core.specs.declared.schema.Schema.{Schema};
 ghost use Rattle.schema_laws.specs.Schemas.{RecodedThrough, SchemaType, type_of};
 
@@ -23,6 +27,13 @@ pub fn schemas_are_sound()
 pub fn decoded_bytes_are_accepted()
     ensures { (s : Schema) (name bytes : List ℕ) → AreBytes bytes → Decoded s.pool name bytes
         → IsAccepted (types_of s.pool) (without_dot name) bytes }
+{}
+
+/// The type accepts no bytes that a schema refuses as a message of it, but for want of memory.
+pub fn refused_bytes_are_not_accepted()
+    ensures { (s : Schema) (name bytes : List ℕ) (e : WireError) → (e ≡ Memory → ⊥)
+        → IsNoMessage s.pool name bytes e
+        → IsAccepted (types_of s.pool) (without_dot name) bytes → ⊥ }
 {}
 
 /// What a schema recodes is the one form of what the bytes mean to the named type.

@@ -36,5 +36,5 @@ invariant_of-self-else-is_err c =
     let settled = c.resolve_options-settled in
     let accepted = c.in_ok-build_files.ensures.accepted in
     let sound = accepted_sound c.args.self.now.pool linked c.copy_typed_options.new.files.items
-        c.args.self.now.sound c.pools_are_linked.ensures accepted in
+    c.args.self.now.sound c.pools_are_linked.ensures accepted in
     record { sound = settled_sound linked settled.new.self settled.ensures.settled sound }
