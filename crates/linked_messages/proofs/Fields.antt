@@ -259,7 +259,7 @@ list_of g [] k x e = absurd (cc e)
 list_of g (y ∷ xs) zero x e = let same : y ≡ x = cc e in ap g same
 list_of g (y ∷ xs) (suc k) x e = list_of g xs k x e
 
-get_map : {X Y : Type 0} (g : X → Y) (xs : List X) (k : ℕ) (x : X) → slice_get xs k ≡ Some x
+pub get_map : {X Y : Type 0} (g : X → Y) (xs : List X) (k : ℕ) (x : X) → slice_get xs k ≡ Some x
     → slice_get (map g xs) k ≡ Some (g x)
 get_map g [] k x e = absurd (cc e)
 get_map g (y ∷ xs) zero x e = let same : y ≡ x = cc e in ap (λ z. Some (g z)) same

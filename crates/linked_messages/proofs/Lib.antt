@@ -7,3 +7,4 @@ pub mod Grown
 pub mod Sound
 pub mod Accepted
 pub mod Stays
+mod Example

@@ -1,7 +1,10 @@
 ghost use Rattle.std.specs.Prelude.{◌≡◌, ◌∷◌, [], Some, OnOk, OnErr, IfOk, IfErr};
+ghost use Rattle.linked_messages.specs.OneProof.{IsSound-prop};
+ghost use Rattle.message_view.specs.Sound.{IsSound};
 
 use crate::error::SchemaError;
 use descriptor_records::FileDescriptorProto;
+use linked_messages::pools_are_linked;
 use protox_parse::parse;
 use reflect_build::BuildFiles;
 use reflect_bytes::PoolBytes;
@@ -21,6 +24,8 @@ const DESCRIPTOR_NAME: &str = "google/protobuf/descriptor.proto";
 pub struct Schema {
     alloc: Global,
     pool: DescriptorPool,
+    /// Files come into the pool by linking alone, so its types are sound.
+    pub ghost sound: { IsSound pool } by { IsSound-prop pool },
 }
 
 impl Schema {
@@ -124,6 +129,7 @@ impl Schema {
         copy_typed_options(&mut files);
         let mark = self.pool.mark();
         self.pool.build_files(self.alloc, files)?;
+        pools_are_linked(&self.pool);
         let settled = self.pool.resolve_options(self.alloc, mark);
         if settled.is_err() {
             self.pool.cut(mark);

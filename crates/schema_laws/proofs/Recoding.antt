@@ -1,6 +1,5 @@
 -- What schemas decode and recode is what the model's types do.
 use Rattle.std.proofs.Common.{◌≡◌, ◌<◌, ◌^◌, ◌∙◌, ℕ, List, [], ◌∷◌, length, map, ap, sym, subst}
-use Rattle.std.specs.List.{AllByRecursion}
 use Rattle.protobuf_model.specs.Bytes.{bytes_of}
 use Rattle.protobuf_model.specs.Coded.{AreOlderThan, IsAccepted, IsRecoded, IsRecodedThrough, Mean}
 use Rattle.protobuf_model.specs.Older.{IsOlder}
@@ -14,13 +13,16 @@ use Rattle.reflect_pool.specs.Dots.{without_dot}
 use Rattle.reflect_pool.specs.declared.message.MessageDescriptor.{MessageDescriptor}
 use Rattle.reflect_tables.specs.Types.{PoolType}
 use Rattle.reflect_wire.specs.Written.{AreBytes}
+use Rattle.reflect_wire.specs.declared.wire_error.WireError.{WireError}
+use Rattle.reflect_wire.specs.declared.wire_error.WireError.TheVariants.{Memory}
 use Rattle.message_view.specs.Recoded.{Recodes}
 use Rattle.message_view.specs.Sound.{IsSound}
 use Rattle.message_view.specs.Types.{name_at, types_of}
-use Rattle.message_view.proofs.Decoded.{decoded_means}
+use Rattle.message_view.proofs.Decoded.{decoded_means, told_refused}
 use Rattle.message_view.proofs.Defaults.{have_defaults}
 use Rattle.message_view.proofs.Recoded.{found_named, recodes_named}
 use Rattle.schema_core.specs.Payloads.{Decoded, Recoded}
+use Rattle.schema_core.specs.Refusals.{IsNoMessage}
 use Rattle.schema_laws.specs.Schemas.{SchemaType, type_of, RecodedThrough}
 
 pub accepted : (p : PoolType) → IsSound p → (name bytes : List ℕ) → AreBytes bytes → Decoded p name bytes → IsAccepted (types_of p) (without_dot name) bytes
@@ -28,6 +30,14 @@ accepted p sound name bytes b (m, (d, (there, found), type, apart, spelled)) =
     let means = decoded_means d (subst IsSound (sym there) sound) bytes b m type spelled in
     subst (λ n. IsAccepted (types_of p) n bytes) (found_named d p name found)
     (subst (λ p. IsAccepted (types_of p) (name_at p d.index) bytes) there (means.0, means.1))
+
+-- what a schema refuses as a message of a known type
+pub refused : (p : PoolType) → IsSound p → (name bytes : List ℕ) (e : WireError) → (e ≡ Memory → ⊥)
+    → IsNoMessage p name bytes e → IsAccepted (types_of p) (without_dot name) bytes → ⊥
+refused p sound name bytes e other (d, (there, found), told) h =
+    let named = subst (λ n. IsAccepted (types_of p) n bytes) (sym (found_named d p name found)) h in
+    told_refused d (subst IsSound (sym there) sound) bytes e other told
+    (subst (λ p. IsAccepted (types_of p) (name_at p d.index) bytes) (sym there) named)
 
 -- what a schema recodes, as decoding by its type and encoding
 abbrev as_recoded : (p : PoolType) (name bytes out : List ℕ) → Recoded p name bytes out → (d : MessageDescriptor) × Recodes d bytes out
@@ -68,23 +78,31 @@ stays p sound name bytes out again b c h short k =
     let same : next.0 ≡ its.0 = one_meaning types t nothing out next.0 its.0 next.1 (recoded_means types (defaults p sound) t bytes out its short its.0 its.1) in
     sym next.2 ∙ ap (bytes_of types t) same ∙ its.2
 
-pub passed : (old new : SchemaType) → IsSound old.0 → IsSound new.0 → IsOlder (types_of old.0) (without_dot old.1) (types_of new.0) (without_dot new.1)
-    → (bytes out : List ℕ) → AreBytes bytes → Recoded old.0 old.1 bytes out → length out < 2 ^ 64
-    → (m : Message) → Mean (types_of new.0) (without_dot new.1) bytes m → Mean (types_of new.0) (without_dot new.1) out m
-passed old new sound also older bytes out b h short m means =
-    passes (types_of old.0) (types_of new.0) (without_dot old.1) (without_dot new.1) bytes out m older (defaults new.0 also) means (recodes old.0 sound old.1 bytes out b h) short
+pub passed : (old new : SchemaType)
+    → IsOlder (types_of old.0.pool) (without_dot old.1) (types_of new.0.pool) (without_dot new.1)
+    → (bytes out : List ℕ) → AreBytes bytes → Recoded old.0.pool old.1 bytes out
+    → length out < 2 ^ 64 → (m : Message) → Mean (types_of new.0.pool) (without_dot new.1) bytes m
+    → Mean (types_of new.0.pool) (without_dot new.1) out m
+passed old new older bytes out b h short m means =
+    passes (types_of old.0.pool) (types_of new.0.pool) (without_dot old.1) (without_dot new.1)
+    bytes out m older (defaults new.0.pool new.0.sound) means
+    (recodes old.0.pool old.0.sound old.1 bytes out b h) short
 
-through : (ss : List SchemaType) → AllByRecursion (λ (s : SchemaType). IsSound s.0) ss → (bytes out : List ℕ) → AreBytes bytes → RecodedThrough ss bytes out → IsRecodedThrough (map type_of ss) bytes out × AreBytes out
-through [] sound bytes out b h = (h, subst AreBytes h b)
-through (s ∷ ss) sound bytes out b (next, h, c, short, more) =
-    let rest = through ss sound.1 next out c more in
-    ((next, recodes s.0 sound.0 s.1 bytes next b h, short, rest.0), rest.1)
+through : (ss : List SchemaType) (bytes out : List ℕ) → AreBytes bytes → RecodedThrough ss bytes out
+    → IsRecodedThrough (map type_of ss) bytes out × AreBytes out
+through [] bytes out b h = (h, subst AreBytes h b)
+through (s ∷ ss) bytes out b (next, h, c, short, more) =
+    let rest = through ss next out c more in
+    ((next, recodes s.0.pool s.0.sound s.1 bytes next b h, short, rest.0), rest.1)
 
-pub one_normal_form : (new : SchemaType) (ss : List SchemaType) → IsSound new.0 → AllByRecursion (λ (s : SchemaType). IsSound s.0) ss
-    → AreOlderThan (types_of new.0) (without_dot new.1) (map type_of ss)
-    → (bytes out x y : List ℕ) → AreBytes bytes → RecodedThrough ss bytes out → Recoded new.0 new.1 out x → Recoded new.0 new.1 bytes y → x ≡ y
-one_normal_form new ss sound all older bytes out x y b h k l =
-    let chain = through ss all bytes out b h in
-    let direct = recodes new.0 sound new.1 bytes y b l in
-    same_as_direct (types_of new.0) (without_dot new.1) (defaults new.0 sound) (map type_of ss) older bytes out x y (direct.1.0, direct.1.1) chain.0
-    (recodes new.0 sound new.1 out x chain.1 k) direct
+pub one_normal_form : (new : SchemaType) (ss : List SchemaType)
+    → AreOlderThan (types_of new.0.pool) (without_dot new.1) (map type_of ss)
+    → (bytes out x y : List ℕ) → AreBytes bytes → RecodedThrough ss bytes out
+    → Recoded new.0.pool new.1 out x → Recoded new.0.pool new.1 bytes y → x ≡ y
+one_normal_form new ss older bytes out x y b h k l =
+    let types = types_of new.0.pool in
+    let chain = through ss bytes out b h in
+    let direct = recodes new.0.pool new.0.sound new.1 bytes y b l in
+    same_as_direct types (without_dot new.1) (defaults new.0.pool new.0.sound) (map type_of ss) older
+    bytes out x y (direct.1.0, direct.1.1) chain.0
+    (recodes new.0.pool new.0.sound new.1 out x chain.1 k) direct

@@ -1,58 +1,79 @@
-//! Laws of `Schema::decode` and `Schema::recode`, each the contract of a function that does nothing. `Decoded p name bytes` and
-//! `Recoded p name bytes out` are what these calls promise of a schema of the pool `p` that answers: that the bytes spell a message of
-//! the named type, and that `out` is what is written of it.
+//! Laws of `Schema::decode` and `Schema::recode`, each the contract of a function that does
+//! nothing. `Decoded s.pool name bytes` and `Recoded s.pool name bytes out` are what these calls
+//! promise where a schema `s` answers: that the bytes spell a message of the named type, and that
+//! `out` is what is written of it. `IsNoMessage s.pool name bytes e` is what they promise where
+//! they refuse bytes as a message of a known type.
 ghost use Rattle.std.specs.Prelude.{◌≡◌, ◌<◌, ◌^◌, ℕ, List, length, map};
-ghost use Rattle.std.specs.List.{AllByRecursion};
 ghost use Rattle.protobuf_model.specs.Coded.{AreOlderThan, IsAccepted, IsRecoded, Mean};
 ghost use Rattle.protobuf_model.specs.Older.{IsOlder};
 ghost use Rattle.protobuf_model.specs.Values.{Message};
 ghost use Rattle.reflect_pool.specs.Dots.{without_dot};
-ghost use Rattle.reflect_tables.specs.Types.{PoolType};
 ghost use Rattle.reflect_wire.specs.Written.{AreBytes};
+ghost use Rattle.reflect_wire.specs.declared.wire_error.WireError.{WireError};
+ghost use Rattle.reflect_wire.specs.declared.wire_error.WireError.TheVariants.{Memory};
 ghost use Rattle.message_view.specs.Sound.{IsSound};
 ghost use Rattle.message_view.specs.Types.{types_of};
 ghost use Rattle.schema_core.specs.Payloads.{Decoded, Recoded};
+ghost use Rattle.schema_core.specs.Refusals.{IsNoMessage};
+ghost use Rattle.schema_core.specs.declared.schema.Schema.{Schema};
 ghost use Rattle.schema_laws.specs.Schemas.{RecodedThrough, SchemaType, type_of};
+
+/// The types of a schema are sound, whatever was added to it and refused.
+pub fn schemas_are_sound()
+    ensures { (s : Schema) → IsSound s.pool }
+{}
 
 /// The type accepts bytes that a schema decodes.
 pub fn decoded_bytes_are_accepted()
-    ensures { (p : PoolType) → IsSound p → (name bytes : List ℕ) → AreBytes bytes
-        → Decoded p name bytes → IsAccepted (types_of p) (without_dot name) bytes }
+    ensures { (s : Schema) (name bytes : List ℕ) → AreBytes bytes → Decoded s.pool name bytes
+        → IsAccepted (types_of s.pool) (without_dot name) bytes }
+{}
+
+/// The type accepts no bytes that a schema refuses as a message of it, but for want of memory.
+pub fn refused_bytes_are_not_accepted()
+    ensures { (s : Schema) (name bytes : List ℕ) (e : WireError) → (e ≡ Memory → ⊥)
+        → IsNoMessage s.pool name bytes e
+        → IsAccepted (types_of s.pool) (without_dot name) bytes → ⊥ }
 {}
 
 /// What a schema recodes is the one form of what the bytes mean to the named type.
 pub fn schemas_recode_as_types_do()
-    ensures { (p : PoolType) → IsSound p → (name bytes out : List ℕ) → AreBytes bytes
-        → Recoded p name bytes out → IsRecoded (types_of p) (without_dot name) bytes out }
+    ensures { (s : Schema) (name bytes out : List ℕ) → AreBytes bytes
+        → Recoded s.pool name bytes out
+        → IsRecoded (types_of s.pool) (without_dot name) bytes out }
 {}
 
 /// Recoded bytes mean what the bytes do, where they are no more than a length can say.
 pub fn recoded_bytes_mean_the_same()
-    ensures { (p : PoolType) → IsSound p → (name bytes out : List ℕ) → AreBytes bytes
-        → Recoded p name bytes out → length out < 2 ^ 64 → (m : Message)
-        → Mean (types_of p) (without_dot name) bytes m → Mean (types_of p) (without_dot name) out m }
+    ensures { (s : Schema) (name bytes out : List ℕ) → AreBytes bytes
+        → Recoded s.pool name bytes out → length out < 2 ^ 64 → (m : Message)
+        → Mean (types_of s.pool) (without_dot name) bytes m
+        → Mean (types_of s.pool) (without_dot name) out m }
 {}
 
 /// Recoded again they are the same.
 pub fn recoded_bytes_stay()
-    ensures { (p : PoolType) → IsSound p → (name bytes out again : List ℕ) → AreBytes bytes → AreBytes out
-        → Recoded p name bytes out → length out < 2 ^ 64 → Recoded p name out again → again ≡ out }
+    ensures { (s : Schema) (name bytes out again : List ℕ) → AreBytes bytes → AreBytes out
+        → Recoded s.pool name bytes out → length out < 2 ^ 64 → Recoded s.pool name out again
+        → again ≡ out }
 {}
 
 /// What an older schema recodes means to the newer what the bytes do.
 pub fn bytes_pass_through_an_older_schema()
-    ensures { (old new : SchemaType) → IsSound old.0 → IsSound new.0
-        → IsOlder (types_of old.0) (without_dot old.1) (types_of new.0) (without_dot new.1)
-        → (bytes out : List ℕ) → AreBytes bytes → Recoded old.0 old.1 bytes out → length out < 2 ^ 64
-        → (m : Message) → Mean (types_of new.0) (without_dot new.1) bytes m
-        → Mean (types_of new.0) (without_dot new.1) out m }
+    ensures { (old new : SchemaType)
+        → IsOlder (types_of old.0.pool) (without_dot old.1)
+        (types_of new.0.pool) (without_dot new.1)
+        → (bytes out : List ℕ) → AreBytes bytes → Recoded old.0.pool old.1 bytes out
+        → length out < 2 ^ 64
+        → (m : Message) → Mean (types_of new.0.pool) (without_dot new.1) bytes m
+        → Mean (types_of new.0.pool) (without_dot new.1) out m }
 {}
 
-/// Behind any chain of schemas whose types are older than the newest's, the newest recodes to what it recodes the bytes themselves to.
+/// Behind any chain of schemas whose types are older than the newest's, the newest recodes to what
+/// it recodes the bytes themselves to.
 pub fn chains_of_schemas_have_one_normal_form()
     ensures { (new : SchemaType) (ss : List SchemaType)
-        → IsSound new.0 → AllByRecursion (λ (s : SchemaType). IsSound s.0) ss
-        → AreOlderThan (types_of new.0) (without_dot new.1) (map type_of ss)
+        → AreOlderThan (types_of new.0.pool) (without_dot new.1) (map type_of ss)
         → (bytes out x y : List ℕ) → AreBytes bytes → RecodedThrough ss bytes out
-        → Recoded new.0 new.1 out x → Recoded new.0 new.1 bytes y → x ≡ y }
+        → Recoded new.0.pool new.1 out x → Recoded new.0.pool new.1 bytes y → x ≡ y }
 {}

@@ -1,6 +1,8 @@
 use Rattle.std.proofs.Common.{IfErr, IfSome, subst, rules, of_calls}
 use Rattle.std.proofs.lemmas.Result.{err_from_is_err_and}
 use Rattle.reflect_tables.specs.Types.{IsSettled}
+use Rattle.linked_messages.proofs.Accepted.{accepted_sound}
+use Rattle.linked_messages.proofs.Stays.{settled_sound}
 use Rattle.option_parts.specs.Places.{option_place, StandsFrom}
 use Rattle.schema_core.specs.Refusals.{FilesFit}
 use Rattle.schema_core.proofs.Refused.{of_link, of_options}
@@ -27,3 +29,12 @@ returns-clause-linked c =
     let fit : FilesFit c.args.self.now.pool c.args.files.items c.build_files.new.self = (c.copy_typed_options.new.files.items, c.copy_typed_options.ensures, (c.in_ok-build_files.ensures.added, c.in_ok-build_files.ensures.accepted)) in
     let settled : IsSettled c.build_files.new.self c.if-is_err.self.pool = elim c.if-is_err.branch [ then-is_err w ↦ search (rules, of_calls) | else-is_err w ↦ search (rules, of_calls) ] in
     (c.build_files.new.self, fit, settled)
+
+pub invariant_of-self-else-is_err : goal.invariant_of-self-else-is_err
+invariant_of-self-else-is_err c =
+    let linked = c.build_files.new.self in
+    let settled = c.resolve_options-settled in
+    let accepted = c.in_ok-build_files.ensures.accepted in
+    let sound = accepted_sound c.args.self.now.pool linked c.copy_typed_options.new.files.items
+    c.args.self.now.sound c.pools_are_linked.ensures accepted in
+    record { sound = settled_sound linked settled.new.self settled.ensures.settled sound }
