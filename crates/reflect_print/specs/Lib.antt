@@ -2,3 +2,4 @@ pub mod Appends
 pub mod Errors
 pub mod Forms
 pub mod Pieces
+pub mod UnknownTexts

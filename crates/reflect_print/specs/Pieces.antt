@@ -25,3 +25,18 @@ colon pretty = 58 ∷ padding pretty
 -- the end of a line, and the spaces in front of the next
 abbrev pub new_line : ℕ → List ℕ
 new_line indent = 10 ∷ replicate indent 32
+
+-- what stands before an item, which others may stand before, and which may stand in braces: in the
+-- pretty form each item has a line of its own, and a text without braces begins with one
+abbrev pub before_item : Bool → Bool → Bool → ℕ → List ℕ
+before_item pretty in_braces any indent =
+    if pretty then (if any then new_line indent else (if in_braces then new_line indent else []))
+    else (if any then 44 ∷ [] else [])
+
+-- the line that the last brace has in the pretty form, behind any item
+abbrev pub last_line : Bool → Bool → ℕ → List ℕ
+last_line pretty any indent = if any then (if pretty then new_line indent else []) else []
+
+-- items in braces
+abbrev pub in_braces : Bool → ℕ → Bool → List ℕ → List ℕ
+in_braces pretty indent any items = 123 ∷ (items ++ (last_line pretty any indent ++ 125 ∷ []))

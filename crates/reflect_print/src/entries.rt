@@ -15,7 +15,8 @@ pub struct Declared<'m, 'p> {
     pub value: FieldRef<'m, 'p>,
 }
 
-/// The declared fields that are printed with these options, by ascending number or as they are declared.
+/// The declared fields that are printed with these options, by ascending number or as they are
+/// declared.
 pub fn declared_fields<'m, 'p>(
     alloc: Global,
     message: &'m DynamicMessage<'p>,

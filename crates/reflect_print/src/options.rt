@@ -12,7 +12,8 @@ pub struct FormatOptions {
 }
 
 impl FormatOptions {
-    /// One line without spaces, of the fields that are set, by ascending number, with each `google.protobuf.Any` expanded.
+    /// One line without spaces, of the fields that are set, by ascending number, with each
+    /// `google.protobuf.Any` expanded.
     pub fn new() -> FormatOptions
         ensures { result ≡ usual_form }
     {

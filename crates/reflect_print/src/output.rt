@@ -21,7 +21,8 @@ pub(crate) fn put_shown<W: fmt::Write, D: fmt::Display + Drop>(
     output: &mut W,
     value: D,
 ) -> Result<(), WriteError>
-    ensures { IfSome (D.output value) (λ text. Writes W.write_str_gives output.old result text output.new) }
+    ensures { IfSome (D.output value)
+        (λ text. Writes W.write_str_gives output.old result text output.new) }
 {
     write!(output, "{value}")?;
     Ok(())

@@ -1,4 +1,4 @@
-ghost use Rattle.std.specs.Prelude.{◌<◌, IfOk};
+ghost use Rattle.std.specs.Prelude.{◌≡◌, ◌+◌, ◌<◌, IfOk};
 
 use crate::error::WriteError;
 
@@ -31,7 +31,8 @@ impl Place {
 
     /// One level deeper on the same line.
     pub fn deeper(self) -> Result<Place, WriteError>
-        ensures { IfOk result (λ p. p.levels < self.levels) }
+        ensures levels { IfOk result (λ p. p.levels < self.levels) }
+        ensures place { IfOk result (λ p. p ≡ record self { levels = p.levels }) }
     {
         match self.levels.checked_sub(1) {
             Some(levels) => Ok(Place { levels, ..self }),
@@ -39,14 +40,17 @@ impl Place {
         }
     }
 
-    /// In braces at this place.
+    /// In braces at this place. A line with more spaces than a `usize` counts is wanted for no text
+    /// that memory holds.
     pub fn in_braces(self) -> Result<Place, WriteError>
-        ensures { IfOk result (λ p. p.levels < self.levels) }
+        ensures levels { IfOk result (λ p. p.levels < self.levels) }
+        ensures place { IfOk result
+            (λ p. p ≡ record self { indent = self.indent + 2; levels = p.levels }) }
     {
         let inner = self.deeper()?;
-        Ok(Place {
-            indent: inner.indent.saturating_add(2),
-            ..inner
-        })
+        match inner.indent.checked_add(2) {
+            Some(indent) => Ok(Place { indent, ..inner }),
+            None => Err(WriteError::Memory),
+        }
     }
 }

@@ -1,8 +1,17 @@
 //! From a message to text.
 
-ghost use Rattle.reflect_print.specs.Appends.{KeepsOutput, Writes};
-ghost use Rattle.reflect_print.specs.Pieces.{colon, new_line, padding, quoted};
-ghost use Rattle.std.specs.Prelude.{◌≡◌};
+ghost use Rattle.reflect_print.specs.Appends.{KeepsOutput, Writes, WritesOne};
+ghost use Rattle.reflect_print.specs.Pieces.{
+  before_item,
+  colon,
+  last_line,
+  new_line,
+  padding,
+  quoted,
+};
+ghost use Rattle.reflect_print.specs.UnknownTexts.{IsPayloadText, IsRecordText};
+ghost use Rattle.reflect_wire.specs.Views.{field_view};
+ghost use Rattle.std.specs.Prelude.{◌≡◌, ◌++◌, ◌∷◌, [], OnOk, true, false};
 
 use crate::any::{Held, held_message};
 use crate::entries::{Other, declared_fields, other_entries};
@@ -18,7 +27,8 @@ use std::alloc::Global;
 use std::collections::BTreeMap;
 use std::fmt;
 
-/// Writes messages, values and unknown records as text. After an error a part of the text may be written.
+/// Writes messages, values and unknown records as text. After an error a part of the text may be
+/// written.
 #[derive(Drop)]
 pub struct Writer<'a, W: fmt::Write> {
     pub(crate) alloc: Global,
@@ -36,7 +46,9 @@ pub(crate) struct Items {
 }
 
 impl Items {
-    pub(crate) fn new(in_braces: bool) -> Items {
+    pub(crate) fn new(in_braces: bool) -> Items
+        ensures { result ≡ record { in_braces = in_braces; any = false } }
+    {
         Items {
             in_braces,
             any: false,
@@ -81,16 +93,24 @@ impl<'a, W: fmt::Write> Writer<'a, W> {
         self.value(value, kind, Place::TOP)
     }
 
-    /// Writes a record with its number. A payload that is a list of records is written as such.
-    pub fn fmt_unknown_field(&mut self, record: &UnknownField) -> Result<(), WriteError>
-        ensures { KeepsOutput W.write_str_gives self.old.output.now result self.new.output.now }
+    /// Writes a record with its number. A payload that spells records is written as such, up to 100 in
+    /// one another, and any other as a string.
+    pub fn fmt_unknown_field(&mut self, field: &UnknownField) -> Result<(), WriteError>
+        ensures { WritesOne W.write_str_gives self.old.output.now result
+            (IsRecordText self.old.options.pretty (IsPayloadText 100 self.old.options.pretty) 0
+            (field_view field.now))
+            self.new.output.now }
     {
-        self.unknown_field(record, Place::TOP)
+        self.unknown_field(field, Place::TOP)
     }
 
     /// What stands before an item.
     pub(crate) fn next_item(&mut self, items: &mut Items, at: Place) -> Result<(), WriteError>
-        ensures { KeepsOutput W.write_str_gives self.old.output.now result self.new.output.now }
+        ensures text { Writes W.write_str_gives self.old.output.now result
+            (before_item self.old.options.pretty items.old.in_braces items.old.any at.indent)
+            self.new.output.now }
+        ensures items { OnOk result (items.new ≡ record items.old { any = true }) }
+        ensures form { self.new.options ≡ self.old.options }
     {
         if self.options.pretty {
             if items.any || items.in_braces {
@@ -105,7 +125,9 @@ impl<'a, W: fmt::Write> Writer<'a, W> {
 
     /// The brace behind items that stand in braces at a place.
     pub(crate) fn close(&mut self, any: bool, at: Place) -> Result<(), WriteError>
-        ensures { KeepsOutput W.write_str_gives self.old.output.now result self.new.output.now }
+        ensures text { Writes W.write_str_gives self.old.output.now result
+            (last_line self.old.options.pretty any at.indent ++ 125 ∷ []) self.new.output.now }
+        ensures form { self.new.options ≡ self.old.options }
     {
         self.last_line(any, at)?;
         put(self.output, "}")
@@ -113,7 +135,9 @@ impl<'a, W: fmt::Write> Writer<'a, W> {
 
     /// The line that the brace behind items stands in.
     fn last_line(&mut self, any: bool, at: Place) -> Result<(), WriteError>
-        ensures { KeepsOutput W.write_str_gives self.old.output.now result self.new.output.now }
+        ensures text { Writes W.write_str_gives self.old.output.now result
+            (last_line self.old.options.pretty any at.indent) self.new.output.now }
+        ensures form { self.new.options ≡ self.old.options }
     {
         if any && self.options.pretty {
             self.line(at)?;
@@ -123,7 +147,8 @@ impl<'a, W: fmt::Write> Writer<'a, W> {
 
     /// The end of a line, and the spaces that the next one begins with.
     fn line(&mut self, at: Place) -> Result<(), WriteError>
-        ensures text { Writes W.write_str_gives self.old.output.now result (new_line at.indent) self.new.output.now }
+        ensures text { Writes W.write_str_gives self.old.output.now result
+            (new_line at.indent) self.new.output.now }
         ensures form { self.new.options ≡ self.old.options }
     {
         put(self.output, "\n")?;
@@ -135,7 +160,8 @@ impl<'a, W: fmt::Write> Writer<'a, W> {
 
     /// A space where the form has one.
     pub(crate) fn padding(&mut self) -> Result<(), WriteError>
-        ensures text { Writes W.write_str_gives self.old.output.now result (padding self.old.options.pretty) self.new.output.now }
+        ensures text { Writes W.write_str_gives self.old.output.now result
+            (padding self.old.options.pretty) self.new.output.now }
         ensures form { self.new.options ≡ self.old.options }
     {
         if self.options.pretty {
@@ -146,7 +172,8 @@ impl<'a, W: fmt::Write> Writer<'a, W> {
 
     /// A colon and the space behind it.
     pub(crate) fn colon(&mut self) -> Result<(), WriteError>
-        ensures text { Writes W.write_str_gives self.old.output.now result (colon self.old.options.pretty) self.new.output.now }
+        ensures text { Writes W.write_str_gives self.old.output.now result
+            (colon self.old.options.pretty) self.new.output.now }
         ensures form { self.new.options ≡ self.old.options }
     {
         put(self.output, ":")?;
@@ -155,7 +182,8 @@ impl<'a, W: fmt::Write> Writer<'a, W> {
 
     /// Bytes as a string literal.
     pub(crate) fn string(&mut self, bytes: &[u8]) -> Result<(), WriteError>
-        ensures text { Writes W.write_str_gives self.old.output.now result (quoted bytes.now) self.new.output.now }
+        ensures text { Writes W.write_str_gives self.old.output.now result
+            (quoted bytes.now) self.new.output.now }
         ensures form { self.new.options ≡ self.old.options }
     {
         put_quoted(self.output, bytes)

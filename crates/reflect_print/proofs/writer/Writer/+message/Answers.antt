@@ -1,29 +1,29 @@
-use Rattle.reflect_print.proofs.Appending.{appends_on, appends_text, keeps_failed, keeps_on}
+use Rattle.reflect_print.proofs.Appending.{appends_on, appends_text, keeps_failed, keeps_on, keeps_text}
 use Rattle.reflect_print.proofs.writer.Writer.+message.Goals as goal
 
 pub braced_message-returns-in_err-any : goal.braced_message-returns-in_err-any
 braced_message-returns-in_err-any g t c = keeps_failed _ _ _ c.from_residual-in_err-any.ensures.1 c.in_err-any.ensures (appends_text _ c.in_ok-put.ensures)
 
 pub braced_message-returns : goal.braced_message-returns
-braced_message-returns g t c = keeps_on _ _ (appends_on (appends_text _ c.in_ok-put.ensures) c.in_ok-any.ensures) c.close.ensures
+braced_message-returns g t c = keeps_on _ _ (appends_on (appends_text _ c.in_ok-put.ensures) c.in_ok-any.ensures) (keeps_text _ _ _ _ _ c.close.ensures.text)
 
 pub declared-returns-in_err-next_item : goal.declared-returns-in_err-next_item
-declared-returns-in_err-next_item g t c = keeps_failed _ _ _ c.from_residual.ensures.1 c.in_err-next_item.ensures c.loop-field.invariant
+declared-returns-in_err-next_item g t c = keeps_failed _ _ _ c.from_residual.ensures.1 c.in_err-next_item.ensures.text c.loop-field.invariant
 
 pub declared-returns-in_err-field : goal.declared-returns-in_err-field
-declared-returns-in_err-field g t c = keeps_failed _ _ _ c.from_residual-in_err-field.ensures.1 c.in_err-field.ensures (appends_on c.loop-field.invariant c.in_ok-next_item.ensures)
+declared-returns-in_err-field g t c = keeps_failed _ _ _ c.from_residual-in_err-field.ensures.1 c.in_err-field.ensures (appends_on c.loop-field.invariant (appends_text _ c.in_ok-next_item.ensures.text))
 
 pub declared-loop-field-preserved : goal.declared-loop-field-preserved
-declared-loop-field-preserved g t c = appends_on c.loop-field.invariant (appends_on c.in_ok-next_item.ensures c.in_ok-field.ensures)
+declared-loop-field-preserved g t c = appends_on c.loop-field.invariant (appends_on (appends_text _ c.in_ok-next_item.ensures.text) c.in_ok-field.ensures)
 
 pub declared-returns-in_err-next_item-2 : goal.declared-returns-in_err-next_item-2
-declared-returns-in_err-next_item-2 g t c = keeps_failed _ _ _ c.from_residual-in_err-next_item-2.ensures.1 c.in_err-next_item-2.ensures c.loop-entry.invariant
+declared-returns-in_err-next_item-2 g t c = keeps_failed _ _ _ c.from_residual-in_err-next_item-2.ensures.1 c.in_err-next_item-2.ensures.text c.loop-entry.invariant
 
 pub declared-returns-in_err-field-2 : goal.declared-returns-in_err-field-2
-declared-returns-in_err-field-2 g t c = keeps_failed _ _ _ c.from_residual-in_err-field-2.ensures.1 c.in_err-field-2.ensures (appends_on c.loop-entry.invariant c.in_ok-next_item-2.ensures)
+declared-returns-in_err-field-2 g t c = keeps_failed _ _ _ c.from_residual-in_err-field-2.ensures.1 c.in_err-field-2.ensures (appends_on c.loop-entry.invariant (appends_text _ c.in_ok-next_item-2.ensures.text))
 
 pub declared-loop-entry-preserved : goal.declared-loop-entry-preserved
-declared-loop-entry-preserved g t c = appends_on c.loop-entry.invariant (appends_on c.in_ok-next_item-2.ensures c.in_ok-field-2.ensures)
+declared-loop-entry-preserved g t c = appends_on c.loop-entry.invariant (appends_on (appends_text _ c.in_ok-next_item-2.ensures.text) c.in_ok-field-2.ensures)
 
 pub entry-returns-in_err-entry_key : goal.entry-returns-in_err-entry_key
 entry-returns-in_err-entry_key g t c = keeps_failed _ _ _ c.from_residual-in_err-entry_key.ensures.1 c.in_err-entry_key.ensures (appends_text _ c.in_ok-put.ensures)
@@ -32,13 +32,13 @@ pub entry-returns-in_err-entry_value : goal.entry-returns-in_err-entry_value
 entry-returns-in_err-entry_value g t c = keeps_failed _ _ _ c.from_residual-in_err-entry_value.ensures.1 c.in_err-entry_value.ensures (appends_on (appends_text _ c.in_ok-put.ensures) c.in_ok-entry_key.ensures)
 
 pub entry-returns : goal.entry-returns
-entry-returns g t c = keeps_on _ _ (appends_on (appends_text _ c.in_ok-put.ensures) (appends_on c.in_ok-entry_key.ensures c.in_ok-entry_value.ensures)) c.close.ensures
+entry-returns g t c = keeps_on _ _ (appends_on (appends_text _ c.in_ok-put.ensures) (appends_on c.in_ok-entry_key.ensures c.in_ok-entry_value.ensures)) (keeps_text _ _ _ _ _ c.close.ensures.text)
 
 pub entry_value-returns-in_err-put : goal.entry_value-returns-in_err-put
-entry_value-returns-in_err-put g t c = keeps_failed _ _ _ c.from_residual-in_err-put.ensures.1 c.in_err-put.ensures c.in_ok-next_item.ensures
+entry_value-returns-in_err-put g t c = keeps_failed _ _ _ c.from_residual-in_err-put.ensures.1 c.in_err-put.ensures (appends_text _ c.in_ok-next_item.ensures.text)
 
 pub entry_value-returns : goal.entry_value-returns
-entry_value-returns g t c = keeps_on _ _ (appends_on c.in_ok-next_item.ensures (appends_text _ c.in_ok-put.ensures)) c.named_value.ensures
+entry_value-returns g t c = keeps_on _ _ (appends_on (appends_text _ c.in_ok-next_item.ensures.text) (appends_text _ c.in_ok-put.ensures)) c.named_value.ensures
 
 pub expansion-returns-in_err-padding : goal.expansion-returns-in_err-padding
 expansion-returns-in_err-padding g t c = keeps_failed _ _ _ c.from_residual-in_err-padding.ensures.1 c.in_err-padding.ensures.text c.in_ok-type_url.ensures
@@ -53,10 +53,10 @@ pub field-returns : goal.field-returns
 field-returns g t c = keeps_on _ _ (appends_text _ c.in_ok-put.ensures) c.named_value.ensures
 
 pub items-returns-in_err-expansion : goal.items-returns-in_err-expansion
-items-returns-in_err-expansion g t c = keeps_failed _ _ _ c.from_residual-in_err-expansion.ensures.1 c.in_err-expansion.ensures c.in_ok-next_item.ensures
+items-returns-in_err-expansion g t c = keeps_failed _ _ _ c.from_residual-in_err-expansion.ensures.1 c.in_err-expansion.ensures (appends_text _ c.in_ok-next_item.ensures.text)
 
 pub items-returns-in-Some : goal.items-returns-in-Some
-items-returns-in-Some g t c = appends_on c.in_ok-next_item.ensures c.in_ok-expansion.ensures
+items-returns-in-Some g t c = appends_on (appends_text _ c.in_ok-next_item.ensures.text) c.in_ok-expansion.ensures
 
 pub items-returns-in_err-others : goal.items-returns-in_err-others
 items-returns-in_err-others g t c = keeps_failed _ _ _ c.from_residual-in_err-others.ensures.1 c.in_err-others.ensures c.in_ok-declared.ensures
@@ -98,10 +98,10 @@ pub named_value-returns : goal.named_value-returns
 named_value-returns g t c = keeps_on _ _ c.in_ok-before_value.ensures c.value.ensures
 
 pub others-returns-in_err-next_item : goal.others-returns-in_err-next_item
-others-returns-in_err-next_item g t c = keeps_failed _ _ _ c.from_residual-in_err-next_item.ensures.1 c.in_err-next_item.ensures c.loop-other.invariant
+others-returns-in_err-next_item g t c = keeps_failed _ _ _ c.from_residual-in_err-next_item.ensures.1 c.in_err-next_item.ensures.text c.loop-other.invariant
 
 pub others-returns-in_err-other : goal.others-returns-in_err-other
-others-returns-in_err-other g t c = keeps_failed _ _ _ c.from_residual-in_err-other.ensures.1 c.in_err-other.ensures (appends_on c.loop-other.invariant c.in_ok-next_item.ensures)
+others-returns-in_err-other g t c = keeps_failed _ _ _ c.from_residual-in_err-other.ensures.1 c.in_err-other.ensures (appends_on c.loop-other.invariant (appends_text _ c.in_ok-next_item.ensures.text))
 
 pub others-loop-other-preserved : goal.others-loop-other-preserved
-others-loop-other-preserved g t c = appends_on c.loop-other.invariant (appends_on c.in_ok-next_item.ensures c.in_ok-other.ensures)
+others-loop-other-preserved g t c = appends_on c.loop-other.invariant (appends_on (appends_text _ c.in_ok-next_item.ensures.text) c.in_ok-other.ensures)

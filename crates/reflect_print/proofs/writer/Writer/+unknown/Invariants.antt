@@ -1,5 +1,7 @@
-use Rattle.std.proofs.Common.{◌+◌, ◌*◌}
-use Rattle.reflect_print.specs.Appends.{Appends}
+use Rattle.std.proofs.Common.{◌≡◌, ◌+◌, ◌*◌, true}
+use Rattle.reflect_wire.specs.Views.{set_view, records_view}
+use Rattle.reflect_print.specs.UnknownTexts.{IsPayloadText}
+use Rattle.reflect_print.proofs.Rows.{IsFront}
 use Rattle.reflect_print.proofs.writer.Writer.+unknown.Given as goal
 
 abbrev pub decreases-braced_records : goal.decreases-braced_records
@@ -18,5 +20,13 @@ abbrev pub decreases-unknown_field : goal.decreases-unknown_field
 decreases-unknown_field g l = 5 * l.at.levels + 4
 
 abbrev pub invariant-braced_records-loop-record : goal.invariant-braced_records-loop-record
-invariant-braced_records-loop-record g l =
-    (goal.iterator-braced_records-loop-record g).can_next l.record-iterator × (goal.iterator-braced_records-loop-record g).is_finite l.record-iterator × Appends g.W.Write.write_str_gives l.fn.self.output.now l.self.output.now
+invariant-braced_records-loop-record g l = record {
+  next : (goal.iterator-braced_records-loop-record g).can_next l.record-iterator;
+  finite : (goal.iterator-braced_records-loop-record g).is_finite l.record-iterator;
+  front : IsFront g.W.Write.write_str_gives l.fn.self.output.now l.fn.self.options.pretty
+      (IsPayloadText l.fn.at.payloads l.fn.self.options.pretty) (l.fn.at.indent + 2)
+      (set_view l.fn.records) l.self.output.now l.items.any
+      (records_view l.record-iterator.rest.now);
+  form : l.self.options ≡ l.fn.self.options;
+  braces : l.items.in_braces ≡ true;
+}

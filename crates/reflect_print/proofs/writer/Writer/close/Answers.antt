@@ -1,5 +1,5 @@
-use Rattle.reflect_print.proofs.Appending.{keeps_on, keeps_text}
+use Rattle.reflect_print.proofs.Appending.{writes_on}
 use Rattle.reflect_print.proofs.writer.Writer.close.Goals as goal
 
-pub returns : goal.returns
-returns g c = keeps_on _ _ c.in_ok-last_line.ensures (keeps_text _ _ _ _ _ c.put.ensures)
+pub returns-clause-text : goal.returns-clause-text
+returns-clause-text g c = writes_on _ _ _ _ c.in_ok-last_line.ensures.text c.put.ensures
