@@ -1,5 +1,4 @@
-use Rattle.std.proofs.Common.{rules, ◌≡◌, ◌++◌, [], ◌∷◌, refl, sym, ap, ◌∙◌, subst, inl}
-use Rattle.reflect_wire.specs.Records.{no_records}
+use Rattle.std.proofs.Common.{rules, ◌≡◌, [], sym, ap, ◌∙◌, subst}
 use Rattle.reflect_wire.specs.Views.{field_view, records_view}
 use Rattle.reflect_print.specs.UnknownTexts.{Infers}
 use Rattle.reflect_print.proofs.Appending.{appends_text, appends_on, one_on, one_as, one_before, one_failed}
