@@ -46,10 +46,7 @@ pub trait FieldsByName<'p> {
         ensures { IfOk result (Lends (HasName name.now) (message self.now)) };
 
     /// What the field of the name holds, to be changed, as `get_field_mut` gives it; `None` where there is no such field.
-    fn get_field_by_name_mut(
-        &mut self,
-        name: &str,
-    ) -> Result<Option<&mut Value<'p>>, AllocError>;
+    fn get_field_by_name_mut(&mut self, name: &str) -> Result<Option<&mut Value<'p>>, AllocError>;
 
     /// Sets the field of the name to a value that suits it; without such a field nothing happens. A refusal leaves the
     /// message.
@@ -97,10 +94,7 @@ impl<'p> FieldsByName<'p> for DynamicMessage<'p> {
         }
     }
 
-    fn get_field_by_name_mut(
-        &mut self,
-        name: &str,
-    ) -> Result<Option<&mut Value<'p>>, AllocError> {
+    fn get_field_by_name_mut(&mut self, name: &str) -> Result<Option<&mut Value<'p>>, AllocError> {
         match declared_field_by_name(self.descriptor(), name) {
             Some(field) => Ok(Some(self.get_field_mut(&field)?)),
             None => Ok(None),
