@@ -1,5 +1,6 @@
 //! What the part of an option's name means in a message.
 
+use reflect_access::FieldsByNumber;
 use reflect_link::{ExtensionDescriptor, FieldDescriptor, Kind, MessageDescriptor};
 use reflect_message::{DynamicMessage, FieldDescriptorLike, Value};
 use std::alloc::AllocError;
