@@ -14,7 +14,7 @@ members-init c h = subst (HoldsAmong c.args.message.now) (ap members_left c.into
 pub returns-then-has_field_by_number : goal.returns-then-has_field_by_number
 returns-then-has_field_by_number c =
     let m = c.args.message.now in
-    let held = subst (λ n. IsSome (value_at (fields_of m) n)) c.number.ensures (c.has_field_by_number.ensures c.if-has_field_by_number.true) in
+    let held = subst (λ n. IsSome (value_at (fields_of m) n)) c.number.ensures (c.has_field_by_number.ensures.held c.if-has_field_by_number.true) in
     (search rules, c.members.invariant (subst (HoldsAmong m) (sym c.in-Some.ensures.steps) (first_held m (field_type c.in-Some.member) _ held)))
 
 pub members-preserved : goal.members-preserved
