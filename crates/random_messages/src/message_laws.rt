@@ -4,7 +4,7 @@ use crate::random::Random;
 use descriptor_records::FileDescriptorProto;
 use protox_parse::parse;
 use reflect_build::BuildFiles;
-use reflect_dynamic::{DecodeMessage, DynamicMessage, EncodeMessage, MessageWalks};
+use reflect_dynamic::{DecodeMessage, DynamicMessage, EncodeMessage, FieldsByNumber, MessageWalks};
 use reflect_link::{DescriptorPool, MessageDescriptor, PoolReaders};
 use reflect_print::FormatOptions;
 use std::alloc::{AllocError, Global};

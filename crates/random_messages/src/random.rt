@@ -2,7 +2,7 @@
 
 use rand_core::utils::NextWord;
 use rand_pcg::Pcg32;
-use reflect_dynamic::{DynamicMessage, MapKey, Value};
+use reflect_dynamic::{DynamicMessage, FieldsByNumber, MapKey, Value};
 use reflect_link::{FieldDescriptor, Kind};
 use std::alloc::{AllocError, Global};
 use std::collections::BTreeMap;
