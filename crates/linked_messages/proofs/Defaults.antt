@@ -18,7 +18,7 @@ use Rattle.reflect_defaults.specs.declared.default.DefaultText.TheVariants as sa
 use Rattle.reflect_fields.specs.FieldDefaults.{default_type, IsScalarDefault, IsDefaultOf, IsNumbered, IsWritten, IsDefault}
 use Rattle.reflect_fields.specs.Fields.{scalar_type}
 use Rattle.reflect_index.specs.Entries.{IsMeant, IsTyped, HasKind}
-use Rattle.reflect_tables.specs.Types.{PoolType, EnumType, ValueType, KindType, DefaultType, no_enum, enum_at}
+use Rattle.reflect_tables.specs.Types.{PoolType, ValueType, KindType, DefaultType, no_enum, enum_at}
 use Rattle.reflect_tables.specs.Types as types
 use Rattle.reflect_pool.specs.Parts.{no_value, type_of_value}
 use Rattle.reflect_scalar.specs.Defaults.{narrow, narrow_unsigned, named_in, declared_in, kind_default}

@@ -2,7 +2,7 @@
 -- the pool that it becomes is sound, whatever is stored of them besides.
 use Rattle.std.proofs.Common.{◌≡◌, ◌⊎◌, inl, inr, ◌==◌, ℕ, zero, suc, pos, true, [], ◌∷◌, map, Some, is_some, refl, sym, ap, ◌∙◌, subst, slice_get, arith}
 use Rattle.std.specs.List.{find}
-use Rattle.reflect_tables.specs.Types.{PoolType, FieldType, MessageType, ExtensionType, no_field, no_type}
+use Rattle.reflect_tables.specs.Types.{PoolType, FieldType, MessageType, no_field, no_type}
 use Rattle.reflect_tables.specs.Types as types
 use Rattle.reflect_tables.specs.Views.{message_of, enum_of, extension_of}
 use Rattle.reflect_tables.specs.declared.kind.Cardinality.TheVariants.{Repeated}

@@ -6,7 +6,7 @@ use Rattle.std.proofs.lemmas.Bool.{cases_lt}
 use Rattle.std.specs.List.{AllByRecursion, find}
 use Rattle.std.specs.Option.{option_and_then, option_or}
 use Rattle.std.specs.Str.{bytes_eq}
-use Rattle.reflect_tables.specs.Types.{PoolType, FieldType, KindType, DefaultType, MessageType, EnumType, ExtensionType, ValueType, IsWithin, MessageWithin, ExtensionWithin, ArePooled, counts_of, no_type, no_enum, type_at, enum_at}
+use Rattle.reflect_tables.specs.Types.{PoolType, FieldType, KindType, DefaultType, MessageType, EnumType, ValueType, IsWithin, MessageWithin, ArePooled, counts_of, no_type, no_enum, type_at, enum_at}
 use Rattle.reflect_tables.specs.Types as types
 use Rattle.reflect_tables.specs.declared.tables.Counts.{Counts}
 use Rattle.reflect_tables.specs.Views.{message_of, enum_of}

@@ -1,7 +1,7 @@
 -- The empty pool is sound, and so is a sound one whose options are settled.
 use Rattle.std.proofs.Common.{inl, inr, List, sym, subst, arith}
 use Rattle.descriptor_records.specs.declared.file.FileDescriptorProto.{FileDescriptorProto}
-use Rattle.reflect_tables.specs.Types.{PoolType, ArePooled, IsSettled}
+use Rattle.reflect_tables.specs.Types.{PoolType, IsSettled}
 use Rattle.reflect_tables.specs.Types as types
 use Rattle.reflect_pool.specs.Linked.{empty_pool}
 use Rattle.message_laws.specs.MapKeys.{HaveMapKeys}

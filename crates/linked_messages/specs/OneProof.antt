@@ -2,7 +2,7 @@
 use Rattle.std.proofs.Common.{◌≡◌, ℕ, Option, None, Some, sym, ◌∙◌}
 use Rattle.std.proofs.Props.{props}
 use mathlib.Core.HLevel.{is_prop→PathP}
-use Rattle.reflect_tables.specs.Types.{PoolType, FieldType, KindType, OneofType, MessageType, EnumType, ExtensionType, MethodType, ServiceType, FilePlaces, IsWithin, IsAmong, HasParts, HaveMembers, ListsMembers, ChildrenWithin, HoldsWithin, FileWithin, MessageWithin, EnumWithin, ExtensionWithin, MethodWithin, ServiceWithin, AreFew, ArePooled}
+use Rattle.reflect_tables.specs.Types.{PoolType, FieldType, KindType, MessageType, EnumType, ExtensionType, ServiceType, FilePlaces, IsWithin, IsAmong, HasParts, ListsMembers, ChildrenWithin, FileWithin, MessageWithin, EnumWithin, ExtensionWithin, ServiceWithin, ArePooled}
 use Rattle.reflect_tables.specs.Types as types
 use Rattle.reflect_tables.specs.declared.stored.StoredEntry.{StoredEntry}
 use Rattle.reflect_tables.specs.declared.tables.Counts.{Counts}

@@ -19,12 +19,12 @@ use Rattle.reflect_scalar.proofs.Defaulted.{kind_is}
 use Rattle.reflect_message.specs.KindTypes.{IsScalarType, IsMessageType}
 use Rattle.reflect_message.specs.Known.{is_float, has_floats, holds_floats, known_field, known_extension}
 use Rattle.reflect_decode.specs.Accepts as decode
-use Rattle.reflect_decode.specs.Accepts.{AcceptsMessage, declared_at}
+use Rattle.reflect_decode.specs.Accepts.{AcceptsMessage}
 use Rattle.reflect_decode.specs.Messages.{IsInside}
 use Rattle.reflect_decode.specs.Packed as packed
 use Rattle.message_laws.specs.MapKeys.{HaveMapKeys}
 use Rattle.protobuf_model.specs.Types.{Name, Types, Key, Part, one, many, keyed, scalar}
-use Rattle.protobuf_model.specs.Scalars.{meant, Suits}
+use Rattle.protobuf_model.specs.Scalars.{Suits}
 use Rattle.protobuf_model.specs.Scalars as scalars
 use Rattle.protobuf_model.specs.Reader.{inside_of}
 use Rattle.protobuf_model.specs.Meaning.{payloads}

@@ -20,11 +20,11 @@ use Rattle.reflect_scalar.proofs.Defaulted.{kind_is}
 use Rattle.reflect_message.specs.KindTypes.{IsScalarType, IsMessageType}
 use Rattle.reflect_message.specs.Known.{is_float, numbered_field, entry_field, holds_floats, if_held, known_field, known_extension}
 use Rattle.reflect_decode.specs.Accepts as decode
-use Rattle.reflect_decode.specs.Accepts.{AcceptsMessage, declared_at}
+use Rattle.reflect_decode.specs.Accepts.{AcceptsMessage}
 use Rattle.reflect_decode.specs.Packed as packed
 use Rattle.message_laws.specs.MapKeys.{HaveMapKeys}
 use Rattle.protobuf_model.specs.Values as model
-use Rattle.protobuf_model.specs.Types.{Name, Frame, sized, tagged, Field, Types, Key, Part, Label, one, many, keyed, scalar, nested}
+use Rattle.protobuf_model.specs.Types.{Name, Field, Types, Key, Part, one, many, keyed, scalar}
 use Rattle.protobuf_model.specs.Types as kinds
 use Rattle.protobuf_model.specs.Scalars.{unzigzag, low, meant, Suits}
 use Rattle.protobuf_model.specs.Scalars as scalars

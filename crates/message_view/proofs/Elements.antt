@@ -25,7 +25,7 @@ use Rattle.reflect_decode.specs.Packed.{IsPacked}
 use Rattle.reflect_decode.specs.Scalars.{AreValues, ContinuesWith, HoldsLast}
 use Rattle.reflect_decode.specs.Taking.{AreMade, AddsMessages}
 use Rattle.protobuf_model.specs.Values as model
-use Rattle.protobuf_model.specs.Values.{single, message, list, Held, absent, chain_of}
+use Rattle.protobuf_model.specs.Values.{single, message, list, absent, chain_of}
 use Rattle.protobuf_model.specs.Types.{scalar, nested}
 use Rattle.protobuf_model.specs.Scalars.{meant}
 use Rattle.protobuf_model.specs.Scalars as scalars

@@ -3,7 +3,7 @@ use Rattle.std.proofs.Common.{◌≡◌, ℕ, Bool, true, false, true≢false, n
 use Rattle.std.specs.BTreeMap.{insert_entry}
 use Rattle.std.specs.List.{AllByRecursion, flat_map}
 use Rattle.std.specs.Option.{option_and_then, option_or}
-use Rattle.reflect_tables.specs.Types.{PoolType, FieldType, KindType, DefaultType, no_field}
+use Rattle.reflect_tables.specs.Types.{PoolType, FieldType, KindType, no_field}
 use Rattle.reflect_tables.specs.Types as types
 use Rattle.reflect_pool.specs.Shapes.{is_entry, is_repeated, holds_map}
 use Rattle.reflect_wire.specs.Records.{Payload, varint, fixed64, delimited, fixed32}
@@ -21,8 +21,8 @@ use Rattle.reflect_decode.specs.Maps.{LeavesSingle, LeavesValue, IsEntry, PutEnt
 use Rattle.reflect_decode.specs.Messages.{Takes}
 use Rattle.reflect_decode.specs.Refused.{IsKeyKind}
 use Rattle.protobuf_model.specs.Values as model
-use Rattle.protobuf_model.specs.Values.{Single, Content, single, message, dictionary, absent, pairs_of, entries_of}
-use Rattle.protobuf_model.specs.Types.{Scalar, Part, Key, scalar, nested}
+use Rattle.protobuf_model.specs.Values.{Single, Content, single, message, dictionary, entries_of}
+use Rattle.protobuf_model.specs.Types.{Scalar, Part, Key}
 use Rattle.protobuf_model.specs.Types as kinds
 use Rattle.protobuf_model.specs.Scalars.{meant, Suits}
 use Rattle.protobuf_model.specs.Keys.{put}

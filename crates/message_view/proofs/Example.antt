@@ -3,7 +3,7 @@ use Rattle.std.proofs.Common.{◌≡◌, inl, inr, ◌<◌, ℕ, pos, zero, suc,
 use Rattle.std.specs.List.{AllByRecursion}
 use Rattle.std.specs.Option.{option_and_then}
 use Rattle.std.specs.Prelude.{slice_index_or}
-use Rattle.reflect_tables.specs.Types.{PoolType, FieldType, KindType, MessageType, ChildrenWithin, MessageWithin, ArePooled, counts_of, no_children, no_field, no_type, type_at}
+use Rattle.reflect_tables.specs.Types.{PoolType, FieldType, MessageType, ChildrenWithin, MessageWithin, ArePooled, counts_of, no_children, no_field, no_type, type_at}
 use Rattle.reflect_tables.specs.Types as types
 use Rattle.reflect_tables.specs.declared.kind.Cardinality.TheVariants.{Repeated}
 use Rattle.reflect_tables.specs.declared.kind.Syntax.TheVariants.{Proto3}

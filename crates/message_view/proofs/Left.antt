@@ -25,8 +25,8 @@ use Rattle.reflect_decode.specs.Taking.{TakesAs, Leaves}
 use Rattle.reflect_decode.specs.Scalars.{LeavesAs}
 use Rattle.message_laws.specs.MapKeys.{HaveMapKeys}
 use Rattle.protobuf_model.specs.Values as model
-use Rattle.protobuf_model.specs.Values.{Held, Message, records, absent}
-use Rattle.protobuf_model.specs.Types.{Field, Types, Label, one, many, keyed, oneof_of, rival}
+use Rattle.protobuf_model.specs.Values.{Held, records, absent}
+use Rattle.protobuf_model.specs.Types.{Field, Types, one, many, keyed, oneof_of, rival}
 use Rattle.protobuf_model.specs.Types as kinds
 use Rattle.protobuf_model.specs.Reader.{inside_of}
 use Rattle.protobuf_model.specs.Meaning.{Merge, is_in, payloads, standing, left_of, joined, taken, held_by, held, meaning_by, meaning}

@@ -10,9 +10,8 @@ use Rattle.reflect_scalar.specs.Meaning.{Means}
 use Rattle.reflect_scalar.specs.Meaning as means
 use Rattle.reflect_scalar.specs.Singles as held
 use Rattle.protobuf_model.specs.Values.{int32, int64}
-use Rattle.protobuf_model.specs.Types.{Scalar}
 use Rattle.protobuf_model.specs.Types as kinds
-use Rattle.protobuf_model.specs.Scalars.{unzigzag, low, meant, Suits, same, same_int, same_bool}
+use Rattle.protobuf_model.specs.Scalars.{unzigzag, low, meant, Suits}
 use Rattle.protobuf_model.specs.Scalars as scalars
 use Rattle.protobuf_model.proofs.Singles.{zigzag_back}
 use Rattle.message_view.specs.Singles.{scalar_of, single_view}

@@ -1,5 +1,6 @@
 -- What is said of refused options.
-use Rattle.std.specs.Prelude.{ℕ, List, [], ◌++◌, Option, None, Some, codes, string_bytes}
+use Rattle.std.specs.Prelude.{ℕ, List, [], ◌++◌, None, Some, codes, string_bytes}
+use Rattle.reflect_wire.specs.Texts as wire
 use Rattle.text_error.specs.Texts as text
 use Rattle.option_parts.specs.declared.option_error.OptionErrorKind.{OptionErrorKind}
 use Rattle.option_parts.specs.declared.option_error.OptionErrorKind.TheVariants as kinds
@@ -12,16 +13,16 @@ plain_words (kinds.UndecodableOptions None) = codes "the stored options contradi
 plain_words kinds.Memory = codes "out of memory"
 plain_words _ = []
 
--- a line of words, with the option's name or the text's fault among them; where stored bytes cannot be read, how they are called
--- at fault is not told here
-abbrev pub said : OptionErrorKind → Option (List ℕ)
-said (kinds.OptionNotFound name) = Some (codes "option '" ++ (string_bytes name ++ codes "' not found"))
-said (kinds.InvalidOptionType name) = Some (codes "option '" ++ (string_bytes name ++ codes "' has another type"))
-said (kinds.InvalidOptionExtendee name) = Some (codes "option '" ++ (string_bytes name ++ codes "' extends another message"))
-said (kinds.InvalidMessageOption name error) = Some (codes "invalid value for option '" ++ (string_bytes name ++ (codes "': " ++ text.said error.kind)))
-said (kinds.DuplicateOption name) = Some (codes "option '" ++ (string_bytes name ++ codes "' is already set"))
-said (kinds.FloatOption name) = Some (codes "option '" ++ (string_bytes name ++ codes "' has a floating-point type"))
-said (kinds.ForbiddenOption name) = Some (codes "option '" ++ (string_bytes name ++ codes "' may not be set in a source"))
-said (kinds.BadDescriptorProto name) = Some (codes "'" ++ (string_bytes name ++ codes "' is not the type of options that it is named after"))
-said (kinds.UndecodableOptions (Some error)) = None
-said kind = Some (plain_words kind)
+-- a line of words, with the option's name, or the fault of a text or of stored bytes, among them
+abbrev pub said : OptionErrorKind → List ℕ
+said (kinds.OptionNotFound name) = codes "option '" ++ (string_bytes name ++ codes "' not found")
+said (kinds.InvalidOptionType name) = codes "option '" ++ (string_bytes name ++ codes "' has another type")
+said (kinds.InvalidOptionExtendee name) = codes "option '" ++ (string_bytes name ++ codes "' extends another message")
+said (kinds.InvalidMessageOption name error) = codes "invalid value for option '" ++ (string_bytes name ++ (codes "': " ++ text.said error.kind))
+said (kinds.DuplicateOption name) = codes "option '" ++ (string_bytes name ++ codes "' is already set")
+said (kinds.FloatOption name) = codes "option '" ++ (string_bytes name ++ codes "' has a floating-point type")
+said (kinds.ForbiddenOption name) = codes "option '" ++ (string_bytes name ++ codes "' may not be set in a source")
+said (kinds.BadDescriptorProto name) = codes "'" ++ (string_bytes name ++ codes "' is not the type of options that it is named after")
+said (kinds.UndecodableOptions (Some error)) =
+    codes "the stored options cannot be read: " ++ wire.said error
+said kind = plain_words kind

@@ -1,4 +1,4 @@
-ghost use Rattle.std.specs.Prelude.{◌≡◌, None, option_map};
+ghost use Rattle.std.specs.Prelude.{◌≡◌, None, Some, option_map};
 ghost use Rattle.option_parts.specs.Texts.{plain_words, said};
 
 use reflect_names::Label;
@@ -57,7 +57,7 @@ impl OptionErrorKind {
 }
 
 impl fmt::Display for OptionErrorKind {
-    ghost output = { λ k. said k };
+    ghost output = { λ k. Some (said k) };
 
     fn fmt<W: fmt::Write>(&self, f: &mut fmt::Formatter<W>) -> fmt::Result {
         match self {
@@ -161,7 +161,7 @@ impl OptionError {
 }
 
 impl fmt::Display for OptionError {
-    ghost output = { λ e. said e.kind };
+    ghost output = { λ e. Some (said e.kind) };
 
     fn fmt<W: fmt::Write>(&self, f: &mut fmt::Formatter<W>) -> fmt::Result {
         let kind = &self.kind;

@@ -2,7 +2,7 @@
 use Rattle.std.proofs.Common.{◌≡◌, ◌≢◌, ℕ, Result, Ok, Err, OnOk, IfErr, List, Option, None, Some, bytes_eq, sym, ap, ◌∙◌, subst}
 use Rattle.std.proofs.lemmas.Slice.Eq.{bytes_eq-Decides}
 use Rattle.std.specs.List.{find}
-use Rattle.reflect_tables.specs.Types.{PoolType, FieldType, type_at, no_field}
+use Rattle.reflect_tables.specs.Types.{FieldType, type_at, no_field}
 use Rattle.reflect_pool.specs.FieldsLeft.{field_type}
 use Rattle.reflect_pool.specs.Finds.{FindsField}
 use Rattle.reflect_pool.specs.declared.field.FieldDescriptor.{FieldDescriptor}

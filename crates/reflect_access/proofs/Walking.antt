@@ -2,7 +2,7 @@
 use Rattle.std.proofs.Common.{◌≡◌, ℕ, ◌==◌, ◌&&◌, not, Bool, true, false, true≢false, cond, List, [], ◌∷◌, map, MatchOption, Option, None, Some, is_some, option_map, refl, sym, ap, ◌∙◌, arith}
 use Rattle.std.specs.List.{filter_map}
 use Rattle.std.specs.Option.{option_and_then}
-use Rattle.reflect_tables.specs.Types.{PoolType, FieldType, ExtensionType, no_extension}
+use Rattle.reflect_tables.specs.Types.{ExtensionType, no_extension}
 use Rattle.reflect_pool.specs.FieldsLeft.{field_type}
 use Rattle.reflect_pool.specs.Finds.{FindsField, FindsAny}
 use Rattle.reflect_pool.specs.declared.extension.ExtensionDescriptor.{ExtensionDescriptor}
@@ -13,7 +13,7 @@ use Rattle.reflect_scalar.specs.FieldTypes.{field_pool, extension_pool, extensio
 use Rattle.reflect_message.proofs.Known.{field_missing, here}
 use Rattle.reflect_message.specs.Bytes.{form_of, is_set}
 use Rattle.reflect_message.specs.declared.value.Value.{Value}
-use Rattle.reflect_access.specs.Walked.{Holding, if_set, set_field, numbered_extension, set_extension}
+use Rattle.reflect_access.specs.Walked.{if_set, set_field, set_extension}
 
 module _ {X Y : Type 0} (h : X → Option Y) where
   -- what gives nothing is passed over

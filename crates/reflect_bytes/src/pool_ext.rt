@@ -1,8 +1,9 @@
 //! Files for a pool, from descriptor records and from the bytes of descriptor sets.
 
-ghost use Rattle.std.specs.Prelude.{◌≡◌, ◌⊎◌, ◌∷◌, [], IfOk, OnOk, OnErr, IfErr};
+ghost use Rattle.std.specs.Prelude.{◌≡◌, ◌⊎◌, ◌∷◌, [], Some, IfOk, OnOk, OnErr, IfErr};
 ghost use Rattle.reflect_tables.specs.Types.{PoolType};
 ghost use Rattle.reflect_pool.specs.Linked.{empty_pool};
+ghost use Rattle.reflect_bytes.specs.Texts.{said};
 ghost use Rattle.reflect_bytes.specs.Spelled.{SpellsSet, SpellsFile, of_wire, RecordsLinked, RecordsRefused, BytesLinked, BytesRefused};
 
 use descriptor_records::{FileDescriptorProto, FileDescriptorSet};
@@ -11,20 +12,33 @@ use reflect_codec::{decode_file, decode_set};
 use reflect_link::DescriptorPool;
 use reflect_wire::WireError;
 use std::alloc::{AllocFailed, Global};
-use thiserror::Error;
+use std::error::Error;
+use std::fmt;
 
 /// Why files were not added to a pool.
-#[derive(Debug, Drop, Error)]
+#[derive(Debug, Drop)]
 pub enum PoolError {
     /// The bytes are no descriptor record or set.
-    #[error("{0}")]
     Wire(WireError),
     /// The files do not fit together, or not with those that are there.
-    #[error("{0}")]
     Link(DescriptorError),
-    #[error("out of memory")]
+    /// Want of memory.
     Memory,
 }
+
+impl fmt::Display for PoolError {
+    ghost output = { λ e. Some (said e) };
+
+    fn fmt<W: fmt::Write>(&self, f: &mut fmt::Formatter<W>) -> fmt::Result {
+        match self {
+            PoolError::Wire(error) => write!(f, "{error}"),
+            PoolError::Link(error) => write!(f, "{error}"),
+            PoolError::Memory => f.write_str("out of memory"),
+        }
+    }
+}
+
+impl Error for PoolError {}
 
 impl From<WireError> for PoolError {
     ghost from_gives = { λ error e. e ≡ of_wire error };

@@ -1,5 +1,5 @@
 -- Faults that are added one after another.
-use Rattle.std.proofs.Common.{◌≡◌, ℕ, ℤ, ◌<◌, ◌+◌, List, [], ◌++◌, take, length, get_or, map, ap, sym, subst, ◌∙◌, append_assoc, refl}
+use Rattle.std.proofs.Common.{◌≡◌, ℕ, ℤ, ◌<◌, ◌+◌, List, [], ◌++◌, take, length, get_or, ap, sym, subst, ◌∙◌, append_assoc, refl}
 use Rattle.std.proofs.lemmas.List.{append-nil}
 use Rattle.reflect_walk.specs.Declarations.{each}
 use Rattle.reflect_walk.proofs.Walks.{each_more}

@@ -1,5 +1,5 @@
 -- References that are found one after another.
-use Rattle.std.proofs.Common.{◌≡◌, ℕ, ℤ, List, ◌++◌, map, ap, ◌∙◌, append_assoc}
+use Rattle.std.proofs.Common.{◌≡◌, List, ◌++◌, map, ap, ◌∙◌, append_assoc}
 use Rattle.reflect_names.specs.Faults.{Fault}
 use Rattle.reflect_names.specs.References.{Target, View}
 use Rattle.reflect_names.specs.ReferenceSteps.{Finds, IsSame, target_of, view_of}

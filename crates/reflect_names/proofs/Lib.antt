@@ -7,3 +7,4 @@ pub mod NameRuns
 pub mod ReferenceRuns
 pub mod FileRuns
 pub mod ImportRuns
+pub mod Lines

@@ -1,13 +1,12 @@
 -- What a walk of the visitor of names leaves.
-use Rattle.std.proofs.Common.{◌≡◌, ℕ, zero, suc, arith, List, [], ◌∷◌, ◌++◌, ap, sym, ◌∙◌, subst, refl}
+use Rattle.std.proofs.Common.{◌≡◌, ℕ, zero, suc, arith, List, [], ◌∷◌, ap, sym, ◌∙◌, subst}
 use Rattle.std.proofs.Math.Path.{fun_ext}
 use Rattle.std.specs.BTreeMap.{get_by_text}
 use Rattle.reflect_walk.specs.Declarations.{Declaration, Runs}
 use Rattle.reflect_walk.specs.Batches.{KeptBy}
 use Rattle.reflect_scope.specs.Known.{known_of, below, AllBelow}
 use Rattle.reflect_names.specs.Faults.{Adds, place_at}
-use Rattle.reflect_known.specs.KnownNames.{known_after, known_behind}
-use Rattle.reflect_names.specs.Names.{Places, faults_at}
+use Rattle.reflect_known.specs.KnownNames.{known_behind}
 use Rattle.reflect_names.specs.NamePass.{faults_along}
 use Rattle.reflect_names.specs.NameSteps.{Declares, Keeps, KeepsFrom}
 use Rattle.reflect_names.specs.declared.name_visitor.NameVisitor.{NameVisitor}

@@ -1,11 +1,10 @@
 -- One package more of those that are around a package.
-use Rattle.std.proofs.Common.{◌≡◌, ℕ, ℤ, List, [], ◌∷◌, ◌++◌, length, ap, ◌∙◌, refl, pos}
+use Rattle.std.proofs.Common.{◌≡◌, ℕ, List, [], ◌∷◌, ◌++◌, length, ap, refl, pos}
 use Rattle.reflect_scope.specs.Means.{scopes, outer}
 use Rattle.reflect_scope.proofs.Scopes.{scopes_around, scopes_empty}
 use Rattle.reflect_scope.specs.Known.{Known, declared}
 use Rattle.reflect_known.specs.KnownNames.{packages, package_of}
 use Rattle.reflect_names.specs.Names.{Places, package_faults, taken}
-use Rattle.reflect_names.specs.Faults.{Fault}
 
 pub packages_more : (known : Known) (file : ℕ) (s : List ℕ) → (length s ≡ 0 → ⊥) → packages known file (scopes s) ≡ packages (declared known s (package_of file)) file (scopes (outer s))
 packages_more known file [] some = absurd (some refl)

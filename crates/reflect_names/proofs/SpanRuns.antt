@@ -1,7 +1,6 @@
 -- Spans by paths, location by location.
-use Rattle.std.proofs.Common.{◌≡◌, refl, sym, ap, ◌∙◌, subst, ℕ, ℤ, Bool, true, false, cond, ◌<◌, ◌+◌, List, [], ◌∷◌, ◌++◌, take, length, get_or, Option, Some, None, is_some, BTreeMap, Vec, Global}
+use Rattle.std.proofs.Common.{◌≡◌, refl, sym, ap, ◌∙◌, ℤ, Bool, true, false, cond, List, [], ◌∷◌, ◌++◌, Option, Some, None, is_some, BTreeMap, Vec, Global}
 use Rattle.std.proofs.Math.Path.{fun_ext}
-use Rattle.std.proofs.lemmas.List.{take_more}
 use Rattle.std.proofs.lemmas.Bool.{true≢false, false≢true}
 use Rattle.std.specs.Ordering.{is_eq, int_cmp}
 use Rattle.std.specs.declared.cmp.Ordering.{Ordering}

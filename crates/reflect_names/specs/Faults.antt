@@ -1,5 +1,5 @@
 -- Faults by their data and their places.
-use Rattle.std.specs.Prelude.{◌≡◌, ℕ, ℤ, ◌-◌, List, [], ◌∷◌, ◌++◌, map, Bool, true, false, cond, nat_le, Option, Some, None, slice_get, string_bytes, Result, Ok, Err}
+use Rattle.std.specs.Prelude.{◌≡◌, ℕ, ℤ, ◌-◌, List, [], ◌++◌, map, cond, nat_le, Option, Some, None, slice_get, string_bytes}
 use Rattle.descriptor_records.specs.declared.file.FileDescriptorProto.{FileDescriptorProto}
 use Rattle.reflect_walk.specs.Tree.{text_of}
 use Rattle.reflect_names.specs.Spans.{span_among, locations_at}

@@ -1,9 +1,8 @@
 -- The names of files, and what is wrong with them.
 use Rattle.std.specs.declared.alloc.Global.{Global}
-use Rattle.std.specs.Prelude.{◌≡◌, ◌<◌, ℕ, pos, ◌+◌, List, [], ◌∷◌, ◌++◌, cond, Option, Some, None, is_some, string_bytes, String}
+use Rattle.std.specs.Prelude.{ℕ, pos, ◌+◌, List, [], ◌∷◌, ◌++◌, cond, Option, Some, None, is_some, string_bytes, String}
 use Rattle.std.specs.Map.{update}
 use Rattle.std.specs.Str.{bytes_eq}
-use Rattle.std.specs.BTreeMap.{BTreeMap, get_by_text}
 use Rattle.descriptor_records.specs.declared.file.FileDescriptorProto.{FileDescriptorProto}
 use Rattle.reflect_scope.specs.FileIndexes.{Indexes}
 use Rattle.reflect_names.specs.Faults.{Fault, duplicate_file, missing}

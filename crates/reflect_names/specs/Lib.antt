@@ -1,5 +1,8 @@
 pub mod Spans
+pub mod SourceBytes
 pub mod Faults
+pub mod FaultPlaces
+pub mod FaultTexts
 pub mod Names
 pub mod NameSteps
 pub mod References

@@ -1,6 +1,6 @@
 -- The names of declarations, and what the first pass finds wrong with them.
 use Rattle.std.specs.declared.alloc.Global.{Global}
-use Rattle.std.specs.Prelude.{◌≡◌, ℕ, ℤ, pos, negsuc, ◌-◌, List, [], ◌∷◌, ◌++◌, Bool, true, false, not, ◌||◌, ◌&&◌, ◌==◌, cond, nat_lt, length, Option, Some, None, is_some, string_bytes, codes, String}
+use Rattle.std.specs.Prelude.{ℕ, ℤ, pos, negsuc, List, [], ◌∷◌, ◌++◌, Bool, true, false, not, ◌||◌, ◌==◌, cond, length, Option, Some, None, is_some, string_bytes, codes, String}
 use Rattle.std.specs.Str.{bytes_eq}
 use Rattle.descriptor_records.specs.declared.enums.EnumReservedRange.{EnumReservedRange}
 use Rattle.descriptor_records.specs.declared.field.FieldDescriptorProto.{FieldDescriptorProto}
@@ -12,7 +12,7 @@ use Rattle.reflect_scope.specs.declared.definition.Definition.{Definition}
 use Rattle.reflect_scope.specs.Means.{scopes}
 use Rattle.reflect_scope.specs.FileIndexes.{is_index}
 use Rattle.reflect_walk.specs.Tree.{text_of}
-use Rattle.reflect_walk.specs.Declarations.{Declaration, Body, of_file, of_message, of_field, of_oneof, of_enum, of_enum_value, of_service, of_method, of_extension, each, entry}
+use Rattle.reflect_walk.specs.Declarations.{Declaration, of_file, of_message, of_field, of_oneof, of_enum, of_enum_value, of_service, of_method, of_extension, each, entry}
 use Rattle.reflect_scope.specs.Known.{Known, declared, is_taken}
 use Rattle.reflect_known.specs.KnownNames.{definition_of, package_of}
 use Rattle.reflect_names.specs.Faults.{Place, Fault, file_not_found, duplicate_name, unknown_syntax, missing, bad_import_index}

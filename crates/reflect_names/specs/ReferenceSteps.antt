@@ -1,12 +1,12 @@
 -- What the visitor of references does at a declaration.
-use Rattle.std.specs.Prelude.{◌≡◌, ◌<◌, ◌↔◌, ℕ, ℤ, List, ◌++◌, map, length, IsTrue, refl, string_bytes}
+use Rattle.std.specs.Prelude.{◌≡◌, ◌<◌, ◌↔◌, ℕ, List, ◌++◌, map, length, IsTrue, refl, string_bytes}
 use Rattle.std.proofs.Common.{◌∙◌}
 use Rattle.std.specs.BTreeMap.{get_by_text}
 use Rattle.descriptor_records.specs.declared.file.FileDescriptorProto.{FileDescriptorProto}
 use Rattle.reflect_scope.specs.Seen.{tells}
 use Rattle.reflect_scope.specs.Sees.{Sees}
 use Rattle.reflect_walk.specs.declared.visit_parts.Offsets.{Offsets}
-use Rattle.reflect_walk.specs.Declarations.{Declaration, Body, of_file, of_message, of_field, of_oneof, of_enum, of_enum_value, of_service, of_method, of_extension}
+use Rattle.reflect_walk.specs.Declarations.{Declaration, of_file}
 use Rattle.reflect_scope.specs.Known.{known_of}
 use Rattle.reflect_names.specs.Faults.{Fault, Adds, place_at}
 use Rattle.reflect_names.specs.References.{View, Target, targets_of, reference_faults_at}

@@ -1,3 +1,6 @@
+ghost use Rattle.std.specs.Prelude.{Some};
+ghost use Rattle.reflect_names.specs.FaultTexts.{said};
+
 use crate::label::Label;
 use reflect_walk::VisitError;
 use std::alloc::AllocError;
@@ -146,11 +149,13 @@ pub enum DescriptorErrorKind {
 
 impl DescriptorErrorKind {
     ghost use Rattle.std.specs.Prelude.{◌≡◌, option_map};
+    ghost use Rattle.reflect_names.specs.FaultPlaces.{label_of, located, located_of, locating, moved};
     ghost use Rattle.reflect_names.specs.Faults.{fault_view, place_of, place_of_fault};
 
     /// The place of the fault, if it has one.
     pub fn label(&self) -> Option<&Label>
-        ensures { option_map (λ l. place_of l.now) result ≡ place_of_fault (fault_view self.now) }
+        ensures place { option_map (λ l. place_of l.now) result ≡ place_of_fault (fault_view self.now) }
+        ensures label { option_map (λ l. l.now) result ≡ label_of self.now }
     {
         match self {
             DescriptorErrorKind::DuplicateFileName { found, .. }
@@ -179,37 +184,54 @@ impl DescriptorErrorKind {
     }
 
     /// Finds the bytes of the fault's place in `source`, if it is the text of the fault's file; see [`Label::resolve_span`].
-    pub fn resolve_span(&mut self, file: &str, source: &str) {
+    pub fn resolve_span(&mut self, file: &str, source: &str)
+        ensures { self.new ≡ moved (located_of file.now source.now) self.old }
+    {
+        self.locate_of(Some(file), source)
+    }
+
+    /// The same where `source` is known to be the text of the fault's file.
+    pub fn locate(&mut self, source: &str)
+        ensures { self.new ≡ moved (located source.now) self.old }
+    {
+        self.locate_of(None, source)
+    }
+
+    /// Finds the place in a source, of a file if one is named.
+    fn locate_of(&mut self, file: Option<&str>, source: &str)
+        ensures { self.new
+            ≡ moved (locating (option_map (λ f. f.now) file.entry) source.now) self.old }
+    {
         match self {
-            DescriptorErrorKind::DuplicateFileName { found, .. }
-            | DescriptorErrorKind::FileNotFound { found, .. }
-            | DescriptorErrorKind::DuplicateName { found, .. }
-            | DescriptorErrorKind::NameNotFound { found, .. }
-            | DescriptorErrorKind::NameShadowed { found, .. }
-            | DescriptorErrorKind::InvalidType { found, .. }
-            | DescriptorErrorKind::UnknownSyntax { found, .. }
-            | DescriptorErrorKind::MissingRequiredField { found, .. }
-            | DescriptorErrorKind::InvalidImportIndex { found, .. }
-            | DescriptorErrorKind::InvalidFieldNumber { found, .. }
-            | DescriptorErrorKind::DuplicateFieldNumber { found, .. }
-            | DescriptorErrorKind::NumberInReservedRange { found, .. }
-            | DescriptorErrorKind::NumberInExtensionRange { found, .. }
-            | DescriptorErrorKind::ExtensionNumberOutOfRange { found, .. }
-            | DescriptorErrorKind::EmptyEnum { found }
-            | DescriptorErrorKind::DuplicateEnumNumber { found, .. }
-            | DescriptorErrorKind::InvalidProto3EnumDefault { found }
-            | DescriptorErrorKind::InvalidFieldDefault { found, .. }
-            | DescriptorErrorKind::InvalidOneofIndex { found, .. }
-            | DescriptorErrorKind::BadMapEntry { found, .. }
-            | DescriptorErrorKind::DuplicateExtensionNumber { found, .. } => {
-                found.resolve_span(file, source)
-            }
-            DescriptorErrorKind::TooMany | DescriptorErrorKind::Memory => {}
+            Self::DuplicateFileName { found, .. } => found.locate_of(file, source),
+            Self::FileNotFound { found, .. } => found.locate_of(file, source),
+            Self::DuplicateName { found, .. } => found.locate_of(file, source),
+            Self::NameNotFound { found, .. } => found.locate_of(file, source),
+            Self::NameShadowed { found, .. } => found.locate_of(file, source),
+            Self::InvalidType { found, .. } => found.locate_of(file, source),
+            Self::UnknownSyntax { found, .. } => found.locate_of(file, source),
+            Self::MissingRequiredField { found, .. } => found.locate_of(file, source),
+            Self::InvalidImportIndex { found, .. } => found.locate_of(file, source),
+            Self::InvalidFieldNumber { found, .. } => found.locate_of(file, source),
+            Self::DuplicateFieldNumber { found, .. } => found.locate_of(file, source),
+            Self::NumberInReservedRange { found, .. } => found.locate_of(file, source),
+            Self::NumberInExtensionRange { found, .. } => found.locate_of(file, source),
+            Self::ExtensionNumberOutOfRange { found, .. } => found.locate_of(file, source),
+            Self::EmptyEnum { found } => found.locate_of(file, source),
+            Self::DuplicateEnumNumber { found, .. } => found.locate_of(file, source),
+            Self::InvalidProto3EnumDefault { found } => found.locate_of(file, source),
+            Self::InvalidFieldDefault { found, .. } => found.locate_of(file, source),
+            Self::InvalidOneofIndex { found, .. } => found.locate_of(file, source),
+            Self::BadMapEntry { found, .. } => found.locate_of(file, source),
+            Self::DuplicateExtensionNumber { found, .. } => found.locate_of(file, source),
+            Self::TooMany | Self::Memory => {}
         }
     }
 }
 
 impl fmt::Display for DescriptorErrorKind {
+    ghost output = { λ k. Some (said k) };
+
     fn fmt<W: fmt::Write>(&self, f: &mut fmt::Formatter<W>) -> fmt::Result {
         match self {
             DescriptorErrorKind::DuplicateFileName { name, .. } => {

@@ -1,3 +1,4 @@
+ghost use Rattle.reflect_names.specs.SourceBytes.{bytes_at, first_of_line, offset_at};
 ghost use Rattle.std.specs.Prelude.{◌≡◌, IfOk, option_map};
 
 use std::alloc::{AllocError, Global};
@@ -56,6 +57,7 @@ pub struct Label {
 }
 
 impl Label {
+    ghost use Rattle.reflect_names.specs.FaultPlaces.{located, located_of, locating};
     ghost use Rattle.reflect_names.specs.Faults.{place_of};
 
     /// The place at `path` in the file named `file`, which stands at `span` of its source, where that is known.
@@ -104,7 +106,9 @@ impl Label {
     }
 
     /// The bytes of the source at which the place was found by the last call of `resolve_span` for its file.
-    pub fn span(&self) -> Option<Range<usize>> {
+    pub fn span(&self) -> Option<Range<usize>>
+        ensures { result ≡ self.now.bytes }
+    {
         match &self.bytes {
             Some(bytes) => Some(bytes.start..bytes.end),
             None => None,
@@ -113,24 +117,47 @@ impl Label {
 
     /// Finds the place's bytes in `source`, if `file` is its file; else it stays as it is. They are None afterwards where the
     /// place is not known, or the source has no such line or column.
-    pub fn resolve_span(&mut self, file: &str, source: &str) {
+    pub fn resolve_span(&mut self, file: &str, source: &str)
+        ensures { self.new ≡ located_of file.now source.now self.old }
+    {
         if self.file.as_str() == file {
-            self.bytes = match self.span {
-                Some(span) => bytes_of(span, source),
-                None => None,
-            };
+            self.locate(source);
+        }
+    }
+
+    /// The same where `source` is known to be the text of the place's file.
+    fn locate(&mut self, source: &str)
+        ensures { self.new ≡ located source.now self.old }
+    {
+        self.bytes = match self.span {
+            Some(span) => bytes_of(span, source),
+            None => None,
+        };
+    }
+
+    /// Finds the place's bytes in a source, of a file if one is named.
+    pub(crate) fn locate_of(&mut self, file: Option<&str>, source: &str)
+        ensures { self.new ≡ locating (option_map (λ f. f.now) file.entry) source.now self.old }
+    {
+        match file {
+            Some(file) => self.resolve_span(file, source),
+            None => self.locate(source),
         }
     }
 }
 
-fn bytes_of(span: SourceSpan, source: &str) -> Option<Range<usize>> {
+fn bytes_of(span: SourceSpan, source: &str) -> Option<Range<usize>>
+    ensures { result ≡ bytes_at source.now span }
+{
     let start = offset_of(source, span.start_line, span.start_column)?;
     let end = offset_of(source, span.end_line, span.end_column)?;
     if start <= end { Some(start..end) } else { None }
 }
 
 /// The offset of a line's column in a source.
-fn offset_of(source: &str, line: usize, column: usize) -> Option<usize> {
+fn offset_of(source: &str, line: usize, column: usize) -> Option<usize>
+    ensures { result ≡ offset_at source.now line column }
+{
     let offset = line_start(source, line)?.checked_add(column)?;
     if offset <= source.len() {
         Some(offset)
@@ -139,7 +166,10 @@ fn offset_of(source: &str, line: usize, column: usize) -> Option<usize> {
     }
 }
 
-fn line_start(source: &str, line: usize) -> Option<usize> {
+/// The offset of a line's first byte in a source.
+fn line_start(source: &str, line: usize) -> Option<usize>
+    ensures { result ≡ first_of_line source.now line }
+{
     if line == 0 {
         return Some(0);
     }

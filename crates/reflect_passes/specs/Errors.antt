@@ -1,8 +1,11 @@
 -- The faults that an error lists.
-use Rattle.std.specs.Prelude.{◌≡◌, ◌⊎◌, List, [], ◌∷◌, map, Option}
+use Rattle.std.specs.Prelude.{◌≡◌, ◌⊎◌, ℕ, List, [], ◌∷◌, map, Bool, true, false, Option, None, Some, string_bytes}
 use Rattle.std.specs.Option.{option_and_then}
+use Rattle.reflect_names.specs.FaultPlaces.{label_of, located_of, moved}
 use Rattle.reflect_names.specs.Faults.{Fault, Place, fault_view, place_of_fault, another}
 use Rattle.reflect_names.specs.declared.label.SourceSpan.{SourceSpan}
+use Rattle.reflect_names.specs.declared.error.DescriptorErrorKind.{DescriptorErrorKind}
+use Rattle.reflect_names.specs.declared.error.DescriptorErrorKind.TheVariants as kind
 use Rattle.reflect_passes.specs.declared.error.DescriptorError.{DescriptorError}
 
 abbrev pub faults_of : DescriptorError → List Fault
@@ -18,3 +21,20 @@ first_place e = place_of_fault (fault_view e.first)
 
 abbrev pub first_span : DescriptorError → Option SourceSpan
 first_span e = option_and_then (λ p. p.span) (first_place e)
+
+-- it tells of want of memory
+abbrev pub is_memory : DescriptorErrorKind → Bool
+is_memory kind.Memory = true
+is_memory k = false
+
+-- all that it lists
+abbrev pub kinds_of : DescriptorError → List DescriptorErrorKind
+kinds_of e = e.first ∷ e.others.items
+
+-- the same where the bytes of its faults were looked for in the source of the first one's file
+abbrev pub sourced : List ℕ → DescriptorError → List DescriptorErrorKind
+sourced source e =
+    elim (label_of e.first) [
+      | None ↦ kinds_of e
+      | Some l ↦ map (moved (located_of (string_bytes l.file) source)) (kinds_of e)
+    ]

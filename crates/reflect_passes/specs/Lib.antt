@@ -1,4 +1,5 @@
 pub mod Errors
+pub mod Texts
 pub mod Extensions
 pub mod Linked
 pub mod NameFaults

@@ -7,7 +7,7 @@ mod index_pass;
 mod linked_types;
 mod passes;
 
-pub use error::DescriptorError;
+pub use error::{DescriptorError, write_place};
 pub use extension_numbers::list_extensions;
 pub use index_pass::{add_links, index_files};
 pub use linked_types::LinkedTypes;

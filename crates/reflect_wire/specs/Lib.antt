@@ -6,3 +6,4 @@ pub mod Records
 pub mod Varint
 pub mod Views
 pub mod Written
+pub mod Texts

@@ -1,32 +1,54 @@
-ghost use Rattle.std.specs.Prelude.{◌≡◌};
+ghost use Rattle.std.specs.Prelude.{◌≡◌, Some};
+ghost use Rattle.reflect_wire.specs.Texts.{said};
 
 use std::alloc::{AllocError, AllocFailed};
-use thiserror::Error;
+use std::error::Error;
+use std::fmt;
 
 /// Why bytes were not read, or a value was not written.
 ///
 /// The rules behind the refusals stand in "Encoding" at protobuf.dev.
-#[derive(Clone, Copy, Debug, PartialEq, Eq, Error)]
+#[derive(Clone, Copy, Debug, PartialEq, Eq)]
 pub enum WireError {
-    #[error("the input ends inside a record")]
     Truncated,
-    #[error("a varint has more than ten bytes or more than 64 bits")]
     BadVarint,
-    #[error("a key has no valid field number or wire type")]
     BadKey,
-    #[error("a field has a wire type that is not its own")]
     BadWireType,
-    #[error("an end of a group does not fit its start")]
     EndGroupMismatch,
-    #[error("messages and groups are nested more than 100 levels deep")]
     TooDeep,
-    #[error("a string is not valid UTF-8")]
     BadUtf8,
-    #[error("a length passes the largest that can be written")]
     TooLong,
-    #[error("out of memory")]
     Memory,
 }
+
+impl WireError {
+    /// What is wrong, in a few words.
+    fn text(self) -> &'static str
+        ensures { result.now ≡ said self }
+    {
+        match self {
+            WireError::Truncated => "the input ends inside a record",
+            WireError::BadVarint => "a varint has more than ten bytes or more than 64 bits",
+            WireError::BadKey => "a key has no valid field number or wire type",
+            WireError::BadWireType => "a field has a wire type that is not its own",
+            WireError::EndGroupMismatch => "an end of a group does not fit its start",
+            WireError::TooDeep => "messages and groups are nested more than 100 levels deep",
+            WireError::BadUtf8 => "a string is not valid UTF-8",
+            WireError::TooLong => "a length passes the largest that can be written",
+            WireError::Memory => "out of memory",
+        }
+    }
+}
+
+impl fmt::Display for WireError {
+    ghost output = { λ e. Some (said e) };
+
+    fn fmt<W: fmt::Write>(&self, f: &mut fmt::Formatter<W>) -> fmt::Result {
+        f.write_str(self.text())
+    }
+}
+
+impl Error for WireError {}
 
 impl From<AllocError> for WireError {
     ghost use Rattle.reflect_wire.specs.declared.wire_error.WireError.TheVariants.{Memory};

@@ -1,9 +1,9 @@
 -- Where a refusal stands.
-use Rattle.std.specs.Prelude.{ℕ, ◌+◌, ◌^◌, ◌&&◌, if◌then◌else◌, nat_lt, ℤ, pos, List, Option, None, Some, option_map}
+use Rattle.std.specs.Prelude.{ℕ, ◌+◌, ℤ, pos, List, Option, None, Some, option_map}
 use Rattle.std.specs.Option.{option_and_then}
 use Rattle.protox_parse.specs.Refusals.{file_of, position_of}
-use Rattle.reflect_names.specs.declared.label.SourceSpan.{SourceSpan}
 use Rattle.reflect_passes.specs.Errors.{first_place, first_span}
+use Rattle.reflect_passes.specs.Texts.{begins}
 use Rattle.option_parts.specs.Places.{option_place, option_span}
 use Rattle.schema_core.specs.declared.error.SchemaError.{SchemaError}
 use Rattle.schema_core.specs.declared.error.SchemaError.TheVariants.{Parse, Link, Options}
@@ -19,10 +19,6 @@ told_file _ = None
 abbrev pub from_one : ℤ × ℤ → Option (ℕ × ℕ)
 from_one (pos line, pos column) = Some (line + 1, column + 1)
 from_one _ = None
-
--- where a part of a file begins, counted from 1, if a machine word counts so far
-abbrev pub begins : SourceSpan → Option (ℕ × ℕ)
-begins s = if nat_lt (s.start_line + 1) (2 ^ 64) && nat_lt (s.start_column + 1) (2 ^ 64) then Some (s.start_line + 1, s.start_column + 1) else None
 
 -- and the line and the column at which the first fault begins
 abbrev pub told_position : SchemaError → Option (ℕ × ℕ)

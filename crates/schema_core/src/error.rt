@@ -1,10 +1,11 @@
-ghost use Rattle.std.specs.Prelude.{◌≡◌, ◌⊎◌, option_map};
-ghost use Rattle.std.specs.Fmt.{DisplaysOnOk, WritesOnOk};
-ghost use Rattle.schema_core.specs.Texts.{place_text, said, words};
+ghost use Rattle.std.specs.Prelude.{◌≡◌, ◌⊎◌, Some, option_map};
+ghost use Rattle.std.specs.Fmt.{WritesOnOk};
+ghost use Rattle.schema_core.specs.Texts.{said, words};
 
 use option_parts::{OptionError, OptionErrorKind};
 use protox_parse::ParseError as SourceError;
 use reflect_build::DescriptorError;
+use reflect_passes::write_place;
 use reflect_wire::WireError;
 use std::alloc::{AllocError, AllocFailed};
 use std::error::Error;
@@ -56,7 +57,7 @@ impl SchemaError {
                 let (line, column) = error.position()?;
                 (usize::try_from(line).ok()?, usize::try_from(column).ok()?)
             }
-            SchemaError::Link(error) => (error.line()?, error.column()?),
+            SchemaError::Link(error) => return error.position(),
             SchemaError::Options(error) => (error.line()?, error.column()?),
             _ => return None,
         };
@@ -65,7 +66,7 @@ impl SchemaError {
 
     /// The words without a place.
     fn write_words<W: fmt::Write>(&self, f: &mut fmt::Formatter<W>) -> fmt::Result
-        ensures { DisplaysOnOk W.write_str_gives f.old result (words self.now) f.new }
+        ensures { WritesOnOk W.write_str_gives f.old result (words self.now) f.new }
     {
         match self {
             SchemaError::Parse(error) => write!(f, "{error}"),
@@ -82,30 +83,12 @@ impl SchemaError {
 
 /// `file:line:column: text` where the place is known, else `file: text` where the file is, else the text.
 impl fmt::Display for SchemaError {
-    ghost output = { λ e. said e };
+    ghost output = { λ e. Some (said e) };
 
     fn fmt<W: fmt::Write>(&self, f: &mut fmt::Formatter<W>) -> fmt::Result {
         write_place(f, self.file(), self.position())?;
         self.write_words(f)
     }
-}
-
-/// A file, and where in it, in front of words.
-fn write_place<W: fmt::Write>(
-    f: &mut fmt::Formatter<W>,
-    file: Option<&str>,
-    position: Option<(usize, usize)>,
-) -> fmt::Result
-    ensures { WritesOnOk W.write_str_gives f.old result (place_text (option_map (λ t. t.now) file.entry) position) f.new }
-{
-    let Some(file) = file else {
-        return Ok(());
-    };
-    write!(f, "{file}:")?;
-    if let Some((line, column)) = position {
-        write!(f, "{line}:{column}:")?;
-    }
-    f.write_str(" ")
 }
 
 impl fmt::Debug for SchemaError {

@@ -1,5 +1,5 @@
 -- What calls do with what a slot holds.
-use Rattle.std.specs.Prelude.{◌≡◌, ◌⊎◌, ◌<◌, ◌≤◌, ◌++◌, ◌∷◌, [], ℕ, List, Option, None, Some, IfSome, IsUtf8, length, drop}
+use Rattle.std.specs.Prelude.{◌≡◌, ◌⊎◌, ◌<◌, ◌≤◌, ◌++◌, ◌∷◌, [], ℕ, List, Option, None, Some, IsUtf8, length, drop}
 use Rattle.reflect_bytes.specs.Written.{pool_bytes}
 use Rattle.reflect_pool.specs.Linked.{empty_pool}
 use Rattle.schema_core.specs.Payloads.{Encoded, Decoded, Recoded}
@@ -17,10 +17,10 @@ use Rattle.schema_slot.specs.declared.session.Session.{Session}
 abbrev pub Call : Type 1
 Call = Session → Code → Session → Type 0
 
--- A refusal of the schema: its code, and the refusal itself, from which its place is told. The answer is its text, where that is known
--- here, or nothing where memory runs out for it.
+-- A refusal of the schema: its code, and the refusal itself, from which its place is told. The answer is its text, or
+-- nothing where memory runs out for it.
 abbrev pub Tells : SchemaError → Code → Session → Type 0
-Tells e c new = (c ≡ code_of e) × (new.fault ≡ Some e) × IfSome (said e) (λ text. (answer new ≡ text) ⊎ (answer new ≡ []))
+Tells e c new = (c ≡ code_of e) × (new.fault ≡ Some e) × ((answer new ≡ said e) ⊎ (answer new ≡ []))
 
 -- so it is unless the call is done
 abbrev pub Unless : Code → Type 0 → Type 0

@@ -1,9 +1,9 @@
-use Rattle.std.proofs.Common.{◌≡◌, ◌++◌, [], length, ap, sym, subst, ◌∙◌, append_assoc, rules, pos}
+use Rattle.std.proofs.Common.{◌≡◌, ◌++◌, [], length, ap, sym, ◌∙◌, append_assoc, rules, pos}
 use Rattle.std.proofs.lemmas.List.{append-nil}
 use Rattle.reflect_scope.specs.Means.{scopes, outer}
 use Rattle.reflect_scope.proofs.Scopes.{outer_less}
 use Rattle.reflect_scope.specs.Known.{known_of, declared}
-use Rattle.reflect_names.specs.Faults.{Adds, place_at, list_of}
+use Rattle.reflect_names.specs.Faults.{place_at, list_of}
 use Rattle.reflect_known.specs.KnownNames.{packages, package_of}
 use Rattle.reflect_names.specs.Names.{package_faults, taken}
 use Rattle.reflect_names.specs.NameSteps.{entries-on}

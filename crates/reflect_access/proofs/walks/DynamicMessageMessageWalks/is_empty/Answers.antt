@@ -2,7 +2,7 @@ use Rattle.std.proofs.Common.{◌≡◌, [], not, sym, ap, ◌∙◌}
 use Rattle.reflect_wire.specs.Views.{field_view}
 use Rattle.reflect_message.specs.Held.{unknown_of}
 use Rattle.reflect_access.specs.Left.{records_left}
-use Rattle.reflect_access.specs.Walked.{extension_lent, extensions_left, field_lent, fields_left, set_fields_of, set_extensions_of}
+use Rattle.reflect_access.specs.Walked.{extension_lent, extensions_left, field_lent, fields_left, set_fields_of}
 use Rattle.reflect_access.proofs.Walking.{nothing_ahead, nothing_given, nothing_held, not_false}
 use Rattle.reflect_access.proofs.walks.DynamicMessageMessageWalks.is_empty.Goals as goal
 

@@ -1,4 +1,4 @@
-use Rattle.std.proofs.Common.{◌≡◌, [], ◌++◌, subst, ◌∙◌}
+use Rattle.std.proofs.Common.{◌≡◌, [], subst, ◌∙◌}
 use Rattle.reflect_scope.specs.declared.definition.ResolveNameFilter.TheVariants as filter
 use Rattle.reflect_names.specs.Faults.{place_at}
 use Rattle.reflect_names.specs.References.{name_targets, type_faults, type_name_faults}

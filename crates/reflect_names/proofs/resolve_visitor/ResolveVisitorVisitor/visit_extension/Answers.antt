@@ -1,4 +1,4 @@
-use Rattle.std.proofs.Common.{◌≡◌, ap, subst, ◌∙◌}
+use Rattle.std.proofs.Common.{ap, subst, ◌∙◌}
 use Rattle.reflect_scope.specs.declared.definition.ResolveNameFilter.TheVariants as filter
 use Rattle.reflect_scope.specs.Seen.{tells}
 use Rattle.reflect_names.specs.Faults.{place_at}

@@ -1,11 +1,10 @@
-use Rattle.std.proofs.Common.{rules, ◌≡◌, sym, ap, subst, ◌∙◌, ℕ, ◌+◌, ◌<◌, List, [], ◌∷◌, ◌++◌, take, length, get_or, arith, Option, Some, None, is_some}
+use Rattle.std.proofs.Common.{◌≡◌, sym, ap, subst, ◌∙◌, ◌+◌, [], ◌∷◌, ◌++◌, take}
 use Rattle.std.proofs.lemmas.List.{take_more, take_all}
 use Rattle.std.specs.BTreeMap.{is_at}
 use Rattle.std.specs.Map.{lookup}
 use Rattle.std.specs.Ordering.{int_cmp}
 use Rattle.std.specs.Cmp.Lexicographic.{slice_cmp}
-use Rattle.descriptor_records.specs.declared.source_info.Location.{Location}
-use Rattle.reflect_names.specs.Spans.{AreSpans, span_among, span_of}
+use Rattle.reflect_names.specs.Spans.{AreSpans, span_of}
 use Rattle.reflect_names.proofs.SpanRuns.{spans_untold, spans_kept, spans_put}
 use Rattle.reflect_names.proofs.spans.FileSpans.new.Goals as goal
 use Rattle.reflect_names.proofs.spans.FileSpans.new.Goals.{in-Some+then-not-contains_key+in_ok-from_slice+in_ok-insert, in-Some+else-not-contains_key, in_default}
