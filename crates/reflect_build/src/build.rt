@@ -1,10 +1,12 @@
 //! The calls that change a pool.
 
-ghost use Rattle.std.specs.Prelude.{◌≡◌, OnOk, OnErr, IfErr, length, map};
+ghost use Rattle.std.specs.Prelude.{◌≡◌, OnOk, OnErr, IfErr, fold, length, map};
+ghost use Rattle.descriptor_records.specs.Content.{file_view};
 ghost use Rattle.reflect_scope.specs.FileIndexes.{indexes_of};
 ghost use Rattle.reflect_known.specs.GivenNames.{names_of_file};
 ghost use Rattle.reflect_tables.specs.Types.{PoolType, IsSettled};
 ghost use Rattle.reflect_growth.specs.Cut.{cut_to};
+ghost use Rattle.reflect_growth.specs.Put.{edited};
 ghost use Rattle.reflect_growth.specs.Settled.{bare_of};
 ghost use Rattle.reflect_passes.specs.Errors.{Refuses};
 ghost use Rattle.reflect_pool.specs.Imports.{StandsAlone};
@@ -125,15 +127,17 @@ pub trait BuildFiles {
         requires { StandsAlone (cut_to (holds self.old) mark) }
         ensures { holds self.new ≡ cut_to (holds self.old) mark };
 
-    /// Moves settled options, and the paths of locations that speak of them, into the files' records. One that names no
-    /// place of the pool is passed over. Takes no memory; the types stay as they are, and so does
-    /// all in the records but options and the paths of locations.
+    /// Moves settled options, and the paths of locations that speak of them, into the files' records, one behind the
+    /// other. An edit of a path that leads to nothing with options, or of a location that is not there, is passed over.
+    /// Takes no memory; the types stay as they are, also what linking read from options for them.
     fn settle(&mut self, edits: Vec<Edit>)
         ensures settled { IsSettled (holds self.old) (holds self.new) }
         ensures names { map names_of_file (holds self.new).records
             ≡ map names_of_file (holds self.old).records }
         ensures bare { map bare_of (holds self.new).records
-            ≡ map bare_of (holds self.old).records };
+            ≡ map bare_of (holds self.old).records }
+        ensures put { map file_view (holds self.new).records
+            ≡ fold edited (map file_view (holds self.old).records) edits.items };
 }
 
 impl BuildFiles for DescriptorPool {

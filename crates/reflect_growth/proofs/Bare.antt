@@ -1,57 +1,88 @@
--- What stays of records whose options are settled, one level at a time.
-use Rattle.std.proofs.Common.{◌≡◌, ℕ, List, [], ◌∷◌, map, get_or, set, ap, sym, ◌∙◌, refl}
-use Rattle.std.proofs.Math.Seq.{map-set_same}
-use Rattle.std.specs.Prelude.{None}
-use Rattle.descriptor_records.specs.Content.{FieldContent, OneofContent, EnumContent, ExtensionRangeContent, MessageContent, message, messages_of, more_messages, text_view, texts_view, field_view, oneof_view, enum_view, extension_range_view, message_view}
-use Rattle.descriptor_records.specs.declared.message.DescriptorProto.{DescriptorProto}
-use Rattle.descriptor_records.specs.declared.message.DescriptorProto.TheOpen.{DescriptorProto-F}
-use Rattle.descriptor_records.specs.declared.message.DescriptorProto.TheViews.{roll-DescriptorProto, out-DescriptorProto}
-use Rattle.descriptor_records.proofs.Messages.{level_view, message_view-roll, message_view-out}
-use Rattle.reflect_growth.specs.Settled.{bare_field, bare_oneof, bare_enum, bare_range, bare_message, bare_messages}
-use Rattle.reflect_growth.proofs.Filters.{map_map}
+-- All but options, and the paths of locations, stays where edits are put into a file's content.
+use Rattle.std.proofs.Common.{◌≡◌, ℕ, zero, suc, ℤ, pos, negsuc, List, [], ◌∷◌, Option, Some, None, map, ap, refl}
+use Rattle.std.specs.Option.{option_map}
+use Rattle.std.specs.Ordering.{int_eq}
+use Rattle.descriptor_records.specs.Content.{OptionsContent, EnumContent, ServiceContent, LocationContent, MessageContent, message, MessageContents, no_messages, more_messages, FileContent}
+use Rattle.reflect_growth.specs.Put.{with_at, nested_at, put_nested, field_put, oneof_put, range_put, value_put, method_put, enum_put, service_put, message_put, file_put, location_put, path_put}
+use Rattle.reflect_growth.specs.Settled.{bare_field, bare_oneof, bare_value, bare_enum, bare_method, bare_service, bare_range, bare_location, bare_message, bare_messages, bare_file}
+use Rattle.reflect_growth.proofs.Kept.{at_kept, chosen, in_kept}
 
--- an entry is replaced by one that two views, one behind the other, cannot tell from it
-pub views_same : {X A B : Type 0} (g : A → B) (f : X → A) (xs : List X) (k : ℕ) (y d : X)
-    → g (f y) ≡ g (f (get_or xs k d)) → map g (map f (set xs k y)) ≡ map g (map f xs)
-views_same g f xs k y d e =
-    map_map g f (set xs k y) ∙ map-set_same (λ x. g (f x)) xs k y d e ∙ sym (map_map g f xs)
+bare_enum_kept : (path : List ℤ) (o : OptionsContent) (e : EnumContent)
+    → bare_enum (enum_put path o e) ≡ bare_enum e
+bare_enum_kept [] o e = refl
+bare_enum_kept (number ∷ []) o e = refl
+bare_enum_kept (number ∷ place ∷ rest) o e =
+    ap {B = EnumContent} (λ vs. record (bare_enum e) { value = vs })
+    (in_kept bare_value (value_put rest o) (λ x. refl) 2 number place e.value)
 
-bare_each : (ms : List MessageContent) → bare_messages (messages_of ms)
-    ≡ messages_of (map bare_message ms)
-bare_each [] = refl
-bare_each (m ∷ ms) = ap (λ ns. more_messages (bare_message m) ns) (bare_each ms)
+bare_service_kept : (path : List ℤ) (o : OptionsContent) (s : ServiceContent)
+    → bare_service (service_put path o s) ≡ bare_service s
+bare_service_kept [] o s = refl
+bare_service_kept (number ∷ []) o s = refl
+bare_service_kept (number ∷ place ∷ rest) o s =
+    ap {B = ServiceContent} (λ ms. record (bare_service s) { method = ms })
+    (in_kept bare_method (method_put rest o) (λ x. refl) 2 number place s.method)
 
--- a level with other fields, extensions, messages, enums, ranges and oneofs
-abbrev pub bare_with : DescriptorProto-F DescriptorProto → List FieldContent → List FieldContent
-    → List MessageContent → List EnumContent → List ExtensionRangeContent → List OneofContent
-    → MessageContent
-bare_with m fields extensions nested enums ranges oneofs =
-    message (text_view m.name) fields extensions (messages_of nested) enums ranges oneofs None
-    m.reserved_range.items (texts_view m.reserved_name)
+nested_kept : (f : MessageContent → MessageContent)
+    → ((m : MessageContent) → bare_message (f m) ≡ bare_message m) → (k : ℕ)
+    (ms : MessageContents) → bare_messages (nested_at k f ms) ≡ bare_messages ms
+nested_kept f same k no_messages = refl
+nested_kept f same zero (more_messages m ms) =
+    ap (λ x. more_messages x (bare_messages ms)) (same m)
+nested_kept f same (suc k) (more_messages m ms) =
+    ap (λ xs. more_messages (bare_message m) xs) (nested_kept f same k ms)
 
-abbrev pub bare_level : DescriptorProto-F DescriptorProto → MessageContent
-bare_level m =
-    bare_with m (map bare_field (map field_view m.field.items))
-    (map bare_field (map field_view m.extension.items))
-    (map bare_message (map message_view m.nested_type.items))
-    (map bare_enum (map enum_view m.enum_type.items))
-    (map bare_range (map extension_range_view m.extension_range.items))
-    (map bare_oneof (map oneof_view m.oneof_decl.items))
+put_nested_kept : (f : MessageContent → MessageContent)
+    → ((m : MessageContent) → bare_message (f m) ≡ bare_message m) → (number place : ℤ)
+    (ms : MessageContents) → bare_messages (put_nested f number place ms) ≡ bare_messages ms
+put_nested_kept f same number (pos k) ms =
+    chosen bare_messages (int_eq number (pos 3)) (nested_at k f ms) ms (nested_kept f same k ms)
+put_nested_kept f same number (negsuc n) ms = refl
 
-of_level : (m : DescriptorProto-F DescriptorProto) → bare_message (level_view m) ≡ bare_level m
-of_level m =
-    ap (λ ns. message (text_view m.name) (map bare_field (map field_view m.field.items))
-    (map bare_field (map field_view m.extension.items)) ns
-    (map bare_enum (map enum_view m.enum_type.items))
-    (map bare_range (map extension_range_view m.extension_range.items))
-    (map bare_oneof (map oneof_view m.oneof_decl.items))
-    None m.reserved_range.items (texts_view m.reserved_name))
-    (bare_each (map message_view m.nested_type.items))
+bare_message_kept : (path : List ℤ) (o : OptionsContent) (m : MessageContent)
+    → bare_message (message_put path o m) ≡ bare_message m
+bare_message_kept [] o
+    (message name fields extensions nested enums ranges oneofs options reserved names) = refl
+bare_message_kept (number ∷ []) o m = refl
+bare_message_kept (number ∷ place ∷ rest) o
+    (message name fields extensions nested enums ranges oneofs options reserved names) =
+    let field = field_put rest o in
+    let fs = in_kept bare_field field (λ x. refl) 2 number place fields in
+    let xs = in_kept bare_field field (λ x. refl) 6 number place extensions in
+    let ns = put_nested_kept (message_put rest o) (bare_message_kept rest o) number place nested in
+    let es = in_kept bare_enum (enum_put rest o) (bare_enum_kept rest o) 4 number place enums in
+    let rs = in_kept bare_range (range_put rest o) (λ x. refl) 5 number place ranges in
+    let os = in_kept bare_oneof (oneof_put rest o) (λ x. refl) 8 number place oneofs in
+    λ i. message name (fs i) (xs i) (ns i) (es i) (rs i) (os i) None reserved names
 
--- two messages of one level's bare content have one
-pub same_bare : (x : DescriptorProto-F DescriptorProto) (m : DescriptorProto)
-    → bare_level x ≡ bare_level (out-DescriptorProto m)
-    → bare_message (message_view (roll-DescriptorProto x)) ≡ bare_message (message_view m)
-same_bare x m h =
-    ap bare_message (message_view-roll x) ∙ of_level x ∙ h
-    ∙ sym (of_level (out-DescriptorProto m)) ∙ sym (ap bare_message (message_view-out m))
+pub bare_kept : (path : List ℤ) (o : OptionsContent) (f : FileContent)
+    → bare_file (file_put path o f) ≡ bare_file f
+bare_kept [] o f = refl
+bare_kept (number ∷ []) o f = refl
+bare_kept (number ∷ place ∷ rest) o f =
+    let ms = in_kept bare_message (message_put rest o) (bare_message_kept rest o) 4 number place
+    f.message_type in
+    let es = in_kept bare_enum (enum_put rest o) (bare_enum_kept rest o) 5 number place
+    f.enum_type in
+    let ss = in_kept bare_service (service_put rest o) (bare_service_kept rest o) 6 number place
+    f.service in
+    let xs = in_kept bare_field (field_put rest o) (λ x. refl) 7 number place
+    f.extension in
+    λ i. record (bare_file f) {
+      message_type = ms i;
+      enum_type = es i;
+      service = ss i;
+      extension = xs i;
+    }
+
+paths_kept : (k : ℕ) (path : List ℤ) (ls : Option (List LocationContent))
+    → option_map (map bare_location) (option_map (with_at k (location_put path)) ls)
+    ≡ option_map (map bare_location) ls
+paths_kept k path None = refl
+paths_kept k path (Some ls) = ap Some (at_kept bare_location (location_put path) (λ l. refl) k ls)
+
+pub bare_moved : (k : ℕ) (path : List ℤ) (f : FileContent)
+    → bare_file (path_put k path f) ≡ bare_file f
+bare_moved k path f =
+    ap {B = FileContent} (λ ls. record (bare_file f) { source_code_info = ls })
+    (paths_kept k path f.source_code_info)

@@ -1,2 +1,6 @@
 pub mod Filters
+pub mod Puts
+pub mod Nested
+pub mod Told
+pub mod Kept
 pub mod Bare

@@ -1,3 +1,4 @@
 pub mod Growth
 pub mod Cut
 pub mod Settled
+pub mod Put

@@ -1,15 +1,10 @@
--- What stays of files whose options are settled: the names that they give, and all that their
--- records say, but for options and the paths of locations.
+-- What stays of files whose options are settled: all that their records say, but for options and
+-- the paths of locations.
 use Rattle.std.specs.Prelude.{[], map, option_map, None}
 use Rattle.descriptor_records.specs.Content.{FieldContent, OneofContent, EnumValueContent, EnumContent, MethodContent, ServiceContent, LocationContent, ExtensionRangeContent, MessageContent, message, MessageContents, no_messages, more_messages, FileContent, file_view}
 use Rattle.descriptor_records.specs.declared.file.FileDescriptorProto.{FileDescriptorProto}
-use Rattle.reflect_known.specs.GivenNames.{FileNames, names_of_file}
 use Rattle.reflect_tables.specs.Views.{record_of}
 use Rattle.reflect_tables.specs.declared.stored.StoredFile.{StoredFile}
-
--- the names that a file's record gives
-abbrev pub names_of_stored : StoredFile → FileNames
-names_of_stored f = names_of_file (record_of f)
 
 abbrev pub bare_field : FieldContent → FieldContent
 bare_field f = record f { options = None }
@@ -60,5 +55,6 @@ bare_file f = record f {
 abbrev pub bare_of : FileDescriptorProto → FileContent
 bare_of f = bare_file (file_view f)
 
-abbrev pub bare_stored : StoredFile → FileContent
-bare_stored f = bare_of (record_of f)
+-- the content of a file's record
+abbrev pub stored_view : StoredFile → FileContent
+stored_view f = file_view (record_of f)

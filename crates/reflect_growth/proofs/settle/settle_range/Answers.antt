@@ -1,19 +1,18 @@
-use Rattle.std.proofs.Common.{map, ap}
-use Rattle.descriptor_records.specs.Content.{field_view, oneof_view, enum_view, extension_range_view, message_view}
-use Rattle.descriptor_records.specs.declared.message.DescriptorProto.TheViews.{out-DescriptorProto}
-use Rattle.reflect_growth.specs.Settled.{bare_field, bare_oneof, bare_enum, bare_range, bare_message}
-use Rattle.reflect_growth.proofs.Bare.{views_same, bare_with, same_bare}
+use Rattle.std.proofs.Common.{◌∙◌, ap, rules}
+use Rattle.descriptor_records.specs.Content.{ExtensionRangeContent, extension_range_view, options_view}
+use Rattle.reflect_growth.specs.Put.{range_put}
+use Rattle.reflect_growth.proofs.Puts.{put_at, put_past}
 use Rattle.reflect_growth.proofs.settle.settle_range.Goals as goal
 
-pub returns-in-Some-clause-bare : goal.returns-in-Some-clause-bare
-returns-in-Some-clause-bare c =
-    let m = out-DescriptorProto c.args.message.now in
-    let ranges = views_same bare_range extension_range_view m.extension_range.items c.args.place _
-    c.in-Some.range.now
-    (ap (λ r. bare_range (extension_range_view r)) c.in-Some.ensures.value) in
-    same_bare _ c.args.message.now
-    (ap (λ rs. bare_with m (map bare_field (map field_view m.field.items))
-    (map bare_field (map field_view m.extension.items))
-    (map bare_message (map message_view m.nested_type.items))
-    (map bare_enum (map enum_view m.enum_type.items)) rs
-    (map bare_oneof (map oneof_view m.oneof_decl.items))) ranges)
+pub returns-in-Some : goal.returns-in-Some
+returns-in-Some c =
+    let was = c.in-Some.range.now in
+    let h = range_put c.args.rest.now (options_view c.args.options) in
+    put_at extension_range_view h c.args.ranges.now.items c.args.place _ was
+    (ap {B = ExtensionRangeContent} (λ o. record (extension_range_view was) { options = o }) c.settle_own.ensures
+    ∙ ap (λ x. h (extension_range_view x)) c.in-Some.ensures.value)
+
+pub returns-in_default : goal.returns-in_default
+returns-in_default c =
+    let h = range_put c.args.rest.now (options_view c.args.options) in
+    put_past extension_range_view h c.args.ranges.now.items c.args.place (search rules)
