@@ -9,6 +9,7 @@ use protox_parse::tree::{
 use reflect_names::{
     DescriptorErrorKind, Faults, Label, NameVisitor, Offsets, SourceSpan, VisitError, name_files,
 };
+use reflect_passes::DescriptorError;
 use std::alloc::Global;
 use std::collections::BTreeMap;
 use std::process::Abort;
@@ -184,6 +185,24 @@ fn faults_stand_where_the_parser_says(rt: HostRuntime) {
     assert!(rt; matches!(label.span(), Some(bytes) if bytes.start == 4 && bytes.end == 7));
     label.resolve_span("b", "a\nbcd");
     assert!(rt; label.span().is_none());
+}
+
+#[test]
+fn errors_find_the_bytes_of_their_faults(rt: HostRuntime) {
+    let alloc = rt.alloc();
+    let source = "syntax = \"proto3\"; import \"b.proto\";";
+    let file = parse(alloc, "a.proto", source).expect(&rt, "a file");
+    let files = vec![in alloc; file].expect(&rt, "room");
+    let faults = faults_of(&rt, files.as_slice());
+    let error = DescriptorError::from_list(faults).expect(&rt, "a fault");
+    assert!(rt; error.span().is_none());
+    let error = error.with_source_code(source);
+    assert!(rt; matches!(error.span(), Some(bytes) if bytes.start == 19 && bytes.end == 36));
+    let told = format!(in alloc; "{error:?}").expect(&rt, "room");
+    assert_eq!(rt;
+        told.as_str(),
+        "a.proto:1:20: imported file 'b.proto' has not been added"
+    );
 }
 
 fn named_file<R: Abort + AllocGlobal>(rt: &R, name: &str) -> FileDescriptorProto {

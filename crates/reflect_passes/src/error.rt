@@ -64,7 +64,7 @@ impl DescriptorError {
 
     /// Memory ran out.
     pub fn is_memory(&self) -> bool
-        ensures { result ≡ is_memory self.now }
+        ensures { result ≡ is_memory self.now.first }
     {
         matches!(self.first, DescriptorErrorKind::Memory)
     }
