@@ -6,4 +6,5 @@ pub mod ListsLeft
 pub mod MethodsLeft
 pub mod Records
 pub mod Reserved
+pub mod Same
 pub mod TypesLeft

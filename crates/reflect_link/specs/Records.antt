@@ -1,6 +1,6 @@
 -- The record at a path of a file's record. A path goes down from the file: each step has the number of a list in
 -- `descriptor.proto` and a place in that list (descriptor.proto, SourceCodeInfo.Location).
-use Rattle.std.specs.Prelude.{ℕ, ℤ, pos, negsuc, ◌-◌, List, [], ◌∷◌, length, take, drop, cond, Option, Some, None, slice_get}
+use Rattle.std.specs.Prelude.{ℤ, pos, negsuc, ◌-◌, List, [], ◌∷◌, length, take, drop, cond, Option, None, slice_get}
 use Rattle.std.specs.Option.{option_and_then}
 use Rattle.std.specs.Ordering.{int_eq}
 use Rattle.descriptor_records.specs.declared.enums.EnumDescriptorProto.{EnumDescriptorProto}

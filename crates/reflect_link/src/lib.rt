@@ -8,6 +8,7 @@ mod pool_readers;
 mod ranges;
 mod readers;
 mod records;
+mod same;
 mod service;
 
 pub use file::{FileDescriptor, Files};
