@@ -7,3 +7,4 @@ pub mod Reading
 pub mod Refusals
 pub mod Remaining
 pub mod Scalars
+pub mod Spelled

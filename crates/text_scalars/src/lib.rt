@@ -2,6 +2,7 @@
 //! the values that are no messages.
 #![tactic(auto)]
 
+pub mod laws;
 mod names;
 mod number;
 mod scalar;
