@@ -1,3 +1,4 @@
 pub mod Among
+pub mod Enumerated
 pub mod Stepping
 pub mod Telling

@@ -1,7 +1,6 @@
+pub mod Enums
+pub mod Kinds
 pub mod Lacks
-pub mod Left
-pub mod Number
-pub mod Radix
 pub mod Refusals
 pub mod Steps
 pub mod Takes

@@ -1,5 +1,5 @@
 -- What the refusals of names tell of the types.
-use Rattle.std.specs.Prelude.{◌≡◌, ◌⊎◌, Bool, true, false, ℕ, List, None, Some, IsSome, string_bytes}
+use Rattle.std.specs.Prelude.{◌≡◌, ◌⊎◌, true, ℕ, List, None, Some, IsSome, string_bytes}
 use Rattle.std.specs.List.{Any}
 use Rattle.reflect_tables.specs.Finding.{IsFirst}
 use Rattle.reflect_tables.specs.Types.{FieldType, type_at, enum_at, extension_at}
@@ -17,27 +17,17 @@ use Rattle.reflect_message.specs.declared.message.DynamicMessage.{DynamicMessage
 use Rattle.reflect_format.specs.Lacks.{IsGroupCalled, LacksField, LacksGroup, HasFloatField, LacksExtension, HasFloatExtension}
 use Rattle.reflect_format.specs.declared.target.Target.{Target}
 use Rattle.reflect_format.specs.declared.target.Target.TheVariants as targets
+use Rattle.protox_lex.specs.declared.span.Span.{Span}
+use Rattle.text_scalars.specs.Refusals.{is_of_text}
 use Rattle.text_error.specs.declared.error.ParseErrorKind.{ParseErrorKind}
 use Rattle.text_error.specs.declared.error.ParseErrorKind.TheVariants as kinds
 
--- It is a fault of the text alone, or want of memory, and tells of no type.
-abbrev pub is_of_text : ParseErrorKind → Bool
-is_of_text (kinds.InvalidToken span) = true
-is_of_text (kinds.InvalidStringCharacters span) = true
-is_of_text (kinds.InvalidStringEscape span) = true
-is_of_text (kinds.InvalidUtf8String span) = true
-is_of_text (kinds.NoSpaceBetweenIntAndIdent span) = true
-is_of_text (kinds.UnexpectedToken expected found span) = true
-is_of_text (kinds.UnexpectedEof expected) = true
-is_of_text (kinds.IntegerValueOutOfRange expected actual min max span) = true
-is_of_text kinds.Memory = true
-is_of_text _ = false
-
--- It tells this enum by its full name and this name of a value.
-abbrev pub TellsValue : EnumDescriptor → List ℕ → ParseErrorKind → Type 0
-TellsValue e name (kinds.EnumValueNotFound value enumeration span) =
-    (string_bytes value ≡ name) × (string_bytes enumeration ≡ (enum_at e.pool.now e.index).full_name)
-TellsValue e name _ = ⊥
+-- It tells this enum by its full name and this name of a value, which stands there.
+abbrev pub TellsValue : EnumDescriptor → List ℕ → Span → ParseErrorKind → Type 0
+TellsValue e name bytes (kinds.EnumValueNotFound value enumeration span) =
+    (string_bytes value ≡ name)
+    × (string_bytes enumeration ≡ (enum_at e.pool.now e.index).full_name) × (span ≡ bytes)
+TellsValue e name bytes _ = ⊥
 
 -- A refusal of an enum's value: the enum that it tells has no value of the name that it tells; the others are of the text alone.
 abbrev pub RefusesValue : EnumDescriptor → ParseErrorKind → Type 0

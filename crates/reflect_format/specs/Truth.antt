@@ -9,10 +9,11 @@ use Rattle.reflect_pool.specs.declared.kind.Kind.{Kind}
 use Rattle.reflect_pool.specs.declared.kind.Kind.TheVariants as values
 use Rattle.reflect_any.specs.Any.{IsAny}
 use Rattle.reflect_format.specs.Lacks.{LacksField, LacksGroup, LacksExtension, HasFloatField, HasFloatExtension}
-use Rattle.reflect_format.specs.Refusals.{is_of_text, IsTextName, Shares, TellsOneof}
+use Rattle.reflect_format.specs.Refusals.{IsTextName, Shares, TellsOneof}
 use Rattle.reflect_format.specs.Takes.{holds_many, target_pool}
 use Rattle.reflect_pool.specs.declared.oneof.OneofDescriptor.{OneofDescriptor}
 use Rattle.reflect_format.specs.declared.target.Target.{Target}
+use Rattle.text_scalars.specs.Refusals.{is_of_text}
 use Rattle.text_error.specs.declared.error.ParseErrorKind.{ParseErrorKind}
 use Rattle.text_error.specs.declared.error.ParseErrorKind.TheVariants as kinds
 

@@ -1,9 +1,8 @@
 //! Faults with the names and numbers that they tell.
 
-ghost use Rattle.std.specs.Prelude.{◌≡◌, IfOk, true, string_bytes};
-ghost use Rattle.reflect_format.specs.Refusals.{is_of_text, TellsExtension, TellsField, TellsFloatField, TellsMessage, TellsOneof, TellsSet, TellsValue};
+ghost use Rattle.std.specs.Prelude.{IfOk, string_bytes};
+ghost use Rattle.reflect_format.specs.Refusals.{TellsExtension, TellsField, TellsFloatField, TellsMessage, TellsOneof, TellsSet, TellsValue};
 
-use crate::number::{IntegerRange, Literal};
 use reflect_pool::{EnumDescriptor, MessageDescriptor, OneofDescriptor};
 use std::alloc::{AllocError, Global};
 use text_error::ParseErrorKind;
@@ -98,30 +97,11 @@ pub fn unknown_enum_value(
     descriptor: EnumDescriptor<'_>,
     span: Span,
 ) -> Result<ParseErrorKind, AllocError>
-    ensures { IfOk result (TellsValue descriptor.entry name.now) }
+    ensures { IfOk result (TellsValue descriptor.entry name.now span) }
 {
     Ok(ParseErrorKind::EnumValueNotFound {
         value_name: String::from_str(alloc, name)?,
         enum_name: String::from_str(alloc, descriptor.full_name())?,
         span,
-    })
-}
-
-/// The kind does not hold the integer.
-pub fn out_of_range(
-    alloc: Global,
-    range: IntegerRange,
-    literal: Literal<'_>,
-) -> Result<ParseErrorKind, AllocError>
-    ensures { IfOk result (λ kind. is_of_text kind ≡ true) }
-{
-    let sign = if literal.is_negative { "-" } else { "" };
-    let digits = literal.int.digits;
-    Ok(ParseErrorKind::IntegerValueOutOfRange {
-        expected: range.expected,
-        actual: format!(in alloc; "{sign}{digits}")?,
-        min: range.min,
-        max: range.max,
-        span: literal.span,
     })
 }

@@ -2,12 +2,9 @@
 #![tactic(auto)]
 
 mod fault;
-mod names;
-mod number;
 mod parser;
 mod scalar;
 mod target;
-mod tokens;
 
 pub use parser::Parser;
 pub use text_error::{ParseError, ParseErrorKind};

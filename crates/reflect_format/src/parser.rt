@@ -1,16 +1,15 @@
 //! From text to a message.
 
-ghost use Rattle.reflect_format.specs.Left.{left};
+ghost use Rattle.text_scalars.specs.Left.{left};
 ghost use Rattle.reflect_format.specs.Steps.{Reaches, Refuses, Step, Stops, is_set};
 ghost use Rattle.reflect_format.specs.Takes.{Takes};
-ghost use Rattle.reflect_format.specs.Refusals.{RefusesScalar, RefusesSecond};
+ghost use Rattle.reflect_format.specs.Refusals.{RefusesSecond};
 ghost use Rattle.reflect_format.specs.Truth.{TrueFor, TrueOf};
 ghost use Rattle.std.specs.Prelude.{◌≡◌, ◌<◌, IfErr, IfOk, OnOk, false};
 
 use crate::fault::{already_set, oneof_already_set, unknown_message};
-use crate::names::{AnyName, Name};
+use crate::scalar::scalar_value;
 use crate::target::Target;
-use crate::tokens::{Brace, Tokens, through};
 use reflect_any::any_fields;
 use reflect_encode::EncodeMessage;
 use reflect_message::{DynamicMessage, Value};
@@ -18,7 +17,8 @@ use reflect_pool::{Kind, MessageDescriptor};
 use reflect_wire::WireError;
 use std::alloc::Global;
 use text_error::{ParseError, ParseErrorKind};
-use text_lex::{Span, Token};
+use text_lex::Span;
+use text_scalars::{AnyName, Brace, Name, Tokens, through};
 
 /// How many braces may be open at once.
 const MAX_BRACES: u32 = 100;
@@ -96,8 +96,8 @@ fn field(
         }
         Name::Any(name) => expansion(tokens, message, name, span, braces)?,
     }
-    if tokens.eat(Token::Comma).is_none() {
-        tokens.eat(Token::Semicolon);
+    if tokens.eat(b',').is_none() {
+        tokens.eat(b';');
     }
     Ok(())
 }
@@ -157,17 +157,17 @@ fn values<'p>(
     ensures refused { IfErr result (TrueFor kind.entry) }
 {
     let mut values = Vec::new(tokens.alloc);
-    let is_bracketed = tokens.eat(Token::LeftBracket).is_some();
-    if is_bracketed && tokens.eat(Token::RightBracket).is_some() {
+    let is_bracketed = tokens.eat(b'[').is_some();
+    if is_bracketed && tokens.eat(b']').is_some() {
         return Ok(values);
     }
     'values: loop {
         let (value, _) = value(tokens, kind, braces)?;
         values.push(value)?;
-        if !is_bracketed || tokens.eat(Token::RightBracket).is_some() {
+        if !is_bracketed || tokens.eat(b']').is_some() {
             return Ok(values);
         }
-        if tokens.eat(Token::Comma).is_none() {
+        if tokens.eat(b',').is_none() {
             return Err(tokens.refuse("',' or ']'"));
         }
     }
@@ -246,51 +246,6 @@ fn value<'p>(
     }
 }
 
-/// A value of a kind that is no message.
-fn scalar_value<'p>(
-    tokens: &mut Tokens<'_>,
-    kind: Kind<'p>,
-) -> Result<(Value<'p>, Span), ParseErrorKind>
-    ensures taken { IfOk result (λ _. left tokens.new < left tokens.old) }
-    ensures refused { IfErr result (RefusesScalar kind.entry) }
-{
-    match kind {
-        Kind::Int32 | Kind::Sint32 | Kind::Sfixed32 => {
-            let (number, span) = tokens.signed_32()?;
-            Ok((Value::I32(number), span))
-        }
-        Kind::Int64 | Kind::Sint64 | Kind::Sfixed64 => {
-            let (number, span) = tokens.signed_64()?;
-            Ok((Value::I64(number), span))
-        }
-        Kind::Uint32 | Kind::Fixed32 => {
-            let (number, span) = tokens.unsigned_32()?;
-            Ok((Value::U32(number), span))
-        }
-        Kind::Uint64 | Kind::Fixed64 => {
-            let (number, span) = tokens.unsigned_64()?;
-            Ok((Value::U64(number), span))
-        }
-        Kind::Bool => {
-            let (truth, span) = tokens.truth()?;
-            Ok((Value::Bool(truth), span))
-        }
-        Kind::String => {
-            let (text, span) = tokens.text()?;
-            Ok((Value::String(text), span))
-        }
-        Kind::Bytes => {
-            let (bytes, span) = tokens.bytes()?;
-            Ok((Value::Bytes(bytes), span))
-        }
-        Kind::Enum(descriptor) => {
-            let (number, span) = tokens.enum_number(descriptor)?;
-            Ok((Value::EnumNumber(number), span))
-        }
-        Kind::Message(_) | Kind::Float | Kind::Double => Err(tokens.refuse("a number")),
-    }
-}
-
 /// A message in braces, with at most so many braces open at once.
 #[cycle(field)]
 fn message_value<'p>(
@@ -325,7 +280,7 @@ fn fields_to_brace(
     ensures refused { IfErr result (TrueOf message.old.descriptor.pool.now) }
 {
     'fields: loop {
-        if let Some(close) = tokens.eat(closing.token()) {
+        if let Some(close) = tokens.eat(closing.sign()) {
             return Ok(close);
         }
         if !tokens.is_at_name() {

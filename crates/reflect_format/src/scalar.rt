@@ -1,159 +1,92 @@
-//! Values that are no messages.
+//! Values that are no messages, by the kind of their field.
 
-ghost use Rattle.std.specs.Prelude.{◌≡◌, ◌<◌, IfOk, IfErr, true};
-ghost use Rattle.reflect_format.specs.Refusals.{is_of_text, RefusesValue};
+ghost use Rattle.protobuf_model.specs.Types as scalars;
+ghost use Rattle.protobuf_model.specs.Values.{enumerated};
+ghost use Rattle.reflect_format.specs.Enums.{number_named};
+ghost use Rattle.reflect_format.specs.Kinds.{ReadsSingle, RefusesEnum, RefusesKind, kind_value_at};
+ghost use Rattle.reflect_format.specs.Refusals.{RefusesScalar, RefusesValue};
+ghost use Rattle.std.specs.Prelude.{◌≡◌, ◌<◌, IfErr, IfOk};
+ghost use Rattle.text_scalars.specs.Left.{left};
+ghost use Rattle.text_scalars.specs.Remaining.{remaining};
+ghost use Rattle.text_scalars.specs.Scalars.{ReadsValue, value_at};
 
-use crate::fault::{out_of_range, unknown_enum_value};
-use crate::number::{Literal, SIGNED_32, SIGNED_64, UNSIGNED_32, UNSIGNED_64, magnitude_of};
-use crate::tokens::{Tokens, through};
-use protox_lex::unescape;
+use crate::fault::unknown_enum_value;
 use reflect_message::Value;
-use reflect_pool::EnumDescriptor;
+use reflect_pool::{EnumDescriptor, Kind};
 use text_error::ParseErrorKind;
 use text_lex::{Span, Token};
+use text_scalars::Tokens;
 
-impl<'a> Tokens<'a> {
-    ghost use Rattle.reflect_format.specs.Left.{left};
-
-    /// An integer with its sign.
-    fn integer(&mut self) -> Result<Literal<'a>, ParseErrorKind>
-        ensures taken { IfOk result (λ _. left self.new < left self.old) }
-        ensures refused { IfErr result (λ kind. is_of_text kind ≡ true) }
-    {
-        let minus = self.eat(Token::Minus);
-        let Some(lexeme) = self.peek() else {
-            return Err(self.refuse("an integer"));
+/// An enum's value by its name or its number.
+fn enum_number(
+    tokens: &mut Tokens<'_>,
+    descriptor: EnumDescriptor<'_>,
+) -> Result<(i32, Span), ParseErrorKind>
+    ensures read { ReadsValue enumerated
+        (value_at (number_named descriptor.entry) scalars.enumeration (remaining tokens.old))
+        result (remaining tokens.new) }
+    ensures told { IfErr result (RefusesEnum descriptor.entry (remaining tokens.old)) }
+    ensures taken { IfOk result (λ _. left tokens.new < left tokens.old) }
+    ensures refused { IfErr result (RefusesValue descriptor.entry) }
+{
+    if let Some((name, span)) = tokens.ident() {
+        return match descriptor.get_value_by_name(name) {
+            Some(value) => Ok((value.number(), span)),
+            None => Err(unknown_enum_value(tokens.alloc, name, descriptor, span)?),
         };
-        let Token::IntLiteral(int) = lexeme.token else {
-            return Err(self.refuse("an integer"));
-        };
-        self.advance();
-        let span = match minus {
-            Some(minus) => through(minus, lexeme.span),
-            None => lexeme.span,
-        };
-        Ok(Literal {
-            is_negative: minus.is_some(),
-            int,
-            span,
-        })
     }
-
-    pub fn signed_32(&mut self) -> Result<(i32, Span), ParseErrorKind>
-        ensures taken { IfOk result (λ _. left self.new < left self.old) }
-        ensures refused { IfErr result (λ kind. is_of_text kind ≡ true) }
-    {
-        let literal = self.integer()?;
-        match literal.number().and_then(|number| number.as_i32()) {
-            Some(value) => Ok((value, literal.span)),
-            None => Err(out_of_range(self.alloc, SIGNED_32, literal)?),
+    match tokens.peek() {
+        Some(lexeme) if matches!(lexeme.token, Token::Minus | Token::IntLiteral(_)) => {
+            tokens.signed_32()
         }
+        _ => Err(tokens.refuse("an enum value")),
     }
+}
 
-    pub fn signed_64(&mut self) -> Result<(i64, Span), ParseErrorKind>
-        ensures taken { IfOk result (λ _. left self.new < left self.old) }
-        ensures refused { IfErr result (λ kind. is_of_text kind ≡ true) }
-    {
-        let literal = self.integer()?;
-        match literal.number().and_then(|number| number.as_i64()) {
-            Some(value) => Ok((value, literal.span)),
-            None => Err(out_of_range(self.alloc, SIGNED_64, literal)?),
+/// A value of a kind that is no message.
+pub fn scalar_value<'p>(
+    tokens: &mut Tokens<'_>,
+    kind: Kind<'p>,
+) -> Result<(Value<'p>, Span), ParseErrorKind>
+    ensures read { ReadsSingle (kind_value_at kind.entry (remaining tokens.old))
+        result (remaining tokens.new) }
+    ensures told { IfErr result (RefusesKind kind.entry (remaining tokens.old)) }
+    ensures taken { IfOk result (λ _. left tokens.new < left tokens.old) }
+    ensures refused { IfErr result (RefusesScalar kind.entry) }
+{
+    match kind {
+        Kind::Int32 | Kind::Sint32 | Kind::Sfixed32 => {
+            let (number, span) = tokens.signed_32()?;
+            Ok((Value::I32(number), span))
         }
-    }
-
-    pub fn unsigned_32(&mut self) -> Result<(u32, Span), ParseErrorKind>
-        ensures taken { IfOk result (λ _. left self.new < left self.old) }
-        ensures refused { IfErr result (λ kind. is_of_text kind ≡ true) }
-    {
-        let literal = self.integer()?;
-        match literal.number().and_then(|number| number.as_u32()) {
-            Some(value) => Ok((value, literal.span)),
-            None => Err(out_of_range(self.alloc, UNSIGNED_32, literal)?),
+        Kind::Int64 | Kind::Sint64 | Kind::Sfixed64 => {
+            let (number, span) = tokens.signed_64()?;
+            Ok((Value::I64(number), span))
         }
-    }
-
-    pub fn unsigned_64(&mut self) -> Result<(u64, Span), ParseErrorKind>
-        ensures taken { IfOk result (λ _. left self.new < left self.old) }
-        ensures refused { IfErr result (λ kind. is_of_text kind ≡ true) }
-    {
-        let literal = self.integer()?;
-        match literal.number().and_then(|number| number.as_u64()) {
-            Some(value) => Ok((value, literal.span)),
-            None => Err(out_of_range(self.alloc, UNSIGNED_64, literal)?),
+        Kind::Uint32 | Kind::Fixed32 => {
+            let (number, span) = tokens.unsigned_32()?;
+            Ok((Value::U32(number), span))
         }
-    }
-
-    /// A truth value: a word for it, or 0 or 1.
-    pub fn truth(&mut self) -> Result<(bool, Span), ParseErrorKind>
-        ensures taken { IfOk result (λ _. left self.new < left self.old) }
-        ensures refused { IfErr result (λ kind. is_of_text kind ≡ true) }
-    {
-        let Some(lexeme) = self.peek() else {
-            return Err(self.refuse("'true' or 'false'"));
-        };
-        let value = match lexeme.token {
-            Token::Ident("true" | "True" | "t") => true,
-            Token::Ident("false" | "False" | "f") => false,
-            Token::IntLiteral(int) => match magnitude_of(int) {
-                Some(0) => false,
-                Some(1) => true,
-                _ => return Err(self.refuse("0 or 1")),
-            },
-            _ => return Err(self.refuse("'true' or 'false'")),
-        };
-        self.advance();
-        Ok((value, lexeme.span))
-    }
-
-    /// An enum's value by its name or its number.
-    pub fn enum_number(
-        &mut self,
-        descriptor: EnumDescriptor<'_>,
-    ) -> Result<(i32, Span), ParseErrorKind>
-        ensures taken { IfOk result (λ _. left self.new < left self.old) }
-        ensures refused { IfErr result (RefusesValue descriptor.entry) }
-    {
-        if let Some((name, span)) = self.ident() {
-            return match descriptor.get_value_by_name(name) {
-                Some(value) => Ok((value.number(), span)),
-                None => Err(unknown_enum_value(self.alloc, name, descriptor, span)?),
-            };
+        Kind::Uint64 | Kind::Fixed64 => {
+            let (number, span) = tokens.unsigned_64()?;
+            Ok((Value::U64(number), span))
         }
-        match self.peek() {
-            Some(lexeme) if matches!(lexeme.token, Token::Minus | Token::IntLiteral(_)) => {
-                self.signed_32()
-            }
-            _ => Err(self.refuse("an enum value")),
+        Kind::Bool => {
+            let (truth, span) = tokens.truth()?;
+            Ok((Value::Bool(truth), span))
         }
-    }
-
-    /// The bytes of adjacent string literals. The token behind them is then known to be one.
-    pub fn bytes(&mut self) -> Result<(Vec<u8>, Span), ParseErrorKind>
-        ensures taken { IfOk result (λ _. left self.new < left self.old) }
-        ensures refused { IfErr result (λ kind. is_of_text kind ≡ true) }
-    {
-        let Some((raw, first)) = self.string() else {
-            return Err(self.refuse("a string"));
-        };
-        let mut bytes = unescape(self.alloc, raw)?;
-        let mut last = first;
-        'literals: while let Some((raw, span)) = self.string() {
-            bytes.append(&mut unescape(self.alloc, raw)?)?;
-            last = span;
+        Kind::String => {
+            let (text, span) = tokens.text()?;
+            Ok((Value::String(text), span))
         }
-        self.no_fault()?;
-        Ok((bytes, through(first, last)))
-    }
-
-    /// The text of adjacent string literals.
-    pub fn text(&mut self) -> Result<(String, Span), ParseErrorKind>
-        ensures taken { IfOk result (λ _. left self.new < left self.old) }
-        ensures refused { IfErr result (λ kind. is_of_text kind ≡ true) }
-    {
-        let (bytes, span) = self.bytes()?;
-        match String::from_utf8(bytes) {
-            Ok(text) => Ok((text, span)),
-            Err(_) => Err(ParseErrorKind::InvalidUtf8String { span }),
+        Kind::Bytes => {
+            let (bytes, span) = tokens.bytes()?;
+            Ok((Value::Bytes(bytes), span))
         }
+        Kind::Enum(descriptor) => {
+            let (number, span) = enum_number(tokens, descriptor)?;
+            Ok((Value::EnumNumber(number), span))
+        }
+        Kind::Message(_) | Kind::Float | Kind::Double => Err(tokens.refuse("a number")),
     }
 }

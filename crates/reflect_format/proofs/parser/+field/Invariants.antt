@@ -1,5 +1,5 @@
 use Rattle.std.proofs.Common.{◌≡◌, ◌+◌, ◌*◌, ◌≤◌}
-use Rattle.reflect_format.specs.Left.{left}
+use Rattle.text_scalars.specs.Left.{left}
 use Rattle.reflect_format.proofs.parser.+field.Given as goal
 
 abbrev pub decreases-message_value : goal.decreases-message_value

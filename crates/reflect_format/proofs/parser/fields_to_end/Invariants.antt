@@ -1,5 +1,5 @@
 use Rattle.std.proofs.Common.{◌≡◌}
-use Rattle.reflect_format.specs.Left.{left}
+use Rattle.text_scalars.specs.Left.{left}
 use Rattle.reflect_format.specs.Steps.{Reaches}
 use Rattle.reflect_format.proofs.parser.fields_to_end.Given as goal
 

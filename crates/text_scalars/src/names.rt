@@ -1,11 +1,16 @@
 //! How a text names fields.
 
-ghost use Rattle.std.specs.Prelude.{◌≡◌, ◌<◌, ◌≤◌, IfErr, IfOk, true};
-ghost use Rattle.reflect_format.specs.Refusals.{is_of_text};
+ghost use Rattle.std.specs.Prelude.{◌≡◌, ◌<◌, ◌≤◌, IfErr, IfOk, string_bytes, true};
+ghost use Rattle.text_model.specs.Value.{written};
+ghost use Rattle.text_scalars.specs.Left.{left};
+ghost use Rattle.text_scalars.specs.Names.{bracketed_at, full_name_at, name_at, separator_at, text_and_bytes, view_and_bytes};
+ghost use Rattle.text_scalars.specs.Reading.{Reads, and_then, seen_as};
+ghost use Rattle.text_scalars.specs.Refusals.{is_of_text};
+ghost use Rattle.text_scalars.specs.Remaining.{remaining};
 
 use crate::tokens::{Tokens, through};
 use text_error::ParseErrorKind;
-use text_lex::{Span, Token};
+use text_lex::Span;
 
 /// What stands before a value.
 #[derive(Drop)]
@@ -25,39 +30,53 @@ pub struct AnyName {
 }
 
 impl<'a> Tokens<'a> {
-    ghost use Rattle.reflect_format.specs.Left.{left};
-
     /// A name, and where it stands with its brackets.
     pub fn name(&mut self) -> Result<(Name<'a>, Span), ParseErrorKind>
+        ensures read { Reads view_and_bytes (seen_as text_and_bytes (name_at (remaining self.old)))
+            result (remaining self.new) }
         ensures taken { IfOk result (λ _. left self.new < left self.old) }
         ensures refused { IfErr result (λ kind. is_of_text kind ≡ true) }
     {
         if let Some((name, span)) = self.ident() {
             return Ok((Name::Field(name), span));
         }
-        let Some(open) = self.eat(Token::LeftBracket) else {
+        let Some(opened) = self.eat(b'[') else {
             return Err(self.refuse("a field name"));
         };
+        self.bracketed(opened)
+    }
+
+    /// What stands behind an opening bracket: the name of an extension, or that of a type behind
+    /// a domain.
+    fn bracketed(&mut self, opened: Span) -> Result<(Name<'a>, Span), ParseErrorKind>
+        ensures read { Reads view_and_bytes (seen_as text_and_bytes
+            (and_then (full_name_at (remaining self.old)) (bracketed_at opened)))
+            result (remaining self.new) }
+        ensures taken { IfOk result (λ _. left self.new < left self.old) }
+        ensures refused { IfErr result (λ kind. is_of_text kind ≡ true) }
+    {
         let first = self.full_name()?;
-        if let Some(close) = self.eat(Token::RightBracket) {
-            return Ok((Name::Extension(first), through(open, close)));
+        if let Some(close) = self.eat(b']') {
+            return Ok((Name::Extension(first), through(opened, close)));
         }
-        if self.eat(Token::ForwardSlash).is_none() {
+        if self.eat(b'/').is_none() {
             return Err(self.refuse("'.', ']' or '/'"));
         }
         let message = self.full_name()?;
-        let Some(close) = self.eat(Token::RightBracket) else {
+        let Some(close) = self.eat(b']') else {
             return Err(self.refuse("'.' or ']'"));
         };
         let name = AnyName {
             domain: first,
             message,
         };
-        Ok((Name::Any(name), through(open, close)))
+        Ok((Name::Any(name), through(opened, close)))
     }
 
     /// Words with dots between them.
     fn full_name(&mut self) -> Result<String, ParseErrorKind>
+        ensures read { Reads string_bytes (seen_as written (full_name_at (remaining self.old)))
+            result (remaining self.new) }
         ensures taken { IfOk result (λ _. left self.new < left self.old) }
         ensures refused { IfErr result (λ kind. is_of_text kind ≡ true) }
     {
@@ -65,7 +84,7 @@ impl<'a> Tokens<'a> {
             return Err(self.refuse("an identifier"));
         };
         let mut name = String::from_str(self.alloc, first)?;
-        'words: while self.eat(Token::Dot).is_some() {
+        'words: while self.eat(b'.').is_some() {
             let Some((word, _)) = self.ident() else {
                 return Err(self.refuse("an identifier"));
             };
@@ -77,11 +96,13 @@ impl<'a> Tokens<'a> {
 
     /// A colon, which a brace may stand without.
     pub fn separator(&mut self) -> Result<(), ParseErrorKind>
+        ensures read { Reads (λ x. x) (separator_at (remaining self.old))
+            result (remaining self.new) }
         ensures more { left self.new ≤ left self.old }
         ensures refused { IfErr result (λ kind. is_of_text kind ≡ true) }
     {
-        let is_brace = self.is_at(Token::LeftBrace) || self.is_at(Token::LeftAngleBracket);
-        if is_brace || self.eat(Token::Colon).is_some() {
+        let is_brace = self.is_at(b'{') || self.is_at(b'<');
+        if is_brace || self.eat(b':').is_some() {
             return Ok(());
         }
         Err(self.refuse("':' or a message value"))

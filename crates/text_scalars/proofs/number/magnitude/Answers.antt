@@ -2,7 +2,7 @@ use Rattle.std.proofs.Common.{◌≡◌, get_or, ap, sym, ◌∙◌, arith}
 use Rattle.std.proofs.lemmas.List.{take_all}
 use Rattle.protox_lex.specs.Lex.{value, digit, short}
 use Rattle.protox_lex.proofs.Values.{value-more-le, is_long, is_short, over, over_sum}
-use Rattle.reflect_format.proofs.number.magnitude.Goals as goal
+use Rattle.text_scalars.proofs.number.magnitude.Goals as goal
 
 pub returns-in_err-checked_mul : goal.returns-in_err-checked_mul
 returns-in_err-checked_mul c =

@@ -1,0 +1,10 @@
+pub mod Braces
+pub mod Front
+pub mod Left
+pub mod Names
+pub mod Number
+pub mod Reading
+pub mod Refusals
+pub mod Remaining
+pub mod Scalars
+pub mod Spelled
