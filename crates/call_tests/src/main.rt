@@ -1,8 +1,9 @@
-//! A program that replays cases of calls: each is a list of calls of one pool, type, message, value or key of a map, with what
-//! each answers. It prints those that do not hold and how many of each kind do.
+//! A program that replays cases of calls: each is a list of calls of one pool, type, message, value
+//! or key of a map, with what each answers. It prints those that do not hold and how many of each
+//! kind do.
 //!
-//! Answers are worked by hand from the published documentation of the language, the encoding and the text format.
-//! docs/TESTS.md says what each file asserts.
+//! Answers are worked by hand from the published documentation of the language, the encoding and
+//! the text format. docs/TESTS.md says what each file asserts.
 #![tactic(auto)]
 
 mod options;

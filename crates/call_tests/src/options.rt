@@ -12,7 +12,8 @@ use text_format::TextFormat;
 /// What was read: a message, or `None` where the pool has no type of such options.
 type Read<'p> = Result<Option<DynamicMessage<'p>>, WireError>;
 
-/// The options of a message type, of its field or extension of a number, or of its first oneof; `None` where there is none.
+/// The options of a message type, of its field or extension of a number, or of its first oneof;
+/// `None` where there is none.
 fn options_in_message<'p>(
     alloc: Global,
     pool: &'p DescriptorPool,

@@ -73,7 +73,8 @@ fn value_name<'p>(pool: &'p DescriptorPool, call: &Json) -> Option<&'p str> {
     }
 }
 
-/// Writes the line that begins with some words of all that the pool's descriptors answer, without those words.
+/// Writes the line that begins with some words of all that the pool's descriptors answer, without
+/// those words.
 fn write_line(
     alloc: Global,
     out: &mut String,
@@ -103,7 +104,8 @@ fn add(
     }
 }
 
-/// Builds the file that bytes spell, and takes it back where the call says so; or writes that it is refused.
+/// Builds the file that bytes spell, and takes it back where the call says so; or writes that it is
+/// refused.
 fn build(
     alloc: Global,
     out: &mut String,

@@ -1,4 +1,5 @@
-//! Cases of calls. A `pool` case makes a pool, which later cases of its file name by its `id`; what they ask has a `type` of it.
+//! Cases of calls. A `pool` case makes a pool, which later cases of its file name by its `id`; what
+//! they ask has a `type` of it.
 //!
 //! `op` names what the calls are made of, `calls` has them, and each has under `is` what it answers. Bytes are hex text.
 

@@ -46,7 +46,8 @@ fn pool_of_file(
     }
 }
 
-/// The pool of the case's `source`, of the `file` that its bytes spell, or of their `set`; `None` where it is refused.
+/// The pool of the case's `source`, of the `file` that its bytes spell, or of their `set`; `None`
+/// where it is refused.
 pub fn start_of(alloc: Global, case: &Json) -> Result<Option<DescriptorPool>, AllocError> {
     if case.get("source").is_some() {
         return linked(alloc, text(case, "source"));

@@ -46,7 +46,8 @@ fn field_name<'p>(descriptor: MessageDescriptor<'p>, call: &Json) -> Option<&'p 
     }
 }
 
-/// The full name of the extension that the type has by the call's full name, name in JSON or number.
+/// The full name of the extension that the type has by the call's full name, name in JSON or
+/// number.
 fn extension_name<'p>(descriptor: MessageDescriptor<'p>, call: &Json) -> Option<&'p str> {
     if let Some(name) = text_of(call, "full_name") {
         return Some(descriptor.get_extension_by_full_name(name)?.full_name());

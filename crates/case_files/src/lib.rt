@@ -1,5 +1,5 @@
-//! Files of cases, a line of JSON for each: they are replayed in their order, and what does not hold is printed, and how many of
-//! each kind do.
+//! Files of cases, a line of JSON for each: they are replayed in their order, and what does not
+//! hold is printed, and how many of each kind do.
 #![tactic(auto)]
 
 use case_json::members::text;
@@ -84,8 +84,9 @@ fn replay_all<R: Replays>(rt: &HostRuntime, cases: &str) -> io::Result<bool> {
     Ok(all_held)
 }
 
-/// Replays the cases of the files that the program's words name, each file with a replay of its own. Prints the name of each
-/// file, the cases that do not hold with what is wrong with them, and how many of each kind hold; true where all do.
+/// Replays the cases of the files that the program's words name, each file with a replay of its
+/// own. Prints the name of each file, the cases that do not hold with what is wrong with them, and
+/// how many of each kind hold; true where all do.
 ///
 /// A file that is no text is refused as invalid data.
 pub fn replay_files<R: Replays>(rt: &HostRuntime) -> io::Result<bool> {

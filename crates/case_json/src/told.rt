@@ -6,7 +6,8 @@ use std::fmt::Display;
 
 /// What is wanted of a case, member by member, and the first difference of what came.
 ///
-/// Each member that is wanted has to come, as the same text. What comes under a name that is not asked for is passed over.
+/// Each member that is wanted has to come, as the same text. What comes under a name that is not
+/// asked for is passed over.
 #[derive(Drop)]
 pub struct Told<'c> {
     alloc: Global,

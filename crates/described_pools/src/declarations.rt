@@ -1,4 +1,5 @@
-//! A line for each declaration of a pool, sort by sort: files, messages, enums, extensions, services.
+//! A line for each declaration of a pool, sort by sort: files, messages, enums, extensions,
+//! services.
 
 use crate::fields::write_extension;
 use crate::parts::{or_dash, record_name, write_names, write_path};

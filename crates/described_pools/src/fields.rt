@@ -61,7 +61,8 @@ pub fn write_extension(
     write_form(out, AnyField::Extension(extension), extension.cardinality())
 }
 
-/// The extension of its message that has its number, its full name, its JSON name, and that of the pool with its full name.
+/// The extension of its message that has its number, its full name, its JSON name, and that of the
+/// pool with its full name.
 fn write_extension_lookups(
     out: &mut String,
     extension: ExtensionDescriptor<'_>,

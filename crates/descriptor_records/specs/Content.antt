@@ -125,7 +125,12 @@ pub record EnumValueContent : Type 0 where
   pub options : Option OptionsContent
 
 abbrev pub enum_value_view : EnumValueDescriptorProto → EnumValueContent
-enum_value_view v = record { name = text_view v.name; number = v.number; options = option_map options_view v.options }
+enum_value_view v = record {
+  name = text_view v.name;
+  number = v.number;
+  options =
+      option_map options_view v.options;
+}
 
 pub record EnumContent : Type 0 where
   pub name : Option Text
@@ -167,7 +172,11 @@ pub record ServiceContent : Type 0 where
   pub options : Option OptionsContent
 
 abbrev pub service_view : ServiceDescriptorProto → ServiceContent
-service_view s = record { name = text_view s.name; method = map method_view s.method.items; options = option_map options_view s.options }
+service_view s = record {
+  name = text_view s.name;
+  method = map method_view s.method.items;
+  options = option_map options_view s.options;
+}
 
 pub record LocationContent : Type 0 where
   pub path : List ℤ
@@ -194,12 +203,16 @@ pub record ExtensionRangeContent : Type 0 where
   pub options : Option OptionsContent
 
 abbrev pub extension_range_view : ExtensionRange → ExtensionRangeContent
-extension_range_view r = record { start = r.start; end = r.end; options = option_map options_view r.options }
+extension_range_view r = record
+    { start = r.start; end = r.end; options = option_map options_view r.options }
 
 mutual
   pub data MessageContent : Type 0 where
-    message : (name : Option Text) (field extension : List FieldContent) (nested_type : MessageContents) (enum_type : List EnumContent) (extension_range : List ExtensionRangeContent)
-        (oneof_decl : List OneofContent) (options : Option OptionsContent) (reserved_range : List ReservedRange) (reserved_name : List Text) → MessageContent
+    message : (name : Option Text) (field extension : List FieldContent)
+        (nested_type : MessageContents) (enum_type : List EnumContent)
+        (extension_range : List ExtensionRangeContent)
+        (oneof_decl : List OneofContent) (options : Option OptionsContent)
+        (reserved_range : List ReservedRange) (reserved_name : List Text) → MessageContent
 
   pub data MessageContents : Type 0 where
     no_messages : MessageContents
@@ -210,8 +223,11 @@ messages_of [] = no_messages
 messages_of (m ∷ ms) = more_messages m (messages_of ms)
 
 abbrev pub message_step : DescriptorProto-F MessageContent → MessageContent
-message_step m = message (text_view m.name) (map field_view m.field.items) (map field_view m.extension.items) (messages_of m.nested_type.items) (map enum_view m.enum_type.items)
-    (map extension_range_view m.extension_range.items) (map oneof_view m.oneof_decl.items) (option_map options_view m.options) m.reserved_range.items (texts_view m.reserved_name)
+message_step m = message (text_view m.name) (map field_view m.field.items)
+    (map field_view m.extension.items) (messages_of m.nested_type.items)
+    (map enum_view m.enum_type.items)
+    (map extension_range_view m.extension_range.items) (map oneof_view m.oneof_decl.items)
+    (option_map options_view m.options) m.reserved_range.items (texts_view m.reserved_name)
 
 abbrev pub message_view : DescriptorProto → MessageContent
 message_view = fold-DescriptorProto MessageContent message_step

@@ -1,6 +1,7 @@
 //! The records that describe protobuf files, as plain data: a clone has the content of its source.
 //!
-//! The records and their fields are those of protobuf's own `descriptor.proto`, under the names that `prost-types` gives them.
+//! The records and their fields are those of protobuf's own `descriptor.proto`, under the names
+//! that `prost-types` gives them.
 #![tactic(auto)]
 
 mod enums;

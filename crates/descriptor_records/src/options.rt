@@ -5,9 +5,9 @@ use std::alloc::{AllocError, Global};
 
 /// The options of one declaration, of whatever kind it is.
 ///
-/// A declaration's options are a message of a type that `descriptor.proto` defines and that anyone may extend. So they are
-/// kept as that message's wire bytes; beside these stand the few that linking needs, and the options that a source wrote
-/// and that no type has read yet.
+/// A declaration's options are a message of a type that `descriptor.proto` defines and that anyone
+/// may extend. So they are kept as that message's wire bytes; beside these stand the few that
+/// linking needs, and the options that a source wrote and that no type has read yet.
 #[derive(PartialEq, Drop)]
 pub struct Options {
     /// The wire bytes of the settled options.

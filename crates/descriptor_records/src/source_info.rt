@@ -12,9 +12,11 @@ pub struct SourceCodeInfo {
 /// Where one part of a file stands, and its comments.
 #[derive(PartialEq, Drop)]
 pub struct Location {
-    /// Which part it is: field numbers of the records from the file down, each of a list followed by an index.
+    /// Which part it is: field numbers of the records from the file down, each of a list followed
+    /// by an index.
     pub path: Vec<i32>,
-    /// Line, column, end column; or line, column, end line, end column. All count from 0, columns in bytes.
+    /// Line, column, end column; or line, column, end line, end column. All count from 0, columns
+    /// in bytes.
     pub span: Vec<i32>,
     pub leading_comments: Option<String>,
     pub trailing_comments: Option<String>,

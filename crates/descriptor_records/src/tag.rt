@@ -1,4 +1,5 @@
-//! The numbers of the records' fields in `descriptor.proto`, of which a [`Location`](crate::Location)'s path is made.
+//! The numbers of the records' fields in `descriptor.proto`, of which a
+//! [`Location`](crate::Location)'s path is made.
 
 pub mod set {
     pub const FILE: i32 = 1;

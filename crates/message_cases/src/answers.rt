@@ -6,11 +6,13 @@ use std::alloc::{AllocError, Global};
 
 /// What calls are made of.
 pub trait Answers {
-    /// Makes a call, and writes what it answers. A call that cannot be made is said to be none, which no case wants.
+    /// Makes a call, and writes what it answers. A call that cannot be made is said to be none,
+    /// which no case wants.
     fn answer(&mut self, alloc: Global, call: &Json, out: &mut String) -> Result<(), AllocError>;
 }
 
-/// Makes the calls of a case in their order, and writes which of them answer otherwise than they have to.
+/// Makes the calls of a case in their order, and writes which of them answer otherwise than they
+/// have to.
 ///
 /// What a call has to answer stands under `is`, and is empty where nothing does.
 pub fn replay_calls<A: Answers>(

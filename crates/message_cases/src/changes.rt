@@ -98,7 +98,8 @@ fn put_entries(
     Ok(true)
 }
 
-/// Merges the bytes that the call gives into the place, if there is one; false also where they are refused.
+/// Merges the bytes that the call gives into the place, if there is one; false also where they are
+/// refused.
 fn merge(
     alloc: Global,
     place: Option<&mut DynamicMessage<'_>>,
@@ -130,7 +131,8 @@ fn change_value(alloc: Global, value: &mut Value<'_>, call: &Json) -> Result<boo
     merge(alloc, value.as_message_mut(), call)
 }
 
-/// Writes a value, changes it by what the call gives, and says where it stays because it is of another sort.
+/// Writes a value, changes it by what the call gives, and says where it stays because it is of
+/// another sort.
 pub fn change(
     alloc: Global,
     out: &mut String,
@@ -180,7 +182,8 @@ fn change_key_to(key: &mut MapKey, call: &Json) -> Result<bool, AllocError> {
     }
 }
 
-/// Writes a key, changes it by what the call gives, and says where it stays because it is of another sort.
+/// Writes a key, changes it by what the call gives, and says where it stays because it is of
+/// another sort.
 pub fn change_key(out: &mut String, key: &mut MapKey, call: &Json) -> Result<(), AllocError> {
     write_key(out, key)?;
     if change_key_to(key, call)? {

@@ -1,4 +1,5 @@
-//! Numbers, values, messages and kinds that cases give. What a case lacks is read as empty: then other answers come than it wants.
+//! Numbers, values, messages and kinds that cases give. What a case lacks is read as empty: then
+//! other answers come than it wants.
 
 use case_json::members::{bytes, items, text};
 use reflect_decode::DecodeMessage;

@@ -15,8 +15,8 @@ use reflect_message::DynamicMessage;
 use serde_json::Value as Json;
 use std::alloc::{AllocError, Global};
 
-/// Calls of the field of a `number`, of a `name`, of the descriptor of a `field`'s number or of an `extension`'s; else of the
-/// whole.
+/// Calls of the field of a `number`, of a `name`, of the descriptor of a `field`'s number or of an
+/// `extension`'s; else of the whole.
 impl Answers for DynamicMessage<'_> {
     fn answer(&mut self, alloc: Global, call: &Json, out: &mut String) -> Result<(), AllocError> {
         if let Some(number) = u32_of(call, "number") {
@@ -95,7 +95,8 @@ fn write_answer(
     }
 }
 
-/// Whether the message's type declares a field or an extension of the type that the call names; `None` where that has none.
+/// Whether the message's type declares a field or an extension of the type that the call names;
+/// `None` where that has none.
 fn declares(message: &DynamicMessage<'_>, call: &Json) -> Option<bool> {
     let pool = message.descriptor().parent_pool();
     let other = pool.get_message_by_name(text(call, "of"))?;

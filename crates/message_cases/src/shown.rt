@@ -1,4 +1,5 @@
-//! Values as texts: what each of their readers answers, behind its name. Of a value that is no list and no map just one does.
+//! Values as texts: what each of their readers answers, behind its name. Of a value that is no list
+//! and no map just one does.
 
 use reflect_access::SetFieldError;
 use reflect_encode::EncodeMessage;

@@ -18,7 +18,8 @@ struct ValueCase<'p> {
     descriptor: MessageDescriptor<'p>,
 }
 
-/// The default of the field, the extension or the kind that an object names, or the value that it gives.
+/// The default of the field, the extension or the kind that an object names, or the value that it
+/// gives.
 fn start_of<'p>(
     alloc: Global,
     descriptor: MessageDescriptor<'p>,
@@ -64,7 +65,8 @@ impl ValueCase<'_> {
         Some(value.is_valid(&kind_of(descriptor, call)?))
     }
 
-    /// Whether the value is the default of the field, the extension or the kind that the call names.
+    /// Whether the value is the default of the field, the extension or the kind that the call
+    /// names.
     fn is_default(&self, call: &Json) -> Option<bool> {
         let (value, descriptor) = (&self.value, self.descriptor);
         if let Some(field) = field_of(descriptor, call) {

@@ -8,4 +8,5 @@ use Rattle.reflect_decode.specs.Refused.{HoldsKeys}
 -- the entries of each map have a key of a kind that keys have
 abbrev pub HaveMapKeys : PoolType → Type 0
 HaveMapKeys pool =
-    (t : KindType) (keys : FieldType) → is_entry pool t ≡ true → entry_field pool t 1 ≡ Some keys → HoldsKeys pool keys
+    (t : KindType) (keys : FieldType) → is_entry pool t ≡ true → entry_field pool t 1 ≡ Some keys
+    → HoldsKeys pool keys

@@ -12,5 +12,6 @@ ghost use Rattle.message_laws.specs.MapKeys.{HaveMapKeys};
 pub fn refused_bytes_are_not_accepted()
     ensures { (levels : ℕ) (d : MessageDescriptor) → HaveMapKeys d.pool.now
         → (bytes : List ℕ) (e : WireError) → BodyFault levels d.pool.now d.index None bytes e
-        → (rs : List (ℕ × Payload)) → SpellsRecords levels bytes (records_of rs) → Accepts levels d rs → ⊥ }
+        → (rs : List (ℕ × Payload)) → SpellsRecords levels bytes (records_of rs)
+        → Accepts levels d rs → ⊥ }
 {}

@@ -1,5 +1,5 @@
-//! Laws of what `decode` and `encode` say of bytes and messages, each the contract of a function that
-//! does nothing. They speak of the types of a pool, and of a message as one of these.
+//! Laws of what `decode` and `encode` say of bytes and messages, each the contract of a function
+//! that does nothing. They speak of the types of a pool, and of a message as one of these.
 ghost use Rattle.std.specs.Prelude.{◌≡◌, ◌↔◌, ◌<◌, ◌^◌, ◌++◌, ℕ, List, map, length, Some, String};
 ghost use Rattle.std.specs.List.{AllByRecursion};
 ghost use Rattle.protobuf_model.specs.Coded.{AreOlderThan, IsAccepted, IsRecoded, Mean, SuitsType};
@@ -57,8 +57,8 @@ pub fn decoded_messages_suit_the_type()
         → SuitsType (types_of d.pool.now) (name_at d.pool.now d.index) (view m) }
 {}
 
-/// Bytes that `decode` answers by a type it refuses by no older type, of this or of another pool, but
-/// for want of memory.
+/// Bytes that `decode` answers by a type it refuses by no older type, of this or of another pool,
+/// but for want of memory.
 pub fn decoded_bytes_are_decoded_by_older_types()
     ensures { (old new : MessageDescriptor)
         → IsSound old.pool.now → IsSound new.pool.now

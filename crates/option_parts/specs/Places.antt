@@ -21,4 +21,5 @@ IsPlaceIn f p = (p.file ≡ text_of f.name) × (p.span ≡ span_among (locations
 
 -- it is in one of the files from an index on
 abbrev pub StandsFrom : List FileDescriptorProto → ℕ → Place → Type 0
-StandsFrom files first p = (i : ℕ) × (f : FileDescriptorProto) × (first ≤ i) × (slice_get files i ≡ Some f) × IsPlaceIn f p
+StandsFrom files first p = (i : ℕ) × (f : FileDescriptorProto) × (first ≤ i)
+    × (slice_get files i ≡ Some f) × IsPlaceIn f p

@@ -5,7 +5,8 @@ use reflect_build::Edit;
 use std::alloc::{AllocError, Global};
 use std::collections::BTreeMap;
 
-/// The path with its front, which is that of an option up to so many numbers, replaced by where the option was set.
+/// The path with its front, which is that of an option up to so many numbers, replaced by where the
+/// option was set.
 fn moved_front(
     alloc: Global,
     path: &[i32],

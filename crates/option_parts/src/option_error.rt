@@ -31,7 +31,8 @@ pub enum OptionErrorKind {
     NoDescriptorProto,
     /// The pool's type for the options lacks what every such type has.
     BadDescriptorProto { name: String },
-    /// The stored bytes are no options of the pool's type, or contradict the record about map entries.
+    /// The stored bytes are no options of the pool's type, or contradict the record about map
+    /// entries.
     UndecodableOptions { error: Option<WireError> },
     /// Want of memory.
     Memory,
@@ -133,7 +134,8 @@ impl OptionError {
 
     /// The name of the file.
     pub fn file(&self) -> Option<&str>
-        ensures { option_map (λ f. f.now) result ≡ option_map (λ p. p.file) (option_place self.now) }
+        ensures { option_map (λ f. f.now) result
+            ≡ option_map (λ p. p.file) (option_place self.now) }
     {
         Some(self.place.as_ref()?.file())
     }
@@ -154,7 +156,8 @@ impl OptionError {
 
     /// Which part of the file's record it is, as in a record's locations.
     pub fn path(&self) -> Option<&[i32]>
-        ensures { option_map (λ p. p.now) result ≡ option_map (λ p. p.path) (option_place self.now) }
+        ensures { option_map (λ p. p.now) result
+            ≡ option_map (λ p. p.path) (option_place self.now) }
     {
         Some(self.place.as_ref()?.path())
     }

@@ -43,7 +43,8 @@ impl OptionScope {
         }
     }
 
-    /// The name and the number of the option of these types that linking reads itself, if there is one.
+    /// The name and the number of the option of these types that linking reads itself, if there is
+    /// one.
     pub fn typed_option(self) -> Option<(&'static str, u32)> {
         match self {
             OptionScope::Field => Some(("packed", 2)),

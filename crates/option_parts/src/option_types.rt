@@ -64,7 +64,8 @@ fn bad(alloc: Global, name: &str) -> Result<OptionErrorKind, AllocError> {
     Ok(OptionErrorKind::BadDescriptorProto { name })
 }
 
-/// What is wrong with the pool's types of options, if there is something: each that is there must have a repeated message field
+/// What is wrong with the pool's types of options, if there is something: each that is there must
+/// have a repeated message field
 /// `uninterpreted_option` of number 999 and keep the numbers from 1000 on for extensions; those of fields, enums and messages
 /// must have a singular truth value `packed` 2, `allow_alias` 2 and `map_entry` 7.
 pub fn check_option_types(

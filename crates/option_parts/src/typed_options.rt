@@ -72,7 +72,8 @@ fn copy_in_enums(enums: &mut Vec<EnumDescriptorProto>)
 }
 
 fn copy_in_messages(messages: &mut Vec<DescriptorProto>)
-    ensures { map message_view messages.new.items ≡ map typed_message (map message_view messages.old.items) }
+    ensures { map message_view messages.new.items
+        ≡ map typed_message (map message_view messages.old.items) }
 {
     for place in 0..messages.len() {
         let message = &mut messages[place];
@@ -91,8 +92,8 @@ fn copy_in_file(file: &mut FileDescriptorProto)
     copy_in_messages(&mut file.message_type);
 }
 
-/// Copies what fields write as `packed` and enums as `allow_alias`, where it is true or false, to where linking reads it. Takes
-/// no memory.
+/// Copies what fields write as `packed` and enums as `allow_alias`, where it is true or false, to
+/// where linking reads it. Takes no memory.
 pub fn copy_typed_options(files: &mut Vec<FileDescriptorProto>)
     ensures { TypedFiles files.old.items files.new.items }
 {

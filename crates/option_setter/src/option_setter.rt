@@ -61,8 +61,9 @@ impl<'a, 'p> OptionSetter<'a, 'p> {
         }
     }
 
-    /// Sets the option in a message of options, and gives the path of what it set there: the numbers of the fields, and behind
-    /// that of a list the place of the element. An option without a name sets nothing.
+    /// Sets the option in a message of options, and gives the path of what it set there: the
+    /// numbers of the fields, and behind that of a list the place of the element. An option without
+    /// a name sets nothing.
     pub fn set(&self, message: &mut DynamicMessage<'p>) -> Result<Vec<i32>, OptionErrorKind> {
         let mut path = Vec::with_capacity(self.alloc, self.option.name.len().saturating_add(1))?;
         self.set_parts(message, self.option.name.as_slice(), MAX_LEVELS, &mut path)?;
@@ -147,7 +148,8 @@ impl<'a, 'p> OptionSetter<'a, 'p> {
         }
     }
 
-    /// Sets what the last part means. A list gets one more element and a map one more entry; anything else must not be set yet.
+    /// Sets what the last part means. A list gets one more element and a map one more entry;
+    /// anything else must not be set yet.
     fn set_last(
         &self,
         message: &mut DynamicMessage<'p>,

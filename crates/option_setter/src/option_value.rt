@@ -114,8 +114,8 @@ pub fn aggregate<'p>(
     }
 }
 
-/// One value of the kind that the option's value says: truth values by `true` and `false`, integers in range, strings as UTF-8,
-/// bytes, enums by name, messages in braces.
+/// One value of the kind that the option's value says: truth values by `true` and `false`, integers
+/// in range, strings as UTF-8, bytes, enums by name, messages in braces.
 pub fn option_value<'p>(
     alloc: Global,
     option: &UninterpretedOption,

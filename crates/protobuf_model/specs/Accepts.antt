@@ -1,4 +1,5 @@
--- Which lists of records a type accepts (protobuf.dev, "Encoding", Message Structure, Packed Repeated Fields, Groups, Maps).
+-- Which lists of records a type accepts (protobuf.dev, "Encoding", Message Structure, Packed
+-- Repeated Fields, Groups, Maps).
 use Rattle.std.specs.Prelude.{◌≡◌, ◌⊎◌, ℕ, zero, suc, ◌<◌, ◌^◌, true, List, [], ◌∷◌, ◌++◌, Option, None, Some}
 use Rattle.std.specs.List.{AllByRecursion}
 use Rattle.reflect_wire.specs.declared.wire_key.WireType.{WireType}
@@ -33,7 +34,8 @@ AcceptsPart inner (nested frame u) p = inner frame u p
 abbrev pub SpellsRow : WireType → List ℕ → List Payload → Type 0
 SpellsRow w bytes [] = bytes ≡ []
 SpellsRow w bytes (p ∷ ps) =
-    (front rest : List ℕ) × (wire_of p ≡ w) × SpellsPayload 0 0 front p × SpellsRow w rest ps × (bytes ≡ front ++ rest)
+    (front rest : List ℕ) × (wire_of p ≡ w) × SpellsPayload 0 0 front p × SpellsRow w rest ps
+    × (bytes ≡ front ++ rest)
 
 -- a record of packed values
 abbrev pub IsPacked : Kind → Payload → Type 0
@@ -66,14 +68,16 @@ AcceptsEntry inner levels key part _ = ⊥
 -- a payload of a field; of one that no field has any payload is
 abbrev pub AcceptsField : Acceptable → ℕ → Part → Label → Payload → Type 0
 AcceptsField inner levels part one p = AcceptsPart inner part.kind p
-AcceptsField inner levels part (many packed) p = AcceptsPart inner part.kind p ⊎ IsPacked part.kind p
+AcceptsField inner levels part (many packed) p = AcceptsPart inner part.kind p
+    ⊎ IsPacked part.kind p
 AcceptsField inner levels part (keyed key) p = AcceptsEntry inner levels key part p
 
 abbrev pub AcceptsIn : Acceptable → ℕ → Option Field → Payload → Type 0
 AcceptsIn inner levels None p = Unit {0}
 AcceptsIn inner levels (Some f) p = AcceptsField inner levels f.part f.label p
 
-pub record AcceptsRecord (inner : Acceptable) (levels : ℕ) (type : ℕ → Option Field) (r : ℕ × Payload) : Type 0 where
+pub record AcceptsRecord (inner : Acceptable) (levels : ℕ) (type : ℕ → Option Field)
+    (r : ℕ × Payload) : Type 0 where
   pub some : 0 < r.0
   pub small : r.0 < 2 ^ 29
   pub fits : FitsPayload levels r.1
@@ -86,4 +90,5 @@ AcceptsBy inner levels types t rs = AllByRecursion (AcceptsRecord inner levels (
 abbrev pub Accepts : ℕ → Types → Name → List (ℕ × Payload) → Type 0
 Accepts zero types = AcceptsBy (λ frame u p. ⊥) zero types
 Accepts (suc levels) types =
-    AcceptsBy (λ frame u p. IsFramed levels frame p × Accepts levels types u (inside_of p)) (suc levels) types
+    AcceptsBy (λ frame u p. IsFramed levels frame p × Accepts levels types u (inside_of p))
+    (suc levels) types

@@ -28,7 +28,8 @@ abbrev pub is_declared : Option Field → Bool
 is_declared None = false
 is_declared (Some f) = not f.extension
 
--- declared fields by ascending number, then extensions and numbers without a field by ascending number
+-- declared fields by ascending number, then extensions and numbers without a field by ascending
+-- number
 abbrev pub arranged : (ℕ → Option Field) → (ℕ → List Payload) → List (ℕ × Payload)
 arranged type under =
     run (λ n. cond (is_declared (type n)) (under n) []) field_numbers
@@ -72,9 +73,11 @@ abbrev mutual
   pub payloads_in : Types → Part → Label → Content → List Payload
   payloads_in types part one (single v) = in_kind part.kind v
   payloads_in types part one (message m) =
-      in_frame part.kind (arranged (types (type_of part.kind)) (λ n. payloads_under types (types (type_of part.kind) n) (m n)))
+      in_frame part.kind (arranged (types (type_of part.kind))
+      (λ n. payloads_under types (types (type_of part.kind) n) (m n)))
   payloads_in types part (many packed) (list cs) =
-      cond (packed && is_packable part.kind) (delimited (bare (each_payload types part cs)) ∷ []) (each_payload types part cs)
+      cond (packed && is_packable part.kind) (delimited (bare (each_payload types part cs)) ∷ [])
+      (each_payload types part cs)
   payloads_in types part (keyed key) (dictionary es) = entry_payloads types key part es
   payloads_in types part _ _ = []
 
@@ -86,12 +89,14 @@ abbrev mutual
 
   pub each_payload : Types → Part → Contents → List Payload
   each_payload types part no_contents = []
-  each_payload types part (more_contents c cs) = payloads_in types part one c ++ each_payload types part cs
+  each_payload types part (more_contents c cs) = payloads_in types part one c
+      ++ each_payload types part cs
 
   pub entry_payloads : Types → Key → Part → Entries → List Payload
   entry_payloads types key part no_entries = []
   entry_payloads types key part (more_entries k c es) =
-      delimited (records_bytes (records_of (entry_records key part k c (payloads_in types part one c))))
+      delimited (records_bytes (records_of
+      (entry_records key part k c (payloads_in types part one c))))
       ∷ entry_payloads types key part es
 
 -- the records of a message of the type, and its bytes

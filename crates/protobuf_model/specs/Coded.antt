@@ -12,7 +12,8 @@ use Rattle.protobuf_model.specs.Bytes.{bytes_of}
 use Rattle.protobuf_model.specs.Older.{IsOlder}
 
 -- the bytes spell these records, and the type accepts them, of at most 100 levels
-pub record AreRead (types : Types) (t : Name) (bytes : List ℕ) (rs : List (ℕ × Payload)) : Type 0 where
+pub record AreRead (types : Types) (t : Name) (bytes : List ℕ)
+    (rs : List (ℕ × Payload)) : Type 0 where
   pub spelled : SpellsRecords 100 bytes (records_of rs)
   pub accepted : Accepts 100 types t rs
 
@@ -39,7 +40,8 @@ IsRecoded types t bytes out = (m : Message) × Mean types t bytes m × (bytes_of
 abbrev pub IsRecodedThrough : List (Types × Name) → List ℕ → List ℕ → Type 0
 IsRecodedThrough [] bytes out = bytes ≡ out
 IsRecodedThrough (t ∷ ts) bytes out =
-    (next : List ℕ) × IsRecoded t.0 t.1 bytes next × (length next < 2 ^ 64) × IsRecodedThrough ts next out
+    (next : List ℕ) × IsRecoded t.0 t.1 bytes next × (length next < 2 ^ 64)
+    × IsRecodedThrough ts next out
 
 -- each of the types is older than this one
 abbrev pub AreOlderThan : Types → Name → List (Types × Name) → Type 0

@@ -1,4 +1,5 @@
--- What a list of records means, with what stands before it (protobuf.dev, "Encoding", Last One Wins, Oneofs, Maps).
+-- What a list of records means, with what stands before it (protobuf.dev, "Encoding", Last One
+-- Wins, Oneofs, Maps).
 use Rattle.std.specs.Prelude.{ℕ, zero, suc, Bool, false, cond, not, ◌||◌, ◌&&◌, ◌==◌, List, [], ◌∷◌, ◌++◌, map, Option, None, Some}
 use Rattle.std.specs.List.{flat_map}
 use Rattle.reflect_wire.specs.Records.{Payload, delimited}
@@ -22,10 +23,12 @@ abbrev pub payloads : ℕ → List (ℕ × Payload) → List Payload
 payloads n [] = []
 payloads n (r ∷ rs) = cond (r.0 == n) (r.1 ∷ payloads n rs) (payloads n rs)
 
--- those that stand: a record of a oneof's member is struck out where one of another member follows it
+-- those that stand: a record of a oneof's member is struck out where one of another member follows
+-- it
 abbrev pub standing : (ℕ → Bool) → ℕ → List (ℕ × Payload) → List Payload
 standing rivals n [] = []
-standing rivals n (r ∷ rs) = cond (r.0 == n && not (is_in rivals rs)) (r.1 ∷ standing rivals n rs) (standing rivals n rs)
+standing rivals n (r ∷ rs) = cond (r.0 == n && not (is_in rivals rs)) (r.1 ∷ standing rivals n rs)
+    (standing rivals n rs)
 
 -- what stood before is struck out likewise
 abbrev pub left_of : (ℕ → Bool) → Held → List (ℕ × Payload) → Held
@@ -58,11 +61,13 @@ joined ps = flat_map inside_of ps
 abbrev pub taken : Merge → Part → Kind → Held → List Payload → Held
 taken inner part (scalar k) h ps = last_set part h (flat_map (meant k) ps)
 taken inner part (nested frame u) h [] = h
-taken inner part (nested frame u) h (p ∷ ps) = content (message (inner u (message_in h) (joined (p ∷ ps))))
+taken inner part (nested frame u) h (p ∷ ps) =
+    content (message (inner u (message_in h) (joined (p ∷ ps))))
 
 -- the values of a packable kind in one record, packed or not
 abbrev pub packed_or_one : Scalar → Payload → List Single
-packed_or_one k (delimited body) = cond (packs k) (flat_map (meant k) (row (wire_type k) body)) (meant k (delimited body))
+packed_or_one k (delimited body) =
+    cond (packs k) (flat_map (meant k) (row (wire_type k) body)) (meant k (delimited body))
 packed_or_one k p = meant k p
 
 -- the elements of a list in one record
@@ -79,7 +84,8 @@ abbrev pub if_any : List Content → Held
 if_any [] = absent
 if_any (c ∷ cs) = content (list (chain_of (c ∷ cs)))
 
--- a map's entry in one record: a message of the key under 1 and the value under 2, each its default where it is missing
+-- a map's entry in one record: a message of the key under 1 and the value under 2, each its default
+-- where it is missing
 abbrev pub entry_value : Merge → Part → Kind → List Payload → Content
 entry_value inner part (scalar k) ps = single (last_or part.default (flat_map (meant k) ps))
 entry_value inner part (nested frame u) ps = message (inner u nothing (joined ps))
@@ -124,7 +130,8 @@ held inner (Some f) h ps = held_by inner f.part f.label h ps
 -- each number for itself
 abbrev pub meaning_by : Merge → Types → Merge
 meaning_by inner types t start rs =
-    λ n. held inner (types t n) (left_of (rival (types t) n) (start n) rs) (standing (rival (types t) n) n rs)
+    λ n. held inner (types t n) (left_of (rival (types t) n) (start n) rs)
+    (standing (rival (types t) n) n rs)
 
 -- what records mean behind a start, of at most so many levels
 abbrev pub meaning : ℕ → Types → Merge

@@ -21,8 +21,9 @@ AnswersTo Pair None g = Unit {0}
 AnswersTo Pair (Some f) (Some g) = AreAlike Pair f g
 AnswersTo Pair (Some f) None = ⊥
 
--- older and newer types in pairs, so that the types of messages inside are paired too; two numbers share a oneof of
--- the one exactly where they do in the other, so that a oneof has all its members in both, or a single one in the newer
+-- older and newer types in pairs, so that the types of messages inside are paired too; two numbers
+-- share a oneof of the one exactly where they do in the other, so that a oneof has all its members
+-- in both, or a single one in the newer
 pub record AreOlder (old new : Types) (Pair : Name → Name → Type 0) : Type 0 where
   pub fields : (t u : Name) → Pair t u → (n : ℕ) → AnswersTo Pair (old t n) (new u n)
   pub oneofs : (t u : Name) → Pair t u → (n q : ℕ) → rival (old t) n q ≡ rival (new u) n q
@@ -30,4 +31,5 @@ pub record AreOlder (old new : Types) (Pair : Name → Name → Type 0) : Type 0
 -- a type is older than another where a list of pairs, closed so, has the two
 abbrev pub IsOlder : Types → Name → Types → Name → Type 0
 IsOlder old t new u =
-    (pairs : List (Name × Name)) × AreOlder old new (λ t u. Contains pairs (t, u)) × Contains pairs (t, u)
+    (pairs : List (Name × Name)) × AreOlder old new (λ t u. Contains pairs (t, u))
+    × Contains pairs (t, u)

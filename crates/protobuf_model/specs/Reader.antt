@@ -8,7 +8,8 @@ use Rattle.reflect_wire.specs.declared.wire_key.WireType.TheVariants.{Varint, Si
 -- the number at the front, and what is behind it
 abbrev pub number_front : List ℕ → ℕ × List ℕ
 number_front [] = (0, [])
-number_front (b ∷ bs) = cond (nat_lt b 128) (b, bs) (b - 128 + 128 * (number_front bs).0, (number_front bs).1)
+number_front (b ∷ bs) = cond (nat_lt b 128) (b, bs)
+    (b - 128 + 128 * (number_front bs).0, (number_front bs).1)
 
 abbrev pub wire_in : ℕ → WireType
 wire_in zero = Varint
@@ -39,12 +40,14 @@ abbrev pub behind_key : (List ℕ → Records × List ℕ) → ℕ → WireType 
 behind_key inner n EndGroup bytes = (no_records, bytes)
 behind_key inner n w bytes = with_record inner n (payload_front inner w bytes)
 
--- the records up to an end tag or the end of the bytes, and what is behind them; each takes a byte at least
+-- the records up to an end tag or the end of the bytes, and what is behind them; each takes a byte
+-- at least
 abbrev pub records_front : ℕ → List ℕ → Records × List ℕ
 records_front zero bytes = (no_records, bytes)
 records_front (suc left) [] = (no_records, [])
 records_front (suc left) (b ∷ bs) =
-    behind_key (records_front left) ((number_front (b ∷ bs)).0 / 8) (wire_in ((number_front (b ∷ bs)).0 % 8))
+    behind_key (records_front left) ((number_front (b ∷ bs)).0 / 8)
+    (wire_in ((number_front (b ∷ bs)).0 % 8))
     (number_front (b ∷ bs)).1
 
 -- records as a list
@@ -61,7 +64,8 @@ inside_of (delimited body) = inside body
 inside_of (group rs) = list_of rs
 inside_of _ = []
 
--- payloads of the form, one behind the other without keys; `left` is at least how many bytes there are
+-- payloads of the form, one behind the other without keys; `left` is at least how many bytes there
+-- are
 abbrev pub row_front : WireType → ℕ → List ℕ → List Payload
 row_front w zero bytes = []
 row_front w (suc left) [] = []

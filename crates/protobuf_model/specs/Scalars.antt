@@ -54,8 +54,8 @@ meant kinds.string (delimited p) = text p ∷ []
 meant kinds.bytes (delimited p) = blob p ∷ []
 meant _ _ = []
 
--- the payload that a value is written as, none where it does not suit the kind; a negative int32 or enum takes the ten
--- bytes of 64 bits
+-- the payload that a value is written as, none where it does not suit the kind; a negative int32 or
+-- enum takes the ten bytes of 64 bits
 abbrev pub written_as : Scalar → Single → List Payload
 written_as kinds.int32 (int32 z) = varint (cast_unsigned w64 z) ∷ []
 written_as kinds.int64 (int64 z) = varint (cast_unsigned w64 z) ∷ []

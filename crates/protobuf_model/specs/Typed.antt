@@ -37,7 +37,8 @@ IsHeldOf inner levels None (content c) = ⊥
 IsHeldOf inner levels (Some f) (records ps) = ps ≡ []
 IsHeldOf inner levels (Some f) (content c) = IsFieldOf inner f.part f.label c
 
-pub record IsTypedBy (inner : Name → Message → Type 0) (levels : ℕ) (type : ℕ → Option Field) (m : Message) : Type 0 where
+pub record IsTypedBy (inner : Name → Message → Type 0) (levels : ℕ) (type : ℕ → Option Field)
+    (m : Message) : Type 0 where
   pub numbers : (n : ℕ) → (m n ≡ absent) ⊎ ((0 < n) × (n < 2 ^ 29))
   pub contents : (n : ℕ) → IsHeldOf inner levels (type n) (m n)
   pub exclusive : (n q : ℕ) → rival type n q ≡ true → (m n ≡ absent) ⊎ (m q ≡ absent)
@@ -47,7 +48,8 @@ abbrev pub IsTyped : ℕ → Types → Name → Message → Type 0
 IsTyped zero types t m = IsTypedBy (λ u m. ⊥) zero (types t) m
 IsTyped (suc levels) types t m = IsTypedBy (IsTyped levels types) (suc levels) (types t) m
 
--- the defaults of a map's key and value, which stand where an entry has none, are values of their kinds
+-- the defaults of a map's key and value, which stand where an entry has none, are values of their
+-- kinds
 abbrev pub HasDefault : Kind → Single → Type 0
 HasDefault (scalar k) d = Suits k d
 HasDefault (nested frame u) d = Unit {0}

@@ -21,8 +21,8 @@ mutual
     list : Contents → Content
     dictionary : Entries → Content
 
-  -- what stands under a number: a content, or the records that are kept of a number that no field has; without records
-  -- it is unset
+  -- what stands under a number: a content, or the records that are kept of a number that no field
+  -- has; without records it is unset
   pub data Held : Type 0 where
     content : Content → Held
     records : List Payload → Held

@@ -22,7 +22,8 @@ pub fn bytes_are_accepted_in_pieces()
 /// Merging bytes, and then others, is merging both, one behind the other.
 pub fn bytes_are_merged_in_pieces()
     ensures { (types : Types) (t : Name) (a b : List ℕ) (start m n : Message)
-        → AreMerged types t start a m → AreMerged types t m b n → AreMerged types t start (a ++ b) n }
+        → AreMerged types t start a m → AreMerged types t m b n
+        → AreMerged types t start (a ++ b) n }
 {}
 
 /// A message that suits its type is what its bytes mean, where they are no more than a length can
@@ -67,7 +68,8 @@ pub fn bytes_pass_through_an_older_type()
         → IsRecoded old t bytes out → length out < 2 ^ 64 → Mean new u out m }
 {}
 
-/// The same of a chain of types, each older than the newest: they need not be older than one another.
+/// The same of a chain of types, each older than the newest: they need not be older than one
+/// another.
 pub fn bytes_pass_through_older_types()
     ensures { (new : Types) (u : Name) (ts : List (Types × Name)) (bytes out : List ℕ) (m : Message)
         → HaveDefaults new → AreOlderThan new u ts → Mean new u bytes m
@@ -82,8 +84,8 @@ pub fn chains_have_one_normal_form()
         → IsRecoded new u through x → IsRecoded new u bytes y → x ≡ y }
 {}
 
-/// Two accepted byte lists have equal such results, whatever their chains, exactly if their meanings
-/// are equal.
+/// Two accepted byte lists have equal such results, whatever their chains, exactly if their
+/// meanings are equal.
 pub fn normal_forms_are_equal_where_meanings_are()
     ensures { (new : Types) (u : Name) → HaveDefaults new → (ts us : List (Types × Name))
         → AreOlderThan new u ts → AreOlderThan new u us

@@ -1,4 +1,5 @@
--- How a value in braces is read, in which text format stands: which tokens are its, what their text is, and where it stands.
+-- How a value in braces is read, in which text format stands: which tokens are its, what their text
+-- is, and where it stands.
 use Rattle.protox_lex.specs.Class.{Text}
 use Rattle.protox_lex.specs.Token.{Token, ident, int, float, str, sign}
 use Rattle.protox_lex.specs.declared.span.Span.{Span}
@@ -11,7 +12,8 @@ use Rattle.protox_tokens.specs.Stream.{Stream, text}
 use Rattle.std.specs.Prelude.{ℕ, zero, suc, Bool, if◌then◌else◌, Option, Some, None, Err, is_some}
 use Rattle.protox_lex.specs.declared.token.Sign.TheVariants as s
 
--- What the rules of a value in braces give is that it stands there; its text is that of the tokens which they take.
+-- What the rules of a value in braces give is that it stands there; its text is that of the tokens
+-- which they take.
 abbrev pub Passes : Type 0
 Passes = Parser (Unit {0})
 
@@ -56,7 +58,8 @@ unfoldable pub behind_slash : Passes
 behind_slash = passes s.ForwardSlash >>= dotted_if
 
 abbrev pub bracketed_if : Bool → Passes
-bracketed_if bracket = if bracket then dotted >> behind_slash >> must s.RightBracket else an_ident_as a_field_name
+bracketed_if bracket = if bracket then dotted >> behind_slash >> must s.RightBracket
+    else an_ident_as a_field_name
 
 -- A field's name is a word, or the name of an extension or of a type in brackets.
 unfoldable pub field_name : Passes
@@ -82,7 +85,8 @@ scalar = choose (is_string_in text) literals (passes s.Minus >> a_plain)
 abbrev pub braces_at : Stream → Option (Sign × Sign)
 braces_at ts =
     if sees_in text (sign s.LeftBrace) ts then Some (s.LeftBrace, s.RightBrace)
-    else if sees_in text (sign s.LeftAngleBracket) ts then Some (s.LeftAngleBracket, s.RightAngleBracket)
+    else if sees_in text (sign s.LeftAngleBracket) ts
+    then Some (s.LeftAngleBracket, s.RightAngleBracket)
     else None
 
 abbrev pub opens : Stream → Bool
@@ -139,8 +143,8 @@ unfoldable pub braces : ℕ → Passes
 braces zero = opening >>= (λ first. (λ ts. Err (too_deep first.1)))
 braces (suc levels) = opening >>= (λ first. fields_with (braces levels) first.0 >> must first.0)
 
--- Of the braces of an option's value, inside which a hundred pairs may be open at once, their place and the text of what stands
--- between them are kept.
+-- Of the braces of an option's value, inside which a hundred pairs may be open at once, their place
+-- and the text of what stands between them are kept.
 unfoldable pub aggregate : Parser (Text × Span)
 aggregate = do
   first ← expect (sign s.LeftBrace)

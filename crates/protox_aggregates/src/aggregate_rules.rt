@@ -20,7 +20,8 @@ const MAX_BRACES: u8 = 100;
 
 /// Adds a token to the text of those before it.
 fn add(text: &mut String, token: Token<'_>) -> Result<(), AllocError>
-    ensures { OnOk result (string_bytes text.new ≡ texts.with_token (string_bytes text.old) (token_of token.entry)) }
+    ensures { OnOk result (string_bytes text.new
+        ≡ texts.with_token (string_bytes text.old) (token_of token.entry)) }
 {
     if !text.is_empty() {
         text.push_str(" ")?;
@@ -31,7 +32,8 @@ fn add(text: &mut String, token: Token<'_>) -> Result<(), AllocError>
 /// Takes the next token, if it is this sign.
 fn eat<'a>(tokens: &mut Tokens<'a>, text: &mut String, sign: Sign) -> Result<bool, Stop<'a>>
     ensures reads { Reads (λ x. x) (spec.passes sign (stream tokens.old)) result tokens.new }
-    ensures writes { OnOk result (texts.Writes (stream tokens.old) (string_bytes text.old) (stream tokens.new) (string_bytes text.new)) }
+    ensures writes { OnOk result (texts.Writes (stream tokens.old) (string_bytes text.old)
+        (stream tokens.new) (string_bytes text.new)) }
     ensures taken { IfOk result (λ b. b ≡ true → left tokens.new < left tokens.old) }
     ensures not { IfOk result (λ b. b ≡ false → left tokens.new ≡ left tokens.old) }
 {
@@ -44,7 +46,8 @@ fn eat<'a>(tokens: &mut Tokens<'a>, text: &mut String, sign: Sign) -> Result<boo
 
 fn expect<'a>(tokens: &mut Tokens<'a>, text: &mut String, sign: Sign) -> Result<(), Stop<'a>>
     ensures reads { Reads (λ x. x) (spec.must sign (stream tokens.old)) result tokens.new }
-    ensures writes { OnOk result (texts.Writes (stream tokens.old) (string_bytes text.old) (stream tokens.new) (string_bytes text.new)) }
+    ensures writes { OnOk result (texts.Writes (stream tokens.old) (string_bytes text.old)
+        (stream tokens.new) (string_bytes text.new)) }
     ensures moves { OnOk result (left tokens.new < left tokens.old) }
 {
     tokens.expect_in_text(sign)?;
@@ -58,8 +61,10 @@ fn ident<'a>(
     text: &mut String,
     expected: ExpectedToken,
 ) -> Result<(), Stop<'a>>
-    ensures reads { Reads (λ x. x) (spec.an_ident_as (expected_view expected) (stream tokens.old)) result tokens.new }
-    ensures writes { OnOk result (texts.Writes (stream tokens.old) (string_bytes text.old) (stream tokens.new) (string_bytes text.new)) }
+    ensures reads { Reads (λ x. x) (spec.an_ident_as (expected_view expected) (stream tokens.old))
+        result tokens.new }
+    ensures writes { OnOk result (texts.Writes (stream tokens.old) (string_bytes text.old)
+        (stream tokens.new) (string_bytes text.new)) }
     ensures moves { OnOk result (left tokens.new < left tokens.old) }
 {
     if let Some(
@@ -80,7 +85,8 @@ fn ident<'a>(
 #[tactic(auto, unfolding(crate::specs::AggregateGrammar::dotted))]
 fn full_ident<'a>(tokens: &mut Tokens<'a>, text: &mut String) -> Result<(), Stop<'a>>
     ensures reads { Reads (λ x. x) (spec.dotted (stream tokens.old)) result tokens.new }
-    ensures writes { OnOk result (texts.Writes (stream tokens.old) (string_bytes text.old) (stream tokens.new) (string_bytes text.new)) }
+    ensures writes { OnOk result (texts.Writes (stream tokens.old) (string_bytes text.old)
+        (stream tokens.new) (string_bytes text.new)) }
     ensures moves { OnOk result (left tokens.new < left tokens.old) }
 {
     ident(tokens, text, ExpectedToken::Ident)?;
@@ -94,7 +100,8 @@ fn full_ident<'a>(tokens: &mut Tokens<'a>, text: &mut String) -> Result<(), Stop
 #[tactic(auto, unfolding(crate::specs::AggregateGrammar::behind_slash))]
 fn behind_slash<'a>(tokens: &mut Tokens<'a>, text: &mut String) -> Result<(), Stop<'a>>
     ensures reads { Reads (λ x. x) (spec.behind_slash (stream tokens.old)) result tokens.new }
-    ensures writes { OnOk result (texts.Writes (stream tokens.old) (string_bytes text.old) (stream tokens.new) (string_bytes text.new)) }
+    ensures writes { OnOk result (texts.Writes (stream tokens.old) (string_bytes text.old)
+        (stream tokens.new) (string_bytes text.new)) }
     ensures moves { OnOk result (left tokens.new ≤ left tokens.old) }
 {
     if eat(tokens, text, Sign::ForwardSlash)? {
@@ -107,7 +114,8 @@ fn behind_slash<'a>(tokens: &mut Tokens<'a>, text: &mut String) -> Result<(), St
 #[tactic(auto, unfolding(crate::specs::AggregateGrammar::field_name))]
 fn name<'a>(tokens: &mut Tokens<'a>, text: &mut String) -> Result<(), Stop<'a>>
     ensures reads { Reads (λ x. x) (spec.field_name (stream tokens.old)) result tokens.new }
-    ensures writes { OnOk result (texts.Writes (stream tokens.old) (string_bytes text.old) (stream tokens.new) (string_bytes text.new)) }
+    ensures writes { OnOk result (texts.Writes (stream tokens.old) (string_bytes text.old)
+        (stream tokens.new) (string_bytes text.new)) }
     ensures moves { OnOk result (left tokens.new < left tokens.old) }
 {
     if !eat(tokens, text, Sign::LeftBracket)? {
@@ -131,7 +139,8 @@ fn is_string(tokens: &Tokens<'_>) -> bool
 #[tactic(auto, unfolding(crate::specs::AggregateGrammar::a_literal))]
 fn literal<'a>(tokens: &mut Tokens<'a>, text: &mut String) -> Result<(), Stop<'a>>
     ensures reads { Reads (λ x. x) (spec.a_literal (stream tokens.old)) result tokens.new }
-    ensures writes { OnOk result (texts.Writes (stream tokens.old) (string_bytes text.old) (stream tokens.new) (string_bytes text.new)) }
+    ensures writes { OnOk result (texts.Writes (stream tokens.old) (string_bytes text.old)
+        (stream tokens.new) (string_bytes text.new)) }
     ensures moves { OnOk result (left tokens.new < left tokens.old) }
 {
     if let Some(
@@ -153,7 +162,8 @@ fn literal<'a>(tokens: &mut Tokens<'a>, text: &mut String) -> Result<(), Stop<'a
 #[tactic(auto, unfolding(crate::specs::AggregateGrammar::literals))]
 fn strings<'a>(tokens: &mut Tokens<'a>, text: &mut String) -> Result<(), Stop<'a>>
     ensures reads { Reads (λ x. x) (spec.literals (stream tokens.old)) result tokens.new }
-    ensures writes { OnOk result (texts.Writes (stream tokens.old) (string_bytes text.old) (stream tokens.new) (string_bytes text.new)) }
+    ensures writes { OnOk result (texts.Writes (stream tokens.old) (string_bytes text.old)
+        (stream tokens.new) (string_bytes text.new)) }
     ensures moves { OnOk result (left tokens.new < left tokens.old) }
 {
     literal(tokens, text)?;
@@ -167,7 +177,8 @@ fn strings<'a>(tokens: &mut Tokens<'a>, text: &mut String) -> Result<(), Stop<'a
 #[tactic(auto, unfolding(crate::specs::AggregateGrammar::a_plain))]
 fn plain<'a>(tokens: &mut Tokens<'a>, text: &mut String) -> Result<(), Stop<'a>>
     ensures reads { Reads (λ x. x) (spec.a_plain (stream tokens.old)) result tokens.new }
-    ensures writes { OnOk result (texts.Writes (stream tokens.old) (string_bytes text.old) (stream tokens.new) (string_bytes text.new)) }
+    ensures writes { OnOk result (texts.Writes (stream tokens.old) (string_bytes text.old)
+        (stream tokens.new) (string_bytes text.new)) }
     ensures moves { OnOk result (left tokens.new < left tokens.old) }
 {
     if let Some(
@@ -188,7 +199,8 @@ fn plain<'a>(tokens: &mut Tokens<'a>, text: &mut String) -> Result<(), Stop<'a>>
 #[tactic(auto, unfolding(crate::specs::AggregateGrammar::scalar))]
 fn scalar<'a>(tokens: &mut Tokens<'a>, text: &mut String) -> Result<(), Stop<'a>>
     ensures reads { Reads (λ x. x) (spec.scalar (stream tokens.old)) result tokens.new }
-    ensures writes { OnOk result (texts.Writes (stream tokens.old) (string_bytes text.old) (stream tokens.new) (string_bytes text.new)) }
+    ensures writes { OnOk result (texts.Writes (stream tokens.old) (string_bytes text.old)
+        (stream tokens.new) (string_bytes text.new)) }
     ensures moves { OnOk result (left tokens.new < left tokens.old) }
 {
     if is_string(tokens) {
@@ -214,8 +226,10 @@ fn closing(tokens: &Tokens<'_>) -> Option<(Sign, Sign)>
 #[cycle(aggregate)]
 #[tactic(auto, unfolding(crate::specs::AggregateGrammar::value_with))]
 fn value<'a>(tokens: &mut Tokens<'a>, text: &mut String, levels: u8) -> Result<(), Stop<'a>>
-    ensures reads { Reads (λ x. x) (spec.value_with (spec.braces levels) (stream tokens.old)) result tokens.new }
-    ensures writes { OnOk result (texts.Writes (stream tokens.old) (string_bytes text.old) (stream tokens.new) (string_bytes text.new)) }
+    ensures reads { Reads (λ x. x) (spec.value_with (spec.braces levels) (stream tokens.old))
+        result tokens.new }
+    ensures writes { OnOk result (texts.Writes (stream tokens.old) (string_bytes text.old)
+        (stream tokens.new) (string_bytes text.new)) }
     ensures moves { OnOk result (left tokens.new < left tokens.old) }
 {
     if closing(tokens).is_some() {
@@ -229,8 +243,10 @@ fn value<'a>(tokens: &mut Tokens<'a>, text: &mut String, levels: u8) -> Result<(
 #[cycle(aggregate)]
 #[tactic(auto, unfolding(crate::specs::AggregateGrammar::list_with))]
 fn list<'a>(tokens: &mut Tokens<'a>, text: &mut String, levels: u8) -> Result<(), Stop<'a>>
-    ensures reads { Reads (λ x. x) (spec.list_with (spec.braces levels) (stream tokens.old)) result tokens.new }
-    ensures writes { OnOk result (texts.Writes (stream tokens.old) (string_bytes text.old) (stream tokens.new) (string_bytes text.new)) }
+    ensures reads { Reads (λ x. x) (spec.list_with (spec.braces levels) (stream tokens.old))
+        result tokens.new }
+    ensures writes { OnOk result (texts.Writes (stream tokens.old) (string_bytes text.old)
+        (stream tokens.new) (string_bytes text.new)) }
     ensures moves { OnOk result (left tokens.new < left tokens.old) }
 {
     if eat(tokens, text, Sign::RightBracket)? {
@@ -248,7 +264,8 @@ fn list<'a>(tokens: &mut Tokens<'a>, text: &mut String, levels: u8) -> Result<()
 #[tactic(auto, unfolding(crate::specs::AggregateGrammar::braces))]
 fn braces<'a>(tokens: &mut Tokens<'a>, text: &mut String, levels: u8) -> Result<(), Stop<'a>>
     ensures reads { Reads (λ x. x) (spec.braces levels (stream tokens.old)) result tokens.new }
-    ensures writes { OnOk result (texts.Writes (stream tokens.old) (string_bytes text.old) (stream tokens.new) (string_bytes text.new)) }
+    ensures writes { OnOk result (texts.Writes (stream tokens.old) (string_bytes text.old)
+        (stream tokens.new) (string_bytes text.new)) }
     ensures moves { OnOk result (left tokens.new < left tokens.old) }
 {
     let Some((open, close)) = closing(tokens) else {
@@ -272,8 +289,10 @@ fn fields<'a>(
     close: Sign,
     levels: u8,
 ) -> Result<(), Stop<'a>>
-    ensures reads { Reads (λ x. x) (spec.fields_with (spec.braces levels) close (stream tokens.old)) result tokens.new }
-    ensures writes { OnOk result (texts.Writes (stream tokens.old) (string_bytes text.old) (stream tokens.new) (string_bytes text.new)) }
+    ensures reads { Reads (λ x. x) (spec.fields_with (spec.braces levels) close (stream tokens.old))
+        result tokens.new }
+    ensures writes { OnOk result (texts.Writes (stream tokens.old) (string_bytes text.old)
+        (stream tokens.new) (string_bytes text.new)) }
     ensures moves { OnOk result (left tokens.new ≤ left tokens.old) }
 {
     'fields: while !tokens.sees_in_text(close) {
@@ -286,8 +305,10 @@ fn fields<'a>(
 #[cycle(aggregate)]
 #[tactic(auto, unfolding(crate::specs::AggregateGrammar::field_value_with))]
 fn field_value<'a>(tokens: &mut Tokens<'a>, text: &mut String, levels: u8) -> Result<(), Stop<'a>>
-    ensures reads { Reads (λ x. x) (spec.field_value_with (spec.braces levels) (stream tokens.old)) result tokens.new }
-    ensures writes { OnOk result (texts.Writes (stream tokens.old) (string_bytes text.old) (stream tokens.new) (string_bytes text.new)) }
+    ensures reads { Reads (λ x. x) (spec.field_value_with (spec.braces levels) (stream tokens.old))
+        result tokens.new }
+    ensures writes { OnOk result (texts.Writes (stream tokens.old) (string_bytes text.old)
+        (stream tokens.new) (string_bytes text.new)) }
     ensures moves { OnOk result (left tokens.new < left tokens.old) }
 {
     if !eat(tokens, text, Sign::Colon)? {
@@ -303,7 +324,8 @@ fn field_value<'a>(tokens: &mut Tokens<'a>, text: &mut String, levels: u8) -> Re
 #[tactic(auto, unfolding(crate::specs::AggregateGrammar::separator))]
 fn separator<'a>(tokens: &mut Tokens<'a>, text: &mut String) -> Result<(), Stop<'a>>
     ensures reads { Reads (λ x. x) (spec.separator (stream tokens.old)) result tokens.new }
-    ensures writes { OnOk result (texts.Writes (stream tokens.old) (string_bytes text.old) (stream tokens.new) (string_bytes text.new)) }
+    ensures writes { OnOk result (texts.Writes (stream tokens.old) (string_bytes text.old)
+        (stream tokens.new) (string_bytes text.new)) }
     ensures moves { OnOk result (left tokens.new ≤ left tokens.old) }
 {
     if eat(tokens, text, Sign::Comma)? {
@@ -316,8 +338,10 @@ fn separator<'a>(tokens: &mut Tokens<'a>, text: &mut String) -> Result<(), Stop<
 #[cycle(aggregate)]
 #[tactic(auto, unfolding(crate::specs::AggregateGrammar::field_with))]
 fn field<'a>(tokens: &mut Tokens<'a>, text: &mut String, levels: u8) -> Result<(), Stop<'a>>
-    ensures reads { Reads (λ x. x) (spec.field_with (spec.braces levels) (stream tokens.old)) result tokens.new }
-    ensures writes { OnOk result (texts.Writes (stream tokens.old) (string_bytes text.old) (stream tokens.new) (string_bytes text.new)) }
+    ensures reads { Reads (λ x. x) (spec.field_with (spec.braces levels) (stream tokens.old))
+        result tokens.new }
+    ensures writes { OnOk result (texts.Writes (stream tokens.old) (string_bytes text.old)
+        (stream tokens.new) (string_bytes text.new)) }
     ensures moves { OnOk result (left tokens.new < left tokens.old) }
 {
     name(tokens, text)?;
@@ -328,7 +352,8 @@ fn field<'a>(tokens: &mut Tokens<'a>, text: &mut String, levels: u8) -> Result<(
 /// A value in braces: the text of its tokens, with one space between each two.
 #[tactic(auto, unfolding(crate::specs::AggregateGrammar::aggregate))]
 pub fn aggregate<'a>(alloc: Global, tokens: &mut Tokens<'a>) -> Result<Aggregate, Stop<'a>>
-    ensures reads { Reads (λ a. (string_bytes a.text, a.span)) (spec.aggregate (stream tokens.old)) result tokens.new }
+    ensures reads { Reads (λ a. (string_bytes a.text, a.span)) (spec.aggregate (stream tokens.old))
+        result tokens.new }
     ensures moves { OnOk result (left tokens.new < left tokens.old) }
 {
     let open = tokens.expect_sign(Sign::LeftBrace)?;

@@ -1,7 +1,7 @@
 -- The faults of a file, in the order in which they stand in the source.
 --
--- Source: the "Language Specification" of proto2 and of proto3 and the language guides on protobuf.dev. What needs other files,
--- as whether a type exists, is no fault of a tree.
+-- Source: the "Language Specification" of proto2 and of proto3 and the language guides on
+-- protobuf.dev. What needs other files, as whether a type exists, is no fault of a tree.
 use Rattle.std.specs.Prelude.{◌++◌, ◌||◌, Bool, true, false, not, List, [], ◌∷◌, Option, None, Some}
 use Rattle.protox_check.specs.FieldOptions.{options_faults}
 use Rattle.protox_check.specs.Fields.{head_faults}
@@ -49,7 +49,13 @@ abbrev mutual
   -- What stands before the options, these, and what is in a group.
   pub field_faults : Syntax → Holder → Field → List ParseErrorKind
   field_faults s h (field label kind name number options span) =
-      head_faults s h (record { label = label; kind = kind; name = name; number = number; span = span })
+      head_faults s h (record {
+        label = label;
+        kind = kind;
+        name = name;
+        number = number;
+        span = span;
+      })
       ++ (options_faults s label kind options ++ kind_faults s kind)
 
   pub kind_faults : Syntax → Kind → List ParseErrorKind

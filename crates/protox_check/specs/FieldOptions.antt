@@ -1,6 +1,7 @@
 -- The faults of the options `default` and `json_name` of a field.
 --
--- Source: "Default Field Values" of the proto2 language guide and "ProtoJSON Format" on protobuf.dev.
+-- Source: "Default Field Values" of the proto2 language guide and "ProtoJSON Format" on
+-- protobuf.dev.
 use Rattle.std.specs.Prelude.{◌++◌, ◌&&◌, ◌||◌, Bool, true, false, not, if◌then◌else◌, List, [], ◌∷◌, Option, None, Some, is_some, codes}
 use Rattle.std.specs.Str.{bytes_eq}
 use Rattle.descriptor_records.specs.declared.field.FieldType.{FieldType}
@@ -42,8 +43,8 @@ is_number (float_value negative w) = true
 is_number (strings_value ws) = false
 is_number (braces_value text span) = false
 
--- A value of a named type is a word, that of strings and bytes a string, that of bools `true` or `false`, that of floats a number,
--- and that of all other types an integer.
+-- A value of a named type is a word, that of strings and bytes a string, that of bools `true` or
+-- `false`, that of floats a number, and that of all other types an integer.
 abbrev pub suits_type : Option FieldType → Value → Bool
 suits_type None v = is_word v
 suits_type (Some types.String) v = is_string v
@@ -102,7 +103,8 @@ abbrev pub default_text_faults : Bool → Kind → Value → List ParseErrorKind
 default_text_faults suits kind v = if suits && is_string_kind kind then value_text_faults v else []
 
 -- A default stands in proto2 alone, it suits the field, and there is one.
-abbrev pub default_faults : Syntax → Option (Label × Span) → Kind → Option Span → Body → List ParseErrorKind
+abbrev pub default_faults : Syntax → Option (Label × Span) → Kind → Option Span → Body
+    → List ParseErrorKind
 default_faults s label kind first b =
     told_if (is_proto3 s) (kinds.DefaultInProto3 (body_span b))
     ++ (told_if (not (suits label kind b.value)) (kinds.InvalidDefault (body_span b))
@@ -119,17 +121,21 @@ abbrev pub json_name_faults : Option Span → Body → List ParseErrorKind
 json_name_faults first b = second_after first (body_span b) ++ json_value_faults b.value
 
 -- An option of a field, where the first `default` and the first `json_name` before it stand so.
-abbrev pub option_faults_after : Syntax → Option (Label × Span) → Kind → Option Span → Option Span → Body → List ParseErrorKind
+abbrev pub option_faults_after : Syntax → Option (Label × Span) → Kind → Option Span → Option Span
+    → Body → List ParseErrorKind
 option_faults_after s label kind default json_name b =
     if has_name (codes "default") b.name then default_faults s label kind default b
     else if has_name (codes "json_name") b.name then json_name_faults json_name b
     else []
 
 -- an option of a field, behind these
-abbrev pub option_faults : Syntax → Option (Label × Span) → Kind → List Body → Body → List ParseErrorKind
+abbrev pub option_faults : Syntax → Option (Label × Span) → Kind → List Body → Body
+    → List ParseErrorKind
 option_faults s label kind before b =
-    option_faults_after s label kind (first_in (named (codes "default")) before) (first_in (named (codes "json_name")) before) b
+    option_faults_after s label kind (first_in (named (codes "default")) before)
+    (first_in (named (codes "json_name")) before) b
 
-abbrev pub options_faults : Syntax → Option (Label × Span) → Kind → Option OptionList → List ParseErrorKind
+abbrev pub options_faults : Syntax → Option (Label × Span) → Kind → Option OptionList
+    → List ParseErrorKind
 options_faults s label kind None = []
 options_faults s label kind (Some list) = each_behind (option_faults s label kind) [] list.options

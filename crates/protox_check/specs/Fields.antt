@@ -1,7 +1,7 @@
 -- The faults of a field before its options.
 --
--- Source: "Specifying Field Cardinality", "Groups", "Oneof", "Maps", "Extensions" and "Assigning Field Numbers" of the language
--- guides on protobuf.dev.
+-- Source: "Specifying Field Cardinality", "Groups", "Oneof", "Maps", "Extensions" and "Assigning
+-- Field Numbers" of the language guides on protobuf.dev.
 use Rattle.std.specs.Prelude.{◌++◌, ◌&&◌, Bool, true, false, not, if◌then◌else◌, List, [], ◌∷◌, Option, None, Some}
 use Rattle.std.specs.Char.{is_ascii_uppercase}
 use Rattle.descriptor_records.specs.declared.field.FieldType.{FieldType}
@@ -37,7 +37,14 @@ pub record Head : Type 0 where
 
 -- that of the value that the code reads
 abbrev pub head_view : Field → Head
-head_view f = record { label = f.label; kind = kind_view f.kind; name = ident_view f.name; number = f.number; span = f.span }
+head_view f = record {
+  label = f.label;
+  kind = kind_view f.kind;
+  name = ident_view f.name;
+  number =
+      f.number;
+  span = f.span;
+}
 
 -- ---- kinds, labels and holders
 
@@ -69,16 +76,19 @@ is_extend holders.Extend = true
 -- ---- labels
 
 -- A proto2 field outside a oneof, that is no map, has a label. No field of proto3 is required.
-abbrev pub presence_faults : Syntax → Holder → Kind → Span → Option (Label × Span) → List ParseErrorKind
+abbrev pub presence_faults : Syntax → Holder → Kind → Span → Option (Label × Span)
+    → List ParseErrorKind
 presence_faults s h kind span None =
     told_if (not (is_proto3 s) && (not (is_oneof h) && not (is_map kind))) (kinds.MissingLabel span)
-presence_faults s h kind span (Some l) = told_if (is_proto3 s && is_required l.0) (kinds.RequiredInProto3 l.1)
+presence_faults s h kind span (Some l) =
+    told_if (is_proto3 s && is_required l.0) (kinds.RequiredInProto3 l.1)
 
 -- Neither a field of a oneof nor a map has a label.
 abbrev pub label_faults : Holder → Kind → Option (Label × Span) → List ParseErrorKind
 label_faults h kind None = []
 label_faults h kind (Some l) =
-    told_if (is_oneof h) (kinds.OneofFieldWithLabel l.1) ++ told_if (is_map kind) (kinds.MapFieldWithLabel l.1)
+    told_if (is_oneof h) (kinds.OneofFieldWithLabel l.1)
+    ++ told_if (is_map kind) (kinds.MapFieldWithLabel l.1)
 
 -- no extension is required
 abbrev pub required_faults : Holder → Option (Label × Span) → List ParseErrorKind
@@ -94,7 +104,8 @@ group_faults s kind span = told_if (is_proto3 s && is_group kind) (kinds.GroupIn
 -- maps stand in messages alone
 abbrev pub holder_faults : Holder → Kind → Span → List ParseErrorKind
 holder_faults h kind span =
-    told_if (is_oneof h && is_map kind) (kinds.MapFieldInOneof span) ++ told_if (is_extend h && is_map kind) (kinds.MapFieldInExtend span)
+    told_if (is_oneof h && is_map kind) (kinds.MapFieldInOneof span)
+    ++ told_if (is_extend h && is_map kind) (kinds.MapFieldInExtend span)
 
 abbrev pub begins_upper : Text → Bool
 begins_upper [] = false
@@ -108,11 +119,14 @@ is_key_type (Some types.Float) = false
 is_key_type (Some types.Bytes) = false
 is_key_type _ = true
 
--- The name of a group begins with a capital letter. The keys of a map are integers, bools or strings.
+-- The name of a group begins with a capital letter. The keys of a map are integers, bools or
+-- strings.
 abbrev pub name_faults : Kind → Word → List ParseErrorKind
 name_faults (normal ty) name = []
-name_faults (group g) name = told_if (not (begins_upper name.text)) (kinds.InvalidGroupName name.span)
-name_faults (map_kind m) name = told_if (not (is_key_type (scalar_type m.key))) (kinds.InvalidMapKeyType (ty_span m.key))
+name_faults (group g) name = told_if (not (begins_upper name.text))
+    (kinds.InvalidGroupName name.span)
+name_faults (map_kind m) name =
+    told_if (not (is_key_type (scalar_type m.key))) (kinds.InvalidMapKeyType (ty_span m.key))
 
 -- ---- numbers
 

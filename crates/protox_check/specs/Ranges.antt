@@ -1,6 +1,7 @@
 -- The faults of numbers and of ranges, of `reserved` and `extensions` statements and of enums.
 --
--- Source: "Assigning Field Numbers", "Reserved Fields", "Extension Declarations" and "Enumerations" of the language guides on protobuf.dev.
+-- Source: "Assigning Field Numbers", "Reserved Fields", "Extension Declarations" and "Enumerations"
+-- of the language guides on protobuf.dev.
 use Rattle.std.specs.Prelude.{◌++◌, ◌^◌, ◌&&◌, ℕ, ℤ, pos, negsuc, Bool, false, not, if◌then◌else◌, nat_le, nat_lt, int_lt, List, []}
 use Rattle.std.specs.List.{flat_map}
 use Rattle.protox_check.specs.Texts.{text_faults}
@@ -48,7 +49,8 @@ bound_faults ns n = told_if (not (is_bound ns n)) (kinds.InvalidRange n.span)
 -- A range does not begin above its end. Each bound is one of the numbers.
 abbrev pub bounds_faults : Numbers → Int → Int → Span → List ParseErrorKind
 bounds_faults ns first last span =
-    if is_bound ns first && is_bound ns last then told_if (int_lt (signed last) (signed first)) (kinds.InvalidRange span)
+    if is_bound ns first && is_bound ns last
+    then told_if (int_lt (signed last) (signed first)) (kinds.InvalidRange span)
     else bound_faults ns first ++ bound_faults ns last
 
 abbrev pub range_faults_to : Numbers → ReservedRange → RangeEnd → List ParseErrorKind
@@ -64,7 +66,8 @@ ranges_faults ns ranges = flat_map (range_faults ns) ranges
 
 -- proto3 has no numbers for extensions
 abbrev pub extensions_faults : Syntax → Extensions → List ParseErrorKind
-extensions_faults s e = told_if (is_proto3 s) (kinds.ExtensionRangeInProto3 e.span) ++ ranges_faults numbers.Fields e.ranges
+extensions_faults s e = told_if (is_proto3 s) (kinds.ExtensionRangeInProto3 e.span)
+    ++ ranges_faults numbers.Fields e.ranges
 
 -- the names are texts
 abbrev pub reserved_faults : Numbers → ReservedItems → List ParseErrorKind
@@ -75,7 +78,8 @@ reserved_faults ns (reserved_names names) = flat_map text_faults names
 
 -- 32 bits hold the number of a value
 abbrev pub enum_item_faults : EnumItem → List ParseErrorKind
-enum_item_faults (enum_value v) = told_if (not (is_i32 (signed v.number))) (kinds.InvalidEnumNumber v.number.span)
+enum_item_faults (enum_value v) =
+    told_if (not (is_i32 (signed v.number))) (kinds.InvalidEnumNumber v.number.span)
 enum_item_faults (enum_reserved r) = reserved_faults numbers.EnumValues r.items
 enum_item_faults (enum_option o) = []
 enum_item_faults (enum_empty span) = []

@@ -22,7 +22,8 @@ pub fn check_message(
     message: &Message,
     faults: &mut Vec<ParseErrorKind>,
 ) -> Result<(), AllocError>
-    ensures { OnOk result (faults.new.items ≡ faults.old.items ++ spec.message_faults syntax (message_view message.now)) }
+    ensures { OnOk result (faults.new.items ≡ faults.old.items
+        ++ spec.message_faults syntax (message_view message.now)) }
 {
     check_items(alloc, syntax, &message.items, faults)
 }
@@ -34,7 +35,8 @@ fn check_items(
     items: &Vec<MessageItem>,
     faults: &mut Vec<ParseErrorKind>,
 ) -> Result<(), AllocError>
-    ensures { OnOk result (faults.new.items ≡ faults.old.items ++ spec.items_faults syntax (items_of (items_view items.now.items))) }
+    ensures { OnOk result (faults.new.items ≡ faults.old.items
+        ++ spec.items_faults syntax (items_of (items_view items.now.items))) }
 {
     'each: for item in items {
         check_message_item(alloc, syntax, item, faults)?;
@@ -49,7 +51,8 @@ fn check_message_item(
     item: &MessageItem,
     faults: &mut Vec<ParseErrorKind>,
 ) -> Result<(), AllocError>
-    ensures { OnOk result (faults.new.items ≡ faults.old.items ++ spec.item_faults syntax (item_view item.now)) }
+    ensures { OnOk result (faults.new.items ≡ faults.old.items
+        ++ spec.item_faults syntax (item_view item.now)) }
 {
     match item {
         MessageItem::Field(field) => check_field(alloc, syntax, Holder::Message, field, faults),
@@ -71,7 +74,8 @@ fn check_field(
     field: &Field,
     faults: &mut Vec<ParseErrorKind>,
 ) -> Result<(), AllocError>
-    ensures { OnOk result (faults.new.items ≡ faults.old.items ++ spec.field_faults syntax holder (field_view field.now)) }
+    ensures { OnOk result (faults.new.items ≡ faults.old.items
+        ++ spec.field_faults syntax holder (field_view field.now)) }
 {
     check_field_head(syntax, holder, field, faults)?;
     check_field_options(alloc, syntax, field, faults)?;
@@ -86,7 +90,8 @@ fn check_kind(
     kind: &FieldKind,
     faults: &mut Vec<ParseErrorKind>,
 ) -> Result<(), AllocError>
-    ensures { OnOk result (faults.new.items ≡ faults.old.items ++ spec.kind_faults syntax (kind_view kind.now)) }
+    ensures { OnOk result (faults.new.items ≡ faults.old.items
+        ++ spec.kind_faults syntax (kind_view kind.now)) }
 {
     match kind {
         FieldKind::Group(group) => check_items(alloc, syntax, &group.items, faults),
@@ -101,7 +106,8 @@ fn check_oneof(
     oneof: &Oneof,
     faults: &mut Vec<ParseErrorKind>,
 ) -> Result<(), AllocError>
-    ensures { OnOk result (faults.new.items ≡ faults.old.items ++ spec.oneof_faults syntax (oneof_view oneof.now)) }
+    ensures { OnOk result (faults.new.items ≡ faults.old.items
+        ++ spec.oneof_faults syntax (oneof_view oneof.now)) }
 {
     let is_empty = !has_field(&oneof.items);
     let span = oneof.span;
@@ -119,7 +125,8 @@ fn check_member(
     item: &OneofItem,
     faults: &mut Vec<ParseErrorKind>,
 ) -> Result<(), AllocError>
-    ensures { OnOk result (faults.new.items ≡ faults.old.items ++ spec.member_faults syntax (member_view item.now)) }
+    ensures { OnOk result (faults.new.items ≡ faults.old.items
+        ++ spec.member_faults syntax (member_view item.now)) }
 {
     match item {
         OneofItem::Field(field) => check_field(alloc, syntax, Holder::Oneof, field, faults),
@@ -151,7 +158,8 @@ pub fn check_extend(
     extend: &Extend,
     faults: &mut Vec<ParseErrorKind>,
 ) -> Result<(), AllocError>
-    ensures { OnOk result (faults.new.items ≡ faults.old.items ++ spec.extend_faults syntax (extend_view extend.now)) }
+    ensures { OnOk result (faults.new.items ≡ faults.old.items
+        ++ spec.extend_faults syntax (extend_view extend.now)) }
 {
     'each: for item in &extend.items {
         check_added_item(alloc, syntax, item, faults)?;
@@ -166,7 +174,8 @@ fn check_added_item(
     item: &ExtendItem,
     faults: &mut Vec<ParseErrorKind>,
 ) -> Result<(), AllocError>
-    ensures { OnOk result (faults.new.items ≡ faults.old.items ++ spec.added_item_faults syntax (added_view item.now)) }
+    ensures { OnOk result (faults.new.items ≡ faults.old.items
+        ++ spec.added_item_faults syntax (added_view item.now)) }
 {
     match item {
         ExtendItem::Field(field) => check_field(alloc, syntax, Holder::Extend, field, faults),

@@ -12,7 +12,8 @@ use protox_tree::{Field, FieldKind, OptionValue, Ty};
 
 /// The form of a default suits the field.
 pub fn suits(field: &Field, value: &OptionValue) -> bool
-    ensures { result ≡ spec.suits field.now.label (kind_view field.now.kind) (value_view value.now) }
+    ensures { result ≡ spec.suits field.now.label (kind_view field.now.kind)
+        (value_view value.now) }
 {
     !is_repeated(field.label) && suits_kind(&field.kind, value)
 }

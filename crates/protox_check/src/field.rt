@@ -43,7 +43,8 @@ pub fn check_field_head(
     field: &Field,
     faults: &mut Vec<ParseErrorKind>,
 ) -> Result<(), AllocError>
-    ensures { OnOk result (faults.new.items ≡ faults.old.items ++ spec.head_faults syntax holder (spec.head_view field.now)) }
+    ensures { OnOk result (faults.new.items ≡ faults.old.items
+        ++ spec.head_faults syntax holder (spec.head_view field.now)) }
 {
     check_presence(syntax, holder, field, faults)?;
     check_group(syntax, field, faults)?;
@@ -60,7 +61,9 @@ fn check_presence(
     field: &Field,
     faults: &mut Vec<ParseErrorKind>,
 ) -> Result<(), AllocError>
-    ensures { OnOk result (faults.new.items ≡ faults.old.items ++ spec.presence_faults syntax holder (kind_view field.now.kind) field.now.span field.now.label) }
+    ensures { OnOk result (faults.new.items ≡ faults.old.items
+        ++ spec.presence_faults syntax holder (kind_view field.now.kind) field.now.span
+        field.now.label) }
 {
     match field.label {
         Some((label, span)) => {
@@ -84,7 +87,8 @@ fn check_group(
     field: &Field,
     faults: &mut Vec<ParseErrorKind>,
 ) -> Result<(), AllocError>
-    ensures { OnOk result (faults.new.items ≡ faults.old.items ++ spec.group_faults syntax (kind_view field.now.kind) field.now.span) }
+    ensures { OnOk result (faults.new.items ≡ faults.old.items
+        ++ spec.group_faults syntax (kind_view field.now.kind) field.now.span) }
 {
     let is_group = is_proto3(syntax) && is_group(&field.kind);
     let span = field.span;
@@ -96,7 +100,8 @@ fn check_label(
     field: &Field,
     faults: &mut Vec<ParseErrorKind>,
 ) -> Result<(), AllocError>
-    ensures { OnOk result (faults.new.items ≡ faults.old.items ++ spec.label_faults holder (kind_view field.now.kind) field.now.label) }
+    ensures { OnOk result (faults.new.items ≡ faults.old.items
+        ++ spec.label_faults holder (kind_view field.now.kind) field.now.label) }
 {
     let Some((_, span)) = field.label else {
         return Ok(());
@@ -119,7 +124,8 @@ fn check_holder(
     field: &Field,
     faults: &mut Vec<ParseErrorKind>,
 ) -> Result<(), AllocError>
-    ensures { OnOk result (faults.new.items ≡ faults.old.items ++ spec.holder_faults holder (kind_view field.now.kind) field.now.span) }
+    ensures { OnOk result (faults.new.items ≡ faults.old.items
+        ++ spec.holder_faults holder (kind_view field.now.kind) field.now.span) }
 {
     let span = field.span;
     let is_map = is_map(&field.kind);
@@ -140,7 +146,8 @@ fn check_required(
     label: Option<(Label, Span)>,
     faults: &mut Vec<ParseErrorKind>,
 ) -> Result<(), AllocError>
-    ensures { OnOk result (faults.new.items ≡ faults.old.items ++ spec.required_faults holder label) }
+    ensures { OnOk result (faults.new.items ≡ faults.old.items
+        ++ spec.required_faults holder label) }
 {
     let Some((label, span)) = label else {
         return Ok(());
@@ -159,7 +166,8 @@ fn check_name(
     name: &Ident,
     faults: &mut Vec<ParseErrorKind>,
 ) -> Result<(), AllocError>
-    ensures { OnOk result (faults.new.items ≡ faults.old.items ++ spec.name_faults (kind_view kind.now) (ident_view name.now)) }
+    ensures { OnOk result (faults.new.items ≡ faults.old.items
+        ++ spec.name_faults (kind_view kind.now) (ident_view name.now)) }
 {
     match kind {
         FieldKind::Normal(_) => Ok(()),

@@ -27,7 +27,9 @@ pub fn check_field_options(
     field: &Field,
     faults: &mut Vec<ParseErrorKind>,
 ) -> Result<(), AllocError>
-    ensures { OnOk result (faults.new.items ≡ faults.old.items ++ spec.options_faults syntax field.now.label (kind_view field.now.kind) (option_map option_list_view field.now.options)) }
+    ensures { OnOk result (faults.new.items ≡ faults.old.items
+        ++ spec.options_faults syntax field.now.label (kind_view field.now.kind)
+        (option_map option_list_view field.now.options)) }
 {
     match &field.options {
         Some(list) => check_options(alloc, syntax, field, &list.options, faults),
@@ -42,7 +44,9 @@ fn check_options(
     options: &Vec<OptionBody>,
     faults: &mut Vec<ParseErrorKind>,
 ) -> Result<(), AllocError>
-    ensures { OnOk result (faults.new.items ≡ faults.old.items ++ each_behind (spec.option_faults syntax field.now.label (kind_view field.now.kind)) [] (bodies_view options.now.items)) }
+    ensures { OnOk result (faults.new.items ≡ faults.old.items
+        ++ each_behind (spec.option_faults syntax field.now.label (kind_view field.now.kind)) []
+        (bodies_view options.now.items)) }
 {
     let mut met = Met {
         default: None,
@@ -77,7 +81,9 @@ fn check_option(
     met: Met,
     faults: &mut Vec<ParseErrorKind>,
 ) -> Result<(), AllocError>
-    ensures { OnOk result (faults.new.items ≡ faults.old.items ++ spec.option_faults_after syntax field.now.label (kind_view field.now.kind) met.default met.json_name (body_view option.now)) }
+    ensures { OnOk result (faults.new.items ≡ faults.old.items
+        ++ spec.option_faults_after syntax field.now.label (kind_view field.now.kind) met.default
+        met.json_name (body_view option.now)) }
 {
     if option.has_name("default") {
         check_default(alloc, syntax, field, option, met.default, faults)
@@ -96,7 +102,9 @@ fn check_default(
     first: Option<Span>,
     faults: &mut Vec<ParseErrorKind>,
 ) -> Result<(), AllocError>
-    ensures { OnOk result (faults.new.items ≡ faults.old.items ++ spec.default_faults syntax field.now.label (kind_view field.now.kind) first (body_view option.now)) }
+    ensures { OnOk result (faults.new.items ≡ faults.old.items
+        ++ spec.default_faults syntax field.now.label (kind_view field.now.kind) first
+        (body_view option.now)) }
 {
     let span = option.span();
     let suits = suits(field, &option.value);
@@ -117,7 +125,8 @@ fn check_default_text(
     value: &OptionValue,
     faults: &mut Vec<ParseErrorKind>,
 ) -> Result<(), AllocError>
-    ensures { OnOk result (faults.new.items ≡ faults.old.items ++ spec.default_text_faults suits (kind_view kind.now) (value_view value.now)) }
+    ensures { OnOk result (faults.new.items ≡ faults.old.items
+        ++ spec.default_text_faults suits (kind_view kind.now) (value_view value.now)) }
 {
     if suits && is_string(kind) {
         check_value_text(alloc, value, faults)
@@ -131,7 +140,8 @@ fn check_value_text(
     value: &OptionValue,
     faults: &mut Vec<ParseErrorKind>,
 ) -> Result<(), AllocError>
-    ensures { OnOk result (faults.new.items ≡ faults.old.items ++ spec.value_text_faults (value_view value.now)) }
+    ensures { OnOk result (faults.new.items ≡ faults.old.items
+        ++ spec.value_text_faults (value_view value.now)) }
 {
     match value {
         OptionValue::String(strings) => check_text(alloc, strings, faults),
@@ -145,7 +155,8 @@ fn check_json_name(
     first: Option<Span>,
     faults: &mut Vec<ParseErrorKind>,
 ) -> Result<(), AllocError>
-    ensures { OnOk result (faults.new.items ≡ faults.old.items ++ spec.json_name_faults first (body_view option.now)) }
+    ensures { OnOk result (faults.new.items ≡ faults.old.items
+        ++ spec.json_name_faults first (body_view option.now)) }
 {
     check_first(first, option.span(), faults)?;
     check_json_value(alloc, &option.value, faults)
@@ -156,7 +167,8 @@ fn check_json_value(
     value: &OptionValue,
     faults: &mut Vec<ParseErrorKind>,
 ) -> Result<(), AllocError>
-    ensures { OnOk result (faults.new.items ≡ faults.old.items ++ spec.json_value_faults (value_view value.now)) }
+    ensures { OnOk result (faults.new.items ≡ faults.old.items
+        ++ spec.json_value_faults (value_view value.now)) }
 {
     match value {
         OptionValue::String(strings) => check_text(alloc, strings, faults),

@@ -22,10 +22,11 @@ use protox_lex::Span;
 use protox_tree::{File, FileItem, ParseErrorKind, Strings, Syntax};
 use std::alloc::{AllocError, Global};
 
-/// The faults of a tree, in the order in which they stand in the source. Refused only for want of memory.
+/// The faults of a tree, in the order in which they stand in the source. Refused only for want of
+/// memory.
 ///
-/// The rules are those of the "Language Specification" of the two syntaxes and of the "Language Guide". What needs other
-/// files, as whether a type exists, is not checked here.
+/// The rules are those of the "Language Specification" of the two syntaxes and of the "Language
+/// Guide". What needs other files, as whether a type exists, is not checked here.
 pub fn check_file(alloc: Global, file: &File) -> Result<Vec<ParseErrorKind>, AllocError>
     ensures { IfOk result (λ faults. faults.items ≡ spec.faults_of (file_view file.now)) }
 {
@@ -57,7 +58,8 @@ fn check_item(
     item: &FileItem,
     faults: &mut Vec<ParseErrorKind>,
 ) -> Result<(), AllocError>
-    ensures { OnOk result (faults.new.items ≡ faults.old.items ++ spec.file_item_faults syntax first_package (file_item_view item.now)) }
+    ensures { OnOk result (faults.new.items ≡ faults.old.items
+        ++ spec.file_item_faults syntax first_package (file_item_view item.now)) }
 {
     match item {
         FileItem::Import(import) => check_text(alloc, &import.value, faults),
@@ -74,7 +76,8 @@ fn check_package(
     second: Span,
     faults: &mut Vec<ParseErrorKind>,
 ) -> Result<(), AllocError>
-    ensures { OnOk result (faults.new.items ≡ faults.old.items ++ spec.second_package first second) }
+    ensures { OnOk result (faults.new.items ≡ faults.old.items
+        ++ spec.second_package first second) }
 {
     match first {
         Some(first) => tell(faults, ParseErrorKind::DuplicatePackage { first, second }),
@@ -88,7 +91,8 @@ fn check_text(
     strings: &Strings,
     faults: &mut Vec<ParseErrorKind>,
 ) -> Result<(), AllocError>
-    ensures { OnOk result (faults.new.items ≡ faults.old.items ++ text_faults (strings_view strings.now)) }
+    ensures { OnOk result (faults.new.items ≡ faults.old.items
+        ++ text_faults (strings_view strings.now)) }
 {
     let is_text = is_text(alloc, strings)?;
     let span = strings.span();

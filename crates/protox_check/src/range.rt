@@ -79,7 +79,8 @@ fn check_ranges(
     ranges: &Vec<ReservedRange>,
     faults: &mut Vec<ParseErrorKind>,
 ) -> Result<(), AllocError>
-    ensures { OnOk result (faults.new.items ≡ faults.old.items ++ spec.ranges_faults numbers ranges.now.items) }
+    ensures { OnOk result (faults.new.items ≡ faults.old.items
+        ++ spec.ranges_faults numbers ranges.now.items) }
 {
     'each: for range in ranges {
         check_range(numbers, *range, faults)?;
@@ -92,7 +93,8 @@ pub fn check_extensions(
     extensions: &Extensions,
     faults: &mut Vec<ParseErrorKind>,
 ) -> Result<(), AllocError>
-    ensures { OnOk result (faults.new.items ≡ faults.old.items ++ spec.extensions_faults syntax (extensions_view extensions.now)) }
+    ensures { OnOk result (faults.new.items ≡ faults.old.items
+        ++ spec.extensions_faults syntax (extensions_view extensions.now)) }
 {
     let span = extensions.span;
     tell_if(
@@ -109,7 +111,8 @@ fn check_items(
     items: &ReservedItems,
     faults: &mut Vec<ParseErrorKind>,
 ) -> Result<(), AllocError>
-    ensures { OnOk result (faults.new.items ≡ faults.old.items ++ spec.reserved_faults numbers (reserved_items_view items.now)) }
+    ensures { OnOk result (faults.new.items ≡ faults.old.items
+        ++ spec.reserved_faults numbers (reserved_items_view items.now)) }
 {
     match items {
         ReservedItems::Ranges(ranges) => check_ranges(numbers, ranges, faults),
@@ -122,7 +125,8 @@ fn check_names(
     names: &Vec<Strings>,
     faults: &mut Vec<ParseErrorKind>,
 ) -> Result<(), AllocError>
-    ensures { OnOk result (faults.new.items ≡ faults.old.items ++ flat_map text_faults (names_view names.now.items)) }
+    ensures { OnOk result (faults.new.items ≡ faults.old.items
+        ++ flat_map text_faults (names_view names.now.items)) }
 {
     'each: for name in names {
         check_text(alloc, name, faults)?;
@@ -136,7 +140,8 @@ pub fn check_reserved(
     reserved: &Reserved,
     faults: &mut Vec<ParseErrorKind>,
 ) -> Result<(), AllocError>
-    ensures { OnOk result (faults.new.items ≡ faults.old.items ++ spec.reserved_faults numbers.Fields (reserved_view reserved.now).items) }
+    ensures { OnOk result (faults.new.items ≡ faults.old.items
+        ++ spec.reserved_faults numbers.Fields (reserved_view reserved.now).items) }
 {
     check_items(alloc, Numbers::Fields, &reserved.items, faults)
 }
@@ -146,7 +151,8 @@ pub fn check_enum(
     enumeration: &Enum,
     faults: &mut Vec<ParseErrorKind>,
 ) -> Result<(), AllocError>
-    ensures { OnOk result (faults.new.items ≡ faults.old.items ++ spec.enum_faults (enum_view enumeration.now)) }
+    ensures { OnOk result (faults.new.items ≡ faults.old.items
+        ++ spec.enum_faults (enum_view enumeration.now)) }
 {
     'each: for item in &enumeration.items {
         check_enum_item(alloc, item, faults)?;
@@ -159,7 +165,8 @@ fn check_enum_item(
     item: &EnumItem,
     faults: &mut Vec<ParseErrorKind>,
 ) -> Result<(), AllocError>
-    ensures { OnOk result (faults.new.items ≡ faults.old.items ++ spec.enum_item_faults (enum_item_view item.now)) }
+    ensures { OnOk result (faults.new.items ≡ faults.old.items
+        ++ spec.enum_item_faults (enum_item_view item.now)) }
 {
     match item {
         EnumItem::Value(value) => check_enum_number(value.number, faults),
@@ -171,7 +178,8 @@ fn check_enum_item(
 }
 
 fn check_enum_number(number: Int, faults: &mut Vec<ParseErrorKind>) -> Result<(), AllocError>
-    ensures { OnOk result (faults.new.items ≡ faults.old.items ++ told_if (not (spec.is_i32 (signed number))) (kinds.InvalidEnumNumber number.span)) }
+    ensures { OnOk result (faults.new.items ≡ faults.old.items
+        ++ told_if (not (spec.is_i32 (signed number))) (kinds.InvalidEnumNumber number.span)) }
 {
     let is_number = bound(Numbers::EnumValues, number).is_some();
     let span = number.span;

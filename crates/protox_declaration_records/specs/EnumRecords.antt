@@ -24,7 +24,8 @@ value_of v = record {
   options = list_options_of v.options;
 }
 
--- Numbers that no value takes, from the first to the last. `max` stands for the greatest of an `int32`.
+-- Numbers that no value takes, from the first to the last. `max` stands for the greatest of an
+-- `int32`.
 abbrev pub enum_range_of : ReservedRange → EnumReservedRange
 enum_range_of range = record { start = i32_of range.start; end = last_of range (pos 2147483647) }
 

@@ -21,8 +21,8 @@ i32_of n = held_by (2 ^ 31) (signed n)
 abbrev pub i64_of : Int → Option ℤ
 i64_of n = held_by (2 ^ 63) (signed n)
 
--- the last number of a range that begins so: the first one where no other is written, this greatest one
--- where `max` is
+-- the last number of a range that begins so: the first one where no other is written, this greatest
+-- one where `max` is
 abbrev pub last_from : Int → ℤ → RangeEnd → Option ℤ
 last_from start greatest ends.None = i32_of start
 last_from start greatest (ends.Int n) = i32_of n

@@ -1,6 +1,7 @@
 -- The records of options, which no type has read yet.
 --
--- Source: "Options" of the language guide on protobuf.dev, and `UninterpretedOption` of descriptor.proto.
+-- Source: "Options" of the language guide on protobuf.dev, and `UninterpretedOption` of
+-- descriptor.proto.
 use Rattle.std.specs.Prelude.{if◌then◌else◌, true, false, List, [], ◌∷◌, map, Option, Some, None, string_bytes}
 use Rattle.descriptor_records.specs.Content.{NameContent, written, OptionContent, OptionsContent}
 use Rattle.protox_lex.specs.declared.literal.Int.{Int}
@@ -18,7 +19,8 @@ use Rattle.protox_tree.specs.declared.option.OptionValue.TheVariants as values
 -- A part of an option's name: a word, or in parentheses the name of an extension.
 abbrev pub name_part_of : OptionNamePart → NameContent
 name_part_of (parts.Ident i) = record { name_part = string_bytes i.value; is_extension = false }
-name_part_of (parts.Extension name span) = record { name_part = type_text (type_name_view name); is_extension = true }
+name_part_of (parts.Extension name span) =
+    record { name_part = type_text (type_name_view name); is_extension = true }
 
 -- an option of this name, and of no value
 abbrev pub without_value : List OptionNamePart → OptionContent
@@ -41,9 +43,11 @@ with_int n o =
 -- A value, in the field for values of its kind. Of braces this is the text between them.
 abbrev pub with_value : OptionValue → OptionContent → OptionContent
 with_value (values.Ident i) o = record o { identifier_value = Some (string_bytes i.value) }
-with_value (values.NegativeWord i) o = record o { double_value = Some (written (signed_text true (string_bytes i.value))) }
+with_value (values.NegativeWord i) o =
+    record o { double_value = Some (written (signed_text true (string_bytes i.value))) }
 with_value (values.Int n) o = with_int n o
-with_value (values.Float negative f) o = record o { double_value = Some (written (signed_text negative (string_bytes f.text))) }
+with_value (values.Float negative f) o =
+    record o { double_value = Some (written (signed_text negative (string_bytes f.text))) }
 with_value (values.String s) o = record o { string_value = Some (joined (strings_view s)) }
 with_value (values.Aggregate a) o = record o { aggregate_value = Some (string_bytes a.text) }
 

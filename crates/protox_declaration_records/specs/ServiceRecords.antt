@@ -25,7 +25,8 @@ abbrev pub method_options : Option MethodBody → List OptionContent
 method_options None = []
 method_options (Some body) = flat_map method_option_at body.items.items
 
--- A method with the names of its types as they are written; the word `stream` is told where it stands.
+-- A method with the names of its types as they are written; the word `stream` is told where it
+-- stands.
 abbrev pub method_of : Method → MethodContent
 method_of m = record {
   name = Some (string_bytes m.name.value);

@@ -29,7 +29,8 @@ pub fn enum_record(alloc: Global, enumeration: &Enum) -> Result<EnumDescriptorPr
 }
 
 fn values(alloc: Global, items: &Vec<EnumItem>) -> Result<Vec<EnumValueDescriptorProto>, AllocError>
-    ensures { IfOk result (λ values. map enum_value_view values.items ≡ flat_map enums.value_at items.now.items) }
+    ensures { IfOk result (λ values. map enum_value_view values.items
+        ≡ flat_map enums.value_at items.now.items) }
 {
     let mut values = Vec::new(alloc);
     'each: for item in items {
@@ -52,7 +53,8 @@ fn value_record(alloc: Global, value: &EnumValue) -> Result<EnumValueDescriptorP
 }
 
 fn options(alloc: Global, items: &Vec<EnumItem>) -> Result<Option<Options>, AllocError>
-    ensures { IfOk result (λ options. option_map options_view options ≡ options_of (flat_map enums.option_at items.now.items)) }
+    ensures { IfOk result (λ options. option_map options_view options
+        ≡ options_of (flat_map enums.option_at items.now.items)) }
 {
     let mut written = Vec::new(alloc);
     'each: for item in items {
@@ -85,7 +87,8 @@ fn add_ranges(
     reserved: &ReservedItems,
     records: &mut Vec<EnumReservedRange>,
 ) -> Result<(), AllocError>
-    ensures { OnOk result (records.new.items ≡ records.old.items ++ map enums.enum_range_of (enums.ranges_in reserved.now)) }
+    ensures { OnOk result (records.new.items ≡ records.old.items
+        ++ map enums.enum_range_of (enums.ranges_in reserved.now)) }
 {
     let ReservedItems::Ranges(ranges) = reserved else {
         return Ok(());
@@ -124,7 +127,8 @@ pub fn add_reserved_names(
     reserved: &ReservedItems,
     names: &mut Vec<String>,
 ) -> Result<(), AllocError>
-    ensures { OnOk result (texts_view names.new ≡ texts_view names.old ++ enums.names_in reserved.now) }
+    ensures { OnOk result (texts_view names.new ≡ texts_view names.old
+        ++ enums.names_in reserved.now) }
 {
     match reserved {
         ReservedItems::Ranges(_) => Ok(()),

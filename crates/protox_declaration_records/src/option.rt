@@ -44,7 +44,8 @@ pub fn listed(list: &Option<OptionList>) -> &[OptionBody]
 }
 
 fn records_of(alloc: Global, bodies: &[OptionBody]) -> Result<Vec<UninterpretedOption>, AllocError>
-    ensures { IfOk result (λ records. map option_view records.items ≡ map spec.option_of bodies.now) }
+    ensures { IfOk result (λ records. map option_view records.items
+        ≡ map spec.option_of bodies.now) }
 {
     let mut records = Vec::new(alloc);
     'each: for body in bodies {
@@ -72,7 +73,8 @@ pub fn option_record(alloc: Global, body: &OptionBody) -> Result<UninterpretedOp
 }
 
 fn name_parts(alloc: Global, parts: &Vec<OptionNamePart>) -> Result<Vec<NamePart>, AllocError>
-    ensures { IfOk result (λ records. map name_view records.items ≡ map spec.name_part_of parts.now.items) }
+    ensures { IfOk result (λ records. map name_view records.items
+        ≡ map spec.name_part_of parts.now.items) }
 {
     let mut records = Vec::new(alloc);
     'each: for part in parts {
@@ -101,7 +103,8 @@ fn set_value(
     value: &OptionValue,
     option: &mut UninterpretedOption,
 ) -> Result<(), AllocError>
-    ensures { OnOk result (option_view option.new ≡ spec.with_value value.now (option_view option.old)) }
+    ensures { OnOk result (option_view option.new
+        ≡ spec.with_value value.now (option_view option.old)) }
 {
     match value {
         OptionValue::Ident(ident) => option.identifier_value = Some(ident.value.clone()?),

@@ -31,7 +31,8 @@ fn methods(
     alloc: Global,
     items: &Vec<ServiceItem>,
 ) -> Result<Vec<MethodDescriptorProto>, AllocError>
-    ensures { IfOk result (λ methods. map method_view methods.items ≡ flat_map services.method_at items.now.items) }
+    ensures { IfOk result (λ methods. map method_view methods.items
+        ≡ flat_map services.method_at items.now.items) }
 {
     let mut methods = Vec::new(alloc);
     'each: for item in items {
@@ -44,7 +45,8 @@ fn methods(
 }
 
 fn options(alloc: Global, items: &Vec<ServiceItem>) -> Result<Option<Options>, AllocError>
-    ensures { IfOk result (λ options. option_map options_view options ≡ options_of (flat_map services.option_at items.now.items)) }
+    ensures { IfOk result (λ options. option_map options_view options
+        ≡ options_of (flat_map services.option_at items.now.items)) }
 {
     let mut written = Vec::new(alloc);
     'each: for item in items {
@@ -74,7 +76,8 @@ fn method_options(
     alloc: Global,
     body: &Option<MethodBody>,
 ) -> Result<Vec<UninterpretedOption>, AllocError>
-    ensures { IfOk result (λ written. map option_view written.items ≡ services.method_options body.now) }
+    ensures { IfOk result (λ written. map option_view written.items
+        ≡ services.method_options body.now) }
 {
     let mut written = Vec::new(alloc);
     let Some(body) = body else {

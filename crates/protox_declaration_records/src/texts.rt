@@ -20,7 +20,8 @@ pub fn add_texts(
     strings: &Vec<Strings>,
     added: &mut Vec<String>,
 ) -> Result<(), AllocError>
-    ensures { OnOk result (map string_bytes added.new.items ≡ map string_bytes added.old.items ++ map texts.text_of strings.now.items) }
+    ensures { OnOk result (map string_bytes added.new.items ≡ map string_bytes added.old.items
+        ++ map texts.text_of strings.now.items) }
 {
     'each: for string in strings {
         added.push(text(alloc, string)?)?;

@@ -42,4 +42,10 @@ enumeration = do
   brace ← expect (sign s.LeftBrace)
   items ← enum_items
   close ← expect (sign s.RightBrace)
-  pure (record { name = name; braces = across brace close; items = items; span = across first close })
+  pure (record {
+    name = name;
+    braces = across brace close;
+    items = items;
+    span =
+        across first close;
+  })

@@ -80,4 +80,10 @@ service = do
   brace ← expect (sign s.LeftBrace)
   items ← service_items
   close ← expect (sign s.RightBrace)
-  pure (record { name = name; braces = across brace close; items = items; span = across first close })
+  pure (record {
+    name = name;
+    braces = across brace close;
+    items = items;
+    span =
+        across first close;
+  })

@@ -15,7 +15,8 @@ use std::alloc::Global;
 
 #[tactic(auto, unfolding(crate::specs::EnumGrammar::an_enum_value))]
 fn value<'a>(alloc: Global, tokens: &mut Tokens<'a>) -> Result<EnumValue, Stop<'a>>
-    ensures reads { Reads enum_value_view (spec.an_enum_value (stream tokens.old)) result tokens.new }
+    ensures reads { Reads enum_value_view (spec.an_enum_value (stream tokens.old))
+        result tokens.new }
     ensures moves { OnOk result (left tokens.new < left tokens.old) }
 {
     let name = tokens.ident(alloc)?;
@@ -54,7 +55,8 @@ fn item<'a>(alloc: Global, tokens: &mut Tokens<'a>) -> Result<EnumItem, Stop<'a>
 
 #[tactic(auto, unfolding(crate::specs::EnumGrammar::enum_items))]
 fn items<'a>(alloc: Global, tokens: &mut Tokens<'a>) -> Result<Vec<EnumItem>, Stop<'a>>
-    ensures reads { Reads (λ v. enum_items_view v.items) (spec.enum_items (stream tokens.old)) result tokens.new }
+    ensures reads { Reads (λ v. enum_items_view v.items) (spec.enum_items (stream tokens.old))
+        result tokens.new }
     ensures moves { OnOk result (left tokens.new ≤ left tokens.old) }
 {
     let mut items = Vec::new(alloc);

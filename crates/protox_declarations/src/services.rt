@@ -18,7 +18,8 @@ use std::alloc::Global;
 /// What a method takes or gives: the word `stream` comes first where it is the keyword.
 #[tactic(auto, unfolding(crate::specs::ServiceGrammar::method_type))]
 fn method_type<'a>(alloc: Global, tokens: &mut Tokens<'a>) -> Result<MethodType, Stop<'a>>
-    ensures reads { Reads method_type_view (spec.method_type (stream tokens.old)) result tokens.new }
+    ensures reads { Reads method_type_view (spec.method_type (stream tokens.old))
+        result tokens.new }
     ensures moves { OnOk result (left tokens.new < left tokens.old) }
 {
     tokens.expect_sign(Sign::LeftParen)?;
@@ -30,7 +31,8 @@ fn method_type<'a>(alloc: Global, tokens: &mut Tokens<'a>) -> Result<MethodType,
 
 #[tactic(auto, unfolding(crate::specs::ServiceGrammar::method_item))]
 fn method_item<'a>(alloc: Global, tokens: &mut Tokens<'a>) -> Result<MethodItem, Stop<'a>>
-    ensures reads { Reads method_item_view (spec.method_item (stream tokens.old)) result tokens.new }
+    ensures reads { Reads method_item_view (spec.method_item (stream tokens.old))
+        result tokens.new }
     ensures moves { OnOk result (left tokens.new < left tokens.old) }
 {
     if let Some(span) = tokens.eat_sign(Sign::Semicolon) {
@@ -42,7 +44,8 @@ fn method_item<'a>(alloc: Global, tokens: &mut Tokens<'a>) -> Result<MethodItem,
 
 #[tactic(auto, unfolding(crate::specs::ServiceGrammar::method_items))]
 fn method_items<'a>(alloc: Global, tokens: &mut Tokens<'a>) -> Result<Vec<MethodItem>, Stop<'a>>
-    ensures reads { Reads (λ v. method_items_view v.items) (spec.method_items (stream tokens.old)) result tokens.new }
+    ensures reads { Reads (λ v. method_items_view v.items) (spec.method_items (stream tokens.old))
+        result tokens.new }
     ensures moves { OnOk result (left tokens.new ≤ left tokens.old) }
 {
     let mut items = Vec::new(alloc);
@@ -59,7 +62,8 @@ fn method_body<'a>(
     alloc: Global,
     tokens: &mut Tokens<'a>,
 ) -> Result<(Option<MethodBody>, usize), Stop<'a>>
-    ensures reads { Reads (λ b. (option_map method_body_view b.0, b.1)) (spec.method_body (stream tokens.old)) result tokens.new }
+    ensures reads { Reads (λ b. (option_map method_body_view b.0, b.1))
+        (spec.method_body (stream tokens.old)) result tokens.new }
     ensures moves { OnOk result (left tokens.new < left tokens.old) }
 {
     let Some(open) = tokens.eat_sign(Sign::LeftBrace) else {
@@ -97,7 +101,8 @@ fn method<'a>(alloc: Global, tokens: &mut Tokens<'a>) -> Result<Method, Stop<'a>
 
 #[tactic(auto, unfolding(crate::specs::ServiceGrammar::service_item))]
 fn item<'a>(alloc: Global, tokens: &mut Tokens<'a>) -> Result<ServiceItem, Stop<'a>>
-    ensures reads { Reads service_item_view (spec.service_item (stream tokens.old)) result tokens.new }
+    ensures reads { Reads service_item_view (spec.service_item (stream tokens.old))
+        result tokens.new }
     ensures moves { OnOk result (left tokens.new < left tokens.old) }
 {
     if let Some(span) = tokens.eat_sign(Sign::Semicolon) {
@@ -116,7 +121,8 @@ fn item<'a>(alloc: Global, tokens: &mut Tokens<'a>) -> Result<ServiceItem, Stop<
 
 #[tactic(auto, unfolding(crate::specs::ServiceGrammar::service_items))]
 fn items<'a>(alloc: Global, tokens: &mut Tokens<'a>) -> Result<Vec<ServiceItem>, Stop<'a>>
-    ensures reads { Reads (λ v. service_items_view v.items) (spec.service_items (stream tokens.old)) result tokens.new }
+    ensures reads { Reads (λ v. service_items_view v.items) (spec.service_items (stream tokens.old))
+        result tokens.new }
     ensures moves { OnOk result (left tokens.new ≤ left tokens.old) }
 {
     let mut items = Vec::new(alloc);

@@ -46,8 +46,8 @@ is_group (map_kind m) = false
 abbrev pub letter : Bool → ℕ → ℕ
 letter raise b = if raise then to_ascii_uppercase b else b
 
--- A name in camel case: each letter behind an underscore is raised, the first one too where `raise` says so,
--- and underscores fall away.
+-- A name in camel case: each letter behind an underscore is raised, the first one too where `raise`
+-- says so, and underscores fall away.
 abbrev pub camel : Bool → Text → Text
 camel raise [] = []
 camel raise (b ∷ bs) = if b == 95 then camel true bs else letter raise b ∷ camel false bs
@@ -65,7 +65,8 @@ type_of (normal ty) = scalar_number ty
 type_of (group g) = Some (type_number types.Group)
 type_of (map_kind m) = Some (type_number types.Message)
 
--- The name of a field's type, as it is written; a group and the entries of a map have types of their own.
+-- The name of a field's type, as it is written; a group and the entries of a map have types of
+-- their own.
 abbrev pub type_name_of : Text → Kind → Option Text
 type_name_of name (normal ty) = written_name ty
 type_name_of name (group g) = Some name
@@ -154,7 +155,8 @@ field_of f = record {
 
 -- A field by which this type is extended.
 abbrev pub extension_of : TypeName → Field → FieldContent
-extension_of extendee f = record (field_of f) { extendee = Some (type_text (type_name_view extendee)) }
+extension_of extendee f = record (field_of f)
+    { extendee = Some (type_text (type_name_view extendee)) }
 
 -- what an item of an `extend` statement adds
 

@@ -11,13 +11,16 @@ use Rattle.protox_tree.specs.declared.message.Oneof.{Oneof}
 use Rattle.protox_tree.specs.declared.message.OneofItem.{OneofItem}
 
 abbrev pub AddedLayer : Type 0
-AddedLayer = ExtendItem-F ExtendItem FieldKind MessageItem OneofItem Extend Field Group Message Oneof
+AddedLayer = ExtendItem-F ExtendItem FieldKind MessageItem OneofItem Extend Field
+    Group Message Oneof
 
 abbrev pub KindLayer : Type 0
 KindLayer = FieldKind-F ExtendItem FieldKind MessageItem OneofItem Extend Field Group Message Oneof
 
 abbrev pub ItemLayer : Type 0
-ItemLayer = MessageItem-F ExtendItem FieldKind MessageItem OneofItem Extend Field Group Message Oneof
+ItemLayer = MessageItem-F ExtendItem FieldKind MessageItem OneofItem Extend Field
+    Group Message Oneof
 
 abbrev pub MemberLayer : Type 0
-MemberLayer = OneofItem-F ExtendItem FieldKind MessageItem OneofItem Extend Field Group Message Oneof
+MemberLayer = OneofItem-F ExtendItem FieldKind MessageItem OneofItem Extend Field
+    Group Message Oneof

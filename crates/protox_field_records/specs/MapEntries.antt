@@ -29,7 +29,8 @@ entry_field name number ty = record {
 }
 
 abbrev pub entry_fields : Map → List FieldContent
-entry_fields m = entry_field (codes "key") (pos 1) m.key ∷ (entry_field (codes "value") (pos 2) m.value ∷ [])
+entry_fields m = entry_field (codes "key") (pos 1) m.key
+    ∷ (entry_field (codes "value") (pos 2) m.value ∷ [])
 
 -- the option `map_entry = true`, as itself and in its encoded form
 abbrev pub entry_options : OptionsContent
@@ -44,4 +45,5 @@ entry_options = record {
 -- the type of the entries of a map of this name: a key and a value
 abbrev pub entry_of : Text → Map → MessageContent
 entry_of name m =
-    message (Some (entry_name_of name)) (entry_fields m) [] no_messages [] [] [] (Some entry_options) [] []
+    message (Some (entry_name_of name)) (entry_fields m) [] no_messages [] [] []
+    (Some entry_options) [] []

@@ -24,7 +24,8 @@ pub fn extensions(
     extend: &Extend,
     records: &mut Vec<FieldDescriptorProto>,
 ) -> Result<(), AllocError>
-    ensures { OnOk result (map field_view records.new.items ≡ map field_view records.old.items ++ flat_map (fields.extension_at extend.now.extendee) extend.now.items.items) }
+    ensures { OnOk result (map field_view records.new.items ≡ map field_view records.old.items
+        ++ flat_map (fields.extension_at extend.now.extendee) extend.now.items.items) }
 {
     'each: for item in &extend.items {
         let ExtendItem::Field(field) = item else {
@@ -119,9 +120,11 @@ fn scalar_number(ty: &Ty) -> Option<i32>
     Some(ty.proto_ty()?.number())
 }
 
-/// The name of a field's type, where it has one: a group and the entries of a map have types of their own.
+/// The name of a field's type, where it has one: a group and the entries of a map have types of
+/// their own.
 fn type_name(alloc: Global, name: &str, kind: &FieldKind) -> Result<Option<String>, AllocError>
-    ensures { IfOk result (λ written. option_map string_bytes written ≡ fields.type_name_of name.now (kind_view kind.now)) }
+    ensures { IfOk result (λ written. option_map string_bytes written
+        ≡ fields.type_name_of name.now (kind_view kind.now)) }
 {
     match kind {
         FieldKind::Normal(ty) => ty.ty_name(alloc),
@@ -136,7 +139,8 @@ fn default_value(
     kind: &FieldKind,
     bodies: &[OptionBody],
 ) -> Result<Option<String>, AllocError>
-    ensures { IfOk result (λ value. option_map string_bytes value ≡ fields.default_of (kind_view kind.now) bodies.now) }
+    ensures { IfOk result (λ value. option_map string_bytes value
+        ≡ fields.default_of (kind_view kind.now) bodies.now) }
 {
     let mut value = None;
     'each: for body in bodies {
@@ -162,7 +166,8 @@ fn json_name(alloc: Global, bodies: &[OptionBody]) -> Result<Option<String>, All
 
 /// All other options.
 fn other_options(alloc: Global, bodies: &[OptionBody]) -> Result<Option<Options>, AllocError>
-    ensures { IfOk result (λ options. option_map options_view options ≡ options_of (flat_map fields.other_at bodies.now)) }
+    ensures { IfOk result (λ options. option_map options_view options
+        ≡ options_of (flat_map fields.other_at bodies.now)) }
 {
     let mut written = Vec::new(alloc);
     'each: for body in bodies {
@@ -176,7 +181,8 @@ fn other_options(alloc: Global, bodies: &[OptionBody]) -> Result<Option<Options>
 
 /// The option is a field of its own in the record of a field.
 fn is_field_of_record(body: &OptionBody) -> bool
-    ensures { result ≡ (fields.is_named (codes "default") body.now || fields.is_named (codes "json_name") body.now) }
+    ensures { result ≡ (fields.is_named (codes "default") body.now
+        || fields.is_named (codes "json_name") body.now) }
 {
     body.has_name("default") || body.has_name("json_name")
 }
@@ -192,7 +198,8 @@ fn json_text(alloc: Global, value: &OptionValue) -> Result<Option<String>, Alloc
 
 /// A default as text: integers in decimal, bytes escaped, and all else as it is written.
 fn default_text(alloc: Global, kind: &FieldKind, value: &OptionValue) -> Result<String, AllocError>
-    ensures { IfOk result (λ text. string_bytes text ≡ fields.default_text (kind_view kind.now) value.now) }
+    ensures { IfOk result (λ text. string_bytes text
+        ≡ fields.default_text (kind_view kind.now) value.now) }
 {
     match value {
         OptionValue::Ident(ident) => ident.value.clone(),

@@ -51,7 +51,8 @@ abbrev pub unless_edition : Option Span → Parser (Option SyntaxStatement)
 unless_edition (Some at) = λ ts. Err (unknown_syntax at)
 unless_edition None = eat (ident (codes "syntax")) >>= syntax_if
 
--- The statement `syntax = .. ;`, if a file begins with it. One that begins with the word `edition` is at fault.
+-- The statement `syntax = .. ;`, if a file begins with it. One that begins with the word `edition`
+-- is at fault.
 unfoldable pub syntax : Parser (Option SyntaxStatement)
 syntax = eat (ident (codes "edition")) >>= unless_edition
 
@@ -86,7 +87,8 @@ a_package = do
   last ← expect (sign s.Semicolon)
   pure (record { name = name; span = across first last })
 
--- The word of a statement begins it wherever it comes first. Of the braces of messages and groups 31 may be open at once.
+-- The word of a statement begins it wherever it comes first. Of the braces of messages and groups
+-- 31 may be open at once.
 abbrev pub file_item_unless : Option Span → Parser FileItem
 file_item_unless (Some at) = pure (file_empty at)
 file_item_unless None =

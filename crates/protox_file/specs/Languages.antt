@@ -11,4 +11,5 @@ use Rattle.std.specs.Prelude.{◌≡◌, List, Some, None, Result, Ok, Err}
 abbrev pub IsLanguage : List Word → Result Syntax Stop → Type 0
 IsLanguage value (Ok syntax) = language (joined value) ≡ Some syntax
 IsLanguage value (Err Memory) = Unit {0}
-IsLanguage value (Err (Refused f)) = (language (joined value) ≡ None) × (fault_view f ≡ unknown_syntax (words_span value))
+IsLanguage value (Err (Refused f)) = (language (joined value) ≡ None)
+    × (fault_view f ≡ unknown_syntax (words_span value))

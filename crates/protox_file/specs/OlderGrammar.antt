@@ -1,4 +1,5 @@
--- Sources by the older grammar, in which options stand behind extension ranges only where the last range has an end.
+-- Sources by the older grammar, in which options stand behind extension ranges only where the last
+-- range has an end.
 use Rattle.protox_file.specs.FileGrammar.{file_item, syntax}
 use Rattle.protox_lex.specs.Class.{Text}
 use Rattle.protox_lex.specs.Token.{ident, sign}
@@ -41,10 +42,12 @@ older_extensions = do
   close ← expect (sign s.Semicolon)
   pure (record { ranges = rs; options = os; span = across first close })
 
--- What may stand in a message: the statements of extension ranges as they were, and all others as they are.
+-- What may stand in a message: the statements of extension ranges as they were, and all others as
+-- they are.
 abbrev pub older_item : Parser Block → Parser Item
 older_item inner =
-    choose (sees (ident (codes "extensions"))) (item_extensions <$> older_extensions) (item_with inner)
+    choose (sees (ident (codes "extensions"))) (item_extensions <$> older_extensions)
+    (item_with inner)
 
 unfoldable pub older_items : Parser Block → Parser (List Item)
 older_items inner = loop (until (sign s.RightBrace) (older_item inner))
@@ -67,7 +70,8 @@ older_block (suc levels) = do
 abbrev pub older_file_item : Parser FileItem
 older_file_item =
     choose (sees (ident (codes "message"))) (file_message <$> message_with (older_block 31))
-    (choose (sees (ident (codes "extend"))) (file_extend <$> extend_with (older_block 31)) file_item)
+    (choose (sees (ident (codes "extend")))
+    (file_extend <$> extend_with (older_block 31)) file_item)
 
 unfoldable pub older_file_items : Parser (List FileItem)
 older_file_items = loop (when (λ ts. not (is_over ts)) older_file_item)
@@ -78,6 +82,7 @@ older_file = do
   items ← older_file_items
   pure (record { syntax = statement; items = items; span = file_span statement items })
 
--- The tokens of the text, by the longest match and with nothing left, are read as this tree by the older grammar.
+-- The tokens of the text, by the longest match and with nothing left, are read as this tree by the
+-- older grammar.
 abbrev pub SpellsOlder : Text → File → Type 0
 SpellsOlder z tree = (ts : Stream) × IsRead z ts × (older_file ts ≡ Ok (tree, []))

@@ -36,7 +36,9 @@ EndsWith front t at =
     (before : Stream) × (p : Piece) × (front ≡ before ++ p ∷ [])
     × ((look source p ≡ Some (t, at)) ⊎ (look text p ≡ Some (t, at)))
 
--- What is wrong with tokens that are refused for one that is not expected: no file begins with them up to that one.
+-- What is wrong with tokens that are refused for one that is not expected: no file begins with them
+-- up to that one.
 abbrev pub IsDead : Stream → Expected → Token → Span → Type 0
 IsDead ts expected found at =
-    (front : Stream) × (rest : Stream) × (ts ≡ front ++ rest) × EndsWith front found at × BeginNoFile front
+    (front : Stream) × (rest : Stream) × (ts ≡ front ++ rest) × EndsWith front found at
+    × BeginNoFile front

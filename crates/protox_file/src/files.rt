@@ -17,7 +17,8 @@ use std::alloc::Global;
 
 #[tactic(auto, unfolding(crate::specs::FileGrammar::file_items))]
 fn items<'a>(alloc: Global, tokens: &mut Tokens<'a>) -> Result<Vec<FileItem>, Stop<'a>>
-    ensures reads { Reads (λ v. file_items_view v.items) (spec.file_items (stream tokens.old)) result tokens.new }
+    ensures reads { Reads (λ v. file_items_view v.items) (spec.file_items (stream tokens.old))
+        result tokens.new }
     ensures moves { OnOk result (left tokens.new ≤ left tokens.old) }
     ensures over { OnOk result (stream tokens.new ≡ []) }
 {
@@ -32,7 +33,8 @@ fn items<'a>(alloc: Global, tokens: &mut Tokens<'a>) -> Result<Vec<FileItem>, St
 /// From the first statement to the last; of a file without statements the start of the source.
 #[tactic(auto, using(crate::proofs::Spans::statements_cover, crate::proofs::Spans::syntax_covers))]
 fn file_span(syntax: &Option<SyntaxStatement>, items: &[FileItem]) -> Span
-    ensures { result ≡ tree.file_span (option_map syntax_view syntax.now) (file_items_view items.now) }
+    ensures { result ≡ tree.file_span (option_map syntax_view syntax.now)
+        (file_items_view items.now) }
 {
     match (syntax, items.first(), items.last()) {
         (Some(syntax), _, Some(last)) => across(syntax.span, last.span()),
@@ -58,7 +60,8 @@ fn file<'a>(alloc: Global, tokens: &mut Tokens<'a>) -> Result<File, Stop<'a>>
     })
 }
 
-/// The tree that a source spells. Refused with the first fault of its tokens, or for want of memory.
+/// The tree that a source spells. Refused with the first fault of its tokens, or for want of
+/// memory.
 pub fn tree(alloc: Global, source: &str) -> Result<File, Stop<'_>>
     ensures { IsTree source.now result }
 {

@@ -29,12 +29,15 @@ pub fn spelled_is_not_refused()
     ensures { (z : Text) (a : tree.File) (f : Fault) → Spells z a → RefusedBy z f → ⊥ }
 {}
 
-/// No file begins with the tokens of one that is refused, up to and including the token that is not expected.
+/// No file begins with the tokens of one that is refused, up to and including the token that is not
+/// expected.
 pub fn refused_tokens_begin_no_file()
-    ensures { (ts : Stream) (x : Expected) (t : Token) (at : spans.Span) → file ts ≡ Err (unexpected x t at) → IsDead ts x t at }
+    ensures { (ts : Stream) (x : Expected) (t : Token) (at : spans.Span) → file ts
+        ≡ Err (unexpected x t at) → IsDead ts x t at }
 {}
 
-/// What spelled a tree while options stood only behind a last extension range with an end spells the same tree.
+/// What spelled a tree while options stood only behind a last extension range with an end spells
+/// the same tree.
 pub fn older_sources_spell_the_same()
     ensures { (z : Text) (a : tree.File) → SpellsOlder z a → Spells z a }
 {}

@@ -62,7 +62,8 @@ fn syntax_behind<'a>(
     tokens: &mut Tokens<'a>,
     first: Span,
 ) -> Result<SyntaxStatement, Stop<'a>>
-    ensures reads { Reads syntax_view (spec.syntax_behind first (stream tokens.old)) result tokens.new }
+    ensures reads { Reads syntax_view (spec.syntax_behind first (stream tokens.old))
+        result tokens.new }
     ensures moves { OnOk result (left tokens.new < left tokens.old) }
 {
     tokens.expect_sign(Sign::Equals)?;
@@ -76,13 +77,15 @@ fn syntax_behind<'a>(
     })
 }
 
-/// The statement `syntax`, if the file begins with it. A file that begins with `edition` has another syntax.
+/// The statement `syntax`, if the file begins with it. A file that begins with `edition` has
+/// another syntax.
 #[tactic(auto, unfolding(crate::specs::FileGrammar::syntax))]
 pub fn syntax<'a>(
     alloc: Global,
     tokens: &mut Tokens<'a>,
 ) -> Result<Option<SyntaxStatement>, Stop<'a>>
-    ensures reads { Reads (λ o. option_map syntax_view o) (spec.syntax (stream tokens.old)) result tokens.new }
+    ensures reads { Reads (λ o. option_map syntax_view o) (spec.syntax (stream tokens.old))
+        result tokens.new }
     ensures moves { OnOk result (left tokens.new ≤ left tokens.old) }
 {
     if let Some(span) = tokens.eat(EDITION) {

@@ -12,6 +12,9 @@ fault_text kinds.InvalidStringEscape = codes "invalid string escape"
 fault_text kinds.UnterminatedString = codes "string has no closing quote"
 fault_text kinds.NestedBlockComment = codes "block comments cannot be nested"
 fault_text kinds.UnterminatedComment = codes "comment has no end"
-fault_text kinds.NoSpaceBetweenIntAndIdent = codes "whitespace is required between an integer literal and an identifier"
-fault_text kinds.HashCommentOutsideTextFormat = codes "hash comments are only allowed in text format"
-fault_text kinds.FloatSuffixOutsideTextFormat = codes "float suffixes are only allowed in text format"
+fault_text kinds.NoSpaceBetweenIntAndIdent =
+    codes "whitespace is required between an integer literal and an identifier"
+fault_text kinds.HashCommentOutsideTextFormat =
+    codes "hash comments are only allowed in text format"
+fault_text kinds.FloatSuffixOutsideTextFormat =
+    codes "float suffixes are only allowed in text format"

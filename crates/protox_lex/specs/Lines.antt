@@ -25,4 +25,5 @@ column_at feeds offset = offset - start_at feeds offset
 abbrev pub span_at : List ℕ → ℕ → ℕ → List ℤ
 span_at feeds start end =
     pos (line_at feeds start) ∷ pos (column_at feeds start)
-    ∷ (if line_at feeds start == line_at feeds end then pos (column_at feeds end) ∷ [] else pos (line_at feeds end) ∷ pos (column_at feeds end) ∷ [])
+    ∷ (if line_at feeds start == line_at feeds end then pos (column_at feeds end) ∷ []
+    else pos (line_at feeds end) ∷ pos (column_at feeds end) ∷ [])

@@ -1,6 +1,7 @@
 -- Numbers, strings and comments as the language specification spells them.
 --
--- Sources: "Lexical elements" of the protobuf language specification and of the text format specification, on protobuf.dev.
+-- Sources: "Lexical elements" of the protobuf language specification and of the text format
+-- specification, on protobuf.dev.
 use Rattle.std.specs.Prelude.{◌≡◌, ◌≢◌, ℕ, ◌+◌, ◌<◌, ◌≤◌, Bool, true, false, not, ◌||◌, ◌==◌, if◌then◌else◌, ◌⊎◌, List, [], ◌∷◌, ◌++◌, length, take, drop, slice_index}
 use Rattle.std.specs.List.{Contains, list_all}
 use Rattle.protox_lex.specs.declared.class.Class.{Class}
@@ -21,8 +22,10 @@ IsDecimals z = IsDigits class.Digit z
 
 -- exponent = ( "e" | "E" ) [ "+" | "-" ] decimals
 pub data IsExponent (z : Text) : Type 0 where
-  unsigned : (e : ℕ) (d : Text) → z ≡ e ∷ d → is_exponent_mark e ≡ true → IsDecimals d → IsExponent z
-  signed : (e s : ℕ) (d : Text) → z ≡ e ∷ s ∷ d → is_exponent_mark e ≡ true → (s == 43 || s == 45) ≡ true → IsDecimals d → IsExponent z
+  unsigned : (e : ℕ) (d : Text) → z ≡ e ∷ d → is_exponent_mark e ≡ true → IsDecimals d
+      → IsExponent z
+  signed : (e s : ℕ) (d : Text) → z ≡ e ∷ s ∷ d → is_exponent_mark e ≡ true → (s == 43 || s == 45)
+      ≡ true → IsDecimals d → IsExponent z
 
 -- what stands in brackets may be left out
 abbrev pub Maybe : (Text → Type 0) → Text → Type 0
@@ -30,7 +33,8 @@ Maybe P z = (z ≡ []) ⊎ P z
 
 -- floatLit = decimals "." [ decimals ] [ exponent ] | decimals exponent | "." decimals [ exponent ]
 pub data IsFloatLit (z : Text) : Type 0 where
-  with_point : (a b e : Text) → z ≡ a ++ (46 ∷ (b ++ e)) → IsDecimals a → Maybe IsDecimals b → Maybe IsExponent e → IsFloatLit z
+  with_point : (a b e : Text) → z ≡ a ++ (46 ∷ (b ++ e)) → IsDecimals a → Maybe IsDecimals b
+      → Maybe IsExponent e → IsFloatLit z
   with_exponent : (a e : Text) → z ≡ a ++ e → IsDecimals a → IsExponent e → IsFloatLit z
   from_point : (b e : Text) → z ≡ 46 ∷ (b ++ e) → IsDecimals b → Maybe IsExponent e → IsFloatLit z
 
@@ -42,7 +46,8 @@ pub record IsDecLit (z : Text) : Type 0 where
 -- FLOAT = float_lit [ "f" | "F" ] | dec_lit ( "f" | "F" ); only text format has the suffix
 pub data IsFloat (z : Text) : Type 0 where
   plain : IsFloatLit z → IsFloat z
-  with_suffix : (x : Text) (s : ℕ) → z ≡ x ++ (s ∷ []) → is_suffix s ≡ true → IsFloatLit x ⊎ IsDecLit x → IsFloat z
+  with_suffix : (x : Text) (s : ℕ) → z ≡ x ++ (s ∷ []) → is_suffix s ≡ true → IsFloatLit x
+      ⊎ IsDecLit x → IsFloat z
 
 -- `"` or `'`
 abbrev pub is_quote : ℕ → Bool
@@ -51,20 +56,24 @@ is_quote q = q == 34 || q == 39
 -- the letter of an escape, and the byte that it stands for
 abbrev pub letters : List (ℕ × ℕ)
 letters =
-    (97, 7) ∷ (98, 8) ∷ (102, 12) ∷ (110, 10) ∷ (114, 13) ∷ (116, 9) ∷ (118, 11) ∷ (63, 63) ∷ (92, 92) ∷ (39, 39) ∷ (34, 34) ∷ []
+    (97, 7) ∷ (98, 8) ∷ (102, 12) ∷ (110, 10) ∷ (114, 13) ∷ (116, 9) ∷ (118, 11) ∷ (63, 63)
+    ∷ (92, 92) ∷ (39, 39) ∷ (34, 34) ∷ []
 
 -- All these bytes have the form of an escape, behind its backslash, that writes this.
 pub data HasForm (z : Text) : Meaning → Type 0 where
   -- charEscape = "a" | "b" | "f" | "n" | "r" | "t" | "v" | "?" | "\" | "'" | '"'
   letter : (b c : ℕ) → z ≡ b ∷ [] → Contains {X = ℕ × ℕ} letters (b, c) → HasForm z (meaning.Byte c)
   -- hexEscape = ( "x" | "X" ) hexDigit [ hexDigit ]
-  hexadecimal : (x : ℕ) (y : Text) → z ≡ x ∷ y → (x == 120 || x == 88) ≡ true → IsDigits class.Hex y → length y ≤ 2 → HasForm z (meaning.Byte (value 16 y))
+  hexadecimal : (x : ℕ) (y : Text) → z ≡ x ∷ y → (x == 120 || x == 88) ≡ true → IsDigits class.Hex y
+      → length y ≤ 2 → HasForm z (meaning.Byte (value 16 y))
   -- octEscape = octalDigit [ octalDigit [ octalDigit ] ]
   octal : IsDigits class.Octal z → length z ≤ 3 → HasForm z (meaning.Byte (value 8 z))
   -- unicodeEscape = "u" and four of hexDigit
-  unicode : (y : Text) → z ≡ 117 ∷ y → IsDigits class.Hex y → length y ≡ 4 → HasForm z (meaning.Char (value 16 y))
+  unicode : (y : Text) → z ≡ 117 ∷ y → IsDigits class.Hex y → length y ≡ 4
+      → HasForm z (meaning.Char (value 16 y))
   -- unicodeLongEscape = "U" and eight of hexDigit
-  long_unicode : (y : Text) → z ≡ 85 ∷ y → IsDigits class.Hex y → length y ≡ 8 → HasForm z (meaning.Char (value 16 y))
+  long_unicode : (y : Text) → z ≡ 85 ∷ y → IsDigits class.Hex y → length y ≡ 8
+      → HasForm z (meaning.Char (value 16 y))
 
 -- a byte has eight bits; a character is no surrogate, and none comes behind U+10FFFF
 abbrev pub IsMeant : Meaning → Type 0
@@ -81,7 +90,8 @@ pub record IsLongestForm (y : Text) (n : ℕ) (m : Meaning) : Type 0 where
 abbrev pub IsEscape : Text → ℕ → Meaning → Type 0
 IsEscape y n m = IsLongestForm y n m × IsMeant m
 
--- a backslash before the text begins no escape: no form is there, or one of n bytes that means nothing
+-- a backslash before the text begins no escape: no form is there, or one of n bytes that means
+-- nothing
 pub data NoEscape (y : Text) : ℕ → Type 0 where
   no_form : ((k : ℕ) (q : Meaning) → k ≤ length y → HasForm (take k y) q → ⊥) → NoEscape y 0
   no_meaning : (n : ℕ) (m : Meaning) → IsLongestForm y n m → (IsMeant m → ⊥) → NoEscape y n
@@ -90,14 +100,17 @@ pub data NoEscape (y : Text) : ℕ → Type 0 where
 -- charValue = any byte but the quote, a backslash, a line's end and NUL, or an escape
 pub data Contents (quote : ℕ) (rest : Text) : Text → Type 0 where
   ends : (y : Text) → y ≡ rest → Contents quote rest y
-  plain_byte : (b : ℕ) (y : Text) → is_plain quote b ≡ true → Contents quote rest y → Contents quote rest (b ∷ y)
-  escaped : (y : Text) (n : ℕ) (m : Meaning) → IsEscape y n m → Contents quote rest (drop n y) → Contents quote rest (92 ∷ y)
+  plain_byte : (b : ℕ) (y : Text) → is_plain quote b ≡ true → Contents quote rest y
+      → Contents quote rest (b ∷ y)
+  escaped : (y : Text) (n : ℕ) (m : Meaning) → IsEscape y n m → Contents quote rest (drop n y)
+      → Contents quote rest (92 ∷ y)
 
 -- each backslash begins an escape
 pub data IsEscaped : Text → Type 0 where
   nothing : IsEscaped []
   other_byte : (b : ℕ) (y : Text) → b ≢ 92 → IsEscaped y → IsEscaped (b ∷ y)
-  one_escape : (y : Text) (n : ℕ) (m : Meaning) → IsEscape y n m → IsEscaped (drop n y) → IsEscaped (92 ∷ y)
+  one_escape : (y : Text) (n : ℕ) (m : Meaning) → IsEscape y n m → IsEscaped (drop n y)
+      → IsEscaped (92 ∷ y)
 
 -- strLit, behind its opening quote: contents and the quote
 pub record IsString (quote : ℕ) (y : Text) (s : Text) : Type 0 where

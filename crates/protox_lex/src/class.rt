@@ -44,7 +44,8 @@ pub fn past(class: Class, z: &[u8], at: usize) -> usize
     requires { at ≤ length z.now }
     ensures value { result ≡ spec.past class z.now at }
     ensures within { (at ≤ result) × (result ≤ length z.now) }
-    ensures moves { at < length z.now → spec.is_in class (slice_index z.now at) ≡ true → at < result }
+    ensures moves { at < length z.now → spec.is_in class (slice_index z.now at) ≡ true → at
+        < result }
     ensures ascii { is_ascii_class class ≡ true → IsAsciiTo z.now at → IsAsciiTo z.now result }
 {
     let mut end = at;

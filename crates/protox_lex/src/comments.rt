@@ -8,8 +8,9 @@ use std::mem;
 
 /// The comments of one gap, cut into blocks.
 ///
-/// Line comments that follow one another are one block, and a block comment is a block by itself. Whom a comment belongs to
-/// is told by "Comments" of `SourceCodeInfo` in protobuf's `descriptor.proto`.
+/// Line comments that follow one another are one block, and a block comment is a block by itself.
+/// Whom a comment belongs to is told by "Comments" of `SourceCodeInfo` in protobuf's
+/// `descriptor.proto`.
 #[derive(Debug, Drop)]
 pub struct Comments {
     blocks: Vec<String>,
@@ -46,10 +47,14 @@ impl Comments {
         Ok(())
     }
 
-    /// A line comment lengthens the block that is open, or opens one. For want of memory nothing is changed.
+    /// A line comment lengthens the block that is open, or opens one. For want of memory nothing is
+    /// changed.
     pub fn line_comment(&mut self, text: &str) -> Result<(), AllocError>
-        ensures lengthens { OnOk result ((blocks self.old).is_open ≡ true → (blocks self.new).texts ≡ lengthened (blocks self.old).texts text.now) }
-        ensures opens { OnOk result ((blocks self.old).is_open ≡ false → (blocks self.new).texts ≡ (blocks self.old).texts ++ text.now ∷ []) }
+        ensures lengthens { OnOk result
+            ((blocks self.old).is_open ≡ true → (blocks self.new).texts
+            ≡ lengthened (blocks self.old).texts text.now) }
+        ensures opens { OnOk result ((blocks self.old).is_open ≡ false → (blocks self.new).texts
+            ≡ (blocks self.old).texts ++ text.now ∷ []) }
         ensures open { OnOk result ((blocks self.new).is_open ≡ true) }
         ensures parted { OnOk result ((blocks self.new).is_parted ≡ false) }
         ensures err { OnErr result (blocks self.new ≡ blocks self.old) }
@@ -65,7 +70,8 @@ impl Comments {
     }
 
     fn push(&mut self, text: &str) -> Result<(), AllocError>
-        ensures texts { OnOk result ((blocks self.new).texts ≡ (with_block (blocks self.old) text.now).texts) }
+        ensures texts { OnOk result ((blocks self.new).texts
+            ≡ (with_block (blocks self.old) text.now).texts) }
         ensures parted { OnOk result ((blocks self.new).is_parted ≡ false) }
         ensures err { OnErr result (blocks self.new ≡ blocks self.old) }
     {
@@ -105,11 +111,14 @@ impl Comments {
         self.is_detached = false;
     }
 
-    /// Takes the blocks: the detached ones, and the leading one, which is the last where no blank line followed it.
+    /// Takes the blocks: the detached ones, and the leading one, which is the last where no blank
+    /// line followed it.
     pub fn take_leading(&mut self) -> (Vec<String>, Option<String>)
-        ensures all { (blocks self.old).texts ≡ map string_bytes result.0.items ++ option_to_list (option_map string_bytes result.1) }
+        ensures all { (blocks self.old).texts ≡ map string_bytes result.0.items
+            ++ option_to_list (option_map string_bytes result.1) }
         ensures parted { (blocks self.old).is_parted ≡ true → result.1 ≡ None }
-        ensures last { (blocks self.old).is_parted ≡ false → result.1 ≡ None → (blocks self.old).texts ≡ [] }
+        ensures last { (blocks self.old).is_parted ≡ false → result.1 ≡ None
+            → (blocks self.old).texts ≡ [] }
         ensures after { (blocks self.new).texts ≡ [] }
         ensures closed { (blocks self.new).is_open ≡ false }
         ensures unparted { (blocks self.new).is_parted ≡ false }
@@ -134,7 +143,8 @@ impl Comments {
 
     /// Takes the first block.
     pub fn take_trailing(&mut self) -> Option<String>
-        ensures first { MatchOption result (((blocks self.old).texts ≡ []) × (blocks self.new ≡ blocks self.old))
+        ensures first { MatchOption result
+            (((blocks self.old).texts ≡ []) × (blocks self.new ≡ blocks self.old))
             (λ t. (blocks self.old).texts ≡ string_bytes t ∷ (blocks self.new).texts) }
         ensures open { (blocks self.new).is_open ≡ (blocks self.old).is_open }
         ensures parted { (blocks self.new).is_parted ≡ (blocks self.old).is_parted }

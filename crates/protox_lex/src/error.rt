@@ -16,7 +16,8 @@ pub enum LexErrorKind {
     IntegerOutOfRange,
     /// A line end or a NUL in a string.
     InvalidStringCharacters,
-    /// A backslash in a string that begins no escape, or an escape that means no byte and no character.
+    /// A backslash in a string that begins no escape, or an escape that means no byte and no
+    /// character.
     InvalidStringEscape,
     /// A string without its closing quote.
     UnterminatedString,

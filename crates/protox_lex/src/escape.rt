@@ -38,7 +38,8 @@ fn simple(b: u8) -> Option<u8>
     }
 }
 
-/// The byte that digits write, of which so many bytes are read; refused with their number where it is no byte.
+/// The byte that digits write, of which so many bytes are read; refused with their number where it
+/// is no byte.
 fn byte_of(radix: u64, digits: &[u8], len: usize) -> Result<(Meaning, usize), usize>
     requires { (1 ≤ radix) × (radix ≤ 16) }
     ensures value { result ≡ spec.byte_of (spec.short (spec.value radix digits.now)) len }
@@ -119,8 +120,8 @@ fn char_of(number: Option<u64>, len: usize) -> Result<(Meaning, usize), usize>
     }
 }
 
-/// What stands behind a backslash: the escape and its length. Refused with the length of what matches a form and means
-/// nothing, or with 0 where no form matches.
+/// What stands behind a backslash: the escape and its length. Refused with the length of what
+/// matches a form and means nothing, or with 0 where no form matches.
 #[tactic(auto, unfolding(crate::specs::Lex::escape))]
 pub fn escape(y: &[u8]) -> Result<(Meaning, usize), usize>
     ensures value { result ≡ spec.escape y.now }
@@ -139,8 +140,8 @@ pub fn escape(y: &[u8]) -> Result<(Meaning, usize), usize>
     }
 }
 
-/// What the first byte of a string's contents, or the escape that begins there, stands for, and its length.
-/// A backslash that begins no escape stands for itself.
+/// What the first byte of a string's contents, or the escape that begins there, stands for, and its
+/// length. A backslash that begins no escape stands for itself.
 fn unit(raw: &[u8]) -> (Meaning, usize)
     requires { 0 < length raw.now }
     ensures value { result ≡ spec.unit_of raw.now }
@@ -166,8 +167,8 @@ fn push(bytes: &mut Vec<u8>, meaning: Meaning) -> Result<(), AllocError>
 
 /// The bytes of a string whose contents stand so in a source. Refused only for want of memory.
 ///
-/// Escapes are those of the "String literals" of the protobuf language specification. A backslash that begins none
-/// of them stands for itself; no token has one.
+/// Escapes are those of the "String literals" of the protobuf language specification. A backslash
+/// that begins none of them stands for itself; no token has one.
 pub fn unescape(alloc: Global, raw: &[u8]) -> Result<Vec<u8>, AllocError>
     ensures { IfOk result (λ bytes. bytes.items ≡ spec.unescaped raw.now) }
 {
@@ -181,8 +182,8 @@ pub fn unescape(alloc: Global, raw: &[u8]) -> Result<Vec<u8>, AllocError>
     Ok(bytes)
 }
 
-/// Bytes that print as the contents of a string: printable ASCII as itself, `\t`, `\r`, `\n`, `\'`, `\"` and `\\`, and each other byte
-/// as a backslash and three octal digits.
+/// Bytes that print as the contents of a string: printable ASCII as itself, `\t`, `\r`, `\n`, `\'`,
+/// `\"` and `\\`, and each other byte as a backslash and three octal digits.
 #[derive(Clone, Copy, Debug)]
 pub struct Escaped<'a>(pub &'a [u8]);
 

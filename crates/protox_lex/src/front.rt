@@ -116,7 +116,8 @@ fn word(z: &[u8]) -> (Piece<'_>, usize)
 
 fn sign(z: &[u8]) -> Result<(Piece<'_>, usize), Flaw>
     requires { 0 < length z.now }
-    ensures value { Gives (λ p. (piece_view p.0, p.1)) result (spec.signed z.now (spec.sign_of (slice_index z.now 0))) }
+    ensures value { Gives (λ p. (piece_view p.0, p.1)) result
+        (spec.signed z.now (spec.sign_of (slice_index z.now 0))) }
     ensures within { IfOk result (λ p. (1 ≤ p.1) × (p.1 ≤ length z.now)) }
     ensures flaw { IfErr result (λ f. (f.start ≤ f.end) × (f.end ≤ length z.now)) }
 {

@@ -19,7 +19,8 @@ pub fn one_reading()
     ensures { (at : ℕ) (z : Text) (ts us : List Lexeme) → Lexes at z ts → Lexes at z us → ts ≡ us }
 {}
 
-/// What [`unescape`](crate::unescape) gives is what the contents of a string mean: the byte or character of each escape, and all else itself.
+/// What [`unescape`](crate::unescape) gives is what the contents of a string mean: the byte or
+/// character of each escape, and all else itself.
 pub fn contents_mean_their_bytes()
     ensures { (y : Text) → Means y (unescaped y) }
 {}

@@ -1,4 +1,5 @@
-//! Cuts a protobuf source into its tokens, each the longest that stands at its place, and says where they and the comments stand.
+//! Cuts a protobuf source into its tokens, each the longest that stands at its place, and says
+//! where they and the comments stand.
 #![tactic(auto)]
 
 mod class;

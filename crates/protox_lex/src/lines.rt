@@ -33,7 +33,8 @@ impl LineResolver {
         Ok(LineResolver { ends })
     }
 
-    /// The line and the column of an offset: the line feeds before it, and the bytes behind the last of them. Takes no memory.
+    /// The line and the column of an offset: the line feeds before it, and the bytes behind the
+    /// last of them. Takes no memory.
     pub fn resolve(&self, offset: usize) -> (i32, i32)
         requires { offset < 2 ^ 31 }
         ensures line { result.0 ≡ pos (line_at (feeds self.now) offset) }
@@ -47,7 +48,8 @@ impl LineResolver {
     fn line(&self, offset: usize) -> usize
         ensures within { result ≤ length self.now.ends.items }
         ensures before { (k : ℕ) → k < result → slice_index self.now.ends.items k < offset }
-        ensures behind { (k : ℕ) → result ≤ k → k < length self.now.ends.items → offset ≤ slice_index self.now.ends.items k }
+        ensures behind { (k : ℕ) → result ≤ k → k < length self.now.ends.items → offset
+            ≤ slice_index self.now.ends.items k }
     {
         self.ends.partition_point(|end| *end < offset)
     }
@@ -57,7 +59,8 @@ impl LineResolver {
         requires within { line ≤ length self.now.ends.items }
         requires before { (k : ℕ) → k < line → slice_index self.now.ends.items k < offset }
         ensures first { line ≡ 0 → result ≡ offset }
-        ensures later { (k : ℕ) → line ≡ k + 1 → result + (slice_index self.now.ends.items k + 1) ≡ offset }
+        ensures later { (k : ℕ) → line ≡ k + 1 → result + (slice_index self.now.ends.items k + 1)
+            ≡ offset }
     {
         if line == 0 {
             offset
@@ -66,12 +69,13 @@ impl LineResolver {
         }
     }
 
-    /// Line, column and end column of a span on one line; line, column, end line and end column of another one.
-    /// Refused only for want of memory.
+    /// Line, column and end column of a span on one line; line, column, end line and end column of
+    /// another one. Refused only for want of memory.
     pub fn resolve_span(&self, alloc: Global, span: Span) -> Result<Vec<i32>, AllocError>
         requires start { span.start < 2 ^ 31 }
         requires end { span.end < 2 ^ 31 }
-        ensures { IfOk result (λ place. place.items ≡ span_at (feeds self.now) span.start span.end) }
+        ensures { IfOk result (λ place. place.items
+            ≡ span_at (feeds self.now) span.start span.end) }
     {
         let (line, column) = self.resolve(span.start);
         let (end_line, end_column) = self.resolve(span.end);

@@ -43,7 +43,8 @@ impl Int {
 
     /// The number, where it has no sign and is in range.
     pub fn as_u32(&self) -> Option<u32>
-        ensures { SomeIff result ((self.now.negative ≡ false) × (self.now.value < 2 ^ 32)) self.now.value }
+        ensures { SomeIff result ((self.now.negative ≡ false) × (self.now.value < 2 ^ 32))
+            self.now.value }
     {
         u32::try_from(self.as_u64()?).ok()
     }
@@ -99,8 +100,10 @@ pub struct String {
 impl String {
     /// The bytes as text. Refused where they are not UTF-8, and then they are given back.
     pub fn into_utf8(self) -> Result<(Text, Span), String>
-        ensures { MatchResult result (λ p. (string_bytes p.0 ≡ self.value.items) × (p.1 ≡ self.span))
-            (λ s. (IsUtf8 self.value.items → ⊥) × (s.value.items ≡ self.value.items) × (s.span ≡ self.span)) }
+        ensures { MatchResult result (λ p. (string_bytes p.0 ≡ self.value.items)
+            × (p.1 ≡ self.span))
+            (λ s. (IsUtf8 self.value.items → ⊥) × (s.value.items ≡ self.value.items)
+            × (s.span ≡ self.span)) }
     {
         let String { value, span } = self;
         match Text::from_utf8(value) {

@@ -124,7 +124,8 @@ fn past_suffix(z: &[u8], at: usize) -> usize
 fn float(z: &[u8], end: usize) -> (Piece<'_>, usize)
     requires within { end ≤ length z.now }
     requires ascii { IsAsciiTo z.now end }
-    ensures value { (piece_view result.0, result.1) ≡ spec.float_to z.now (spec.past_suffix z.now end) }
+    ensures value { (piece_view result.0, result.1)
+        ≡ spec.float_to z.now (spec.past_suffix z.now end) }
     ensures within { (end ≤ result.1) × (result.1 ≤ length z.now) }
 {
     let end = past_suffix(z, end);
@@ -140,7 +141,8 @@ fn integer<'a>(
 ) -> Result<(Piece<'a>, usize), Flaw>
     requires within { end ≤ length z.now }
     requires start { start ≤ end }
-    ensures value { Gives (λ p. (piece_view p.0, p.1)) result (spec.integer z.now start end number) }
+    ensures value { Gives (λ p. (piece_view p.0, p.1)) result
+        (spec.integer z.now start end number) }
     ensures end { IfOk result (λ p. p.1 ≡ end) }
     ensures flaw { IfErr result (λ f. (f.start ≤ f.end) × (f.end ≤ length z.now)) }
 {

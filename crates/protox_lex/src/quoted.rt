@@ -50,7 +50,8 @@ fn contents_len(quote: u8, y: &[u8]) -> usize
     n
 }
 
-/// Why the contents of a string end at a place that has no closing quote. Places count from the opening quote.
+/// Why the contents of a string end at a place that has no closing quote. Places count from the
+/// opening quote.
 fn flaw(y: &[u8], n: usize) -> Flaw
     ensures value { spec.unclosed y.now n ≡ Err result }
     ensures within { (result.start ≤ result.end) × (result.end ≤ length y.now + 1) }

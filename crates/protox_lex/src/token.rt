@@ -86,17 +86,20 @@ impl fmt::Display for Sign {
     }
 }
 
-/// A token, lent from its source. Its grammar is "Lexical elements" of the protobuf language specification; a float may
-/// end with `f`, and a comment may begin with `#`, as in "Lexical elements" of the text format specification.
+/// A token, lent from its source. Its grammar is "Lexical elements" of the protobuf language
+/// specification; a float may end with `f`, and a comment may begin with `#`, as in "Lexical
+/// elements" of the text format specification.
 ///
-/// It prints as the text of an option's braces is written: an integer in decimal, a string in `"` with its bytes escaped.
+/// It prints as the text of an option's braces is written: an integer in decimal, a string in `"`
+/// with its bytes escaped.
 #[derive(Clone, Copy, PartialEq, Debug)]
 pub enum Token<'a> {
     Ident(&'a str),
     Int(u64),
     /// As it is written, with its suffix.
     Float(&'a str),
-    /// What stands between the quotes, as it is written. [`unescape`](crate::unescape) gives its bytes.
+    /// What stands between the quotes, as it is written. [`unescape`](crate::unescape) gives its
+    /// bytes.
     String(&'a [u8]),
     Sign(Sign),
     /// From `#` through the end of the line. Text format alone has such comments.

@@ -21,11 +21,19 @@ pub record State : Type 0 where
   pub front : Front
 
 abbrev pub start : Text → List ℕ → State
-start source line_feeds = record { source = source; line_feeds = line_feeds; locations = []; gap_start = 0; front = fronts.Nothing }
+start source line_feeds = record {
+  source = source;
+  line_feeds = line_feeds;
+  locations = [];
+  gap_start = 0;
+  front =
+      fronts.Nothing;
+}
 
 -- ---- comments
 
--- Behind an opening brace and behind a semicolon, also one of an empty statement, comments can trail.
+-- Behind an opening brace and behind a semicolon, also one of an empty statement, comments can
+-- trail.
 abbrev pub may_trail : Front → Bool
 may_trail fronts.Nothing = false
 may_trail fronts.Empty = true
@@ -33,7 +41,8 @@ may_trail (fronts.Statement k) = true
 
 -- the comments of the gap that ends here
 abbrev pub notes_before : State → ℕ → Behind → Notes
-notes_before s end behind = comments_in (between s.source s.gap_start end) (may_trail s.front) behind
+notes_before s end behind = comments_in (between s.source s.gap_start end)
+    (may_trail s.front) behind
 
 -- the locations, where the one at this place has this trailing comment
 abbrev pub trailed_at : ℕ → Option Text → List LocationContent → List LocationContent
@@ -41,7 +50,8 @@ trailed_at k t [] = []
 trailed_at zero t (l ∷ ls) = record l { trailing_comments = t } ∷ ls
 trailed_at (suc k) t (l ∷ ls) = l ∷ trailed_at k t ls
 
--- The trailing comment is that of the statement in front. An empty statement has no location, and its comments are dropped.
+-- The trailing comment is that of the statement in front. An empty statement has no location, and
+-- its comments are dropped.
 abbrev pub trailed : Front → Option Text → List LocationContent → List LocationContent
 trailed fronts.Nothing t ls = ls
 trailed fronts.Empty t ls = ls
@@ -70,13 +80,18 @@ with_statement s l end = record s {
 
 abbrev pub meet : State → Event → State
 -- A part has no comments.
-meet s (part path tail span) = record s { locations = s.locations ++ location s.line_feeds path tail span ∷ [] }
+meet s (part path tail span) =
+    record s { locations = s.locations ++ location s.line_feeds path tail span ∷ [] }
 -- The comments of the gap before a statement are its own or those of what stands in front.
 meet s (statement path tail span end) =
-    with_statement (behind_gap s span.start behinds.Statement) (led_by (notes_before s span.start behinds.Statement) (location s.line_feeds path tail span)) end
+    with_statement (behind_gap s span.start behinds.Statement)
+    (led_by (notes_before s span.start behinds.Statement)
+    (location s.line_feeds path tail span)) end
 -- Before a closing brace comments belong to what stands in front, or to nothing.
-meet s (closing braces) = record (behind_gap s (braces.end - 1) behinds.Brace) { gap_start = braces.end }
-meet s (empty span) = record (behind_gap s span.start behinds.Statement) { gap_start = span.end; front = fronts.Empty }
+meet s (closing braces) = record (behind_gap s (braces.end - 1) behinds.Brace)
+    { gap_start = braces.end }
+meet s (empty span) = record (behind_gap s span.start behinds.Statement)
+    { gap_start = span.end; front = fronts.Empty }
 
 abbrev pub meets : State → List Event → State
 meets s es = fold meet s es

@@ -49,7 +49,8 @@ part_if path tail (Some span) = part path tail span ∷ []
 -- An option stands in the list of those that are not interpreted yet, and where all options stand.
 abbrev pub option_events : Path → ℤ → Count → OptionStatement → List Event
 option_events path options count o =
-    statement path (options ∷ UNINTERPRETED_OPTION ∷ count.entries ∷ []) o.span o.span.end ∷ (part path (options ∷ []) o.span ∷ [])
+    statement path (options ∷ UNINTERPRETED_OPTION ∷ count.entries ∷ []) o.span o.span.end
+    ∷ (part path (options ∷ []) o.span ∷ [])
 
 abbrev pub across_bodies : Option Body → Option Body → Span → Span
 across_bodies (Some first) (Some last) span = across (body_span first) (body_span last)
@@ -57,10 +58,12 @@ across_bodies first last span = span
 
 -- from the first name in brackets to the last value
 abbrev pub inner_span : OptionList → Span
-inner_span list = across_bodies (slice_get list.options 0) (slice_get list.options (length list.options - 1)) list.span
+inner_span list = across_bodies (slice_get list.options 0)
+    (slice_get list.options (length list.options - 1)) list.span
 
 abbrev pub body_events : Path → ℤ → Count → Body → List Event
-body_events path options count body = part path (options ∷ UNINTERPRETED_OPTION ∷ count.entries ∷ []) (body_span body) ∷ []
+body_events path options count body =
+    part path (options ∷ UNINTERPRETED_OPTION ∷ count.entries ∷ []) (body_span body) ∷ []
 
 abbrev pub after_body : Count → Body → Count
 after_body count body = more count
@@ -68,13 +71,16 @@ after_body count body = more count
 abbrev pub list_events : Path → ℤ → Option OptionList → List Event
 list_events path options None = []
 list_events path options (Some list) =
-    part path (options ∷ []) (inner_span list) ∷ each (body_events path options) after_body none list.options
+    part path (options ∷ []) (inner_span list)
+    ∷ each (body_events path options) after_body none list.options
 
 -- Of a field's options two are fields of its record.
 abbrev pub field_option_events : Path → Count → Body → List Event
 field_option_events path count body =
-    if has_name (codes "default") body.name then part path (fields.DEFAULT_VALUE ∷ []) (value_span body.value) ∷ []
-    else if has_name (codes "json_name") body.name then part path (fields.JSON_NAME ∷ []) (value_span body.value) ∷ []
+    if has_name (codes "default") body.name
+    then part path (fields.DEFAULT_VALUE ∷ []) (value_span body.value) ∷ []
+    else if has_name (codes "json_name") body.name
+    then part path (fields.JSON_NAME ∷ []) (value_span body.value) ∷ []
     else body_events path fields.OPTIONS count body
 
 abbrev pub after_field_option : Count → Body → Count
@@ -86,13 +92,15 @@ after_field_option count body =
 abbrev pub field_list_events : Path → Option OptionList → List Event
 field_list_events path None = []
 field_list_events path (Some list) =
-    part path (fields.OPTIONS ∷ []) (inner_span list) ∷ each (field_option_events path) after_field_option none list.options
+    part path (fields.OPTIONS ∷ []) (inner_span list)
+    ∷ each (field_option_events path) after_field_option none list.options
 
 -- ---- ranges and names
 
 abbrev pub range_events : Path → ReservedRange → List Event
 range_events path r =
-    part path [] (range_span r) ∷ (part path (ranges.START ∷ []) r.start.span ∷ (part path (ranges.END ∷ []) (end_span r.start r.end) ∷ []))
+    part path [] (range_span r) ∷ (part path (ranges.START ∷ []) r.start.span
+    ∷ (part path (ranges.END ∷ []) (end_span r.start r.end) ∷ []))
 
 abbrev pub entry_events : Path → ℤ → Count → ReservedRange → List Event
 entry_events path tag count r = range_events (entry path tag count) r
@@ -109,32 +117,44 @@ after_name count name = more count
 -- A statement that lists ranges or names stands at the path of the list.
 abbrev pub reserved_items_events : Path → ReservedLists → Span → ReservedItems → List Event
 reserved_items_events path lists span (reserved_ranges rs) =
-    statement path (lists.ranges_tag ∷ []) span span.end ∷ each (entry_events path lists.ranges_tag) after_entry lists.ranges rs
+    statement path (lists.ranges_tag ∷ []) span span.end
+    ∷ each (entry_events path lists.ranges_tag) after_entry lists.ranges rs
 reserved_items_events path lists span (reserved_names ns) =
-    statement path (lists.names_tag ∷ []) span span.end ∷ each (name_events path lists.names_tag) after_name lists.names ns
+    statement path (lists.names_tag ∷ []) span span.end
+    ∷ each (name_events path lists.names_tag) after_name lists.names ns
 
 abbrev pub reserved_events : Path → ReservedLists → Reserved → List Event
 reserved_events path lists r = reserved_items_events path lists r.span r.items
 
 abbrev pub after_reserved_items : ReservedLists → ReservedItems → ReservedLists
-after_reserved_items lists (reserved_ranges rs) = record lists { ranges = fold after_entry lists.ranges rs }
-after_reserved_items lists (reserved_names ns) = record lists { names = fold after_name lists.names ns }
+after_reserved_items lists (reserved_ranges rs) =
+    record lists { ranges = fold after_entry lists.ranges rs }
+after_reserved_items lists (reserved_names ns) =
+    record lists { names = fold after_name lists.names ns }
 
 abbrev pub after_reserved : ReservedLists → Reserved → ReservedLists
 after_reserved lists r = after_reserved_items lists r.items
 
 -- without entries so far
 abbrev pub no_lists : ℤ → ℤ → ReservedLists
-no_lists ranges_tag names_tag = record { ranges_tag = ranges_tag; names_tag = names_tag; ranges = none; names = none }
+no_lists ranges_tag names_tag =
+    record { ranges_tag = ranges_tag; names_tag = names_tag; ranges = none; names = none }
 
 -- ---- enums
 
 abbrev pub no_values : EnumCounts
-no_values = record { values = none; options = none; lists = no_lists enums.RESERVED_RANGE enums.RESERVED_NAME }
+no_values = record {
+  values = none;
+  options = none;
+  lists =
+      no_lists enums.RESERVED_RANGE enums.RESERVED_NAME;
+}
 
 abbrev pub value_events : Path → EnumValue → List Event
 value_events path v =
-    statement path [] v.span v.span.end ∷ (part path (enum_values.NAME ∷ []) v.name.span ∷ (part path (enum_values.NUMBER ∷ []) v.number.span
+    statement path [] v.span v.span.end
+    ∷ (part path (enum_values.NAME ∷ []) v.name.span
+    ∷ (part path (enum_values.NUMBER ∷ []) v.number.span
     ∷ list_events path enum_values.OPTIONS v.options))
 
 abbrev pub enum_item_events : Path → EnumCounts → EnumItem → List Event
@@ -159,7 +179,8 @@ enum_events path e =
 -- ---- services
 
 abbrev pub method_type_events : Path → ℤ → ℤ → MethodType → List Event
-method_type_events path name_tag stream_tag t = part_if path (stream_tag ∷ []) t.stream ++ part path (name_tag ∷ []) (type_name_span t.name) ∷ []
+method_type_events path name_tag stream_tag t = part_if path (stream_tag ∷ []) t.stream
+    ++ part path (name_tag ∷ []) (type_name_span t.name) ∷ []
 
 abbrev pub method_item_events : Path → Count → MethodItem → List Event
 method_item_events path options (method_option o) = option_events path methods.OPTIONS options o
@@ -176,18 +197,22 @@ end_in span (Some b) = inside b.braces
 
 abbrev pub method_body_events : Path → Option MethodBody → List Event
 method_body_events path None = []
-method_body_events path (Some b) = each (method_item_events path) after_method_item none b.items ++ closing b.braces ∷ []
+method_body_events path (Some b) = each (method_item_events path) after_method_item none b.items
+    ++ closing b.braces ∷ []
 
 abbrev pub method_events : Path → Method → List Event
 method_events path m =
-    (statement path [] m.span (end_in m.span m.body) ∷ (part path (methods.NAME ∷ []) m.name.span ∷ []))
+    (statement path [] m.span (end_in m.span m.body)
+    ∷ (part path (methods.NAME ∷ []) m.name.span ∷ []))
     ++ method_type_events path methods.INPUT_TYPE methods.CLIENT_STREAMING m.input
     ++ method_type_events path methods.OUTPUT_TYPE methods.SERVER_STREAMING m.output
     ++ method_body_events path m.body
 
 abbrev pub service_item_events : Path → ServiceCounts → ServiceItem → List Event
-service_item_events path counts (service_method m) = method_events (entry path services.METHOD counts.methods) m
-service_item_events path counts (service_option o) = option_events path services.OPTIONS counts.options o
+service_item_events path counts (service_method m) =
+    method_events (entry path services.METHOD counts.methods) m
+service_item_events path counts (service_option o) =
+    option_events path services.OPTIONS counts.options o
 service_item_events path counts (service_empty span) = empty span ∷ []
 
 abbrev pub after_service_item : ServiceCounts → ServiceItem → ServiceCounts

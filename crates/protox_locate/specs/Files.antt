@@ -42,15 +42,19 @@ own_extensions c = record { fields = c.extensions; types = c.message_types }
 
 abbrev pub kind_events : FileCounts → Option (ImportKind × Span) → List Event
 kind_events c None = []
-kind_events c (Some (kinds.Public, word)) = part [] (files.PUBLIC_DEPENDENCY ∷ c.public_dependencies.entries ∷ []) word ∷ []
-kind_events c (Some (kinds.Weak, word)) = part [] (files.WEAK_DEPENDENCY ∷ c.weak_dependencies.entries ∷ []) word ∷ []
+kind_events c (Some (kinds.Public, word)) =
+    part [] (files.PUBLIC_DEPENDENCY ∷ c.public_dependencies.entries ∷ []) word ∷ []
+kind_events c (Some (kinds.Weak, word)) =
+    part [] (files.WEAK_DEPENDENCY ∷ c.weak_dependencies.entries ∷ []) word ∷ []
 
 abbrev pub import_events : FileCounts → Import → List Event
-import_events c i = statement [] (files.DEPENDENCY ∷ c.dependencies.entries ∷ []) i.span i.span.end ∷ kind_events c i.kind
+import_events c i = statement [] (files.DEPENDENCY ∷ c.dependencies.entries ∷ []) i.span i.span.end
+    ∷ kind_events c i.kind
 
 abbrev pub after_kind : FileCounts → Option (ImportKind × Span) → FileCounts
 after_kind c None = c
-after_kind c (Some (kinds.Public, word)) = record c { public_dependencies = more c.public_dependencies }
+after_kind c (Some (kinds.Public, word)) =
+    record c { public_dependencies = more c.public_dependencies }
 after_kind c (Some (kinds.Weak, word)) = record c { weak_dependencies = more c.weak_dependencies }
 
 abbrev pub after_import : FileCounts → Import → FileCounts
@@ -87,7 +91,8 @@ syntax_events (Some s) = statement [] (files.SYNTAX ∷ []) s.span s.span.end �
 
 -- The whole file, its `syntax`, and each of its statements.
 abbrev pub file_events : File → List Event
-file_events f = part [] [] f.span ∷ [] ++ syntax_events f.syntax ++ each item_events after_item no_counts f.items
+file_events f = part [] [] f.span ∷ [] ++ syntax_events f.syntax
+    ++ each item_events after_item no_counts f.items
 
 -- ---- the order of locations
 
@@ -102,4 +107,5 @@ pub record AreByPath (found sorted : List LocationContent) : Type 0 where
 
 -- These are the locations of a file that has this tree, in a source with these line feeds.
 abbrev pub AreLocations : Text → List ℕ → File → List LocationContent → Type 0
-AreLocations source line_feeds tree sorted = AreByPath (located source line_feeds (file_events tree)) sorted
+AreLocations source line_feeds tree sorted =
+    AreByPath (located source line_feeds (file_events tree)) sorted

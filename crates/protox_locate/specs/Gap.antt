@@ -62,7 +62,8 @@ size_of marks.Other z = 1
 unfoldable pub pieces_behind : ℕ → Text → List Piece
 pieces_behind left [] = []
 pieces_behind (suc left) (b ∷ z) = pieces_behind left z
-pieces_behind zero (b ∷ z) = piece_of (mark_of (b ∷ z)) (b ∷ z) ∷ pieces_behind (size_of (mark_of (b ∷ z)) (b ∷ z) - 1) z
+pieces_behind zero (b ∷ z) = piece_of (mark_of (b ∷ z)) (b ∷ z)
+    ∷ pieces_behind (size_of (mark_of (b ∷ z)) (b ∷ z) - 1) z
 
 abbrev pub pieces : Text → List Piece
 pieces z = pieces_behind 0 z
@@ -91,8 +92,9 @@ without_margins z = without_margins_of (slice_split is_feed z)
 
 -- ---- blocks
 
--- What was read of a gap: its blocks, the line ends since the last comment or the start (that of a line comment counts), the line ends
--- before the first block, and whether a blank line follows this one.
+-- What was read of a gap: its blocks, the line ends since the last comment or the start (that of a
+-- line comment counts), the line ends before the first block, and whether a blank line follows this
+-- one.
 pub record Read : Type 0 where
   pub notes : Blocks
   pub since : LineEnds
@@ -115,9 +117,14 @@ is_empty (t ∷ ts) = false
 abbrev pub met : Read → LineEnds
 met r = if is_empty r.notes.texts then r.since else r.before_first
 
--- A line comment joins the line comment in front of it where no blank line lies between, else it is a block by itself.
+-- A line comment joins the line comment in front of it where no blank line lies between, else it is
+-- a block by itself.
 abbrev pub with_line : Blocks → Text → Blocks
-with_line b t = record { texts = if b.is_open then lengthened b.texts t else b.texts ++ t ∷ []; is_open = true; is_parted = false }
+with_line b t = record {
+  texts = if b.is_open then lengthened b.texts t else b.texts ++ t ∷ [];
+  is_open = true;
+  is_parted = false;
+}
 
 -- a blank line ends the last block and parts it from what follows
 abbrev pub parted : Blocks → Blocks
@@ -159,7 +166,8 @@ read_all r ps = fold read r ps
 
 -- ---- what the blocks belong to
 
--- The comment of the statement in front, those that stand apart, and the comment of the statement behind.
+-- The comment of the statement in front, those that stand apart, and the comment of the statement
+-- behind.
 pub record Notes : Type 0 where
   pub trailing : Option Text
   pub detached : List Text
@@ -170,15 +178,16 @@ is_brace behinds.Statement = false
 is_brace behinds.Brace = true
 is_brace behinds.End = false
 
--- The first block belongs to the statement in front where it begins on that one's last line, or on the next line with a blank line or
--- the closing brace behind it.
+-- The first block belongs to the statement in front where it begins on that one's last line, or on
+-- the next line with a blank line or the closing brace behind it.
 abbrev pub trails_after : LineEnds → Bool → Bool
 trails_after line_ends.None parted = true
 trails_after line_ends.One parted = parted
 trails_after line_ends.More parted = false
 
 abbrev pub trails : Behind → Read → Bool
-trails behind r = trails_after r.before_first (r.is_first_parted || (length r.notes.texts == 1 && is_brace behind))
+trails behind r = trails_after r.before_first
+    (r.is_first_parted || (length r.notes.texts == 1 && is_brace behind))
 
 -- The last block belongs to the statement behind, unless a blank line parts them.
 abbrev pub leading_of : Bool → List Text → Option Text
@@ -190,14 +199,20 @@ detached_of true ts = ts
 detached_of false ts = take (length ts - 1) ts
 
 abbrev pub notes_behind : Option Text → Bool → List Text → Notes
-notes_behind first is_parted ts = record { trailing = first; detached = detached_of is_parted ts; leading = leading_of is_parted ts }
+notes_behind first is_parted ts =
+    record {
+      trailing = first;
+      detached = detached_of is_parted ts;
+      leading =
+          leading_of is_parted ts;
+    }
 
 abbrev pub notes_of : Bool → Blocks → Notes
 notes_of false b = notes_behind None b.is_parted b.texts
 notes_of true b = notes_behind (slice_get b.texts 0) b.is_parted (drop 1 b.texts)
 
--- The comments of the gap that these bytes are. The first block can belong to what stands in front where this is the semicolon or the
--- opening brace of a statement.
+-- The comments of the gap that these bytes are. The first block can belong to what stands in front
+-- where this is the semicolon or the opening brace of a statement.
 abbrev pub comments_in : Text → Bool → Behind → Notes
 comments_in z may_trail behind =
     let r = read_all unread (pieces z) in
@@ -206,7 +221,17 @@ comments_in z may_trail behind =
 -- ---- what the code shows
 
 abbrev pub read_view : Reader → Read
-read_view r = record { notes = blocks r.comments; since = r.line_ends; before_first = r.first_line; is_first_parted = r.is_first_parted }
+read_view r = record {
+  notes = blocks r.comments;
+  since = r.line_ends;
+  before_first = r.first_line;
+  is_first_parted = r.is_first_parted;
+}
 
 abbrev pub notes_view : GapComments → Notes
-notes_view g = record { trailing = text_view g.trailing; detached = texts_view g.detached; leading = text_view g.leading }
+notes_view g = record {
+  trailing = text_view g.trailing;
+  detached = texts_view g.detached;
+  leading =
+      text_view g.leading;
+}

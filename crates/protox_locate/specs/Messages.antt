@@ -26,14 +26,16 @@ use Rattle.protox_tree.specs.declared.range.ReservedRange.{ReservedRange}
 -- The options of the statement are those of each of its ranges.
 abbrev pub extension_events : Path → Option OptionList → Count → ReservedRange → List Event
 extension_events path options count r =
-    range_events (entry path messages.EXTENSION_RANGE count) r ++ list_events (entry path messages.EXTENSION_RANGE count) extension_ranges.OPTIONS options
+    range_events (entry path messages.EXTENSION_RANGE count) r
+    ++ list_events (entry path messages.EXTENSION_RANGE count) extension_ranges.OPTIONS options
 
 abbrev pub after_range : Count → ReservedRange → Count
 after_range count r = more count
 
 abbrev pub extensions_events : Path → Count → Extensions → List Event
 extensions_events path count e =
-    statement path (messages.EXTENSION_RANGE ∷ []) e.span e.span.end ∷ each (extension_events path e.options) after_range count e.ranges
+    statement path (messages.EXTENSION_RANGE ∷ []) e.span e.span.end
+    ∷ each (extension_events path e.options) after_range count e.ranges
 
 -- ---- fields
 
@@ -48,7 +50,8 @@ ty_events path (named t) = part path (fields.TYPE_NAME ∷ []) (type_name_span t
 -- A group has both.
 abbrev pub type_events : Path → Span → Kind → List Event
 type_events path name (normal t) = ty_events path t
-type_events path name (group (a_group word braces items)) = part path (fields.TYPE ∷ []) word ∷ (part path (fields.TYPE_NAME ∷ []) name ∷ [])
+type_events path name (group (a_group word braces items)) = part path (fields.TYPE ∷ []) word
+    ∷ (part path (fields.TYPE_NAME ∷ []) name ∷ [])
 type_events path name (map_kind m) = part path (fields.TYPE_NAME ∷ []) m.span ∷ []
 
 -- the parts of a field, or of an extension of this type
@@ -68,7 +71,8 @@ after_type types (group g) = more types
 after_type types (map_kind m) = more types
 
 abbrev pub after_field : FieldCounts → Field → FieldCounts
-after_field counts (field label kind name number options span) = record { fields = more counts.fields; types = after_type counts.types kind }
+after_field counts (field label kind name number options span) =
+    record { fields = more counts.fields; types = after_type counts.types kind }
 
 -- ---- lists of a message
 
@@ -133,11 +137,13 @@ after_oneof c (oneof name braces members span) = (after_members (in_oneof c) mem
 
 abbrev pub after_item : MessageCounts → Item → MessageCounts
 after_item c (item_field f) = with_fields c (after_field (own_fields c) f)
-after_item c (item_oneof o) = record (with_fields c (after_oneof (own_fields c) o)) { oneofs = more c.oneofs }
+after_item c (item_oneof o) = record (with_fields c (after_oneof (own_fields c) o))
+    { oneofs = more c.oneofs }
 after_item c (item_message m) = record c { nested_types = more c.nested_types }
 after_item c (item_enum e) = record c { enum_types = more c.enum_types }
 after_item c (item_extend e) = with_extensions c (after_extend (own_extensions c) e)
-after_item c (item_extensions e) = record c { extension_ranges = fold after_range c.extension_ranges e.ranges }
+after_item c (item_extensions e) =
+    record c { extension_ranges = fold after_range c.extension_ranges e.ranges }
 after_item c (item_reserved r) = record c { reserved = after_reserved c.reserved r }
 after_item c (item_option o) = record c { options = more c.options }
 after_item c (item_empty span) = c
@@ -154,12 +160,15 @@ abbrev mutual
 
   pub items_events : Path → MessageCounts → Items → List Event
   items_events path c no_items = []
-  items_events path c (more_items i is) = item_events path c i ++ items_events path (after_item c i) is
+  items_events path c (more_items i is) = item_events path c i
+      ++ items_events path (after_item c i) is
 
   pub item_events : Path → MessageCounts → Item → List Event
   item_events path c (item_field f) = field_events path own_tags (own_fields c) None f
-  item_events path c (item_oneof o) = oneof_events path (entry path messages.ONEOF_DECL c.oneofs) (own_fields c) o
-  item_events path c (item_message m) = message_events (entry path messages.NESTED_TYPE c.nested_types) m
+  item_events path c (item_oneof o) =
+      oneof_events path (entry path messages.ONEOF_DECL c.oneofs) (own_fields c) o
+  item_events path c (item_message m) =
+      message_events (entry path messages.NESTED_TYPE c.nested_types) m
   item_events path c (item_enum e) = enum_events (entry path messages.ENUM_TYPE c.enum_types) e
   item_events path c (item_extend e) = extend_events path extension_tags (own_extensions c) e
   item_events path c (item_extensions e) = extensions_events path c.extension_ranges e
@@ -167,17 +176,21 @@ abbrev mutual
   item_events path c (item_option o) = option_events path messages.OPTIONS c.options o
   item_events path c (item_empty span) = empty span ∷ []
 
-  -- A field in the record at a path, or an extension of this type. A group stands at its field and at its type, where its comments are.
+  -- A field in the record at a path, or an extension of this type. A group stands at its field and
+  -- at its type, where its comments are.
   pub field_events : Path → FieldTags → FieldCounts → Option Span → Field → List Event
   field_events path tags c extendee (field label (normal t) name number options span) =
       statement (entry path tags.field c.fields) [] span span.end
-      ∷ field_parts_events (entry path tags.field c.fields) extendee (field label (normal t) name number options span)
+      ∷ field_parts_events (entry path tags.field c.fields) extendee
+      (field label (normal t) name number options span)
   field_events path tags c extendee (field label (map_kind m) name number options span) =
       statement (entry path tags.field c.fields) [] span span.end
-      ∷ field_parts_events (entry path tags.field c.fields) extendee (field label (map_kind m) name number options span)
+      ∷ field_parts_events (entry path tags.field c.fields) extendee
+      (field label (map_kind m) name number options span)
   field_events path tags c extendee (field label (group g) name number options span) =
       (part (entry path tags.field c.fields) [] span
-      ∷ field_parts_events (entry path tags.field c.fields) extendee (field label (group g) name number options span))
+      ∷ field_parts_events (entry path tags.field c.fields) extendee
+      (field label (group g) name number options span))
       ++ group_events (entry path tags.nested_type c.types) span name.span g
 
   pub group_events : Path → Span → Span → Group → List Event
@@ -195,7 +208,8 @@ abbrev mutual
 
   pub members_events : Path → Path → OneofCounts → Members → List Event
   members_events path at c no_members = []
-  members_events path at c (more_members i is) = member_events path at c i ++ members_events path at (after_member c i) is
+  members_events path at c (more_members i is) = member_events path at c i
+      ++ members_events path at (after_member c i) is
 
   pub member_events : Path → Path → OneofCounts → Member → List Event
   member_events path at c (member_field f) = field_events path own_tags c.fields None f
@@ -211,8 +225,10 @@ abbrev mutual
 
   pub added_events : Path → FieldTags → FieldCounts → Span → Added → List Event
   added_events path tags c extendee none_added = []
-  added_events path tags c extendee (more_added i is) = added_item_events path tags c extendee i ++ added_events path tags (after_added_item c i) extendee is
+  added_events path tags c extendee (more_added i is) = added_item_events path tags c extendee i
+      ++ added_events path tags (after_added_item c i) extendee is
 
   pub added_item_events : Path → FieldTags → FieldCounts → Span → AddedItem → List Event
-  added_item_events path tags c extendee (added_field f) = field_events path tags c (Some extendee) f
+  added_item_events path tags c extendee (added_field f) =
+      field_events path tags c (Some extendee) f
   added_item_events path tags c extendee (added_empty span) = empty span ∷ []

@@ -41,7 +41,8 @@ pub fn enumeration(
     path: &[i32],
     statement: &Enum,
 ) -> Result<(), AllocError>
-    ensures { OnOk result (state locator.new ≡ meets (state locator.old) (spec.enum_events path.now (enum_view statement.now))) }
+    ensures { OnOk result (state locator.new
+        ≡ meets (state locator.old) (spec.enum_events path.now (enum_view statement.now))) }
 {
     locator.enter(path, &[], statement.span, statement.braces)?;
     locator.add(path, &[tag::enumeration::NAME], statement.name.span)?;
@@ -59,8 +60,11 @@ fn enum_item(
     counts: &mut EnumCounts,
     item: &EnumItem,
 ) -> Result<(), AllocError>
-    ensures located { OnOk result (state locator.new ≡ meets (state locator.old) (spec.enum_item_events path.now counts.old (enum_item_view item.now))) }
-    ensures counted { OnOk result (counts.new ≡ spec.after_enum_item counts.old (enum_item_view item.now)) }
+    ensures located { OnOk result (state locator.new
+        ≡ meets (state locator.old) (spec.enum_item_events path.now counts.old
+        (enum_item_view item.now))) }
+    ensures counted { OnOk result (counts.new
+        ≡ spec.after_enum_item counts.old (enum_item_view item.now)) }
 {
     match item {
         EnumItem::Value(one) => {
@@ -86,7 +90,8 @@ fn enum_item(
 }
 
 fn value(locator: &mut Locator<'_>, path: &[i32], value: &EnumValue) -> Result<(), AllocError>
-    ensures { OnOk result (state locator.new ≡ meets (state locator.old) (spec.value_events path.now (enum_value_view value.now))) }
+    ensures { OnOk result (state locator.new
+        ≡ meets (state locator.old) (spec.value_events path.now (enum_value_view value.now))) }
 {
     locator.statement(path, &[], value.span)?;
     locator.add(path, &[tag::enum_value::NAME], value.name.span)?;

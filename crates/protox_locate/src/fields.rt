@@ -21,21 +21,26 @@ pub fn field_statement(
     extendee: Option<Span>,
     field: &Field,
 ) -> Result<(), AllocError>
-    ensures { OnOk result (state locator.new ≡ meets (state locator.old) (statement path.now [] field.now.span field.now.span.end ∷ spec.field_parts_events path.now extendee (field_view field.now))) }
+    ensures { OnOk result (state locator.new
+        ≡ meets (state locator.old) (statement path.now [] field.now.span field.now.span.end
+        ∷ spec.field_parts_events path.now extendee (field_view field.now))) }
 {
     locator.statement(path, &[], field.span)?;
     field_parts(locator, path, extendee, field)?;
     Ok(())
 }
 
-/// The locations of a group as a field, and of what stands in front of its body. Its comments are those of its type.
+/// The locations of a group as a field, and of what stands in front of its body. Its comments are
+/// those of its type.
 pub fn group_field(
     locator: &mut Locator<'_>,
     path: &[i32],
     extendee: Option<Span>,
     field: &Field,
 ) -> Result<(), AllocError>
-    ensures { OnOk result (state locator.new ≡ meets (state locator.old) (part path.now [] field.now.span ∷ spec.field_parts_events path.now extendee (field_view field.now))) }
+    ensures { OnOk result (state locator.new
+        ≡ meets (state locator.old) (part path.now [] field.now.span
+        ∷ spec.field_parts_events path.now extendee (field_view field.now))) }
 {
     locator.add(path, &[], field.span)?;
     field_parts(locator, path, extendee, field)?;
@@ -51,7 +56,9 @@ fn field_parts(
     extendee: Option<Span>,
     field: &Field,
 ) -> Result<(), AllocError>
-    ensures { OnOk result (state locator.new ≡ meets (state locator.old) (spec.field_parts_events path.now extendee (field_view field.now))) }
+    ensures { OnOk result (state locator.new
+        ≡ meets (state locator.old) (spec.field_parts_events path.now extendee
+        (field_view field.now))) }
 {
     locator.add(path, &[tag::field::NAME], field.name.span)?;
     locator.add_some(path, &[tag::field::EXTENDEE], extendee)?;
@@ -78,7 +85,8 @@ fn field_type(
     name: Span,
     kind: &FieldKind,
 ) -> Result<(), AllocError>
-    ensures { OnOk result (state locator.new ≡ meets (state locator.old) (spec.type_events path.now name (kind_view kind.now))) }
+    ensures { OnOk result (state locator.new
+        ≡ meets (state locator.old) (spec.type_events path.now name (kind_view kind.now))) }
 {
     match kind {
         FieldKind::Normal(ty) => {
@@ -99,7 +107,8 @@ fn field_type(
 
 /// A type has its number where it is written as a word, and else its name.
 fn written_type(locator: &mut Locator<'_>, path: &[i32], ty: &Ty) -> Result<(), AllocError>
-    ensures { OnOk result (state locator.new ≡ meets (state locator.old) (spec.ty_events path.now (ty_view ty.now))) }
+    ensures { OnOk result (state locator.new
+        ≡ meets (state locator.old) (spec.ty_events path.now (ty_view ty.now))) }
 {
     match ty {
         Ty::Scalar(_, span) => {

@@ -48,19 +48,20 @@ impl FileCounts {
     }
 }
 
-/// Where the parts of a file stand in its source, whose lines are these, with the comments of its statements; by path, those
-/// of one path in source order. Refused only for want of memory.
+/// Where the parts of a file stand in its source, whose lines are these, with the comments of its
+/// statements; by path, those of one path in source order. Refused only for want of memory.
 ///
-/// A statement stands at the path of what it declares; a comment belongs to the statement behind it, or to the one in front
-/// where it begins on that one's last line, or on the next line and is parted from what follows. A group's comments are at its
-/// type.
+/// A statement stands at the path of what it declares; a comment belongs to the statement behind
+/// it, or to the one in front where it begins on that one's last line, or on the next line and is
+/// parted from what follows. A group's comments are at its type.
 pub fn source_info(
     alloc: Global,
     source: &str,
     lines: &LineResolver,
     file: &File,
 ) -> Result<SourceCodeInfo, AllocError>
-    ensures { IfOk result (λ info. spec.AreLocations source.now (feeds lines.now) (file_view file.now) (source_info_view info)) }
+    ensures { IfOk result (λ info. spec.AreLocations source.now (feeds lines.now)
+        (file_view file.now) (source_info_view info)) }
 {
     let mut locator = Locator::new(alloc, source, lines);
     statements(&mut locator, file)?;
@@ -69,7 +70,8 @@ pub fn source_info(
 }
 
 fn statements(locator: &mut Locator<'_>, file: &File) -> Result<(), AllocError>
-    ensures { OnOk result (state locator.new ≡ meets (state locator.old) (spec.file_events (file_view file.now))) }
+    ensures { OnOk result (state locator.new
+        ≡ meets (state locator.old) (spec.file_events (file_view file.now))) }
 {
     locator.add(&[], &[], file.span)?;
     syntax(locator, &file.syntax)?;
@@ -81,7 +83,8 @@ fn statements(locator: &mut Locator<'_>, file: &File) -> Result<(), AllocError>
 }
 
 fn syntax(locator: &mut Locator<'_>, statement: &Option<SyntaxStatement>) -> Result<(), AllocError>
-    ensures { OnOk result (state locator.new ≡ meets (state locator.old) (spec.syntax_events (option_map syntax_view statement.now))) }
+    ensures { OnOk result (state locator.new
+        ≡ meets (state locator.old) (spec.syntax_events (option_map syntax_view statement.now))) }
 {
     match statement {
         Some(syntax) => {
@@ -97,8 +100,10 @@ fn file_item(
     counts: &mut FileCounts,
     item: &FileItem,
 ) -> Result<(), AllocError>
-    ensures located { OnOk result (state locator.new ≡ meets (state locator.old) (spec.item_events counts.old (file_item_view item.now))) }
-    ensures counted { OnOk result (counts.new ≡ spec.after_item counts.old (file_item_view item.now)) }
+    ensures located { OnOk result (state locator.new
+        ≡ meets (state locator.old) (spec.item_events counts.old (file_item_view item.now))) }
+    ensures counted { OnOk result (counts.new
+        ≡ spec.after_item counts.old (file_item_view item.now)) }
 {
     match item {
         FileItem::Import(statement) => {
@@ -145,8 +150,12 @@ fn file_extend(
     counts: &mut FileCounts,
     statement: &Extend,
 ) -> Result<(), AllocError>
-    ensures located { OnOk result (state locator.new ≡ meets (state locator.old) (extend_events [] spec.extension_tags (spec.own_extensions counts.old) (extend_view statement.now))) }
-    ensures counted { OnOk result (counts.new ≡ spec.with_extensions counts.old (after_extend (spec.own_extensions counts.old) (extend_view statement.now))) }
+    ensures located { OnOk result (state locator.new
+        ≡ meets (state locator.old) (extend_events [] spec.extension_tags
+        (spec.own_extensions counts.old) (extend_view statement.now))) }
+    ensures counted { OnOk result (counts.new
+        ≡ spec.with_extensions counts.old
+        (after_extend (spec.own_extensions counts.old) (extend_view statement.now))) }
 {
     let tags = FieldTags {
         field: tag::file::EXTENSION,
@@ -167,8 +176,10 @@ fn import(
     counts: &mut FileCounts,
     statement: &Import,
 ) -> Result<(), AllocError>
-    ensures located { OnOk result (state locator.new ≡ meets (state locator.old) (spec.import_events counts.old (import_view statement.now))) }
-    ensures counted { OnOk result (counts.new ≡ spec.after_import counts.old (import_view statement.now)) }
+    ensures located { OnOk result (state locator.new
+        ≡ meets (state locator.old) (spec.import_events counts.old (import_view statement.now))) }
+    ensures counted { OnOk result (counts.new
+        ≡ spec.after_import counts.old (import_view statement.now)) }
 {
     let tail = [tag::file::DEPENDENCY, counts.dependencies.next()];
     locator.statement(&[], &tail, statement.span)?;
@@ -181,7 +192,8 @@ fn import_kind(
     counts: &mut FileCounts,
     kind: Option<(ImportKind, Span)>,
 ) -> Result<(), AllocError>
-    ensures located { OnOk result (state locator.new ≡ meets (state locator.old) (spec.kind_events counts.old kind)) }
+    ensures located { OnOk result (state locator.new
+        ≡ meets (state locator.old) (spec.kind_events counts.old kind)) }
     ensures counted { OnOk result (counts.new ≡ spec.after_kind counts.old kind) }
 {
     match kind {

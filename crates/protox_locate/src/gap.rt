@@ -54,7 +54,8 @@ enum Mark {
 #[derive(Drop)]
 struct Reader {
     comments: Comments,
-    /// The line ends since the last comment or the start; the one that a line comment ends with counts.
+    /// The line ends since the last comment or the start; the one that a line comment ends with
+    /// counts.
     line_ends: LineEnds,
     /// The line ends in front of the first block.
     first_line: LineEnds,
@@ -91,7 +92,8 @@ impl Reader {
 
     /// Bytes that are no text are kept with a replacement character for what is none.
     fn line_comment(&mut self, alloc: Global, text: &[u8]) -> Result<(), AllocError>
-        ensures { OnOk result (gap.read_view self.new ≡ gap.read (gap.read_view self.old) (gap.line_comment text.now)) }
+        ensures { OnOk result (gap.read_view self.new
+            ≡ gap.read (gap.read_view self.old) (gap.line_comment text.now)) }
     {
         if let Ok(text) = str::from_utf8(text) {
             return self.line(text);
@@ -102,7 +104,8 @@ impl Reader {
 
     /// A line comment of this text.
     fn line(&mut self, text: &str) -> Result<(), AllocError>
-        ensures { OnOk result (gap.read_view self.new ≡ gap.with_line_comment (gap.read_view self.old) text.now) }
+        ensures { OnOk result (gap.read_view self.new
+            ≡ gap.with_line_comment (gap.read_view self.old) text.now) }
     {
         self.meet();
         self.comments.line_comment(text)?;
@@ -111,7 +114,8 @@ impl Reader {
     }
 
     fn block_comment(&mut self, alloc: Global, text: &[u8]) -> Result<(), AllocError>
-        ensures { OnOk result (gap.read_view self.new ≡ gap.read (gap.read_view self.old) (gap.block_comment text.now)) }
+        ensures { OnOk result (gap.read_view self.new
+            ≡ gap.read (gap.read_view self.old) (gap.block_comment text.now)) }
     {
         self.meet();
         let text = without_margins(alloc, text)?;
@@ -122,15 +126,16 @@ impl Reader {
 
     /// Notes the line of the first comment.
     fn meet(&mut self)
-        ensures { gap.read_view self.new ≡ record (gap.read_view self.old) { before_first = gap.met (gap.read_view self.old) } }
+        ensures { gap.read_view self.new
+            ≡ record (gap.read_view self.old) { before_first = gap.met (gap.read_view self.old) } }
     {
         if self.comments.count() == 0 {
             self.first_line = self.line_ends;
         }
     }
 
-    /// The first block belongs to the statement in front: it begins on that one's last line, or on the next line and is parted
-    /// from what follows.
+    /// The first block belongs to the statement in front: it begins on that one's last line, or on
+    /// the next line and is parted from what follows.
     fn is_first_trailing(&self, behind: Behind) -> bool
         ensures { result ≡ gap.trails behind (gap.read_view self.now) }
     {
@@ -242,7 +247,8 @@ fn read_piece(
 ) -> Result<usize, AllocError>
     requires { at < length bytes.now }
     ensures within { IfOk result (λ end. (at < end) × (end ≤ length bytes.now)) }
-    ensures reads { IfOk result (λ end. gap.read_all (gap.read_view reader.new) (gap.pieces (drop end bytes.now))
+    ensures reads { IfOk result (λ end. gap.read_all (gap.read_view reader.new)
+        (gap.pieces (drop end bytes.now))
         ≡ gap.read_all (gap.read_view reader.old) (gap.pieces (drop at bytes.now))) }
 {
     match first_mark(&bytes[at..]) {
@@ -264,14 +270,16 @@ fn read_piece(
     }
 }
 
-/// The comments of the gap that these bytes are. `may_trail` where it follows the semicolon or the opening brace of a statement.
+/// The comments of the gap that these bytes are. `may_trail` where it follows the semicolon or the
+/// opening brace of a statement.
 pub fn gap_comments(
     alloc: Global,
     bytes: &[u8],
     may_trail: bool,
     behind: Behind,
 ) -> Result<GapComments, AllocError>
-    ensures { IfOk result (λ made. gap.notes_view made ≡ gap.comments_in bytes.now may_trail behind) }
+    ensures { IfOk result (λ made. gap.notes_view made
+        ≡ gap.comments_in bytes.now may_trail behind) }
 {
     let mut reader = Reader::new(alloc);
     let mut at = 0;

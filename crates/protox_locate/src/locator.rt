@@ -62,7 +62,8 @@ impl<'a> Locator<'a> {
 
     /// The location of what `tail` leads to from the record at `path`, without comments.
     fn location(&self, path: &[i32], tail: &[i32], span: Span) -> Result<Location, AllocError>
-        ensures { IfOk result (λ made. location_view made ≡ located.location (feeds self.now.lines.now) path.now tail.now span) }
+        ensures { IfOk result (λ made. location_view made
+            ≡ located.location (feeds self.now.lines.now) path.now tail.now span) }
     {
         let span = Span {
             start: span.start.min(LAST_OFFSET),
@@ -77,9 +78,11 @@ impl<'a> Locator<'a> {
         })
     }
 
-    /// Adds the location of a part that has no comments: what `tail` leads to from the record at `path`.
+    /// Adds the location of a part that has no comments: what `tail` leads to from the record at
+    /// `path`.
     pub fn add(&mut self, path: &[i32], tail: &[i32], span: Span) -> Result<(), AllocError>
-        ensures { OnOk result (spec.state self.new ≡ spec.meet (spec.state self.old) (located.part path.now tail.now span)) }
+        ensures { OnOk result (spec.state self.new
+            ≡ spec.meet (spec.state self.old) (located.part path.now tail.now span)) }
     {
         let location = self.location(path, tail, span)?;
         self.locations.push(location)?;
@@ -93,7 +96,8 @@ impl<'a> Locator<'a> {
         tail: &[i32],
         span: Option<Span>,
     ) -> Result<(), AllocError>
-        ensures { OnOk result (spec.state self.new ≡ spec.meets (spec.state self.old) (part_if path.now tail.now span)) }
+        ensures { OnOk result (spec.state self.new
+            ≡ spec.meets (spec.state self.old) (part_if path.now tail.now span)) }
     {
         match span {
             Some(span) => self.add(path, tail, span),
@@ -101,7 +105,8 @@ impl<'a> Locator<'a> {
         }
     }
 
-    /// Adds the location of a statement whose semicolon or opening brace ends at `end`, with the comments in front of it.
+    /// Adds the location of a statement whose semicolon or opening brace ends at `end`, with the
+    /// comments in front of it.
     fn begin(
         &mut self,
         path: &[i32],
@@ -109,7 +114,8 @@ impl<'a> Locator<'a> {
         span: Span,
         end: usize,
     ) -> Result<(), AllocError>
-        ensures { OnOk result (spec.state self.new ≡ spec.meet (spec.state self.old) (located.statement path.now tail.now span end)) }
+        ensures { OnOk result (spec.state self.new
+            ≡ spec.meet (spec.state self.old) (located.statement path.now tail.now span end)) }
     {
         let (detached, leading) = self.read_gap(span.start, Behind::Statement)?;
         let mut location = self.location(path, tail, span)?;
@@ -124,7 +130,8 @@ impl<'a> Locator<'a> {
 
     /// Adds the location of a statement that ends with a semicolon.
     pub fn statement(&mut self, path: &[i32], tail: &[i32], span: Span) -> Result<(), AllocError>
-        ensures { OnOk result (spec.state self.new ≡ spec.meet (spec.state self.old) (located.statement path.now tail.now span span.end)) }
+        ensures { OnOk result (spec.state self.new
+            ≡ spec.meet (spec.state self.old) (located.statement path.now tail.now span span.end)) }
     {
         self.begin(path, tail, span, span.end)
     }
@@ -137,23 +144,28 @@ impl<'a> Locator<'a> {
         span: Span,
         braces: Span,
     ) -> Result<(), AllocError>
-        ensures { OnOk result (spec.state self.new ≡ spec.meet (spec.state self.old) (located.statement path.now tail.now span (located.inside braces))) }
+        ensures { OnOk result (spec.state self.new
+            ≡ spec.meet (spec.state self.old)
+            (located.statement path.now tail.now span (located.inside braces))) }
     {
         self.begin(path, tail, span, braces.start.min(LAST_OFFSET) + 1)
     }
 
     /// What stands in the braces was met.
     pub fn leave(&mut self, braces: Span) -> Result<(), AllocError>
-        ensures { OnOk result (spec.state self.new ≡ spec.meet (spec.state self.old) (located.closing braces)) }
+        ensures { OnOk result (spec.state self.new
+            ≡ spec.meet (spec.state self.old) (located.closing braces)) }
     {
         self.read_gap(braces.end.saturating_sub(1), Behind::Brace)?;
         self.gap_start = braces.end;
         Ok(())
     }
 
-    /// An empty statement has no location, and comments in front of it and behind it are no statement's.
+    /// An empty statement has no location, and comments in front of it and behind it are no
+    /// statement's.
     pub fn pass(&mut self, empty: Span) -> Result<(), AllocError>
-        ensures { OnOk result (spec.state self.new ≡ spec.meet (spec.state self.old) (located.empty empty)) }
+        ensures { OnOk result (spec.state self.new
+            ≡ spec.meet (spec.state self.old) (located.empty empty)) }
     {
         self.read_gap(empty.start, Behind::Statement)?;
         self.gap_start = empty.end;
@@ -161,16 +173,20 @@ impl<'a> Locator<'a> {
         Ok(())
     }
 
-    /// Gives the statement in front of the gap that ends here its trailing comment; the answer is the comments that belong to
-    /// what stands behind.
+    /// Gives the statement in front of the gap that ends here its trailing comment; the answer is
+    /// the comments that belong to what stands behind.
     fn read_gap(
         &mut self,
         end: usize,
         behind: Behind,
     ) -> Result<(Vec<String>, Option<String>), AllocError>
-        ensures read { OnOk result (spec.state self.new ≡ spec.behind_gap (spec.state self.old) end behind) }
-        ensures detached { IfOk result (λ left. texts_view left.0 ≡ (spec.notes_before (spec.state self.old) end behind).detached) }
-        ensures leading { IfOk result (λ left. text_view left.1 ≡ (spec.notes_before (spec.state self.old) end behind).leading) }
+        ensures read { OnOk result (spec.state self.new
+            ≡ spec.behind_gap (spec.state self.old) end behind) }
+        ensures detached { IfOk result
+            (λ left. texts_view left.0 ≡ (spec.notes_before (spec.state self.old) end
+            behind).detached) }
+        ensures leading { IfOk result (λ left. text_view left.1
+            ≡ (spec.notes_before (spec.state self.old) end behind).leading) }
     {
         let may_trail = !matches!(self.front, Front::Nothing);
         let bytes = gap(self.source, self.gap_start, end);
@@ -188,7 +204,10 @@ impl<'a> Locator<'a> {
 
     /// Gives the location at a place this trailing comment.
     fn trail(&mut self, place: usize, comment: Option<String>)
-        ensures { spec.state self.new ≡ record (spec.state self.old) { locations = spec.trailed_at place (text_view comment) (spec.state self.old).locations } }
+        ensures { spec.state self.new ≡ record (spec.state self.old) {
+          locations = spec.trailed_at place (text_view comment)
+              (spec.state self.old).locations;
+        } }
     {
         if let Some(location) = self.locations.get_mut(place) {
             location.trailing_comments = comment;
@@ -198,7 +217,8 @@ impl<'a> Locator<'a> {
     /// All locations, by path, those of one path in source order.
     pub fn finish(mut self) -> Result<Vec<Location>, AllocError>
         ensures { let old = spec.state self.entry in
-            IfOk result (λ made. AreByPath (spec.behind_gap old (length old.source) End).locations (map location_view made.items)) }
+            IfOk result (λ made. AreByPath (spec.behind_gap old (length old.source) End).locations
+            (map location_view made.items)) }
     {
         let end = self.source.len();
         self.read_gap(end, Behind::End)?;
@@ -208,7 +228,8 @@ impl<'a> Locator<'a> {
     }
 }
 
-/// The bytes between two places, or none where these are no places of the text, or not in this order.
+/// The bytes between two places, or none where these are no places of the text, or not in this
+/// order.
 fn gap(source: &[u8], from: usize, to: usize) -> &[u8]
     ensures { result.now ≡ located.between source.now from to }
 {

@@ -79,7 +79,8 @@ pub fn message(
     path: &[i32],
     statement: &Message,
 ) -> Result<(), AllocError>
-    ensures { OnOk result (state locator.new ≡ meets (state locator.old) (spec.message_events path.now (message_view statement.now))) }
+    ensures { OnOk result (state locator.new
+        ≡ meets (state locator.old) (spec.message_events path.now (message_view statement.now))) }
 {
     locator.enter(path, &[], statement.span, statement.braces)?;
     locator.add(path, &[tag::message::NAME], statement.name.span)?;
@@ -94,7 +95,9 @@ fn items(
     path: &[i32],
     items: &Vec<MessageItem>,
 ) -> Result<(), AllocError>
-    ensures { OnOk result (state locator.new ≡ meets (state locator.old) (spec.items_events path.now spec.no_counts (items_of (map item_view items.now.items)))) }
+    ensures { OnOk result (state locator.new
+        ≡ meets (state locator.old) (spec.items_events path.now spec.no_counts
+        (items_of (map item_view items.now.items)))) }
 {
     let mut counts = MessageCounts::new();
     'items: for item in items {
@@ -110,7 +113,8 @@ fn message_item(
     counts: &mut MessageCounts,
     item: &MessageItem,
 ) -> Result<(), AllocError>
-    ensures located { OnOk result (state locator.new ≡ meets (state locator.old) (spec.item_events path.now counts.old (item_view item.now))) }
+    ensures located { OnOk result (state locator.new
+        ≡ meets (state locator.old) (spec.item_events path.now counts.old (item_view item.now))) }
     ensures counted { OnOk result (counts.new ≡ spec.after_item counts.old (item_view item.now)) }
 {
     match item {
@@ -175,8 +179,11 @@ fn message_field(
     counts: &mut MessageCounts,
     one: &Field,
 ) -> Result<(), AllocError>
-    ensures located { OnOk result (state locator.new ≡ meets (state locator.old) (spec.item_events path.now counts.old (item_field (field_view one.now)))) }
-    ensures counted { OnOk result (counts.new ≡ spec.after_item counts.old (item_field (field_view one.now))) }
+    ensures located { OnOk result (state locator.new
+        ≡ meets (state locator.old) (spec.item_events path.now counts.old
+        (item_field (field_view one.now)))) }
+    ensures counted { OnOk result (counts.new
+        ≡ spec.after_item counts.old (item_field (field_view one.now))) }
 {
     let mut fields = counts.own_fields();
     field(locator, path, own_tags(), &mut fields, None, one)?;
@@ -191,8 +198,11 @@ fn message_oneof(
     counts: &mut MessageCounts,
     statement: &Oneof,
 ) -> Result<(), AllocError>
-    ensures located { OnOk result (state locator.new ≡ meets (state locator.old) (spec.item_events path.now counts.old (item_oneof (oneof_view statement.now)))) }
-    ensures counted { OnOk result (counts.new ≡ spec.after_item counts.old (item_oneof (oneof_view statement.now))) }
+    ensures located { OnOk result (state locator.new
+        ≡ meets (state locator.old) (spec.item_events path.now counts.old
+        (item_oneof (oneof_view statement.now)))) }
+    ensures counted { OnOk result (counts.new
+        ≡ spec.after_item counts.old (item_oneof (oneof_view statement.now))) }
 {
     let at = locator.entry(path, tag::message::ONEOF_DECL, counts.oneofs.next())?;
     let mut fields = counts.own_fields();
@@ -208,8 +218,11 @@ fn message_extend(
     counts: &mut MessageCounts,
     statement: &Extend,
 ) -> Result<(), AllocError>
-    ensures located { OnOk result (state locator.new ≡ meets (state locator.old) (spec.item_events path.now counts.old (item_extend (extend_view statement.now)))) }
-    ensures counted { OnOk result (counts.new ≡ spec.after_item counts.old (item_extend (extend_view statement.now))) }
+    ensures located { OnOk result (state locator.new
+        ≡ meets (state locator.old) (spec.item_events path.now counts.old
+        (item_extend (extend_view statement.now)))) }
+    ensures counted { OnOk result (counts.new
+        ≡ spec.after_item counts.old (item_extend (extend_view statement.now))) }
 {
     let tags = FieldTags {
         field: tag::message::EXTENSION,
@@ -225,8 +238,8 @@ fn message_extend(
     Ok(())
 }
 
-/// The locations of a field or an extension, in the record at a path. Only a group has a location of its type, and this has the
-/// statement's comments.
+/// The locations of a field or an extension, in the record at a path. Only a group has a location
+/// of its type, and this has the statement's comments.
 #[cycle(locate)]
 fn field(
     locator: &mut Locator<'_>,
@@ -236,8 +249,11 @@ fn field(
     extendee: Option<Span>,
     field: &Field,
 ) -> Result<(), AllocError>
-    ensures located { OnOk result (state locator.new ≡ meets (state locator.old) (spec.field_events path.now tags counts.old extendee (field_view field.now))) }
-    ensures counted { OnOk result (counts.new ≡ spec.after_field counts.old (field_view field.now)) }
+    ensures located { OnOk result (state locator.new
+        ≡ meets (state locator.old) (spec.field_events path.now tags counts.old extendee
+        (field_view field.now))) }
+    ensures counted { OnOk result (counts.new
+        ≡ spec.after_field counts.old (field_view field.now)) }
 {
     let at = locator.entry(path, tags.field, counts.fields.next())?;
     let here = at.as_slice();
@@ -269,7 +285,8 @@ fn group(
     name: Span,
     group: &Group,
 ) -> Result<(), AllocError>
-    ensures { OnOk result (state locator.new ≡ meets (state locator.old) (spec.group_events path.now span name (group_view group.now))) }
+    ensures { OnOk result (state locator.new
+        ≡ meets (state locator.old) (spec.group_events path.now span name (group_view group.now))) }
 {
     locator.enter(path, &[], span, group.braces)?;
     locator.add(path, &[tag::message::NAME], name)?;
@@ -287,8 +304,11 @@ fn oneof(
     fields: &mut FieldCounts,
     statement: &Oneof,
 ) -> Result<(), AllocError>
-    ensures located { OnOk result (state locator.new ≡ meets (state locator.old) (spec.oneof_events path.now at.now fields.old (oneof_view statement.now))) }
-    ensures counted { OnOk result (fields.new ≡ spec.after_oneof fields.old (oneof_view statement.now)) }
+    ensures located { OnOk result (state locator.new
+        ≡ meets (state locator.old) (spec.oneof_events path.now at.now fields.old
+        (oneof_view statement.now))) }
+    ensures counted { OnOk result (fields.new
+        ≡ spec.after_oneof fields.old (oneof_view statement.now)) }
 {
     locator.enter(at, &[], statement.span, statement.braces)?;
     locator.add(at, &[tag::oneof::NAME], statement.name.span)?;
@@ -312,8 +332,11 @@ fn member(
     counts: &mut OneofCounts,
     item: &OneofItem,
 ) -> Result<(), AllocError>
-    ensures located { OnOk result (state locator.new ≡ meets (state locator.old) (spec.member_events path.now at.now counts.old (member_view item.now))) }
-    ensures counted { OnOk result (counts.new ≡ spec.after_member counts.old (member_view item.now)) }
+    ensures located { OnOk result (state locator.new
+        ≡ meets (state locator.old) (spec.member_events path.now at.now counts.old
+        (member_view item.now))) }
+    ensures counted { OnOk result (counts.new
+        ≡ spec.after_member counts.old (member_view item.now)) }
 {
     match item {
         OneofItem::Field(one) => {
@@ -346,8 +369,11 @@ pub fn extend(
     counts: &mut FieldCounts,
     statement: &Extend,
 ) -> Result<(), AllocError>
-    ensures located { OnOk result (state locator.new ≡ meets (state locator.old) (spec.extend_events path.now tags counts.old (extend_view statement.now))) }
-    ensures counted { OnOk result (counts.new ≡ spec.after_extend counts.old (extend_view statement.now)) }
+    ensures located { OnOk result (state locator.new
+        ≡ meets (state locator.old) (spec.extend_events path.now tags counts.old
+        (extend_view statement.now))) }
+    ensures counted { OnOk result (counts.new
+        ≡ spec.after_extend counts.old (extend_view statement.now)) }
 {
     locator.enter(path, &[tags.field], statement.span, statement.braces)?;
     let extendee = statement.extendee.span();
@@ -367,8 +393,11 @@ fn added(
     extendee: Span,
     item: &ExtendItem,
 ) -> Result<(), AllocError>
-    ensures located { OnOk result (state locator.new ≡ meets (state locator.old) (spec.added_item_events path.now tags counts.old extendee (added_view item.now))) }
-    ensures counted { OnOk result (counts.new ≡ spec.after_added_item counts.old (added_view item.now)) }
+    ensures located { OnOk result (state locator.new
+        ≡ meets (state locator.old) (spec.added_item_events path.now tags counts.old extendee
+        (added_view item.now))) }
+    ensures counted { OnOk result (counts.new
+        ≡ spec.after_added_item counts.old (added_view item.now)) }
 {
     match item {
         ExtendItem::Field(one) => {

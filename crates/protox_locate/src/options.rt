@@ -12,7 +12,8 @@ use protox_lex::Span;
 use protox_tree::{OptionBody, OptionList, OptionStatement};
 use std::alloc::AllocError;
 
-/// The location of an option statement of the record at a path, whose options are its field of this number.
+/// The location of an option statement of the record at a path, whose options are its field of this
+/// number.
 pub fn option_statement(
     locator: &mut Locator<'_>,
     path: &[i32],
@@ -20,7 +21,9 @@ pub fn option_statement(
     count: &mut Count,
     option: &OptionStatement,
 ) -> Result<(), AllocError>
-    ensures located { OnOk result (state locator.new ≡ meets (state locator.old) (spec.option_events path.now options count.old (option_view option.now))) }
+    ensures located { OnOk result (state locator.new
+        ≡ meets (state locator.old) (spec.option_events path.now options count.old
+        (option_view option.now))) }
     ensures counted { OnOk result (count.new ≡ spec.more count.old) }
 {
     let tail = [options, tag::UNINTERPRETED_OPTION, count.next()];
@@ -49,7 +52,9 @@ pub fn option_list(
     options: i32,
     list: &Option<OptionList>,
 ) -> Result<(), AllocError>
-    ensures { OnOk result (state locator.new ≡ meets (state locator.old) (spec.list_events path.now options (option_map option_list_view list.now))) }
+    ensures { OnOk result (state locator.new
+        ≡ meets (state locator.old) (spec.list_events path.now options
+        (option_map option_list_view list.now))) }
 {
     let Some(list) = list else {
         return Ok(());
@@ -69,7 +74,9 @@ fn option_body(
     count: &mut Count,
     option: &OptionBody,
 ) -> Result<(), AllocError>
-    ensures located { OnOk result (state locator.new ≡ meets (state locator.old) (spec.body_events path.now options count.old (body_view option.now))) }
+    ensures located { OnOk result (state locator.new
+        ≡ meets (state locator.old) (spec.body_events path.now options count.old
+        (body_view option.now))) }
     ensures counted { OnOk result (count.new ≡ spec.after_body count.old (body_view option.now)) }
 {
     let tail = [options, tag::UNINTERPRETED_OPTION, count.next()];
@@ -83,7 +90,9 @@ pub fn field_options(
     path: &[i32],
     list: &Option<OptionList>,
 ) -> Result<(), AllocError>
-    ensures { OnOk result (state locator.new ≡ meets (state locator.old) (spec.field_list_events path.now (option_map option_list_view list.now))) }
+    ensures { OnOk result (state locator.new
+        ≡ meets (state locator.old) (spec.field_list_events path.now
+        (option_map option_list_view list.now))) }
 {
     let Some(list) = list else {
         return Ok(());
@@ -102,8 +111,11 @@ fn field_option(
     count: &mut Count,
     option: &OptionBody,
 ) -> Result<(), AllocError>
-    ensures located { OnOk result (state locator.new ≡ meets (state locator.old) (spec.field_option_events path.now count.old (body_view option.now))) }
-    ensures counted { OnOk result (count.new ≡ spec.after_field_option count.old (body_view option.now)) }
+    ensures located { OnOk result (state locator.new
+        ≡ meets (state locator.old) (spec.field_option_events path.now count.old
+        (body_view option.now))) }
+    ensures counted { OnOk result (count.new
+        ≡ spec.after_field_option count.old (body_view option.now)) }
 {
     if option.has_name("default") {
         locator.add(path, &[tag::field::DEFAULT_VALUE], option.value.span())

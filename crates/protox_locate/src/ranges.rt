@@ -16,7 +16,8 @@ use protox_tree::{Extensions, OptionList, Reserved, ReservedItems, ReservedRange
 use std::alloc::AllocError;
 
 fn range(locator: &mut Locator<'_>, path: &[i32], range: &ReservedRange) -> Result<(), AllocError>
-    ensures { OnOk result (state locator.new ≡ meets (state locator.old) (spec.range_events path.now range.now)) }
+    ensures { OnOk result (state locator.new
+        ≡ meets (state locator.old) (spec.range_events path.now range.now)) }
 {
     locator.add(path, &[], range.span())?;
     locator.add(path, &[tag::reserved_range::START], range.start_span())?;
@@ -31,8 +32,11 @@ pub fn extensions(
     count: &mut Count,
     statement: &Extensions,
 ) -> Result<(), AllocError>
-    ensures located { OnOk result (state locator.new ≡ meets (state locator.old) (extensions_events path.now count.old (extensions_view statement.now))) }
-    ensures counted { OnOk result (count.new ≡ fold after_range count.old statement.now.ranges.items) }
+    ensures located { OnOk result (state locator.new
+        ≡ meets (state locator.old) (extensions_events path.now count.old
+        (extensions_view statement.now))) }
+    ensures counted { OnOk result (count.new
+        ≡ fold after_range count.old statement.now.ranges.items) }
 {
     locator.statement(path, &[tag::message::EXTENSION_RANGE], statement.span)?;
     'entries: for one in &statement.ranges {
@@ -48,7 +52,9 @@ fn extension_range(
     options: &Option<OptionList>,
     one: &ReservedRange,
 ) -> Result<(), AllocError>
-    ensures located { OnOk result (state locator.new ≡ meets (state locator.old) (extension_events path.now (option_map option_list_view options.now) count.old one.now)) }
+    ensures located { OnOk result (state locator.new
+        ≡ meets (state locator.old) (extension_events path.now
+        (option_map option_list_view options.now) count.old one.now)) }
     ensures counted { OnOk result (count.new ≡ after_range count.old one.now) }
 {
     let at = locator.entry(path, tag::message::EXTENSION_RANGE, count.next())?;
@@ -92,7 +98,9 @@ fn reserved_ranges(
     count: &mut Count,
     ranges: &[ReservedRange],
 ) -> Result<(), AllocError>
-    ensures located { OnOk result (state locator.new ≡ meets (state locator.old) (spec.each (spec.entry_events path.now tag) spec.after_entry count.old ranges.now)) }
+    ensures located { OnOk result (state locator.new
+        ≡ meets (state locator.old) (spec.each (spec.entry_events path.now tag) spec.after_entry
+        count.old ranges.now)) }
     ensures counted { OnOk result (count.new ≡ fold spec.after_entry count.old ranges.now) }
 {
     'entries: for one in ranges {
@@ -108,7 +116,8 @@ fn reserved_range(
     count: &mut Count,
     one: ReservedRange,
 ) -> Result<(), AllocError>
-    ensures located { OnOk result (state locator.new ≡ meets (state locator.old) (spec.entry_events path.now tag count.old one)) }
+    ensures located { OnOk result (state locator.new
+        ≡ meets (state locator.old) (spec.entry_events path.now tag count.old one)) }
     ensures counted { OnOk result (count.new ≡ spec.after_entry count.old one) }
 {
     let at = locator.entry(path, tag, count.next())?;
@@ -123,8 +132,11 @@ fn reserved_names(
     count: &mut Count,
     names: &[Strings],
 ) -> Result<(), AllocError>
-    ensures located { OnOk result (state locator.new ≡ meets (state locator.old) (spec.each (spec.name_events path.now tag) spec.after_name count.old (names_view names.now))) }
-    ensures counted { OnOk result (count.new ≡ fold spec.after_name count.old (names_view names.now)) }
+    ensures located { OnOk result (state locator.new
+        ≡ meets (state locator.old) (spec.each (spec.name_events path.now tag) spec.after_name
+        count.old (names_view names.now))) }
+    ensures counted { OnOk result (count.new
+        ≡ fold spec.after_name count.old (names_view names.now)) }
 {
     'names: for name in names {
         reserved_name(locator, path, tag, count, name)?;
@@ -139,7 +151,9 @@ fn reserved_name(
     count: &mut Count,
     name: &Strings,
 ) -> Result<(), AllocError>
-    ensures located { OnOk result (state locator.new ≡ meets (state locator.old) (spec.name_events path.now tag count.old (strings_view name.now))) }
+    ensures located { OnOk result (state locator.new
+        ≡ meets (state locator.old) (spec.name_events path.now tag count.old
+        (strings_view name.now))) }
     ensures counted { OnOk result (count.new ≡ spec.after_name count.old (strings_view name.now)) }
 {
     let tail = [tag, count.next()];
@@ -154,8 +168,11 @@ pub fn reserved(
     lists: &mut ReservedLists,
     statement: &Reserved,
 ) -> Result<(), AllocError>
-    ensures located { OnOk result (state locator.new ≡ meets (state locator.old) (spec.reserved_events path.now lists.old (reserved_view statement.now))) }
-    ensures counted { OnOk result (lists.new ≡ spec.after_reserved lists.old (reserved_view statement.now)) }
+    ensures located { OnOk result (state locator.new
+        ≡ meets (state locator.old) (spec.reserved_events path.now lists.old
+        (reserved_view statement.now))) }
+    ensures counted { OnOk result (lists.new
+        ≡ spec.after_reserved lists.old (reserved_view statement.now)) }
 {
     match &statement.items {
         ReservedItems::Ranges(ranges) => {

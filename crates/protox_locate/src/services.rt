@@ -35,7 +35,8 @@ pub fn service(
     path: &[i32],
     statement: &Service,
 ) -> Result<(), AllocError>
-    ensures { OnOk result (state locator.new ≡ meets (state locator.old) (spec.service_events path.now (service_view statement.now))) }
+    ensures { OnOk result (state locator.new
+        ≡ meets (state locator.old) (spec.service_events path.now (service_view statement.now))) }
 {
     locator.enter(path, &[], statement.span, statement.braces)?;
     locator.add(path, &[tag::service::NAME], statement.name.span)?;
@@ -53,8 +54,11 @@ fn service_item(
     counts: &mut ServiceCounts,
     item: &ServiceItem,
 ) -> Result<(), AllocError>
-    ensures located { OnOk result (state locator.new ≡ meets (state locator.old) (spec.service_item_events path.now counts.old (service_item_view item.now))) }
-    ensures counted { OnOk result (counts.new ≡ spec.after_service_item counts.old (service_item_view item.now)) }
+    ensures located { OnOk result (state locator.new
+        ≡ meets (state locator.old) (spec.service_item_events path.now counts.old
+        (service_item_view item.now))) }
+    ensures counted { OnOk result (counts.new
+        ≡ spec.after_service_item counts.old (service_item_view item.now)) }
 {
     match item {
         ServiceItem::Method(one) => {
@@ -75,7 +79,8 @@ fn service_item(
 }
 
 fn method(locator: &mut Locator<'_>, path: &[i32], statement: &Method) -> Result<(), AllocError>
-    ensures { OnOk result (state locator.new ≡ meets (state locator.old) (spec.method_events path.now (method_view statement.now))) }
+    ensures { OnOk result (state locator.new
+        ≡ meets (state locator.old) (spec.method_events path.now (method_view statement.now))) }
 {
     begin_method(locator, path, statement)?;
     locator.add(path, &[tag::method::NAME], statement.name.span)?;
@@ -88,7 +93,9 @@ fn method(locator: &mut Locator<'_>, path: &[i32], statement: &Method) -> Result
 }
 
 fn begin_method(locator: &mut Locator<'_>, path: &[i32], method: &Method) -> Result<(), AllocError>
-    ensures { OnOk result (state locator.new ≡ meet (state locator.old) (statement path.now [] method.now.span (spec.end_in method.now.span (option_map method_body_view method.now.body)))) }
+    ensures { OnOk result (state locator.new
+        ≡ meet (state locator.old) (statement path.now [] method.now.span
+        (spec.end_in method.now.span (option_map method_body_view method.now.body)))) }
 {
     match &method.body {
         Some(body) => {
@@ -110,7 +117,9 @@ fn method_type(
     stream_tag: i32,
     method_type: &MethodType,
 ) -> Result<(), AllocError>
-    ensures { OnOk result (state locator.new ≡ meets (state locator.old) (spec.method_type_events path.now name_tag stream_tag (method_type_view method_type.now))) }
+    ensures { OnOk result (state locator.new
+        ≡ meets (state locator.old) (spec.method_type_events path.now name_tag stream_tag
+        (method_type_view method_type.now))) }
 {
     locator.add_some(path, &[stream_tag], method_type.stream)?;
     locator.add(path, &[name_tag], method_type.name.span())?;
@@ -122,7 +131,9 @@ fn method_body(
     path: &[i32],
     body: &Option<MethodBody>,
 ) -> Result<(), AllocError>
-    ensures { OnOk result (state locator.new ≡ meets (state locator.old) (spec.method_body_events path.now (option_map method_body_view body.now))) }
+    ensures { OnOk result (state locator.new
+        ≡ meets (state locator.old) (spec.method_body_events path.now
+        (option_map method_body_view body.now))) }
 {
     let Some(body) = body else {
         return Ok(());
@@ -141,8 +152,11 @@ fn method_item(
     options: &mut Count,
     item: &MethodItem,
 ) -> Result<(), AllocError>
-    ensures located { OnOk result (state locator.new ≡ meets (state locator.old) (spec.method_item_events path.now options.old (method_item_view item.now))) }
-    ensures counted { OnOk result (options.new ≡ spec.after_method_item options.old (method_item_view item.now)) }
+    ensures located { OnOk result (state locator.new
+        ≡ meets (state locator.old) (spec.method_item_events path.now options.old
+        (method_item_view item.now))) }
+    ensures counted { OnOk result (options.new
+        ≡ spec.after_method_item options.old (method_item_view item.now)) }
 {
     match item {
         MethodItem::Option(option) => {

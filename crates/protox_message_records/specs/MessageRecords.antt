@@ -1,7 +1,7 @@
 -- The records of messages.
 --
--- Source: "Defining A Message Type", "Nested Types", "Oneof", "Maps" and "Reserved Fields" of the language
--- guides on protobuf.dev.
+-- Source: "Defining A Message Type", "Nested Types", "Oneof", "Maps" and "Reserved Fields" of the
+-- language guides on protobuf.dev.
 use Rattle.std.specs.Prelude.{◌≡◌, ◌+◌, ◌+ℤ◌, ◌++◌, ◌^◌, ℕ, ℤ, pos, Bool, true, false, if◌then◌else◌, List, [], ◌∷◌, length, map, Option, Some, None, string_bytes}
 use Rattle.std.specs.List.{flat_map}
 use Rattle.std.specs.Option.{option_and_then}
@@ -56,7 +56,8 @@ field_in s oneof f = record (field_of f) {
   proto3_optional = if tells_presence s f.label then Some true else None;
 }
 
--- A field that no oneof is written around: in a oneof of its own, at this place, where it tells of presence.
+-- A field that no oneof is written around: in a oneof of its own, at this place, where it tells of
+-- presence.
 abbrev pub own_field : Syntax → ℤ → Field → FieldContent
 own_field s place f = field_in s (if tells_presence s f.label then Some place else None) f
 
@@ -82,11 +83,13 @@ oneof_of o = record {
 
 -- ---- what stands in a message, one by one
 
--- The fields of an item, where so many oneofs are written before it, and so many of all stand before that of
--- the next field which has one of its own.
+-- The fields of an item, where so many oneofs are written before it, and so many of all stand
+-- before that of the next field which has one of its own.
 abbrev pub fields_in : Syntax → ℕ → ℕ → ItemLayer → List FieldContent
-fields_in s next behind (MessageItem-F.«MessageItem::Field» f) = own_field s (place_of behind) f ∷ []
-fields_in s next behind (MessageItem-F.Oneof o) = flat_map (member_at s (place_of next)) o.items.items
+fields_in s next behind (MessageItem-F.«MessageItem::Field» f) = own_field s (place_of behind) f
+    ∷ []
+fields_in s next behind (MessageItem-F.Oneof o) =
+    flat_map (member_at s (place_of next)) o.items.items
 fields_in s next behind _ = []
 
 abbrev pub fields_at : Syntax → ℕ → ℕ → MessageItem → List FieldContent
@@ -94,7 +97,8 @@ fields_at s next behind i = fields_in s next behind (out-MessageItem i)
 
 abbrev pub if_alone : Syntax → Field → List Text
 if_alone s f =
-    if tells_presence s f.label then field_name_of (string_bytes f.name.value) (is_group (kind_view f.kind)) ∷ []
+    if tells_presence s f.label then field_name_of (string_bytes f.name.value)
+    (is_group (kind_view f.kind)) ∷ []
     else []
 
 -- the names of the fields that have a oneof of their own
@@ -156,7 +160,8 @@ reserved_names_at i = reserved_names_in (out-MessageItem i)
 
 -- numbers for extensions, with the options of their statement
 abbrev pub extension_range_of : Option OptionList → ranges.ReservedRange → ExtensionRangeContent
-extension_range_of list range = record { start = i32_of range.start; end = end_of range; options = list_options_of list }
+extension_range_of list range =
+    record { start = i32_of range.start; end = end_of range; options = list_options_of list }
 
 abbrev pub extension_ranges_in : ItemLayer → List ExtensionRangeContent
 extension_ranges_in (MessageItem-F.Extensions e) = map (extension_range_of e.options) e.ranges.items
@@ -169,7 +174,8 @@ extension_ranges_at i = extension_ranges_in (out-MessageItem i)
 abbrev pub fields_from : Syntax → ℕ → ℕ → List MessageItem → List FieldContent
 fields_from s next behind [] = []
 fields_from s next behind (i ∷ is) =
-    fields_at s next behind i ++ fields_from s (next + length (oneof_at i)) (behind + length (alone_at s i)) is
+    fields_at s next behind i ++ fields_from s (next + length (oneof_at i))
+    (behind + length (alone_at s i)) is
 
 -- ---- types
 
@@ -219,10 +225,13 @@ types_in _ = []
 abbrev pub types_at : MessageItem → List Declared
 types_at i = types_in (out-MessageItem i)
 
--- What a message of these items has beside the types in it: of each kind all that stands there, in order.
+-- What a message of these items has beside the types in it: of each kind all that stands there, in
+-- order.
 pub record IsOwn (s : Syntax) (name : Text) (items : List MessageItem)
-    (given : Option Text) (fields extensions : List FieldContent) (nested : MessageContents) (enums : List EnumContent)
-    (ranges : List ExtensionRangeContent) (oneofs : List OneofContent) (options : Option OptionsContent)
+    (given : Option Text) (fields extensions : List FieldContent) (nested : MessageContents)
+    (enums : List EnumContent)
+    (ranges : List ExtensionRangeContent) (oneofs : List OneofContent)
+    (options : Option OptionsContent)
     (reserved : List ReservedRange) (names : List Text) : Type 0 where
   pub named : given ≡ Some name
   pub fields_are : fields ≡ fields_from s 0 (length (flat_map oneof_at items)) items
@@ -231,24 +240,30 @@ pub record IsOwn (s : Syntax) (name : Text) (items : List MessageItem)
   pub ranges_are : ranges ≡ flat_map extension_ranges_at items
   pub oneofs_are :
       (more : List OneofContent) × (oneofs ≡ flat_map oneof_at items ++ more)
-      × AreNamedAfter (names_of fields extensions nested enums (flat_map oneof_at items)) (flat_map (alone_at s) items) more
+      × AreNamedAfter (names_of fields extensions nested enums (flat_map oneof_at items))
+      (flat_map (alone_at s) items) more
   pub options_are : options ≡ options_of (flat_map option_at items)
   pub reserved_are : reserved ≡ flat_map reserved_ranges_at items
   pub names_are : names ≡ flat_map reserved_names_at items
 
 -- This is the record of a message of this name and these items, in which these types are.
 abbrev pub IsMessage : Syntax → Text → List MessageItem → MessageContents → MessageContent → Type 0
-IsMessage s name items inside (message given fields extensions nested enums ranges oneofs options reserved names) =
-    IsOwn s name items given fields extensions nested enums ranges oneofs options reserved names × (nested ≡ inside)
+IsMessage s name items inside (message given fields extensions nested enums ranges oneofs options
+    reserved names) =
+    IsOwn s name items given fields extensions nested enums ranges oneofs options reserved names
+    × (nested ≡ inside)
 
 abbrev mutual
   -- This is the record of a type that is declared in a file of this syntax.
   pub IsType : Syntax → Declared → MessageContent → Type 0
-  IsType s (of_items name items) (message given fields extensions nested enums ranges oneofs options reserved names) =
+  IsType s (of_items name items)
+      (message given fields extensions nested enums ranges oneofs options reserved names) =
       IsOwn s name items given fields extensions nested enums ranges oneofs options reserved names
       × AreTypes s (flat_map types_at items) nested
-  IsType s (of_map name m) (message given fields extensions nested enums ranges oneofs options reserved names) =
-      message given fields extensions nested enums ranges oneofs options reserved names ≡ entry_of name m
+  IsType s (of_map name m) (message given fields extensions nested enums ranges oneofs options
+      reserved names) =
+      message given fields extensions nested enums ranges oneofs options reserved names
+      ≡ entry_of name m
 
   -- These are the records of these types, in order.
   pub AreTypes : Syntax → List Declared → MessageContents → Type 0
@@ -260,4 +275,5 @@ abbrev mutual
 -- what was the record of some types is now that of these types and of more
 abbrev pub Adds : Syntax → List Declared → List MessageContent → List MessageContent → Type 0
 Adds s more old new =
-    (before : List Declared) → AreTypes s before (messages_of old) → AreTypes s (before ++ more) (messages_of new)
+    (before : List Declared) → AreTypes s before (messages_of old)
+    → AreTypes s (before ++ more) (messages_of new)

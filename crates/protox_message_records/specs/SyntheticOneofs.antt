@@ -18,7 +18,8 @@ field_names fs = flat_map (λ f. if_named f.name) fs
 
 abbrev pub type_names : MessageContents → List Text
 type_names no_messages = []
-type_names (more_messages (message name fields extensions nested enums ranges oneofs options reserved names) ms) =
+type_names (more_messages (message name fields extensions nested enums ranges oneofs options
+    reserved names) ms) =
     if_named name ++ type_names ms
 
 abbrev pub enum_names : List EnumContent → List Text
@@ -27,10 +28,13 @@ enum_names es = flat_map (λ e. if_named e.name) es
 abbrev pub oneof_names : List OneofContent → List Text
 oneof_names os = flat_map (λ o. if_named o.name) os
 
--- The names of a message's fields, extensions, types, enums and oneofs. Values of its enums are none of them.
-abbrev pub names_of : List FieldContent → List FieldContent → MessageContents → List EnumContent → List OneofContent → List Text
+-- The names of a message's fields, extensions, types, enums and oneofs. Values of its enums are
+-- none of them.
+abbrev pub names_of : List FieldContent → List FieldContent → MessageContents → List EnumContent
+    → List OneofContent → List Text
 names_of fields extensions nested enums oneofs =
-    field_names fields ++ (field_names extensions ++ (type_names nested ++ (enum_names enums ++ oneof_names oneofs)))
+    field_names fields ++ (field_names extensions
+    ++ (type_names nested ++ (enum_names enums ++ oneof_names oneofs)))
 
 -- those of a message's record
 abbrev pub names_in : MessageContent → List Text
@@ -58,14 +62,17 @@ IsFreed taken name made =
 
 -- ---- oneofs
 
--- The oneof of a field of this name: it has no options, and its name is `_` and the field's, freed of those that are taken.
+-- The oneof of a field of this name: it has no options, and its name is `_` and the field's, freed
+-- of those that are taken.
 abbrev pub IsNamedAfter : List Text → Text → OneofContent → Type 0
 IsNamedAfter taken name o =
-    (made : Text) × IsFreed taken (95 ∷ name) made × (o ≡ record { name = Some made; options = None })
+    (made : Text) × IsFreed taken (95 ∷ name) made
+    × (o ≡ record { name = Some made; options = None })
 
 -- One oneof for each of these fields, in order.
 abbrev pub AreNamedAfter : List Text → List Text → List OneofContent → Type 0
 AreNamedAfter taken [] [] = Unit {0}
 AreNamedAfter taken [] (o ∷ os) = ⊥
 AreNamedAfter taken (name ∷ names) [] = ⊥
-AreNamedAfter taken (name ∷ names) (o ∷ os) = IsNamedAfter taken name o × AreNamedAfter taken names os
+AreNamedAfter taken (name ∷ names) (o ∷ os) = IsNamedAfter taken name o
+    × AreNamedAfter taken names os

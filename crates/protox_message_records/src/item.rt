@@ -26,7 +26,8 @@ pub fn own_extensions(
     alloc: Global,
     items: &Vec<MessageItem>,
 ) -> Result<Vec<FieldDescriptorProto>, AllocError>
-    ensures { IfOk result (λ fields. map content.field_view fields.items ≡ flat_map messages.extensions_at items.now.items) }
+    ensures { IfOk result (λ fields. map content.field_view fields.items
+        ≡ flat_map messages.extensions_at items.now.items) }
 {
     let mut fields = Vec::new(alloc);
     'each: for item in items {
@@ -42,7 +43,8 @@ pub fn enums(
     alloc: Global,
     items: &Vec<MessageItem>,
 ) -> Result<Vec<EnumDescriptorProto>, AllocError>
-    ensures { IfOk result (λ enums. map content.enum_view enums.items ≡ flat_map messages.enum_at items.now.items) }
+    ensures { IfOk result (λ enums. map content.enum_view enums.items
+        ≡ flat_map messages.enum_at items.now.items) }
 {
     let mut enums = Vec::new(alloc);
     'each: for item in items {
@@ -59,7 +61,8 @@ pub fn oneofs(
     alloc: Global,
     items: &Vec<MessageItem>,
 ) -> Result<Vec<OneofDescriptorProto>, AllocError>
-    ensures { IfOk result (λ oneofs. map content.oneof_view oneofs.items ≡ flat_map messages.oneof_at items.now.items) }
+    ensures { IfOk result (λ oneofs. map content.oneof_view oneofs.items
+        ≡ flat_map messages.oneof_at items.now.items) }
 {
     let mut oneofs = Vec::new(alloc);
     'each: for item in items {
@@ -81,7 +84,8 @@ fn oneof_record(alloc: Global, oneof: &Oneof) -> Result<OneofDescriptorProto, Al
 }
 
 fn member_options(alloc: Global, items: &Vec<OneofItem>) -> Result<Option<Options>, AllocError>
-    ensures { IfOk result (λ options. option_map content.options_view options ≡ options_of (flat_map messages.member_option_at items.now.items)) }
+    ensures { IfOk result (λ options. option_map content.options_view options
+        ≡ options_of (flat_map messages.member_option_at items.now.items)) }
 {
     let mut written = Vec::new(alloc);
     'each: for item in items {
@@ -94,7 +98,8 @@ fn member_options(alloc: Global, items: &Vec<OneofItem>) -> Result<Option<Option
 }
 
 pub fn options(alloc: Global, items: &Vec<MessageItem>) -> Result<Option<Options>, AllocError>
-    ensures { IfOk result (λ options. option_map content.options_view options ≡ options_of (flat_map messages.option_at items.now.items)) }
+    ensures { IfOk result (λ options. option_map content.options_view options
+        ≡ options_of (flat_map messages.option_at items.now.items)) }
 {
     let mut written = Vec::new(alloc);
     'each: for item in items {
@@ -111,7 +116,8 @@ pub fn extension_ranges(
     alloc: Global,
     items: &Vec<MessageItem>,
 ) -> Result<Vec<ExtensionRange>, AllocError>
-    ensures { IfOk result (λ ranges. map content.extension_range_view ranges.items ≡ flat_map messages.extension_ranges_at items.now.items) }
+    ensures { IfOk result (λ ranges. map content.extension_range_view ranges.items
+        ≡ flat_map messages.extension_ranges_at items.now.items) }
 {
     let mut ranges = Vec::new(alloc);
     'each: for item in items {
@@ -129,7 +135,9 @@ fn add_extension_ranges(
     extensions: &Extensions,
     ranges: &mut Vec<ExtensionRange>,
 ) -> Result<(), AllocError>
-    ensures { OnOk result (map content.extension_range_view ranges.new.items ≡ map content.extension_range_view ranges.old.items ++ map (messages.extension_range_of extensions.now.options) extensions.now.ranges.items) }
+    ensures { OnOk result (map content.extension_range_view ranges.new.items
+        ≡ map content.extension_range_view ranges.old.items
+        ++ map (messages.extension_range_of extensions.now.options) extensions.now.ranges.items) }
 {
     'each: for range in &extensions.ranges {
         ranges.push(ExtensionRange {
@@ -153,7 +161,8 @@ pub fn reserved_ranges(
     alloc: Global,
     items: &Vec<MessageItem>,
 ) -> Result<Vec<ReservedRangeRecord>, AllocError>
-    ensures { IfOk result (λ ranges. ranges.items ≡ flat_map messages.reserved_ranges_at items.now.items) }
+    ensures { IfOk result (λ ranges. ranges.items
+        ≡ flat_map messages.reserved_ranges_at items.now.items) }
 {
     let mut ranges = Vec::new(alloc);
     'each: for item in items {
@@ -169,7 +178,8 @@ fn add_reserved_ranges(
     reserved: &ReservedItems,
     records: &mut Vec<ReservedRangeRecord>,
 ) -> Result<(), AllocError>
-    ensures { OnOk result (records.new.items ≡ records.old.items ++ map messages.reserved_range_of (ranges_in reserved.now)) }
+    ensures { OnOk result (records.new.items ≡ records.old.items
+        ++ map messages.reserved_range_of (ranges_in reserved.now)) }
 {
     let ReservedItems::Ranges(ranges) = reserved else {
         return Ok(());
@@ -185,7 +195,8 @@ fn add_reserved_ranges(
 
 /// The names that no field may have.
 pub fn reserved_names(alloc: Global, items: &Vec<MessageItem>) -> Result<Vec<String>, AllocError>
-    ensures { IfOk result (λ names. content.texts_view names ≡ flat_map messages.reserved_names_at items.now.items) }
+    ensures { IfOk result (λ names. content.texts_view names
+        ≡ flat_map messages.reserved_names_at items.now.items) }
 {
     let mut names = Vec::new(alloc);
     'each: for item in items {

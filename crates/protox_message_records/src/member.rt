@@ -11,15 +11,16 @@ use protox_lex::Span;
 use protox_tree::{Field, MessageItem, Oneof, OneofItem, Syntax};
 use std::alloc::{AllocError, Global};
 
-/// The fields of a message, those of its oneofs too. Behind its own oneofs, which are so many, stand those of its `optional`
-/// fields.
+/// The fields of a message, those of its oneofs too. Behind its own oneofs, which are so many,
+/// stand those of its `optional` fields.
 pub fn fields(
     alloc: Global,
     syntax: Syntax,
     own: usize,
     items: &Vec<MessageItem>,
 ) -> Result<Vec<FieldDescriptorProto>, AllocError>
-    ensures { IfOk result (λ fields. map field_view fields.items ≡ messages.fields_from syntax 0 own items.now.items) }
+    ensures { IfOk result (λ fields. map field_view fields.items
+        ≡ messages.fields_from syntax 0 own items.now.items) }
 {
     let mut fields = Vec::new(alloc);
     let mut next = 0;
@@ -63,7 +64,8 @@ fn add_fields(
     item: &MessageItem,
     fields: &mut Vec<FieldDescriptorProto>,
 ) -> Result<(), AllocError>
-    ensures { OnOk result (map field_view fields.new.items ≡ map field_view fields.old.items ++ messages.fields_at syntax next behind item.now) }
+    ensures { OnOk result (map field_view fields.new.items ≡ map field_view fields.old.items
+        ++ messages.fields_at syntax next behind item.now) }
 {
     match item {
         MessageItem::Field(field) => {
@@ -99,7 +101,8 @@ fn add_members(
     oneof: &Oneof,
     fields: &mut Vec<FieldDescriptorProto>,
 ) -> Result<(), AllocError>
-    ensures { OnOk result (map field_view fields.new.items ≡ map field_view fields.old.items ++ flat_map (messages.member_at syntax place) oneof.now.items.items) }
+    ensures { OnOk result (map field_view fields.new.items ≡ map field_view fields.old.items
+        ++ flat_map (messages.member_at syntax place) oneof.now.items.items) }
 {
     'each: for item in &oneof.items {
         let OneofItem::Field(field) = item else {

@@ -24,7 +24,8 @@ pub fn message_record(
     syntax: Syntax,
     message: &Message,
 ) -> Result<DescriptorProto, AllocError>
-    ensures { IfOk result (λ made. messages.IsType syntax (messages.type_of_message message.now) (message_view made)) }
+    ensures { IfOk result (λ made. messages.IsType syntax (messages.type_of_message message.now)
+        (message_view made)) }
 {
     type_record(alloc, syntax, message.name.value.as_str(), &message.items)
 }
@@ -37,7 +38,8 @@ fn type_record(
     name: &str,
     items: &Vec<MessageItem>,
 ) -> Result<DescriptorProto, AllocError>
-    ensures { IfOk result (λ made. messages.IsType syntax (messages.of_items name.now items.now.items) (message_view made)) }
+    ensures { IfOk result (λ made. messages.IsType syntax
+        (messages.of_items name.now items.now.items) (message_view made)) }
 {
     let nested_type = nested_types(alloc, syntax, items)?;
     message_of(alloc, syntax, name, items, nested_type)
@@ -51,7 +53,8 @@ fn message_of(
     items: &Vec<MessageItem>,
     nested_type: Vec<DescriptorProto>,
 ) -> Result<DescriptorProto, AllocError>
-    ensures { IfOk result (λ made. messages.IsMessage syntax name.now items.now.items (messages_of (map message_view nested_type.items)) (message_view made)) }
+    ensures { IfOk result (λ made. messages.IsMessage syntax name.now items.now.items
+        (messages_of (map message_view nested_type.items)) (message_view made)) }
 {
     let oneof_decl = oneofs(alloc, items)?;
     let mut record = DescriptorProto {
@@ -78,7 +81,8 @@ fn nested_types(
     syntax: Syntax,
     items: &Vec<MessageItem>,
 ) -> Result<Vec<DescriptorProto>, AllocError>
-    ensures { IfOk result (λ types. messages.AreTypes syntax (flat_map messages.types_at items.now.items) (messages_of (map message_view types.items))) }
+    ensures { IfOk result (λ types. messages.AreTypes syntax
+        (flat_map messages.types_at items.now.items) (messages_of (map message_view types.items))) }
 {
     let mut types = Vec::new(alloc);
     'each: for item in items {
@@ -95,7 +99,8 @@ fn add_types(
     item: &MessageItem,
     types: &mut Vec<DescriptorProto>,
 ) -> Result<(), AllocError>
-    ensures { OnOk result (messages.Adds syntax (messages.types_at item.now) (map message_view types.old.items) (map message_view types.new.items)) }
+    ensures { OnOk result (messages.Adds syntax (messages.types_at item.now)
+        (map message_view types.old.items) (map message_view types.new.items)) }
 {
     match item {
         MessageItem::Field(field) => add_type(alloc, syntax, field, types),
@@ -117,7 +122,8 @@ fn add_type(
     field: &Field,
     types: &mut Vec<DescriptorProto>,
 ) -> Result<(), AllocError>
-    ensures { OnOk result (messages.Adds syntax (messages.types_of_field field.now) (map message_view types.old.items) (map message_view types.new.items)) }
+    ensures { OnOk result (messages.Adds syntax (messages.types_of_field field.now)
+        (map message_view types.old.items) (map message_view types.new.items)) }
 {
     let name = field.name.value.as_str();
     match &field.kind {
@@ -140,7 +146,8 @@ fn types_of_oneof(
     oneof: &Oneof,
     types: &mut Vec<DescriptorProto>,
 ) -> Result<(), AllocError>
-    ensures { OnOk result (messages.Adds syntax (messages.types_of_oneof oneof.now) (map message_view types.old.items) (map message_view types.new.items)) }
+    ensures { OnOk result (messages.Adds syntax (messages.types_of_oneof oneof.now)
+        (map message_view types.old.items) (map message_view types.new.items)) }
 {
     'each: for item in &oneof.items {
         let OneofItem::Field(field) = item else {
@@ -159,7 +166,8 @@ pub fn types_of_extend(
     extend: &Extend,
     types: &mut Vec<DescriptorProto>,
 ) -> Result<(), AllocError>
-    ensures { OnOk result (messages.Adds syntax (messages.types_of_extend extend.now) (map message_view types.old.items) (map message_view types.new.items)) }
+    ensures { OnOk result (messages.Adds syntax (messages.types_of_extend extend.now)
+        (map message_view types.old.items) (map message_view types.new.items)) }
 {
     'each: for item in &extend.items {
         let ExtendItem::Field(field) = item else {

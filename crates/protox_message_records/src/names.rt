@@ -15,7 +15,8 @@ pub fn declared_names<'r>(
     alloc: Global,
     message: &'r DescriptorProto,
 ) -> Result<BTreeSet<&'r str>, AllocError>
-    ensures { IfOk result (λ names. synthetic.AreSame (map (λ n. n.now) names.keys) (synthetic.names_in (content.message_view message.now))) }
+    ensures { IfOk result (λ names. synthetic.AreSame (map (λ n. n.now) names.keys)
+        (synthetic.names_in (content.message_view message.now))) }
 {
     let mut names = BTreeSet::new(alloc);
     add_fields(&message.field, &mut names)?;
@@ -30,7 +31,9 @@ fn add_fields<'r>(
     fields: &'r Vec<FieldDescriptorProto>,
     names: &mut BTreeSet<&'r str>,
 ) -> Result<(), AllocError>
-    ensures { OnOk result (synthetic.AreSame (map (λ n. n.now) names.new.keys) (map (λ n. n.now) names.old.keys ++ synthetic.field_names (map content.field_view fields.now.items))) }
+    ensures { OnOk result (synthetic.AreSame (map (λ n. n.now) names.new.keys)
+        (map (λ n. n.now) names.old.keys
+        ++ synthetic.field_names (map content.field_view fields.now.items))) }
 {
     'each: for field in fields {
         add_name(&field.name, names)?;
@@ -42,7 +45,9 @@ fn add_types<'r>(
     types: &'r Vec<DescriptorProto>,
     names: &mut BTreeSet<&'r str>,
 ) -> Result<(), AllocError>
-    ensures { OnOk result (synthetic.AreSame (map (λ n. n.now) names.new.keys) (map (λ n. n.now) names.old.keys ++ synthetic.type_names (content.messages_of (map content.message_view types.now.items)))) }
+    ensures { OnOk result (synthetic.AreSame (map (λ n. n.now) names.new.keys)
+        (map (λ n. n.now) names.old.keys
+        ++ synthetic.type_names (content.messages_of (map content.message_view types.now.items)))) }
 {
     'each: for nested in types {
         add_name(&nested.name, names)?;
@@ -54,7 +59,9 @@ fn add_enums<'r>(
     enums: &'r Vec<EnumDescriptorProto>,
     names: &mut BTreeSet<&'r str>,
 ) -> Result<(), AllocError>
-    ensures { OnOk result (synthetic.AreSame (map (λ n. n.now) names.new.keys) (map (λ n. n.now) names.old.keys ++ synthetic.enum_names (map content.enum_view enums.now.items))) }
+    ensures { OnOk result (synthetic.AreSame (map (λ n. n.now) names.new.keys)
+        (map (λ n. n.now) names.old.keys
+        ++ synthetic.enum_names (map content.enum_view enums.now.items))) }
 {
     'each: for enumeration in enums {
         add_name(&enumeration.name, names)?;
@@ -66,7 +73,9 @@ fn add_oneofs<'r>(
     oneofs: &'r Vec<OneofDescriptorProto>,
     names: &mut BTreeSet<&'r str>,
 ) -> Result<(), AllocError>
-    ensures { OnOk result (synthetic.AreSame (map (λ n. n.now) names.new.keys) (map (λ n. n.now) names.old.keys ++ synthetic.oneof_names (map content.oneof_view oneofs.now.items))) }
+    ensures { OnOk result (synthetic.AreSame (map (λ n. n.now) names.new.keys)
+        (map (λ n. n.now) names.old.keys
+        ++ synthetic.oneof_names (map content.oneof_view oneofs.now.items))) }
 {
     'each: for oneof in oneofs {
         add_name(&oneof.name, names)?;
@@ -75,7 +84,8 @@ fn add_oneofs<'r>(
 }
 
 fn add_name<'r>(name: &'r Option<String>, names: &mut BTreeSet<&'r str>) -> Result<(), AllocError>
-    ensures { OnOk result (synthetic.AreSame (map (λ n. n.now) names.new.keys) (map (λ n. n.now) names.old.keys ++ synthetic.if_named (content.text_view name.now))) }
+    ensures { OnOk result (synthetic.AreSame (map (λ n. n.now) names.new.keys)
+        (map (λ n. n.now) names.old.keys ++ synthetic.if_named (content.text_view name.now))) }
 {
     if let Some(name) = name {
         names.insert(name.as_str())?;

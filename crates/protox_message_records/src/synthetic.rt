@@ -21,7 +21,8 @@ pub fn synthetic_oneofs(
     items: &Vec<MessageItem>,
     message: &DescriptorProto,
 ) -> Result<Vec<OneofDescriptorProto>, AllocError>
-    ensures { IfOk result (λ oneofs. AreNamedAfter (names_in (message_view message.now)) (flat_map (alone_at syntax) items.now.items) (map oneof_view oneofs.items)) }
+    ensures { IfOk result (λ oneofs. AreNamedAfter (names_in (message_view message.now))
+        (flat_map (alone_at syntax) items.now.items) (map oneof_view oneofs.items)) }
 {
     let taken = declared_names(alloc, message)?;
     named_oneofs(alloc, syntax, items, &taken)
@@ -34,7 +35,8 @@ fn named_oneofs(
     items: &Vec<MessageItem>,
     taken: &BTreeSet<&str>,
 ) -> Result<Vec<OneofDescriptorProto>, AllocError>
-    ensures { IfOk result (λ oneofs. AreNamedAfter (map (λ n. n.now) taken.now.keys) (flat_map (alone_at syntax) items.now.items) (map oneof_view oneofs.items)) }
+    ensures { IfOk result (λ oneofs. AreNamedAfter (map (λ n. n.now) taken.now.keys)
+        (flat_map (alone_at syntax) items.now.items) (map oneof_view oneofs.items)) }
 {
     let mut oneofs = Vec::new(alloc);
     'each: for item in items {
@@ -55,7 +57,8 @@ fn synthetic_oneof(
     field: &str,
     taken: &BTreeSet<&str>,
 ) -> Result<OneofDescriptorProto, AllocError>
-    ensures { IfOk result (λ oneof. IsNamedAfter (map (λ n. n.now) taken.now.keys) field.now (oneof_view oneof)) }
+    ensures { IfOk result (λ oneof. IsNamedAfter (map (λ n. n.now) taken.now.keys) field.now
+        (oneof_view oneof)) }
 {
     Ok(OneofDescriptorProto {
         name: Some(oneof_name(alloc, field, taken)?),
@@ -65,7 +68,8 @@ fn synthetic_oneof(
 
 /// The name `_` and the field's name, with as many `X` in front as make it free.
 fn oneof_name(alloc: Global, field: &str, taken: &BTreeSet<&str>) -> Result<String, AllocError>
-    ensures { IfOk result (λ name. IsFreed (map (λ n. n.now) taken.now.keys) (95 ∷ field.now) (string_bytes name)) }
+    ensures { IfOk result (λ name. IsFreed (map (λ n. n.now) taken.now.keys) (95 ∷ field.now)
+        (string_bytes name)) }
 {
     let mut name = format!(in alloc; "_{field}")?;
     'letters: while taken.contains(name.as_str()) {

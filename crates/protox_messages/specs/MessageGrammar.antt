@@ -52,7 +52,8 @@ module _ (inner : Parser Block) where
   abbrev pub member_unless : Option Span → Parser Member
   member_unless (Some at) = pure (member_empty at)
   member_unless None =
-      choose (sees (ident (codes "option"))) (member_option <$> option) (member_field <$> field_with)
+      choose (sees (ident (codes "option"))) (member_option <$> option)
+      (member_field <$> field_with)
 
   -- What may stand in a oneof.
   unfoldable pub member_with : Parser Member

@@ -20,7 +20,8 @@ use protox_tree::{
 };
 use std::alloc::Global;
 
-/// What stands in the braces of a message or a group, and these, of which so many may be open at most.
+/// What stands in the braces of a message or a group, and these, of which so many may be open at
+/// most.
 #[cycle(message)]
 #[tactic(auto, unfolding(crate::specs::MessageGrammar::block))]
 fn block<'a>(
@@ -28,7 +29,8 @@ fn block<'a>(
     tokens: &mut Tokens<'a>,
     levels: u8,
 ) -> Result<(Vec<MessageItem>, Span), Stop<'a>>
-    ensures reads { Reads (λ b. (items_view b.0.items, b.1)) (spec.block levels (stream tokens.old)) result tokens.new }
+    ensures reads { Reads (λ b. (items_view b.0.items, b.1)) (spec.block levels (stream tokens.old))
+        result tokens.new }
     ensures moves { OnOk result (left tokens.new < left tokens.old) }
 {
     let open = tokens.expect_sign(Sign::LeftBrace)?;
@@ -47,7 +49,8 @@ fn inside<'a>(
     tokens: &mut Tokens<'a>,
     levels: u8,
 ) -> Result<(Vec<MessageItem>, Span), Stop<'a>>
-    ensures reads { Reads (λ b. (items_view b.0.items, b.1)) (spec.inside_with (spec.block levels) (stream tokens.old)) result tokens.new }
+    ensures reads { Reads (λ b. (items_view b.0.items, b.1))
+        (spec.inside_with (spec.block levels) (stream tokens.old)) result tokens.new }
     ensures moves { OnOk result (left tokens.new < left tokens.old) }
 {
     let items = items(alloc, tokens, levels)?;
@@ -62,7 +65,8 @@ fn items<'a>(
     tokens: &mut Tokens<'a>,
     levels: u8,
 ) -> Result<Vec<MessageItem>, Stop<'a>>
-    ensures reads { Reads (λ v. items_view v.items) (spec.items_with (spec.block levels) (stream tokens.old)) result tokens.new }
+    ensures reads { Reads (λ v. items_view v.items)
+        (spec.items_with (spec.block levels) (stream tokens.old)) result tokens.new }
     ensures moves { OnOk result (left tokens.new ≤ left tokens.old) }
 {
     let mut items = Vec::new(alloc);
@@ -77,7 +81,8 @@ fn items<'a>(
 #[cycle(message)]
 #[tactic(auto, unfolding(crate::specs::MessageGrammar::item_with))]
 fn item<'a>(alloc: Global, tokens: &mut Tokens<'a>, levels: u8) -> Result<MessageItem, Stop<'a>>
-    ensures reads { Reads item_view (spec.item_with (spec.block levels) (stream tokens.old)) result tokens.new }
+    ensures reads { Reads item_view (spec.item_with (spec.block levels) (stream tokens.old))
+        result tokens.new }
     ensures moves { OnOk result (left tokens.new < left tokens.old) }
 {
     if let Some(span) = tokens.eat_sign(Sign::Semicolon) {
@@ -119,7 +124,8 @@ fn item<'a>(alloc: Global, tokens: &mut Tokens<'a>, levels: u8) -> Result<Messag
 #[cycle(message)]
 #[tactic(auto, unfolding(crate::specs::MessageGrammar::message_with))]
 pub fn message<'a>(alloc: Global, tokens: &mut Tokens<'a>, levels: u8) -> Result<Message, Stop<'a>>
-    ensures reads { Reads message_view (spec.message_with (spec.block levels) (stream tokens.old)) result tokens.new }
+    ensures reads { Reads message_view (spec.message_with (spec.block levels) (stream tokens.old))
+        result tokens.new }
     ensures moves { OnOk result (left tokens.new < left tokens.old) }
 {
     let first = tokens.expect(token::MESSAGE)?;
@@ -141,7 +147,8 @@ fn plain_field<'a>(
     start: Span,
     label: Option<(Label, Span)>,
 ) -> Result<Field, Stop<'a>>
-    ensures reads { Reads field_view (fields.plain_field start label (stream tokens.old)) result tokens.new }
+    ensures reads { Reads field_view (fields.plain_field start label (stream tokens.old))
+        result tokens.new }
     ensures moves { OnOk result (left tokens.new < left tokens.old) }
 {
     let kind = field_type(alloc, tokens)?;
@@ -164,7 +171,8 @@ fn plain_field<'a>(
 #[cycle(message)]
 #[tactic(auto, unfolding(crate::specs::MessageGrammar::field_with))]
 fn field<'a>(alloc: Global, tokens: &mut Tokens<'a>, levels: u8) -> Result<Field, Stop<'a>>
-    ensures reads { Reads field_view (spec.field_with (spec.block levels) (stream tokens.old)) result tokens.new }
+    ensures reads { Reads field_view (spec.field_with (spec.block levels) (stream tokens.old))
+        result tokens.new }
     ensures moves { OnOk result (left tokens.new < left tokens.old) }
 {
     let start = tokens.next_span();
@@ -178,7 +186,8 @@ fn field<'a>(alloc: Global, tokens: &mut Tokens<'a>, levels: u8) -> Result<Field
 }
 
 fn group_kind(word: Span, braces: Span, items: Vec<MessageItem>) -> FieldKind
-    ensures { kind_view result ≡ nest.group (nest.a_group word braces (nest.items_of (items_view items.items))) }
+    ensures { kind_view result ≡ nest.group
+        (nest.a_group word braces (nest.items_of (items_view items.items))) }
 {
     FieldKind::Group(Group {
         word,
@@ -198,7 +207,9 @@ fn group<'a>(
     label: Option<(Label, Span)>,
     word: Span,
 ) -> Result<Field, Stop<'a>>
-    ensures reads { Reads field_view (spec.group_with (spec.block levels) start label word (stream tokens.old)) result tokens.new }
+    ensures reads { Reads field_view
+        (spec.group_with (spec.block levels) start label word (stream tokens.old))
+        result tokens.new }
     ensures moves { OnOk result (left tokens.new < left tokens.old) }
 {
     let name = tokens.ident(alloc)?;
@@ -219,7 +230,8 @@ fn group<'a>(
 #[cycle(message)]
 #[tactic(auto, unfolding(crate::specs::MessageGrammar::member_with))]
 fn member<'a>(alloc: Global, tokens: &mut Tokens<'a>, levels: u8) -> Result<OneofItem, Stop<'a>>
-    ensures reads { Reads member_view (spec.member_with (spec.block levels) (stream tokens.old)) result tokens.new }
+    ensures reads { Reads member_view (spec.member_with (spec.block levels) (stream tokens.old))
+        result tokens.new }
     ensures moves { OnOk result (left tokens.new < left tokens.old) }
 {
     if let Some(span) = tokens.eat_sign(Sign::Semicolon) {
@@ -240,7 +252,8 @@ fn members<'a>(
     tokens: &mut Tokens<'a>,
     levels: u8,
 ) -> Result<Vec<OneofItem>, Stop<'a>>
-    ensures reads { Reads (λ v. members_view v.items) (spec.members_with (spec.block levels) (stream tokens.old)) result tokens.new }
+    ensures reads { Reads (λ v. members_view v.items)
+        (spec.members_with (spec.block levels) (stream tokens.old)) result tokens.new }
     ensures moves { OnOk result (left tokens.new ≤ left tokens.old) }
 {
     let mut items = Vec::new(alloc);
@@ -255,7 +268,8 @@ fn members<'a>(
 #[cycle(message)]
 #[tactic(auto, unfolding(crate::specs::MessageGrammar::oneof_with))]
 fn oneof<'a>(alloc: Global, tokens: &mut Tokens<'a>, levels: u8) -> Result<Oneof, Stop<'a>>
-    ensures reads { Reads oneof_view (spec.oneof_with (spec.block levels) (stream tokens.old)) result tokens.new }
+    ensures reads { Reads oneof_view (spec.oneof_with (spec.block levels) (stream tokens.old))
+        result tokens.new }
     ensures moves { OnOk result (left tokens.new < left tokens.old) }
 {
     let first = tokens.expect(token::ONEOF)?;
@@ -274,7 +288,8 @@ fn oneof<'a>(alloc: Global, tokens: &mut Tokens<'a>, levels: u8) -> Result<Oneof
 #[cycle(message)]
 #[tactic(auto, unfolding(crate::specs::MessageGrammar::added_with))]
 fn added<'a>(alloc: Global, tokens: &mut Tokens<'a>, levels: u8) -> Result<ExtendItem, Stop<'a>>
-    ensures reads { Reads added_view (spec.added_with (spec.block levels) (stream tokens.old)) result tokens.new }
+    ensures reads { Reads added_view (spec.added_with (spec.block levels) (stream tokens.old))
+        result tokens.new }
     ensures moves { OnOk result (left tokens.new < left tokens.old) }
 {
     if let Some(span) = tokens.eat_sign(Sign::Semicolon) {
@@ -291,7 +306,8 @@ fn all_added<'a>(
     tokens: &mut Tokens<'a>,
     levels: u8,
 ) -> Result<Vec<ExtendItem>, Stop<'a>>
-    ensures reads { Reads (λ v. added_items_view v.items) (spec.all_added_with (spec.block levels) (stream tokens.old)) result tokens.new }
+    ensures reads { Reads (λ v. added_items_view v.items)
+        (spec.all_added_with (spec.block levels) (stream tokens.old)) result tokens.new }
     ensures moves { OnOk result (left tokens.new ≤ left tokens.old) }
 {
     let mut items = Vec::new(alloc);
@@ -306,7 +322,8 @@ fn all_added<'a>(
 #[cycle(message)]
 #[tactic(auto, unfolding(crate::specs::MessageGrammar::extend_with))]
 pub fn extend<'a>(alloc: Global, tokens: &mut Tokens<'a>, levels: u8) -> Result<Extend, Stop<'a>>
-    ensures reads { Reads extend_view (spec.extend_with (spec.block levels) (stream tokens.old)) result tokens.new }
+    ensures reads { Reads extend_view (spec.extend_with (spec.block levels) (stream tokens.old))
+        result tokens.new }
     ensures moves { OnOk result (left tokens.new < left tokens.old) }
 {
     let first = tokens.expect(token::EXTEND)?;

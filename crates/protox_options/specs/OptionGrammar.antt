@@ -69,7 +69,8 @@ plain_value = one source an_option_value plain_of
 
 abbrev pub signed_or_plain : Option Span → Parser Value
 signed_or_plain (Some minus) = negative minus
-signed_or_plain None = choose (sees (sign s.LeftBrace)) ((λ a. braces_value a.0 a.1) <$> aggregate) plain_value
+signed_or_plain None = choose (sees (sign s.LeftBrace))
+    ((λ a. braces_value a.0 a.1) <$> aggregate) plain_value
 
 -- An option's value: a string, or what stands behind a minus, or braces, or a word or a number.
 unfoldable pub value : Parser Value

@@ -19,7 +19,8 @@ pub fn parts_after<'a>(
     tokens: &mut Tokens<'a>,
     first: Ident,
 ) -> Result<FullIdent, Stop<'a>>
-    ensures reads { Reads full_view (spec.parts_after (ident_view first) (stream tokens.old)) result tokens.new }
+    ensures reads { Reads full_view (spec.parts_after (ident_view first) (stream tokens.old))
+        result tokens.new }
     ensures moves { OnOk result (left tokens.new ≤ left tokens.old) }
 {
     let mut list = one(alloc, first)?;

@@ -36,7 +36,8 @@ fn name_part<'a>(alloc: Global, tokens: &mut Tokens<'a>) -> Result<OptionNamePar
 
 #[tactic(auto, unfolding(crate::specs::OptionGrammar::name))]
 fn name<'a>(alloc: Global, tokens: &mut Tokens<'a>) -> Result<Vec<OptionNamePart>, Stop<'a>>
-    ensures reads { Reads (λ v. name_view v.items) (spec.name (stream tokens.old)) result tokens.new }
+    ensures reads { Reads (λ v. name_view v.items) (spec.name (stream tokens.old))
+        result tokens.new }
     ensures moves { OnOk result (left tokens.new < left tokens.old) }
     ensures some { IfOk result (λ parts. 0 < vec_len parts) }
 {
@@ -59,7 +60,8 @@ enum Negated<'a> {
 }
 
 fn behind_minus(token: Token<'_>) -> Option<Negated<'_>>
-    ensures { (at : spans.Span) → option_map (λ n. negated_value n at) result ≡ spec.negative_of (token_of token.entry) at }
+    ensures { (at : spans.Span) → option_map (λ n. negated_value n at) result
+        ≡ spec.negative_of (token_of token.entry) at }
 {
     match token {
         Token::Int(value) => Some(Negated::Int(value)),
@@ -227,7 +229,8 @@ pub fn option<'a>(alloc: Global, tokens: &mut Tokens<'a>) -> Result<OptionStatem
 
 #[tactic(auto, unfolding(crate::specs::OptionGrammar::bodies))]
 fn bodies<'a>(alloc: Global, tokens: &mut Tokens<'a>) -> Result<Vec<OptionBody>, Stop<'a>>
-    ensures reads { Reads (λ v. bodies_view v.items) (spec.bodies (stream tokens.old)) result tokens.new }
+    ensures reads { Reads (λ v. bodies_view v.items) (spec.bodies (stream tokens.old))
+        result tokens.new }
     ensures moves { OnOk result (left tokens.new < left tokens.old) }
 {
     let first = body(alloc, tokens)?;
@@ -242,7 +245,8 @@ fn bodies<'a>(alloc: Global, tokens: &mut Tokens<'a>) -> Result<Vec<OptionBody>,
 /// Options in brackets, if there are any.
 #[tactic(auto, unfolding(crate::specs::OptionGrammar::options, crate::specs::OptionGrammar::in_brackets))]
 pub fn options<'a>(alloc: Global, tokens: &mut Tokens<'a>) -> Result<Option<OptionList>, Stop<'a>>
-    ensures reads { Reads (λ o. option_map option_list_view o) (spec.options (stream tokens.old)) result tokens.new }
+    ensures reads { Reads (λ o. option_map option_list_view o) (spec.options (stream tokens.old))
+        result tokens.new }
     ensures moves { OnOk result (left tokens.new ≤ left tokens.old) }
 {
     let Some(open) = tokens.eat_sign(Sign::LeftBracket) else {

@@ -54,7 +54,8 @@ pub fn ranges<'a>(alloc: Global, tokens: &mut Tokens<'a>) -> Result<Vec<Reserved
 
 #[tactic(auto, unfolding(crate::specs::RangeGrammar::names))]
 fn names<'a>(alloc: Global, tokens: &mut Tokens<'a>) -> Result<Vec<Strings>, Stop<'a>>
-    ensures reads { Reads (λ v. names_view v.items) (spec.names (stream tokens.old)) result tokens.new }
+    ensures reads { Reads (λ v. names_view v.items) (spec.names (stream tokens.old))
+        result tokens.new }
     ensures moves { OnOk result (left tokens.new < left tokens.old) }
 {
     let first = strings(alloc, tokens)?;
@@ -68,7 +69,8 @@ fn names<'a>(alloc: Global, tokens: &mut Tokens<'a>) -> Result<Vec<Strings>, Sto
 
 #[tactic(auto, unfolding(crate::specs::RangeGrammar::reserved_items))]
 fn reserved_items<'a>(alloc: Global, tokens: &mut Tokens<'a>) -> Result<ReservedItems, Stop<'a>>
-    ensures reads { Reads reserved_items_view (spec.reserved_items (stream tokens.old)) result tokens.new }
+    ensures reads { Reads reserved_items_view (spec.reserved_items (stream tokens.old))
+        result tokens.new }
     ensures moves { OnOk result (left tokens.new < left tokens.old) }
 {
     if is_string(tokens) {

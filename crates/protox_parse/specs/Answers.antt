@@ -25,14 +25,16 @@ Tells fault faults = (kind : ParseErrorKind) × (faults ≡ kind ∷ []) × IsTo
 abbrev pub HasFaults : File → List ParseErrorKind → Type 0
 HasFaults tree faults = (faults ≡ checks.faults_of tree) × (0 < length faults)
 
--- Why a source is refused: it spells no tree, and its first fault is told; or it spells one that has faults, and all of them are told.
+-- Why a source is refused: it spells no tree, and its first fault is told; or it spells one that
+-- has faults, and all of them are told.
 abbrev pub AreAtFault : Text → List ParseErrorKind → Type 0
 AreAtFault z faults =
     ((fault : Fault) × RefusedBy z fault × Tells fault faults)
     ⊎ ((tree : File) × Spells z tree × HasFaults tree faults)
 
 -- The record of a tree under a name, with the locations that the tree has in a text.
-pub record IsRecordOf (name z : Text) (tree : trees.File) (made : records.FileContent) : Type 0 where
+pub record IsRecordOf (name z : Text) (tree : trees.File)
+    (made : records.FileContent) : Type 0 where
   pub bare : records.FileContent
   pub bare_is : IsFile name tree bare
   pub locations : List records.LocationContent

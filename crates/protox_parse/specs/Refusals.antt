@@ -34,9 +34,11 @@ first_fault e = slice_get (faults_of e) 0
 abbrev pub first_span : ParseError → Option Span
 first_span e = option_and_then span_of (first_fault e)
 
--- the line and the column, both from 0, at which bytes begin between these line feeds, if an `i32` counts the bytes before them
+-- the line and the column, both from 0, at which bytes begin between these line feeds, if an `i32`
+-- counts the bytes before them
 abbrev pub place_among : List ℕ → Span → Option (ℤ × ℤ)
-place_among feeds span = if nat_lt span.start (2 ^ 31) then Some (pos (line_at feeds span.start), pos (column_at feeds span.start)) else None
+place_among feeds span = if nat_lt span.start (2 ^ 31)
+    then Some (pos (line_at feeds span.start), pos (column_at feeds span.start)) else None
 
 -- the same in a source
 abbrev pub place_in : Text → Span → Option (ℤ × ℤ)
@@ -44,13 +46,16 @@ place_in source span = place_among (feeds_of source) span
 
 -- where bytes stand by the lines that are known, if any are
 abbrev pub resolved : Option (Bor LineResolver) → Option Span → Option (ℤ × ℤ)
-resolved lines span = option_and_then (λ s. option_and_then (λ l. place_among (feeds l.now) s) lines) span
+resolved lines span = option_and_then
+    (λ s. option_and_then (λ l. place_among (feeds l.now) s) lines) span
 
--- a refusal of this source under this name: the file that it tells is of this name, and its position is where the bytes of its first
--- fault begin in this source; where the fault has no bytes, it tells none
+-- a refusal of this source under this name: the file that it tells is of this name, and its
+-- position is where the bytes of its first fault begin in this source; where the fault has no
+-- bytes, it tells none
 abbrev pub IsRefusalOf : List ℕ → Text → ParseError → Type 0
 IsRefusalOf name source Memory = ⊥
-IsRefusalOf name source (Refused r) = (string_bytes r.file ≡ name) × (r.position ≡ option_and_then (place_in source) (first_span (Refused r)))
+IsRefusalOf name source (Refused r) = (string_bytes r.file ≡ name)
+    × (r.position ≡ option_and_then (place_in source) (first_span (Refused r)))
 
 -- what is said of the first fault, or of want of memory
 abbrev pub said_first : Option ParseErrorKind → List ℕ
@@ -63,9 +68,11 @@ told e = said_first (first_fault e)
 -- a line and a column from 1, with a colon behind each
 abbrev pub place_text : Option (ℤ × ℤ) → List ℕ
 place_text None = []
-place_text (Some at) = signed_decimal (at.0 +ℤ pos 1) ++ (codes ":" ++ (signed_decimal (at.1 +ℤ pos 1) ++ codes ":"))
+place_text (Some at) = signed_decimal (at.0 +ℤ pos 1)
+    ++ (codes ":" ++ (signed_decimal (at.1 +ℤ pos 1) ++ codes ":"))
 
 -- the same behind the file and the place
 abbrev pub told_at : ParseError → List ℕ
 told_at Memory = told Memory
-told_at (Refused r) = (string_bytes r.file ++ codes ":") ++ (place_text r.position ++ (codes " " ++ told (Refused r)))
+told_at (Refused r) = (string_bytes r.file ++ codes ":")
+    ++ (place_text r.position ++ (codes " " ++ told (Refused r)))

@@ -40,7 +40,8 @@ impl Refusal {
         requires { 0 < vec_len faults }
         ensures file { IfOk result (λ r. string_bytes r.file ≡ name.now) }
         ensures faults { IfOk result (λ r. r.faults ≡ faults) }
-        ensures position { IfOk result (λ r. r.position ≡ resolved lines.entry (first_span (Refused r))) }
+        ensures position { IfOk result
+            (λ r. r.position ≡ resolved lines.entry (first_span (Refused r))) }
     {
         let file = String::from_str(alloc, name)?;
         let position = Refusal::place(lines, faults[0].span());
@@ -51,7 +52,8 @@ impl Refusal {
         })
     }
 
-    /// The line and column at which a span begins, where the lines are known and an `i32` counts the bytes before it.
+    /// The line and column at which a span begins, where the lines are known and an `i32` counts
+    /// the bytes before it.
     fn place(lines: Option<&LineResolver>, span: Option<Span>) -> Option<(i32, i32)>
         ensures { result ≡ resolved lines.entry span }
     {
@@ -94,7 +96,8 @@ impl ParseError {
         self.kind()?.span()
     }
 
-    /// The line and column of the first fault, both from 0 and the column in bytes, where it has a place.
+    /// The line and column of the first fault, both from 0 and the column in bytes, where it has a
+    /// place.
     pub fn position(&self) -> Option<(i32, i32)>
         ensures { result ≡ position_of self.now }
     {
@@ -106,7 +109,8 @@ impl ParseError {
 
     /// All faults, in the order in which they stand in the source; none where memory ran out.
     ///
-    /// A source that cannot be read as a tree has one fault, the first. Of a tree all faults are listed.
+    /// A source that cannot be read as a tree has one fault, the first. Of a tree all faults are
+    /// listed.
     pub fn faults(&self) -> &[ParseErrorKind]
         ensures { result.now ≡ faults_of self.now }
     {

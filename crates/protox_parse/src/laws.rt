@@ -18,23 +18,29 @@ ghost use Rattle.protox_tree.specs.FileView.{file_view};
 ghost use Rattle.protox_tree.specs.declared.file.File as trees;
 ghost use Rattle.std.specs.Prelude.{◌≡◌, [], Err, Ok};
 
-/// A source that spells a tree is refused only with all faults of this tree, of which there are some.
+/// A source that spells a tree is refused only with all faults of this tree, of which there are
+/// some.
 pub fn refused_for_all_faults()
-    ensures { (name z : Text) (r : Refusal) (a : tree.File) → Spells z a → IsAnswered name z (Err (Refused r)) → HasFaults a r.faults.items }
+    ensures { (name z : Text) (r : Refusal) (a : tree.File) → Spells z a
+        → IsAnswered name z (Err (Refused r)) → HasFaults a r.faults.items }
 {}
 
 /// A source that spells a tree has a record only if this tree has no faults.
 pub fn recorded_without_faults()
-    ensures { (name z : Text) (made : FileDescriptorProto) (a : tree.File) → Spells z a → IsAnswered name z (Ok made) → faults_of a ≡ [] }
+    ensures { (name z : Text) (made : FileDescriptorProto) (a : tree.File) → Spells z a
+        → IsAnswered name z (Ok made) → faults_of a ≡ [] }
 {}
 
-/// What was clean while options stood only behind a last extension range with an end is not refused, but for want of memory.
+/// What was clean while options stood only behind a last extension range with an end is not
+/// refused, but for want of memory.
 pub fn older_sources_stay_clean()
-    ensures { (name z : Text) (a : tree.File) (r : Refusal) → SpellsOlder z a → faults_of a ≡ [] → IsAnswered name z (Err (Refused r)) → ⊥ }
+    ensures { (name z : Text) (a : tree.File) (r : Refusal) → SpellsOlder z a → faults_of a ≡ []
+        → IsAnswered name z (Err (Refused r)) → ⊥ }
 {}
 
 /// And it has the record of the tree that it spelled then, with the same places and comments.
 pub fn older_sources_have_the_same_record()
-    ensures { (name z : Text) (a : tree.File) (made : FileDescriptorProto) → SpellsOlder z a → IsAnswered name z (Ok made)
+    ensures { (name z : Text) (a : tree.File) (made : FileDescriptorProto) → SpellsOlder z a
+        → IsAnswered name z (Ok made)
         → (t : trees.File) × (file_view t ≡ a) × IsRecordOf name z t (records.file_view made) }
 {}

@@ -22,16 +22,19 @@ use protox_tokens::{Stop, one};
 use protox_tree::{File, ParseErrorKind};
 use std::alloc::Global;
 
-/// The record of a source of proto2 or proto3, under this file name, with the places and the comments of its declarations.
+/// The record of a source of proto2 or proto3, under this file name, with the places and the
+/// comments of its declarations.
 ///
-/// The grammar is that of the "Language Specification" of the two. A source that has it not is refused with its first fault;
-/// one that has it and breaks other rules is refused with all its faults, in source order. One of 2^31 bytes or more is refused
-/// as too large. A refusal names this file, and tells where in this source its first fault begins.
+/// The grammar is that of the "Language Specification" of the two. A source that has it not is
+/// refused with its first fault; one that has it and breaks other rules is refused with all its
+/// faults, in source order. One of 2^31 bytes or more is refused as too large. A refusal names this
+/// file, and tells where in this source its first fault begins.
 #[tactic(auto, using(crate::proofs::Answered::spelled, crate::proofs::Answered::unspelled))]
 pub fn parse(alloc: Global, name: &str, source: &str) -> Result<FileDescriptorProto, ParseError>
     ensures named { IfOk result (λ file. option_map string_bytes file.name ≡ Some name.now) }
     ensures refused { IfErr result (λ e. (e ≡ Memory) ⊎ IsRefusalOf name.now source.now e) }
-    ensures too_large { 2 ^ 31 ≤ length source.now → IsErrAnd result (λ e. (e ≡ Memory) ⊎ (faults_of e ≡ FileTooLarge ∷ [])) }
+    ensures too_large { 2 ^ 31 ≤ length source.now
+        → IsErrAnd result (λ e. (e ≡ Memory) ⊎ (faults_of e ≡ FileTooLarge ∷ [])) }
     ensures answered { length source.now < 2 ^ 31 → IsAnswered name.now source.now result }
 {
     if source.len() > i32::MAX as usize {
@@ -50,7 +53,8 @@ pub fn parse(alloc: Global, name: &str, source: &str) -> Result<FileDescriptorPr
     }
 }
 
-/// The record of a tree, under this name, with the places that it has in this source, or the refusal of a tree that has faults.
+/// The record of a tree, under this name, with the places that it has in this source, or the
+/// refusal of a tree that has faults.
 fn described(
     alloc: Global,
     name: &str,
@@ -61,9 +65,11 @@ fn described(
     requires { feeds lines.now ≡ feeds_of source.now }
     ensures named { IfOk result (λ file. option_map string_bytes file.name ≡ Some name.now) }
     ensures refused { IfErr result (λ e. (e ≡ Memory) ⊎ IsRefusalOf name.now source.now e) }
-    ensures recorded { IfOk result (λ made. IsRecordOf name.now source.now file.now (file_view made)) }
+    ensures recorded { IfOk result
+        (λ made. IsRecordOf name.now source.now file.now (file_view made)) }
     ensures faultless { IfOk result (λ _. checks.faults_of (trees.file_view file.now) ≡ []) }
-    ensures faulty { IfErr result (λ e. (e ≡ Memory) ⊎ HasFaults (trees.file_view file.now) (faults_of e)) }
+    ensures faulty { IfErr result (λ e. (e ≡ Memory)
+        ⊎ HasFaults (trees.file_view file.now) (faults_of e)) }
 {
     let faults = check_file(alloc, file)?;
     if !faults.is_empty() {

@@ -88,7 +88,8 @@ extensions_at _ = []
 
 -- ---- files
 
--- A file under this name, with these messages and no locations: of each kind all that stands there, in order.
+-- A file under this name, with these messages and no locations: of each kind all that stands there,
+-- in order.
 abbrev pub file_with : Text → File → List MessageContent → FileContent
 file_with name f messages = record {
   name = Some name;
@@ -115,4 +116,5 @@ types_at _ = []
 pub record IsFile (name : Text) (f : File) (made : FileContent) : Type 0 where
   pub is : made ≡ file_with name f made.message_type
   pub types_are :
-      AreTypes (syntax_of (file_view f).syntax) (flat_map types_at f.items.items) (messages_of made.message_type)
+      AreTypes (syntax_of (file_view f).syntax) (flat_map types_at f.items.items)
+      (messages_of made.message_type)

@@ -56,7 +56,8 @@ fn syntax_name(alloc: Global, syntax: Syntax) -> Result<Option<String>, AllocErr
 }
 
 fn package(alloc: Global, items: &Vec<FileItem>) -> Result<Option<String>, AllocError>
-    ensures { IfOk result (λ name. option_map string_bytes name ≡ fold files.package_after None items.now.items) }
+    ensures { IfOk result (λ name. option_map string_bytes name
+        ≡ fold files.package_after None items.now.items) }
 {
     let mut package = None;
     'each: for item in items {
@@ -74,7 +75,8 @@ fn messages(
     syntax: Syntax,
     items: &Vec<FileItem>,
 ) -> Result<Vec<DescriptorProto>, AllocError>
-    ensures { IfOk result (λ types. AreTypes syntax (flat_map files.types_at items.now.items) (content.messages_of (map content.message_view types.items))) }
+    ensures { IfOk result (λ types. AreTypes syntax (flat_map files.types_at items.now.items)
+        (content.messages_of (map content.message_view types.items))) }
 {
     let mut types = Vec::new(alloc);
     'each: for item in items {
@@ -90,7 +92,8 @@ fn add_types(
     item: &FileItem,
     types: &mut Vec<DescriptorProto>,
 ) -> Result<(), AllocError>
-    ensures { OnOk result (Adds syntax (files.types_at item.now) (map content.message_view types.old.items) (map content.message_view types.new.items)) }
+    ensures { OnOk result (Adds syntax (files.types_at item.now)
+        (map content.message_view types.old.items) (map content.message_view types.new.items)) }
 {
     match item {
         FileItem::Message(message) => {
@@ -103,7 +106,8 @@ fn add_types(
 }
 
 fn enums(alloc: Global, items: &Vec<FileItem>) -> Result<Vec<EnumDescriptorProto>, AllocError>
-    ensures { IfOk result (λ enums. map content.enum_view enums.items ≡ flat_map files.enum_at items.now.items) }
+    ensures { IfOk result (λ enums. map content.enum_view enums.items
+        ≡ flat_map files.enum_at items.now.items) }
 {
     let mut enums = Vec::new(alloc);
     'each: for item in items {
@@ -116,7 +120,8 @@ fn enums(alloc: Global, items: &Vec<FileItem>) -> Result<Vec<EnumDescriptorProto
 }
 
 fn services(alloc: Global, items: &Vec<FileItem>) -> Result<Vec<ServiceDescriptorProto>, AllocError>
-    ensures { IfOk result (λ services. map content.service_view services.items ≡ flat_map files.service_at items.now.items) }
+    ensures { IfOk result (λ services. map content.service_view services.items
+        ≡ flat_map files.service_at items.now.items) }
 {
     let mut services = Vec::new(alloc);
     'each: for item in items {
@@ -132,7 +137,8 @@ fn file_extensions(
     alloc: Global,
     items: &Vec<FileItem>,
 ) -> Result<Vec<FieldDescriptorProto>, AllocError>
-    ensures { IfOk result (λ fields. map content.field_view fields.items ≡ flat_map files.extensions_at items.now.items) }
+    ensures { IfOk result (λ fields. map content.field_view fields.items
+        ≡ flat_map files.extensions_at items.now.items) }
 {
     let mut fields = Vec::new(alloc);
     'each: for item in items {
@@ -145,7 +151,8 @@ fn file_extensions(
 }
 
 fn options(alloc: Global, items: &Vec<FileItem>) -> Result<Option<Options>, AllocError>
-    ensures { IfOk result (λ options. option_map content.options_view options ≡ options_of (flat_map files.option_at items.now.items)) }
+    ensures { IfOk result (λ options. option_map content.options_view options
+        ≡ options_of (flat_map files.option_at items.now.items)) }
 {
     let mut written = Vec::new(alloc);
     'each: for item in items {

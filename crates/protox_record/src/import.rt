@@ -12,7 +12,8 @@ use std::alloc::{AllocError, Global};
 
 /// The names of the imported files.
 pub fn dependencies(alloc: Global, items: &Vec<FileItem>) -> Result<Vec<String>, AllocError>
-    ensures { IfOk result (λ names. texts_view names ≡ files.names_of (flat_map files.import_at items.now.items)) }
+    ensures { IfOk result (λ names. texts_view names
+        ≡ files.names_of (flat_map files.import_at items.now.items)) }
 {
     let mut names = Vec::new(alloc);
     'each: for item in items {
@@ -30,7 +31,8 @@ pub fn places(
     kind: ImportKind,
     items: &Vec<FileItem>,
 ) -> Result<Vec<i32>, AllocError>
-    ensures { IfOk result (λ places. places.items ≡ files.places_from kind 0 (flat_map files.import_at items.now.items)) }
+    ensures { IfOk result (λ places. places.items
+        ≡ files.places_from kind 0 (flat_map files.import_at items.now.items)) }
 {
     let mut places = Vec::new(alloc);
     let mut place = 0;
@@ -51,7 +53,8 @@ fn add_place(
     place: usize,
     places: &mut Vec<i32>,
 ) -> Result<(), AllocError>
-    ensures { OnOk result (places.new.items ≡ places.old.items ++ files.place_at kind place import.now) }
+    ensures { OnOk result (places.new.items ≡ places.old.items
+        ++ files.place_at kind place import.now) }
 {
     if !is_of_kind(kind, import) {
         return Ok(());

@@ -9,10 +9,12 @@ ghost use Rattle.protox_tree.specs.declared.file.File as tree;
 
 /// A tree has one record under a name.
 pub fn one_record()
-    ensures { (name : Text) (file : tree.File) (a b : FileContent) → IsFile name file a → IsFile name file b → a ≡ b }
+    ensures { (name : Text) (file : tree.File) (a b : FileContent) → IsFile name file a
+        → IsFile name file b → a ≡ b }
 {}
 
 /// Fields whose oneofs have one name have one name themselves, whichever names are taken.
 pub fn oneofs_are_apart()
-    ensures { (xs ys : List Text) (a b made : Text) → IsFreed xs (95 ∷ a) made → IsFreed ys (95 ∷ b) made → a ≡ b }
+    ensures { (xs ys : List Text) (a b made : Text) → IsFreed xs (95 ∷ a) made
+        → IsFreed ys (95 ∷ b) made → a ≡ b }
 {}

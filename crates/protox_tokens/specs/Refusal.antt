@@ -49,7 +49,8 @@ pub data Fault : Type 0 where
   too_deep : Span → Fault
 
 abbrev pub fault_view : faults.Fault → Fault
-fault_view (fault.Unexpected expected found span) = unexpected (expected_view expected) (token_of found) span
+fault_view (fault.Unexpected expected found span) =
+    unexpected (expected_view expected) (token_of found) span
 fault_view (fault.Eof expected) = eof (expected_view expected)
 fault_view (fault.Lexical e) = lexical e
 fault_view (fault.UnknownSyntax span) = unknown_syntax span
@@ -67,7 +68,8 @@ misplaced e (Some k) t s = lex_fault k s
 
 abbrev pub refusal_of : Mode → Expected → Option Span → Lexeme → Fault
 refusal_of source e (Some c) l = hash_fault c
-refusal_of source e None (token_at a b t) = misplaced e (format_fault t) t (record { start = a; end = b })
+refusal_of source e None (token_at a b t) =
+    misplaced e (format_fault t) t (record { start = a; end = b })
 refusal_of source e None (fault_at k a b) = lex_fault k (record { start = a; end = b })
 refusal_of text e h (token_at a b t) = unexpected e t (record { start = a; end = b })
 refusal_of text e h (fault_at k a b) = lex_fault k (record { start = a; end = b })

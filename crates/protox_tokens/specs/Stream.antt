@@ -25,7 +25,8 @@ Stream = List Piece
 abbrev pub gather : Option Span → List Lexeme → Stream
 gather None [] = []
 gather (Some s) [] = last s ∷ []
-gather h (token_at a b comment ∷ ts) = gather (option_or h (Some (record { start = a; end = b }))) ts
+gather h (token_at a b comment ∷ ts) =
+    gather (option_or h (Some (record { start = a; end = b }))) ts
 gather h (token_at a b (ident t) ∷ ts) = piece h (token_at a b (ident t)) ∷ gather None ts
 gather h (token_at a b (int t) ∷ ts) = piece h (token_at a b (int t)) ∷ gather None ts
 gather h (token_at a b (float t) ∷ ts) = piece h (token_at a b (float t)) ∷ gather None ts
@@ -58,7 +59,8 @@ comment_of (Ok None) = None
 comment_of (Ok (Some l)) = comment_at (token_of l.token) l.span
 comment_of (Err e) = None
 
--- what is read of a source: the tokens that the longest match cuts it into, each with the comment before it
+-- what is read of a source: the tokens that the longest match cuts it into, each with the comment
+-- before it
 abbrev pub IsRead : Text → Stream → Type 0
 IsRead z s = (ts : List Lexeme) × Lexes 0 z ts × (s ≡ gather None ts)
 

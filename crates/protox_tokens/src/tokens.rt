@@ -22,9 +22,10 @@ use std::alloc::Global;
 
 /// What is left of a source.
 ///
-/// In an option's braces text format stands, where comments may begin with `#` and numbers end with `f`. Which of the two
-/// stands next is for the caller to say: the calls whose name ends with `in_text` take the next token as text format has it,
-/// all others refuse what text format alone has.
+/// In an option's braces text format stands, where comments may begin with `#` and numbers end with
+/// `f`. Which of the two stands next is for the caller to say: the calls whose name ends with
+/// `in_text` take the next token as text format has it, all others refuse what text format alone
+/// has.
 #[derive(Clone, Copy)]
 pub struct Tokens<'a> {
     lexer: Lexer<'a>,
@@ -69,7 +70,8 @@ fn comment(next: Result<Option<Lexeme<'_>>, LexError>) -> Option<Span>
 
 /// What the lexer gives next behind comments with `#`, and where the first of these stands.
 fn gathered<'a>(lexer: &mut Lexer<'a>) -> (Option<Span>, Result<Option<Lexeme<'a>>, LexError>)
-    ensures { from_ahead result.0 result.1 (gather None (lexed.stream lexer.new)) ≡ gather None (lexed.stream lexer.old) }
+    ensures { from_ahead result.0 result.1 (gather None (lexed.stream lexer.new))
+        ≡ gather None (lexed.stream lexer.old) }
 {
     let mut hash = None;
     let mut next = lexer.next();
@@ -170,7 +172,8 @@ impl<'a> Tokens<'a> {
         self.hash.is_none() && matches!(self.ahead, Ok(None))
     }
 
-    /// Where the next token stands; where there is none that may stand here, the start of the source.
+    /// Where the next token stands; where there is none that may stand here, the start of the
+    /// source.
     pub fn next_span(&self) -> Span
         ensures { result ≡ spec.span_of (spec.peek source (stream self.now)) }
     {
@@ -226,7 +229,8 @@ impl<'a> Tokens<'a> {
     /// Takes the next token if it is this one, and says where it stands.
     #[tactic(auto, unfolding(crate::specs::Parser::eat_in))]
     pub fn eat(&mut self, wanted: Token<'_>) -> Option<Span>
-        ensures reads { parser.eat (token_of wanted.entry) (stream self.old) ≡ Ok (result, stream self.new) }
+        ensures reads { parser.eat (token_of wanted.entry) (stream self.old)
+            ≡ Ok (result, stream self.new) }
         ensures some { OnSome result (left self.new < left self.old) }
         ensures none { IfNone result (left self.new ≡ left self.old) }
     {
@@ -258,7 +262,8 @@ impl<'a> Tokens<'a> {
     /// The same, in an option's braces.
     #[tactic(auto, unfolding(crate::specs::Parser::eat_in))]
     pub fn passes_in_text(&mut self, wanted: Sign) -> bool
-        ensures reads { parser.pass_in text (sign wanted) (stream self.old) ≡ Ok (result, stream self.new) }
+        ensures reads { parser.pass_in text (sign wanted) (stream self.old)
+            ≡ Ok (result, stream self.new) }
         ensures taken { result ≡ true → left self.new < left self.old }
         ensures not { result ≡ false → left self.new ≡ left self.old }
     {
@@ -272,7 +277,8 @@ impl<'a> Tokens<'a> {
     /// Takes this token, and says where it stands; refused where another comes next.
     #[tactic(auto, unfolding(crate::specs::Parser::expect_in))]
     pub fn expect(&mut self, wanted: Token<'static>) -> Result<Span, Stop<'a>>
-        ensures reads { Reads (λ x. x) (parser.expect (token_of wanted.entry) (stream self.old)) result self.new }
+        ensures reads { Reads (λ x. x) (parser.expect (token_of wanted.entry) (stream self.old))
+            result self.new }
         ensures moves { OnOk result (left self.new < left self.old) }
     {
         match self.saw(wanted) {
@@ -286,7 +292,8 @@ impl<'a> Tokens<'a> {
 
     /// Takes this sign, and says where it stands; refused where another token comes next.
     pub fn expect_sign(&mut self, wanted: Sign) -> Result<Span, Stop<'a>>
-        ensures reads { Reads (λ x. x) (parser.expect (sign wanted) (stream self.old)) result self.new }
+        ensures reads { Reads (λ x. x) (parser.expect (sign wanted) (stream self.old))
+            result self.new }
         ensures moves { OnOk result (left self.new < left self.old) }
     {
         self.expect(Token::Sign(wanted))
@@ -295,7 +302,8 @@ impl<'a> Tokens<'a> {
     /// The same, in an option's braces.
     #[tactic(auto, unfolding(crate::specs::Parser::expect_in))]
     pub fn expect_in_text(&mut self, wanted: Sign) -> Result<Span, Stop<'a>>
-        ensures reads { Reads (λ x. x) (parser.expect_in text (sign wanted) (stream self.old)) result self.new }
+        ensures reads { Reads (λ x. x) (parser.expect_in text (sign wanted) (stream self.old))
+            result self.new }
         ensures moves { OnOk result (left self.new < left self.old) }
     {
         match self.saw_in_text(wanted) {

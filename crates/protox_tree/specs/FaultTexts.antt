@@ -41,8 +41,10 @@ plain_words (kinds.UnterminatedString span) = fault_text lexical.UnterminatedStr
 plain_words (kinds.NestedBlockComment span) = fault_text lexical.NestedBlockComment
 plain_words (kinds.UnterminatedComment span) = fault_text lexical.UnterminatedComment
 plain_words (kinds.NoSpaceBetweenIntAndIdent span) = fault_text lexical.NoSpaceBetweenIntAndIdent
-plain_words (kinds.HashCommentOutsideTextFormat span) = fault_text lexical.HashCommentOutsideTextFormat
-plain_words (kinds.FloatSuffixOutsideTextFormat span) = fault_text lexical.FloatSuffixOutsideTextFormat
+plain_words (kinds.HashCommentOutsideTextFormat span) =
+    fault_text lexical.HashCommentOutsideTextFormat
+plain_words (kinds.FloatSuffixOutsideTextFormat span) =
+    fault_text lexical.FloatSuffixOutsideTextFormat
 plain_words kinds.FileTooLarge = codes "file is too large"
 plain_words (kinds.UnknownSyntax span) = codes "unknown syntax"
 plain_words (kinds.NestingTooDeep span) = codes "nesting is too deep"
@@ -72,8 +74,10 @@ plain_words (kinds.ExtensionRangeInProto3 span) = codes "extension ranges are no
 -- a line of words: of a token what was expected and what stands there, and else what is wrong
 abbrev pub said : ParseErrorKind → List ℕ
 said (kinds.UnexpectedToken expected found span) =
-    codes "expected " ++ (expected_text expected ++ (codes ", but found '" ++ (string_bytes found ++ codes "'")))
-said (kinds.UnexpectedEof expected) = codes "expected " ++ (expected_text expected ++ codes ", but reached end of file")
+    codes "expected " ++ (expected_text expected
+    ++ (codes ", but found '" ++ (string_bytes found ++ codes "'")))
+said (kinds.UnexpectedEof expected) = codes "expected "
+    ++ (expected_text expected ++ codes ", but reached end of file")
 said kind = plain_words kind
 
 -- the words at the place of a fault, none where it has none
@@ -94,9 +98,13 @@ label_of _ = codes "found here"
 
 -- what the author can do, where there is more to say than what is wrong
 abbrev pub help_of : ParseErrorKind → Option (List ℕ)
-help_of (kinds.NoSpaceBetweenIntAndIdent span) = Some (codes "write a space between the number and the name")
+help_of (kinds.NoSpaceBetweenIntAndIdent span) =
+    Some (codes "write a space between the number and the name")
 help_of (kinds.UnknownSyntax span) = Some (codes "the syntaxes 'proto2' and 'proto3' are supported")
-help_of (kinds.InvalidMessageNumber span) = Some (codes "the number must be between 1 and 536870911, inclusive")
-help_of (kinds.ReservedMessageNumber span) = Some (codes "the numbers 19000 to 19999 belong to the implementation of protobuf")
-help_of (kinds.MissingLabel span) = Some (codes "write 'optional', 'repeated' or 'required' before the field's type")
+help_of (kinds.InvalidMessageNumber span) =
+    Some (codes "the number must be between 1 and 536870911, inclusive")
+help_of (kinds.ReservedMessageNumber span) =
+    Some (codes "the numbers 19000 to 19999 belong to the implementation of protobuf")
+help_of (kinds.MissingLabel span) =
+    Some (codes "write 'optional', 'repeated' or 'required' before the field's type")
 help_of _ = None

@@ -50,7 +50,8 @@ item_span (file_empty span) = span
 
 -- from the first statement of a file to the last
 abbrev pub file_span : Option SyntaxStatement → List FileItem → Span
-file_span syntax items = spans_cover (option_to_list (option_map (λ s. s.span) syntax) ++ map item_span items)
+file_span syntax items = spans_cover
+    (option_to_list (option_map (λ s. s.span) syntax) ++ map item_span items)
 
 -- proto2, where no statement says otherwise
 abbrev pub syntax_of : Option SyntaxStatement → Syntax

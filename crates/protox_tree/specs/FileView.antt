@@ -33,4 +33,9 @@ abbrev pub file_items_view : List FileItem → List tree.FileItem
 file_items_view is = map file_item_view is
 
 abbrev pub file_view : File → tree.File
-file_view f = record { syntax = option_map syntax_view f.syntax; items = file_items_view f.items.items; span = f.span }
+file_view f = record {
+  syntax = option_map syntax_view f.syntax;
+  items =
+      file_items_view f.items.items;
+  span = f.span;
+}

@@ -56,7 +56,8 @@ pub data Value : Type 0 where
   -- `inf` or `nan` behind a minus, which stands in the span alone
   minus_word : Word → Value
   int_value : Int → Value
-  -- whether a minus stands before a float, and what stands behind it; the span begins with the minus
+  -- whether a minus stands before a float, and what stands behind it; the span begins with the
+  -- minus
   float_value : Bool → Word → Value
   strings_value : List Word → Value
   -- braces: the text of the tokens in them, and where they stand

@@ -104,7 +104,13 @@ reserved_view r = record { items = reserved_items_view r.items; span = r.span }
 -- ---- enums
 
 abbrev pub enum_value_view : EnumValue → tree.EnumValue
-enum_value_view v = record { name = ident_view v.name; number = v.number; options = option_map option_list_view v.options; span = v.span }
+enum_value_view v = record {
+  name = ident_view v.name;
+  number = v.number;
+  options =
+      option_map option_list_view v.options;
+  span = v.span;
+}
 
 abbrev pub enum_item_view : EnumItem → tree.EnumItem
 enum_item_view (enum_items.Value v) = tree.enum_value (enum_value_view v)
@@ -116,7 +122,13 @@ abbrev pub enum_items_view : List EnumItem → List tree.EnumItem
 enum_items_view is = map enum_item_view is
 
 abbrev pub enum_view : Enum → tree.Enum
-enum_view e = record { name = ident_view e.name; braces = e.braces; items = enum_items_view e.items.items; span = e.span }
+enum_view e = record {
+  name = ident_view e.name;
+  braces = e.braces;
+  items =
+      enum_items_view e.items.items;
+  span = e.span;
+}
 
 -- ---- services
 
@@ -134,7 +146,14 @@ abbrev pub method_body_view : MethodBody → tree.MethodBody
 method_body_view b = record { braces = b.braces; items = method_items_view b.items.items }
 
 abbrev pub method_view : Method → tree.Method
-method_view m = record { name = ident_view m.name; input = method_type_view m.input; output = method_type_view m.output; body = option_map method_body_view m.body; span = m.span }
+method_view m = record {
+  name = ident_view m.name;
+  input = method_type_view m.input;
+  output =
+      method_type_view m.output;
+  body = option_map method_body_view m.body;
+  span = m.span;
+}
 
 abbrev pub service_item_view : ServiceItem → tree.ServiceItem
 service_item_view (service_items.Method m) = tree.service_method (method_view m)
@@ -145,4 +164,10 @@ abbrev pub service_items_view : List ServiceItem → List tree.ServiceItem
 service_items_view is = map service_item_view is
 
 abbrev pub service_view : Service → tree.Service
-service_view s = record { name = ident_view s.name; braces = s.braces; items = service_items_view s.items.items; span = s.span }
+service_view s = record {
+  name = ident_view s.name;
+  braces = s.braces;
+  items =
+      service_items_view s.items.items;
+  span = s.span;
+}

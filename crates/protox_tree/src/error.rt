@@ -66,7 +66,8 @@ impl fmt::Display for ExpectedToken {
 
 /// One fault of a source, and the bytes at fault.
 ///
-/// The rules are those of the "Language Specification" of proto2 and proto3, and of the "Language Guide".
+/// The rules are those of the "Language Specification" of proto2 and proto3, and of the "Language
+/// Guide".
 #[derive(PartialEq, Debug, Drop)]
 pub enum ParseErrorKind {
     /// A character with which no token begins.
@@ -125,7 +126,8 @@ pub enum ParseErrorKind {
     UnknownSyntax {
         span: Span,
     },
-    /// The brace that opens the 32nd level of messages and groups, or the 101st inside an option's braces.
+    /// The brace that opens the 32nd level of messages and groups, or the 101st inside an option's
+    /// braces.
     NestingTooDeep {
         span: Span,
     },

@@ -56,7 +56,8 @@ pub enum OptionValue {
     /// The word `inf` or `nan` behind a minus. The span begins with the minus.
     NegativeWord(Ident),
     Int(Int),
-    /// A number with a point or an exponent. The sign stands apart from the text; the span begins with it.
+    /// A number with a point or an exponent. The sign stands apart from the text; the span begins
+    /// with it.
     Float { negative: bool, number: Float },
     String(Strings),
     Aggregate(Aggregate),

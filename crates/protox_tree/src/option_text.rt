@@ -42,7 +42,8 @@ fn write_sign<W: fmt::Write>(f: &mut fmt::Formatter<W>, negative: bool) -> fmt::
 }
 
 fn write_strings<W: fmt::Write>(f: &mut fmt::Formatter<W>, strings: &Strings) -> fmt::Result
-    ensures { WritesOnOk W.write_str_gives f.old result (texts.spaced (map texts.literal_text (strings_view strings.now))) f.new }
+    ensures { WritesOnOk W.write_str_gives f.old result
+        (texts.spaced (map texts.literal_text (strings_view strings.now))) f.new }
 {
     if let Some((first, others)) = strings.literals().split_first() {
         write_literal(f, first)?;
@@ -55,7 +56,8 @@ fn write_strings<W: fmt::Write>(f: &mut fmt::Formatter<W>, strings: &Strings) ->
 }
 
 fn write_literal<W: fmt::Write>(f: &mut fmt::Formatter<W>, literal: &Literal) -> fmt::Result
-    ensures { WritesOnOk W.write_str_gives f.old result (texts.literal_text (literal_view literal.now)) f.new }
+    ensures { WritesOnOk W.write_str_gives f.old result
+        (texts.literal_text (literal_view literal.now)) f.new }
 {
     write!(f, "\"{literal}\"")
 }

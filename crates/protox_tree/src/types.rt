@@ -98,7 +98,8 @@ impl Ty {
 
     /// The name as it is written, where the type is named. Refused only for want of memory.
     pub fn ty_name(&self, alloc: Global) -> Result<Option<String>, AllocError>
-        ensures { IfOk result (λ name. option_map string_bytes name ≡ written_name (ty_view self.now)) }
+        ensures { IfOk result (λ name. option_map string_bytes name
+            ≡ written_name (ty_view self.now)) }
     {
         match self {
             Ty::Scalar(_, _) => Ok(None),

@@ -93,7 +93,8 @@ impl Random {
         }
     }
 
-    /// A source of message types `r.M0`, `r.M1` and so on, whose fields have any kind but the floating-point ones.
+    /// A source of message types `r.M0`, `r.M1` and so on, whose fields have any kind but the
+    /// floating-point ones.
     pub fn source(&mut self) -> Result<String, AllocError> {
         let alloc = self.alloc;
         let is_proto3 = self.below(2) == 0;

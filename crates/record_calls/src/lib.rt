@@ -1,4 +1,5 @@
-//! Tests of public calls below the pool that no case of schema_tests reaches, each at least once with ample memory.
+//! Tests of public calls below the pool that no case of schema_tests reaches, each at least once
+//! with ample memory.
 //!
 //! Answers are worked by hand from the published documentation of the language and the encoding.
 #![tactic(auto)]

@@ -96,7 +96,8 @@ fn holds_option(file: &FileDescriptorProto, encoded: &[u8]) -> bool {
         && matches!(option.double_value, Some(DoubleValue::Bits(1)))
 }
 
-/// Whether the file's first message is a map entry whose first field is packed, and its first enum has no aliases.
+/// Whether the file's first message is a map entry whose first field is packed, and its first enum
+/// has no aliases.
 fn has_typed_options(file: &FileDescriptorProto) -> bool {
     let (Some(message), Some(enumeration)) = (file.message_type.first(), file.enum_type.first())
     else {

@@ -1,4 +1,5 @@
--- The field that a call by number or by name means: the first of the type that has it, if messages hold it.
+-- The field that a call by number or by name means: the first of the type that has it, if messages
+-- hold it.
 use Rattle.std.specs.Prelude.{◌≡◌, ◌⊎◌, ℕ, Bool, false, List, Option, None, Some}
 use Rattle.reflect_entries.specs.Entries.{value_at}
 use Rattle.reflect_tables.specs.Types.{FieldType}
@@ -53,7 +54,8 @@ HasOne Q (Some x) = Q x
 -- the field's value or its default is lent, or nothing where there is no field
 abbrev pub Lends : Asked → DynamicMessage → Option FieldRef → Type 0
 Lends P m r =
-    IfMeant P m.descriptor (λ f. HasOne (Shows (field_pool f) (field_type f) (under m f)) r) (r ≡ None)
+    IfMeant P m.descriptor (λ f. HasOne (Shows (field_pool f) (field_type f) (under m f)) r)
+    (r ≡ None)
 
 -- the field is set as by its descriptor, or nothing is changed where there is no field
 abbrev pub SetsMeant : Asked → DynamicMessage → DynamicMessage → Value → Type 0

@@ -38,7 +38,8 @@ set_fields pool i held = filter_map (set_field pool i) held
 -- the first extension that extends the type by the number
 abbrev pub numbered_extension : PoolType → ℕ → ℕ → Option FieldType
 numbered_extension pool i n =
-    option_map (λ x. x.field) (find (λ x. (x.extendee == i) && (x.field.number == n)) pool.extensions)
+    option_map (λ x. x.field) (find (λ x. (x.extendee == i) && (x.field.number == n))
+    pool.extensions)
 
 abbrev pub set_extension : PoolType → ℕ → ℕ × Value → Option Holding
 set_extension pool i e = option_and_then (if_set pool e.1) (numbered_extension pool i e.0)

@@ -45,25 +45,30 @@ pub trait FieldsByName<'p> {
     fn get_field_by_name(&self, name: &str) -> Result<Option<FieldRef<'_, 'p>>, AllocError>
         ensures { IfOk result (Lends (HasName name.now) (message self.now)) };
 
-    /// What the field of the name holds, to be changed, as `get_field_mut` gives it; `None` where there is no such field.
+    /// What the field of the name holds, to be changed, as `get_field_mut` gives it; `None` where
+    /// there is no such field.
     fn get_field_by_name_mut(&mut self, name: &str) -> Result<Option<&mut Value<'p>>, AllocError>;
 
-    /// Sets the field of the name to a value that suits it; without such a field nothing happens. A refusal leaves the
-    /// message.
+    /// Sets the field of the name to a value that suits it; without such a field nothing happens. A
+    /// refusal leaves the message.
     fn set_field_by_name(&mut self, name: &str, value: Value<'p>) -> Result<(), AllocError>
         ensures type_stays { (message self.new).descriptor ≡ (message self.old).descriptor }
-        ensures ok { OnOk result (SetsMeant (HasName name.now) (message self.old) (message self.new) value.entry) }
+        ensures ok { OnOk result (SetsMeant (HasName name.now) (message self.old) (message self.new)
+            value.entry) }
         ensures err { OnErr result (StaysWhole (message self.old) (message self.new)) };
 
-    /// Sets the field of the name, as `try_set_field` does. `NotFound` where there is no such field.
+    /// Sets the field of the name, as `try_set_field` does. `NotFound` where there is no such
+    /// field.
     fn try_set_field_by_name(
         &mut self,
         name: &str,
         value: Value<'p>,
     ) -> Result<(), SetFieldError<'p>>
         ensures type_stays { (message self.new).descriptor ≡ (message self.old).descriptor }
-        ensures ok { OnOk result (SetsMeant (HasName name.now) (message self.old) (message self.new) value.entry) }
-        ensures refused { IfErr result (RefusesSet (HasName name.now) (message self.old).descriptor value.entry) }
+        ensures ok { OnOk result (SetsMeant (HasName name.now) (message self.old) (message self.new)
+            value.entry) }
+        ensures refused { IfErr result
+            (RefusesSet (HasName name.now) (message self.old).descriptor value.entry) }
         ensures err { OnErr result (StaysWhole (message self.old) (message self.new)) };
 
     /// Unsets the field of the name, if there is one. Takes no memory.
@@ -71,10 +76,12 @@ pub trait FieldsByName<'p> {
         ensures type_stays { (message self.new).descriptor ≡ (message self.old).descriptor }
         ensures unsets { UnsetsMeant (HasName name.now) (message self.old) (message self.new) };
 
-    /// Unsets the field of the name and gives what it held, if there is one and it was set. Takes no memory.
+    /// Unsets the field of the name and gives what it held, if there is one and it was set. Takes
+    /// no memory.
     fn take_field_by_name(&mut self, name: &str) -> Option<Value<'p>>
         ensures type_stays { (message self.new).descriptor ≡ (message self.old).descriptor }
-        ensures takes { TakesMeant (HasName name.now) (message self.old) (message self.new) result };
+        ensures takes { TakesMeant (HasName name.now) (message self.old)
+            (message self.new) result };
 }
 
 impl<'p> FieldsByName<'p> for DynamicMessage<'p> {

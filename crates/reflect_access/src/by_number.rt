@@ -27,30 +27,35 @@ pub trait FieldsByNumber<'p> {
     fn get_field_by_number(&self, number: u32) -> Result<Option<FieldRef<'_, 'p>>, AllocError>
         ensures { IfOk result (Lends (HasNumber number) (message self.now)) };
 
-    /// What the field of the number holds, to be changed, as `get_field_mut` gives it; `None` where there is no such field.
+    /// What the field of the number holds, to be changed, as `get_field_mut` gives it; `None` where
+    /// there is no such field.
     fn get_field_by_number_mut(
         &mut self,
         number: u32,
     ) -> Result<Option<&mut Value<'p>>, AllocError>;
 
-    /// Sets the field of the number to a value that suits it; without such a field nothing happens. A refusal leaves the
-    /// message.
+    /// Sets the field of the number to a value that suits it; without such a field nothing happens.
+    /// A refusal leaves the message.
     fn set_field_by_number(&mut self, number: u32, value: Value<'p>) -> Result<(), AllocError>
         ensures type_stays { (message self.new).descriptor ≡ (message self.old).descriptor }
-        ensures ok { OnOk result (SetsMeant (HasNumber number) (message self.old) (message self.new) value.entry) }
+        ensures ok { OnOk result (SetsMeant (HasNumber number) (message self.old) (message self.new)
+            value.entry) }
         ensures exclusive { IsExclusive (message self.old) → IsExclusive (message self.new) }
         ensures err { OnErr result (StaysWhole (message self.old) (message self.new)) };
 
-    /// Sets the field of the number, as `try_set_field` does. `NotFound` where there is no such field.
+    /// Sets the field of the number, as `try_set_field` does. `NotFound` where there is no such
+    /// field.
     fn try_set_field_by_number(
         &mut self,
         number: u32,
         value: Value<'p>,
     ) -> Result<(), SetFieldError<'p>>
         ensures type_stays { (message self.new).descriptor ≡ (message self.old).descriptor }
-        ensures ok { OnOk result (SetsMeant (HasNumber number) (message self.old) (message self.new) value.entry) }
+        ensures ok { OnOk result (SetsMeant (HasNumber number) (message self.old) (message self.new)
+            value.entry) }
         ensures exclusive { IsExclusive (message self.old) → IsExclusive (message self.new) }
-        ensures refused { IfErr result (RefusesSet (HasNumber number) (message self.old).descriptor value.entry) }
+        ensures refused { IfErr result
+            (RefusesSet (HasNumber number) (message self.old).descriptor value.entry) }
         ensures err { OnErr result (StaysWhole (message self.old) (message self.new)) };
 
     /// Unsets the field of the number, if there is one. Takes no memory.
@@ -58,10 +63,12 @@ pub trait FieldsByNumber<'p> {
         ensures type_stays { (message self.new).descriptor ≡ (message self.old).descriptor }
         ensures unsets { UnsetsMeant (HasNumber number) (message self.old) (message self.new) };
 
-    /// Unsets the field of the number and gives what it held, if there is one and it was set. Takes no memory.
+    /// Unsets the field of the number and gives what it held, if there is one and it was set. Takes
+    /// no memory.
     fn take_field_by_number(&mut self, number: u32) -> Option<Value<'p>>
         ensures type_stays { (message self.new).descriptor ≡ (message self.old).descriptor }
-        ensures takes { TakesMeant (HasNumber number) (message self.old) (message self.new) result };
+        ensures takes { TakesMeant (HasNumber number) (message self.old)
+            (message self.new) result };
 }
 
 impl<'p> FieldsByNumber<'p> for DynamicMessage<'p> {

@@ -1,4 +1,5 @@
-//! Messages by the numbers and the names of their fields, walks over what they hold, and which values suit which fields.
+//! Messages by the numbers and the names of their fields, walks over what they hold, and which
+//! values suit which fields.
 #![tactic(auto)]
 
 mod by_name;

@@ -70,8 +70,10 @@ pub trait TrySetField<'p> {
     ) -> Result<(), SetFieldError<'p>>
         requires { Declares (message self.old).descriptor field.now }
         ensures type_stays { (message self.new).descriptor ≡ (message self.old).descriptor }
-        ensures ok { OnOk result (SetsField (message self.old) (message self.new) field.now value.entry) }
-        ensures exclusive { Owns (message self.old).descriptor field.now → IsExclusive (message self.old) → IsExclusive (message self.new) }
+        ensures ok { OnOk result (SetsField (message self.old) (message self.new) field.now
+            value.entry) }
+        ensures exclusive { Owns (message self.old).descriptor field.now
+            → IsExclusive (message self.old) → IsExclusive (message self.new) }
         ensures refused { IfErr result (HandsBack field.now value.entry) }
         ensures err { OnErr result (StaysWhole (message self.old) (message self.new)) };
 }

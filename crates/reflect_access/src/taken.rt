@@ -21,16 +21,19 @@ pub trait TakeContents<'p> {
     /// The message that it is.
     ghost message: { Self → DynamicMessage };
 
-    /// Unsets all fields, and gives those that were set with what they held, by ascending number. Takes no memory.
+    /// Unsets all fields, and gives those that were set with what they held, by ascending number.
+    /// Takes no memory.
     fn take_fields(&mut self) -> TakenFields<'p>
         ensures type_stays { (message self.new).descriptor ≡ (message self.old).descriptor }
-        ensures given { taken_fields_left result ≡ of_message (message self.old).descriptor (set_fields_of (message self.old)) }
+        ensures given { taken_fields_left result
+            ≡ of_message (message self.old).descriptor (set_fields_of (message self.old)) }
         ensures fields { fields_of (message self.new) ≡ [] }
         ensures exclusive { IsExclusive (message self.old) → IsExclusive (message self.new) }
         ensures extensions { extensions_of (message self.new) ≡ extensions_of (message self.old) }
         ensures unknown { unknown_of (message self.new) ≡ unknown_of (message self.old) };
 
-    /// Unsets all extensions, and gives those that were set with what they held, by ascending number. Takes no memory.
+    /// Unsets all extensions, and gives those that were set with what they held, by ascending
+    /// number. Takes no memory.
     fn take_extensions(&mut self) -> TakenExtensions<'p>
         ensures type_stays { (message self.new).descriptor ≡ (message self.old).descriptor }
         ensures given { taken_extensions_left result ≡ set_extensions_of (message self.old) }
@@ -39,11 +42,13 @@ pub trait TakeContents<'p> {
         ensures extensions { extensions_of (message self.new) ≡ [] }
         ensures unknown { unknown_of (message self.new) ≡ unknown_of (message self.old) };
 
-    /// Drops the records of numbers that the type does not declare, and gives copies of them in the order of
+    /// Drops the records of numbers that the type does not declare, and gives copies of them in the
+    /// order of
     /// `unknown_fields`. A refusal leaves the message.
     fn take_unknown_fields(&mut self) -> Result<Vec<UnknownField>, AllocError>
         ensures type_stays { (message self.new).descriptor ≡ (message self.old).descriptor }
-        ensures given { IfOk result (λ records. map field_view records.items ≡ unknown_of (message self.old)) }
+        ensures given { IfOk result (λ records. map field_view records.items
+            ≡ unknown_of (message self.old)) }
         ensures fields { fields_of (message self.new) ≡ fields_of (message self.old) }
         ensures exclusive { IsExclusive (message self.old) → IsExclusive (message self.new) }
         ensures extensions { extensions_of (message self.new) ≡ extensions_of (message self.old) }
@@ -101,7 +106,8 @@ fn unknown_copies(message: &DynamicMessage<'_>) -> Result<Vec<UnknownField>, All
 
 /// Puts a copy of the record behind the others.
 fn push_copy(fields: &mut Vec<UnknownField>, field: &UnknownField) -> Result<(), AllocError>
-    ensures { OnOk result (map field_view fields.new.items ≡ map field_view fields.old.items ++ (field_view field.now ∷ [])) }
+    ensures { OnOk result (map field_view fields.new.items ≡ map field_view fields.old.items
+        ++ (field_view field.now ∷ [])) }
 {
     fields.push(field.clone()?)?;
     Ok(())

@@ -8,7 +8,8 @@ use reflect_pool::{Kind, MessageDescriptor};
 use reflect_scalar::{AnyField, FieldDescriptorLike, MapKey, holds_floats};
 use std::collections::BTreeMap;
 
-/// The value suits a field or an extension, its label included. None suits one that messages do not hold.
+/// The value suits a field or an extension, its label included. None suits one that messages do not
+/// hold.
 pub fn is_valid_for<'p>(value: &Value<'p>, field: AnyField<'p>) -> bool {
     !holds_floats(&field) && content_suits(value, field, Strictness::Surface)
 }
@@ -140,11 +141,12 @@ fn message_suits(message: &DynamicMessage<'_>, strictness: Strictness) -> bool {
 
 /// A message that is asked whether what it holds suits its type.
 pub trait MessageTests {
-    /// At every depth each content has the case that its field's kind and label ask for, and so has each key of a map. Takes
-    /// no memory.
+    /// At every depth each content has the case that its field's kind and label ask for, and so has
+    /// each key of a map. Takes no memory.
     fn is_encodable(&self) -> bool;
 
-    /// The message is encodable, and at every depth each message is of its field's type. Takes no memory.
+    /// The message is encodable, and at every depth each message is of its field's type. Takes no
+    /// memory.
     fn is_typed(&self) -> bool;
 }
 

@@ -20,7 +20,8 @@ pub trait ValueTests<'p> {
     /// The value is the default of a field that holds one value of the kind.
     fn is_default(&self, kind: &Kind<'p>) -> bool;
 
-    /// The value is the default of the field. An empty list, map or message is that of each field that may hold it.
+    /// The value is the default of the field. An empty list, map or message is that of each field
+    /// that may hold it.
     fn is_default_for_field(&self, field: &FieldDescriptor<'p>) -> bool;
 
     /// The value is the default of the extension.

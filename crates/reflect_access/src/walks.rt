@@ -23,14 +23,15 @@ pub trait MessageWalks<'p> {
 
     /// The fields that are set, with what they hold, by ascending number. Takes no memory.
     fn fields(&self) -> FieldValues<'_, 'p>
-        ensures { fields_left result ≡ of_message (message self.now).descriptor (set_fields_of (message self.now)) };
+        ensures { fields_left result ≡ of_message (message self.now).descriptor
+            (set_fields_of (message self.now)) };
 
     /// The extensions that are set, with what they hold, by ascending number. Takes no memory.
     fn extensions(&self) -> ExtensionValues<'_, 'p>
         ensures { extensions_left result ≡ set_extensions_of (message self.now) };
 
-    /// The records of numbers that the type does not declare, by ascending number, those of a number as they came. Takes no
-    /// memory.
+    /// The records of numbers that the type does not declare, by ascending number, those of a
+    /// number as they came. Takes no memory.
     fn unknown_fields(&self) -> UnknownFields<'_>
         ensures { records_left result ≡ unknown_of (message self.now) };
 
@@ -101,7 +102,8 @@ pub fn field_if_set<'p>(
     value: &Value<'p>,
 ) -> Option<FieldDescriptor<'p>>
     ensures message { IfSome result (λ f. f.message ≡ descriptor.entry) }
-    ensures set { option_map (λ f. (field_type f, value.now)) result ≡ set_field descriptor.entry.pool.now descriptor.entry.index (number, value.now) }
+    ensures set { option_map (λ f. (field_type f, value.now)) result
+        ≡ set_field descriptor.entry.pool.now descriptor.entry.index (number, value.now) }
 {
     match descriptor.get_field(number) {
         Some(field) => {
@@ -121,7 +123,8 @@ pub fn extension_if_set<'p>(
     number: u32,
     value: &Value<'p>,
 ) -> Option<ExtensionDescriptor<'p>>
-    ensures { option_map (λ x. (extension_type x, value.now)) result ≡ set_extension descriptor.entry.pool.now descriptor.entry.index (number, value.now) }
+    ensures { option_map (λ x. (extension_type x, value.now)) result
+        ≡ set_extension descriptor.entry.pool.now descriptor.entry.index (number, value.now) }
 {
     match descriptor.get_extension(number) {
         Some(extension) => {

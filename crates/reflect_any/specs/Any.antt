@@ -12,15 +12,18 @@ shares pool i f = elim f.oneof [ None ↦ false | Some k ↦ not (type_of_oneof 
 
 -- it holds one value, and shares no oneof
 abbrev pub StandsAlone : PoolType → ℕ → FieldType → Type 0
-StandsAlone pool i f = (holds_list pool f ≡ false) × (holds_map pool f ≡ false) × (shares pool i f ≡ false)
+StandsAlone pool i f = (holds_list pool f ≡ false) × (holds_map pool f ≡ false)
+    × (shares pool i f ≡ false)
 
 -- there is a field, which stands alone and holds this kind
 abbrev pub IsLone : PoolType → ℕ → KindType → Option FieldType → Type 0
 IsLone pool i kind None = ⊥
 IsLone pool i kind (Some f) = (f.kind ≡ kind) × StandsAlone pool i f
 
--- the type keeps a message of any type: it has the name, its field 1 holds a string and its field 2 bytes
+-- the type keeps a message of any type: it has the name, its field 1 holds a string and its field 2
+-- bytes
 abbrev pub IsAny : MessageDescriptor → Type 0
 IsAny m =
-    ((type_at m.pool.now m.index).full_name ≡ codes "google.protobuf.Any") × IsLone m.pool.now m.index string (numbered_field m.pool.now m.index 1)
+    ((type_at m.pool.now m.index).full_name ≡ codes "google.protobuf.Any")
+    × IsLone m.pool.now m.index string (numbered_field m.pool.now m.index 1)
     × IsLone m.pool.now m.index bytes (numbered_field m.pool.now m.index 2)

@@ -17,7 +17,8 @@ pub struct AnyFields<'p> {
 
 /// The field is a member of a oneof, and not only for being optional.
 fn shares_oneof(field: &FieldDescriptor<'_>) -> bool
-    ensures { result ≡ shares field.now.message.pool.now field.now.message.index (field_type field.now) }
+    ensures { result ≡ shares field.now.message.pool.now field.now.message.index
+        (field_type field.now) }
 {
     match field.containing_oneof() {
         Some(oneof) => !oneof.is_synthetic(),
@@ -27,8 +28,10 @@ fn shares_oneof(field: &FieldDescriptor<'_>) -> bool
 
 /// The field holds one value, and shares no oneof.
 fn stands_alone(field: &FieldDescriptor<'_>) -> bool
-    ensures alone { IsTrue result → StandsAlone field.now.message.pool.now field.now.message.index (field_type field.now) }
-    ensures other { StandsAlone field.now.message.pool.now field.now.message.index (field_type field.now) → IsTrue result }
+    ensures alone { IsTrue result → StandsAlone field.now.message.pool.now field.now.message.index
+        (field_type field.now) }
+    ensures other { StandsAlone field.now.message.pool.now field.now.message.index
+        (field_type field.now) → IsTrue result }
 {
     !field.is_list() && !field.is_map() && !shares_oneof(field)
 }
@@ -53,11 +56,14 @@ fn holds_bytes(field: &FieldDescriptor<'_>) -> bool
     }
 }
 
-/// The fields that a type keeps a message of any type in: its name is `google.protobuf.Any`, field 1 is a string and field 2 holds
-/// bytes, both singular and in no oneof.
+/// The fields that a type keeps a message of any type in: its name is `google.protobuf.Any`, field
+/// 1 is a string and field 2 holds bytes, both singular and in no oneof.
 pub fn any_fields<'p>(descriptor: MessageDescriptor<'p>) -> Option<AnyFields<'p>>
-    ensures type_url { IfSome result (λ fields. Declares descriptor.entry fields.type_url × ((field_type fields.type_url).number ≡ 1)) }
-    ensures value { IfSome result (λ fields. Declares descriptor.entry fields.value × ((field_type fields.value).number ≡ 2)) }
+    ensures type_url { IfSome result
+        (λ fields. Declares descriptor.entry fields.type_url
+        × ((field_type fields.type_url).number ≡ 1)) }
+    ensures value { IfSome result (λ fields. Declares descriptor.entry fields.value
+        × ((field_type fields.value).number ≡ 2)) }
     ensures any { IfSome result (λ _. IsAny descriptor.entry) }
     ensures other { IfNone result (IsAny descriptor.entry → ⊥) }
 {

@@ -25,7 +25,8 @@ pub record AddsRecords (old : PoolType) (fs : List FileDescriptorProto) (new : P
 
 -- the entries of a pool, and behind them the files, what they declare outside of messages, their
 -- types, and their records
-pub record AreAdded (old : PoolType) (fs : List FileDescriptorProto) (t : LinkedTypes) (new : PoolType) : Type 0 where
+pub record AreAdded (old : PoolType) (fs : List FileDescriptorProto) (t : LinkedTypes)
+    (new : PoolType) : Type 0 where
   pub files : new.files ≡ old.files ++ map record_file fs
   pub declared : new.declared ≡ old.declared ++ map declared_of t.new.now.files.items
   pub messages : new.messages ≡ old.messages ++ map message_of t.new.now.messages.items
@@ -34,10 +35,12 @@ pub record AreAdded (old : PoolType) (fs : List FileDescriptorProto) (t : Linked
   pub services : new.services ≡ old.services ++ map service_of t.new.now.services.items
   pub records : AddsRecords old fs new
 
--- each reference of files whose names are declared means something; by these meanings the pool's new entries are those of the
--- declarations, no number is faulty, and no extension has the message and the number of another;
--- its new records are those of the files, with the names that these references mean
-pub record FaultlessBatch (w : Linking) (fs : List FileDescriptorProto) (new : PoolType) : Type 0 where
+-- each reference of files whose names are declared means something; by these meanings the pool's
+-- new entries are those of the declarations, no number is faulty, and no extension has the message
+-- and the number of another; its new records are those of the files, with the names that these
+-- references mean
+pub record FaultlessBatch (w : Linking) (fs : List FileDescriptorProto)
+    (new : PoolType) : Type 0 where
   pub references : List Reference
   pub types : LinkedTypes
   pub means : Means w fs references
@@ -50,16 +53,19 @@ pub record FaultlessBatch (w : Linking) (fs : List FileDescriptorProto) (new : P
 
 -- the files' names have no fault, and so it is of the rest
 abbrev pub Faultless : Linking → List FileDescriptorProto → PoolType → Type 0
-Faultless w fs new = (name_faults w.indexes w.known w.before w.first fs ≡ []) × FaultlessBatch (with_declared w fs) fs new
+Faultless w fs new = (name_faults w.indexes w.known w.before w.first fs ≡ [])
+    × FaultlessBatch (with_declared w fs) fs new
 
 -- no pass finds a fault in the files that a pool has not yet, and it becomes the new one
 abbrev pub FaultlessFiles : PoolType → List FileDescriptorProto → PoolType → Type 0
 FaultlessFiles p fs new = (w : Linking) × IsOf p w × Faultless w (new_files w.indexes fs) new
 
--- a pool's files, and behind them further ones; the names of its entries of each sort, and behind them those that the files declare
+-- a pool's files, and behind them further ones; the names of its entries of each sort, and behind
+-- them those that the files declare
 pub record AddsNames (w : Linking) (fs : List FileDescriptorProto) (new : PoolType) : Type 0 where
   pub files : new.files ≡ (pool_of w.tables).files ++ map record_file fs
-  pub names : (s : Sort) → names_of new s ≡ names_of (pool_of w.tables) s ++ with_names s [] (batch_declarations w.before w.first fs)
+  pub names : (s : Sort) → names_of new s ≡ names_of (pool_of w.tables) s
+      ++ with_names s [] (batch_declarations w.before w.first fs)
 
 -- so it is of the files that a pool has not yet
 abbrev pub AddsFiles : PoolType → List FileDescriptorProto → PoolType → Type 0

@@ -41,7 +41,8 @@ pub record CountsOf (p : PoolType) (o : Offsets) : Type 0 where
   pub extensions : o.extensions ≡ length p.extensions
   pub services : o.services ≡ length p.services
 
--- what files are linked with: known files and names, what files import, entries, numbers of extensions, and how much there is
+-- what files are linked with: known files and names, what files import, entries, numbers of
+-- extensions, and how much there is
 pub record Linking : Type 0 where
   pub indexes : Indexes
   pub known : Known
@@ -51,46 +52,72 @@ pub record Linking : Type 0 where
   pub before : Offsets
   pub first : ℕ
 
-abbrev pub linking : BTreeMap (String Global) ℕ → BTreeMap (String Global) Definition → List Links → Tables → BTreeMap KeyType ℕ → Offsets → ℕ → Linking
-linking file_names names links tables numbers before first = record { indexes = indexes_of file_names; known = known_of names; links = links; tables = tables; numbers = is_known numbers; before = before; first = first }
+abbrev pub linking : BTreeMap (String Global) ℕ → BTreeMap (String Global) Definition → List Links
+    → Tables → BTreeMap KeyType ℕ → Offsets → ℕ → Linking
+linking file_names names links tables numbers before first =
+    record {
+      indexes = indexes_of file_names;
+      known = known_of names;
+      links = links;
+      tables =
+          tables;
+      numbers = is_known numbers;
+      before = before;
+      first = first;
+    }
 
 -- the same, with the names of the files
 abbrev pub with_declared : Linking → List FileDescriptorProto → Linking
-with_declared w fs = record w { indexes = with_files w.indexes w.first fs; known = known_behind w.known (batch_declarations w.before w.first fs) }
+with_declared w fs = record w {
+  indexes = with_files w.indexes w.first fs;
+  known =
+      known_behind w.known (batch_declarations w.before w.first fs);
+}
 
 -- the links of the files stand behind the others
 abbrev pub AreLinked : Linking → List FileDescriptorProto → List Links → Type 0
 AreLinked w fs links = map link_view links ≡ map link_view w.links ++ map (links_to w.indexes) fs
 
 -- each reference of the files means this
-pub record Means (w : Linking) (fs : List FileDescriptorProto) (references : List Reference) : Type 0 where
+pub record Means (w : Linking) (fs : List FileDescriptorProto)
+    (references : List Reference) : Type 0 where
   pub links : List Links
   pub linked : AreLinked w fs links
-  pub right : BatchReferences w.known links (batch_places fs w.first) w.before w.first fs (map target_of references) []
+  pub right : BatchReferences w.known links (batch_places fs w.first) w.before w.first fs
+      (map target_of references) []
 
--- the types of the pool, and behind them those of the files, whose references mean this: of the declared names, ranges and values,
--- and each entry that of its declaration
-pub record AreTypes (w : Linking) (fs : List FileDescriptorProto) (rs : List Reference) (t : LinkedTypes) : Type 0 where
+-- the types of the pool, and behind them those of the files, whose references mean this: of the
+-- declared names, ranges and values, and each entry that of its declaration
+pub record AreTypes (w : Linking) (fs : List FileDescriptorProto) (rs : List Reference)
+    (t : LinkedTypes) : Type 0 where
   pub old : t.old.now ≡ w.tables
-  pub messages : map stored_message_name t.new.now.messages.items ≡ with_names messages [] (batch_declarations w.before w.first fs)
-  pub ranges : AllDeclared (messages_in (batch_declarations w.before w.first fs)) (map stored_ranges t.new.now.messages.items)
-  pub enums : map stored_enum_name t.new.now.enums.items ≡ with_names enums [] (batch_declarations w.before w.first fs)
-  pub values : map stored_values t.new.now.enums.items ≡ map declared_values (enums_in (batch_declarations w.before w.first fs))
-  pub extensions : map stored_extension_name t.new.now.extensions.items ≡ with_names extensions [] (batch_declarations w.before w.first fs)
+  pub messages : map stored_message_name t.new.now.messages.items
+      ≡ with_names messages [] (batch_declarations w.before w.first fs)
+  pub ranges : AllDeclared (messages_in (batch_declarations w.before w.first fs))
+      (map stored_ranges t.new.now.messages.items)
+  pub enums : map stored_enum_name t.new.now.enums.items
+      ≡ with_names enums [] (batch_declarations w.before w.first fs)
+  pub values : map stored_values t.new.now.enums.items
+      ≡ map declared_values (enums_in (batch_declarations w.before w.first fs))
+  pub extensions : map stored_extension_name t.new.now.extensions.items
+      ≡ with_names extensions [] (batch_declarations w.before w.first fs)
   pub entries : IsBatchOf rs w.before w.first (batch_declarations w.before w.first fs) t.new.now
 
 -- the faults of references that mean nothing of the kind that they need
 abbrev pub FaultyReferences : Linking → List FileDescriptorProto → List Fault → Type 0
-FaultyReferences w fs xs = (links : List Links) × AreLinked w fs links × ReferenceFaults w.known links w.before w.first fs xs
+FaultyReferences w fs xs = (links : List Links) × AreLinked w fs links
+    × ReferenceFaults w.known links w.before w.first fs xs
 
 -- where all of them mean something, the faults by the rules of numbers
 abbrev pub FaultyNumbers : Linking → List FileDescriptorProto → List Fault → Type 0
-FaultyNumbers w fs xs = (rs : List Reference) × (t : LinkedTypes) × Means w fs rs × AreTypes w fs rs t × NumberFaults t w.before w.first fs rs xs
+FaultyNumbers w fs xs = (rs : List Reference) × (t : LinkedTypes) × Means w fs rs
+    × AreTypes w fs rs t × NumberFaults t w.before w.first fs rs xs
 
 -- where there are none, the extensions whose message and number are taken
 abbrev pub FaultyExtensions : Linking → List FileDescriptorProto → List Fault → Type 0
 FaultyExtensions w fs xs =
-    (rs : List Reference) × (t : LinkedTypes) × Means w fs rs × AreTypes w fs rs t × NumberFaults t w.before w.first fs rs []
+    (rs : List Reference) × (t : LinkedTypes) × Means w fs rs × AreTypes w fs rs t
+    × NumberFaults t w.before w.first fs rs []
     × (xs ≡ doubled w.numbers t (batch_places fs w.first))
 
 -- the faults of files whose names are declared
@@ -99,10 +126,13 @@ FaultyBatch w fs xs = FaultyReferences w fs xs ⊎ (FaultyNumbers w fs xs ⊎ Fa
 
 -- the faults of the files' names, or where there are none those of a later pass
 abbrev pub Faulty : Linking → List FileDescriptorProto → List Fault → Type 0
-Faulty w fs xs = (xs ≡ name_faults w.indexes w.known w.before w.first fs) ⊎ ((name_faults w.indexes w.known w.before w.first fs ≡ []) × FaultyBatch (with_declared w fs) fs xs)
+Faulty w fs xs = (xs ≡ name_faults w.indexes w.known w.before w.first fs)
+    ⊎ ((name_faults w.indexes w.known w.before w.first fs ≡ [])
+    × FaultyBatch (with_declared w fs) fs xs)
 
--- what a pool is linked with: its entries, their names and those of its files, what its files import, and the numbers of its
--- extensions; what is known, and how much there is, is what the records of its files give
+-- what a pool is linked with: its entries, their names and those of its files, what its files
+-- import, and the numbers of its extensions; what is known, and how much there is, is what the
+-- records of its files give
 pub record IsOf (p : PoolType) (w : Linking) : Type 0 where
   pub tables : pool_of w.tables ≡ p
   pub named : AreNamed w.known (names_of p)
@@ -116,7 +146,8 @@ pub record IsOf (p : PoolType) (w : Linking) : Type 0 where
 
 -- the files whose names are not known
 abbrev pub is_unknown : Indexes → FileDescriptorProto → Bool
-is_unknown indexes f = elim f.name [ None ↦ true | Some s ↦ not (is_some (indexes (string_bytes s))) ]
+is_unknown indexes f = elim f.name
+    [ None ↦ true | Some s ↦ not (is_some (indexes (string_bytes s))) ]
 
 abbrev pub new_files : Indexes → List FileDescriptorProto → List FileDescriptorProto
 new_files indexes fs = filter (is_unknown indexes) fs

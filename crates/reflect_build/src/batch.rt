@@ -80,8 +80,8 @@ pub fn offsets(tables: &Tables) -> Result<Offsets, VisitError>
     })
 }
 
-/// The passes over files whose names are declared, and at last the files themselves. A refusal may leave some of the links and
-/// the numbers of extensions.
+/// The passes over files whose names are declared, and at last the files themselves. A refusal may
+/// leave some of the links and the numbers of extensions.
 fn link_declared(
     alloc: Global,
     before: Offsets,
@@ -94,23 +94,45 @@ fn link_declared(
     extension_numbers: &mut BTreeMap<(u32, u32), u32>,
 ) -> Result<(), DescriptorError>
     requires pooled { ArePooled (pool_of tables.old) }
-    requires numbered { AreNumbered (numbers_of extension_numbers.old) (map key_of (pool_of tables.old).extensions) }
+    requires numbered { AreNumbered (numbers_of extension_numbers.old)
+        (map key_of (pool_of tables.old).extensions) }
     ensures unchanged { OnErr result (pool_of tables.new ≡ pool_of tables.old) }
-    ensures grown { OnOk result (cut_to (pool_of tables.new) (length tables.old.files.items) ≡ pool_of tables.old) }
+    ensures grown { OnOk result (cut_to (pool_of tables.new) (length tables.old.files.items)
+        ≡ pool_of tables.old) }
     ensures pooled { OnOk result (ArePooled (pool_of tables.new)) }
-    ensures files { OnOk result (map file_of tables.new.files.items ≡ map file_of tables.old.files.items ++ map record_file files.items) }
-    ensures messages { OnOk result (map stored_message_name tables.new.messages.items ≡ map stored_message_name tables.old.messages.items ++ with_names messages [] (batch_declarations before first files.items)) }
-    ensures enums { OnOk result (map stored_enum_name tables.new.enums.items ≡ map stored_enum_name tables.old.enums.items ++ with_names enums [] (batch_declarations before first files.items)) }
-    ensures extensions { OnOk result (map stored_extension_name tables.new.extensions.items ≡ map stored_extension_name tables.old.extensions.items ++ with_names extensions [] (batch_declarations before first files.items)) }
-    ensures services { OnOk result (map stored_service_name tables.new.services.items ≡ map stored_service_name tables.old.services.items ++ with_names services [] (batch_declarations before first files.items)) }
+    ensures files { OnOk result (map file_of tables.new.files.items
+        ≡ map file_of tables.old.files.items ++ map record_file files.items) }
+    ensures messages { OnOk result
+        (map stored_message_name tables.new.messages.items
+        ≡ map stored_message_name tables.old.messages.items
+        ++ with_names messages [] (batch_declarations before first files.items)) }
+    ensures enums { OnOk result (map stored_enum_name tables.new.enums.items
+        ≡ map stored_enum_name tables.old.enums.items
+        ++ with_names enums [] (batch_declarations before first files.items)) }
+    ensures extensions { OnOk result
+        (map stored_extension_name tables.new.extensions.items
+        ≡ map stored_extension_name tables.old.extensions.items
+        ++ with_names extensions [] (batch_declarations before first files.items)) }
+    ensures services { OnOk result
+        (map stored_service_name tables.new.services.items
+        ≡ map stored_service_name tables.old.services.items
+        ++ with_names services [] (batch_declarations before first files.items)) }
     ensures records { OnOk result
         (AddsRecords (pool_of tables.old) files.items (pool_of tables.new)) }
     ensures kept_links { take (length links.old.items) links.new.items ≡ links.old.items }
-    ensures linked { OnOk result (map link_view links.new.items ≡ map link_view links.old.items ++ map (links_to (indexes_of file_names.now)) files.items) }
-    ensures kept_numbers { KeepsNumbers (length tables.old.extensions.items) (numbers_of extension_numbers.old) (numbers_of extension_numbers.new) }
-    ensures numbered { OnOk result (AreNumbered (numbers_of extension_numbers.new) (map key_of (pool_of tables.new).extensions)) }
-    ensures accepted { OnOk result (FaultlessBatch (linking file_names.now names.now links.old.items tables.old extension_numbers.old before first) files.items (pool_of tables.new)) }
-    ensures refused { IfErr result (λ e. Refuses (FaultyBatch (linking file_names.now names.now links.old.items tables.old extension_numbers.old before first) files.items) e) }
+    ensures linked { OnOk result (map link_view links.new.items ≡ map link_view links.old.items
+        ++ map (links_to (indexes_of file_names.now)) files.items) }
+    ensures kept_numbers { KeepsNumbers (length tables.old.extensions.items)
+        (numbers_of extension_numbers.old) (numbers_of extension_numbers.new) }
+    ensures numbered { OnOk result
+        (AreNumbered (numbers_of extension_numbers.new)
+        (map key_of (pool_of tables.new).extensions)) }
+    ensures accepted { OnOk result
+        (FaultlessBatch (linking file_names.now names.now links.old.items tables.old
+        extension_numbers.old before first) files.items (pool_of tables.new)) }
+    ensures refused { IfErr result
+        (λ e. Refuses (FaultyBatch (linking file_names.now names.now links.old.items tables.old
+        extension_numbers.old before first) files.items) e) }
 {
     add_links(alloc, file_names, links, files.as_slice()).map_err(|error| walk_error(
         alloc, error,
@@ -160,7 +182,8 @@ fn add(tables: &mut Tables, more: Tables) -> Result<(), VisitError>
     requires pooled { ArePooled (pool_of tables.old) }
     requires listed { AllByRecursion ListsMembers (map message_of more.messages.items) }
     ensures unchanged { OnErr result (pool_of tables.new ≡ pool_of tables.old) }
-    ensures grown { OnOk result (cut_to (pool_of tables.new) (length tables.old.files.items) ≡ pool_of tables.old) }
+    ensures grown { OnOk result (cut_to (pool_of tables.new) (length tables.old.files.items)
+        ≡ pool_of tables.old) }
     ensures pooled { OnOk result (ArePooled (pool_of tables.new)) }
     ensures appended { OnOk result (Appended tables.old more tables.new) }
 {
@@ -176,7 +199,8 @@ fn add(tables: &mut Tables, more: Tables) -> Result<(), VisitError>
     Ok(())
 }
 
-/// Declares the names of the files, and adds these with what they declare. A refusal may leave some of the names.
+/// Declares the names of the files, and adds these with what they declare. A refusal may leave some
+/// of the names.
 pub fn link(
     alloc: Global,
     before: Offsets,
@@ -188,19 +212,30 @@ pub fn link(
     names: &mut BTreeMap<String, Definition>,
     extension_numbers: &mut BTreeMap<(u32, u32), u32>,
 ) -> Result<(), DescriptorError>
-    requires linked { IsLinked (pool_of tables.old) names.old file_names.old extension_numbers.old links.old.items }
+    requires linked { IsLinked (pool_of tables.old) names.old file_names.old extension_numbers.old
+        links.old.items }
     requires before { CountsOf (pool_of tables.old) before }
     requires first { first ≡ length tables.old.files.items }
     ensures unchanged { OnErr result (pool_of tables.new ≡ pool_of tables.old) }
     ensures kept { below first names.new.entries ≡ below first names.old.entries }
-    ensures kept_files { KeepsIndexes first (indexes_of file_names.old) (indexes_of file_names.new) }
-    ensures grown { OnOk result (cut_to (pool_of tables.new) (length tables.old.files.items) ≡ pool_of tables.old) }
+    ensures kept_files { KeepsIndexes first (indexes_of file_names.old)
+        (indexes_of file_names.new) }
+    ensures grown { OnOk result (cut_to (pool_of tables.new) (length tables.old.files.items)
+        ≡ pool_of tables.old) }
     ensures kept_links { take (length links.old.items) links.new.items ≡ links.old.items }
-    ensures kept_numbers { KeepsNumbers (length tables.old.extensions.items) (numbers_of extension_numbers.old) (numbers_of extension_numbers.new) }
-    ensures linked { OnOk result (IsLinked (pool_of tables.new) names.new file_names.new extension_numbers.new links.new.items) }
-    ensures added { OnOk result (AddsNames (linking file_names.old names.old links.old.items tables.old extension_numbers.old before first) files.items (pool_of tables.new)) }
-    ensures accepted { OnOk result (Faultless (linking file_names.old names.old links.old.items tables.old extension_numbers.old before first) files.items (pool_of tables.new)) }
-    ensures refused { IfErr result (λ e. Refuses (Faulty (linking file_names.old names.old links.old.items tables.old extension_numbers.old before first) files.items) e) }
+    ensures kept_numbers { KeepsNumbers (length tables.old.extensions.items)
+        (numbers_of extension_numbers.old) (numbers_of extension_numbers.new) }
+    ensures linked { OnOk result (IsLinked (pool_of tables.new) names.new file_names.new
+        extension_numbers.new links.new.items) }
+    ensures added { OnOk result (AddsNames
+        (linking file_names.old names.old links.old.items tables.old extension_numbers.old before
+        first) files.items (pool_of tables.new)) }
+    ensures accepted { OnOk result
+        (Faultless (linking file_names.old names.old links.old.items tables.old
+        extension_numbers.old before first) files.items (pool_of tables.new)) }
+    ensures refused { IfErr result
+        (λ e. Refuses (Faulty (linking file_names.old names.old links.old.items tables.old
+        extension_numbers.old before first) files.items) e) }
 {
     declare_names(alloc, before, first, files.as_slice(), file_names, names)?;
     link_declared(

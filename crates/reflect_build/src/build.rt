@@ -43,10 +43,13 @@ fn add_files(
     requires fit { AreParts parts.old }
     ensures fit { AreParts parts.new }
     ensures unchanged { OnErr result (holds_of parts.new ≡ holds_of parts.old) }
-    ensures grown { OnOk result (cut_to (holds_of parts.new) (length (holds_of parts.old).files) ≡ holds_of parts.old) }
-    ensures can_cut { OnOk result (StandsAlone (cut_to (holds_of parts.new) (length (holds_of parts.old).files))) }
+    ensures grown { OnOk result (cut_to (holds_of parts.new) (length (holds_of parts.old).files)
+        ≡ holds_of parts.old) }
+    ensures can_cut { OnOk result (StandsAlone
+        (cut_to (holds_of parts.new) (length (holds_of parts.old).files))) }
     ensures added { OnOk result (AddsFiles (holds_of parts.old) files.items (holds_of parts.new)) }
-    ensures accepted { OnOk result (FaultlessFiles (holds_of parts.old) files.items (holds_of parts.new)) }
+    ensures accepted { OnOk result
+        (FaultlessFiles (holds_of parts.old) files.items (holds_of parts.new)) }
     ensures refused { IfErr result (λ e. Refuses (FaultyFiles (holds_of parts.old) files.items) e) }
 {
     let known = &parts.file_names;
@@ -98,38 +101,46 @@ fn take_parts(pool: &mut DescriptorPool) -> PoolParts
     mem::replace(pool, DescriptorPool::new(alloc)).into_parts()
 }
 
-/// Calls that add files to a pool, take the last ones back, and settle the options of their records.
+/// Calls that add files to a pool, take the last ones back, and settle the options of their
+/// records.
 pub trait BuildFiles {
     /// What the pool holds.
     ghost holds: { Self → PoolType };
 
-    /// Adds files, linked with each other and with those that are there. Files whose names the pool has are passed over.
+    /// Adds files, linked with each other and with those that are there. Files whose names the pool
+    /// has are passed over.
     ///
-    /// Files are accepted only where no pass finds a fault. The error lists exactly the faults of the first faulty pass; `Memory`
-    /// and `TooMany` may come in any pass. After a refusal the pool is as it was.
+    /// Files are accepted only where no pass finds a fault. The error lists exactly the faults of
+    /// the first faulty pass; `Memory` and `TooMany` may come in any pass. After a refusal the pool
+    /// is as it was.
     fn build_files(
         &mut self,
         alloc: Global,
         files: Vec<FileDescriptorProto>,
     ) -> Result<(), DescriptorError>
         ensures unchanged { OnErr result (holds self.new ≡ holds self.old) }
-        ensures grown { OnOk result (cut_to (holds self.new) (length (holds self.old).files) ≡ holds self.old) }
-        ensures can_cut { OnOk result (StandsAlone (cut_to (holds self.new) (length (holds self.old).files))) }
+        ensures grown { OnOk result (cut_to (holds self.new) (length (holds self.old).files)
+            ≡ holds self.old) }
+        ensures can_cut { OnOk result (StandsAlone
+            (cut_to (holds self.new) (length (holds self.old).files))) }
         ensures added { OnOk result (AddsFiles (holds self.old) files.items (holds self.new)) }
-        ensures accepted { OnOk result (FaultlessFiles (holds self.old) files.items (holds self.new)) }
-        ensures refused { IfErr result (λ e. Refuses (FaultyFiles (holds self.old) files.items) e) };
+        ensures accepted { OnOk result
+            (FaultlessFiles (holds self.old) files.items (holds self.new)) }
+        ensures refused { IfErr result
+            (λ e. Refuses (FaultyFiles (holds self.old) files.items) e) };
 
     /// Leaves the first so many files as they stand, and their names. Takes no memory.
     ///
-    /// None of them may name a type of a file behind them, or import one, as is so of the files that were there before a call
-    /// of `build_files`.
+    /// None of them may name a type of a file behind them, or import one, as is so of the files
+    /// that were there before a call of `build_files`.
     fn cut(&mut self, mark: u32)
         requires { StandsAlone (cut_to (holds self.old) mark) }
         ensures { holds self.new ≡ cut_to (holds self.old) mark };
 
-    /// Moves settled options, and the paths of locations that speak of them, into the files' records, one behind the
-    /// other. An edit of a path that leads to nothing with options, or of a location that is not there, is passed over.
-    /// Takes no memory; the types stay as they are, also what linking read from options for them.
+    /// Moves settled options, and the paths of locations that speak of them, into the files'
+    /// records, one behind the other. An edit of a path that leads to nothing with options, or of a
+    /// location that is not there, is passed over. Takes no memory; the types stay as they are,
+    /// also what linking read from options for them.
     fn settle(&mut self, edits: Vec<Edit>)
         ensures settled { IsSettled (holds self.old) (holds self.new) }
         ensures names { map names_of_file (holds self.new).records

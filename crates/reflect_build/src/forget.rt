@@ -19,7 +19,8 @@ pub fn forget_names(names: &mut BTreeMap<String, Definition>, mark: u32)
 
 /// Leaves only the names of the first so many files, as names of files.
 pub fn forget_files(file_names: &mut BTreeMap<String, u32>, mark: u32)
-    ensures entries { file_names.new.entries ≡ filter (λ e. nat_lt e.1 mark) file_names.old.entries }
+    ensures entries { file_names.new.entries
+        ≡ filter (λ e. nat_lt e.1 mark) file_names.old.entries }
     ensures was_ordered { IsOrdered string_cmp file_names.old }
 {
     file_names.retain(|_, file| *file < mark);

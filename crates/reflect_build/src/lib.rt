@@ -1,4 +1,5 @@
-//! Adds batches of files to a pool, and takes them back: a refused batch leaves the pool as it was, and `cut` goes back to it.
+//! Adds batches of files to a pool, and takes them back: a refused batch leaves the pool as it was,
+//! and `cut` goes back to it.
 #![tactic(auto)]
 
 mod batch;

@@ -37,10 +37,13 @@ RecordsRefused p files Memory = Unit {0}
 
 -- bytes spell files that fit together
 abbrev pub BytesLinked : (List FileDescriptorProto → Type 0) → PoolType → PoolType → Type 0
-BytesLinked Spelled p new = (files : List FileDescriptorProto) × Spelled files × RecordsLinked p files new
+BytesLinked Spelled p new = (files : List FileDescriptorProto) × Spelled files
+    × RecordsLinked p files new
 
--- bytes are refused where they spell no files, or where the files that they spell do not fit together
+-- bytes are refused where they spell no files, or where the files that they spell do not fit
+-- together
 abbrev pub BytesRefused : (List FileDescriptorProto → Type 0) → PoolType → PoolError → Type 0
 BytesRefused Spelled p (Wire e) = (files : List FileDescriptorProto) → Spelled files → ⊥
-BytesRefused Spelled p (Link e) = (files : List FileDescriptorProto) × Spelled files × Refuses (FaultyFiles p files) e
+BytesRefused Spelled p (Link e) = (files : List FileDescriptorProto) × Spelled files
+    × Refuses (FaultyFiles p files) e
 BytesRefused Spelled p Memory = Unit {0}

@@ -11,4 +11,5 @@ pool_bytes p = records_field file_bytes 1 p.records
 
 -- those of the record of the file at a place
 abbrev pub AreOfFile : PoolType → ℕ → List ℕ → Type 0
-AreOfFile p i bytes = (f : FileDescriptorProto) × (slice_get p.records i ≡ Some f) × (bytes ≡ file_bytes f)
+AreOfFile p i bytes = (f : FileDescriptorProto) × (slice_get p.records i ≡ Some f)
+    × (bytes ≡ file_bytes f)

@@ -19,7 +19,8 @@ pub trait PoolBytes {
 
     /// Adds the bytes to `out`. Refused for want of memory alone, which leaves `out`.
     fn encode(&self, alloc: Global, out: &mut Vec<u8>) -> Result<(), WireError>
-        ensures ok { OnOk result ((bytes : List ℕ) × is_written self.now bytes × (out.new.items ≡ out.old.items ++ bytes)) }
+        ensures ok { OnOk result ((bytes : List ℕ) × is_written self.now bytes
+            × (out.new.items ≡ out.old.items ++ bytes)) }
         ensures err { IfErr result (λ e. e ≡ Memory) }
         ensures left { OnErr result (out.new.items ≡ out.old.items) };
 

@@ -75,9 +75,9 @@ impl<T: Drop> From<AllocFailed<T>> for PoolError {
     }
 }
 
-/// Calls that link files into a pool. They read no options. Files whose names the pool has are passed over, and a refusal
-/// leaves the pool as it was: `Wire` where bytes spell no such files, `Link` with exactly the faults of the first pass that
-/// finds any.
+/// Calls that link files into a pool. They read no options. Files whose names the pool has are
+/// passed over, and a refusal leaves the pool as it was: `Wire` where bytes spell no such files,
+/// `Link` with exactly the faults of the first pass that finds any.
 pub trait PoolExt: Sized {
     /// What the pool holds.
     ghost holds: { Self → PoolType };
@@ -99,7 +99,8 @@ pub trait PoolExt: Sized {
         set: FileDescriptorSet,
     ) -> Result<(), PoolError>
         ensures unchanged { OnErr result (self.new ≡ self.old) }
-        ensures linked { OnOk result (RecordsLinked (holds self.old) set.file.items (holds self.new)) }
+        ensures linked { OnOk result (RecordsLinked (holds self.old) set.file.items
+            (holds self.new)) }
         ensures err { IfErr result (RecordsRefused (holds self.old) set.file.items) };
 
     /// Adds files as one batch.
@@ -125,13 +126,15 @@ pub trait PoolExt: Sized {
     /// Adds one file, from the bytes of its record.
     fn decode_file_descriptor_proto(&mut self, alloc: Global, bytes: &[u8]) -> Result<(), PoolError>
         ensures unchanged { OnErr result (self.new ≡ self.old) }
-        ensures linked { OnOk result (BytesLinked (SpellsFile bytes.now) (holds self.old) (holds self.new)) }
+        ensures linked { OnOk result (BytesLinked (SpellsFile bytes.now) (holds self.old)
+            (holds self.new)) }
         ensures err { IfErr result (BytesRefused (SpellsFile bytes.now) (holds self.old)) };
 
     /// Adds the files of a set as one batch, from the set's bytes.
     fn decode_file_descriptor_set(&mut self, alloc: Global, bytes: &[u8]) -> Result<(), PoolError>
         ensures unchanged { OnErr result (self.new ≡ self.old) }
-        ensures linked { OnOk result (BytesLinked (SpellsSet bytes.now) (holds self.old) (holds self.new)) }
+        ensures linked { OnOk result (BytesLinked (SpellsSet bytes.now) (holds self.old)
+            (holds self.new)) }
         ensures err { IfErr result (BytesRefused (SpellsSet bytes.now) (holds self.old)) };
 }
 

@@ -31,7 +31,8 @@ int32s_field n = flat_map (λ v. number_field n (cast_unsigned w64 v))
 
 abbrev pub packed_field : ℕ → List ℤ → List ℕ
 packed_field n [] = []
-packed_field n (v ∷ vs) = payload_field n (flat_map (λ v. varint_bytes (cast_unsigned w64 v)) (v ∷ vs))
+packed_field n (v ∷ vs) = payload_field n
+    (flat_map (λ v. varint_bytes (cast_unsigned w64 v)) (v ∷ vs))
 
 abbrev pub bool_field : ℕ → Option Bool → List ℕ
 bool_field n None = []

@@ -1,4 +1,5 @@
--- What the fields of a descriptor record mean: the record whose fields are these. Fields of other numbers mean nothing.
+-- What the fields of a descriptor record mean: the record whose fields are these. Fields of other
+-- numbers mean nothing.
 use Rattle.std.specs.Prelude.{◌≡◌, ℕ, zero, suc, Bool, List, [], Option, Some, None, String, string_bytes, unwrap_or}
 use Rattle.std.specs.List.{AllZip}
 use Rattle.std.specs.declared.alloc.Global.{Global}
@@ -30,10 +31,12 @@ text_or_empty None = []
 text_or_empty (Some t) = string_bytes t
 
 pub record IsNamePart (levels : ℕ) (fs : List Field) (r : NamePart) : Type 0 where
-  pub name_part : (o : Option (String Global)) × TextAt 1 fs o × (string_bytes r.name_part ≡ text_or_empty o)
+  pub name_part : (o : Option (String Global)) × TextAt 1 fs o
+      × (string_bytes r.name_part ≡ text_or_empty o)
   pub is_extension : (o : Option Bool) × BoolAt 2 fs o × (r.is_extension ≡ unwrap_or o Bool.false)
 
-pub record IsUninterpretedOption (levels : ℕ) (fs : List Field) (r : UninterpretedOption) : Type 0 where
+pub record IsUninterpretedOption (levels : ℕ) (fs : List Field)
+    (r : UninterpretedOption) : Type 0 where
   pub name : RecordsAt IsNamePart levels 2 fs r.name
   pub identifier_value : TextAt 3 fs r.identifier_value
   pub positive_int_value : NumberAt 4 fs r.positive_int_value
@@ -54,8 +57,10 @@ abbrev pub is_message : OptionsOf → Bool
 is_message of.Message = Bool.true
 is_message _ = Bool.false
 
--- options: their bytes as they came, and the parts that linking reads itself; levels are counted from them
-pub record IsOptions (kind : OptionsOf) (values : List Value) (fs : List Field) (o : Options) : Type 0 where
+-- options: their bytes as they came, and the parts that linking reads itself; levels are counted
+-- from them
+pub record IsOptions (kind : OptionsOf) (values : List Value) (fs : List Field)
+    (o : Options) : Type 0 where
   pub encoded : ArePayloads values o.encoded.items
   pub packed : IsLastIf (is_field kind) IsBool (values_at 2 fs) o.packed
   pub allow_alias : IsLastIf (is_enum kind) IsBool (values_at 2 fs) o.allow_alias
@@ -63,7 +68,8 @@ pub record IsOptions (kind : OptionsOf) (values : List Value) (fs : List Field) 
   pub uninterpreted_option : RecordsAt IsUninterpretedOption 100 999 fs o.uninterpreted_option
 
 abbrev pub AreOptions : OptionsOf → ℕ → List Value → Option Options → Type 0
-AreOptions kind levels vs o = (fs : Option (List Field)) × AreJoined levels 100 vs fs × AlongOption (IsOptions kind vs) fs o
+AreOptions kind levels vs o = (fs : Option (List Field)) × AreJoined levels 100 vs fs
+    × AlongOption (IsOptions kind vs) fs o
 
 abbrev pub OptionsAt : OptionsOf → ℕ → ℕ → List Field → Option Options → Type 0
 OptionsAt kind levels n fs o = AreOptions kind levels (values_at n fs) o
@@ -134,7 +140,8 @@ pub record IsReservedRange (levels : ℕ) (fs : List Field) (r : ReservedRange) 
   pub end : Int32At 2 fs r.end
 
 -- one level of a message type, given what its nested types are
-pub record IsLevel (inner : Value → DescriptorProto → Type 0) (levels : ℕ) (fs : List Field) (m : DescriptorProto-F DescriptorProto) : Type 0 where
+pub record IsLevel (inner : Value → DescriptorProto → Type 0) (levels : ℕ) (fs : List Field)
+    (m : DescriptorProto-F DescriptorProto) : Type 0 where
   pub name : TextAt 1 fs m.name
   pub field : RecordsAt IsField levels 2 fs m.field
   pub nested_type : AllZip inner (values_at 3 fs) m.nested_type.items
@@ -148,7 +155,8 @@ pub record IsLevel (inner : Value → DescriptorProto → Type 0) (levels : ℕ)
 
 abbrev pub IsMessage : ℕ → Value → DescriptorProto → Type 0
 IsMessage zero v m = ⊥
-IsMessage (suc levels) v m = (fs : List Field) × IsPart (suc levels) levels v fs × IsLevel (IsMessage levels) levels fs (out-DescriptorProto m)
+IsMessage (suc levels) v m = (fs : List Field) × IsPart (suc levels) levels v fs
+    × IsLevel (IsMessage levels) levels fs (out-DescriptorProto m)
 
 pub record IsFile (levels : ℕ) (fs : List Field) (r : FileDescriptorProto) : Type 0 where
   pub name : TextAt 1 fs r.name

@@ -1,6 +1,7 @@
 -- What the values of a field mean, by the kind of the field.
 --
--- Source: "Encoding" at protobuf.dev: a field that came several times has the last value, lists are joined, records are merged.
+-- Source: "Encoding" at protobuf.dev: a field that came several times has the last value, lists are
+-- joined, records are merged.
 use Rattle.std.specs.Prelude.{◌≡◌, ℕ, ℤ, ◌<◌, ◌-◌, ◌%◌, ◌^◌, ◌==◌, Bool, not, List, [], ◌∷◌, ◌++◌, map, filter, flat_map, Option, Some, None, Result, Ok, Err, String, string_bytes}
 use Rattle.std.specs.Int.{w32, w64, cast_signed}
 use Rattle.std.specs.List.{AllZip}
@@ -70,7 +71,8 @@ abbrev pub HasPayload : ℕ → Value → List ℕ → Type 0
 HasPayload levels v bytes = (0 < levels) × IsPayload v bytes
 
 abbrev pub ArePayloads : List Value → List ℕ → Type 0
-ArePayloads vs bytes = (parts : List (List ℕ)) × AllZip IsPayload vs parts × (bytes ≡ flat_map (λ p. p) parts)
+ArePayloads vs bytes = (parts : List (List ℕ)) × AllZip IsPayload vs parts
+    × (bytes ≡ flat_map (λ p. p) parts)
 
 abbrev pub IsNumber : Value → ℕ → Type 0
 IsNumber (number n) m = m ≡ n
@@ -97,7 +99,8 @@ IsDouble _ d = ⊥
 -- numbers one after another
 abbrev pub SpellsNumbers : List ℕ → List ℤ → Type 0
 SpellsNumbers bytes [] = bytes ≡ []
-SpellsNumbers bytes (z ∷ zs) = (front rest : List ℕ) × (n : ℕ) × IsVarint front n × (z ≡ int32_of n) × SpellsNumbers rest zs × (bytes ≡ front ++ rest)
+SpellsNumbers bytes (z ∷ zs) = (front rest : List ℕ) × (n : ℕ) × IsVarint front n × (z ≡ int32_of n)
+    × SpellsNumbers rest zs × (bytes ≡ front ++ rest)
 
 -- one number, or a packed list
 abbrev pub IsNumbers : Value → List ℤ → Type 0
@@ -107,10 +110,12 @@ IsNumbers _ zs = ⊥
 
 -- a record that stands below so many levels, read from its fields
 abbrev pub IsPart : ℕ → ℕ → Value → List Field → Type 0
-IsPart outside inside v fs = (bytes : List ℕ) × HasPayload outside v bytes × SpellsFields inside bytes fs
+IsPart outside inside v fs = (bytes : List ℕ) × HasPayload outside v bytes
+    × SpellsFields inside bytes fs
 
 abbrev pub IsRecord : {R : Type 0} → (ℕ → List Field → R → Type 0) → ℕ → Value → R → Type 0
-IsRecord means levels v r = (fs : List Field) × IsPart levels (levels - 1) v fs × means (levels - 1) fs r
+IsRecord means levels v r = (fs : List Field) × IsPart levels (levels - 1) v fs
+    × means (levels - 1) fs r
 
 abbrev pub last : {X : Type 0} → List X → Option X
 last [] = None
@@ -137,15 +142,18 @@ joined [] = None
 joined (fs ∷ rest) = Some (fs ++ joins rest)
 
 abbrev pub AreJoined : ℕ → ℕ → List Value → Option (List Field) → Type 0
-AreJoined outside inside vs o = (parts : List (List Field)) × AllZip (IsPart outside inside) vs parts × (o ≡ joined parts)
+AreJoined outside inside vs o = (parts : List (List Field))
+    × AllZip (IsPart outside inside) vs parts × (o ≡ joined parts)
 
 abbrev pub AlongOption : {A X : Type 0} → (A → X → Type 0) → Option A → Option X → Type 0
 AlongOption R None None = Unit {0}
 AlongOption R (Some a) (Some x) = R a x
 AlongOption R _ _ = ⊥
 
-abbrev pub IsMerged : {R : Type 0} → (ℕ → List Field → R → Type 0) → ℕ → List Value → Option R → Type 0
-IsMerged means levels vs o = (fs : Option (List Field)) × AreJoined levels (levels - 1) vs fs × AlongOption (means (levels - 1)) fs o
+abbrev pub IsMerged : {R : Type 0} → (ℕ → List Field → R → Type 0) → ℕ → List Value → Option R
+    → Type 0
+IsMerged means levels vs o = (fs : Option (List Field)) × AreJoined levels (levels - 1) vs fs
+    × AlongOption (means (levels - 1)) fs o
 
 -- the fields of a number, by their kinds
 
@@ -176,8 +184,10 @@ DoubleAt n fs o = IsLast IsDouble (values_at n fs) o
 abbrev pub Int32sAt : ℕ → List Field → Vec ℤ Global → Type 0
 Int32sAt n fs zs = AreNumbers (values_at n fs) zs.items
 
-abbrev pub RecordsAt : {R : Type 0} → (ℕ → List Field → R → Type 0) → ℕ → ℕ → List Field → Vec R Global → Type 0
+abbrev pub RecordsAt : {R : Type 0} → (ℕ → List Field → R → Type 0) → ℕ → ℕ → List Field
+    → Vec R Global → Type 0
 RecordsAt means levels n fs rs = AllZip (IsRecord means levels) (values_at n fs) rs.items
 
-abbrev pub MergedAt : {R : Type 0} → (ℕ → List Field → R → Type 0) → ℕ → ℕ → List Field → Option R → Type 0
+abbrev pub MergedAt : {R : Type 0} → (ℕ → List Field → R → Type 0) → ℕ → ℕ → List Field → Option R
+    → Type 0
 MergedAt means levels n fs o = IsMerged means levels (values_at n fs) o

@@ -22,9 +22,11 @@ pub trait WriteRecord {
         ensures { OnOk result (held out.new ≡ bytes self.now ++ held out.old) };
 }
 
-/// Bytes that are written from the last to the first: what is put in stands before what was put in earlier.
+/// Bytes that are written from the last to the first: what is put in stands before what was put in
+/// earlier.
 ///
-/// So the length of a record is known when it is written in front of the record, and nothing is measured twice.
+/// So the length of a record is known when it is written in front of the record, and nothing is
+/// measured twice.
 #[derive(Drop)]
 pub struct Backward {
     /// The last byte first.
@@ -115,7 +117,8 @@ impl Backward {
 
     /// Puts the key and the length before a payload, behind which `end` bytes were held.
     pub fn put_length(&mut self, number: i32, end: usize) -> Result<(), AllocError>
-        ensures { (payload behind : List ℕ) → held self.old ≡ payload ++ behind → length behind ≡ end
+        ensures { (payload behind : List ℕ) → held self.old ≡ payload ++ behind → length behind
+            ≡ end
             → OnOk result (held self.new ≡ payload_field (unsigned_abs number) payload ++ behind) }
     {
         let len = self.len().saturating_sub(end);
@@ -125,7 +128,8 @@ impl Backward {
     }
 
     fn put_payload(&mut self, number: i32, payload: &[u8]) -> Result<(), AllocError>
-        ensures { OnOk result (held self.new ≡ payload_field (unsigned_abs number) payload.now ++ held self.old) }
+        ensures { OnOk result (held self.new ≡ payload_field (unsigned_abs number) payload.now
+            ++ held self.old) }
     {
         let end = self.len();
         self.put_bytes(payload)?;
@@ -134,7 +138,8 @@ impl Backward {
     }
 
     pub fn put_text(&mut self, number: i32, text: &Option<String>) -> Result<(), AllocError>
-        ensures { OnOk result (held self.new ≡ text_field (unsigned_abs number) text.now ++ held self.old) }
+        ensures { OnOk result (held self.new ≡ text_field (unsigned_abs number) text.now
+            ++ held self.old) }
     {
         if let Some(text) = text {
             self.put_payload(number, text.as_bytes())?;
@@ -143,7 +148,8 @@ impl Backward {
     }
 
     pub fn put_texts(&mut self, number: i32, texts: &[String]) -> Result<(), AllocError>
-        ensures { OnOk result (held self.new ≡ texts_field (unsigned_abs number) texts.now ++ held self.old) }
+        ensures { OnOk result (held self.new ≡ texts_field (unsigned_abs number) texts.now
+            ++ held self.old) }
     {
         let mut left = texts;
         while let Some((last, front)) = left.split_last() {
@@ -154,7 +160,8 @@ impl Backward {
     }
 
     fn put_number(&mut self, number: i32, n: u64) -> Result<(), AllocError>
-        ensures { OnOk result (held self.new ≡ number_field (unsigned_abs number) n ++ held self.old) }
+        ensures { OnOk result (held self.new ≡ number_field (unsigned_abs number) n
+            ++ held self.old) }
     {
         self.put_varint(n)?;
         self.put_key(record_key(number, WireType::Varint))?;
@@ -162,7 +169,8 @@ impl Backward {
     }
 
     pub fn put_int32(&mut self, number: i32, n: Option<i32>) -> Result<(), AllocError>
-        ensures { OnOk result (held self.new ≡ int32_field (unsigned_abs number) n ++ held self.old) }
+        ensures { OnOk result (held self.new ≡ int32_field (unsigned_abs number) n
+            ++ held self.old) }
     {
         if let Some(n) = n {
             self.put_number(number, sign_extended(n))?;
@@ -171,7 +179,8 @@ impl Backward {
     }
 
     pub fn put_bool(&mut self, number: i32, truth: Option<bool>) -> Result<(), AllocError>
-        ensures { OnOk result (held self.new ≡ bool_field (unsigned_abs number) truth ++ held self.old) }
+        ensures { OnOk result (held self.new ≡ bool_field (unsigned_abs number) truth
+            ++ held self.old) }
     {
         if let Some(truth) = truth {
             self.put_number(number, u64::from(truth))?;
@@ -181,7 +190,8 @@ impl Backward {
 
     /// A list, one record a number.
     pub fn put_int32s(&mut self, number: i32, list: &[i32]) -> Result<(), AllocError>
-        ensures { OnOk result (held self.new ≡ int32s_field (unsigned_abs number) list.now ++ held self.old) }
+        ensures { OnOk result (held self.new ≡ int32s_field (unsigned_abs number) list.now
+            ++ held self.old) }
     {
         let mut left = list;
         while let Some((last, front)) = left.split_last() {
@@ -192,7 +202,8 @@ impl Backward {
     }
 
     fn put_varints(&mut self, list: &[i32]) -> Result<(), AllocError>
-        ensures { OnOk result (held self.new ≡ flat_map (λ n. varint_bytes (cast_unsigned w64 n)) list.now ++ held self.old) }
+        ensures { OnOk result (held self.new
+            ≡ flat_map (λ n. varint_bytes (cast_unsigned w64 n)) list.now ++ held self.old) }
     {
         let mut left = list;
         while let Some((last, front)) = left.split_last() {
@@ -204,7 +215,8 @@ impl Backward {
 
     /// A list in one record, none where it is empty.
     pub fn put_packed(&mut self, number: i32, list: &[i32]) -> Result<(), AllocError>
-        ensures { OnOk result (held self.new ≡ packed_field (unsigned_abs number) list.now ++ held self.old) }
+        ensures { OnOk result (held self.new ≡ packed_field (unsigned_abs number) list.now
+            ++ held self.old) }
     {
         if list.is_empty() {
             return Ok(());
@@ -216,7 +228,8 @@ impl Backward {
     }
 
     pub fn put_record<R: WriteRecord>(&mut self, number: i32, inner: &R) -> Result<(), AllocError>
-        ensures { OnOk result (held self.new ≡ payload_field (unsigned_abs number) (R.bytes inner.now) ++ held self.old) }
+        ensures { OnOk result (held self.new
+            ≡ payload_field (unsigned_abs number) (R.bytes inner.now) ++ held self.old) }
     {
         let end = self.len();
         inner.put(self)?;
@@ -229,7 +242,8 @@ impl Backward {
         number: i32,
         inner: &Option<R>,
     ) -> Result<(), AllocError>
-        ensures { OnOk result (held self.new ≡ record_field R.bytes (unsigned_abs number) inner.now ++ held self.old) }
+        ensures { OnOk result (held self.new ≡ record_field R.bytes (unsigned_abs number) inner.now
+            ++ held self.old) }
     {
         if let Some(inner) = inner {
             self.put_record(number, inner)?;
@@ -238,7 +252,8 @@ impl Backward {
     }
 
     pub fn put_records<R: WriteRecord>(&mut self, number: i32, list: &[R]) -> Result<(), AllocError>
-        ensures { OnOk result (held self.new ≡ records_field R.bytes (unsigned_abs number) list.now ++ held self.old) }
+        ensures { OnOk result (held self.new ≡ records_field R.bytes (unsigned_abs number) list.now
+            ++ held self.old) }
     {
         let mut left = list;
         while let Some((last, front)) = left.split_last() {
@@ -250,7 +265,8 @@ impl Backward {
 
     /// Options are written as the bytes that they hold.
     pub fn put_options(&mut self, number: i32, options: &Option<Options>) -> Result<(), AllocError>
-        ensures { OnOk result (held self.new ≡ options_field (unsigned_abs number) options.now ++ held self.old) }
+        ensures { OnOk result (held self.new ≡ options_field (unsigned_abs number) options.now
+            ++ held self.old) }
     {
         if let Some(options) = options {
             self.put_payload(number, &options.encoded)?;

@@ -16,9 +16,10 @@ pub const MAX_LEVELS: u32 = 100;
 
 /// The file that the bytes spell.
 ///
-/// Lists of numbers are read packed and unpacked, unknown fields outside options are dropped, and the bytes of options
-/// are kept as they came. Refused where the bytes are no records of at most 100 levels (those in an options record
-/// counted by themselves), where a known field has another wire type (`BadWireType`), and where a text is not UTF-8.
+/// Lists of numbers are read packed and unpacked, unknown fields outside options are dropped, and
+/// the bytes of options are kept as they came. Refused where the bytes are no records of at most
+/// 100 levels (those in an options record counted by themselves), where a known field has another
+/// wire type (`BadWireType`), and where a text is not UTF-8.
 pub fn decode_file(alloc: Global, bytes: &[u8]) -> Result<FileDescriptorProto, WireError>
     ensures { Takes IsFileBytes bytes.now result }
 {
@@ -34,7 +35,8 @@ pub fn decode_set(alloc: Global, bytes: &[u8]) -> Result<FileDescriptorSet, Wire
     FileDescriptorSet::from_fields(alloc, &fields)
 }
 
-/// Appends the file's bytes: present fields by ascending number, options as the bytes that they hold.
+/// Appends the file's bytes: present fields by ascending number, options as the bytes that they
+/// hold.
 ///
 /// A refusal leaves the vector.
 pub fn encode_file(file: &FileDescriptorProto, out: &mut Vec<u8>) -> Result<(), WireError>

@@ -111,7 +111,8 @@ fn with_fields<'b>(
     Ok(list)
 }
 
-/// The fields with those behind them of the record that a value holds, which stands below `outside` levels.
+/// The fields with those behind them of the record that a value holds, which stands below `outside`
+/// levels.
 fn with_part<'b>(
     fields: Vec<RawField<'b>>,
     alloc: Global,
@@ -119,7 +120,8 @@ fn with_part<'b>(
     outside: u32,
     inside: u32,
 ) -> Result<Vec<RawField<'b>>, WireError>
-    ensures { MoreFields (IsPart outside inside) (fields_view fields.entry.items) (value_view value.entry) result }
+    ensures { MoreFields (IsPart outside inside) (fields_view fields.entry.items)
+        (value_view value.entry) result }
 {
     let payload = value.record(outside)?;
     with_fields(fields, alloc, payload, inside)
@@ -128,7 +130,8 @@ fn with_part<'b>(
 impl<'b> Fields<'b> {
     /// The fields that the bytes spell, below which so many levels of records may lie.
     pub fn read(alloc: Global, bytes: &'b [u8], levels: u32) -> Result<Fields<'b>, WireError>
-        ensures read { TakesBy (λ f. fields_view f.list.items) (SpellsFields levels) bytes.now result }
+        ensures read { TakesBy (λ f. fields_view f.list.items) (SpellsFields levels)
+            bytes.now result }
         ensures levels { IfOk result (λ f. f.levels ≡ levels) }
     {
         let list = with_fields(Vec::new(alloc), alloc, bytes, levels)?;
@@ -137,7 +140,8 @@ impl<'b> Fields<'b> {
 
     /// The last value of a field.
     pub fn last<T: FieldValue>(&self, alloc: Global, number: i32) -> Result<Option<T>, WireError>
-        ensures { Takes (IsLast (T.means self.now.levels)) (values_at (unsigned_abs number) (fields_view self.now.list.items)) result }
+        ensures { Takes (IsLast (T.means self.now.levels))
+            (values_at (unsigned_abs number) (fields_view self.now.list.items)) result }
     {
         let wanted = number.unsigned_abs();
         let mut found = None;
@@ -151,7 +155,8 @@ impl<'b> Fields<'b> {
 
     /// All values of a field.
     pub fn list<T: FieldValue>(&self, alloc: Global, number: i32) -> Result<Vec<T>, WireError>
-        ensures { Takes (λ vs ts. AllZip (T.means self.now.levels) vs ts.items) (values_at (unsigned_abs number) (fields_view self.now.list.items)) result }
+        ensures { Takes (λ vs ts. AllZip (T.means self.now.levels) vs ts.items)
+            (values_at (unsigned_abs number) (fields_view self.now.list.items)) result }
     {
         let wanted = number.unsigned_abs();
         let mut list = Vec::new(alloc);
@@ -165,7 +170,8 @@ impl<'b> Fields<'b> {
 
     /// The numbers of a list, of which each value holds one or, packed, several.
     pub fn int32s(&self, alloc: Global, number: i32) -> Result<Vec<i32>, WireError>
-        ensures { Takes (λ vs zs. AreNumbers vs zs.items) (values_at (unsigned_abs number) (fields_view self.now.list.items)) result }
+        ensures { Takes (λ vs zs. AreNumbers vs zs.items)
+            (values_at (unsigned_abs number) (fields_view self.now.list.items)) result }
     {
         let wanted = number.unsigned_abs();
         let mut list = Vec::new(alloc);
@@ -177,14 +183,17 @@ impl<'b> Fields<'b> {
         Ok(list)
     }
 
-    /// The fields of all records of a field, joined, with `levels` below them. `None` where there is no record.
+    /// The fields of all records of a field, joined, with `levels` below them. `None` where there
+    /// is no record.
     pub fn joined(
         &self,
         alloc: Global,
         number: i32,
         levels: u32,
     ) -> Result<Option<Fields<'b>>, WireError>
-        ensures read { TakesBy (option_map (λ f. fields_view f.list.items)) (AreJoined self.now.levels levels) (values_at (unsigned_abs number) (fields_view self.now.list.items)) result }
+        ensures read { TakesBy (option_map (λ f. fields_view f.list.items))
+            (AreJoined self.now.levels levels)
+            (values_at (unsigned_abs number) (fields_view self.now.list.items)) result }
         ensures levels { IfOk result (λ o. IfSome o (λ f. f.levels ≡ levels)) }
     {
         let wanted = number.unsigned_abs();
@@ -205,7 +214,8 @@ impl<'b> Fields<'b> {
 
     /// A record, of which further ones are merged into the first.
     pub fn merged<R: ReadRecord>(&self, alloc: Global, number: i32) -> Result<Option<R>, WireError>
-        ensures { Takes (IsMerged R.facts self.now.levels) (values_at (unsigned_abs number) (fields_view self.now.list.items)) result }
+        ensures { Takes (IsMerged R.facts self.now.levels)
+            (values_at (unsigned_abs number) (fields_view self.now.list.items)) result }
     {
         match self.joined(alloc, number, self.levels.saturating_sub(1))? {
             Some(fields) => Ok(Some(R::from_fields(alloc, &fields)?)),
@@ -215,7 +225,8 @@ impl<'b> Fields<'b> {
 
     /// The payloads of a field, joined.
     pub fn joined_bytes(&self, alloc: Global, number: i32) -> Result<Vec<u8>, WireError>
-        ensures { Takes (λ vs bytes. ArePayloads vs bytes.items) (values_at (unsigned_abs number) (fields_view self.now.list.items)) result }
+        ensures { Takes (λ vs bytes. ArePayloads vs bytes.items)
+            (values_at (unsigned_abs number) (fields_view self.now.list.items)) result }
     {
         let wanted = number.unsigned_abs();
         let mut bytes = Vec::new(alloc);

@@ -6,5 +6,6 @@ ghost use Rattle.reflect_codec.specs.Meaning.{IsFileBytes};
 
 /// Bytes mean one file at most, but for where it lies in memory.
 pub fn bytes_mean_one_file()
-    ensures { (bytes : List ℕ) (f g : FileDescriptorProto) → IsFileBytes bytes f → IsFileBytes bytes g → file_view f ≡ file_view g }
+    ensures { (bytes : List ℕ) (f g : FileDescriptorProto) → IsFileBytes bytes f
+        → IsFileBytes bytes g → file_view f ≡ file_view g }
 {}

@@ -1,6 +1,7 @@
 //! Descriptor records and their wire bytes: files and descriptor sets are read and written.
 //!
-//! The records are messages of protobuf's `descriptor.proto`, written as "Encoding" at protobuf.dev says.
+//! The records are messages of protobuf's `descriptor.proto`, written as "Encoding" at protobuf.dev
+//! says.
 #![tactic(auto)]
 
 mod backward;

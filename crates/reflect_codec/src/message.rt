@@ -23,7 +23,8 @@ pub fn message_types(
     fields: &Fields<'_>,
     number: i32,
 ) -> Result<Vec<DescriptorProto>, WireError>
-    ensures { Takes (λ vs ms. AllZip (IsMessage fields.now.levels) vs ms.items) (values_at (unsigned_abs number) (fields_view fields.now.list.items)) result }
+    ensures { Takes (λ vs ms. AllZip (IsMessage fields.now.levels) vs ms.items)
+        (values_at (unsigned_abs number) (fields_view fields.now.list.items)) result }
 {
     let wanted = number.unsigned_abs();
     let mut list = Vec::new(alloc);
@@ -51,7 +52,8 @@ fn message_type(
 
 #[cycle(read)]
 fn message_from_fields(alloc: Global, fields: &Fields<'_>) -> Result<DescriptorProto, WireError>
-    ensures { Takes (λ fs m. IsLevel (IsMessage fields.now.levels) fields.now.levels fs (out-DescriptorProto m)) (fields_view fields.now.list.items) result }
+    ensures { Takes (λ fs m. IsLevel (IsMessage fields.now.levels) fields.now.levels fs
+        (out-DescriptorProto m)) (fields_view fields.now.list.items) result }
 {
     Ok(DescriptorProto {
         name: fields.last(alloc, tag::message::NAME)?,
@@ -74,7 +76,8 @@ pub fn put_message_types(
     list: &[DescriptorProto],
     out: &mut Backward,
 ) -> Result<(), AllocError>
-    ensures { OnOk result (held out.new ≡ records_field message_bytes (unsigned_abs number) list.now ++ held out.old) }
+    ensures { OnOk result (held out.new ≡ records_field message_bytes (unsigned_abs number) list.now
+        ++ held out.old) }
 {
     let mut left = list;
     while let Some((last, front)) = left.split_last() {

@@ -49,7 +49,8 @@ impl<'b> Fields<'b> {
         number: i32,
         of: OptionsOf,
     ) -> Result<Option<Options>, WireError>
-        ensures { Takes (AreOptions of self.now.levels) (values_at (unsigned_abs number) (fields_view self.now.list.items)) result }
+        ensures { Takes (AreOptions of self.now.levels)
+            (values_at (unsigned_abs number) (fields_view self.now.list.items)) result }
     {
         match self.joined(alloc, number, MAX_LEVELS)? {
             Some(fields) => Ok(Some(Options {
@@ -70,7 +71,8 @@ impl<'b> Fields<'b> {
         alloc: Global,
         number: i32,
     ) -> Result<Option<T>, WireError>
-        ensures { Takes (IsLastIf wanted (T.means self.now.levels)) (values_at (unsigned_abs number) (fields_view self.now.list.items)) result }
+        ensures { Takes (IsLastIf wanted (T.means self.now.levels))
+            (values_at (unsigned_abs number) (fields_view self.now.list.items)) result }
     {
         if wanted {
             self.last(alloc, number)

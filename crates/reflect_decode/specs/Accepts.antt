@@ -1,4 +1,5 @@
--- Which records a message type accepts (protobuf.dev, "Encoding", Message Structure, Packed Repeated Fields, Groups, Maps).
+-- Which records a message type accepts (protobuf.dev, "Encoding", Message Structure, Packed
+-- Repeated Fields, Groups, Maps).
 use Rattle.std.specs.Prelude.{◌≡◌, ◌⊎◌, ℕ, zero, suc, ◌<◌, Bool, true, false, List, Option, None, Some}
 use Rattle.std.specs.List.{AllByRecursion}
 use Rattle.std.specs.Option.{option_or}
@@ -28,15 +29,19 @@ AcceptsKind inner grouped kind p = (v : Single) × Means kind p v
 
 -- the payload of one value of a list, or of values that are packed
 abbrev pub AcceptsElement : Acceptable → Bool → Kind → Payload → Type 0
-AcceptsElement inner grouped kind p = AcceptsKind inner grouped kind p ⊎ ((vs : List Single) × IsRow kind p vs)
+AcceptsElement inner grouped kind p = AcceptsKind inner grouped kind p
+    ⊎ ((vs : List Single) × IsRow kind p vs)
 
 abbrev pub AcceptsOne : Acceptable → PoolType → FieldType → Payload → Type 0
-AcceptsOne inner pool f p = (kind : Kind) × IsKind pool kind f.kind × AcceptsKind inner f.group kind p
+AcceptsOne inner pool f p = (kind : Kind) × IsKind pool kind f.kind
+    × AcceptsKind inner f.group kind p
 
 abbrev pub AcceptsListed : Acceptable → PoolType → FieldType → Payload → Type 0
-AcceptsListed inner pool f p = (kind : Kind) × IsKind pool kind f.kind × AcceptsElement inner f.group kind p
+AcceptsListed inner pool f p = (kind : Kind) × IsKind pool kind f.kind
+    × AcceptsElement inner f.group kind p
 
--- an entry of a map of the type: its key under 1, its value under 2; a message value is one level below, written or not
+-- an entry of a map of the type: its key under 1, its value under 2; a message value is one level
+-- below, written or not
 abbrev pub AcceptsEntry : ℕ → Acceptable → PoolType → KindType → Payload → Type 0
 AcceptsEntry levels inner pool t p =
     (keys values : FieldType) × (rs : List (ℕ × Payload))
@@ -52,7 +57,8 @@ AcceptsAs levels inner pool f false true p = AcceptsListed inner pool f p
 AcceptsAs levels inner pool f false false p = AcceptsOne inner pool f p
 
 abbrev pub AcceptsField : ℕ → Acceptable → PoolType → FieldType → Payload → Type 0
-AcceptsField levels inner pool f p = AcceptsAs levels inner pool f (holds_map pool f) (holds_list pool f) p
+AcceptsField levels inner pool f p =
+    AcceptsAs levels inner pool f (holds_map pool f) (holds_list pool f) p
 
 -- the field, or else the extension, whose records those of the number are
 abbrev pub declared_at : PoolType → ℕ → ℕ → Option FieldType

@@ -12,7 +12,8 @@ use Rattle.reflect_message.specs.declared.value.Value.{Value}
 
 -- the record is packed, and spells these values of the kind
 abbrev pub IsRow : Kind → Payload → List Single → Type 0
-IsRow kind p vs = (body : List ℕ) × (p ≡ delimited body) × (packs (wire_type kind) ≡ true) × IsPacked kind body vs
+IsRow kind p vs = (body : List ℕ) × (p ≡ delimited body) × (packs (wire_type kind) ≡ true)
+    × IsPacked kind body vs
 
 -- one value of the kind, or, of a kind that may be packed, any number of them
 abbrev pub AreElements : Kind → Payload → List Single → Type 0
@@ -20,13 +21,16 @@ AreElements kind p vs = ((v : Single) × (vs ≡ v ∷ []) × Means kind p v) �
 
 -- behind the old values stands the record's message, or, of another kind, the values that it spells
 abbrev pub Appends : Taken → Kind → List Value → List Value → Payload → Type 0
-Appends taken kind old new p = ((v : Value) × IsMade taken kind p v × (new ≡ old ++ v ∷ [])) ⊎ ((vs : List Single) × AreElements kind p vs × Continues old new vs)
+Appends taken kind old new p = ((v : Value) × IsMade taken kind p v × (new ≡ old ++ v ∷ []))
+    ⊎ ((vs : List Single) × AreElements kind p vs × Continues old new vs)
 
 -- the same for records one behind the other
 abbrev pub AppendsAll : Taken → Kind → List Value → List Value → List Payload → Type 0
 AppendsAll taken kind old new [] = new ≡ old
-AppendsAll taken kind old new (p ∷ ps) = (between : List Value) × Appends taken kind old between p × AppendsAll taken kind between new ps
+AppendsAll taken kind old new (p ∷ ps) = (between : List Value) × Appends taken kind old between p
+    × AppendsAll taken kind between new ps
 
 -- a list is continued by the values of the records
 abbrev pub ContinuesList : Taken → Kind → Option Value → Option Value → List Payload → Type 0
-ContinuesList taken kind old new ps = (before after : List Value) × (items_held old ≡ Some before) × (items_held new ≡ Some after) × AppendsAll taken kind before after ps
+ContinuesList taken kind old new ps = (before after : List Value) × (items_held old ≡ Some before)
+    × (items_held new ≡ Some after) × AppendsAll taken kind before after ps

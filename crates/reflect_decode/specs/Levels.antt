@@ -6,11 +6,13 @@ use Rattle.reflect_message.specs.Contents.{Content}
 use Rattle.reflect_decode.specs.Messages.{Taken, Takes, AreInside, IsEntryBody}
 use Rattle.reflect_decode.specs.Spares.{Merges}
 
--- payloads of messages leave what the records inside them do, taken one behind the other; below the last level there are none
+-- payloads of messages leave what the records inside them do, taken one behind the other; below the
+-- last level there are none
 unfoldable pub TakenAt : ℕ → Bool → Taken
 TakenAt zero grouped m old new ps = ⊥
 TakenAt (suc levels) grouped m old new ps =
-    (rs : List (ℕ × Payload)) × AreInside grouped levels ps rs × Merges (record { message = TakenAt levels; entry = IsEntryBody levels }) m old new rs
+    (rs : List (ℕ × Payload)) × AreInside grouped levels ps rs
+    × Merges (record { message = TakenAt levels; entry = IsEntryBody levels }) m old new rs
 
 -- the levels that are left are one fewer inside a message, and as many inside an entry of a map
 abbrev pub TakesAt : ℕ → Takes

@@ -13,11 +13,13 @@ IsBody (Some n) levels bytes rs = IsGroup levels n bytes (records_of rs)
 -- the bytes spell values of the key, behind each of which the key stands again
 abbrev pub LeadsOn : ℕ → WireKey → List ℕ → List Payload → Type 0
 LeadsOn levels key bytes [] = bytes ≡ []
-LeadsOn levels key bytes (p ∷ ps) = (value again rest : List ℕ) × IsValue levels key value p × IsKey again key × LeadsOn levels key rest ps × (bytes ≡ value ++ (again ++ rest))
+LeadsOn levels key bytes (p ∷ ps) = (value again rest : List ℕ) × IsValue levels key value p
+    × IsKey again key × LeadsOn levels key rest ps × (bytes ≡ value ++ (again ++ rest))
 
 -- behind a key the bytes spell its value, and perhaps more records with the same key
 abbrev pub IsRun : ℕ → WireKey → List ℕ → List Payload × Payload → Type 0
-IsRun levels key bytes run = (lead value : List ℕ) × LeadsOn levels key lead run.0 × IsValue levels key value run.1 × (bytes ≡ lead ++ value)
+IsRun levels key bytes run = (lead value : List ℕ) × LeadsOn levels key lead run.0
+    × IsValue levels key value run.1 × (bytes ≡ lead ++ value)
 
 -- the records of such a run
 abbrev pub run_records : ℕ → List Payload × Payload → List (ℕ × Payload)

@@ -20,11 +20,14 @@ use Rattle.reflect_message.specs.declared.value.Value.{Value}
 
 -- a record of a member of a oneof is read
 abbrev pub ReadsMember : MessageDescriptor → List (ℕ × Payload) → Type 0
-ReadsMember m read = (f : FieldDescriptor) × Declares m f × IsSome (field_type f).oneof × (numbered (field_type f).number read ≢ [])
+ReadsMember m read = (f : FieldDescriptor) × Declares m f × IsSome (field_type f).oneof
+    × (numbered (field_type f).number read ≢ [])
 
 -- of a number that is not read, what a field holds stays, but that a member of a oneof may unset it
-pub record SparesFields (m : MessageDescriptor) (old new : List (ℕ × Value)) (read : List (ℕ × Payload)) : Type 0 where
-  pub unread : (n : ℕ) → numbered n read ≡ [] → Same old new n ⊎ ((value_at new n ≡ None) × ReadsMember m read)
+pub record SparesFields (m : MessageDescriptor) (old new : List (ℕ × Value))
+    (read : List (ℕ × Payload)) : Type 0 where
+  pub unread : (n : ℕ) → numbered n read ≡ [] → Same old new n
+      ⊎ ((value_at new n ≡ None) × ReadsMember m read)
 
 -- what an extension holds stays
 pub record SparesExtensions (old new : List (ℕ × Value)) (read : List (ℕ × Payload)) : Type 0 where
@@ -34,19 +37,27 @@ pub record SparesExtensions (old new : List (ℕ × Value)) (read : List (ℕ ×
 abbrev pub HoldsRead : List (ℕ × Value) → List (ℕ × Payload) → Type 0
 HoldsRead held read = (n : ℕ) → numbered n read ≡ [] → value_at held n ≡ None
 
--- where one member of each oneof at most holds anything, and it is noted, the records leave their values, and it stays so
-pub record FillsFields (inner : Takes) (m : MessageDescriptor) (old new : Content) (read : List (ℕ × Payload)) : Type 0 where
-  pub each : (f : FieldDescriptor) → Owns m f → LeavesField inner m f (value_at old.fields (field_type f).number) (value_at new.fields (field_type f).number) read
+-- where one member of each oneof at most holds anything, and it is noted, the records leave their
+-- values, and it stays so
+pub record FillsFields (inner : Takes) (m : MessageDescriptor) (old new : Content)
+    (read : List (ℕ × Payload)) : Type 0 where
+  pub each : (f : FieldDescriptor) → Owns m f
+      → LeavesField inner m f (value_at old.fields (field_type f).number)
+      (value_at new.fields (field_type f).number) read
   pub chosen : AreChosen m new.choices new.fields
 
 -- the extensions' records leave their values, and what stands under the numbers of fields stays
-pub record FillsExtensions (inner : Takes) (m : MessageDescriptor) (old new : List (ℕ × Value)) (read : List (ℕ × Payload)) : Type 0 where
-  pub each : (x : ExtensionDescriptor) → OwnsExtension m x → LeavesExtension inner m x (value_at old (extension_type x).number) (value_at new (extension_type x).number) read
+pub record FillsExtensions (inner : Takes) (m : MessageDescriptor) (old new : List (ℕ × Value))
+    (read : List (ℕ × Payload)) : Type 0 where
+  pub each : (x : ExtensionDescriptor) → OwnsExtension m x
+      → LeavesExtension inner m x (value_at old (extension_type x).number)
+      (value_at new (extension_type x).number) read
   pub behind : (f : FieldDescriptor) → Owns m f → Same old new (field_type f).number
 
 -- the records are taken in: what they do not name stays, those of undeclared numbers are kept, and
 -- what was in the order of its numbers stays so
-pub record Merges (inner : Takes) (m : MessageDescriptor) (old new : Content) (read : List (ℕ × Payload)) : Type 0 where
+pub record Merges (inner : Takes) (m : MessageDescriptor) (old new : Content)
+    (read : List (ℕ × Payload)) : Type 0 where
   pub fields : SparesFields m old.fields new.fields read
   pub filled : AreChosen m old.choices old.fields → FillsFields inner m old new read
   pub extensions : SparesExtensions old.extensions new.extensions read

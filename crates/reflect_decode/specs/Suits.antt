@@ -31,7 +31,8 @@ IsSuiting inner pool t v =
     (m : DynamicMessage) × (message_in v ≡ Some m) × IsKind pool (kinds.Message m.descriptor) t
     × inner m.descriptor (content_of m)
 
--- by whether the field is a map, and whether it is a list: into these records put values, into a message they go themselves
+-- by whether the field is a map, and whether it is a list: into these records put values, into a
+-- message they go themselves
 abbrev pub SuitsAs : Suiting → PoolType → KindType → Bool → Bool → Value → Type 0
 SuitsAs inner pool t true list v = IsSome (map_entries v)
 SuitsAs inner pool t false true v = IsSome (list_items v)
@@ -41,13 +42,19 @@ abbrev pub HeldSuits : Suiting → PoolType → FieldType → Option Value → T
 HeldSuits inner pool f None = Unit {0}
 HeldSuits inner pool f (Some v) = SuitsAs inner pool f.kind (holds_map pool f) (holds_list pool f) v
 
--- each field and each extension holds what suits it, and of each oneof one member at most holds anything
+-- each field and each extension holds what suits it, and of each oneof one member at most holds
+-- anything
 pub record SuitsBy (inner : Suiting) (m : MessageDescriptor) (c : Content) : Type 0 where
   pub chosen : AreChosen m c.choices c.fields
-  pub fields : (f : FieldDescriptor) → Owns m f → HeldSuits inner (field_pool f) (field_type f) (value_at c.fields (field_type f).number)
-  pub extensions : (x : ExtensionDescriptor) → OwnsExtension m x → NoField m (extension_type x).number → HeldSuits inner (extension_pool x) (extension_type x) (value_at c.extensions (extension_type x).number)
+  pub fields : (f : FieldDescriptor) → Owns m f
+      → HeldSuits inner (field_pool f) (field_type f) (value_at c.fields (field_type f).number)
+  pub extensions : (x : ExtensionDescriptor) → OwnsExtension m x
+      → NoField m (extension_type x).number
+      → HeldSuits inner (extension_pool x) (extension_type x)
+      (value_at c.extensions (extension_type x).number)
 
--- messages that stand below so many levels: of those below the last one nothing is asked, as no record reaches them
+-- messages that stand below so many levels: of those below the last one nothing is asked, as no
+-- record reaches them
 abbrev pub SuitsBelow : ℕ → Suiting
 SuitsBelow zero m c = Unit {0}
 SuitsBelow (suc levels) m c = SuitsBy (SuitsBelow levels) m c

@@ -53,7 +53,8 @@ pub struct RawRecord<'b> {
 }
 
 impl<'b> RawRecord<'b> {
-    /// How many levels may lie below a message or a group in this record; `TooDeep` where it may not lie there itself.
+    /// How many levels may lie below a message or a group in this record; `TooDeep` where it may
+    /// not lie there itself.
     fn levels_below(&self) -> Result<u32, WireError>
         ensures below { IfOk result (λ levels. levels + 1 ≡ self.now.levels) }
         ensures none { IfErr result (λ e. (e ≡ TooDeep) × (self.now.levels ≡ 0)) }
@@ -61,8 +62,8 @@ impl<'b> RawRecord<'b> {
         self.levels.checked_sub(1).ok_or(WireError::TooDeep)
     }
 
-    /// The record behind, if it has the same key. The elements of a list, as the entries of a map, mostly stand together, and
-    /// what their field says of them is asked once.
+    /// The record behind, if it has the same key. The elements of a list, as the entries of a map,
+    /// mostly stand together, and what their field says of them is asked once.
     fn another_at(&self, rest: &'b [u8]) -> Option<RawRecord<'b>>
         ensures key { IfSome result (λ next. next.key ≡ self.now.key) }
         ensures levels { IfSome result (λ next. next.levels ≡ self.now.levels) }
@@ -81,8 +82,8 @@ impl<'b> RawRecord<'b> {
     }
 }
 
-/// Takes in the records of a message, up to the end of the bytes, or, of a group, up to its end tag, and gives what is
-/// behind them. Where there are no bytes, no memory is taken.
+/// Takes in the records of a message, up to the end of the bytes, or, of a group, up to its end
+/// tag, and gives what is behind them. Where there are no bytes, no memory is taken.
 ///
 /// A refusal leaves a part of the records taken in.
 #[cycle(merge)]
@@ -99,7 +100,8 @@ pub fn merge_body<'p, 'b>(
         (content_of message.new) bytes.now result }
     ensures whole { group ≡ None → IfOk result (λ rest. rest.now ≡ []) }
     ensures shorter { IfOk result (λ rest. length rest.now ≤ length bytes.now) }
-    ensures fault { TellsBody levels group message.old.descriptor (content_of message.old) bytes.now result }
+    ensures fault { TellsBody levels group message.old.descriptor (content_of message.old)
+        bytes.now result }
 {
     if bytes.is_empty() && group.is_none() {
         return Ok(bytes);
@@ -128,11 +130,13 @@ fn merge_records<'p, 'b>(
     levels: u32,
 ) -> Result<&'b [u8], WireError>
     requires nested { levels ≤ 100 }
-    ensures read { ReadsBody levels group descriptor.entry (content_in parts.old) (content_in parts.new)
+    ensures read { ReadsBody levels group descriptor.entry (content_in parts.old)
+        (content_in parts.new)
         bytes.now result }
     ensures whole { group ≡ None → IfOk result (λ rest. rest.now ≡ []) }
     ensures shorter { IfOk result (λ rest. length rest.now ≤ length bytes.now) }
-    ensures fault { TellsBody levels group descriptor.entry (content_in parts.old) bytes.now result }
+    ensures fault { TellsBody levels group descriptor.entry (content_in parts.old)
+        bytes.now result }
 {
     let mut rest = bytes;
     'records: while !rest.is_empty() {
@@ -164,10 +168,12 @@ fn merge_record<'p, 'b>(
     descriptor: MessageDescriptor<'p>,
     raw: RawRecord<'b>,
 ) -> Result<&'b [u8], WireError>
-    ensures read { ReadsRecord raw.entry.levels raw.entry.key descriptor.entry (content_in parts.old)
+    ensures read { ReadsRecord raw.entry.levels raw.entry.key descriptor.entry
+        (content_in parts.old)
         (content_in parts.new) raw.entry.bytes.now result }
     ensures shorter { IfOk result (λ rest. length rest.now ≤ length raw.entry.bytes.now) }
-    ensures fault { TellsRecord raw.entry.levels raw.entry.key descriptor.entry (content_in parts.old)
+    ensures fault { TellsRecord raw.entry.levels raw.entry.key descriptor.entry
+        (content_in parts.old)
         raw.entry.bytes.now result }
 {
     let number = raw.key.number;
@@ -187,9 +193,12 @@ fn merge_record<'p, 'b>(
 /// The record of a number that the type does not declare, and what is behind it.
 fn unknown_at<'b>(alloc: Global, raw: RawRecord<'b>) -> Result<(UnknownField, &'b [u8]), WireError>
     ensures number { IfOk result (λ found. (field_view found.0).0 ≡ raw.entry.key.number) }
-    ensures read { IfOk result (λ found. Fronts (IsValue raw.entry.levels raw.entry.key) raw.entry.bytes.now (field_view found.0).1 found.1.now) }
-    ensures err { IfErr result (Refuses (IsValue raw.entry.levels raw.entry.key) raw.entry.bytes.now) }
-    ensures fault { IfErr result (Tells (ValueFault raw.entry.levels raw.entry.key) raw.entry.bytes.now) }
+    ensures read { IfOk result (λ found. Fronts (IsValue raw.entry.levels raw.entry.key)
+        raw.entry.bytes.now (field_view found.0).1 found.1.now) }
+    ensures err { IfErr result (Refuses (IsValue raw.entry.levels raw.entry.key)
+        raw.entry.bytes.now) }
+    ensures fault { IfErr result (Tells (ValueFault raw.entry.levels raw.entry.key)
+        raw.entry.bytes.now) }
     ensures shorter { IfOk result (λ found. length found.1.now ≤ length raw.entry.bytes.now) }
 {
     let mut rest = raw.bytes;
@@ -204,10 +213,13 @@ fn keep_unknown<'b>(
     alloc: Global,
     raw: RawRecord<'b>,
 ) -> Result<&'b [u8], WireError>
-    ensures kept { KeepsRecord raw.entry.levels raw.entry.key (undeclared unknown.old) (undeclared unknown.new)
+    ensures kept { KeepsRecord raw.entry.levels raw.entry.key (undeclared unknown.old)
+        (undeclared unknown.new)
         raw.entry.bytes.now result }
-    ensures err { IfErr result (Refuses (IsValue raw.entry.levels raw.entry.key) raw.entry.bytes.now) }
-    ensures fault { IfErr result (Tells (ValueFault raw.entry.levels raw.entry.key) raw.entry.bytes.now) }
+    ensures err { IfErr result (Refuses (IsValue raw.entry.levels raw.entry.key)
+        raw.entry.bytes.now) }
+    ensures fault { IfErr result (Tells (ValueFault raw.entry.levels raw.entry.key)
+        raw.entry.bytes.now) }
     ensures left { OnErr result (undeclared unknown.new ≡ undeclared unknown.old) }
     ensures shorter { IfOk result (λ rest. length rest.now ≤ length raw.entry.bytes.now) }
 {
@@ -294,8 +306,8 @@ fn merge_message<'p, 'b>(
     }
 }
 
-/// Takes in an element of a list, or the elements of a packed record, and with them the records behind that have the same
-/// key.
+/// Takes in an element of a list, or the elements of a packed record, and with them the records
+/// behind that have the same key.
 #[cycle(merge)]
 fn merge_list<'p, 'b>(
     list: &mut Value<'p>,
@@ -335,7 +347,8 @@ fn merge_element<'p, 'b>(
     ensures read { ReadsElement raw.entry.levels raw.entry.key is_group kind.now values.old.items
         values.new.items raw.entry.bytes.now result }
     ensures shorter { IfOk result (λ rest. length rest.now ≤ length raw.entry.bytes.now) }
-    ensures fault { TellsElement raw.entry.levels raw.entry.key is_group kind.now raw.entry.bytes.now result }
+    ensures fault { TellsElement raw.entry.levels raw.entry.key is_group kind.now
+        raw.entry.bytes.now result }
 {
     if let Kind::Message(inner) = kind {
         let mut message = DynamicMessage::new(alloc, *inner);
@@ -370,7 +383,8 @@ fn push_packed(
     kind: &Kind<'_>,
     body: &[u8],
 ) -> Result<(), WireError>
-    ensures read { OnOk result ((vs : List Single) × IsPacked kind.now body.now vs × Continues values.old.items values.new.items vs) }
+    ensures read { OnOk result ((vs : List Single) × IsPacked kind.now body.now vs
+        × Continues values.old.items values.new.items vs) }
     ensures err { IfErr result (RefusesWhole (IsPacked kind.now) body.now) }
     ensures fault { IfErr result (Tells (PackedFault kind.now) body.now) }
 {
@@ -381,7 +395,8 @@ fn push_packed(
     }
 }
 
-/// Adds the values of a packed record of a kind that is written as varints. Most packed records are, and this reads them fast.
+/// Adds the values of a packed record of a kind that is written as varints. Most packed records
+/// are, and this reads them fast.
 fn push_varints(
     values: &mut Vec<Value<'_>>,
     alloc: Global,
@@ -389,7 +404,8 @@ fn push_varints(
     body: &[u8],
 ) -> Result<(), WireError>
     requires varints { wire_type kind.now ≡ Varint }
-    ensures read { OnOk result ((vs : List Single) × IsPacked kind.now body.now vs × Continues values.old.items values.new.items vs) }
+    ensures read { OnOk result ((vs : List Single) × IsPacked kind.now body.now vs
+        × Continues values.old.items values.new.items vs) }
     ensures err { IfErr result (RefusesWhole (IsPacked kind.now) body.now) }
     ensures fault { IfErr result (Tells (PackedFault kind.now) body.now) }
 {
@@ -412,7 +428,8 @@ fn push_fixed(
     body: &[u8],
 ) -> Result<(), WireError>
     requires form { wire ≡ wire_type kind.now }
-    ensures read { OnOk result ((vs : List Single) × IsPacked kind.now body.now vs × Continues values.old.items values.new.items vs) }
+    ensures read { OnOk result ((vs : List Single) × IsPacked kind.now body.now vs
+        × Continues values.old.items values.new.items vs) }
     ensures err { IfErr result (RefusesWhole (IsPacked kind.now) body.now) }
     ensures fault { IfErr result (Tells (PackedFault kind.now) body.now) }
 {
@@ -433,7 +450,8 @@ fn merge_map<'p, 'b>(
     kind: &Kind<'p>,
     raw: RawRecord<'b>,
 ) -> Result<&'b [u8], WireError>
-    ensures read { ReadsMap raw.entry.levels raw.entry.key kind.now map.old map.new raw.entry.bytes.now result }
+    ensures read { ReadsMap raw.entry.levels raw.entry.key kind.now map.old map.new
+        raw.entry.bytes.now result }
     ensures shorter { IfOk result (λ rest. length rest.now ≤ length raw.entry.bytes.now) }
     ensures fault { IsSome (map_entries map.old)
         → TellsEntries raw.entry.levels raw.entry.key kind.now raw.entry.bytes.now result }
@@ -444,7 +462,8 @@ fn merge_map<'p, 'b>(
     }
 }
 
-/// Takes in an entry of a map, over what stood under its key, and with it the records behind that have the same key.
+/// Takes in an entry of a map, over what stood under its key, and with it the records behind that
+/// have the same key.
 #[cycle(merge)]
 fn merge_entries<'p, 'b>(
     entries: &mut BTreeMap<MapKey, Value<'p>>,
@@ -455,7 +474,8 @@ fn merge_entries<'p, 'b>(
     ensures read { ReadsEntries raw.entry.levels raw.entry.key kind.now entries.old.entries
         entries.new.entries raw.entry.bytes.now result }
     ensures shorter { IfOk result (λ rest. length rest.now ≤ length raw.entry.bytes.now) }
-    ensures fault { TellsEntries raw.entry.levels raw.entry.key kind.now raw.entry.bytes.now result }
+    ensures fault { TellsEntries raw.entry.levels raw.entry.key kind.now
+        raw.entry.bytes.now result }
 {
     if raw.key.wire != WireType::LengthDelimited {
         return Err(WireError::BadWireType);
@@ -481,7 +501,8 @@ fn put_entry<'p>(
     key: MapKey,
     value: Value<'p>,
 ) -> Result<(), AllocError>
-    ensures { OnOk result (entries.new.entries ≡ insert_entry key_order entries.old.entries key value.entry) }
+    ensures { OnOk result (entries.new.entries
+        ≡ insert_entry key_order entries.old.entries key value.entry) }
 {
     entries.insert(key, value)?;
     Ok(())
@@ -490,7 +511,8 @@ fn put_entry<'p>(
 /// `TooDeep` where the field holds a message and no level may lie below.
 fn check_level(field: &FieldDescriptor<'_>, levels: u32) -> Result<(), WireError>
     ensures left { OnOk result (IsMessageType (field_type field.now).kind → 0 < levels) }
-    ensures err { IfErr result (λ e. (e ≡ TooDeep) × IsMessageType (field_type field.now).kind × (levels ≡ 0)) }
+    ensures err { IfErr result (λ e. (e ≡ TooDeep) × IsMessageType (field_type field.now).kind
+        × (levels ≡ 0)) }
 {
     if levels > 0 {
         return Ok(());
@@ -501,8 +523,8 @@ fn check_level(field: &FieldDescriptor<'_>, levels: u32) -> Result<(), WireError
     }
 }
 
-/// The key and the value of a map's entry, which is at the level of the message that holds the map. What the entry does not
-/// set is the default, and its other records are dropped.
+/// The key and the value of a map's entry, which is at the level of the message that holds the map.
+/// What the entry does not set is the default, and its other records are dropped.
 ///
 /// A message value is one level below, whether it is written or not.
 #[cycle(merge)]
@@ -544,11 +566,13 @@ fn merge_entry<'p, 'b>(
     values: &FieldDescriptor<'p>,
     raw: RawRecord<'b>,
 ) -> Result<&'b [u8], WireError>
-    ensures read { ReadsEntryRecord raw.entry.levels raw.entry.key (field_pool keys.now) (field_type keys.now)
+    ensures read { ReadsEntryRecord raw.entry.levels raw.entry.key (field_pool keys.now)
+        (field_type keys.now)
         (field_pool values.now) (field_type values.now) (held_key.old, value.old)
         (held_key.new, value.new) raw.entry.bytes.now result }
     ensures shorter { IfOk result (λ rest. length rest.now ≤ length raw.entry.bytes.now) }
-    ensures fault { TellsEntryRecord raw.entry.levels raw.entry.key (field_pool keys.now) (field_type keys.now)
+    ensures fault { TellsEntryRecord raw.entry.levels raw.entry.key (field_pool keys.now)
+        (field_type keys.now)
         (field_pool values.now) (field_type values.now) (held_key.old, value.old)
         raw.entry.bytes.now result }
 {
@@ -567,10 +591,12 @@ fn merge_part<'p, 'b>(
     field: &FieldDescriptor<'p>,
     raw: RawRecord<'b>,
 ) -> Result<&'b [u8], WireError>
-    ensures read { ReadsPart raw.entry.levels raw.entry.key (field_pool field.now) (field_type field.now)
+    ensures read { ReadsPart raw.entry.levels raw.entry.key (field_pool field.now)
+        (field_type field.now)
         held.old held.new raw.entry.bytes.now result }
     ensures shorter { IfOk result (λ rest. length rest.now ≤ length raw.entry.bytes.now) }
-    ensures fault { TellsPart raw.entry.levels raw.entry.key (field_pool field.now) (field_type field.now)
+    ensures fault { TellsPart raw.entry.levels raw.entry.key (field_pool field.now)
+        (field_type field.now)
         held.old raw.entry.bytes.now result }
 {
     let kind = field.kind();

@@ -19,8 +19,9 @@ pub trait DecodeMessage<'p>: Sized {
 
     /// The message of the type that the bytes spell (protobuf.dev, "Encoding").
     ///
-    /// Refused where the bytes are no list of records, where a declared field has another wire type than its kind, where
-    /// a string is no UTF-8 and where more than 100 levels of messages and groups nest.
+    /// Refused where the bytes are no list of records, where a declared field has another wire type
+    /// than its kind, where a string is no UTF-8 and where more than 100 levels of messages and
+    /// groups nest.
     fn decode(
         alloc: Global,
         descriptor: MessageDescriptor<'p>,
@@ -31,13 +32,14 @@ pub trait DecodeMessage<'p>: Sized {
         ensures exclusive { IfOk result (λ m. IsExclusive (message m)) }
         ensures fault { IfErr result (TellsWhy descriptor.entry bytes.now) };
 
-    /// Takes in the records that the bytes spell behind those that the message stands for: numbers and texts are replaced,
-    /// lists are continued, messages merged.
+    /// Takes in the records that the bytes spell behind those that the message stands for: numbers
+    /// and texts are replaced, lists are continued, messages merged.
     ///
     /// Refused as `decode` is; the message is then unchanged.
     fn merge(&mut self, bytes: &[u8]) -> Result<(), WireError>
         ensures type_stays { (message self.new).descriptor ≡ (message self.old).descriptor }
-        ensures read { OnOk result (IsMerged (message self.old).descriptor bytes.now (message self.old)
+        ensures read { OnOk result (IsMerged (message self.old).descriptor bytes.now
+            (message self.old)
             (message self.new)) }
         ensures exclusive { IsExclusive (message self.old) → IsExclusive (message self.new) }
         ensures err { OnErr result (self.new ≡ self.old) }

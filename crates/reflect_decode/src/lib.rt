@@ -1,4 +1,5 @@
-//! Messages are read from wire bytes as exactly what their types' fields allow, and a refusal changes nothing.
+//! Messages are read from wire bytes as exactly what their types' fields allow, and a refusal
+//! changes nothing.
 #![tactic(auto)]
 
 mod decode;

@@ -66,4 +66,5 @@ HasDefault (Some t) text = (d : DefaultText) × Says t text d
 -- whether the text is a default of the type that has the number
 abbrev pub IsScalarSuited : Option ℤ → List ℕ → Bool → Type 0
 IsScalarSuited None text suits = suits ≡ false
-IsScalarSuited (Some n) text suits = (t : Option FieldType) × IsTypeOf n t × Decides suits (HasDefault t text)
+IsScalarSuited (Some n) text suits = (t : Option FieldType) × IsTypeOf n t
+    × Decides suits (HasDefault t text)

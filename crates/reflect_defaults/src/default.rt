@@ -104,11 +104,12 @@ fn truth(text: &str) -> Option<DefaultText>
     }
 }
 
-/// Reads the default of a field of a scalar type from its text, as `descriptor.proto` says of `default_value`. None where the
-/// text is no value of the type, and for the types that are no scalars.
+/// Reads the default of a field of a scalar type from its text, as `descriptor.proto` says of
+/// `default_value`. None where the text is no value of the type, and for the types that are no
+/// scalars.
 ///
-/// Integers are decimal, with a `-` in front where the type has negative numbers; truth values are `true` and `false`; bytes
-/// are escaped as in C.
+/// Integers are decimal, with a `-` in front where the type has negative numbers; truth values are
+/// `true` and `false`; bytes are escaped as in C.
 pub fn read_default(field_type: FieldType, text: &str) -> Option<DefaultText>
     ensures { IsRead field_type text.now result }
 {

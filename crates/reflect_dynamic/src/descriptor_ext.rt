@@ -7,7 +7,8 @@ use std::alloc::{AllocError, Global};
 
 /// Fields and extensions, which have defaults.
 pub trait FieldDefault<'p> {
-    /// What stands for the field where it is not set: empty of a list or a map, else what its declaration or its kind says.
+    /// What stands for the field where it is not set: empty of a list or a map, else what its
+    /// declaration or its kind says.
     fn default_value(&self, alloc: Global) -> Result<Value<'p>, AllocError>;
 }
 

@@ -1,4 +1,5 @@
-//! Messages of a type known at run time: bytes are read as exactly what the type's fields allow, and a refusal changes nothing.
+//! Messages of a type known at run time: bytes are read as exactly what the type's fields allow,
+//! and a refusal changes nothing.
 #![tactic(auto)]
 
 mod descriptor_ext;

@@ -1,4 +1,5 @@
-//! The options of declarations, read by the types that a pool has for them (protobuf.dev, "Options").
+//! The options of declarations, read by the types that a pool has for them (protobuf.dev,
+//! "Options").
 
 use descriptor_records::Options;
 use reflect_decode::DecodeMessage;
@@ -13,8 +14,9 @@ use std::alloc::Global;
 
 /// A declaration whose options can be read.
 pub trait ReadOptions<'p> {
-    /// The message that the declaration's stored options spell, empty where it has none; `None` where the pool has no type for
-    /// options of its sort, as `google.protobuf.FieldOptions` is for fields and extensions.
+    /// The message that the declaration's stored options spell, empty where it has none; `None`
+    /// where the pool has no type for options of its sort, as `google.protobuf.FieldOptions` is for
+    /// fields and extensions.
     ///
     /// Refused as `DynamicMessage::decode` is.
     fn options(&self, alloc: Global) -> Result<Option<DynamicMessage<'p>>, WireError>;

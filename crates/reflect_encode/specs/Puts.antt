@@ -19,7 +19,8 @@ bare_bytes kind v = elim (form kind v) [ None ↦ [] | Some p ↦ plain_bytes p 
 
 -- the bytes of its record, none where it does not suit
 abbrev pub single_bytes : Kind → ℕ → Option Single → List ℕ
-single_bytes kind n v = elim (form kind v) [ None ↦ [] | Some p ↦ key_bytes (key_of n (wire_type kind)) ++ plain_bytes p ]
+single_bytes kind n v = elim (form kind v)
+    [ None ↦ [] | Some p ↦ key_bytes (key_of n (wire_type kind)) ++ plain_bytes p ]
 
 -- the bytes of values, one behind the other
 abbrev pub row_bytes : Kind → List (Option Single) → List ℕ

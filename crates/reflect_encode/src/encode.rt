@@ -1,5 +1,5 @@
-//! From a message to wire bytes, which are put from the last to the first: so the length of what stands behind a key is
-//! known when the key is put.
+//! From a message to wire bytes, which are put from the last to the first: so the length of what
+//! stands behind a key is known when the key is put.
 
 ghost use Rattle.std.specs.Prelude.{◌≡◌, ℕ, List, ◌++◌, map, length, OnOk, IfOk, is_some, option_map, reverse};
 ghost use Rattle.reflect_codec.specs.Held.{held};
@@ -29,7 +29,8 @@ use reflect_wire::{WireKey, WireType};
 use std::alloc::AllocError;
 use std::collections::BTreeMap;
 
-/// Puts the records of a message: declared fields, then extensions and other records, each by ascending number.
+/// Puts the records of a message: declared fields, then extensions and other records, each by
+/// ascending number.
 #[cycle(put)]
 pub fn put_message(out: &mut Backward, message: &DynamicMessage<'_>) -> Result<(), AllocError>
     ensures { OnOk result (held out.new ≡ message_bytes message.now ++ held out.old) }
@@ -47,7 +48,8 @@ fn put_parts<'p>(
     descriptor: MessageDescriptor<'p>,
     parts: &Parts<'p>,
 ) -> Result<(), AllocError>
-    ensures { OnOk result (held out.new ≡ parts_bytes descriptor.entry.pool.now descriptor.entry.index parts.now ++ held out.old) }
+    ensures { OnOk result (held out.new
+        ≡ parts_bytes descriptor.entry.pool.now descriptor.entry.index parts.now ++ held out.old) }
 {
     put_others(out, descriptor, parts)?;
     put_fields(out, descriptor, parts)
@@ -60,7 +62,9 @@ fn put_fields<'p>(
     descriptor: MessageDescriptor<'p>,
     parts: &Parts<'p>,
 ) -> Result<(), AllocError>
-    ensures { OnOk result (held out.new ≡ flat_map (declared_bytes descriptor.entry.pool.now descriptor.entry.index) (forms parts.now.fields) ++ held out.old) }
+    ensures { OnOk result (held out.new
+        ≡ flat_map (declared_bytes descriptor.entry.pool.now descriptor.entry.index)
+        (forms parts.now.fields) ++ held out.old) }
 {
     let numbers = parts.fields.numbers().iter().rev();
     'fields: for (number, value) in numbers.zip(parts.fields.values().iter().rev()) {
@@ -78,7 +82,9 @@ fn put_others<'p>(
     descriptor: MessageDescriptor<'p>,
     parts: &Parts<'p>,
 ) -> Result<(), AllocError>
-    ensures { OnOk result (held out.new ≡ others_down descriptor.entry.pool.now descriptor.entry.index (reverse (forms parts.now.extensions)) (undeclared parts.now.unknown) ++ held out.old) }
+    ensures { OnOk result (held out.new
+        ≡ others_down descriptor.entry.pool.now descriptor.entry.index
+        (reverse (forms parts.now.extensions)) (undeclared parts.now.unknown) ++ held out.old) }
 {
     let mut unknown = parts.unknown.descent();
     let numbers = parts.extensions.numbers().iter().rev();
@@ -98,7 +104,9 @@ fn put_content<'p>(
     field: AnyField<'p>,
     value: &Value<'p>,
 ) -> Result<(), AllocError>
-    ensures { OnOk result (held out.new ≡ content_bytes (either_pool field.entry) (either_type field.entry) (form_of value.now) ++ held out.old) }
+    ensures { OnOk result (held out.new
+        ≡ content_bytes (either_pool field.entry) (either_type field.entry) (form_of value.now)
+        ++ held out.old) }
 {
     if !is_present(value, &field) {
         return Ok(());
@@ -118,7 +126,8 @@ fn put_record<'p>(
     field: AnyField<'p>,
     value: &Value<'p>,
 ) -> Result<(), AllocError>
-    ensures { OnOk result (held out.new ≡ (form_of value.now).one (either_type field.entry) ++ held out.old) }
+    ensures { OnOk result (held out.new ≡ (form_of value.now).one (either_type field.entry)
+        ++ held out.old) }
 {
     let number = field.number();
     match value {
@@ -144,7 +153,8 @@ fn put_record<'p>(
 
 /// Puts the key and the length of what was put since `end` bytes were held.
 fn put_length(out: &mut Backward, number: u32, end: usize) -> Result<(), AllocError>
-    ensures { (payload behind : List ℕ) → held out.old ≡ payload ++ behind → length behind ≡ end → OnOk result (held out.new ≡ payload_field number payload ++ behind) }
+    ensures { (payload behind : List ℕ) → held out.old ≡ payload ++ behind → length behind ≡ end
+        → OnOk result (held out.new ≡ payload_field number payload ++ behind) }
 {
     let len = out.len().saturating_sub(end);
     out.put_varint(len as u64)?;
@@ -162,8 +172,11 @@ fn put_single(
     kind: &Kind<'_>,
     value: Option<Scalar<'_>>,
 ) -> Result<(), AllocError>
-    ensures put { OnOk result (held out.new ≡ single_bytes kind.now number (option_map scalar_view value.entry) ++ held out.old) }
-    ensures written { (pool : PoolType) (k : KindType) → IsKind pool kind.now k → OnOk result (held out.new ≡ record_in k number (option_map scalar_view value.entry) ++ held out.old) }
+    ensures put { OnOk result (held out.new
+        ≡ single_bytes kind.now number (option_map scalar_view value.entry) ++ held out.old) }
+    ensures written { (pool : PoolType) (k : KindType) → IsKind pool kind.now k
+        → OnOk result (held out.new ≡ record_in k number (option_map scalar_view value.entry)
+        ++ held out.old) }
 {
     if put_bare(out, kind, value)? {
         out.put_key(WireKey {
@@ -180,8 +193,10 @@ fn put_bare(
     kind: &Kind<'_>,
     value: Option<Scalar<'_>>,
 ) -> Result<bool, AllocError>
-    ensures put { OnOk result (held out.new ≡ bare_bytes kind.now (option_map scalar_view value.entry) ++ held out.old) }
-    ensures suits { IfOk result (λ b. b ≡ is_some (form kind.now (option_map scalar_view value.entry))) }
+    ensures put { OnOk result (held out.new
+        ≡ bare_bytes kind.now (option_map scalar_view value.entry) ++ held out.old) }
+    ensures suits { IfOk result (λ b. b
+        ≡ is_some (form kind.now (option_map scalar_view value.entry))) }
 {
     let Some(value) = value else {
         return Ok(false);
@@ -200,7 +215,8 @@ fn put_list<'p>(
     field: AnyField<'p>,
     values: &[Value<'p>],
 ) -> Result<(), AllocError>
-    ensures { OnOk result (held out.new ≡ list_bytes (either_type field.entry) (map form_of values.now) ++ held out.old) }
+    ensures { OnOk result (held out.new
+        ≡ list_bytes (either_type field.entry) (map form_of values.now) ++ held out.old) }
 {
     'values: for value in values.iter().rev() {
         put_record(out, field, value)?;
@@ -210,7 +226,8 @@ fn put_list<'p>(
 
 /// Puts the values that suit the kind, one behind the other.
 fn put_row(out: &mut Backward, kind: &Kind<'_>, values: &[Value<'_>]) -> Result<(), AllocError>
-    ensures { OnOk result (held out.new ≡ row_bytes kind.now (map single values.now) ++ held out.old) }
+    ensures { OnOk result (held out.new ≡ row_bytes kind.now (map single values.now)
+        ++ held out.old) }
 {
     'values: for value in values.iter().rev() {
         put_bare(out, kind, value.as_scalar())?;
@@ -225,7 +242,9 @@ fn put_packed<'p>(
     field: AnyField<'p>,
     values: &[Value<'p>],
 ) -> Result<(), AllocError>
-    ensures { OnOk result (held out.new ≡ payload_field (either_type field.entry).number (row_in (either_type field.entry).kind (map form_of values.now)) ++ held out.old) }
+    ensures { OnOk result (held out.new
+        ≡ payload_field (either_type field.entry).number
+        (row_in (either_type field.entry).kind (map form_of values.now)) ++ held out.old) }
 {
     let end = out.len();
     let kind = field.kind();
@@ -240,7 +259,9 @@ fn put_map<'p>(
     field: AnyField<'p>,
     entries: &BTreeMap<MapKey, Value<'p>>,
 ) -> Result<(), AllocError>
-    ensures { OnOk result (held out.new ≡ map_bytes (either_pool field.entry) (either_type field.entry) (map (λ e. (e.0, form_of e.1)) entries.now.entries) ++ held out.old) }
+    ensures { OnOk result (held out.new
+        ≡ map_bytes (either_pool field.entry) (either_type field.entry)
+        (map (λ e. (e.0, form_of e.1)) entries.now.entries) ++ held out.old) }
 {
     let Some((keys, values)) = entry_fields(&field.kind()) else {
         return Ok(());
@@ -261,7 +282,10 @@ fn put_entry<'p>(
     values: FieldDescriptor<'p>,
     value: &Value<'p>,
 ) -> Result<(), AllocError>
-    ensures { OnOk result (held out.new ≡ payload_field number (key_part (field_pool keys.entry) (field_type keys.entry) (key_view key.now) ++ content_bytes (field_pool values.entry) (field_type values.entry) (form_of value.now)) ++ held out.old) }
+    ensures { OnOk result (held out.new
+        ≡ payload_field number (key_part (field_pool keys.entry) (field_type keys.entry)
+        (key_view key.now) ++ content_bytes (field_pool values.entry) (field_type values.entry)
+        (form_of value.now)) ++ held out.old) }
 {
     let end = out.len();
     put_content(out, AnyField::Field(values), value)?;
@@ -271,7 +295,9 @@ fn put_entry<'p>(
 
 /// Puts the record of a map's key, where it is present.
 fn put_key(out: &mut Backward, keys: FieldDescriptor<'_>, key: &MapKey) -> Result<(), AllocError>
-    ensures { OnOk result (held out.new ≡ key_part (field_pool keys.entry) (field_type keys.entry) (key_view key.now) ++ held out.old) }
+    ensures { OnOk result (held out.new
+        ≡ key_part (field_pool keys.entry) (field_type keys.entry) (key_view key.now)
+        ++ held out.old) }
 {
     let key = key.as_scalar();
     if !is_present_scalar(key, &keys) {

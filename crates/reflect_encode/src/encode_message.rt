@@ -19,12 +19,13 @@ pub trait EncodeMessage {
     /// How many bytes `encode` adds, `None` past `usize::MAX`. Takes no memory.
     fn encoded_len(&self) -> Option<usize>;
 
-    /// Adds the message's wire bytes to `out`: declared fields by ascending number, then extensions and other records by
-    /// ascending number. What does not suit its field is left out.
+    /// Adds the message's wire bytes to `out`: declared fields by ascending number, then extensions
+    /// and other records by ascending number. What does not suit its field is left out.
     ///
     /// Refused for want of memory alone, which leaves `out`.
     fn encode(&self, out: &mut Vec<u8>) -> Result<(), WireError>
-        ensures ok { OnOk result (out.new.items ≡ out.old.items ++ message_bytes (message self.now)) }
+        ensures ok { OnOk result (out.new.items ≡ out.old.items
+            ++ message_bytes (message self.now)) }
         ensures err { IfErr result (λ e. e ≡ Memory) }
         ensures left { OnErr result (out.new.items ≡ out.old.items) };
 

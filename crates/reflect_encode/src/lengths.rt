@@ -1,4 +1,5 @@
-//! How many bytes a message and its parts are written in, `None` past `usize::MAX`. Measuring takes no memory.
+//! How many bytes a message and its parts are written in, `None` past `usize::MAX`. Measuring takes
+//! no memory.
 
 use reflect_message::{
     DynamicMessage, Held, MessageParts, Parts, ScalarValue, Value, declared_extension,

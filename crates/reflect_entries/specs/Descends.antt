@@ -12,11 +12,13 @@ abbrev pub ahead_of : Option (Bor ℕ × Bor UnknownFieldSet) → List (ℕ × U
 ahead_of None = []
 ahead_of (Some e) = (e.0.now, e.1.now) ∷ []
 
-abbrev pub sets_left : List (ℕ × UnknownFieldSet) → Option (Bor ℕ × Bor UnknownFieldSet) → List (ℕ × UnknownFieldSet)
+abbrev pub sets_left : List (ℕ × UnknownFieldSet) → Option (Bor ℕ × Bor UnknownFieldSet)
+    → List (ℕ × UnknownFieldSet)
 sets_left rest ahead = rest ++ ahead_of ahead
 
 -- their numbers ascend, and none is left where none is ahead
-pub record IsDescent (rest : List (ℕ × UnknownFieldSet)) (ahead : Option (Bor ℕ × Bor UnknownFieldSet)) : Type 0 where
+pub record IsDescent (rest : List (ℕ × UnknownFieldSet))
+    (ahead : Option (Bor ℕ × Bor UnknownFieldSet)) : Type 0 where
   pub ascending : IsStrictlySortedBy nat_cmp (keys_of (sets_left rest ahead))
   pub grouped : AreGrouped (sets_left rest ahead)
   pub whole : ahead ≡ None → rest ≡ []

@@ -1,4 +1,5 @@
--- Values under numbers: a list of pairs, of which the first with a number tells what stands under it.
+-- Values under numbers: a list of pairs, of which the first with a number tells what stands under
+-- it.
 use Rattle.std.specs.Prelude.{◌≡◌, ◌≢◌, ◌<◌, ℕ, ◌==◌, Option, List}
 use Rattle.std.specs.List.{AllPairs}
 use Rattle.std.specs.Map.{lookup}
@@ -12,7 +13,8 @@ module _ {V : Type 0} where
   abbrev pub value_at : List (ℕ × V) → ℕ → Option V
   value_at entries number = lookup (λ n. number == n) entries
 
-  -- under the number stands the value that is given, or nothing, under every other what stood there, and the numbers ascend
+  -- under the number stands the value that is given, or nothing, under every other what stood
+  -- there, and the numbers ascend
   pub record Updates (old new : List (ℕ × V)) (number : ℕ) (given : Option V) : Type 0 where
     pub here : value_at new number ≡ given
     pub others : (other : ℕ) → other ≢ number → value_at new other ≡ value_at old other

@@ -18,4 +18,6 @@ first_number (f ∷ _) = Some f.number
 
 -- the number of the first member of the oneof that a field is in, if it is in one
 abbrev pub first_member_of : FieldDescriptor → Option ℕ
-first_member_of f = option_and_then (λ oneof. first_number (members_of f.message.pool.now f.message.index oneof)) (field_type f).oneof
+first_member_of f = option_and_then
+    (λ oneof. first_number (members_of f.message.pool.now f.message.index oneof))
+    (field_type f).oneof

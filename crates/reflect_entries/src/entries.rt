@@ -44,12 +44,13 @@ impl<V: Drop> Drop for Entries<V> {
     }
 }
 
-/// The place of a number, or where it would stand. The last place is tried first, since the records of a message mostly
-/// ascend, and those of a list have one number.
+/// The place of a number, or where it would stand. The last place is tried first, since the records
+/// of a message mostly ascend, and those of a list have one number.
 fn place(numbers: &[u32], number: u32) -> Result<usize, usize>
     ensures in_range { IsSearchInRange result (length numbers.now) }
     ensures found { IfOk result (HoldsAt (λ n. n ≡ number) numbers.now) }
-    ensures between { Ascend numbers.now → IfErr result (IsPartitionPoint (λ n. n < number) (λ n. number < n) numbers.now) }
+    ensures between { Ascend numbers.now
+        → IfErr result (IsPartitionPoint (λ n. n < number) (λ n. number < n) numbers.now) }
 {
     match numbers.last() {
         Some(last) if *last < number => Err(numbers.len()),
@@ -232,12 +233,15 @@ impl<V> Entries<V> {
         }
     }
 
-    /// The place of a number, where the default is put if nothing stands under it. A refusal leaves the entries.
+    /// The place of a number, where the default is put if nothing stands under it. A refusal leaves
+    /// the entries.
     fn room(&mut self, number: u32, default: V) -> Result<usize, AllocError>
     where
         V: Drop,
-        ensures found { IfOk result (λ at. (at < length self.new) × HoldsAt (λ e. e.0 ≡ number) self.new at) }
-        ensures updates { OnOk result (Updates self.old self.new number (Some (unwrap_or (value_at self.old number) default))) }
+        ensures found { IfOk result (λ at. (at < length self.new)
+            × HoldsAt (λ e. e.0 ≡ number) self.new at) }
+        ensures updates { OnOk result (Updates self.old self.new number
+            (Some (unwrap_or (value_at self.old number) default))) }
         ensures refused { OnErr result (self.new ≡ self.old) }
     {
         match place(self.numbers.as_slice(), number) {
@@ -249,7 +253,8 @@ impl<V> Entries<V> {
         }
     }
 
-    /// What stands under a number, to be changed; where nothing does, the default is put there. A refusal leaves the entries.
+    /// What stands under a number, to be changed; where nothing does, the default is put there. A
+    /// refusal leaves the entries.
     pub fn slot(&mut self, number: u32, default: V) -> Result<&mut V, AllocError>
     where
         V: Drop,

@@ -1,4 +1,5 @@
-//! What stands under field numbers: sorted entries, the records of undeclared numbers, and the members that oneofs have.
+//! What stands under field numbers: sorted entries, the records of undeclared numbers, and the
+//! members that oneofs have.
 #![tactic(auto)]
 
 mod choices;

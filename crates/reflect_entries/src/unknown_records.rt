@@ -16,7 +16,8 @@ use std::slice;
 
 /// Records by their numbers, those of a number as they came.
 ///
-/// Which numbers come is up to the bytes, so they stand in a map, where none costs more than the logarithm of their count.
+/// Which numbers come is up to the bytes, so they stand in a map, where none costs more than the
+/// logarithm of their count.
 #[derive(Drop)]
 pub struct UnknownRecords {
     alloc: Global,
@@ -48,7 +49,8 @@ impl UnknownRecords {
 
     /// Puts a record behind those of its number. A refusal leaves the records.
     pub fn insert(&mut self, field: UnknownField) -> Result<(), AllocError>
-        ensures placed { OnOk result (undeclared self.new ≡ with_record (undeclared self.old) (field_view field)) }
+        ensures placed { OnOk result (undeclared self.new
+            ≡ with_record (undeclared self.old) (field_view field)) }
         ensures left { OnErr result (undeclared self.new ≡ undeclared self.old) }
     {
         let number = field.number();
@@ -75,7 +77,8 @@ impl UnknownRecords {
 
     /// How many bytes the records are written in, `None` past `usize::MAX`. Takes no memory.
     pub fn encoded_len(&self) -> Option<usize>
-        ensures { let n = length (records_bytes (records_of (undeclared self.now))) in SomeIff result (n < 2 ^ 64) n }
+        ensures { let n = length (records_bytes (records_of (undeclared self.now))) in SomeIff
+            result (n < 2 ^ 64) n }
     {
         let mut len = 0usize;
         for (_number, set) in self.sets.iter() {
@@ -84,7 +87,8 @@ impl UnknownRecords {
         Some(len)
     }
 
-    /// The records from the highest number down, to be written from the last byte to the first. Takes no memory.
+    /// The records from the highest number down, to be written from the last byte to the first.
+    /// Takes no memory.
     pub fn descent(&self) -> Descent<'_>
         ensures { unwritten result ≡ undeclared self.now }
     {
@@ -163,7 +167,8 @@ impl<'u> Descent<'u> {
 
     /// Puts the records of the numbers that are left above one.
     pub fn put_above(&mut self, out: &mut Backward, least: u32) -> Result<(), AllocError>
-        ensures written { OnOk result (held out.new ≡ records_bytes (records_of (above least (unwritten self.old))) ++ held out.old) }
+        ensures written { OnOk result (held out.new
+            ≡ records_bytes (records_of (above least (unwritten self.old))) ++ held out.old) }
         ensures rest { OnOk result (unwritten self.new ≡ up_to least (unwritten self.old)) }
     {
         'above: while let Some((number, set)) = self.ahead {

@@ -14,8 +14,8 @@ use reflect_scalar::{FieldDescriptorLike, MapKey};
 use std::alloc::{AllocError, Global};
 use std::collections::BTreeMap;
 
-/// Puts values behind those of a list, or the entries that they are into a map, each over what stood under its key. Of a field
-/// that is neither nothing happens.
+/// Puts values behind those of a list, or the entries that they are into a map, each over what
+/// stood under its key. Of a field that is neither nothing happens.
 ///
 /// A refusal leaves the values of a list; a map has then perhaps some of the entries.
 pub fn extend<'p, F: FieldDescriptorLike<'p>>(
@@ -25,8 +25,12 @@ pub fn extend<'p, F: FieldDescriptorLike<'p>>(
     values: Vec<Value<'p>>,
 ) -> Result<(), AllocError>
     ensures others { (n : ℕ) → n ≢ (F.says field.now).number → Same content.old content.new n }
-    ensures list { holds_list (F.pool field.now) (F.says field.now) ≡ true → OnOk result (Lengthens (value_at content.old (F.says field.now).number) (value_at content.new (F.says field.now).number) values.entry.items) }
-    ensures left { holds_list (F.pool field.now) (F.says field.now) ≡ true → OnErr result (KeepsList (value_at content.old (F.says field.now).number) (value_at content.new (F.says field.now).number)) }
+    ensures list { holds_list (F.pool field.now) (F.says field.now) ≡ true
+        → OnOk result (Lengthens (value_at content.old (F.says field.now).number)
+        (value_at content.new (F.says field.now).number) values.entry.items) }
+    ensures left { holds_list (F.pool field.now) (F.says field.now) ≡ true
+        → OnErr result (KeepsList (value_at content.old (F.says field.now).number)
+        (value_at content.new (F.says field.now).number)) }
 {
     let number = field.number();
     if field.is_list() {
@@ -42,7 +46,8 @@ pub fn extend<'p, F: FieldDescriptorLike<'p>>(
 
 /// Puts values behind those of a list. Refused, the list is as before.
 fn append<'p>(list: &mut Value<'p>, mut values: Vec<Value<'p>>) -> Result<(), AllocError>
-    ensures more { OnOk result (IfSome (list_items list.old) (λ before. list_items list.new ≡ Some (before ++ values.entry.items))) }
+    ensures more { OnOk result (IfSome (list_items list.old)
+        (λ before. list_items list.new ≡ Some (before ++ values.entry.items))) }
     ensures left { OnErr result (list_items list.new ≡ list_items list.old) }
 {
     let Value::List(held) = list else {

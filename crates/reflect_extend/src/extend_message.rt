@@ -21,9 +21,10 @@ pub trait ExtendMessage<'p> {
     /// The message that it is.
     ghost message: { Self → DynamicMessage };
 
-    /// Puts values that suit it behind those of the field, one of the message's type: of a list as its elements, and of a map
-    /// as its entries, which are messages of the entries' type, each over what stood under its key. The other members of its
-    /// oneof are unset. Of a field that holds one value nothing happens.
+    /// Puts values that suit it behind those of the field, one of the message's type: of a list as
+    /// its elements, and of a map as its entries, which are messages of the entries' type, each
+    /// over what stood under its key. The other members of its oneof are unset. Of a field that
+    /// holds one value nothing happens.
     ///
     /// A refusal leaves the values of a list, and of a map perhaps some of the entries more.
     fn extend_field(
@@ -33,22 +34,40 @@ pub trait ExtendMessage<'p> {
     ) -> Result<(), AllocError>
         requires { Declares (message self.old).descriptor field.now }
         ensures type_stays { (message self.new).descriptor ≡ (message self.old).descriptor }
-        ensures list { holds_list (field_pool field.now) (field_type field.now) ≡ true → OnOk result (Lengthens (value_at (fields_of (message self.old)) (field_type field.now).number) (value_at (fields_of (message self.new)) (field_type field.now).number) values.entry.items) }
-        ensures left { holds_list (field_pool field.now) (field_type field.now) ≡ true → OnErr result (KeepsList (value_at (fields_of (message self.old)) (field_type field.now).number) (value_at (fields_of (message self.new)) (field_type field.now).number)) }
-        ensures others { (n : ℕ) → n ≢ (field_type field.now).number → sibling field.now (choices_of (message self.old)) ≢ Some n → Same (fields_of (message self.old)) (fields_of (message self.new)) n }
+        ensures list { holds_list (field_pool field.now) (field_type field.now) ≡ true
+            → OnOk result (Lengthens (value_at (fields_of (message self.old))
+            (field_type field.now).number)
+            (value_at (fields_of (message self.new)) (field_type field.now).number)
+            values.entry.items) }
+        ensures left { holds_list (field_pool field.now) (field_type field.now) ≡ true
+            → OnErr result (KeepsList (value_at (fields_of (message self.old))
+            (field_type field.now).number)
+            (value_at (fields_of (message self.new)) (field_type field.now).number)) }
+        ensures others { (n : ℕ) → n ≢ (field_type field.now).number
+            → sibling field.now (choices_of (message self.old)) ≢ Some n
+            → Same (fields_of (message self.old)) (fields_of (message self.new)) n }
         ensures extensions { extensions_of (message self.new) ≡ extensions_of (message self.old) }
         ensures unknown { unknown_of (message self.new) ≡ unknown_of (message self.old) };
 
-    /// Puts values that suit it behind those of the extension, one of the message's type, as `extend_field` does.
+    /// Puts values that suit it behind those of the extension, one of the message's type, as
+    /// `extend_field` does.
     fn extend_extension(
         &mut self,
         extension: &ExtensionDescriptor<'p>,
         values: Vec<Value<'p>>,
     ) -> Result<(), AllocError>
         ensures type_stays { (message self.new).descriptor ≡ (message self.old).descriptor }
-        ensures list { holds_list (extension_pool extension.now) (extension_type extension.now) ≡ true → OnOk result (Lengthens (value_at (extensions_of (message self.old)) (extension_type extension.now).number) (value_at (extensions_of (message self.new)) (extension_type extension.now).number) values.entry.items) }
-        ensures left { holds_list (extension_pool extension.now) (extension_type extension.now) ≡ true → OnErr result (KeepsList (value_at (extensions_of (message self.old)) (extension_type extension.now).number) (value_at (extensions_of (message self.new)) (extension_type extension.now).number)) }
-        ensures others { (n : ℕ) → n ≢ (extension_type extension.now).number → Same (extensions_of (message self.old)) (extensions_of (message self.new)) n }
+        ensures list { holds_list (extension_pool extension.now) (extension_type extension.now)
+            ≡ true → OnOk result (Lengthens
+            (value_at (extensions_of (message self.old)) (extension_type extension.now).number)
+            (value_at (extensions_of (message self.new)) (extension_type extension.now).number)
+            values.entry.items) }
+        ensures left { holds_list (extension_pool extension.now) (extension_type extension.now)
+            ≡ true → OnErr result (KeepsList
+            (value_at (extensions_of (message self.old)) (extension_type extension.now).number)
+            (value_at (extensions_of (message self.new)) (extension_type extension.now).number)) }
+        ensures others { (n : ℕ) → n ≢ (extension_type extension.now).number
+            → Same (extensions_of (message self.old)) (extensions_of (message self.new)) n }
         ensures fields { fields_of (message self.new) ≡ fields_of (message self.old) }
         ensures unknown { unknown_of (message self.new) ≡ unknown_of (message self.old) };
 }
@@ -81,7 +100,8 @@ impl<'p> ExtendMessage<'p> for DynamicMessage<'p> {
     }
 }
 
-/// Puts values behind those of a list, or entries into a map, and unsets the other members of the field's oneof, as
+/// Puts values behind those of a list, or entries into a map, and unsets the other members of the
+/// field's oneof, as
 /// `extend` does. Of a field that is neither nothing happens.
 fn extend_parts<'p>(
     parts: &mut Parts<'p>,
@@ -89,9 +109,15 @@ fn extend_parts<'p>(
     field: &FieldDescriptor<'p>,
     values: Vec<Value<'p>>,
 ) -> Result<(), AllocError>
-    ensures others { (n : ℕ) → n ≢ (field_type field.now).number → sibling field.now parts.old.choices.members ≢ Some n → Same parts.old.fields parts.new.fields n }
-    ensures list { holds_list (field_pool field.now) (field_type field.now) ≡ true → OnOk result (Lengthens (value_at parts.old.fields (field_type field.now).number) (value_at parts.new.fields (field_type field.now).number) values.entry.items) }
-    ensures left { holds_list (field_pool field.now) (field_type field.now) ≡ true → OnErr result (KeepsList (value_at parts.old.fields (field_type field.now).number) (value_at parts.new.fields (field_type field.now).number)) }
+    ensures others { (n : ℕ) → n ≢ (field_type field.now).number
+        → sibling field.now parts.old.choices.members ≢ Some n
+        → Same parts.old.fields parts.new.fields n }
+    ensures list { holds_list (field_pool field.now) (field_type field.now) ≡ true
+        → OnOk result (Lengthens (value_at parts.old.fields (field_type field.now).number)
+        (value_at parts.new.fields (field_type field.now).number) values.entry.items) }
+    ensures left { holds_list (field_pool field.now) (field_type field.now) ≡ true
+        → OnErr result (KeepsList (value_at parts.old.fields (field_type field.now).number)
+        (value_at parts.new.fields (field_type field.now).number)) }
     ensures extensions { parts.new.extensions ≡ parts.old.extensions }
     ensures unknown { parts.new.unknown ≡ parts.old.unknown }
 {

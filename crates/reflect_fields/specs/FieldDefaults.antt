@@ -20,7 +20,8 @@ default_type s says.Float = fraction s
 
 -- what the text says as the scalar type's default; none where it says nothing
 abbrev pub IsScalarDefault : FieldType → List ℕ → Option DefaultType → Type 0
-IsScalarDefault t s d = (read : Option DefaultText) × IsRead t s read × (d ≡ option_map (default_type s) read)
+IsScalarDefault t s d = (read : Option DefaultText) × IsRead t s read
+    × (d ≡ option_map (default_type s) read)
 
 -- the same of the type that has the number
 abbrev pub IsDefaultOf : Option FieldType → List ℕ → Option DefaultType → Type 0
@@ -37,4 +38,5 @@ IsWritten (enumeration i) number s d = d ≡ Some (named s)
 IsWritten k number s d = (t : Option FieldType) × IsNumbered number t × IsDefaultOf t s d
 
 abbrev pub IsDefault : KindType → FieldDescriptorProto → Option DefaultType → Type 0
-IsDefault k f d = elim f.default_value [ None ↦ d ≡ None | Some s ↦ IsWritten k f.field_type (string_bytes s) d ]
+IsDefault k f d = elim f.default_value
+    [ None ↦ d ≡ None | Some s ↦ IsWritten k f.field_type (string_bytes s) d ]

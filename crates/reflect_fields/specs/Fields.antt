@@ -1,5 +1,5 @@
--- What the record of a field or an extension says of it (descriptor.proto; protobuf.dev, "Encoding", Packed Repeated Fields, and
--- "Application Note: Field Presence").
+-- What the record of a field or an extension says of it (descriptor.proto; protobuf.dev,
+-- "Encoding", Packed Repeated Fields, and "Application Note: Field Presence").
 use Rattle.std.specs.Prelude.{◌≡◌, List, ℕ, ℤ, pos, Bool, true, false, not, ◌&&◌, ◌||◌, cond, Option, None, Some, unwrap_or, is_some}
 use Rattle.std.specs.Ordering.{int_eq}
 use Rattle.descriptor_records.specs.declared.field.FieldDescriptorProto.{FieldDescriptorProto}
@@ -76,7 +76,8 @@ packed_option (Some o) = o.packed
 
 -- a list of such: in proto3 unless the options say no, in proto2 only where they say yes
 abbrev pub is_packed : Syntax → Cardinality → KindType → Option Options → Bool
-is_packed syntax label k options = is_repeated label && (is_packable k && unwrap_or (packed_option options) (is_proto3 syntax))
+is_packed syntax label k options = is_repeated label
+    && (is_packable k && unwrap_or (packed_option options) (is_proto3 syntax))
 
 abbrev pub is_message : KindType → Bool
 is_message (message i) = true
@@ -84,11 +85,13 @@ is_message _ = false
 
 -- no list; messages, members of oneofs and each field of proto2
 abbrev pub has_presence : Syntax → Cardinality → KindType → Option ℤ → Bool
-has_presence syntax label k oneof = not (is_repeated label) && (is_message k || (is_some oneof || not (is_proto3 syntax)))
+has_presence syntax label k oneof = not (is_repeated label)
+    && (is_message k || (is_some oneof || not (is_proto3 syntax)))
 
--- what a record says of a field and of an extension alike, which stands at this place of a file of this syntax, has this full name,
--- and holds this
-pub record Says (s : Syntax) (at : List ℤ) (full : List ℕ) (holds : KindType) (r : FieldDescriptorProto) (f : FieldEntry) : Type 0 where
+-- what a record says of a field and of an extension alike, which stands at this place of a file of
+-- this syntax, has this full name, and holds this
+pub record Says (s : Syntax) (at : List ℤ) (full : List ℕ) (holds : KindType)
+    (r : FieldDescriptorProto) (f : FieldEntry) : Type 0 where
   pub path : f.path ≡ at
   pub name : f.name ≡ text_of r.name
   pub full_name : f.full_name ≡ full
@@ -100,13 +103,15 @@ pub record Says (s : Syntax) (at : List ℤ) (full : List ℕ) (holds : KindType
   pub packed : f.packed ≡ is_packed s (label_of r.label) holds r.options
   pub default : IsDefault holds r f.default
 
-pub record IsField (s : Syntax) (at : List ℤ) (full : List ℕ) (holds : KindType) (r : FieldDescriptorProto) (f : FieldEntry) : Type 0 where
+pub record IsField (s : Syntax) (at : List ℤ) (full : List ℕ) (holds : KindType)
+    (r : FieldDescriptorProto) (f : FieldEntry) : Type 0 where
   pub says : Says s at full holds r f
   pub presence : f.presence ≡ has_presence s (label_of r.label) holds r.oneof_index
   pub oneof : f.oneof ≡ natural r.oneof_index
 
 -- an extension is in no oneof, and has presence unless it is a list
-pub record IsExtension (s : Syntax) (at : List ℤ) (full : List ℕ) (holds : KindType) (r : FieldDescriptorProto) (f : FieldEntry) : Type 0 where
+pub record IsExtension (s : Syntax) (at : List ℤ) (full : List ℕ) (holds : KindType)
+    (r : FieldDescriptorProto) (f : FieldEntry) : Type 0 where
   pub says : Says s at full holds r f
   pub presence : f.presence ≡ not (is_repeated (label_of r.label))
   pub oneof : f.oneof ≡ None

@@ -62,8 +62,8 @@ fn is_packable(kind: StoredKind) -> bool
     )
 }
 
-/// A list is written as one record: in proto3 where the options do not say otherwise, in proto2 where they say so
-/// (protobuf.dev, "Encoding", "Packed Repeated Fields").
+/// A list is written as one record: in proto3 where the options do not say otherwise, in proto2
+/// where they say so (protobuf.dev, "Encoding", "Packed Repeated Fields").
 fn is_packed(
     syntax: Syntax,
     cardinality: Cardinality,
@@ -81,7 +81,8 @@ fn is_packed(
         && written.unwrap_or(matches!(syntax, Syntax::Proto3))
 }
 
-/// A field that is not set differs from one that holds the default (protobuf.dev, "Application Note: Field Presence").
+/// A field that is not set differs from one that holds the default (protobuf.dev, "Application
+/// Note: Field Presence").
 fn supports_presence(
     syntax: Syntax,
     cardinality: Cardinality,
@@ -132,9 +133,11 @@ fn is_group(field: &FieldDescriptorProto) -> bool
     }
 }
 
-/// The entry of a field of a kind in a file of a syntax. A number that no field may have is 0. Refused for want of memory.
+/// The entry of a field of a kind in a file of a syntax. A number that no field may have is 0.
+/// Refused for want of memory.
 ///
-/// A field of a proto3 file that was declared `optional` has a record that says so (descriptor.proto, `proto3_optional`).
+/// A field of a proto3 file that was declared `optional` has a record that says so
+/// (descriptor.proto, `proto3_optional`).
 pub fn field_entry(
     alloc: Global,
     syntax: Syntax,
@@ -143,8 +146,10 @@ pub fn field_entry(
     kind: StoredKind,
     field: &FieldDescriptorProto,
 ) -> Result<StoredField, AllocError>
-    ensures says { IfOk result (λ f. IsField syntax path.now full_name.now (kind_of kind) field.now (field_of f)) }
-    ensures optional { IfOk result (λ f. f.is_proto3_optional ≡ unwrap_or field.now.proto3_optional false) }
+    ensures says { IfOk result (λ f. IsField syntax path.now full_name.now (kind_of kind) field.now
+        (field_of f)) }
+    ensures optional { IfOk result
+        (λ f. f.is_proto3_optional ≡ unwrap_or field.now.proto3_optional false) }
 {
     let cardinality = cardinality_of(field.label);
     Ok(StoredField {
@@ -164,7 +169,8 @@ pub fn field_entry(
     })
 }
 
-/// The entry of an extension's field: it is in no oneof, and has presence where it is singular. Refused for want of memory.
+/// The entry of an extension's field: it is in no oneof, and has presence where it is singular.
+/// Refused for want of memory.
 pub fn extension_entry(
     alloc: Global,
     syntax: Syntax,
@@ -173,7 +179,8 @@ pub fn extension_entry(
     kind: StoredKind,
     extension: &FieldDescriptorProto,
 ) -> Result<StoredField, AllocError>
-    ensures { IfOk result (λ f. IsExtension syntax path.now full_name.now (kind_of kind) extension.now (field_of f)) }
+    ensures { IfOk result (λ f. IsExtension syntax path.now full_name.now (kind_of kind)
+        extension.now (field_of f)) }
 {
     let mut field = field_entry(alloc, syntax, path, full_name, kind, extension)?;
     field.oneof = None;

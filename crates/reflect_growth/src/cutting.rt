@@ -8,25 +8,29 @@ ghost use Rattle.reflect_tables.specs.Views.{message_of, enum_of, extension_of, 
 use reflect_tables::{StoredEnum, StoredExtension, StoredMessage, StoredService, Tables};
 
 fn cut_messages(items: &mut Vec<StoredMessage>, mark: u32)
-    ensures { map message_of items.new.items ≡ filter (λ m. nat_lt m.file mark) (map message_of items.old.items) }
+    ensures { map message_of items.new.items
+        ≡ filter (λ m. nat_lt m.file mark) (map message_of items.old.items) }
 {
     items.retain(|message| message.file < mark);
 }
 
 fn cut_enums(items: &mut Vec<StoredEnum>, mark: u32)
-    ensures { map enum_of items.new.items ≡ filter (λ e. nat_lt e.file mark) (map enum_of items.old.items) }
+    ensures { map enum_of items.new.items
+        ≡ filter (λ e. nat_lt e.file mark) (map enum_of items.old.items) }
 {
     items.retain(|enumeration| enumeration.file < mark);
 }
 
 fn cut_extensions(items: &mut Vec<StoredExtension>, mark: u32)
-    ensures { map extension_of items.new.items ≡ filter (λ x. nat_lt x.file mark) (map extension_of items.old.items) }
+    ensures { map extension_of items.new.items
+        ≡ filter (λ x. nat_lt x.file mark) (map extension_of items.old.items) }
 {
     items.retain(|extension| extension.file < mark);
 }
 
 fn cut_services(items: &mut Vec<StoredService>, mark: u32)
-    ensures { map service_of items.new.items ≡ filter (λ s. nat_lt s.file mark) (map service_of items.old.items) }
+    ensures { map service_of items.new.items
+        ≡ filter (λ s. nat_lt s.file mark) (map service_of items.old.items) }
 {
     items.retain(|service| service.file < mark);
 }

@@ -52,10 +52,14 @@ fn services_from(items: &[StoredService], first: u32) -> bool
 
 /// All entries are declared in the file at the place `first` or one behind it.
 pub fn are_from(tables: &Tables, first: u32) -> bool
-    ensures messages { IsTrue result → AllByRecursion (λ m. first ≤ m.file) (map message_of tables.now.messages.items) }
-    ensures enums { IsTrue result → AllByRecursion (λ e. first ≤ e.file) (map enum_of tables.now.enums.items) }
-    ensures extensions { IsTrue result → AllByRecursion (λ x. first ≤ x.file) (map extension_of tables.now.extensions.items) }
-    ensures services { IsTrue result → AllByRecursion (λ s. first ≤ s.file) (map service_of tables.now.services.items) }
+    ensures messages { IsTrue result
+        → AllByRecursion (λ m. first ≤ m.file) (map message_of tables.now.messages.items) }
+    ensures enums { IsTrue result → AllByRecursion (λ e. first ≤ e.file)
+        (map enum_of tables.now.enums.items) }
+    ensures extensions { IsTrue result
+        → AllByRecursion (λ x. first ≤ x.file) (map extension_of tables.now.extensions.items) }
+    ensures services { IsTrue result
+        → AllByRecursion (λ s. first ≤ s.file) (map service_of tables.now.services.items) }
 {
     messages_from(tables.messages.as_slice(), first)
         && enums_from(tables.enums.as_slice(), first)

@@ -1,5 +1,5 @@
-//! How what a pool keeps changes: further entries, whose places are tested, stand behind the others, later ones are cut off, and
-//! options are settled in records.
+//! How what a pool keeps changes: further entries, whose places are tested, stand behind the
+//! others, later ones are cut off, and options are settled in records.
 #![tactic(auto)]
 
 mod appending;

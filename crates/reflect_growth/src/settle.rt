@@ -19,7 +19,8 @@ use reflect_tables::{StoredFile, Tables};
 /// What is put into the record of the file at a place of the pool.
 #[derive(Drop)]
 pub enum Edit {
-    /// The settled options of the declaration, or the extension range, at a path; the empty path is the file's.
+    /// The settled options of the declaration, or the extension range, at a path; the empty path is
+    /// the file's.
     Options {
         file: u32,
         path: Vec<i32>,

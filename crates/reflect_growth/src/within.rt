@@ -22,7 +22,8 @@ fn is_within(kind: StoredKind, counts: Counts) -> bool
 }
 
 fn fields_within(fields: &[StoredField], counts: Counts) -> bool
-    ensures { IsTrue result → AllByRecursion (λ f. IsWithin counts f.kind) (map field_of fields.now) }
+    ensures { IsTrue result → AllByRecursion (λ f. IsWithin counts f.kind)
+        (map field_of fields.now) }
 {
     for field in fields {
         if !is_within(field.kind, counts) {
@@ -44,7 +45,8 @@ fn is_among(place: Option<u32>, count: usize) -> bool
 
 /// The oneof of each field, if it is in one, is one of so many.
 fn oneofs_within(fields: &[StoredField], count: usize) -> bool
-    ensures { IsTrue result → AllByRecursion (λ f. IsAmong count f.oneof) (map field_of fields.now) }
+    ensures { IsTrue result → AllByRecursion (λ f. IsAmong count f.oneof)
+        (map field_of fields.now) }
 {
     for field in fields {
         if !is_among(field.oneof, count) {
@@ -224,12 +226,18 @@ fn services_within(items: &[StoredService], counts: Counts) -> bool
 
 /// All that the entries name is among so many.
 pub fn are_within(tables: &Tables, counts: Counts) -> bool
-    ensures files { IsTrue result → AllByRecursion (FileWithin counts) (map places_of tables.now.files.items) }
-    ensures messages { IsTrue result → AllByRecursion (MessageWithin counts) (map message_of tables.now.messages.items) }
-    ensures children { IsTrue result → AllByRecursion (HoldsWithin counts) (map message_of tables.now.messages.items) }
-    ensures enums { IsTrue result → AllByRecursion (EnumWithin counts) (map enum_of tables.now.enums.items) }
-    ensures extensions { IsTrue result → AllByRecursion (ExtensionWithin counts) (map extension_of tables.now.extensions.items) }
-    ensures services { IsTrue result → AllByRecursion (ServiceWithin counts) (map service_of tables.now.services.items) }
+    ensures files { IsTrue result → AllByRecursion (FileWithin counts)
+        (map places_of tables.now.files.items) }
+    ensures messages { IsTrue result
+        → AllByRecursion (MessageWithin counts) (map message_of tables.now.messages.items) }
+    ensures children { IsTrue result
+        → AllByRecursion (HoldsWithin counts) (map message_of tables.now.messages.items) }
+    ensures enums { IsTrue result → AllByRecursion (EnumWithin counts)
+        (map enum_of tables.now.enums.items) }
+    ensures extensions { IsTrue result
+        → AllByRecursion (ExtensionWithin counts) (map extension_of tables.now.extensions.items) }
+    ensures services { IsTrue result
+        → AllByRecursion (ServiceWithin counts) (map service_of tables.now.services.items) }
 {
     files_within(tables.files.as_slice(), counts)
         && messages_within(tables.messages.as_slice(), counts)

@@ -32,7 +32,12 @@ places sort ds = map (λ d. d.index) (filter (λ d. sort d.body) ds)
 
 -- the types and extensions among declarations
 abbrev pub child_places : List Declaration → ChildPlaces
-child_places ds = record { messages = places is_message ds; enums = places is_enum ds; extensions = places is_extension ds }
+child_places ds = record {
+  messages = places is_message ds;
+  enums = places is_enum ds;
+  extensions =
+      places is_extension ds;
+}
 
 -- and the services
 abbrev pub file_places : List Declaration → FilePlaces
@@ -74,25 +79,33 @@ with_service i p = record p { services = p.services ++ i ∷ [] }
 -- in the list of its parent, where the first list is that of the message of this index
 abbrev pub ListsIn : ℕ → Option ℕ → Child → List ChildPlaces → List ChildPlaces → Type 0
 ListsIn first parent c old new =
-    (k : ℕ) → children_at new k ≡ cond (is_parent (first + k) parent) (with_child c (children_at old k)) (children_at old k)
+    (k : ℕ) → children_at new k ≡ cond (is_parent (first + k) parent)
+    (with_child c (children_at old k)) (children_at old k)
 
 -- in the list of its file, where no message declares it
-abbrev pub ListsOutside : ℕ → ℕ → Option ℕ → (FilePlaces → FilePlaces) → List FilePlaces → List FilePlaces → Type 0
+abbrev pub ListsOutside : ℕ → ℕ → Option ℕ → (FilePlaces → FilePlaces) → List FilePlaces
+    → List FilePlaces → Type 0
 ListsOutside first file parent more old new =
-    (k : ℕ) → places_at new k ≡ cond (is_outside (first + k) file parent) (more (places_at old k)) (places_at old k)
+    (k : ℕ) → places_at new k ≡ cond (is_outside (first + k) file parent) (more (places_at old k))
+    (places_at old k)
 
 -- the lists of messages behind a declaration
 abbrev pub AddsChild : ℕ → List ChildPlaces → Declaration → Body → List ChildPlaces → Type 0
 AddsChild first old d (of_message m) new = ListsIn first d.parent (child.Message d.index) old new
 AddsChild first old d (of_enum e) new = ListsIn first d.parent (child.Enum d.index) old new
-AddsChild first old d (of_extension x) new = ListsIn first d.parent (child.Extension d.index) old new
+AddsChild first old d (of_extension x) new =
+    ListsIn first d.parent (child.Extension d.index) old new
 AddsChild first old d _ new = new ≡ old
 
 -- those of files, each of which begins with nothing
 abbrev pub AddsPlace : ℕ → List FilePlaces → Declaration → Body → List FilePlaces → Type 0
 AddsPlace first old d (of_file f) new = new ≡ old ++ no_places ∷ []
-AddsPlace first old d (of_message m) new = ListsOutside first d.file d.parent (with_place (child.Message d.index)) old new
-AddsPlace first old d (of_enum e) new = ListsOutside first d.file d.parent (with_place (child.Enum d.index)) old new
-AddsPlace first old d (of_extension x) new = ListsOutside first d.file d.parent (with_place (child.Extension d.index)) old new
-AddsPlace first old d (of_service s) new = ListsOutside first d.file d.parent (with_service d.index) old new
+AddsPlace first old d (of_message m) new =
+    ListsOutside first d.file d.parent (with_place (child.Message d.index)) old new
+AddsPlace first old d (of_enum e) new =
+    ListsOutside first d.file d.parent (with_place (child.Enum d.index)) old new
+AddsPlace first old d (of_extension x) new =
+    ListsOutside first d.file d.parent (with_place (child.Extension d.index)) old new
+AddsPlace first old d (of_service s) new =
+    ListsOutside first d.file d.parent (with_service d.index) old new
 AddsPlace first old d _ new = new ≡ old

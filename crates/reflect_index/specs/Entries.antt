@@ -40,7 +40,8 @@ IsFieldBy m r f = (holds : KindType) × HasKind r (meaning r.type_name m.hand.re
     × IsField m.hand.syntax m.declaration.path m.declaration.name holds r f.field
     × (f.optional ≡ unwrap_or r.proto3_optional false)
 
--- the message that an extension extends comes before its type; its JSON name is the full name in brackets
+-- the message that an extension extends comes before its type; its JSON name is the full name in
+-- brackets
 pub record IsExtensionBy (m : Met) (r : FieldDescriptorProto) (x : ExtensionType) : Type 0 where
   pub file : x.file ≡ m.declaration.file
   pub parent : x.parent ≡ m.declaration.parent
@@ -56,7 +57,8 @@ pub record IsMethodBy (m : Met) (r : MethodDescriptorProto) (x : MethodType) : T
   pub name : x.name ≡ text_of r.name
   pub full_name : x.full_name ≡ m.declaration.name
   pub input : meaning r.input_type m.hand.rest ≡ Some (kind.Message x.input)
-  pub output : meaning r.output_type (behind r.input_type m.hand.rest) ≡ Some (kind.Message x.output)
+  pub output : meaning r.output_type (behind r.input_type m.hand.rest)
+      ≡ Some (kind.Message x.output)
   pub client_streaming : x.client_streaming ≡ unwrap_or r.client_streaming false
   pub server_streaming : x.server_streaming ≡ unwrap_or r.server_streaming false
 
@@ -67,7 +69,12 @@ pub record OneofName : Type 0 where
   pub full_name : List ℕ
 
 abbrev pub declared_oneof : Met → OneofDescriptorProto → OneofName
-declared_oneof m r = record { path = m.declaration.path; name = text_of r.name; full_name = m.declaration.name }
+declared_oneof m r = record {
+  path = m.declaration.path;
+  name = text_of r.name;
+  full_name =
+      m.declaration.name;
+}
 
 -- a value without a number has the number 0
 abbrev pub declared_value : Met → EnumValueDescriptorProto → ValueType

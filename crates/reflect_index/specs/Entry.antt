@@ -1,4 +1,5 @@
--- Which fields are the key and the value of a map's entry (protobuf.dev, "Language Guide (proto 3)", "Maps").
+-- Which fields are the key and the value of a map's entry (protobuf.dev, "Language Guide (proto
+-- 3)", "Maps").
 use Rattle.std.specs.Prelude.{◌≡◌, ◌⊎◌, ℕ, List, map, Bool, true, false, Option, None, Some}
 use Rattle.reflect_tables.specs.Finding.{IsFirst}
 use Rattle.reflect_tables.specs.Types.{FieldType}
@@ -10,7 +11,8 @@ use Rattle.reflect_tables.specs.declared.stored.StoredMessage.{StoredMessage}
 abbrev pub IsFieldAt : ℕ → List FieldType → Option ℕ → Type 0
 IsFieldAt number fields place = IsFirst (λ f. f.number ≡ number) fields place
 
--- a type of a map's entries has the places of its fields of the numbers 1 and 2, where there are both; any other has none
+-- a type of a map's entries has the places of its fields of the numbers 1 and 2, where there are
+-- both; any other has none
 abbrev pub IsEntryOf : Bool → List FieldType → Option StoredEntry → Type 0
 IsEntryOf false fields entry = entry ≡ None
 IsEntryOf true fields None = IsFieldAt 1 fields None ⊎ IsFieldAt 2 fields None

@@ -16,8 +16,8 @@ use Rattle.reflect_index.specs.declared.drafts.Drafts.{Drafts}
 use Rattle.reflect_index.specs.declared.drafts.EnumDraft.{EnumDraft}
 use Rattle.reflect_index.specs.declared.drafts.MessageDraft.{MessageDraft}
 
--- each oneof of a finished message lists its members, and is marked where it stands for one field; the type of a map's entries
--- has its key and its value
+-- each oneof of a finished message lists its members, and is marked where it stands for one field;
+-- the type of a map's entries has its key and its value
 pub record IsFinished (d : MessageDraft) (m : StoredMessage) : Type 0 where
   pub name : stored_message_name m ≡ draft_name d
   pub ranges : stored_ranges m ≡ draft_ranges d

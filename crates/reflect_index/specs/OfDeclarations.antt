@@ -13,18 +13,28 @@ use Rattle.reflect_tables.specs.declared.stored.StoredMessage.{StoredMessage}
 use Rattle.reflect_tables.specs.declared.stored.StoredEnum.{StoredEnum}
 use Rattle.reflect_tables.specs.declared.stored.StoredValue.{StoredValue}
 
--- the numbers that are reserved in a message type, those that its extensions may take, and whether it is the type of a map's
--- entries
+-- the numbers that are reserved in a message type, those that its extensions may take, and whether
+-- it is the type of a map's entries
 pub record RangesType : Type 0 where
   pub reserved : List Range
   pub extensions : List Range
   pub is_entry : Bool
 
 abbrev pub draft_ranges : MessageDraft → RangesType
-draft_ranges m = record { reserved = ranges_of m.reserved_numbers; extensions = ranges_of m.extension_numbers; is_entry = m.is_entry }
+draft_ranges m = record {
+  reserved = ranges_of m.reserved_numbers;
+  extensions =
+      ranges_of m.extension_numbers;
+  is_entry = m.is_entry;
+}
 
 abbrev pub stored_ranges : StoredMessage → RangesType
-stored_ranges m = record { reserved = ranges_of m.reserved_numbers; extensions = ranges_of m.extension_numbers; is_entry = m.is_entry }
+stored_ranges m = record {
+  reserved = ranges_of m.reserved_numbers;
+  extensions =
+      ranges_of m.extension_numbers;
+  is_entry = m.is_entry;
+}
 
 -- they are those of the declaration, the ranges in some order
 pub record AreDeclared (m : MessageParts) (r : RangesType) : Type 0 where

@@ -25,9 +25,11 @@ impl Batch {
         alloc: Global,
         records: Vec<FileDescriptorProto>,
     ) -> Result<Tables, VisitError>
-        ensures files { IfOk result (λ t. map file_of t.files.items ≡ map record_file records.items) }
+        ensures files { IfOk result (λ t. map file_of t.files.items
+            ≡ map record_file records.items) }
         ensures records { IfOk result (λ t. map record_of t.files.items ≡ records.items) }
-        ensures declared { IfOk result (λ t. map places_of t.files.items ≡ map declared_of self.files.items) }
+        ensures declared { IfOk result
+            (λ t. map places_of t.files.items ≡ map declared_of self.files.items) }
         ensures messages { IfOk result (λ t. t.messages.items ≡ self.messages.items) }
         ensures enums { IfOk result (λ t. t.enums.items ≡ self.enums.items) }
         ensures extensions { IfOk result (λ t. t.extensions.items ≡ self.extensions.items) }

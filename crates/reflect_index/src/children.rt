@@ -32,7 +32,8 @@ fn push_child(children: &mut Children, child: Child) -> Result<(), AllocError>
     }
 }
 
-/// Adds a type or an extension to what a message declares, where the first of the list has this index in the pool.
+/// Adds a type or an extension to what a message declares, where the first of the list has this
+/// index in the pool.
 fn push_nested(
     messages: &mut Vec<MessageDraft>,
     first: u32,
@@ -40,7 +41,8 @@ fn push_nested(
     child: Child,
 ) -> Result<(), VisitError>
     ensures kept { OnOk result (KeepsRest messages.old.items messages.new.items) }
-    ensures nested { OnOk result (ListsIn first (Some message) child (map draft_children messages.old.items) (map draft_children messages.new.items)) }
+    ensures nested { OnOk result (ListsIn first (Some message) child
+        (map draft_children messages.old.items) (map draft_children messages.new.items)) }
 {
     let place = local_place(message, first)?;
     if place < messages.len() {
@@ -51,15 +53,16 @@ fn push_nested(
     }
 }
 
-/// Adds a type or an extension to what a file declares outside of messages, where the first of the list has this index in the
-/// pool.
+/// Adds a type or an extension to what a file declares outside of messages, where the first of the
+/// list has this index in the pool.
 fn push_outside(
     files: &mut Vec<Declared>,
     first: u32,
     file: u32,
     child: Child,
 ) -> Result<(), VisitError>
-    ensures { OnOk result (ListsOutside first file None (with_place child) (map declared_of files.old.items) (map declared_of files.new.items)) }
+    ensures { OnOk result (ListsOutside first file None (with_place child)
+        (map declared_of files.old.items) (map declared_of files.new.items)) }
 {
     let place = local_place(file, first)?;
     if place < files.len() {
@@ -77,7 +80,8 @@ pub fn push_service(
     file: u32,
     service: u32,
 ) -> Result<(), VisitError>
-    ensures { OnOk result (ListsOutside first file None (with_service service) (map declared_of files.old.items) (map declared_of files.new.items)) }
+    ensures { OnOk result (ListsOutside first file None (with_service service)
+        (map declared_of files.old.items) (map declared_of files.new.items)) }
 {
     let place = local_place(file, first)?;
     if place < files.len() {
@@ -88,8 +92,8 @@ pub fn push_service(
     }
 }
 
-/// Adds a type or an extension to what the message at `parent` declares, or else to what its file does. The first file and the
-/// first message of the lists have these indexes in the pool.
+/// Adds a type or an extension to what the message at `parent` declares, or else to what its file
+/// does. The first file and the first message of the lists have these indexes in the pool.
 pub fn declare(
     files: &mut Vec<Declared>,
     messages: &mut Vec<MessageDraft>,
@@ -100,8 +104,10 @@ pub fn declare(
     child: Child,
 ) -> Result<(), VisitError>
     ensures kept { OnOk result (KeepsRest messages.old.items messages.new.items) }
-    ensures nested { OnOk result (ListsIn first_message parent child (map draft_children messages.old.items) (map draft_children messages.new.items)) }
-    ensures outside { OnOk result (ListsOutside first_file file parent (with_place child) (map declared_of files.old.items) (map declared_of files.new.items)) }
+    ensures nested { OnOk result (ListsIn first_message parent child
+        (map draft_children messages.old.items) (map draft_children messages.new.items)) }
+    ensures outside { OnOk result (ListsOutside first_file file parent (with_place child)
+        (map declared_of files.old.items) (map declared_of files.new.items)) }
 {
     match parent {
         Some(message) => {

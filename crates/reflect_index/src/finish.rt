@@ -1,4 +1,5 @@
-//! What is known of a type once all of it was visited: what its parts are looked up by, members of oneofs, a map entry's parts.
+//! What is known of a type once all of it was visited: what its parts are looked up by, members of
+//! oneofs, a map entry's parts.
 
 ghost use Rattle.std.specs.Prelude.{◌≡◌, [], map, OnOk, IfOk};
 ghost use Rattle.reflect_index.specs.Finished.{IsFinished, IsFinishedEnum, FinishedMessages, FinishedEnums};
@@ -14,8 +15,8 @@ use reflect_names::VisitError;
 use reflect_tables::{FieldList, StoredEntry, StoredEnum, StoredField, StoredMessage, StoredOneof};
 use std::alloc::{AllocError, Global};
 
-/// The key and the value, where the type is one of a map's entries: its fields of the numbers 1 and 2 (protobuf.dev, "Language
-/// Guide (proto 3)", "Maps").
+/// The key and the value, where the type is one of a map's entries: its fields of the numbers 1 and
+/// 2 (protobuf.dev, "Language Guide (proto 3)", "Maps").
 fn entry_of(is_entry: bool, fields: &FieldList) -> Option<StoredEntry>
     ensures { IsEntryOf is_entry (map field_of fields.now.list.items) result }
 {
@@ -44,8 +45,10 @@ fn add_member(
     field: &StoredField,
     place: u32,
 ) -> Result<(), AllocError>
-    ensures joins { OnOk result (Joins (field_of field.now) place (map oneof_of oneofs.old.items) (map oneof_of oneofs.new.items)) }
-    ensures names { OnOk result (map oneof_name oneofs.new.items ≡ map oneof_name oneofs.old.items) }
+    ensures joins { OnOk result (Joins (field_of field.now) place (map oneof_of oneofs.old.items)
+        (map oneof_of oneofs.new.items)) }
+    ensures names { OnOk result (map oneof_name oneofs.new.items
+        ≡ map oneof_name oneofs.old.items) }
 {
     let Some(index) = field.oneof else {
         return Ok(());
@@ -59,8 +62,10 @@ fn add_member(
 
 /// Lists the members of each oneof.
 fn list_members(fields: &[StoredField], oneofs: &mut Vec<StoredOneof>) -> Result<(), VisitError>
-    ensures listed { OnOk result (AreListed (map oneof_of oneofs.new.items) (map field_of fields.now)) }
-    ensures names { OnOk result (map oneof_name oneofs.new.items ≡ map oneof_name oneofs.old.items) }
+    ensures listed { OnOk result (AreListed (map oneof_of oneofs.new.items)
+        (map field_of fields.now)) }
+    ensures names { OnOk result (map oneof_name oneofs.new.items
+        ≡ map oneof_name oneofs.old.items) }
 {
     forget_members(oneofs);
     let mut place: u32 = 0;

@@ -1,4 +1,5 @@
-//! Sorts places, by which the items of a list are looked up, and makes lists of fields and values with them.
+//! Sorts places, by which the items of a list are looked up, and makes lists of fields and values
+//! with them.
 
 ghost use Rattle.std.specs.Prelude.{◌≡◌, ◌<◌, ℕ, IsTrue, IfOk, All, map};
 ghost use Rattle.reflect_tables.specs.Index.{IsAscending, IsListed, IsIndex};
@@ -42,7 +43,8 @@ fn is_listed<T: Keyed>(items: &[T], by: By, places: &[u32], place: u32) -> bool
 
 /// So is that of each of the first items.
 fn are_listed<T: Keyed>(items: &[T], by: By, places: &[u32], count: u32) -> bool
-    ensures { IsTrue result → (place : ℕ) → place < count → IsListed (map (T.key_of by) items.now) places.now place }
+    ensures { IsTrue result → (place : ℕ) → place < count
+        → IsListed (map (T.key_of by) items.now) places.now place }
 {
     for place in 0..count {
         if !is_listed(items, by, places, place) {
@@ -80,7 +82,8 @@ fn count_of(count: usize) -> Result<u32, VisitError>
     }
 }
 
-/// The places of the first item of each key, by ascending key. Refused for want of memory, and where a place has no number.
+/// The places of the first item of each key, by ascending key. Refused for want of memory, and
+/// where a place has no number.
 fn index<T: Keyed>(alloc: Global, items: &[T], by: By) -> Result<Vec<u32>, VisitError>
     ensures { IfOk result (λ places. IsIndex (map (T.key_of by) items.now) places.items) }
 {

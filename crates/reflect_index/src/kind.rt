@@ -49,12 +49,14 @@ fn kind_typed(number: Option<i32>) -> Result<StoredKind, VisitError>
     }
 }
 
-/// What a field holds, by what the next reference means where the field has a type name, or else by its type.
+/// What a field holds, by what the next reference means where the field has a type name, or else by
+/// its type.
 pub fn kind_of(
     references: &mut References<'_>,
     field: &FieldDescriptorProto,
 ) -> Result<StoredKind, VisitError>
-    ensures kind { IfOk result (λ k. HasKind field.now (meaning field.now.type_name references.old.rest.now) (kind_view k)) }
+    ensures kind { IfOk result (λ k. HasKind field.now
+        (meaning field.now.type_name references.old.rest.now) (kind_view k)) }
     ensures rest { references.new.rest.now ≡ behind field.now.type_name references.old.rest.now }
 {
     let meant = references.meaning_of(&field.type_name);

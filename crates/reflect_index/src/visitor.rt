@@ -42,8 +42,8 @@ pub struct IndexVisitor<'a> {
 impl<'a> IndexVisitor<'a> {
     ghost use Rattle.reflect_tables.specs.declared.kind.Syntax.TheVariants.{Proto2};
 
-    /// A visitor of files, the first of which has this index, whose references mean this, in the order in which a walk meets
-    /// them. Takes no memory.
+    /// A visitor of files, the first of which has this index, whose references mean this, in the
+    /// order in which a walk meets them. Takes no memory.
     pub fn new(
         alloc: Global,
         before: Offsets,
@@ -91,12 +91,18 @@ fn push_field(
     message: u32,
     field: StoredField,
 ) -> Result<(), VisitError>
-    ensures names { OnOk result (map draft_name messages.new.items ≡ map draft_name messages.old.items) }
-    ensures ranges { OnOk result (map draft_ranges messages.new.items ≡ map draft_ranges messages.old.items) }
-    ensures heads { OnOk result (map draft_head messages.new.items ≡ map draft_head messages.old.items) }
-    ensures oneofs { OnOk result (map draft_oneofs messages.new.items ≡ map draft_oneofs messages.old.items) }
-    ensures children { OnOk result (map draft_children messages.new.items ≡ map draft_children messages.old.items) }
-    ensures fields { OnOk result (GrowsAt first (Some message) (declared_field field) (map draft_fields messages.old.items) (map draft_fields messages.new.items)) }
+    ensures names { OnOk result (map draft_name messages.new.items
+        ≡ map draft_name messages.old.items) }
+    ensures ranges { OnOk result (map draft_ranges messages.new.items
+        ≡ map draft_ranges messages.old.items) }
+    ensures heads { OnOk result (map draft_head messages.new.items
+        ≡ map draft_head messages.old.items) }
+    ensures oneofs { OnOk result (map draft_oneofs messages.new.items
+        ≡ map draft_oneofs messages.old.items) }
+    ensures children { OnOk result
+        (map draft_children messages.new.items ≡ map draft_children messages.old.items) }
+    ensures fields { OnOk result (GrowsAt first (Some message) (declared_field field)
+        (map draft_fields messages.old.items) (map draft_fields messages.new.items)) }
 {
     let place = local_place(message, first)?;
     if place < messages.len() {
@@ -114,12 +120,18 @@ fn push_oneof(
     message: u32,
     oneof: StoredOneof,
 ) -> Result<(), VisitError>
-    ensures names { OnOk result (map draft_name messages.new.items ≡ map draft_name messages.old.items) }
-    ensures ranges { OnOk result (map draft_ranges messages.new.items ≡ map draft_ranges messages.old.items) }
-    ensures heads { OnOk result (map draft_head messages.new.items ≡ map draft_head messages.old.items) }
-    ensures fields { OnOk result (map draft_fields messages.new.items ≡ map draft_fields messages.old.items) }
-    ensures children { OnOk result (map draft_children messages.new.items ≡ map draft_children messages.old.items) }
-    ensures oneofs { OnOk result (GrowsAt first (Some message) (oneof_name oneof) (map draft_oneofs messages.old.items) (map draft_oneofs messages.new.items)) }
+    ensures names { OnOk result (map draft_name messages.new.items
+        ≡ map draft_name messages.old.items) }
+    ensures ranges { OnOk result (map draft_ranges messages.new.items
+        ≡ map draft_ranges messages.old.items) }
+    ensures heads { OnOk result (map draft_head messages.new.items
+        ≡ map draft_head messages.old.items) }
+    ensures fields { OnOk result (map draft_fields messages.new.items
+        ≡ map draft_fields messages.old.items) }
+    ensures children { OnOk result
+        (map draft_children messages.new.items ≡ map draft_children messages.old.items) }
+    ensures oneofs { OnOk result (GrowsAt first (Some message) (oneof_name oneof)
+        (map draft_oneofs messages.old.items) (map draft_oneofs messages.new.items)) }
 {
     let place = local_place(message, first)?;
     if place < messages.len() {
@@ -137,10 +149,14 @@ fn push_value(
     enumeration: u32,
     value: StoredValue,
 ) -> Result<(), VisitError>
-    ensures names { OnOk result (map enum_draft_name enums.new.items ≡ map enum_draft_name enums.old.items) }
-    ensures heads { OnOk result (map enum_draft_head enums.new.items ≡ map enum_draft_head enums.old.items) }
-    ensures values { OnOk result (map draft_values enums.new.items ≡ add_value (map draft_values enums.old.items) (enumeration - first) (stored_value value)) }
-    ensures types { OnOk result (GrowsAt first (Some enumeration) (value_of value) (map draft_value_types enums.old.items) (map draft_value_types enums.new.items)) }
+    ensures names { OnOk result (map enum_draft_name enums.new.items
+        ≡ map enum_draft_name enums.old.items) }
+    ensures heads { OnOk result (map enum_draft_head enums.new.items
+        ≡ map enum_draft_head enums.old.items) }
+    ensures values { OnOk result (map draft_values enums.new.items
+        ≡ add_value (map draft_values enums.old.items) (enumeration - first) (stored_value value)) }
+    ensures types { OnOk result (GrowsAt first (Some enumeration) (value_of value)
+        (map draft_value_types enums.old.items) (map draft_value_types enums.new.items)) }
 {
     let place = local_place(enumeration, first)?;
     if place < enums.len() {
@@ -158,9 +174,12 @@ fn push_method(
     service: u32,
     method: StoredMethod,
 ) -> Result<(), VisitError>
-    ensures names { OnOk result (map stored_service_name services.new.items ≡ map stored_service_name services.old.items) }
-    ensures heads { OnOk result (map service_head services.new.items ≡ map service_head services.old.items) }
-    ensures methods { OnOk result (GrowsAt first (Some service) (method_of method) (map stored_methods services.old.items) (map stored_methods services.new.items)) }
+    ensures names { OnOk result (map stored_service_name services.new.items
+        ≡ map stored_service_name services.old.items) }
+    ensures heads { OnOk result (map service_head services.new.items
+        ≡ map service_head services.old.items) }
+    ensures methods { OnOk result (GrowsAt first (Some service) (method_of method)
+        (map stored_methods services.old.items) (map stored_methods services.new.items)) }
 {
     let place = local_place(service, first)?;
     if place < services.len() {

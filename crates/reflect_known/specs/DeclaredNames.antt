@@ -5,14 +5,22 @@ use Rattle.reflect_tables.specs.Names.{Sort, messages, enums, extensions, servic
 
 abbrev pub is_of : Sort → Body → Bool
 is_of s (of_file f) = false
-is_of s (of_message m) = elim s [ messages ↦ true | enums ↦ false | extensions ↦ false | services ↦ false ]
+is_of s (of_message m) = elim s
+    [ messages ↦ true | enums ↦ false | extensions ↦ false | services ↦ false ]
 is_of s (of_field f) = false
 is_of s (of_oneof o) = false
-is_of s (of_enum e) = elim s [ messages ↦ false | enums ↦ true | extensions ↦ false | services ↦ false ]
+is_of s (of_enum e) = elim s [
+  | messages ↦ false
+  | enums ↦ true
+  | extensions ↦ false
+  | services ↦ false
+]
 is_of s (of_enum_value v) = false
-is_of s (of_service v) = elim s [ messages ↦ false | enums ↦ false | extensions ↦ false | services ↦ true ]
+is_of s (of_service v) = elim s
+    [ messages ↦ false | enums ↦ false | extensions ↦ false | services ↦ true ]
 is_of s (of_method m) = false
-is_of s (of_extension x) = elim s [ messages ↦ false | enums ↦ false | extensions ↦ true | services ↦ false ]
+is_of s (of_extension x) = elim s
+    [ messages ↦ false | enums ↦ false | extensions ↦ true | services ↦ false ]
 
 -- the names of a sort behind a declaration
 abbrev pub with_name : Sort → List FullName → Declaration → List FullName

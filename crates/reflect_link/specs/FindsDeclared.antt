@@ -1,5 +1,5 @@
--- What a lookup of a file by its name, or of a service by its full name, answers: the one of this name, or none where none has
--- it.
+-- What a lookup of a file by its name, or of a service by its full name, answers: the one of this
+-- name, or none where none has it.
 use Rattle.std.specs.Prelude.{◌≡◌, ℕ, List, Option, None, Some}
 use Rattle.reflect_tables.specs.Finding.{IsFirst}
 use Rattle.reflect_tables.specs.Types.{PoolType}
@@ -14,4 +14,5 @@ FindsFile p name (Some d) = IsFirst (λ f. f.name ≡ name) p.files (Some d.inde
 -- a full name may have one leading dot
 abbrev pub FindsService : PoolType → List ℕ → Option ServiceDescriptor → Type 0
 FindsService p name None = IsFirst (λ s. s.full_name ≡ without_dot name) p.services None
-FindsService p name (Some d) = IsFirst (λ s. s.full_name ≡ without_dot name) p.services (Some d.index)
+FindsService p name (Some d) =
+    IsFirst (λ s. s.full_name ≡ without_dot name) p.services (Some d.index)

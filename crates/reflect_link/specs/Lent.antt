@@ -17,8 +17,10 @@ IsWhereThere None x = Unit {0}
 IsWhereThere (Some found) x = x ≡ found
 
 -- it is the record at a path of the record of a pool's file, where one is there
-abbrev pub IsAlong : {X : Type 0} → (FileDescriptorProto → List ℤ → Option X) → PoolType → ℕ → List ℤ → X → Type 0
-IsAlong along p file path x = (f : FileDescriptorProto) × (slice_get p.records file ≡ Some f) × IsWhereThere (along f path) x
+abbrev pub IsAlong : {X : Type 0} → (FileDescriptorProto → List ℤ → Option X) → PoolType → ℕ
+    → List ℤ → X → Type 0
+IsAlong along p file path x = (f : FileDescriptorProto) × (slice_get p.records file ≡ Some f)
+    × IsWhereThere (along f path) x
 
 abbrev pub IsMessageOf : PoolType → ℕ → DescriptorProto → Type 0
 IsMessageOf p i m = IsAlong message_along p (type_at p i).file (type_at p i).path m
@@ -36,7 +38,8 @@ abbrev pub IsValueOf : PoolType → ℕ → ℕ → EnumValueDescriptorProto →
 IsValueOf p i k v = IsAlong value_along p (enum_at p i).file (type_of_value p i k).path v
 
 abbrev pub IsExtensionOf : PoolType → ℕ → FieldDescriptorProto → Type 0
-IsExtensionOf p i x = IsAlong extension_along p (extension_at p i).file (extension_at p i).field.path x
+IsExtensionOf p i x = IsAlong extension_along p (extension_at p i).file
+    (extension_at p i).field.path x
 
 abbrev pub IsServiceOf : PoolType → ℕ → ServiceDescriptorProto → Type 0
 IsServiceOf p i s = IsAlong service_along p (service_at p i).file (service_at p i).path s

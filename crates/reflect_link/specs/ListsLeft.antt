@@ -1,5 +1,5 @@
--- What the iterators over the types and extensions of a file or a message, over a file's services and over the files that it
--- imports, have left.
+-- What the iterators over the types and extensions of a file or a message, over a file's services
+-- and over the files that it imports, have left.
 use Rattle.std.specs.Prelude.{List, map}
 use Rattle.reflect_tables.specs.Types.{FileType, MessageType, EnumType, ExtensionType, ServiceType, type_at, enum_at, extension_at, service_at}
 use Rattle.reflect_link.specs.FileTypes.{file_type_at}

@@ -47,7 +47,8 @@ impl<'p> FileDescriptor<'p> {
 
     fn stored(&self) -> &'p StoredFile
         ensures file { file_of result.now ≡ file_type_at self.now.pool.now self.now.index }
-        ensures stands { slice_get self.now.pool.now.records self.now.index ≡ Some result.now.«record» }
+        ensures stands { slice_get self.now.pool.now.records self.now.index
+            ≡ Some result.now.«record» }
     {
         let tables = self.pool.tables();
         &tables.files[self.index as usize]
@@ -84,8 +85,12 @@ impl<'p> FileDescriptor<'p> {
 
     /// The imported files, in the order of the imports; none is left out.
     pub fn dependencies(&self) -> Files<'p>
-        ensures files { files_left result ≡ map (file_type_at self.now.pool.now) (imported (place_named self.now.pool.now) (file_type_at self.now.pool.now self.now.index)) }
-        ensures names { map (λ f. f.name) (files_left result) ≡ (file_type_at self.now.pool.now self.now.index).imports }
+        ensures files { files_left result
+            ≡ map (file_type_at self.now.pool.now)
+            (imported (place_named self.now.pool.now)
+            (file_type_at self.now.pool.now self.now.index)) }
+        ensures names { map (λ f. f.name) (files_left result)
+            ≡ (file_type_at self.now.pool.now self.now.index).imports }
     {
         Files {
             pool: self.pool,
@@ -95,8 +100,13 @@ impl<'p> FileDescriptor<'p> {
 
     /// The publicly imported files, in the order in which they are named; none is left out.
     pub fn public_dependencies(&self) -> Files<'p>
-        ensures files { files_left result ≡ map (file_type_at self.now.pool.now) (imported_publicly (place_named self.now.pool.now) (file_type_at self.now.pool.now self.now.index)) }
-        ensures names { map (λ f. f.name) (files_left result) ≡ map (import_name (file_type_at self.now.pool.now self.now.index).imports) (file_type_at self.now.pool.now self.now.index).public_imports }
+        ensures files { files_left result
+            ≡ map (file_type_at self.now.pool.now)
+            (imported_publicly (place_named self.now.pool.now)
+            (file_type_at self.now.pool.now self.now.index)) }
+        ensures names { map (λ f. f.name) (files_left result)
+            ≡ map (import_name (file_type_at self.now.pool.now self.now.index).imports)
+            (file_type_at self.now.pool.now self.now.index).public_imports }
     {
         Files {
             pool: self.pool,
@@ -106,7 +116,9 @@ impl<'p> FileDescriptor<'p> {
 
     /// The message types that stand in no message, as they were declared.
     pub fn messages(&self) -> Messages<'p>
-        ensures { messages_left result ≡ map (type_at self.now.pool.now) (declared_at self.now.pool.now self.now.index).children.messages }
+        ensures { messages_left result
+            ≡ map (type_at self.now.pool.now)
+            (declared_at self.now.pool.now self.now.index).children.messages }
     {
         Messages {
             pool: self.pool,
@@ -121,7 +133,8 @@ impl<'p> FileDescriptor<'p> {
 
     /// The enum types that stand in no message, as they were declared.
     pub fn enums(&self) -> Enums<'p>
-        ensures { enums_left result ≡ map (enum_at self.now.pool.now) (declared_at self.now.pool.now self.now.index).children.enums }
+        ensures { enums_left result ≡ map (enum_at self.now.pool.now)
+            (declared_at self.now.pool.now self.now.index).children.enums }
     {
         Enums {
             pool: self.pool,
@@ -131,7 +144,9 @@ impl<'p> FileDescriptor<'p> {
 
     /// The extensions that stand in no message, as they were declared.
     pub fn extensions(&self) -> Extensions<'p>
-        ensures { extensions_left result ≡ map (extension_at self.now.pool.now) (declared_at self.now.pool.now self.now.index).children.extensions }
+        ensures { extensions_left result
+            ≡ map (extension_at self.now.pool.now)
+            (declared_at self.now.pool.now self.now.index).children.extensions }
     {
         Extensions {
             pool: self.pool,
@@ -146,7 +161,9 @@ impl<'p> FileDescriptor<'p> {
 
     /// The services, as they were declared.
     pub fn services(&self) -> Services<'p>
-        ensures { services_left result ≡ map (service_at self.now.pool.now) (declared_at self.now.pool.now self.now.index).services }
+        ensures { services_left result
+            ≡ map (service_at self.now.pool.now)
+            (declared_at self.now.pool.now self.now.index).services }
     {
         Services {
             pool: self.pool,

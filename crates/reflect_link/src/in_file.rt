@@ -25,12 +25,15 @@ pub trait InFile<'p> {
 
     /// The record of the file that the declaration stands in.
     fn parent_file_descriptor_proto(&self) -> &'p FileDescriptorProto
-        ensures stands { slice_get (stands_in self.now).records (file_of self.now) ≡ Some result.now }
-        ensures header { record_file result.now ≡ file_type_at (stands_in self.now) (file_of self.now) };
+        ensures stands { slice_get (stands_in self.now).records (file_of self.now)
+            ≡ Some result.now }
+        ensures header { record_file result.now
+            ≡ file_type_at (stands_in self.now) (file_of self.now) };
 
     /// The package of the file that the declaration stands in, empty where there is none.
     fn package_name(&self) -> &'p str
-        ensures { result.now ≡ (file_type_at (stands_in self.now) (file_of self.now)).package_name };
+        ensures { result.now ≡ (file_type_at (stands_in self.now)
+            (file_of self.now)).package_name };
 }
 
 impl<'p> InFile<'p> for MessageDescriptor<'p> {

@@ -1,4 +1,5 @@
-//! Linking: files in, one pool out whose descriptors answer every question, or the faults of the first faulty pass.
+//! Linking: files in, one pool out whose descriptors answer every question, or the faults of the
+//! first faulty pass.
 #![tactic(auto)]
 
 mod file;

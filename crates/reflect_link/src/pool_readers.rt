@@ -24,7 +24,8 @@ pub trait PoolReaders {
     fn file_descriptor_protos(&self) -> FileRecords<'_>
         ensures { records_left result ≡ (holds self.now).records };
 
-    /// All message types, of each file with those that stand in others, each before what stands in it.
+    /// All message types, of each file with those that stand in others, each before what stands in
+    /// it.
     fn all_messages(&self) -> AllMessages<'_>
         ensures { messages_left result ≡ (holds self.now).messages };
 

@@ -42,27 +42,37 @@ pub trait MessageReaders<'p> {
 
     /// The message types that are declared in the type, as they were declared.
     fn child_messages(&self) -> Messages<'p>
-        ensures { messages_left result ≡ map (type_at (in_pool self.now)) (type_at (in_pool self.now) (place self.now)).children.messages };
+        ensures { messages_left result
+            ≡ map (type_at (in_pool self.now))
+            (type_at (in_pool self.now) (place self.now)).children.messages };
 
     /// The enum types that are declared in the type, as they were declared.
     fn child_enums(&self) -> Enums<'p>
-        ensures { enums_left result ≡ map (enum_at (in_pool self.now)) (type_at (in_pool self.now) (place self.now)).children.enums };
+        ensures { enums_left result ≡ map (enum_at (in_pool self.now))
+            (type_at (in_pool self.now) (place self.now)).children.enums };
 
     /// The extensions that are declared in the type, whatever they extend, as they were declared.
     fn child_extensions(&self) -> Extensions<'p>
-        ensures { extensions_left result ≡ map (extension_at (in_pool self.now)) (type_at (in_pool self.now) (place self.now)).children.extensions };
+        ensures { extensions_left result
+            ≡ map (extension_at (in_pool self.now))
+            (type_at (in_pool self.now) (place self.now)).children.extensions };
 
     /// The numbers that no field may have.
     fn reserved_ranges(&self) -> ReservedRanges<'p>
-        ensures { (m : DescriptorProto) × IsMessageOf (in_pool self.now) (place self.now) m × (reserved_left result ≡ map reserved_bounds (out-DescriptorProto m).reserved_range.items) };
+        ensures { (m : DescriptorProto) × IsMessageOf (in_pool self.now) (place self.now) m
+            × (reserved_left result ≡ map reserved_bounds
+            (out-DescriptorProto m).reserved_range.items) };
 
     /// The names that no field may have.
     fn reserved_names(&self) -> ReservedNames<'p>
-        ensures { (m : DescriptorProto) × IsMessageOf (in_pool self.now) (place self.now) m × (names_left result ≡ map string_bytes (out-DescriptorProto m).reserved_name.items) };
+        ensures { (m : DescriptorProto) × IsMessageOf (in_pool self.now) (place self.now) m
+            × (names_left result ≡ map string_bytes (out-DescriptorProto m).reserved_name.items) };
 
     /// The numbers that are kept for extensions.
     fn extension_ranges(&self) -> ExtensionRanges<'p>
-        ensures { (m : DescriptorProto) × IsMessageOf (in_pool self.now) (place self.now) m × (ranges_left result ≡ map extension_bounds (out-DescriptorProto m).extension_range.items) };
+        ensures { (m : DescriptorProto) × IsMessageOf (in_pool self.now) (place self.now) m
+            × (ranges_left result ≡ map extension_bounds
+            (out-DescriptorProto m).extension_range.items) };
 }
 
 impl<'p> MessageReaders<'p> for MessageDescriptor<'p> {
@@ -175,11 +185,13 @@ pub trait EnumReaders<'p> {
 
     /// The numbers that no value may have.
     fn reserved_ranges(&self) -> EnumReservedRanges<'p>
-        ensures { (e : EnumDescriptorProto) × is_record self.now e × (enum_left result ≡ map enum_bounds e.reserved_range.items) };
+        ensures { (e : EnumDescriptorProto) × is_record self.now e
+            × (enum_left result ≡ map enum_bounds e.reserved_range.items) };
 
     /// The names that no value may have.
     fn reserved_names(&self) -> ReservedNames<'p>
-        ensures { (e : EnumDescriptorProto) × is_record self.now e × (names_left result ≡ map string_bytes e.reserved_name.items) };
+        ensures { (e : EnumDescriptorProto) × is_record self.now e
+            × (names_left result ≡ map string_bytes e.reserved_name.items) };
 }
 
 impl<'p> EnumReaders<'p> for EnumDescriptor<'p> {

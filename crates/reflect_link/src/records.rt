@@ -18,7 +18,8 @@ struct Step {
 
 /// The first step of a path, and what is left.
 fn first_step(path: &[i32]) -> Option<(Step, &[i32])>
-    ensures { MatchOption result (length path.now < 2) (λ s. path.now ≡ s.0.number ∷ s.0.place ∷ s.1.now) }
+    ensures { MatchOption result (length path.now < 2)
+        (λ s. path.now ≡ s.0.number ∷ s.0.place ∷ s.1.now) }
 {
     let (number, behind) = path.split_first()?;
     let (place, rest) = behind.split_first()?;
@@ -33,7 +34,9 @@ fn first_step(path: &[i32]) -> Option<(Step, &[i32])>
 
 /// What comes before the last step of a path, and this step.
 fn split_last(path: &[i32]) -> Option<(&[i32], Step)>
-    ensures { MatchOption result (length path.now < 2) (λ s. (s.0.now ≡ before_last path.now) × (s.1.number ∷ s.1.place ∷ [] ≡ last_step path.now)) }
+    ensures { MatchOption result (length path.now < 2)
+        (λ s. (s.0.now ≡ before_last path.now)
+        × (s.1.number ∷ s.1.place ∷ [] ≡ last_step path.now)) }
 {
     let (place, before) = path.split_last()?;
     let (number, parent) = before.split_last()?;

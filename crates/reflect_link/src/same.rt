@@ -1,4 +1,5 @@
-//! Files, services and methods are equal as the descriptors of types are: where they stand at one place, under one name.
+//! Files, services and methods are equal as the descriptors of types are: where they stand at one
+//! place, under one name.
 
 use crate::file::FileDescriptor;
 use crate::service::{MethodDescriptor, ServiceDescriptor};

@@ -59,15 +59,18 @@ impl<'p> ServiceDescriptor<'p> {
 
     /// The record of the file that the service is declared in.
     pub fn parent_file_descriptor_proto(&self) -> &'p FileDescriptorProto
-        ensures stands { slice_get self.now.pool.now.records (service_at self.now.pool.now self.now.index).file ≡ Some result.now }
-        ensures header { record_file result.now ≡ file_type_at self.now.pool.now (service_at self.now.pool.now self.now.index).file }
+        ensures stands { slice_get self.now.pool.now.records
+            (service_at self.now.pool.now self.now.index).file ≡ Some result.now }
+        ensures header { record_file result.now
+            ≡ file_type_at self.now.pool.now (service_at self.now.pool.now self.now.index).file }
     {
         self.parent_file().file_descriptor_proto()
     }
 
     /// The package of the file that the service is declared in.
     pub fn package_name(&self) -> &'p str
-        ensures { result.now ≡ (file_type_at self.now.pool.now (service_at self.now.pool.now self.now.index).file).package_name }
+        ensures { result.now ≡ (file_type_at self.now.pool.now
+            (service_at self.now.pool.now self.now.index).file).package_name }
     {
         self.parent_file().package_name()
     }
@@ -122,7 +125,8 @@ impl<'p> ServiceDescriptor<'p> {
     fn method_at(&self, index: u32) -> Option<MethodDescriptor<'p>>
         ensures service { IfSome result (λ m. m.service ≡ self.now) }
         ensures index { IfSome result (λ m. m.index ≡ index) }
-        ensures there { index < length (service_at self.now.pool.now self.now.index).methods → IsSome result }
+        ensures there { index < length (service_at self.now.pool.now self.now.index).methods
+            → IsSome result }
     {
         let tables = self.pool.tables();
         if (index as usize) < tables.services[self.index as usize].methods.len() {
@@ -247,49 +251,58 @@ impl<'p> MethodDescriptor<'p> {
     /// The file that the method is declared in.
     pub fn parent_file(&self) -> FileDescriptor<'p>
         ensures pool { result.pool.now ≡ self.now.service.pool.now }
-        ensures file { result.index ≡ (service_at self.now.service.pool.now self.now.service.index).file }
+        ensures file { result.index ≡ (service_at self.now.service.pool.now
+            self.now.service.index).file }
     {
         self.service.parent_file()
     }
 
     /// The record of the file that the method is declared in.
     pub fn parent_file_descriptor_proto(&self) -> &'p FileDescriptorProto
-        ensures stands { slice_get self.now.service.pool.now.records (service_at self.now.service.pool.now self.now.service.index).file ≡ Some result.now }
-        ensures header { record_file result.now ≡ file_type_at self.now.service.pool.now (service_at self.now.service.pool.now self.now.service.index).file }
+        ensures stands { slice_get self.now.service.pool.now.records
+            (service_at self.now.service.pool.now self.now.service.index).file ≡ Some result.now }
+        ensures header { record_file result.now
+            ≡ file_type_at self.now.service.pool.now
+            (service_at self.now.service.pool.now self.now.service.index).file }
     {
         self.service.parent_file_descriptor_proto()
     }
 
     fn stored(&self) -> &'p StoredMethod
-        ensures { method_of result.now ≡ type_of_method self.now.service.pool.now self.now.service.index self.now.index }
+        ensures { method_of result.now
+            ≡ type_of_method self.now.service.pool.now self.now.service.index self.now.index }
     {
         let tables = self.service.pool.tables();
         &tables.services[self.service.index as usize].methods[self.index as usize]
     }
 
     pub fn name(&self) -> &'p str
-        ensures { result.now ≡ (type_of_method self.now.service.pool.now self.now.service.index self.now.index).name }
+        ensures { result.now ≡ (type_of_method self.now.service.pool.now self.now.service.index
+            self.now.index).name }
     {
         self.stored().name.as_str()
     }
 
     /// The service's full name, a dot and the method's name.
     pub fn full_name(&self) -> &'p str
-        ensures { result.now ≡ (type_of_method self.now.service.pool.now self.now.service.index self.now.index).full_name }
+        ensures { result.now ≡ (type_of_method self.now.service.pool.now self.now.service.index
+            self.now.index).full_name }
     {
         self.stored().full_name.as_str()
     }
 
     /// Where the declaration stands in its file's record.
     pub fn path(&self) -> &'p [i32]
-        ensures { result.now ≡ (type_of_method self.now.service.pool.now self.now.service.index self.now.index).path }
+        ensures { result.now ≡ (type_of_method self.now.service.pool.now self.now.service.index
+            self.now.index).path }
     {
         self.stored().path.as_slice()
     }
 
     /// The record of the method.
     pub fn method_descriptor_proto(&self) -> &'p MethodDescriptorProto
-        ensures { IsMethodOf self.now.service.pool.now self.now.service.index self.now.index result.now }
+        ensures { IsMethodOf self.now.service.pool.now self.now.service.index
+            self.now.index result.now }
     {
         let found = method_record(self.parent_file_descriptor_proto(), self.path());
         found.unwrap_or(&self.service.pool.blanks().method)
@@ -298,7 +311,8 @@ impl<'p> MethodDescriptor<'p> {
     /// The message type that the method takes.
     pub fn input(&self) -> MessageDescriptor<'p>
         ensures pool { result.pool.now ≡ self.now.service.pool.now }
-        ensures input { result.index ≡ (type_of_method self.now.service.pool.now self.now.service.index self.now.index).input }
+        ensures input { result.index ≡ (type_of_method self.now.service.pool.now
+            self.now.service.index self.now.index).input }
     {
         self.service.pool.input_of(self.service.index, self.index)
     }
@@ -306,21 +320,24 @@ impl<'p> MethodDescriptor<'p> {
     /// The message type that the method answers.
     pub fn output(&self) -> MessageDescriptor<'p>
         ensures pool { result.pool.now ≡ self.now.service.pool.now }
-        ensures output { result.index ≡ (type_of_method self.now.service.pool.now self.now.service.index self.now.index).output }
+        ensures output { result.index ≡ (type_of_method self.now.service.pool.now
+            self.now.service.index self.now.index).output }
     {
         self.service.pool.output_of(self.service.index, self.index)
     }
 
     /// The caller sends any number of messages.
     pub fn is_client_streaming(&self) -> bool
-        ensures { result ≡ (type_of_method self.now.service.pool.now self.now.service.index self.now.index).client_streaming }
+        ensures { result ≡ (type_of_method self.now.service.pool.now self.now.service.index
+            self.now.index).client_streaming }
     {
         self.stored().is_client_streaming
     }
 
     /// The service answers with any number of messages.
     pub fn is_server_streaming(&self) -> bool
-        ensures { result ≡ (type_of_method self.now.service.pool.now self.now.service.index self.now.index).server_streaming }
+        ensures { result ≡ (type_of_method self.now.service.pool.now self.now.service.index
+            self.now.index).server_streaming }
     {
         self.stored().is_server_streaming
     }

@@ -47,17 +47,19 @@ payload_in _ _ = None
 
 -- its record, and its bytes in a packed one
 abbrev pub record_in : KindType → ℕ → Option Single → List ℕ
-record_in kind n v = elim (option_and_then (payload_in kind) v) [ None ↦ [] | Some p ↦ field_bytes (n, p) ]
+record_in kind n v = elim (option_and_then (payload_in kind) v)
+    [ None ↦ [] | Some p ↦ field_bytes (n, p) ]
 
 abbrev pub bare_in : KindType → Option Single → List ℕ
 bare_in kind v = elim (option_and_then (payload_in kind) v) [ None ↦ [] | Some p ↦ plain_bytes p ]
 
 -- a message's records as the value of a field: between a group's tags, or behind their length
 abbrev pub framed : FieldType → List ℕ → List ℕ
-framed f body = cond f.group (key_bytes (key_of f.number StartGroup) ++ (body ++ key_bytes (key_of f.number EndGroup))) (payload_field f.number body)
+framed f body = cond f.group (key_bytes (key_of f.number StartGroup)
+    ++ (body ++ key_bytes (key_of f.number EndGroup))) (payload_field f.number body)
 
--- how a value is written, as one value of a field and as all that a field holds; where it is no single value, it is
--- filled if it is a message, or a list or a map with anything in it
+-- how a value is written, as one value of a field and as all that a field holds; where it is no
+-- single value, it is filled if it is a message, or a list or a map with anything in it
 pub record Form : Type 0 where
   pub single : Option Single
   pub filled : Bool
@@ -68,18 +70,32 @@ abbrev pub is_default : PoolType → FieldType → Option Single → Bool
 is_default pool f None = false
 is_default pool f (Some v) = elim (default_in pool f) [ None ↦ false | Some d ↦ same_single v d ]
 
--- a field with presence is written wherever it is held, another where it is filled, or holds no default
+-- a field with presence is written wherever it is held, another where it is filled, or holds no
+-- default
 abbrev pub is_set : PoolType → FieldType → Form → Bool
-is_set pool f w = f.presence || elim w.single [ None ↦ w.filled | Some v ↦ not (is_default pool f (Some v)) ]
+is_set pool f w = f.presence || elim w.single
+    [ None ↦ w.filled | Some v ↦ not (is_default pool f (Some v)) ]
 
 abbrev pub content_bytes : PoolType → FieldType → Form → List ℕ
 content_bytes pool f w = cond (is_set pool f w) (w.whole pool f) []
 
 abbrev pub single_form : Single → Form
-single_form v = record { single = Some v; filled = true; one = λ f. record_in f.kind f.number (Some v); whole = λ pool f. record_in f.kind f.number (Some v) }
+single_form v = record {
+  single = Some v;
+  filled = true;
+  one =
+      λ f. record_in f.kind f.number (Some v);
+  whole = λ pool f. record_in f.kind f.number (Some v);
+}
 
 abbrev pub message_form : List ℕ → Form
-message_form body = record { single = None; filled = true; one = λ f. framed f body; whole = λ pool f. framed f body }
+message_form body = record {
+  single = None;
+  filled = true;
+  one = λ f. framed f body;
+  whole =
+      λ pool f. framed f body;
+}
 
 -- packed, all values stand in one record
 abbrev pub list_bytes : FieldType → List Form → List ℕ
@@ -98,35 +114,49 @@ list_form ws = record {
 
 -- an entry is a message of the key, left out where it is the default, and the value, likewise
 abbrev pub key_part : PoolType → FieldType → Single → List ℕ
-key_part pool keys v = cond (keys.presence || not (is_default pool keys (Some v))) (record_in keys.kind keys.number (Some v)) []
+key_part pool keys v = cond (keys.presence || not (is_default pool keys (Some v)))
+    (record_in keys.kind keys.number (Some v)) []
 
 abbrev pub entry_bytes : PoolType → FieldType → FieldType → FieldType → MapKey × Form → List ℕ
-entry_bytes pool f keys values e = payload_field f.number (key_part pool keys (key_view e.0) ++ content_bytes pool values e.1)
+entry_bytes pool f keys values e =
+    payload_field f.number (key_part pool keys (key_view e.0) ++ content_bytes pool values e.1)
 
 abbrev pub map_bytes : PoolType → FieldType → List (MapKey × Form) → List ℕ
 map_bytes pool f es = elim (entry_field pool f.kind 1) [
   | None ↦ []
-  | Some keys ↦ elim (entry_field pool f.kind 2) [ None ↦ [] | Some values ↦ flat_map (entry_bytes pool f keys values) es ]
+  | Some keys ↦ elim (entry_field pool f.kind 2)
+      [ None ↦ [] | Some values ↦ flat_map (entry_bytes pool f keys values) es ]
 ]
 
 abbrev pub map_form : List (MapKey × Form) → Form
-map_form es = record { single = None; filled = elim es [ [] ↦ false | e ∷ rest ↦ true ]; one = λ f. []; whole = λ pool f. map_bytes pool f es }
+map_form es = record {
+  single = None;
+  filled = elim es [ [] ↦ false | e ∷ rest ↦ true ];
+  one =
+      λ f. [];
+  whole = λ pool f. map_bytes pool f es;
+}
 
 -- what a declared field holds, and an extension, by the place of the type that they are of
 abbrev pub declared_bytes : PoolType → ℕ → ℕ × Form → List ℕ
-declared_bytes pool i e = elim (known_field pool i e.0) [ None ↦ [] | Some f ↦ content_bytes pool f e.1 ]
+declared_bytes pool i e = elim (known_field pool i e.0)
+    [ None ↦ [] | Some f ↦ content_bytes pool f e.1 ]
 
 abbrev pub extension_bytes : PoolType → ℕ → ℕ × Form → List ℕ
-extension_bytes pool i e = elim (known_extension pool i e.0) [ None ↦ [] | Some f ↦ content_bytes pool f e.1 ]
+extension_bytes pool i e = elim (known_extension pool i e.0)
+    [ None ↦ [] | Some f ↦ content_bytes pool f e.1 ]
 
--- extensions, from the last one down, each between the records up to its number and those above it (no record has the number 0)
+-- extensions, from the last one down, each between the records up to its number and those above it
+-- (no record has the number 0)
 abbrev pub others_down : PoolType → ℕ → List (ℕ × Form) → List (ℕ × Payload) → List ℕ
 others_down pool i [] records = records_bytes (records_of (above 0 records))
-others_down pool i (e ∷ es) records = others_down pool i es (up_to e.0 records) ++ (extension_bytes pool i e ++ records_bytes (records_of (above e.0 records)))
+others_down pool i (e ∷ es) records = others_down pool i es (up_to e.0 records)
+    ++ (extension_bytes pool i e ++ records_bytes (records_of (above e.0 records)))
 
 -- declared fields, then extensions and records of undeclared numbers
 abbrev pub content : PoolType → ℕ → List (ℕ × Form) → List (ℕ × Form) → List (ℕ × Payload) → List ℕ
-content pool i fields extensions records = flat_map (declared_bytes pool i) fields ++ others_down pool i (reverse extensions) records
+content pool i fields extensions records = flat_map (declared_bytes pool i) fields
+    ++ others_down pool i (reverse extensions) records
 
 -- one level of a value, of a message, of what it holds and of its parts
 abbrev pub value_step : Value-F (PoolType → ℕ → List ℕ) Form (List ℕ) (PoolType → ℕ → List ℕ) → Form
@@ -142,22 +172,27 @@ value_step (Value-F.Message m) = message_form m
 value_step (Value-F.List vs) = list_form vs.items
 value_step (Value-F.Map es) = map_form es.entries
 
-abbrev pub message_step : DynamicMessage-F (PoolType → ℕ → List ℕ) Form (List ℕ) (PoolType → ℕ → List ℕ) → List ℕ
+abbrev pub message_step : DynamicMessage-F (PoolType → ℕ → List ℕ) Form (List ℕ)
+    (PoolType → ℕ → List ℕ) → List ℕ
 message_step m = m.held m.descriptor.pool.now m.descriptor.index
 
-abbrev pub held_step : Held-F (PoolType → ℕ → List ℕ) Form (List ℕ) (PoolType → ℕ → List ℕ) → PoolType → ℕ → List ℕ
+abbrev pub held_step : Held-F (PoolType → ℕ → List ℕ) Form (List ℕ) (PoolType → ℕ → List ℕ)
+    → PoolType → ℕ → List ℕ
 held_step Held-F.Nothing = λ pool i. []
 held_step (Held-F.Block b) = b.value
 
-abbrev pub parts_step : Parts-F (PoolType → ℕ → List ℕ) Form (List ℕ) (PoolType → ℕ → List ℕ) → PoolType → ℕ → List ℕ
+abbrev pub parts_step : Parts-F (PoolType → ℕ → List ℕ) Form (List ℕ) (PoolType → ℕ → List ℕ)
+    → PoolType → ℕ → List ℕ
 parts_step p = λ pool i. content pool i p.fields p.extensions (undeclared p.unknown)
 
 -- how a value is written, at each depth
 abbrev pub form_of : Value → Form
-form_of = fold-Value (PoolType → ℕ → List ℕ) Form (List ℕ) (PoolType → ℕ → List ℕ) held_step value_step message_step parts_step
+form_of = fold-Value (PoolType → ℕ → List ℕ) Form (List ℕ) (PoolType → ℕ → List ℕ) held_step
+    value_step message_step parts_step
 
 abbrev pub held_bytes : Held → PoolType → ℕ → List ℕ
-held_bytes = fold-Held (PoolType → ℕ → List ℕ) Form (List ℕ) (PoolType → ℕ → List ℕ) held_step value_step message_step parts_step
+held_bytes = fold-Held (PoolType → ℕ → List ℕ) Form (List ℕ) (PoolType → ℕ → List ℕ) held_step
+    value_step message_step parts_step
 
 -- the records of a message
 abbrev pub message_bytes : DynamicMessage → List ℕ

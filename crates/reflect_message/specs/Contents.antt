@@ -14,10 +14,20 @@ pub record Content : Type 0 where
   pub unknown : List (ℕ × Payload)
 
 abbrev pub content_of : DynamicMessage → Content
-content_of m = record { fields = fields_of m; choices = choices_of m; extensions = extensions_of m; unknown = unknown_of m }
+content_of m = record {
+  fields = fields_of m;
+  choices = choices_of m;
+  extensions = extensions_of m;
+  unknown = unknown_of m;
+}
 
 abbrev pub content_in : Parts → Content
-content_in p = record { fields = p.fields; choices = p.choices.members; extensions = p.extensions; unknown = undeclared p.unknown }
+content_in p = record {
+  fields = p.fields;
+  choices = p.choices.members;
+  extensions = p.extensions;
+  unknown = undeclared p.unknown;
+}
 
 -- what a message holds in which nothing is set
 abbrev pub nothing : Content

@@ -17,13 +17,18 @@ Declares m f = (f.message.index ≡ m.index) × (f.message.pool.now ≡ m.pool.n
 abbrev pub Extends : MessageDescriptor → ExtensionDescriptor → Type 0
 Extends m x = (x.pool.now ≡ m.pool.now) × ((extension_at x.pool.now x.index).extendee ≡ m.index)
 
--- the records of its number are the field's: it is the first of the type with the number, and holds no floating-point numbers
+-- the records of its number are the field's: it is the first of the type with the number, and holds
+-- no floating-point numbers
 abbrev pub Owns : MessageDescriptor → FieldDescriptor → Type 0
-Owns m f = Declares m f × FindsField (λ g. g.number ≡ (field_type f).number) m (Some f) × (HoldsFloats (field_pool f) (field_type f) → ⊥)
+Owns m f = Declares m f × FindsField (λ g. g.number ≡ (field_type f).number) m (Some f)
+    × (HoldsFloats (field_pool f) (field_type f) → ⊥)
 
--- the same of an extension: it is the first of the pool that extends the type by the number (a field with the number comes before it)
+-- the same of an extension: it is the first of the pool that extends the type by the number (a
+-- field with the number comes before it)
 abbrev pub OwnsExtension : MessageDescriptor → ExtensionDescriptor → Type 0
-OwnsExtension m x = Extends m x × FindsAny (λ y. (y.extendee ≡ m.index) × (y.field.number ≡ (extension_type x).number)) m.pool.now (Some x) × (HoldsFloats (extension_pool x) (extension_type x) → ⊥)
+OwnsExtension m x = Extends m x
+    × FindsAny (λ y. (y.extendee ≡ m.index) × (y.field.number ≡ (extension_type x).number))
+    m.pool.now (Some x) × (HoldsFloats (extension_pool x) (extension_type x) → ⊥)
 
 -- no field of the type has the records of the number
 abbrev pub NoField : MessageDescriptor → ℕ → Type 0
@@ -31,4 +36,5 @@ NoField m n = (f : FieldDescriptor) → Owns m f → (field_type f).number ≢ n
 
 -- a field or an extension of the type has the records of the number
 abbrev pub IsDeclared : MessageDescriptor → ℕ → Type 0
-IsDeclared m n = ((f : FieldDescriptor) × Owns m f × ((field_type f).number ≡ n)) ⊎ ((x : ExtensionDescriptor) × OwnsExtension m x × ((extension_type x).number ≡ n))
+IsDeclared m n = ((f : FieldDescriptor) × Owns m f × ((field_type f).number ≡ n))
+    ⊎ ((x : ExtensionDescriptor) × OwnsExtension m x × ((extension_type x).number ≡ n))

@@ -11,11 +11,16 @@ use Rattle.reflect_message.specs.Singles.{single}
 use Rattle.reflect_message.specs.declared.message.DynamicMessage.{DynamicMessage}
 use Rattle.reflect_message.specs.declared.value.Value.{Value}
 
--- of one value, what its declaration or its kind says, of a message one of the type in which nothing is set
+-- of one value, what its declaration or its kind says, of a message one of the type in which
+-- nothing is set
 abbrev pub IsDefaultOne : PoolType → FieldType → Value → Type 0
-IsDefaultOne pool f v = (IsScalarType f.kind → single v ≡ default_in pool f) × (IsMessageType f.kind → (m : DynamicMessage) × (message_in v ≡ Some m) × IsStart pool f.kind None m)
+IsDefaultOne pool f v = (IsScalarType f.kind → single v ≡ default_in pool f)
+    × (IsMessageType f.kind → (m : DynamicMessage) × (message_in v ≡ Some m)
+    × IsStart pool f.kind None m)
 
 -- the value is the field's default: an empty list, an empty map, or that of one value
 abbrev pub IsDefault : PoolType → FieldType → Value → Type 0
 IsDefault pool f v =
-    (holds_list pool f ≡ true → list_items v ≡ Some []) × (holds_map pool f ≡ true → map_entries v ≡ Some []) × (holds_list pool f ≡ false → holds_map pool f ≡ false → IsDefaultOne pool f v)
+    (holds_list pool f ≡ true → list_items v ≡ Some [])
+    × (holds_map pool f ≡ true → map_entries v ≡ Some [])
+    × (holds_list pool f ≡ false → holds_map pool f ≡ false → IsDefaultOne pool f v)

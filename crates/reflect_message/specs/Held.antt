@@ -52,8 +52,10 @@ choices_of m = choices_in m.held
 abbrev pub Same : List (ℕ × Value) → List (ℕ × Value) → ℕ → Type 0
 Same old new n = value_at new n ≡ value_at old n
 
--- under the number of a declared field stands what is given, or nothing, and nothing else is changed
-pub record UpdatesField (old new : DynamicMessage) (number : ℕ) (given : Option Value) : Type 0 where
+-- under the number of a declared field stands what is given, or nothing, and nothing else is
+-- changed
+pub record UpdatesField (old new : DynamicMessage) (number : ℕ)
+    (given : Option Value) : Type 0 where
   pub same_type : new.descriptor ≡ old.descriptor
   pub field : Updates (fields_of old) (fields_of new) number given
   pub choices : choices_of new ≡ choices_of old
@@ -61,7 +63,8 @@ pub record UpdatesField (old new : DynamicMessage) (number : ℕ) (given : Optio
   pub unknown : unknown_of new ≡ unknown_of old
 
 -- the same for the number of an extension
-pub record UpdatesExtension (old new : DynamicMessage) (number : ℕ) (given : Option Value) : Type 0 where
+pub record UpdatesExtension (old new : DynamicMessage) (number : ℕ)
+    (given : Option Value) : Type 0 where
   pub same_type : new.descriptor ≡ old.descriptor
   pub fields : fields_of new ≡ fields_of old
   pub choices : choices_of new ≡ choices_of old

@@ -15,7 +15,8 @@ is_float _ = false
 abbrev pub numbered_field : PoolType → ℕ → ℕ → Option FieldType
 numbered_field pool i n = find (λ f. f.number == n) (type_at pool i).fields
 
--- the field of a number, of a kind that is a message: a map's entries have the key under 1 and the value under 2
+-- the field of a number, of a kind that is a message: a map's entries have the key under 1 and the
+-- value under 2
 abbrev pub entry_field : PoolType → KindType → ℕ → Option FieldType
 entry_field pool (types.message i) n = numbered_field pool i n
 entry_field pool _ n = None
@@ -37,4 +38,5 @@ abbrev pub known_field : PoolType → ℕ → ℕ → Option FieldType
 known_field pool i n = option_and_then (if_held pool) (numbered_field pool i n)
 
 abbrev pub known_extension : PoolType → ℕ → ℕ → Option FieldType
-known_extension pool i n = option_and_then (λ x. if_held pool x.field) (find (λ x. (x.extendee == i) && (x.field.number == n)) pool.extensions)
+known_extension pool i n = option_and_then (λ x. if_held pool x.field)
+    (find (λ x. (x.extendee == i) && (x.field.number == n)) pool.extensions)

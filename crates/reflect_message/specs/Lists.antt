@@ -27,7 +27,8 @@ items_held (Some v) = list_items v
 
 -- behind the values of a list, none where nothing stood, stand these
 abbrev pub Lengthens : Option Value → Option Value → List Value → Type 0
-Lengthens old new added = IfSome (items_held old) (λ before. items_held new ≡ Some (before ++ added))
+Lengthens old new added = IfSome (items_held old)
+    (λ before. items_held new ≡ Some (before ++ added))
 
 -- a list has the values that it had, none where nothing stands
 abbrev pub KeepsList : Option Value → Option Value → Type 0

@@ -13,8 +13,9 @@ use Rattle.reflect_message.specs.declared.parts.Held.TheOpen.{Held-F, Parts-F, V
 use Rattle.reflect_message.specs.declared.parts.Parts.{Parts}
 use Rattle.reflect_message.specs.declared.value.Value.{Value}
 
--- a single value, a message by its type and what it holds, a list, or a map by its entries; a message
--- holds values under numbers, the chosen members of oneofs, and records of undeclared numbers
+-- a single value, a message by its type and what it holds, a list, or a map by its entries; a
+-- message holds values under numbers, the chosen members of oneofs, and records of undeclared
+-- numbers
 mutual
   pub data ValueTree : Type 0 where
     leaf : Single → ValueTree
@@ -23,7 +24,8 @@ mutual
     dictionary : Dictionary → ValueTree
 
   pub data MessageTree : Type 0 where
-    parts : (fields : ℕ → Place) (choices : List (ℕ × ℕ)) (extensions : ℕ → Place) (unknown : List (ℕ × Payload)) → MessageTree
+    parts : (fields : ℕ → Place) (choices : List (ℕ × ℕ)) (extensions : ℕ → Place)
+        (unknown : List (ℕ × Payload)) → MessageTree
 
   pub data Place : Type 0 where
     empty : Place
@@ -63,7 +65,8 @@ held_step (Held-F.Block b) = b.value
 
 -- one level of its parts
 abbrev pub parts_step : Parts-F MessageTree ValueTree ValueTree MessageTree → MessageTree
-parts_step p = parts (λ n. place_of (value_at p.fields n)) p.choices.members (λ n. place_of (value_at p.extensions n)) (undeclared p.unknown)
+parts_step p = parts (λ n. place_of (value_at p.fields n)) p.choices.members
+    (λ n. place_of (value_at p.extensions n)) (undeclared p.unknown)
 
 -- one level of a value
 abbrev pub value_step : Value-F MessageTree ValueTree ValueTree MessageTree → ValueTree
@@ -85,11 +88,13 @@ message_step m = branch m.descriptor m.held
 
 -- a value, at each depth
 abbrev pub tree : Value → ValueTree
-tree = fold-Value MessageTree ValueTree ValueTree MessageTree held_step value_step message_step parts_step
+tree = fold-Value MessageTree ValueTree ValueTree MessageTree held_step value_step
+    message_step parts_step
 
 -- what a message holds, at each depth
 abbrev pub held_tree : Held → MessageTree
-held_tree = fold-Held MessageTree ValueTree ValueTree MessageTree held_step value_step message_step parts_step
+held_tree = fold-Held MessageTree ValueTree ValueTree MessageTree held_step value_step
+    message_step parts_step
 
 -- what stands under each number
 abbrev pub places : List (ℕ × Value) → ℕ → Place
@@ -97,7 +102,8 @@ places entries = λ n. place_of (option_map tree (value_at entries n))
 
 -- the parts of a message, at each depth
 abbrev pub parts_tree : Parts → MessageTree
-parts_tree p = parts (places p.fields) p.choices.members (places p.extensions) (undeclared p.unknown)
+parts_tree p = parts (places p.fields) p.choices.members (places p.extensions)
+    (undeclared p.unknown)
 
 -- an entry of a map, at each depth
 abbrev pub entry_tree : MapKey × Value → Single × ValueTree

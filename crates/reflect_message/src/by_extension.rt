@@ -20,9 +20,13 @@ use std::alloc::AllocError;
 impl<'p> DynamicMessage<'p> {
     /// The extension, one of the message's type, is set. Takes no memory.
     pub fn has_extension(&self, extension: &ExtensionDescriptor<'p>) -> bool
-        ensures held { IsTrue result → IsSome (value_at (extensions_of self.now) (extension_type extension.now).number) }
-        ensures presence { (extension_type extension.now).presence ≡ true → IsSome (value_at (extensions_of self.now) (extension_type extension.now).number) → IsTrue result }
-        ensures set { result ≡ is_held (extension_pool extension.now) (extension_type extension.now) (value_at (extensions_of self.now) (extension_type extension.now).number) }
+        ensures held { IsTrue result → IsSome
+            (value_at (extensions_of self.now) (extension_type extension.now).number) }
+        ensures presence { (extension_type extension.now).presence ≡ true
+            → IsSome (value_at (extensions_of self.now) (extension_type extension.now).number)
+            → IsTrue result }
+        ensures set { result ≡ is_held (extension_pool extension.now) (extension_type extension.now)
+            (value_at (extensions_of self.now) (extension_type extension.now).number) }
     {
         content::is_set(self.extension_value(extension.number()), extension)
     }
@@ -32,7 +36,8 @@ impl<'p> DynamicMessage<'p> {
         &self,
         extension: &ExtensionDescriptor<'p>,
     ) -> Result<FieldRef<'_, 'p>, AllocError>
-        ensures { IfOk result (Shows (extension_pool extension.now) (extension_type extension.now) (value_at (extensions_of self.now) (extension_type extension.now).number)) }
+        ensures { IfOk result (Shows (extension_pool extension.now) (extension_type extension.now)
+            (value_at (extensions_of self.now) (extension_type extension.now).number)) }
     {
         content::lend(
             self.allocator(),
@@ -41,13 +46,15 @@ impl<'p> DynamicMessage<'p> {
         )
     }
 
-    /// What the extension, one of the message's type, holds, to be changed. One that is not set gets its default. A refusal
-    /// leaves the message.
+    /// What the extension, one of the message's type, holds, to be changed. One that is not set
+    /// gets its default. A refusal leaves the message.
     pub fn get_extension_mut(
         &mut self,
         extension: &ExtensionDescriptor<'p>,
     ) -> Result<&mut Value<'p>, AllocError>
-        ensures { IfOk result (λ r. IsHeldOrDefault (extension_pool extension.now) (extension_type extension.now) (value_at (extensions_of self.old) (extension_type extension.now).number) r.now) }
+        ensures { IfOk result (λ r. IsHeldOrDefault (extension_pool extension.now)
+            (extension_type extension.now)
+            (value_at (extensions_of self.old) (extension_type extension.now).number) r.now) }
     {
         let default = default_of(self.allocator(), extension)?;
         self.fill_extension(extension, default)?;
@@ -57,15 +64,18 @@ impl<'p> DynamicMessage<'p> {
         }
     }
 
-    /// Puts the default where the extension, one of the message's type, holds nothing: what `get_extension_mut` does before
-    /// it lends the value. A refusal leaves the message.
+    /// Puts the default where the extension, one of the message's type, holds nothing: what
+    /// `get_extension_mut` does before it lends the value. A refusal leaves the message.
     fn fill_extension(
         &mut self,
         extension: &ExtensionDescriptor<'p>,
         default: Value<'p>,
     ) -> Result<(), AllocError>
         ensures type_stays { self.new.descriptor ≡ self.old.descriptor }
-        ensures ok { OnOk result (UpdatesExtension self.old self.new (extension_type extension.now).number (Some (unwrap_or (value_at (extensions_of self.old) (extension_type extension.now).number) default.entry))) }
+        ensures ok { OnOk result (UpdatesExtension self.old self.new
+            (extension_type extension.now).number
+            (Some (unwrap_or (value_at (extensions_of self.old)
+            (extension_type extension.now).number) default.entry))) }
         ensures err { OnErr result (extensions_of self.new ≡ extensions_of self.old) }
         ensures fields { fields_of self.new ≡ fields_of self.old }
         ensures unknown { unknown_of self.new ≡ unknown_of self.old }
@@ -76,15 +86,16 @@ impl<'p> DynamicMessage<'p> {
         outcome
     }
 
-    /// Sets the extension, one of the message's type, to a value that suits it, over what it held. A refusal leaves the
-    /// message.
+    /// Sets the extension, one of the message's type, to a value that suits it, over what it held.
+    /// A refusal leaves the message.
     pub fn set_extension(
         &mut self,
         extension: &ExtensionDescriptor<'p>,
         value: Value<'p>,
     ) -> Result<(), AllocError>
         ensures type_stays { self.new.descriptor ≡ self.old.descriptor }
-        ensures ok { OnOk result (UpdatesExtension self.old self.new (extension_type extension.now).number (Some value.entry)) }
+        ensures ok { OnOk result (UpdatesExtension self.old self.new
+            (extension_type extension.now).number (Some value.entry)) }
         ensures err { OnErr result (extensions_of self.new ≡ extensions_of self.old) }
         ensures fields { fields_of self.new ≡ fields_of self.old }
         ensures unknown { unknown_of self.new ≡ unknown_of self.old }
@@ -105,12 +116,18 @@ impl<'p> DynamicMessage<'p> {
         }
     }
 
-    /// Unsets the extension, one of the message's type, and gives what it held, if it was set. Takes no memory.
+    /// Unsets the extension, one of the message's type, and gives what it held, if it was set.
+    /// Takes no memory.
     pub fn take_extension(&mut self, extension: &ExtensionDescriptor<'p>) -> Option<Value<'p>>
-        ensures updates { UpdatesExtension self.old self.new (extension_type extension.now).number None }
-        ensures held { IfSome result (λ v. value_at (extensions_of self.old) (extension_type extension.now).number ≡ Some v) }
-        ensures presence { (extension_type extension.now).presence ≡ true → result ≡ value_at (extensions_of self.old) (extension_type extension.now).number }
-        ensures taken { result ≡ held_if_set (extension_pool extension.now) (extension_type extension.now) (value_at (extensions_of self.old) (extension_type extension.now).number) }
+        ensures updates { UpdatesExtension self.old self.new
+            (extension_type extension.now).number None }
+        ensures held { IfSome result (λ v. value_at (extensions_of self.old)
+            (extension_type extension.now).number ≡ Some v) }
+        ensures presence { (extension_type extension.now).presence ≡ true → result
+            ≡ value_at (extensions_of self.old) (extension_type extension.now).number }
+        ensures taken { result ≡ held_if_set (extension_pool extension.now)
+            (extension_type extension.now)
+            (value_at (extensions_of self.old) (extension_type extension.now).number) }
     {
         match self.block() {
             Some(mut parts) => {

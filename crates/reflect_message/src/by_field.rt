@@ -21,13 +21,16 @@ use reflect_pool::FieldDescriptor;
 use std::alloc::AllocError;
 
 impl<'p> DynamicMessage<'p> {
-    /// The field, one of the message's type, is set: it has presence and was set, or it holds something else than its
-    /// default. Takes no memory.
+    /// The field, one of the message's type, is set: it has presence and was set, or it holds
+    /// something else than its default. Takes no memory.
     pub fn has_field(&self, field: &FieldDescriptor<'p>) -> bool
         requires { Declares self.now.descriptor field.now }
-        ensures held { IsTrue result → IsSome (value_at (fields_of self.now) (field_type field.now).number) }
-        ensures presence { (field_type field.now).presence ≡ true → IsSome (value_at (fields_of self.now) (field_type field.now).number) → IsTrue result }
-        ensures set { result ≡ is_held (field_pool field.now) (field_type field.now) (value_at (fields_of self.now) (field_type field.now).number) }
+        ensures held { IsTrue result → IsSome
+            (value_at (fields_of self.now) (field_type field.now).number) }
+        ensures presence { (field_type field.now).presence ≡ true
+            → IsSome (value_at (fields_of self.now) (field_type field.now).number) → IsTrue result }
+        ensures set { result ≡ is_held (field_pool field.now) (field_type field.now)
+            (value_at (fields_of self.now) (field_type field.now).number) }
     {
         content::is_set(self.field_value(field.number()), field)
     }
@@ -35,19 +38,22 @@ impl<'p> DynamicMessage<'p> {
     /// What the field, one of the message's type, holds, or its default.
     pub fn get_field(&self, field: &FieldDescriptor<'p>) -> Result<FieldRef<'_, 'p>, AllocError>
         requires { Declares self.now.descriptor field.now }
-        ensures { IfOk result (Shows (field_pool field.now) (field_type field.now) (value_at (fields_of self.now) (field_type field.now).number)) }
+        ensures { IfOk result (Shows (field_pool field.now) (field_type field.now)
+            (value_at (fields_of self.now) (field_type field.now).number)) }
     {
         content::lend(self.allocator(), self.field_value(field.number()), field)
     }
 
-    /// What the field, one of the message's type, holds, to be changed. A field that is not set gets its default, and the
-    /// other members of its oneof are unset. A refusal leaves the message.
+    /// What the field, one of the message's type, holds, to be changed. A field that is not set
+    /// gets its default, and the other members of its oneof are unset. A refusal leaves the
+    /// message.
     pub fn get_field_mut(
         &mut self,
         field: &FieldDescriptor<'p>,
     ) -> Result<&mut Value<'p>, AllocError>
         requires { Declares self.old.descriptor field.now }
-        ensures { IfOk result (λ r. IsHeldOrDefault (field_pool field.now) (field_type field.now) (value_at (fields_of self.old) (field_type field.now).number) r.now) }
+        ensures { IfOk result (λ r. IsHeldOrDefault (field_pool field.now) (field_type field.now)
+            (value_at (fields_of self.old) (field_type field.now).number) r.now) }
     {
         let default = default_of(self.allocator(), field)?;
         self.fill_field(field, default)?;
@@ -57,16 +63,20 @@ impl<'p> DynamicMessage<'p> {
         }
     }
 
-    /// Puts the default where the field, one of the message's type, holds nothing, and unsets the other members of its oneof:
-    /// what `get_field_mut` does before it lends the value. A refusal leaves the message.
+    /// Puts the default where the field, one of the message's type, holds nothing, and unsets the
+    /// other members of its oneof: what `get_field_mut` does before it lends the value. A refusal
+    /// leaves the message.
     fn fill_field(
         &mut self,
         field: &FieldDescriptor<'p>,
         default: Value<'p>,
     ) -> Result<(), AllocError>
         ensures type_stays { self.new.descriptor ≡ self.old.descriptor }
-        ensures ok { OnOk result (SetsField self.old self.new field.now (unwrap_or (value_at (fields_of self.old) (field_type field.now).number) default.entry)) }
-        ensures exclusive { Owns self.old.descriptor field.now → IsExclusive self.old → IsExclusive self.new }
+        ensures ok { OnOk result (SetsField self.old self.new field.now
+            (unwrap_or (value_at (fields_of self.old) (field_type field.now).number)
+            default.entry)) }
+        ensures exclusive { Owns self.old.descriptor field.now → IsExclusive self.old
+            → IsExclusive self.new }
         ensures err { OnErr result (fields_of self.new ≡ fields_of self.old) }
         ensures extensions { extensions_of self.new ≡ extensions_of self.old }
         ensures unknown { unknown_of self.new ≡ unknown_of self.old }
@@ -77,8 +87,8 @@ impl<'p> DynamicMessage<'p> {
         outcome
     }
 
-    /// Sets the field, one of the message's type, to a value that suits it, over what it held; the other members of its
-    /// oneof are unset. A refusal leaves the message.
+    /// Sets the field, one of the message's type, to a value that suits it, over what it held; the
+    /// other members of its oneof are unset. A refusal leaves the message.
     pub fn set_field(
         &mut self,
         field: &FieldDescriptor<'p>,
@@ -87,7 +97,8 @@ impl<'p> DynamicMessage<'p> {
         requires { Declares self.old.descriptor field.now }
         ensures type_stays { self.new.descriptor ≡ self.old.descriptor }
         ensures ok { OnOk result (SetsField self.old self.new field.now value.entry) }
-        ensures exclusive { Owns self.old.descriptor field.now → IsExclusive self.old → IsExclusive self.new }
+        ensures exclusive { Owns self.old.descriptor field.now → IsExclusive self.old
+            → IsExclusive self.new }
         ensures err { OnErr result (fields_of self.new ≡ fields_of self.old) }
         ensures extensions { extensions_of self.new ≡ extensions_of self.old }
         ensures unknown { unknown_of self.new ≡ unknown_of self.old }
@@ -110,14 +121,18 @@ impl<'p> DynamicMessage<'p> {
         }
     }
 
-    /// Unsets the field, one of the message's type, and gives what it held, if it was set. Takes no memory.
+    /// Unsets the field, one of the message's type, and gives what it held, if it was set. Takes no
+    /// memory.
     pub fn take_field(&mut self, field: &FieldDescriptor<'p>) -> Option<Value<'p>>
         requires { Declares self.old.descriptor field.now }
         ensures updates { UpdatesField self.old self.new (field_type field.now).number None }
         ensures exclusive { IsExclusive self.old → IsExclusive self.new }
-        ensures held { IfSome result (λ v. value_at (fields_of self.old) (field_type field.now).number ≡ Some v) }
-        ensures presence { (field_type field.now).presence ≡ true → result ≡ value_at (fields_of self.old) (field_type field.now).number }
-        ensures taken { result ≡ held_if_set (field_pool field.now) (field_type field.now) (value_at (fields_of self.old) (field_type field.now).number) }
+        ensures held { IfSome result (λ v. value_at (fields_of self.old)
+            (field_type field.now).number ≡ Some v) }
+        ensures presence { (field_type field.now).presence ≡ true → result
+            ≡ value_at (fields_of self.old) (field_type field.now).number }
+        ensures taken { result ≡ held_if_set (field_pool field.now) (field_type field.now)
+            (value_at (fields_of self.old) (field_type field.now).number) }
     {
         match self.block() {
             Some(mut parts) => {

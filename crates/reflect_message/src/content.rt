@@ -17,7 +17,8 @@ use std::alloc::{AllocError, Global};
 pub fn is_set<'p, F: FieldDescriptorLike<'p>>(held: Option<&Value<'p>>, field: &F) -> bool
     ensures held { IsTrue result → IsSome held.entry }
     ensures presence { (F.says field.now).presence ≡ true → IsSome held.entry → IsTrue result }
-    ensures set { result ≡ is_held (F.pool field.now) (F.says field.now) (option_copied held.entry) }
+    ensures set { result ≡ is_held (F.pool field.now) (F.says field.now)
+        (option_copied held.entry) }
 {
     match held {
         Some(value) => is_present(value, field),
@@ -46,8 +47,10 @@ pub fn take<'p, F: FieldDescriptorLike<'p>>(
 ) -> Option<Value<'p>>
     ensures updates { Updates content.old content.new (F.says field.now).number None }
     ensures held { IfSome result (λ v. value_at content.old (F.says field.now).number ≡ Some v) }
-    ensures presence { (F.says field.now).presence ≡ true → result ≡ value_at content.old (F.says field.now).number }
-    ensures taken { result ≡ held_if_set (F.pool field.now) (F.says field.now) (value_at content.old (F.says field.now).number) }
+    ensures presence { (F.says field.now).presence ≡ true → result
+        ≡ value_at content.old (F.says field.now).number }
+    ensures taken { result ≡ held_if_set (F.pool field.now) (F.says field.now)
+        (value_at content.old (F.says field.now).number) }
 {
     let held = content.take(field.number());
     if is_set(held.as_ref(), field) {

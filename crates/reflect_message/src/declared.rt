@@ -1,4 +1,5 @@
-//! The fields and extensions of a type that its messages hold: all but those of floating-point numbers and of maps of such.
+//! The fields and extensions of a type that its messages hold: all but those of floating-point
+//! numbers and of maps of such.
 
 ghost use Rattle.std.specs.Prelude.{◌≡◌, ◌≢◌, IfSome, IfNone, option_map};
 ghost use Rattle.reflect_pool.specs.FieldsLeft.{field_type};
@@ -17,8 +18,10 @@ pub fn declared_field<'p>(
     ensures message { IfSome result (λ f. f.message ≡ descriptor.entry) }
     ensures number { IfSome result (λ f. (field_type f).number ≡ number) }
     ensures owns { IfSome result (λ f. Owns descriptor.entry f) }
-    ensures none { IfNone result ((f : FieldDescriptor) → Owns descriptor.entry f → (field_type f).number ≢ number) }
-    ensures known { option_map field_type result ≡ known_field descriptor.entry.pool.now descriptor.entry.index number }
+    ensures none { IfNone result ((f : FieldDescriptor) → Owns descriptor.entry f
+        → (field_type f).number ≢ number) }
+    ensures known { option_map field_type result
+        ≡ known_field descriptor.entry.pool.now descriptor.entry.index number }
 {
     match descriptor.get_field(number) {
         Some(field) => {
@@ -39,8 +42,10 @@ pub fn declared_extension<'p>(
 ) -> Option<ExtensionDescriptor<'p>>
     ensures owns { IfSome result (λ x. OwnsExtension descriptor.entry x) }
     ensures number { IfSome result (λ x. (extension_type x).number ≡ number) }
-    ensures none { IfNone result ((x : ExtensionDescriptor) → OwnsExtension descriptor.entry x → (extension_type x).number ≢ number) }
-    ensures known { option_map extension_type result ≡ known_extension descriptor.entry.pool.now descriptor.entry.index number }
+    ensures none { IfNone result ((x : ExtensionDescriptor) → OwnsExtension descriptor.entry x
+        → (extension_type x).number ≢ number) }
+    ensures known { option_map extension_type result
+        ≡ known_extension descriptor.entry.pool.now descriptor.entry.index number }
 {
     match descriptor.get_extension(number) {
         Some(extension) => {

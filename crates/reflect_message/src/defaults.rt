@@ -19,13 +19,16 @@ use reflect_scalar::{FieldDescriptorLike, Scalar, default_scalar};
 use std::alloc::{AllocError, Global};
 use std::collections::BTreeMap;
 
-/// What one value of a field or an extension is where none is set: an empty message, else what its declaration or its kind says.
+/// What one value of a field or an extension is where none is set: an empty message, else what its
+/// declaration or its kind says.
 pub fn default_one<'p, F: FieldDescriptorLike<'p>>(
     alloc: Global,
     field: &F,
 ) -> Result<Value<'p>, AllocError>
-    ensures scalar { IfOk result (λ v. IsScalarType (F.says field.now).kind → single v ≡ default_in (F.pool field.now) (F.says field.now)) }
-    ensures message { IfOk result (λ v. IsMessageType (F.says field.now).kind → (m : DynamicMessage) × (message_in v ≡ Some m) × IsStart (F.pool field.now) (F.says field.now).kind None m) }
+    ensures scalar { IfOk result (λ v. IsScalarType (F.says field.now).kind → single v
+        ≡ default_in (F.pool field.now) (F.says field.now)) }
+    ensures message { IfOk result (λ v. IsMessageType (F.says field.now).kind → (m : DynamicMessage)
+        × (message_in v ≡ Some m) × IsStart (F.pool field.now) (F.says field.now).kind None m) }
 {
     match field.kind() {
         Kind::Message(inner) => Ok(Value::Message(DynamicMessage::new(alloc, inner))),
@@ -36,7 +39,8 @@ pub fn default_one<'p, F: FieldDescriptorLike<'p>>(
     }
 }
 
-/// The default of a field or an extension: empty of a list, a map or a message, else what its declaration or its kind says.
+/// The default of a field or an extension: empty of a list, a map or a message, else what its
+/// declaration or its kind says.
 pub fn default_of<'p, F: FieldDescriptorLike<'p>>(
     alloc: Global,
     field: &F,
@@ -57,7 +61,8 @@ pub fn is_default_scalar<'p, F: FieldDescriptorLike<'p>>(
     value: Option<Scalar<'_>>,
     field: &F,
 ) -> bool
-    ensures { result ≡ is_default (F.pool field.now) (F.says field.now) (option_map scalar_view value.entry) }
+    ensures { result ≡ is_default (F.pool field.now) (F.says field.now)
+        (option_map scalar_view value.entry) }
 {
     match (value, default_scalar(field)) {
         (Some(value), Some(default)) => value == default,
@@ -65,15 +70,18 @@ pub fn is_default_scalar<'p, F: FieldDescriptorLike<'p>>(
     }
 }
 
-/// A field or an extension that holds the single value is set: it has presence, or the value is not its default.
+/// A field or an extension that holds the single value is set: it has presence, or the value is not
+/// its default.
 pub fn is_present_scalar<'p, F: FieldDescriptorLike<'p>>(value: Scalar<'_>, field: &F) -> bool
-    ensures { result ≡ ((F.says field.now).presence || not (is_default (F.pool field.now) (F.says field.now) (Some (scalar_view value.entry)))) }
+    ensures { result ≡ ((F.says field.now).presence
+        || not (is_default (F.pool field.now) (F.says field.now)
+        (Some (scalar_view value.entry)))) }
 {
     field.supports_presence() || !is_default_scalar(Some(value), field)
 }
 
-/// A field or an extension that holds the value is set: it has presence, or the value is not its default. A message always
-/// is content.
+/// A field or an extension that holds the value is set: it has presence, or the value is not its
+/// default. A message always is content.
 pub fn is_present<'p, F: FieldDescriptorLike<'p>>(value: &Value<'p>, field: &F) -> bool
     ensures presence { (F.says field.now).presence ≡ true → IsTrue result }
     ensures set { result ≡ is_set (F.pool field.now) (F.says field.now) (form_of value.now) }
@@ -88,8 +96,8 @@ pub fn is_present<'p, F: FieldDescriptorLike<'p>>(value: &Value<'p>, field: &F) 
 }
 
 impl<'p> Value<'p> {
-    /// The default of a field that holds one value of the kind: zero, false or empty, of an enum its first value. Takes no
-    /// memory.
+    /// The default of a field that holds one value of the kind: zero, false or empty, of an enum
+    /// its first value. Takes no memory.
     ///
     /// Messages hold no floating-point numbers; of these kinds it is the bits of zero.
     pub fn default_value(alloc: Global, kind: &Kind<'p>) -> Value<'p> {
@@ -108,7 +116,8 @@ impl<'p> Value<'p> {
         }
     }
 
-    /// The default of the field: empty of a list or a map, else what its declaration or its kind says.
+    /// The default of the field: empty of a list or a map, else what its declaration or its kind
+    /// says.
     pub fn default_value_for_field(
         alloc: Global,
         field: &FieldDescriptor<'p>,
@@ -123,7 +132,8 @@ impl<'p> Value<'p> {
         alloc: Global,
         extension: &ExtensionDescriptor<'p>,
     ) -> Result<Value<'p>, AllocError>
-        ensures { IfOk result (IsDefault (extension_pool extension.now) (extension_type extension.now)) }
+        ensures { IfOk result (IsDefault (extension_pool extension.now)
+            (extension_type extension.now)) }
     {
         default_of(alloc, extension)
     }

@@ -63,7 +63,8 @@ impl<'p> DynamicMessage<'p> {
         ensures fields { IfOk result (λ m. AreCopies (fields_of self.now) (fields_of m)) }
         ensures choices { IfOk result (λ m. choices_of m ≡ choices_of self.now) }
         ensures content { IfOk result (λ m. held_tree m.held ≡ held_tree self.now.held) }
-        ensures extensions { IfOk result (λ m. AreCopies (extensions_of self.now) (extensions_of m)) }
+        ensures extensions { IfOk result
+            (λ m. AreCopies (extensions_of self.now) (extensions_of m)) }
         ensures unknown { IfOk result (λ m. unknown_of m ≡ unknown_of self.now) }
     {
         Ok(DynamicMessage {
@@ -73,7 +74,8 @@ impl<'p> DynamicMessage<'p> {
         })
     }
 
-    /// The field is one of the message's type, and one that messages hold: no floating-point number, and no map of such.
+    /// The field is one of the message's type, and one that messages hold: no floating-point
+    /// number, and no map of such.
     pub fn declares(&self, field: &FieldDescriptor<'p>) -> bool {
         field.parent_message().is_same(&self.descriptor) && !holds_floats(field)
     }
@@ -127,10 +129,15 @@ impl<'p> DynamicMessage<'p> {
     pub fn block(&mut self) -> Option<Box<Parts<'p>>>
         ensures type_stays { self.new.descriptor ≡ self.old.descriptor }
         ensures fields { IfSome result (λ block. block.value.fields ≡ fields_of self.old) }
-        ensures choices { IfSome result (λ block. block.value.choices.members ≡ choices_of self.old) }
-        ensures extensions { IfSome result (λ block. block.value.extensions ≡ extensions_of self.old) }
-        ensures unknown { IfSome result (λ block. undeclared block.value.unknown ≡ unknown_of self.old) }
-        ensures nothing { IfNone result ((fields_of self.old ≡ []) × (choices_of self.old ≡ []) × (extensions_of self.old ≡ []) × (unknown_of self.old ≡ [])) }
+        ensures choices { IfSome result
+            (λ block. block.value.choices.members ≡ choices_of self.old) }
+        ensures extensions { IfSome result
+            (λ block. block.value.extensions ≡ extensions_of self.old) }
+        ensures unknown { IfSome result
+            (λ block. undeclared block.value.unknown ≡ unknown_of self.old) }
+        ensures nothing { IfNone result
+            ((fields_of self.old ≡ []) × (choices_of self.old ≡ []) × (extensions_of self.old ≡ [])
+            × (unknown_of self.old ≡ [])) }
         ensures none { IfNone result (self.new ≡ self.old) }
     {
         match mem::replace(&mut self.held, Held::Nothing) {

@@ -26,9 +26,12 @@ pub trait MessageParts<'p> {
     fn take_block(&mut self) -> Result<Box<Parts<'p>>, AllocError>
         ensures type_stays { (message self.new).descriptor ≡ (message self.old).descriptor }
         ensures fields { IfOk result (λ block. block.value.fields ≡ fields_of (message self.old)) }
-        ensures choices { IfOk result (λ block. block.value.choices.members ≡ choices_of (message self.old)) }
-        ensures extensions { IfOk result (λ block. block.value.extensions ≡ extensions_of (message self.old)) }
-        ensures unknown { IfOk result (λ block. undeclared block.value.unknown ≡ unknown_of (message self.old)) }
+        ensures choices { IfOk result (λ block. block.value.choices.members
+            ≡ choices_of (message self.old)) }
+        ensures extensions { IfOk result
+            (λ block. block.value.extensions ≡ extensions_of (message self.old)) }
+        ensures unknown { IfOk result (λ block. undeclared block.value.unknown
+            ≡ unknown_of (message self.old)) }
         ensures err { OnErr result (self.new ≡ self.old) };
 
     /// Lets the message hold what the block does, and nothing else.

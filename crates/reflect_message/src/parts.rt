@@ -16,8 +16,8 @@ use reflect_entries::{Choices, Entries, UnknownRecords};
 use reflect_pool::FieldDescriptor;
 use std::alloc::{AllocError, Global};
 
-/// Where a message keeps its parts: in a block of their own, so that a value of a list takes little room, and none before
-/// something is put.
+/// Where a message keeps its parts: in a block of their own, so that a value of a list takes little
+/// room, and none before something is put.
 #[derive(Drop)]
 #[cycle(value)]
 pub enum Held<'p> {
@@ -32,7 +32,8 @@ impl<'p> Held<'p> {
         ensures fields { IfOk result (λ copy. AreCopies (fields_in self.now) (fields_in copy)) }
         ensures choices { IfOk result (λ copy. choices_in copy ≡ choices_in self.now) }
         ensures content { IfOk result (λ copy. held_tree copy ≡ held_tree self.now) }
-        ensures extensions { IfOk result (λ copy. AreCopies (extensions_in self.now) (extensions_in copy)) }
+        ensures extensions { IfOk result
+            (λ copy. AreCopies (extensions_in self.now) (extensions_in copy)) }
         ensures unknown { IfOk result (λ copy. unknown_in copy ≡ unknown_in self.now) }
     {
         match self {
@@ -79,7 +80,8 @@ impl<'p> Parts<'p> {
         ensures choices { IfOk result (λ copy. copy.choices.members ≡ self.now.choices.members) }
         ensures content { IfOk result (λ copy. parts_tree copy ≡ parts_tree self.now) }
         ensures extensions { IfOk result (λ copy. AreCopies self.now.extensions copy.extensions) }
-        ensures unknown { IfOk result (λ copy. undeclared copy.unknown ≡ undeclared self.now.unknown) }
+        ensures unknown { IfOk result (λ copy. undeclared copy.unknown
+            ≡ undeclared self.now.unknown) }
     {
         Ok(Parts {
             fields: entries_clone(alloc, &self.fields)?,
@@ -89,18 +91,23 @@ impl<'p> Parts<'p> {
         })
     }
 
-    /// Puts the default where the field holds nothing, and unsets the other members of its oneof. A refusal leaves what is
-    /// held.
+    /// Puts the default where the field holds nothing, and unsets the other members of its oneof. A
+    /// refusal leaves what is held.
     pub fn fill_field(
         &mut self,
         field: &FieldDescriptor<'p>,
         default: Value<'p>,
     ) -> Result<(), AllocError>
-        ensures here { OnOk result (value_at self.new.fields (field_type field.now).number ≡ Some (unwrap_or (value_at self.old.fields (field_type field.now).number) default.entry)) }
-        ensures changes { OnOk result (Changes field.now self.old.choices.members self.old.fields self.new.fields) }
-        ensures chooses { OnOk result (Chooses field.now self.old.choices.members self.new.choices.members) }
+        ensures here { OnOk result (value_at self.new.fields (field_type field.now).number
+            ≡ Some (unwrap_or (value_at self.old.fields (field_type field.now).number)
+            default.entry)) }
+        ensures changes { OnOk result (Changes field.now self.old.choices.members self.old.fields
+            self.new.fields) }
+        ensures chooses { OnOk result (Chooses field.now self.old.choices.members
+            self.new.choices.members) }
         ensures err { OnErr result (self.new.fields ≡ self.old.fields) }
-        ensures room { OnErr result (MakesRoom field.now self.old.choices.members self.new.choices.members) }
+        ensures room { OnErr result (MakesRoom field.now self.old.choices.members
+            self.new.choices.members) }
         ensures extensions { self.new.extensions ≡ self.old.extensions }
         ensures unknown { self.new.unknown ≡ self.old.unknown }
     {
@@ -110,9 +117,11 @@ impl<'p> Parts<'p> {
         Ok(())
     }
 
-    /// Puts the default where the extension of the number holds nothing. A refusal leaves what is held.
+    /// Puts the default where the extension of the number holds nothing. A refusal leaves what is
+    /// held.
     pub fn fill_extension(&mut self, number: u32, default: Value<'p>) -> Result<(), AllocError>
-        ensures updates { OnOk result (Updates self.old.extensions self.new.extensions number (Some (unwrap_or (value_at self.old.extensions number) default.entry))) }
+        ensures updates { OnOk result (Updates self.old.extensions self.new.extensions number
+            (Some (unwrap_or (value_at self.old.extensions number) default.entry))) }
         ensures err { OnErr result (self.new.extensions ≡ self.old.extensions) }
         ensures fields { self.new.fields ≡ self.old.fields }
         ensures choices { self.new.choices ≡ self.old.choices }
@@ -121,17 +130,22 @@ impl<'p> Parts<'p> {
         fill(&mut self.extensions, number, default)
     }
 
-    /// Sets the field over what it held, and unsets the other members of its oneof. A refusal leaves what is held.
+    /// Sets the field over what it held, and unsets the other members of its oneof. A refusal
+    /// leaves what is held.
     pub fn set_field(
         &mut self,
         field: &FieldDescriptor<'p>,
         value: Value<'p>,
     ) -> Result<(), AllocError>
-        ensures here { OnOk result (value_at self.new.fields (field_type field.now).number ≡ Some value.entry) }
-        ensures changes { OnOk result (Changes field.now self.old.choices.members self.old.fields self.new.fields) }
-        ensures chooses { OnOk result (Chooses field.now self.old.choices.members self.new.choices.members) }
+        ensures here { OnOk result (value_at self.new.fields (field_type field.now).number
+            ≡ Some value.entry) }
+        ensures changes { OnOk result (Changes field.now self.old.choices.members self.old.fields
+            self.new.fields) }
+        ensures chooses { OnOk result (Chooses field.now self.old.choices.members
+            self.new.choices.members) }
         ensures err { OnErr result (self.new.fields ≡ self.old.fields) }
-        ensures room { OnErr result (MakesRoom field.now self.old.choices.members self.new.choices.members) }
+        ensures room { OnErr result (MakesRoom field.now self.old.choices.members
+            self.new.choices.members) }
         ensures extensions { self.new.extensions ≡ self.old.extensions }
         ensures unknown { self.new.unknown ≡ self.old.unknown }
     {
@@ -141,12 +155,14 @@ impl<'p> Parts<'p> {
         Ok(())
     }
 
-    /// Unsets the other members of the oneof of a field, for whose choice there is room. Numbers that
-    /// ascend still do.
+    /// Unsets the other members of the oneof of a field, for whose choice there is room. Numbers
+    /// that ascend still do.
     pub fn clear_siblings(&mut self, field: &FieldDescriptor<'p>)
         ensures unsets { Unsets field.now self.old.choices.members self.old.fields self.new.fields }
         ensures ascending { IsAscending self.old.fields → IsAscending self.new.fields }
-        ensures chooses { ((first : ℕ) → first_member_of field.now ≡ Some first → IsSome (value_at self.old.choices.members first)) → Chooses field.now self.old.choices.members self.new.choices.members }
+        ensures chooses { ((first : ℕ) → first_member_of field.now ≡ Some first
+            → IsSome (value_at self.old.choices.members first))
+            → Chooses field.now self.old.choices.members self.new.choices.members }
         ensures extensions { self.new.extensions ≡ self.old.extensions }
         ensures unknown { self.new.unknown ≡ self.old.unknown }
     {
@@ -166,7 +182,8 @@ fn entries_clone<'p>(
     let mut copy = Entries::new(alloc);
     copy.reserve(entries.len())?;
     'entries: for (number, value) in entries.numbers().iter().zip(entries.values()) {
-        // (of one number the first value counts, as for lookups: a borrow does not tell that numbers ascend)
+        // (of one number the first value counts, as for lookups: a borrow does not tell that
+        // numbers ascend)
         fill(&mut copy, *number, value.clone()?)?;
     }
     Ok(copy)
@@ -178,7 +195,8 @@ fn fill<'p>(
     number: u32,
     value: Value<'p>,
 ) -> Result<(), AllocError>
-    ensures updates { OnOk result (Updates entries.old entries.new number (Some (unwrap_or (value_at entries.old number) value.entry))) }
+    ensures updates { OnOk result (Updates entries.old entries.new number
+        (Some (unwrap_or (value_at entries.old number) value.entry))) }
     ensures err { OnErr result (entries.new ≡ entries.old) }
 {
     entries.slot(number, value)?;

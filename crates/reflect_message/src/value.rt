@@ -89,7 +89,8 @@ fn list_clone<'p>(values: &Vec<Value<'p>>) -> Result<Vec<Value<'p>>, AllocError>
 fn map_clone<'p>(
     entries: &BTreeMap<MapKey, Value<'p>>,
 ) -> Result<BTreeMap<MapKey, Value<'p>>, AllocError>
-    ensures { IfOk result (λ copy. map entry_tree copy.entries ≡ map entry_tree entries.now.entries) }
+    ensures { IfOk result (λ copy. map entry_tree copy.entries
+        ≡ map entry_tree entries.now.entries) }
 {
     let mut copy = BTreeMap::emptied(entries)?;
     for (key, value) in entries.iter() {

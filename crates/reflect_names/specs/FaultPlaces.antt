@@ -33,16 +33,20 @@ moved f (kind.MissingRequiredField field found) = kind.MissingRequiredField fiel
 moved f (kind.InvalidImportIndex index found) = kind.InvalidImportIndex index (f found)
 moved f (kind.InvalidFieldNumber number found) = kind.InvalidFieldNumber number (f found)
 moved f (kind.DuplicateFieldNumber number found) = kind.DuplicateFieldNumber number (f found)
-moved f (kind.NumberInReservedRange number start end found) = kind.NumberInReservedRange number start end (f found)
-moved f (kind.NumberInExtensionRange number start end found) = kind.NumberInExtensionRange number start end (f found)
-moved f (kind.ExtensionNumberOutOfRange number message found) = kind.ExtensionNumberOutOfRange number message (f found)
+moved f (kind.NumberInReservedRange number start end found) =
+    kind.NumberInReservedRange number start end (f found)
+moved f (kind.NumberInExtensionRange number start end found) =
+    kind.NumberInExtensionRange number start end (f found)
+moved f (kind.ExtensionNumberOutOfRange number message found) =
+    kind.ExtensionNumberOutOfRange number message (f found)
 moved f (kind.EmptyEnum found) = kind.EmptyEnum (f found)
 moved f (kind.DuplicateEnumNumber number found) = kind.DuplicateEnumNumber number (f found)
 moved f (kind.InvalidProto3EnumDefault found) = kind.InvalidProto3EnumDefault (f found)
 moved f (kind.InvalidFieldDefault value found) = kind.InvalidFieldDefault value (f found)
 moved f (kind.InvalidOneofIndex index found) = kind.InvalidOneofIndex index (f found)
 moved f (kind.BadMapEntry name found) = kind.BadMapEntry name (f found)
-moved f (kind.DuplicateExtensionNumber number message found) = kind.DuplicateExtensionNumber number message (f found)
+moved f (kind.DuplicateExtensionNumber number message found) =
+    kind.DuplicateExtensionNumber number message (f found)
 moved f k = k
 
 -- the place of a fault, if it is one of a file

@@ -47,23 +47,29 @@ fault_view (kind.DuplicateFileName name found) = duplicate_file (string_bytes na
 fault_view (kind.FileNotFound name found) = file_not_found (string_bytes name) (place_of found)
 fault_view (kind.DuplicateName name found) = duplicate_name (string_bytes name) (place_of found)
 fault_view (kind.NameNotFound name found) = name_not_found (string_bytes name) (place_of found)
-fault_view (kind.NameShadowed name full found) = name_shadowed (string_bytes name) (string_bytes full) (place_of found)
+fault_view (kind.NameShadowed name full found) =
+    name_shadowed (string_bytes name) (string_bytes full) (place_of found)
 fault_view (kind.InvalidType name expected found) = invalid_type (place_of found)
 fault_view (kind.UnknownSyntax syntax found) = unknown_syntax (string_bytes syntax) (place_of found)
 fault_view (kind.MissingRequiredField field found) = missing (place_of found)
 fault_view (kind.InvalidImportIndex index found) = bad_import_index index (place_of found)
 fault_view (kind.InvalidFieldNumber number found) = invalid_number number (place_of found)
 fault_view (kind.DuplicateFieldNumber number found) = duplicate_number number (place_of found)
-fault_view (kind.NumberInReservedRange number start end found) = reserved_number number (start, end) (place_of found)
-fault_view (kind.NumberInExtensionRange number start end found) = number_of_extensions number (start, end) (place_of found)
-fault_view (kind.ExtensionNumberOutOfRange number message found) = no_extension_number number (string_bytes message) (place_of found)
+fault_view (kind.NumberInReservedRange number start end found) =
+    reserved_number number (start, end) (place_of found)
+fault_view (kind.NumberInExtensionRange number start end found) =
+    number_of_extensions number (start, end) (place_of found)
+fault_view (kind.ExtensionNumberOutOfRange number message found) =
+    no_extension_number number (string_bytes message) (place_of found)
 fault_view (kind.EmptyEnum found) = empty_enum (place_of found)
 fault_view (kind.DuplicateEnumNumber number found) = duplicate_enum_number number (place_of found)
 fault_view (kind.InvalidProto3EnumDefault found) = bad_first_value (place_of found)
-fault_view (kind.InvalidFieldDefault value found) = bad_default (string_bytes value) (place_of found)
+fault_view (kind.InvalidFieldDefault value found) =
+    bad_default (string_bytes value) (place_of found)
 fault_view (kind.InvalidOneofIndex index found) = bad_oneof_index index (place_of found)
 fault_view (kind.BadMapEntry name found) = bad_map_entry (string_bytes name) (place_of found)
-fault_view (kind.DuplicateExtensionNumber number message found) = duplicate_extension number (string_bytes message) (place_of found)
+fault_view (kind.DuplicateExtensionNumber number message found) =
+    duplicate_extension number (string_bytes message) (place_of found)
 fault_view _ = another
 
 -- where a fault stands, if it is one of a file
@@ -96,11 +102,18 @@ list_of f = map fault_view f.found.items
 
 -- the name of the file of an index, among files the first of which has the index `first`
 abbrev pub name_at : List FileDescriptorProto → ℕ → ℕ → List ℕ
-name_at files first i = cond (nat_le first i) (elim (slice_get files (i - first)) [ None ↦ [] | Some f ↦ text_of f.name ]) []
+name_at files first i = cond (nat_le first i)
+    (elim (slice_get files (i - first)) [ None ↦ [] | Some f ↦ text_of f.name ]) []
 
 -- the places of their records
 abbrev pub batch_places : List FileDescriptorProto → ℕ → ℕ → List ℤ → Place
-batch_places files first i path = record { file = name_at files first i; path = path; span = span_among (locations_at files first i) path }
+batch_places files first i path =
+    record {
+      file = name_at files first i;
+      path = path;
+      span =
+          span_among (locations_at files first i) path;
+    }
 
 abbrev pub file_name : Faults → ℕ → List ℕ
 file_name f i = name_at f.files.now f.first i

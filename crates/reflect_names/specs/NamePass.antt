@@ -9,4 +9,5 @@ use Rattle.reflect_names.specs.Names.{Places, faults_at}
 -- `at` gives the places of each file, `files` the files of names
 abbrev pub faults_along : (ℕ → Places) → (List ℕ → Option ℕ) → Known → List Declaration → List Fault
 faults_along at files known [] = []
-faults_along at files known (d ∷ ds) = faults_at (at d.file) known files d ++ faults_along at files (known_after known d) ds
+faults_along at files known (d ∷ ds) = faults_at (at d.file) known files d
+    ++ faults_along at files (known_after known d) ds

@@ -13,7 +13,9 @@ use Rattle.reflect_names.specs.declared.name_visitor.NameVisitor.{NameVisitor}
 
 pub record Declares (s : NameVisitor) (d : Declaration) (t : NameVisitor) : Type 0 where
   pub known : known_of t.names ≡ known_after (known_of s.names) d
-  pub faults : Adds s.faults t.faults (faults_at (place_at s.faults d.file) (known_of s.names) (λ n. get_by_text s.file_names.now n) d)
+  pub faults : Adds s.faults t.faults
+      (faults_at (place_at s.faults d.file) (known_of s.names)
+      (λ n. get_by_text s.file_names.now n) d)
   pub file_names : t.file_names.now ≡ s.file_names.now
 
 -- the entries of the files before are as they were, and new ones are of this file
@@ -28,8 +30,13 @@ pub record Keeps (file : ℕ) (s t : NameVisitor) : Type 0 where
 pub entries-same : (file : ℕ) (es : List (String Global × Definition)) → KeepsEntries file es es
 entries-same file es = record { below = λ mark le. refl; bound = λ top lt all. all }
 
-pub entries-on : (file : ℕ) (a b c : List (String Global × Definition)) → KeepsEntries file a b → KeepsEntries file b c → KeepsEntries file a c
-entries-on file a b c k l = record { below = λ mark le. l.below mark le ∙ k.below mark le; bound = λ top lt all. l.bound top lt (k.bound top lt all) }
+pub entries-on : (file : ℕ) (a b c : List (String Global × Definition)) → KeepsEntries file a b
+    → KeepsEntries file b c → KeepsEntries file a c
+entries-on file a b c k l = record {
+  below = λ mark le. l.below mark le ∙ k.below mark le;
+  bound =
+      λ top lt all. l.bound top lt (k.bound top lt all);
+}
 
 pub Keeps-same : (file : ℕ) (s : NameVisitor) → Keeps file s s
 Keeps-same file s = record { file_names = refl; entries = entries-same file s.names.entries }
@@ -40,7 +47,8 @@ Keeps-on file s t u k l = record {
   entries = entries-on file s.names.entries t.names.entries u.names.entries k.entries l.entries;
 }
 
--- the entries of the files before are as they were, and new ones are of so many files, the first of which has this index
+-- the entries of the files before are as they were, and new ones are of so many files, the first of
+-- which has this index
 pub record KeepsFrom (first count : ℕ) (old new : List (String Global × Definition)) : Type 0 where
   pub below : (mark : ℕ) → mark ≤ first → below mark new ≡ below mark old
   pub bound : (top : ℕ) → first + count ≤ top → AllBelow top old → AllBelow top new

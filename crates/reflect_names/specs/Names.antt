@@ -28,17 +28,20 @@ lacks at path tag false = missing (at (path ++ (tag ∷ []))) ∷ []
 
 -- a fault where the name is taken
 abbrev pub taken : Places → Known → List ℤ → ℤ → List ℕ → Definition → List Fault
-taken at known path tag name d = cond (is_taken known name d) (duplicate_name name (at (path ++ (tag ∷ []))) ∷ []) []
+taken at known path tag name d =
+    cond (is_taken known name d) (duplicate_name name (at (path ++ (tag ∷ []))) ∷ []) []
 
 -- a declaration's name: taken, or missing
 abbrev pub name_faults : Places → Known → List ℤ → List ℕ → Bool → Definition → List Fault
-name_faults at known path name named d = cond named (taken at known path (pos 1) name d) (lacks at path (pos 1) false)
+name_faults at known path name named d =
+    cond named (taken at known path (pos 1) name d) (lacks at path (pos 1) false)
 
 abbrev pub package_faults : Places → Known → ℕ → List (List ℕ) → List Fault
 package_faults at known file [] = []
 package_faults at known file (s ∷ ss) = elim s [
   | [] ↦ package_faults at known file ss
-  | b ∷ bs ↦ taken at known [] (pos 2) (b ∷ bs) (package_of file) ++ package_faults at (declared known (b ∷ bs) (package_of file)) file ss
+  | b ∷ bs ↦ taken at known [] (pos 2) (b ∷ bs) (package_of file)
+      ++ package_faults at (declared known (b ∷ bs) (package_of file)) file ss
 ]
 
 -- groups, messages and enums have names
@@ -54,10 +57,12 @@ field_faults at path f =
     ++ lacks at path (pos 6) (is_some f.type_name || not (is_named_type f.field_type)))
 
 abbrev pub method_faults : Places → List ℤ → MethodDescriptorProto → List Fault
-method_faults at path m = lacks at path (pos 2) (is_some m.input_type) ++ lacks at path (pos 3) (is_some m.output_type)
+method_faults at path m = lacks at path (pos 2) (is_some m.input_type)
+    ++ lacks at path (pos 3) (is_some m.output_type)
 
 abbrev pub bound_faults : Places → List ℤ → Option ℤ → Option ℤ → List Fault
-bound_faults at path start end = lacks at path (pos 1) (is_some start) ++ lacks at path (pos 2) (is_some end)
+bound_faults at path start end = lacks at path (pos 1) (is_some start)
+    ++ lacks at path (pos 2) (is_some end)
 
 abbrev pub extension_range_faults : Places → List ℤ → ℕ → ExtensionRange → List Fault
 extension_range_faults at path k r = bound_faults at (entry path (pos 5) k) r.start r.end
@@ -70,30 +75,43 @@ enum_range_faults at path k r = bound_faults at (entry path (pos 4) k) r.start r
 
 -- the names of files that stand for one
 abbrev pub import_fault : Places → (List ℕ → Option ℕ) → ℕ → String Global → List Fault
-import_fault at files k name = cond (is_some (files (string_bytes name))) [] (file_not_found (string_bytes name) (at (entry [] (pos 3) k)) ∷ [])
+import_fault at files k name =
+    cond (is_some (files (string_bytes name))) []
+    (file_not_found (string_bytes name) (at (entry [] (pos 3) k)) ∷ [])
 
 abbrev pub public_fault : Places → ℕ → ℕ → ℤ → List Fault
-public_fault at count k i = cond (is_index i count) [] (bad_import_index i (at (entry [] (pos 10) k)) ∷ [])
+public_fault at count k i = cond (is_index i count) []
+    (bad_import_index i (at (entry [] (pos 10) k)) ∷ [])
 
 abbrev pub syntax_faults : Places → Option (String Global) → List Fault
 syntax_faults at None = []
-syntax_faults at (Some s) = cond (bytes_eq (string_bytes s) (codes "proto2") || bytes_eq (string_bytes s) (codes "proto3")) [] (unknown_syntax (string_bytes s) (at (pos 12 ∷ [])) ∷ [])
+syntax_faults at (Some s) = cond
+    (bytes_eq (string_bytes s) (codes "proto2") || bytes_eq (string_bytes s) (codes "proto3")) []
+    (unknown_syntax (string_bytes s) (at (pos 12 ∷ [])) ∷ [])
 
 abbrev pub import_faults : Places → (List ℕ → Option ℕ) → FileDescriptorProto → List Fault
 import_faults at files f =
-    each (import_fault at files) 0 f.dependency.items ++ each (public_fault at (length f.dependency.items)) 0 f.public_dependency.items
+    each (import_fault at files) 0 f.dependency.items
+    ++ each (public_fault at (length f.dependency.items)) 0 f.public_dependency.items
 
 -- the faults of a declaration, over the names that are known before it
 abbrev pub faults_at : Places → Known → (List ℕ → Option ℕ) → Declaration → List Fault
 faults_at at known files d = elim d.body [
-  | of_file f ↦ import_faults at files f ++ (syntax_faults at f.syntax ++ package_faults at known d.file (scopes (text_of f.package)))
+  | of_file f ↦ import_faults at files f
+      ++ (syntax_faults at f.syntax ++ package_faults at known d.file (scopes (text_of f.package)))
   | of_message m ↦ name_faults at known d.path d.name (is_some m.name) (definition_of d)
-      ++ (each (extension_range_faults at d.path) 0 m.extension_range ++ each (reserved_range_faults at d.path) 0 m.reserved_range)
-  | of_field f ↦ name_faults at known d.path d.name (is_some f.name) (definition_of d) ++ field_faults at d.path f
+      ++ (each (extension_range_faults at d.path) 0 m.extension_range
+      ++ each (reserved_range_faults at d.path) 0 m.reserved_range)
+  | of_field f ↦ name_faults at known d.path d.name (is_some f.name) (definition_of d)
+      ++ field_faults at d.path f
   | of_oneof o ↦ name_faults at known d.path d.name (is_some o.name) (definition_of d)
-  | of_enum e ↦ name_faults at known d.path d.name (is_some e.name) (definition_of d) ++ each (enum_range_faults at d.path) 0 e.reserved_range.items
-  | of_enum_value v ↦ name_faults at known d.path d.name (is_some v.name) (definition_of d) ++ lacks at d.path (pos 2) (is_some v.number)
+  | of_enum e ↦ name_faults at known d.path d.name (is_some e.name) (definition_of d)
+      ++ each (enum_range_faults at d.path) 0 e.reserved_range.items
+  | of_enum_value v ↦ name_faults at known d.path d.name (is_some v.name) (definition_of d)
+      ++ lacks at d.path (pos 2) (is_some v.number)
   | of_service s ↦ name_faults at known d.path d.name (is_some s.name) (definition_of d)
-  | of_method m ↦ name_faults at known d.path d.name (is_some m.name) (definition_of d) ++ method_faults at d.path m
-  | of_extension x ↦ name_faults at known d.path d.name (is_some x.name) (definition_of d) ++ (field_faults at d.path x ++ lacks at d.path (pos 2) (is_some x.extendee))
+  | of_method m ↦ name_faults at known d.path d.name (is_some m.name) (definition_of d)
+      ++ method_faults at d.path m
+  | of_extension x ↦ name_faults at known d.path d.name (is_some x.name) (definition_of d)
+      ++ (field_faults at d.path x ++ lacks at d.path (pos 2) (is_some x.extendee))
 ]

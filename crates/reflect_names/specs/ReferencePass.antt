@@ -17,7 +17,8 @@ views_of known sees file = record { known = known; sees = sees file }
 
 -- each of so many files, the first of which has this index, sees what its links say
 abbrev pub AreSeen : List Links → ℕ → ℕ → (ℕ → ℕ → Bool) → Type 0
-AreSeen links first count sees = (f g : ℕ) → first ≤ f → f < first + count → g < length links → (IsTrue (sees f g) ↔ Sees links f g)
+AreSeen links first count sees = (f g : ℕ) → first ≤ f → f < first + count → g < length links
+    → (IsTrue (sees f g) ↔ Sees links f g)
 
 -- what the references of declarations mean, by the view of each file
 abbrev pub targets_along : (ℕ → View) → List Declaration → List Target
@@ -26,11 +27,16 @@ targets_along views (d ∷ ds) = targets_of (views d.file) d ++ targets_along vi
 
 abbrev pub reference_faults_along : (ℕ → Places) → (ℕ → View) → List Declaration → List Fault
 reference_faults_along at views [] = []
-reference_faults_along at views (d ∷ ds) = reference_faults_at (at d.file) (views d.file) d ++ reference_faults_along at views ds
+reference_faults_along at views (d ∷ ds) = reference_faults_at (at d.file) (views d.file) d
+    ++ reference_faults_along at views ds
 
--- what the references of files mean, by what each of them sees, and the faults of those that mean nothing
-pub record BatchReferences (known : Known) (links : List Links) (at : ℕ → Places) (before : Offsets) (first : ℕ) (files : List FileDescriptorProto) (means : List Target) (wrong : List Fault) : Type 0 where
+-- what the references of files mean, by what each of them sees, and the faults of those that mean
+-- nothing
+pub record BatchReferences (known : Known) (links : List Links) (at : ℕ → Places) (before : Offsets)
+    (first : ℕ) (files : List FileDescriptorProto) (means : List Target)
+    (wrong : List Fault) : Type 0 where
   pub sees : ℕ → ℕ → Bool
   pub right : AreSeen links first (length files) sees
   pub targets : means ≡ targets_along (views_of known sees) (batch_declarations before first files)
-  pub faults : wrong ≡ reference_faults_along at (views_of known sees) (batch_declarations before first files)
+  pub faults : wrong ≡ reference_faults_along at (views_of known sees)
+      (batch_declarations before first files)

@@ -23,12 +23,14 @@ view_of s = record { known = λ n. get_by_text s.names.now n; sees = tells s.see
 -- at a file: what it sees is seen from then on; elsewhere that stays
 abbrev pub Looks : ResolveVisitor → Declaration → ResolveVisitor → Type 0
 Looks s d t = elim d.body [
-  | of_file f ↦ ((g : ℕ) → g < length s.links.now → (IsTrue (tells t.seen g) ↔ Sees s.links.now d.file g))
+  | of_file f ↦ ((g : ℕ) → g < length s.links.now
+      → (IsTrue (tells t.seen g) ↔ Sees s.links.now d.file g))
   | _ ↦ tells t.seen ≡ tells s.seen
 ]
 
 pub record Refers (s : ResolveVisitor) (d : Declaration) (t : ResolveVisitor) : Type 0 where
-  pub references : map target_of t.references.items ≡ map target_of s.references.items ++ targets_of (view_of s) d
+  pub references : map target_of t.references.items ≡ map target_of s.references.items
+      ++ targets_of (view_of s) d
   pub faults : Adds s.faults t.faults (reference_faults_at (place_at s.faults d.file) (view_of s) d)
   pub looks : Looks s d t
   pub names : t.names.now ≡ s.names.now
@@ -52,12 +54,15 @@ pub record Stays (file : ℕ) (s t : ResolveVisitor) : Type 0 where
 pub Stays-same : (file : ℕ) (s : ResolveVisitor) → Stays file s s
 Stays-same file s = record { names = refl; links = refl }
 
-pub Stays-on : (file : ℕ) (s t u : ResolveVisitor) → Stays file s t → Stays file t u → Stays file s u
+pub Stays-on : (file : ℕ) (s t u : ResolveVisitor) → Stays file s t → Stays file t u
+    → Stays file s u
 Stays-on file s t u k l = record { names = l.names ∙ k.names; links = l.links ∙ k.links }
 
 -- the references of files are found, with their faults
-pub record ResolvesFiles (s : ResolveVisitor) (before : Offsets) (first : ℕ) (files : List FileDescriptorProto) (t : ResolveVisitor) : Type 0 where
+pub record ResolvesFiles (s : ResolveVisitor) (before : Offsets) (first : ℕ)
+    (files : List FileDescriptorProto) (t : ResolveVisitor) : Type 0 where
   pub means : List Target
   pub wrong : List Fault
-  pub right : BatchReferences (known_of s.names.now) s.links.now (place_at s.faults) before first files means wrong
+  pub right : BatchReferences (known_of s.names.now) s.links.now (place_at s.faults) before first
+      files means wrong
   pub finds : Finds s t means wrong

@@ -48,7 +48,8 @@ is_type_of (pos n) (kind.Message i) = (n == 10) || (n == 11)
 is_type_of (pos n) (kind.Enum i) = n == 14
 is_type_of _ _ = false
 
--- a type, if there is one, may have a name that means this kind; a number of no type is a fault of its own
+-- a type, if there is one, may have a name that means this kind; a number of no type is a fault of
+-- its own
 abbrev pub suits : Option ℤ → DefinitionKind → Bool
 suits None k = true
 suits (Some n) k = not (is_in n 18) || is_type_of n k
@@ -63,20 +64,25 @@ abbrev pub name_targets : View → ResolveNameFilter → List ℕ → Option (St
 name_targets v f scope None = []
 name_targets v f scope (Some name) = targets (meaning_of v f scope (string_bytes name))
 
-abbrev pub reference_faults : Places → View → ResolveNameFilter → List ℤ → List ℕ → ℤ → Option (String Global) → List Fault
+abbrev pub reference_faults : Places → View → ResolveNameFilter → List ℤ → List ℕ → ℤ
+    → Option (String Global) → List Fault
 reference_faults at v f path scope tag None = []
-reference_faults at v f path scope tag (Some name) = unmet (meaning_of v f scope (string_bytes name)) (string_bytes name) (at (path ++ (tag ∷ [])))
+reference_faults at v f path scope tag (Some name) =
+    unmet (meaning_of v f scope (string_bytes name)) (string_bytes name) (at (path ++ (tag ∷ [])))
 
 -- the kind that a field's type name means does not suit its type
 abbrev pub mismatch : Places → List ℤ → Option ℤ → Option DefinitionKind → List Fault
 mismatch at path field_type None = []
-mismatch at path field_type (Some k) = cond (suits field_type k) [] (invalid_type (at (path ++ (pos 6 ∷ []))) ∷ [])
+mismatch at path field_type (Some k) =
+    cond (suits field_type k) [] (invalid_type (at (path ++ (pos 6 ∷ []))) ∷ [])
 
 abbrev pub type_name_faults : Places → View → List ℤ → List ℕ → FieldDescriptorProto → List Fault
 type_name_faults at v path scope f = elim f.type_name [
   | None ↦ []
-  | Some name ↦ unmet (meaning_of v filter.FieldType scope (string_bytes name)) (string_bytes name) (at (path ++ (pos 6 ∷ [])))
-      ++ mismatch at path f.field_type (kind_meant (meaning_of v filter.FieldType scope (string_bytes name)))
+  | Some name ↦ unmet (meaning_of v filter.FieldType scope (string_bytes name)) (string_bytes name)
+      (at (path ++ (pos 6 ∷ [])))
+      ++ mismatch at path f.field_type
+      (kind_meant (meaning_of v filter.FieldType scope (string_bytes name)))
 ]
 
 abbrev pub label_faults : Places → List ℤ → Option ℤ → List Fault
@@ -88,9 +94,11 @@ abbrev pub type_faults : Places → List ℤ → Option ℤ → List Fault
 type_faults at path None = []
 type_faults at path (Some n) = cond (is_in n 18) [] (invalid_type (at (path ++ (pos 5 ∷ []))) ∷ [])
 
-abbrev pub field_reference_faults : Places → View → List ℤ → List ℕ → FieldDescriptorProto → List Fault
+abbrev pub field_reference_faults : Places → View → List ℤ → List ℕ → FieldDescriptorProto
+    → List Fault
 field_reference_faults at v path scope f =
-    label_faults at path f.label ++ (type_faults at path f.field_type ++ type_name_faults at v path scope f)
+    label_faults at path f.label ++ (type_faults at path f.field_type
+    ++ type_name_faults at v path scope f)
 
 -- the targets of a declaration's references, in the order of their numbers
 abbrev pub targets_of : View → Declaration → List Target
@@ -102,8 +110,10 @@ targets_of v d = elim d.body [
   | of_enum e ↦ []
   | of_enum_value x ↦ []
   | of_service s ↦ []
-  | of_method m ↦ name_targets v filter.Message d.name m.input_type ++ name_targets v filter.Message d.name m.output_type
-  | of_extension x ↦ name_targets v filter.Message d.name x.extendee ++ name_targets v filter.FieldType d.name x.type_name
+  | of_method m ↦ name_targets v filter.Message d.name m.input_type
+      ++ name_targets v filter.Message d.name m.output_type
+  | of_extension x ↦ name_targets v filter.Message d.name x.extendee
+      ++ name_targets v filter.FieldType d.name x.type_name
 ]
 
 abbrev pub reference_faults_at : Places → View → Declaration → List Fault
@@ -115,6 +125,8 @@ reference_faults_at at v d = elim d.body [
   | of_enum e ↦ []
   | of_enum_value x ↦ []
   | of_service s ↦ []
-  | of_method m ↦ reference_faults at v filter.Message d.path d.name (pos 2) m.input_type ++ reference_faults at v filter.Message d.path d.name (pos 3) m.output_type
-  | of_extension x ↦ reference_faults at v filter.Message d.path d.name (pos 2) x.extendee ++ field_reference_faults at v d.path d.name x
+  | of_method m ↦ reference_faults at v filter.Message d.path d.name (pos 2) m.input_type
+      ++ reference_faults at v filter.Message d.path d.name (pos 3) m.output_type
+  | of_extension x ↦ reference_faults at v filter.Message d.path d.name (pos 2) x.extendee
+      ++ field_reference_faults at v d.path d.name x
 ]

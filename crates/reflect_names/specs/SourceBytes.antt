@@ -23,7 +23,8 @@ offset_at source line column =
 abbrev pub range : ℕ → ℕ → Option (Range ℕ)
 range start end = cond (nat_le start end) (Some (record { start = start; end = end })) None
 
--- the bytes of a span, if the source has its lines and columns, and they do not end before they start
+-- the bytes of a span, if the source has its lines and columns, and they do not end before they
+-- start
 abbrev pub bytes_at : List ℕ → SourceSpan → Option (Range ℕ)
 bytes_at source s =
     option_and_then (λ start. option_and_then (range start)

@@ -154,7 +154,8 @@ impl DescriptorErrorKind {
 
     /// The place of the fault, if it has one.
     pub fn label(&self) -> Option<&Label>
-        ensures place { option_map (λ l. place_of l.now) result ≡ place_of_fault (fault_view self.now) }
+        ensures place { option_map (λ l. place_of l.now) result
+            ≡ place_of_fault (fault_view self.now) }
         ensures label { option_map (λ l. l.now) result ≡ label_of self.now }
     {
         match self {
@@ -183,7 +184,8 @@ impl DescriptorErrorKind {
         }
     }
 
-    /// Finds the bytes of the fault's place in `source`, if it is the text of the fault's file; see [`Label::resolve_span`].
+    /// Finds the bytes of the fault's place in `source`, if it is the text of the fault's file; see
+    /// [`Label::resolve_span`].
     pub fn resolve_span(&mut self, file: &str, source: &str)
         ensures { self.new ≡ moved (located_of file.now source.now) self.old }
     {

@@ -90,7 +90,8 @@ impl<'a> Faults<'a> {
         file: u32,
         path: &Vec<i32>,
     ) -> Result<Option<SourceSpan>, AllocError>
-        ensures span { IfOk result (λ s. s ≡ span_among (locations_at self.old.files.now self.old.first file) path.now.items) }
+        ensures span { IfOk result (λ s. s
+            ≡ span_among (locations_at self.old.files.now self.old.first file) path.now.items) }
         ensures found { self.new.found.items ≡ self.old.found.items }
         ensures files { self.new.files.now ≡ self.old.files.now }
         ensures first { self.new.first ≡ self.old.first }
@@ -124,7 +125,8 @@ impl<'a> Faults<'a> {
         path: &[i32],
         tag: i32,
     ) -> Result<Label, AllocError>
-        ensures place { IfOk result (λ l. place_of l ≡ place_at self.old file (path.now ++ (tag ∷ []))) }
+        ensures place { IfOk result (λ l. place_of l
+            ≡ place_at self.old file (path.now ++ (tag ∷ []))) }
         ensures same { Adds self.old self.new [] }
     {
         let path = join_path(alloc, path, &[tag])?;

@@ -25,7 +25,8 @@ fn list_file(
     name: &str,
     faults: &mut Faults<'_>,
 ) -> Result<(), AllocError>
-    ensures { OnOk result (Adds faults.old faults.new (duplicate_file name.now (place_at faults.old index (pos 1 ∷ [])) ∷ [])) }
+    ensures { OnOk result (Adds faults.old faults.new
+        (duplicate_file name.now (place_at faults.old index (pos 1 ∷ [])) ∷ [])) }
 {
     let found = faults.label_at(alloc, index, &[], tag::file::NAME)?;
     let name = String::from_str(alloc, name)?;
@@ -40,8 +41,10 @@ fn name_file(
     file: &FileDescriptorProto,
     faults: &mut Faults<'_>,
 ) -> Result<(), AllocError>
-    ensures names { OnOk result (indexes_of file_names.new ≡ with_file (indexes_of file_names.old) index file.now.name) }
-    ensures faults { OnOk result (Adds faults.old faults.new (file_faults (place_at faults.old index) (indexes_of file_names.old) file.now.name)) }
+    ensures names { OnOk result (indexes_of file_names.new
+        ≡ with_file (indexes_of file_names.old) index file.now.name) }
+    ensures faults { OnOk result (Adds faults.old faults.new
+        (file_faults (place_at faults.old index) (indexes_of file_names.old) file.now.name)) }
     ensures keeps { KeepsIndexes index (indexes_of file_names.old) (indexes_of file_names.new) }
 {
     let Some(name) = &file.name else {
@@ -60,10 +63,12 @@ fn name_file(
     Ok(())
 }
 
-/// Puts the names of new files, the first of which has the index `first`, into the map from names of files to their indexes.
+/// Puts the names of new files, the first of which has the index `first`, into the map from names
+/// of files to their indexes.
 ///
-/// A file without a name is a fault (MissingRequiredField), and so is one whose name the map has (DuplicateFileName); the map
-/// keeps the earlier file. `TooMany` is a file's index past `i32::MAX`. After an `Err` the map may have some of the names.
+/// A file without a name is a fault (MissingRequiredField), and so is one whose name the map has
+/// (DuplicateFileName); the map keeps the earlier file. `TooMany` is a file's index past
+/// `i32::MAX`. After an `Err` the map may have some of the names.
 pub fn name_files(
     alloc: Global,
     file_names: &mut BTreeMap<String, u32>,
@@ -71,8 +76,10 @@ pub fn name_files(
     files: &[FileDescriptorProto],
     faults: &mut Faults<'_>,
 ) -> Result<(), VisitError>
-    ensures names { OnOk result (indexes_of file_names.new ≡ with_files (indexes_of file_names.old) first files.now) }
-    ensures faults { OnOk result (Adds faults.old faults.new (files_faults (place_at faults.old) (indexes_of file_names.old) first files.now)) }
+    ensures names { OnOk result (indexes_of file_names.new
+        ≡ with_files (indexes_of file_names.old) first files.now) }
+    ensures faults { OnOk result (Adds faults.old faults.new
+        (files_faults (place_at faults.old) (indexes_of file_names.old) first files.now)) }
     ensures keeps { KeepsIndexes first (indexes_of file_names.old) (indexes_of file_names.new) }
 {
     let mut index = first;
@@ -86,8 +93,8 @@ pub fn name_files(
     Ok(())
 }
 
-/// The path of a list's entry: the record at `path`, its field of the number `tag`, and there the place `at`. `TooMany` is a
-/// place past `i32::MAX`.
+/// The path of a list's entry: the record at `path`, its field of the number `tag`, and there the
+/// place `at`. `TooMany` is a place past `i32::MAX`.
 pub fn entry_path(alloc: Global, path: &[i32], tag: i32, at: usize) -> Result<Vec<i32>, VisitError>
     ensures { IfOk result (λ place. place.items ≡ entry path.now tag at) }
 {
@@ -105,7 +112,9 @@ fn require_import(
     name: &String,
     faults: &mut Faults<'_>,
 ) -> Result<(), VisitError>
-    ensures { OnOk result (Adds faults.old faults.new (import_fault (place_at faults.old index) (λ n. get_by_text file_names.now n) at name.now)) }
+    ensures { OnOk result (Adds faults.old faults.new
+        (import_fault (place_at faults.old index) (λ n. get_by_text file_names.now n)
+        at name.now)) }
 {
     if file_names.contains_key(name.as_str()) {
         return Ok(());
@@ -134,7 +143,8 @@ fn require_index(
     import: i32,
     faults: &mut Faults<'_>,
 ) -> Result<(), VisitError>
-    ensures { OnOk result (Adds faults.old faults.new (public_fault (place_at faults.old index) count at import)) }
+    ensures { OnOk result (Adds faults.old faults.new
+        (public_fault (place_at faults.old index) count at import)) }
 {
     if is_index(import, count) {
         return Ok(());
@@ -155,7 +165,9 @@ fn require_imports(
     names: &Vec<String>,
     faults: &mut Faults<'_>,
 ) -> Result<(), VisitError>
-    ensures { OnOk result (Adds faults.old faults.new (each (import_fault (place_at faults.old index) (λ n. get_by_text file_names.now n)) 0 names.now.items)) }
+    ensures { OnOk result (Adds faults.old faults.new
+        (each (import_fault (place_at faults.old index) (λ n. get_by_text file_names.now n)) 0
+        names.now.items)) }
 {
     'turns: for (at, name) in names.iter().enumerate() {
         require_import(alloc, file_names, index, at, name, faults)?;
@@ -170,7 +182,8 @@ fn require_indexes(
     imports: &Vec<i32>,
     faults: &mut Faults<'_>,
 ) -> Result<(), VisitError>
-    ensures { OnOk result (Adds faults.old faults.new (each (public_fault (place_at faults.old index) count) 0 imports.now.items)) }
+    ensures { OnOk result (Adds faults.old faults.new
+        (each (public_fault (place_at faults.old index) count) 0 imports.now.items)) }
 {
     'turns: for (at, import) in imports.iter().enumerate() {
         require_index(alloc, count, index, at, *import, faults)?;
@@ -178,8 +191,8 @@ fn require_indexes(
     Ok(())
 }
 
-/// Lists each import that no file has the name of (FileNotFound), and each public import's index that is out of range
-/// (InvalidImportIndex).
+/// Lists each import that no file has the name of (FileNotFound), and each public import's index
+/// that is out of range (InvalidImportIndex).
 pub fn check_imports(
     alloc: Global,
     file_names: &BTreeMap<String, u32>,
@@ -187,7 +200,8 @@ pub fn check_imports(
     file: &FileDescriptorProto,
     faults: &mut Faults<'_>,
 ) -> Result<(), VisitError>
-    ensures { OnOk result (Adds faults.old faults.new (import_faults (place_at faults.old index) (λ n. get_by_text file_names.now n) file.now)) }
+    ensures { OnOk result (Adds faults.old faults.new
+        (import_faults (place_at faults.old index) (λ n. get_by_text file_names.now n) file.now)) }
 {
     require_imports(alloc, file_names, index, &file.dependency, faults)?;
     let count = file.dependency.len();
@@ -218,7 +232,8 @@ fn imports_of(
     file_names: &BTreeMap<String, u32>,
     names: &Vec<String>,
 ) -> Result<Vec<u32>, AllocError>
-    ensures { IfOk result (λ files. files.items ≡ filter_map (file_of (indexes_of file_names.now)) names.now.items) }
+    ensures { IfOk result (λ files. files.items
+        ≡ filter_map (file_of (indexes_of file_names.now)) names.now.items) }
 {
     let mut files = Vec::new(alloc);
     'turns: for name in names.iter() {
@@ -233,7 +248,8 @@ fn publics_of(
     names: &Vec<String>,
     imports: &Vec<i32>,
 ) -> Result<Vec<u32>, AllocError>
-    ensures { IfOk result (λ files. files.items ≡ filter_map (import_file (indexes_of file_names.now) names.now.items) imports.now.items) }
+    ensures { IfOk result (λ files. files.items
+        ≡ filter_map (import_file (indexes_of file_names.now) names.now.items) imports.now.items) }
 {
     let mut files = Vec::new(alloc);
     'turns: for import in imports.iter() {
@@ -242,13 +258,15 @@ fn publics_of(
     Ok(files)
 }
 
-/// What a file imports, by the indexes that the map has for the names; imports that it does not have are left out.
+/// What a file imports, by the indexes that the map has for the names; imports that it does not
+/// have are left out.
 pub fn links_of(
     alloc: Global,
     file_names: &BTreeMap<String, u32>,
     file: &FileDescriptorProto,
 ) -> Result<Links, AllocError>
-    ensures { IfOk result (λ links. link_view links ≡ links_to (indexes_of file_names.now) file.now) }
+    ensures { IfOk result (λ links. link_view links
+        ≡ links_to (indexes_of file_names.now) file.now) }
 {
     let imports = imports_of(alloc, file_names, &file.dependency)?;
     let public = publics_of(alloc, file_names, &file.dependency, &file.public_dependency)?;

@@ -16,8 +16,8 @@ pub struct SourceSpan {
 impl SourceSpan {
     ghost use Rattle.reflect_names.specs.Spans.{between, span_of};
 
-    /// Reads the `span` of a location: line, column, end column; or line, column, end line, end column. None where it is
-    /// neither, or has a negative number.
+    /// Reads the `span` of a location: line, column, end column; or line, column, end line, end
+    /// column. None where it is neither, or has a negative number.
     pub fn from_location(span: &[i32]) -> Option<SourceSpan>
         ensures { result ≡ span_of span.now }
     {
@@ -60,14 +60,16 @@ impl Label {
     ghost use Rattle.reflect_names.specs.FaultPlaces.{located, located_of, locating};
     ghost use Rattle.reflect_names.specs.Faults.{place_of};
 
-    /// The place at `path` in the file named `file`, which stands at `span` of its source, where that is known.
+    /// The place at `path` in the file named `file`, which stands at `span` of its source, where
+    /// that is known.
     pub fn new(
         alloc: Global,
         file: &str,
         path: Vec<i32>,
         span: Option<SourceSpan>,
     ) -> Result<Label, AllocError>
-        ensures { IfOk result (λ l. place_of l ≡ record { file = file.now; path = path.items; span = span }) }
+        ensures { IfOk result (λ l. place_of l
+            ≡ record { file = file.now; path = path.items; span = span }) }
     {
         Ok(Label {
             file: String::from_str(alloc, file)?,
@@ -105,7 +107,8 @@ impl Label {
         Some(self.span?.start_column)
     }
 
-    /// The bytes of the source at which the place was found by the last call of `resolve_span` for its file.
+    /// The bytes of the source at which the place was found by the last call of `resolve_span` for
+    /// its file.
     pub fn span(&self) -> Option<Range<usize>>
         ensures { result ≡ self.now.bytes }
     {
@@ -115,8 +118,8 @@ impl Label {
         }
     }
 
-    /// Finds the place's bytes in `source`, if `file` is its file; else it stays as it is. They are None afterwards where the
-    /// place is not known, or the source has no such line or column.
+    /// Finds the place's bytes in `source`, if `file` is its file; else it stays as it is. They are
+    /// None afterwards where the place is not known, or the source has no such line or column.
     pub fn resolve_span(&mut self, file: &str, source: &str)
         ensures { self.new ≡ located_of file.now source.now self.old }
     {

@@ -1,5 +1,5 @@
-//! The declarations of protobuf files, their names and what they refer to: a visitor is called at each declaration in order,
-//! and each refusal lists every fault that is true.
+//! The declarations of protobuf files, their names and what they refer to: a visitor is called at
+//! each declaration in order, and each refusal lists every fault that is true.
 #![tactic(auto)]
 
 mod error;

@@ -16,11 +16,12 @@ use reflect_walk::{Offsets, VisitError, Visitor, visit_all};
 use std::alloc::Global;
 use std::collections::BTreeMap;
 
-/// Declares the full names of the files that it visits, and lists what is wrong with them or lacking.
+/// Declares the full names of the files that it visits, and lists what is wrong with them or
+/// lacking.
 ///
-/// Its faults are DuplicateName (a package name may repeat as a package), MissingRequiredField, UnknownSyntax, and those of
-/// imports: FileNotFound and InvalidImportIndex. The first declaration of a name stays. A file's package declares each part of
-/// its name up to a dot too.
+/// Its faults are DuplicateName (a package name may repeat as a package), MissingRequiredField,
+/// UnknownSyntax, and those of imports: FileNotFound and InvalidImportIndex. The first declaration
+/// of a name stays. A file's package declares each part of its name up to a dot too.
 #[derive(Drop)]
 pub struct NameVisitor<'a> {
     names: BTreeMap<String, Definition>,
@@ -36,7 +37,8 @@ impl<'a> NameVisitor<'a> {
     ghost use Rattle.reflect_names.specs.NamePass.{faults_along};
     ghost use Rattle.reflect_names.specs.NameSteps.{KeepsFrom};
 
-    /// Adds to `names` and `faults`. `file_names` has the indexes of all files, old and new, by their names.
+    /// Adds to `names` and `faults`. `file_names` has the indexes of all files, old and new, by
+    /// their names.
     pub fn new(
         names: BTreeMap<String, Definition>,
         faults: Faults<'a>,
@@ -53,8 +55,8 @@ impl<'a> NameVisitor<'a> {
         }
     }
 
-    /// Declares what the files declare, the first of which has the index `first`; `before` are the counts of what stands before
-    /// them, and the answer those behind them.
+    /// Declares what the files declare, the first of which has the index `first`; `before` are the
+    /// counts of what stands before them, and the answer those behind them.
     pub fn declare_files(
         &mut self,
         alloc: Global,
@@ -62,9 +64,13 @@ impl<'a> NameVisitor<'a> {
         first: u32,
         files: &[FileDescriptorProto],
     ) -> Result<Offsets, VisitError>
-        ensures known { OnOk result (known_of self.new.names ≡ known_behind (known_of self.old.names) (batch_declarations before first files.now)) }
-        ensures faults { OnOk result (Adds self.old.faults self.new.faults (faults_along (place_at self.old.faults) (λ n. get_by_text self.old.file_names.now n) (known_of self.old.names) (batch_declarations before first files.now))) }
-        ensures keeps { KeepsFrom first (length files.now) self.old.names.entries self.new.names.entries }
+        ensures known { OnOk result (known_of self.new.names
+            ≡ known_behind (known_of self.old.names) (batch_declarations before first files.now)) }
+        ensures faults { OnOk result (Adds self.old.faults self.new.faults
+            (faults_along (place_at self.old.faults) (λ n. get_by_text self.old.file_names.now n)
+            (known_of self.old.names) (batch_declarations before first files.now))) }
+        ensures keeps { KeepsFrom first (length files.now) self.old.names.entries
+            self.new.names.entries }
         ensures file_names { self.new.file_names.now ≡ self.old.file_names.now }
         ensures counts { IfOk result (λ o. o ≡ past_files before files.now) }
     {

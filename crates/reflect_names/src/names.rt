@@ -20,7 +20,8 @@ fn may_repeat(first: DefinitionKind, next: DefinitionKind) -> bool
     matches!(first, DefinitionKind::Package) && matches!(next, DefinitionKind::Package)
 }
 
-/// Declares a name; `tag` is the number of the field at `path` that has it. The first declaration of a name stays.
+/// Declares a name; `tag` is the number of the field at `path` that has it. The first declaration
+/// of a name stays.
 fn declare(
     alloc: Global,
     names: &mut BTreeMap<String, Definition>,
@@ -30,8 +31,11 @@ fn declare(
     full_name: &str,
     definition: Definition,
 ) -> Result<(), AllocError>
-    ensures known { OnOk result (known_of names.new ≡ declared (known_of names.old) full_name.now definition) }
-    ensures faults { OnOk result (Adds faults.old faults.new (taken (place_at faults.old definition.file) (known_of names.old) path.now tag full_name.now definition)) }
+    ensures known { OnOk result (known_of names.new
+        ≡ declared (known_of names.old) full_name.now definition) }
+    ensures faults { OnOk result (Adds faults.old faults.new
+        (taken (place_at faults.old definition.file) (known_of names.old) path.now tag full_name.now
+        definition)) }
     ensures keeps { KeepsEntries definition.file names.old.entries names.new.entries }
 {
     match names.get(full_name).copied() {
@@ -61,8 +65,11 @@ pub fn declare_named(
     name: &Option<String>,
     definition: Definition,
 ) -> Result<(), AllocError>
-    ensures known { OnOk result (known_of names.new ≡ named (known_of names.old) full_name.now (is_some name.now) definition) }
-    ensures faults { OnOk result (Adds faults.old faults.new (name_faults (place_at faults.old definition.file) (known_of names.old) path.now full_name.now (is_some name.now) definition)) }
+    ensures known { OnOk result (known_of names.new
+        ≡ named (known_of names.old) full_name.now (is_some name.now) definition) }
+    ensures faults { OnOk result (Adds faults.old faults.new
+        (name_faults (place_at faults.old definition.file) (known_of names.old) path.now
+        full_name.now (is_some name.now) definition)) }
     ensures keeps { KeepsEntries definition.file names.old.entries names.new.entries }
 {
     if name.is_some() {
@@ -96,8 +103,11 @@ pub fn declare_package(
     file: u32,
     full_name: &str,
 ) -> Result<(), AllocError>
-    ensures known { OnOk result (known_of names.new ≡ packages (known_of names.old) file (scopes full_name.now)) }
-    ensures faults { OnOk result (Adds faults.old faults.new (package_faults (place_at faults.old file) (known_of names.old) file (scopes full_name.now))) }
+    ensures known { OnOk result (known_of names.new
+        ≡ packages (known_of names.old) file (scopes full_name.now)) }
+    ensures faults { OnOk result (Adds faults.old faults.new
+        (package_faults (place_at faults.old file) (known_of names.old) file
+        (scopes full_name.now))) }
     ensures keeps { KeepsEntries file names.old.entries names.new.entries }
 {
     let definition = Definition {
@@ -127,7 +137,8 @@ pub fn check_syntax(
     file: u32,
     syntax: &Option<String>,
 ) -> Result<(), AllocError>
-    ensures { OnOk result (Adds faults.old faults.new (syntax_faults (place_at faults.old file) syntax.now)) }
+    ensures { OnOk result (Adds faults.old faults.new
+        (syntax_faults (place_at faults.old file) syntax.now)) }
 {
     let Some(syntax) = syntax else {
         return Ok(());

@@ -25,7 +25,8 @@ pub fn require(
     field: &'static str,
     is_present: bool,
 ) -> Result<(), AllocError>
-    ensures { OnOk result (Adds faults.old faults.new (lacks (place_at faults.old file) path.now tag is_present)) }
+    ensures { OnOk result (Adds faults.old faults.new
+        (lacks (place_at faults.old file) path.now tag is_present)) }
 {
     if is_present {
         return Ok(());
@@ -50,7 +51,8 @@ fn is_named_type(field_type: Option<i32>) -> bool
     }
 }
 
-/// A field, or an extension: a number, and a type or the name of one. A message, group or enum type needs the name.
+/// A field, or an extension: a number, and a type or the name of one. A message, group or enum type
+/// needs the name.
 pub fn require_of_field(
     alloc: Global,
     faults: &mut Faults<'_>,
@@ -58,7 +60,8 @@ pub fn require_of_field(
     path: &[i32],
     field: &FieldDescriptorProto,
 ) -> Result<(), AllocError>
-    ensures { OnOk result (Adds faults.old faults.new (field_faults (place_at faults.old file) path.now field.now)) }
+    ensures { OnOk result (Adds faults.old faults.new
+        (field_faults (place_at faults.old file) path.now field.now)) }
 {
     let number = field.number.is_some();
     require(
@@ -93,7 +96,8 @@ pub fn require_of_method(
     path: &[i32],
     method: &MethodDescriptorProto,
 ) -> Result<(), AllocError>
-    ensures { OnOk result (Adds faults.old faults.new (method_faults (place_at faults.old file) path.now method.now)) }
+    ensures { OnOk result (Adds faults.old faults.new
+        (method_faults (place_at faults.old file) path.now method.now)) }
 {
     let input = method.input_type.is_some();
     require(
@@ -126,7 +130,8 @@ fn require_bounds(
     start: Option<i32>,
     end: Option<i32>,
 ) -> Result<(), AllocError>
-    ensures { OnOk result (Adds faults.old faults.new (bound_faults (place_at faults.old file) path.now start end)) }
+    ensures { OnOk result (Adds faults.old faults.new
+        (bound_faults (place_at faults.old file) path.now start end)) }
 {
     let (from, to) = (start.is_some(), end.is_some());
     require(
@@ -156,7 +161,8 @@ fn require_of_extension_ranges(
     path: &[i32],
     ranges: &Vec<ExtensionRange>,
 ) -> Result<(), VisitError>
-    ensures { OnOk result (Adds faults.old faults.new (each (extension_range_faults (place_at faults.old file) path.now) 0 ranges.now.items)) }
+    ensures { OnOk result (Adds faults.old faults.new
+        (each (extension_range_faults (place_at faults.old file) path.now) 0 ranges.now.items)) }
 {
     'turns: for (at, range) in ranges.iter().enumerate() {
         let place = entry_path(alloc, path, tag::message::EXTENSION_RANGE, at)?;
@@ -179,7 +185,8 @@ fn require_of_reserved_ranges(
     path: &[i32],
     ranges: &Vec<ReservedRange>,
 ) -> Result<(), VisitError>
-    ensures { OnOk result (Adds faults.old faults.new (each (reserved_range_faults (place_at faults.old file) path.now) 0 ranges.now.items)) }
+    ensures { OnOk result (Adds faults.old faults.new
+        (each (reserved_range_faults (place_at faults.old file) path.now) 0 ranges.now.items)) }
 {
     'turns: for (at, range) in ranges.iter().enumerate() {
         let place = entry_path(alloc, path, tag::message::RESERVED_RANGE, at)?;
@@ -203,7 +210,11 @@ pub fn require_of_message(
     path: &[i32],
     message: &DescriptorProto,
 ) -> Result<(), VisitError>
-    ensures { OnOk result (Adds faults.old faults.new (each (extension_range_faults (place_at faults.old file) path.now) 0 (parts_of message.now).extension_range ++ each (reserved_range_faults (place_at faults.old file) path.now) 0 (parts_of message.now).reserved_range)) }
+    ensures { OnOk result (Adds faults.old faults.new
+        (each (extension_range_faults (place_at faults.old file) path.now) 0
+        (parts_of message.now).extension_range
+        ++ each (reserved_range_faults (place_at faults.old file) path.now) 0
+        (parts_of message.now).reserved_range)) }
 {
     require_of_extension_ranges(alloc, faults, file, path, &message.extension_range)?;
     require_of_reserved_ranges(alloc, faults, file, path, &message.reserved_range)?;
@@ -218,7 +229,8 @@ pub fn require_of_enum(
     path: &[i32],
     ranges: &Vec<EnumReservedRange>,
 ) -> Result<(), VisitError>
-    ensures { OnOk result (Adds faults.old faults.new (each (enum_range_faults (place_at faults.old file) path.now) 0 ranges.now.items)) }
+    ensures { OnOk result (Adds faults.old faults.new
+        (each (enum_range_faults (place_at faults.old file) path.now) 0 ranges.now.items)) }
 {
     'turns: for (at, range) in ranges.iter().enumerate() {
         let place = entry_path(alloc, path, tag::enumeration::RESERVED_RANGE, at)?;

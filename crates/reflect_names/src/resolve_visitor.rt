@@ -24,9 +24,10 @@ pub struct Reference {
 
 /// Finds what the references of the files that it visits mean, and lists those that mean nothing.
 ///
-/// References are those of fields (the type), extensions (the extended message, then the type) and methods (input, then
-/// output). Its faults are NameNotFound, NameShadowed and InvalidType; the last also where a label or a type has no such
-/// number, and where a type name means a kind that does not suit the type.
+/// References are those of fields (the type), extensions (the extended message, then the type) and
+/// methods (input, then output). Its faults are NameNotFound, NameShadowed and InvalidType; the
+/// last also where a label or a type has no such number, and where a type name means a kind that
+/// does not suit the type.
 #[derive(Drop)]
 pub struct ResolveVisitor<'a> {
     references: Vec<Reference>,
@@ -66,7 +67,8 @@ fn is_type_of(field_type: i32, kind: DefinitionKind) -> bool
     }
 }
 
-/// Whether a type, if there is one, may have a name that means this kind. A number of no type is a fault of its own.
+/// Whether a type, if there is one, may have a name that means this kind. A number of no type is a
+/// fault of its own.
 fn suits(field_type: Option<i32>, kind: DefinitionKind) -> bool
     ensures { result ≡ is_suited field_type kind }
 {
@@ -91,7 +93,8 @@ impl<'a> ResolveVisitor<'a> {
     ghost use Rattle.reflect_names.specs.ReferenceSteps.{Finds, IsSame, ResolvesFiles, Stays, view_of, target_of};
     ghost use Rattle.reflect_walk.specs.Batches.{past_files};
 
-    /// Adds to `faults`. `names` has what all full names stand for, and `links` what all files import, by their indexes.
+    /// Adds to `faults`. `names` has what all full names stand for, and `links` what all files
+    /// import, by their indexes.
     pub fn new(
         alloc: Global,
         faults: Faults<'a>,
@@ -112,8 +115,8 @@ impl<'a> ResolveVisitor<'a> {
         }
     }
 
-    /// Resolves the references of the files, the first of which has the index `first`; `before` are the counts of what stands
-    /// before them, and the answer those behind them.
+    /// Resolves the references of the files, the first of which has the index `first`; `before` are
+    /// the counts of what stands before them, and the answer those behind them.
     pub fn resolve_files(
         &mut self,
         alloc: Global,
@@ -129,7 +132,8 @@ impl<'a> ResolveVisitor<'a> {
         Ok(behind)
     }
 
-    /// What the references mean that were met, in the order of the visits, but for those that are faults; and the faults.
+    /// What the references mean that were met, in the order of the visits, but for those that are
+    /// faults; and the faults.
     pub fn into_parts(self) -> (Vec<Reference>, Faults<'a>)
         ensures references { result.0.items ≡ self.entry.references.items }
         ensures faults { result.1 ≡ self.entry.faults }
@@ -153,7 +157,8 @@ impl<'a> ResolveVisitor<'a> {
         name: &str,
         expected: &'static str,
     ) -> Result<(), AllocError>
-        ensures finds { OnOk result (Finds self.old self.new [] (invalid_type (place_at self.old.faults file (path.now ++ (tag ∷ []))) ∷ [])) }
+        ensures finds { OnOk result (Finds self.old self.new []
+            (invalid_type (place_at self.old.faults file (path.now ++ (tag ∷ []))) ∷ [])) }
         ensures same { IsSame self.old self.new }
     {
         let found = self.faults.label_at(alloc, file, path, tag)?;
@@ -177,7 +182,9 @@ impl<'a> ResolveVisitor<'a> {
         filter: ResolveNameFilter,
         error: ResolveNameError,
     ) -> Result<(), AllocError>
-        ensures finds { OnOk result ((m : Meaning) → Answers (Err error) m → Finds self.old self.new (targets m) (unmet m name.now (place_at self.old.faults file (path.now ++ (tag ∷ []))))) }
+        ensures finds { OnOk result ((m : Meaning) → Answers (Err error) m
+            → Finds self.old self.new (targets m)
+            (unmet m name.now (place_at self.old.faults file (path.now ++ (tag ∷ []))))) }
         ensures none { OnOk result ((m : Meaning) → Answers (Err error) m → kind_meant m ≡ None) }
         ensures same { IsSame self.old self.new }
     {
@@ -204,8 +211,8 @@ impl<'a> ResolveVisitor<'a> {
         }
     }
 
-    /// Resolves the name that stands at `path`'s field of the number `tag`, in the declaration of the full name `scope`. The
-    /// answer is the kind of what it means, if anything.
+    /// Resolves the name that stands at `path`'s field of the number `tag`, in the declaration of
+    /// the full name `scope`. The answer is the kind of what it means, if anything.
     fn resolve(
         &mut self,
         alloc: Global,
@@ -216,8 +223,12 @@ impl<'a> ResolveVisitor<'a> {
         name: &str,
         filter: ResolveNameFilter,
     ) -> Result<Option<DefinitionKind>, AllocError>
-        ensures finds { OnOk result (let m = meaning_of (view_of self.old) filter scope.now name.now in Finds self.old self.new (targets m) (unmet m name.now (place_at self.old.faults file (path.now ++ (tag ∷ []))))) }
-        ensures kind { IfOk result (λ k. k ≡ kind_meant (meaning_of (view_of self.old) filter scope.now name.now)) }
+        ensures finds { OnOk result (let m =
+            meaning_of (view_of self.old) filter scope.now name.now in Finds self.old self.new
+            (targets m) (unmet m name.now (place_at self.old.faults file
+            (path.now ++ (tag ∷ []))))) }
+        ensures kind { IfOk result (λ k. k
+            ≡ kind_meant (meaning_of (view_of self.old) filter scope.now name.now)) }
         ensures same { IsSame self.old self.new }
     {
         match resolve_name(alloc, &self.seen, self.names, scope, name, filter) {
@@ -241,7 +252,8 @@ impl<'a> ResolveVisitor<'a> {
         path: &[i32],
         label: Option<i32>,
     ) -> Result<(), AllocError>
-        ensures finds { OnOk result (Finds self.old self.new [] (label_faults (place_at self.old.faults file) path.now label)) }
+        ensures finds { OnOk result (Finds self.old self.new []
+            (label_faults (place_at self.old.faults file) path.now label)) }
         ensures same { IsSame self.old self.new }
     {
         let Some(label) = label else {
@@ -269,7 +281,8 @@ impl<'a> ResolveVisitor<'a> {
         path: &[i32],
         field_type: Option<i32>,
     ) -> Result<(), AllocError>
-        ensures finds { OnOk result (Finds self.old self.new [] (type_faults (place_at self.old.faults file) path.now field_type)) }
+        ensures finds { OnOk result (Finds self.old self.new []
+            (type_faults (place_at self.old.faults file) path.now field_type)) }
         ensures same { IsSame self.old self.new }
     {
         let Some(field_type) = field_type else {
@@ -300,7 +313,8 @@ impl<'a> ResolveVisitor<'a> {
         field_type: Option<i32>,
         kind: Option<DefinitionKind>,
     ) -> Result<(), AllocError>
-        ensures finds { OnOk result (Finds self.old self.new [] (mismatch (place_at self.old.faults file) path.now field_type kind)) }
+        ensures finds { OnOk result (Finds self.old self.new []
+            (mismatch (place_at self.old.faults file) path.now field_type kind)) }
         ensures same { IsSame self.old self.new }
     {
         let Some(kind) = kind else {
@@ -328,7 +342,10 @@ impl<'a> ResolveVisitor<'a> {
         full_name: &str,
         field: &FieldDescriptorProto,
     ) -> Result<(), AllocError>
-        ensures finds { OnOk result (Finds self.old self.new (name_targets (view_of self.old) ResolveNameFilter.FieldType full_name.now field.now.type_name) (type_name_faults (place_at self.old.faults file) (view_of self.old) path.now full_name.now field.now)) }
+        ensures finds { OnOk result (Finds self.old self.new
+            (name_targets (view_of self.old) ResolveNameFilter.FieldType full_name.now
+            field.now.type_name) (type_name_faults (place_at self.old.faults file)
+            (view_of self.old) path.now full_name.now field.now)) }
         ensures same { IsSame self.old self.new }
     {
         let Some(name) = &field.type_name else {
@@ -350,7 +367,10 @@ impl<'a> ResolveVisitor<'a> {
         full_name: &str,
         field: &FieldDescriptorProto,
     ) -> Result<(), AllocError>
-        ensures finds { OnOk result (Finds self.old self.new (name_targets (view_of self.old) ResolveNameFilter.FieldType full_name.now field.now.type_name) (field_reference_faults (place_at self.old.faults file) (view_of self.old) path.now full_name.now field.now)) }
+        ensures finds { OnOk result (Finds self.old self.new
+            (name_targets (view_of self.old) ResolveNameFilter.FieldType full_name.now
+            field.now.type_name) (field_reference_faults (place_at self.old.faults file)
+            (view_of self.old) path.now full_name.now field.now)) }
         ensures same { IsSame self.old self.new }
     {
         self.check_label(alloc, file, path, field.label)?;
@@ -369,7 +389,10 @@ impl<'a> ResolveVisitor<'a> {
         full_name: &str,
         name: &Option<String>,
     ) -> Result<(), AllocError>
-        ensures finds { OnOk result (Finds self.old self.new (name_targets (view_of self.old) ResolveNameFilter.Message full_name.now name.now) (reference_faults (place_at self.old.faults file) (view_of self.old) ResolveNameFilter.Message path.now full_name.now tag name.now)) }
+        ensures finds { OnOk result (Finds self.old self.new
+            (name_targets (view_of self.old) ResolveNameFilter.Message full_name.now name.now)
+            (reference_faults (place_at self.old.faults file) (view_of self.old)
+            ResolveNameFilter.Message path.now full_name.now tag name.now)) }
         ensures same { IsSame self.old self.new }
     {
         let Some(name) = name else {

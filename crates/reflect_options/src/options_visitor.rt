@@ -13,8 +13,8 @@ use std::alloc::{AllocError, Global};
 use std::collections::BTreeMap;
 use std::mem;
 
-/// Reads the options of the declarations that it visits by the types of a pool, and collects what settles them. The first
-/// fault that it meets ends its work.
+/// Reads the options of the declarations that it visits by the types of a pool, and collects what
+/// settles them. The first fault that it meets ends its work.
 #[derive(Drop)]
 pub struct OptionsVisitor<'p> {
     pool: &'p DescriptorPool,

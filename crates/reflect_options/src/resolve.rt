@@ -17,14 +17,17 @@ pub trait ResolveOptions {
     /// What the pool holds.
     ghost holds: { Self → PoolType };
 
-    /// Settles the options of the files from index `first` on: each record's stored bytes and what a source wrote become the
-    /// bytes of the pool's type for them, what linking reads of them follows the bytes, and the locations of options move to
-    /// where these were set (protobuf.dev, "Custom Options").
+    /// Settles the options of the files from index `first` on: each record's stored bytes and what
+    /// a source wrote become the bytes of the pool's type for them, what linking reads of them
+    /// follows the bytes, and the locations of options move to where these were set (protobuf.dev,
+    /// "Custom Options").
     ///
-    /// The error is the first fault that was met. After a refusal the pool is as it was; else nothing but records changes.
+    /// The error is the first fault that was met. After a refusal the pool is as it was; else
+    /// nothing but records changes.
     fn resolve_options(&mut self, alloc: Global, first: u32) -> Result<(), OptionError>
         ensures unchanged { OnErr result (holds self.new ≡ holds self.old) }
-        ensures place { IfErr result (λ e. IfSome (option_place e) (StandsFrom (holds self.old).records first)) }
+        ensures place { IfErr result (λ e. IfSome (option_place e)
+            (StandsFrom (holds self.old).records first)) }
         ensures settled { IsSettled (holds self.old) (holds self.new) };
 }
 

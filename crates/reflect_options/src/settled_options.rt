@@ -11,7 +11,8 @@ use reflect_message::DynamicMessage;
 use reflect_wire::WireError;
 use std::alloc::{AllocError, AllocFailed, Global};
 
-/// What is wrong with a record's options, and which of those that a source wrote is at fault, if it is one of them.
+/// What is wrong with a record's options, and which of those that a source wrote is at fault, if it
+/// is one of them.
 #[derive(Drop)]
 pub struct OptionFault {
     pub kind: OptionErrorKind,
@@ -44,7 +45,8 @@ pub struct SettledOptions {
     pub targets: Vec<Vec<i32>>,
 }
 
-/// The option is one that no source may set: the list of uninterpreted ones, and what says that a message is a map's entry.
+/// The option is one that no source may set: the list of uninterpreted ones, and what says that a
+/// message is a map's entry.
 fn is_forbidden(scope: OptionScope, option: &UninterpretedOption) -> bool {
     match option.name.first() {
         Some(part) if !part.is_extension => match part.name_part.as_str() {
@@ -85,7 +87,8 @@ fn truth_at(message: &DynamicMessage<'_>, number: u32) -> Result<Option<bool>, A
     }
 }
 
-/// The message of options that the stored bytes spell. Those of a message must say of map entries what the record says.
+/// The message of options that the stored bytes spell. Those of a message must say of map entries
+/// what the record says.
 fn stored_message<'p>(
     alloc: Global,
     scope: OptionScope,
@@ -170,7 +173,8 @@ fn record_of(
     Ok(options)
 }
 
-/// The options of a record, read by the pool's type for them: the stored bytes, then what a source wrote, in order.
+/// The options of a record, read by the pool's type for them: the stored bytes, then what a source
+/// wrote, in order.
 ///
 /// Nothing where the pool has no type for them and a source wrote none.
 pub fn settled_options<'p>(

@@ -17,7 +17,8 @@ is_known numbers k = is_some (get key_cmp numbers k)
 
 -- the first extension of a message and a number stays
 abbrev pub with_number : Numbers → ℕ → StoredExtension → Numbers
-with_number known i x = cond (is_some (known (x.extendee, x.field.number))) known (λ k. cond (has_key k x) (Some i) (known k))
+with_number known i x = cond (is_some (known (x.extendee, x.field.number))) known
+    (λ k. cond (has_key k x) (Some i) (known k))
 
 -- the places behind extensions, the first of which has this one
 abbrev pub with_numbers : Numbers → ℕ → List StoredExtension → Numbers
@@ -29,11 +30,16 @@ abbrev pub is_taken : (KeyType → Bool) → List StoredExtension → KeyType �
 is_taken known xs k = known k || list_any (has_key k) xs
 
 -- the fault of an extension whose message and number are taken
-abbrev pub double_faults : (KeyType → Bool) → TypesSay → (ℕ → List ℤ → Place) → StoredExtension → List Fault
+abbrev pub double_faults : (KeyType → Bool) → TypesSay → (ℕ → List ℤ → Place) → StoredExtension
+    → List Fault
 double_faults taken types at x =
-    cond (taken (x.extendee, x.field.number)) (duplicate_extension (cast_signed w32 x.field.number) (types.name x.extendee) (at x.file (x.field.path.items ++ (pos 3 ∷ []))) ∷ []) []
+    cond (taken (x.extendee, x.field.number))
+    (duplicate_extension (cast_signed w32 x.field.number) (types.name x.extendee)
+    (at x.file (x.field.path.items ++ (pos 3 ∷ []))) ∷ []) []
 
 -- the faults of extensions, each of which is known to those behind it
-abbrev pub extension_faults : (KeyType → Bool) → TypesSay → (ℕ → List ℤ → Place) → List StoredExtension → List Fault
+abbrev pub extension_faults : (KeyType → Bool) → TypesSay → (ℕ → List ℤ → Place)
+    → List StoredExtension → List Fault
 extension_faults known types at [] = []
-extension_faults known types at (x ∷ xs) = double_faults known types at x ++ extension_faults (λ k. known k || has_key k x) types at xs
+extension_faults known types at (x ∷ xs) = double_faults known types at x
+    ++ extension_faults (λ k. known k || has_key k x) types at xs

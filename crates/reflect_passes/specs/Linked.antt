@@ -10,7 +10,9 @@ use Rattle.reflect_rules.specs.Rules.{Values}
 use Rattle.reflect_passes.specs.declared.linked_types.LinkedTypes.{LinkedTypes}
 
 abbrev pub message_at : LinkedTypes → ℕ → Option StoredMessage
-message_at t i = cond (nat_lt i (length t.old.now.messages.items)) (slice_get t.old.now.messages.items i) (slice_get t.new.now.messages.items (i - length t.old.now.messages.items))
+message_at t i = cond (nat_lt i (length t.old.now.messages.items))
+    (slice_get t.old.now.messages.items i)
+    (slice_get t.new.now.messages.items (i - length t.old.now.messages.items))
 
 abbrev pub linked_says : LinkedTypes → TypesSay
 linked_says t = record {
@@ -21,7 +23,8 @@ linked_says t = record {
 }
 
 abbrev pub enum_at : LinkedTypes → ℕ → Option StoredEnum
-enum_at t i = cond (nat_lt i (length t.old.now.enums.items)) (slice_get t.old.now.enums.items i) (slice_get t.new.now.enums.items (i - length t.old.now.enums.items))
+enum_at t i = cond (nat_lt i (length t.old.now.enums.items)) (slice_get t.old.now.enums.items i)
+    (slice_get t.new.now.enums.items (i - length t.old.now.enums.items))
 
 -- one of the enum's values has the name
 abbrev pub HasValue : Option StoredEnum → List ℕ → Type 0

@@ -16,8 +16,11 @@ use Rattle.reflect_names.specs.References.{Target}
 abbrev pub name_faults : Indexes → Known → Offsets → ℕ → List FileDescriptorProto → List Fault
 name_faults indexes known before first files =
     files_faults (batch_places files first) indexes first files
-    ++ faults_along (batch_places files first) (with_files indexes first files) known (batch_declarations before first files)
+    ++ faults_along (batch_places files first) (with_files indexes first files) known
+    (batch_declarations before first files)
 
 -- the faults of their references, whatever the others mean
-abbrev pub ReferenceFaults : Known → List Links → Offsets → ℕ → List FileDescriptorProto → List Fault → Type 0
-ReferenceFaults known links before first files xs = (means : List Target) × BatchReferences known links (batch_places files first) before first files means xs
+abbrev pub ReferenceFaults : Known → List Links → Offsets → ℕ → List FileDescriptorProto
+    → List Fault → Type 0
+ReferenceFaults known links before first files xs = (means : List Target)
+    × BatchReferences known links (batch_places files first) before first files means xs

@@ -11,8 +11,10 @@ use Rattle.reflect_passes.specs.Linked.{linked_says, linked_values}
 use Rattle.reflect_passes.specs.declared.linked_types.LinkedTypes.{LinkedTypes}
 
 -- the faults by the rules of numbers, defaults, oneof indexes and map entries
-abbrev pub NumberFaults : LinkedTypes → Offsets → ℕ → List FileDescriptorProto → List Reference → List Fault → Type 0
-NumberFaults t before first files references xs = BatchFaults (linked_says t) (linked_values t) before first files references xs
+abbrev pub NumberFaults : LinkedTypes → Offsets → ℕ → List FileDescriptorProto → List Reference
+    → List Fault → Type 0
+NumberFaults t before first files references xs =
+    BatchFaults (linked_says t) (linked_values t) before first files references xs
 
 -- the faults of the batch's extensions, where others are known
 abbrev pub doubled : (KeyType → Bool) → LinkedTypes → (ℕ → List ℤ → Place) → List Fault

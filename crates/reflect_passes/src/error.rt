@@ -12,7 +12,8 @@ use std::iter::{Chain, Once, once};
 use std::ops::Range;
 use std::{fmt, slice};
 
-/// Why files were not linked: all faults of the first faulty pass, or want of memory or of numbers alone.
+/// Why files were not linked: all faults of the first faulty pass, or want of memory or of numbers
+/// alone.
 #[derive(PartialEq, Drop)]
 pub struct DescriptorError {
     first: DescriptorErrorKind,
@@ -76,14 +77,16 @@ impl DescriptorError {
         Some(self.first.label()?.file())
     }
 
-    /// The line of the first fault, counted from 0, where the file's record says where things stand.
+    /// The line of the first fault, counted from 0, where the file's record says where things
+    /// stand.
     pub fn line(&self) -> Option<usize>
         ensures { result ≡ option_map (λ s. s.start_line) (first_span self.now) }
     {
         self.first.label()?.line()
     }
 
-    /// The column of the first fault, counted from 0 in bytes, where the file's record says where things stand.
+    /// The column of the first fault, counted from 0 in bytes, where the file's record says where
+    /// things stand.
     pub fn column(&self) -> Option<usize>
         ensures { result ≡ option_map (λ s. s.start_column) (first_span self.now) }
     {
@@ -105,16 +108,17 @@ impl DescriptorError {
         Some(self.first.label()?.path())
     }
 
-    /// The bytes of its file's source that the first fault is at, once [`with_source_code`](DescriptorError::with_source_code)
-    /// has found them.
+    /// The bytes of its file's source that the first fault is at, once
+    /// [`with_source_code`](DescriptorError::with_source_code) has found them.
     pub fn span(&self) -> Option<Range<usize>>
         ensures { result ≡ option_and_then (λ l. l.bytes) (label_of self.now.first) }
     {
         self.first.label()?.span()
     }
 
-    /// Finds the bytes of faults in `source`, the text of the file that the first fault is in: of this one and all others in
-    /// this file. A fault has none afterwards if its place is not known, or no place of the text. Takes no memory.
+    /// Finds the bytes of faults in `source`, the text of the file that the first fault is in: of
+    /// this one and all others in this file. A fault has none afterwards if its place is not known,
+    /// or no place of the text. Takes no memory.
     pub fn with_source_code(mut self, source: &str) -> DescriptorError
         ensures { kinds_of result ≡ sourced source.now self }
     {
@@ -155,7 +159,8 @@ impl fmt::Debug for DescriptorError {
     }
 }
 
-/// Writes a file, and the line and the column in it, in front of words: nothing where there is no file.
+/// Writes a file, and the line and the column in it, in front of words: nothing where there is no
+/// file.
 pub fn write_place<W: fmt::Write>(
     f: &mut fmt::Formatter<W>,
     file: Option<&str>,

@@ -25,7 +25,10 @@ fn list_doubled(
     message: &str,
     extension: &StoredExtension,
 ) -> Result<(), AllocError>
-    ensures { OnOk result (Adds faults.old faults.new (duplicate_extension (cast_signed w32 extension.now.field.number) message.now (place_at faults.old extension.now.file (extension.now.field.path.items ++ (pos 3 ∷ []))) ∷ [])) }
+    ensures { OnOk result (Adds faults.old faults.new
+        (duplicate_extension (cast_signed w32 extension.now.field.number) message.now
+        (place_at faults.old extension.now.file (extension.now.field.path.items ++ (pos 3 ∷ [])))
+        ∷ [])) }
 {
     let path = extension.field.path.as_slice();
     let found = faults.label_at(alloc, extension.file, path, tag::field::NUMBER)?;
@@ -36,7 +39,8 @@ fn list_doubled(
     })
 }
 
-/// Puts an extension's number beside those that are known, with the extension's place, or lists it where it is there already.
+/// Puts an extension's number beside those that are known, with the extension's place, or lists it
+/// where it is there already.
 fn put_number(
     alloc: Global,
     types: &LinkedTypes<'_>,
@@ -45,9 +49,13 @@ fn put_number(
     place: u32,
     extension: &StoredExtension,
 ) -> Result<(), VisitError>
-    ensures faults { OnOk result (Adds faults.old faults.new (double_faults (is_known numbers.old) (linked_says types.now) (place_at faults.old) extension.now)) }
-    ensures numbers { OnOk result ((k : KeyType) → is_known numbers.new k ≡ (is_known numbers.old k || has_key k extension.now)) }
-    ensures places { OnOk result (numbers_of numbers.new ≡ with_number (numbers_of numbers.old) place extension.now) }
+    ensures faults { OnOk result (Adds faults.old faults.new
+        (double_faults (is_known numbers.old) (linked_says types.now) (place_at faults.old)
+        extension.now)) }
+    ensures numbers { OnOk result ((k : KeyType) → is_known numbers.new k
+        ≡ (is_known numbers.old k || has_key k extension.now)) }
+    ensures places { OnOk result (numbers_of numbers.new
+        ≡ with_number (numbers_of numbers.old) place extension.now) }
     ensures keeps { KeepsNumbers place (numbers_of numbers.old) (numbers_of numbers.new) }
 {
     let key = (extension.extendee, extension.field.number);
@@ -77,10 +85,16 @@ fn put_numbers(
     faults: &mut Faults<'_>,
     numbers: &mut BTreeMap<(u32, u32), u32>,
 ) -> Result<(), VisitError>
-    ensures faults { OnOk result (Adds faults.old faults.new (extension_faults (is_known numbers.old) (linked_says types.now) (place_at faults.old) types.now.new.now.extensions.items)) }
-    ensures numbers { OnOk result ((k : KeyType) → is_known numbers.new k ≡ is_taken (is_known numbers.old) types.now.new.now.extensions.items k) }
-    ensures places { OnOk result (numbers_of numbers.new ≡ with_numbers (numbers_of numbers.old) (length types.now.old.now.extensions.items) types.now.new.now.extensions.items) }
-    ensures keeps { KeepsNumbers (length types.now.old.now.extensions.items) (numbers_of numbers.old) (numbers_of numbers.new) }
+    ensures faults { OnOk result (Adds faults.old faults.new
+        (extension_faults (is_known numbers.old) (linked_says types.now) (place_at faults.old)
+        types.now.new.now.extensions.items)) }
+    ensures numbers { OnOk result ((k : KeyType) → is_known numbers.new k
+        ≡ is_taken (is_known numbers.old) types.now.new.now.extensions.items k) }
+    ensures places { OnOk result (numbers_of numbers.new
+        ≡ with_numbers (numbers_of numbers.old) (length types.now.old.now.extensions.items)
+        types.now.new.now.extensions.items) }
+    ensures keeps { KeepsNumbers (length types.now.old.now.extensions.items)
+        (numbers_of numbers.old) (numbers_of numbers.new) }
 {
     let extensions = types.new.extensions.as_slice();
     'turns: for (at, extension) in extensions.iter().enumerate() {
@@ -90,20 +104,30 @@ fn put_numbers(
     Ok(())
 }
 
-/// Puts the new extensions' numbers beside those that are known. Ok where `faults` are none and each is new, else the error
-/// that lists `faults`, and behind them each extension whose message and number an earlier one has. Want of memory, or an
-/// index past the last, is alone. A refusal may leave some of the new numbers.
+/// Puts the new extensions' numbers beside those that are known. Ok where `faults` are none and
+/// each is new, else the error that lists `faults`, and behind them each extension whose message
+/// and number an earlier one has. Want of memory, or an index past the last, is alone. A refusal
+/// may leave some of the new numbers.
 pub fn list_extensions(
     alloc: Global,
     types: &LinkedTypes<'_>,
     mut faults: Faults<'_>,
     numbers: &mut BTreeMap<(u32, u32), u32>,
 ) -> Result<(), DescriptorError>
-    ensures ok { OnOk result (list_of faults.entry ++ extension_faults (is_known numbers.old) (linked_says types.now) (place_at faults.entry) types.now.new.now.extensions.items ≡ []) }
-    ensures err { IfErr result (λ e. Refuses (λ xs. xs ≡ list_of faults.entry ++ extension_faults (is_known numbers.old) (linked_says types.now) (place_at faults.entry) types.now.new.now.extensions.items) e) }
-    ensures numbers { OnOk result ((k : KeyType) → is_known numbers.new k ≡ is_taken (is_known numbers.old) types.now.new.now.extensions.items k) }
-    ensures places { OnOk result (numbers_of numbers.new ≡ with_numbers (numbers_of numbers.old) (length types.now.old.now.extensions.items) types.now.new.now.extensions.items) }
-    ensures keeps { KeepsNumbers (length types.now.old.now.extensions.items) (numbers_of numbers.old) (numbers_of numbers.new) }
+    ensures ok { OnOk result (list_of faults.entry
+        ++ extension_faults (is_known numbers.old) (linked_says types.now) (place_at faults.entry)
+        types.now.new.now.extensions.items ≡ []) }
+    ensures err { IfErr result (λ e. Refuses
+        (λ xs. xs ≡ list_of faults.entry
+        ++ extension_faults (is_known numbers.old) (linked_says types.now) (place_at faults.entry)
+        types.now.new.now.extensions.items) e) }
+    ensures numbers { OnOk result ((k : KeyType) → is_known numbers.new k
+        ≡ is_taken (is_known numbers.old) types.now.new.now.extensions.items k) }
+    ensures places { OnOk result (numbers_of numbers.new
+        ≡ with_numbers (numbers_of numbers.old) (length types.now.old.now.extensions.items)
+        types.now.new.now.extensions.items) }
+    ensures keeps { KeepsNumbers (length types.now.old.now.extensions.items)
+        (numbers_of numbers.old) (numbers_of numbers.new) }
 {
     put_numbers(alloc, types, &mut faults, numbers).map_err(|error| walk_error(alloc, error))?;
     without_faults(faults)

@@ -19,8 +19,9 @@ use reflect_names::{Links, Offsets, Reference, VisitError, links_of, visit_all};
 use std::alloc::Global;
 use std::collections::BTreeMap;
 
-/// The entries of the files' declarations, whose references mean this: each is that of its declaration, and none is missing.
-/// Message types have the ranges of theirs, and enums the values; messages and files list what they declare themselves.
+/// The entries of the files' declarations, whose references mean this: each is that of its
+/// declaration, and none is missing. Message types have the ranges of theirs, and enums the values;
+/// messages and files list what they declare themselves.
 pub fn index_files(
     alloc: Global,
     before: Offsets,
@@ -28,29 +29,42 @@ pub fn index_files(
     files: &[FileDescriptorProto],
     references: &[Reference],
 ) -> Result<Batch, VisitError>
-    ensures messages { IfOk result (λ b. map stored_message_name b.messages.items ≡ with_names messages [] (batch_declarations before first files.now)) }
-    ensures listed { IfOk result (λ b. AllByRecursion ListsMembers (map message_of b.messages.items)) }
-    ensures enums { IfOk result (λ b. map stored_enum_name b.enums.items ≡ with_names enums [] (batch_declarations before first files.now)) }
-    ensures extensions { IfOk result (λ b. map stored_extension_name b.extensions.items ≡ with_names extensions [] (batch_declarations before first files.now)) }
-    ensures services { IfOk result (λ b. map stored_service_name b.services.items ≡ with_names services [] (batch_declarations before first files.now)) }
-    ensures ranges { IfOk result (λ b. AllDeclared (messages_in (batch_declarations before first files.now)) (map stored_ranges b.messages.items)) }
-    ensures values { IfOk result (λ b. map stored_values b.enums.items ≡ map declared_values (enums_in (batch_declarations before first files.now))) }
-    ensures entries { IfOk result (IsBatchOf references.now before first (batch_declarations before first files.now)) }
+    ensures messages { IfOk result
+        (λ b. map stored_message_name b.messages.items
+        ≡ with_names messages [] (batch_declarations before first files.now)) }
+    ensures listed { IfOk result (λ b. AllByRecursion ListsMembers
+        (map message_of b.messages.items)) }
+    ensures enums { IfOk result (λ b. map stored_enum_name b.enums.items
+        ≡ with_names enums [] (batch_declarations before first files.now)) }
+    ensures extensions { IfOk result
+        (λ b. map stored_extension_name b.extensions.items
+        ≡ with_names extensions [] (batch_declarations before first files.now)) }
+    ensures services { IfOk result
+        (λ b. map stored_service_name b.services.items
+        ≡ with_names services [] (batch_declarations before first files.now)) }
+    ensures ranges { IfOk result (λ b. AllDeclared
+        (messages_in (batch_declarations before first files.now))
+        (map stored_ranges b.messages.items)) }
+    ensures values { IfOk result (λ b. map stored_values b.enums.items
+        ≡ map declared_values (enums_in (batch_declarations before first files.now))) }
+    ensures entries { IfOk result (IsBatchOf references.now before first
+        (batch_declarations before first files.now)) }
 {
     let mut visitor = IndexVisitor::new(alloc, before, first, references);
     visit_all(alloc, before, first, files, &mut visitor)?;
     visitor.into_batch(alloc)
 }
 
-/// Adds what the new files import, by the indexes that the map has for the names, behind what is there. A refusal may leave
-/// some of it.
+/// Adds what the new files import, by the indexes that the map has for the names, behind what is
+/// there. A refusal may leave some of it.
 pub fn add_links(
     alloc: Global,
     file_names: &BTreeMap<String, u32>,
     links: &mut Vec<Links>,
     files: &[FileDescriptorProto],
 ) -> Result<(), VisitError>
-    ensures added { OnOk result (map link_view links.new.items ≡ map link_view links.old.items ++ map (links_to (indexes_of file_names.now)) files.now) }
+    ensures added { OnOk result (map link_view links.new.items ≡ map link_view links.old.items
+        ++ map (links_to (indexes_of file_names.now)) files.now) }
     ensures kept { take (length links.old.items) links.new.items ≡ links.old.items }
 {
     'turns: for file in files {

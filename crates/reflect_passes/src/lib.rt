@@ -1,4 +1,5 @@
-//! The passes of linking over a batch of files: each lists all faults that it finds, and the first faulty one ends it.
+//! The passes of linking over a batch of files: each lists all faults that it finds, and the first
+//! faulty one ends it.
 #![tactic(auto)]
 
 mod error;

@@ -53,10 +53,12 @@ pub fn without_faults(faults: Faults<'_>) -> Result<(), DescriptorError>
     refused(faults.into_list())
 }
 
-/// Declares the names of the files, and puts their own names into the map of those. Refused where a name is missing or taken,
-/// or where a file lacks or misnames something that is found by its name or by its record alone, with all of these faults.
+/// Declares the names of the files, and puts their own names into the map of those. Refused where a
+/// name is missing or taken, or where a file lacks or misnames something that is found by its name
+/// or by its record alone, with all of these faults.
 ///
-/// Want of memory, or an index past the last, is alone. After a refusal both maps may have some of the names of these files.
+/// Want of memory, or an index past the last, is alone. After a refusal both maps may have some of
+/// the names of these files.
 pub fn declare_names(
     alloc: Global,
     before: Offsets,
@@ -65,12 +67,18 @@ pub fn declare_names(
     file_names: &mut BTreeMap<String, u32>,
     names: &mut BTreeMap<String, Definition>,
 ) -> Result<(), DescriptorError>
-    ensures ok { OnOk result (name_faults (indexes_of file_names.old) (known_of names.old) before first files.now ≡ []) }
-    ensures files { OnOk result (indexes_of file_names.new ≡ with_files (indexes_of file_names.old) first files.now) }
-    ensures names { OnOk result (known_of names.new ≡ known_behind (known_of names.old) (batch_declarations before first files.now)) }
-    ensures err { IfErr result (λ e. Refuses (λ xs. xs ≡ name_faults (indexes_of file_names.old) (known_of names.old) before first files.now) e) }
+    ensures ok { OnOk result (name_faults (indexes_of file_names.old) (known_of names.old) before
+        first files.now ≡ []) }
+    ensures files { OnOk result (indexes_of file_names.new
+        ≡ with_files (indexes_of file_names.old) first files.now) }
+    ensures names { OnOk result (known_of names.new
+        ≡ known_behind (known_of names.old) (batch_declarations before first files.now)) }
+    ensures err { IfErr result (λ e. Refuses
+        (λ xs. xs ≡ name_faults (indexes_of file_names.old) (known_of names.old) before first
+        files.now) e) }
     ensures keeps { KeepsFrom first (length files.now) names.old.entries names.new.entries }
-    ensures keeps_files { KeepsIndexes first (indexes_of file_names.old) (indexes_of file_names.new) }
+    ensures keeps_files { KeepsIndexes first (indexes_of file_names.old)
+        (indexes_of file_names.new) }
 {
     let mut faults = Faults::new(alloc, files, first);
     if let Err(error) = name_files(alloc, file_names, first, files, &mut faults) {
@@ -87,8 +95,9 @@ pub fn declare_names(
     }
 }
 
-/// What the files' references mean, in the order in which a walk meets them, or the faults of those that mean nothing of the
-/// kind that they need. Want of memory, or an index past the last, is alone.
+/// What the files' references mean, in the order in which a walk meets them, or the faults of those
+/// that mean nothing of the kind that they need. Want of memory, or an index past the last, is
+/// alone.
 pub fn resolve_references(
     alloc: Global,
     before: Offsets,
@@ -97,8 +106,10 @@ pub fn resolve_references(
     names: &BTreeMap<String, Definition>,
     links: &[Links],
 ) -> Result<Vec<Reference>, DescriptorError>
-    ensures ok { IfOk result (λ references. BatchReferences (known_of names.now) links.now (batch_places files.now first) before first files.now (map target_of references.items) []) }
-    ensures err { IfErr result (λ e. Refuses (λ xs. ReferenceFaults (known_of names.now) links.now before first files.now xs) e) }
+    ensures ok { IfOk result (λ references. BatchReferences (known_of names.now) links.now
+        (batch_places files.now first) before first files.now (map target_of references.items) []) }
+    ensures err { IfErr result (λ e. Refuses
+        (λ xs. ReferenceFaults (known_of names.now) links.now before first files.now xs) e) }
 {
     let faults = Faults::new(alloc, files, first);
     let mut visitor = ResolveVisitor::new(alloc, faults, names, links);
@@ -110,8 +121,9 @@ pub fn resolve_references(
     Ok(references)
 }
 
-/// Ok where the files, whose references mean this, break no rule of numbers, defaults, oneof indexes and map entries, else all
-/// that is wrong with them. Want of memory, or an index past the last, is alone.
+/// Ok where the files, whose references mean this, break no rule of numbers, defaults, oneof
+/// indexes and map entries, else all that is wrong with them. Want of memory, or an index past the
+/// last, is alone.
 pub fn check_numbers(
     alloc: Global,
     before: Offsets,
@@ -120,8 +132,11 @@ pub fn check_numbers(
     references: &[Reference],
     types: &LinkedTypes<'_>,
 ) -> Result<(), DescriptorError>
-    ensures ok { OnOk result (BatchFaults (linked_says types.now) (linked_values types.now) before first files.now references.now []) }
-    ensures err { IfErr result (λ e. Refuses (λ xs. BatchFaults (linked_says types.now) (linked_values types.now) before first files.now references.now xs) e) }
+    ensures ok { OnOk result (BatchFaults (linked_says types.now) (linked_values types.now) before
+        first files.now references.now []) }
+    ensures err { IfErr result (λ e. Refuses
+        (λ xs. BatchFaults (linked_says types.now) (linked_values types.now) before first files.now
+        references.now xs) e) }
 {
     match check_rules(alloc, before, first, files, references, types) {
         Ok(faults) => refused(faults),

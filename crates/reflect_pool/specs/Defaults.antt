@@ -6,10 +6,13 @@ use Rattle.reflect_pool.specs.Parts.{no_value}
 use Rattle.reflect_pool.specs.declared.kind.DefaultValue.{DefaultValue}
 use Rattle.reflect_pool.specs.declared.kind.DefaultValue.TheVariants as defaults
 
--- the number of the first value of a name, of a kind that is an enum; none where it has no such value
+-- the number of the first value of a name, of a kind that is an enum; none where it has no such
+-- value
 abbrev pub HasNumber : PoolType → KindType → List ℕ → Option ℤ → Type 0
 HasNumber pool (enumeration i) name None = IsFirst (λ v. v.name ≡ name) (enum_at pool i).values None
-HasNumber pool (enumeration i) name (Some n) = (k : ℕ) × IsFirst (λ v. v.name ≡ name) (enum_at pool i).values (Some k) × ((slice_index_or (enum_at pool i).values k no_value).number ≡ n)
+HasNumber pool (enumeration i) name (Some n) = (k : ℕ)
+    × IsFirst (λ v. v.name ≡ name) (enum_at pool i).values (Some k)
+    × ((slice_index_or (enum_at pool i).values k no_value).number ≡ n)
 HasNumber pool _ name r = r ≡ None
 
 -- the declaration gives no default, or the name of a value that is not there
@@ -26,5 +29,6 @@ IsDefault pool f (Some (defaults.U64 n)) = f.default ≡ Some (unsigned n)
 IsDefault pool f (Some (defaults.Bool b)) = f.default ≡ Some (truth b)
 IsDefault pool f (Some (defaults.Text s)) = f.default ≡ Some (text s.now)
 IsDefault pool f (Some (defaults.Bytes b)) = f.default ≡ Some (octets b.now)
-IsDefault pool f (Some (defaults.Enum n)) = (name : List ℕ) × (f.default ≡ Some (named name)) × HasNumber pool f.kind name (Some n)
+IsDefault pool f (Some (defaults.Enum n)) = (name : List ℕ) × (f.default ≡ Some (named name))
+    × HasNumber pool f.kind name (Some n)
 IsDefault pool f (Some (defaults.Float s)) = f.default ≡ Some (fraction s.now)

@@ -20,7 +20,8 @@ FindsValue P e (Some v) = IsFirst P (enum_at e.pool.now e.index).values (Some v.
 
 -- the place of the one element with P; none where no element has it
 abbrev pub IsOnly : {X : Type 0} → (X → Type 0) → List X → Option ℕ → Type 0
-IsOnly P xs (Some i) = (i < length xs) × (HoldsAt P xs i × ((k : ℕ) (d : _) → k < length xs → P (slice_index_or xs k d) → k ≡ i))
+IsOnly P xs (Some i) = (i < length xs)
+    × (HoldsAt P xs i × ((k : ℕ) (d : _) → k < length xs → P (slice_index_or xs k d) → k ≡ i))
 IsOnly P xs None = All (λ x. P x → ⊥) xs
 
 -- the first extension of the pool with P, or none where no extension has it

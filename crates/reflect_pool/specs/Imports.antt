@@ -18,7 +18,8 @@ place_named p name = position (bytes_eq name) (names_of_files p.files)
 
 -- the file that the import at an index among the names stands for
 abbrev pub import_at : Indexes → List (List ℕ) → ℤ → Option ℕ
-import_at indexes names (pos i) = elim (slice_get names i) [ None ↦ None | Some name ↦ indexes name ]
+import_at indexes names (pos i) =
+    elim (slice_get names i) [ None ↦ None | Some name ↦ indexes name ]
 import_at indexes names (negsuc i) = None
 
 -- the import at an index among the names

@@ -17,11 +17,20 @@ use Rattle.reflect_pool.specs.Imports.{ImportsAreThere, imported_places, names_o
 
 -- a pool that holds nothing
 abbrev pub empty_pool : PoolType
-empty_pool = record { files = []; records = []; declared = []; messages = []; enums = []; extensions = []; services = [] }
+empty_pool = record {
+  files = [];
+  records = [];
+  declared = [];
+  messages = [];
+  enums = [];
+  extensions = [];
+  services = [];
+}
 
 -- a name has an index exactly where it is the one at this place
 abbrev pub AreIndexed : Indexes → List (List ℕ) → Type 0
-AreIndexed indexes names = (t : List ℕ) (i : ℕ) → (indexes t ≡ Some i → slice_get names i ≡ Some t) × (slice_get names i ≡ Some t → indexes t ≡ Some i)
+AreIndexed indexes names = (t : List ℕ) (i : ℕ) → (indexes t ≡ Some i → slice_get names i ≡ Some t)
+    × (slice_get names i ≡ Some t → indexes t ≡ Some i)
 
 -- the message that an extension extends, and its number there
 abbrev pub key_of : ExtensionType → KeyType
@@ -29,18 +38,22 @@ key_of x = (x.extendee, x.field.number)
 
 -- a message and a number stand for a place exactly where the extension at this place has them
 abbrev pub AreNumbered : Numbers → List KeyType → Type 0
-AreNumbered numbers keys = (k : KeyType) (i : ℕ) → (numbers k ≡ Some i → slice_get keys i ≡ Some k) × (slice_get keys i ≡ Some k → numbers k ≡ Some i)
+AreNumbered numbers keys = (k : KeyType) (i : ℕ) → (numbers k ≡ Some i → slice_get keys i ≡ Some k)
+    × (slice_get keys i ≡ Some k → numbers k ≡ Some i)
 
 -- the names of the entries of each sort are those that the files' records declare
 abbrev pub AreRecorded : PoolType → Type 0
 AreRecorded p =
     (s : Sort) → names_of p s ≡ with_names s [] (batch_declarations nothing_before 0 p.records)
 
--- what entries name is there, a full name stands for a place exactly where it is the one at this place, all names are of the
--- pool's files, each file's name stands for the file, and each extension's message and number for the extension; what files
--- import is there, and the links are to it; the files are those of the records, and what is known,
--- and the names of the entries, is what the records give
-pub record IsLinked (p : PoolType) (names : BTreeMap (String Global) Definition) (file_names : BTreeMap (String Global) ℕ) (places : BTreeMap KeyType ℕ) (links : List Links) : Type 0 where
+-- what entries name is there, a full name stands for a place exactly where it is the one at this
+-- place, all names are of the pool's files, each file's name stands for the file, and each
+-- extension's message and number for the extension; what files import is there, and the links are
+-- to it; the files are those of the records, and what is known, and the names of the entries, is
+-- what the records give
+pub record IsLinked (p : PoolType) (names : BTreeMap (String Global) Definition)
+    (file_names : BTreeMap (String Global) ℕ) (places : BTreeMap KeyType ℕ)
+    (links : List Links) : Type 0 where
   pub pooled : ArePooled p
   pub named : AreNamed (known_of names) (names_of p)
   pub below : AllBelow (length p.files) names.entries

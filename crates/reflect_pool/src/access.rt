@@ -66,7 +66,8 @@ impl DescriptorPool {
 
     /// What each file imports, by its place.
     pub fn links(&self) -> &[Links]
-        ensures { map link_view result.now ≡ map (imported_places (place_named self.now)) self.now.files }
+        ensures { map link_view result.now
+            ≡ map (imported_places (place_named self.now)) self.now.files }
     {
         self.links.as_slice()
     }
@@ -93,8 +94,10 @@ impl DescriptorPool {
     pub fn imports_of(&self, file: u32) -> &[u32]
         requires { file < length self.now.files }
         ensures inside { All (λ place. place < length self.now.files) result.now }
-        ensures places { HoldsAt (λ f. result.now ≡ imported (place_named self.now) f) self.now.files file }
-        ensures names { HoldsAt (λ f. map (name_at self.now) result.now ≡ f.imports) self.now.files file }
+        ensures places { HoldsAt (λ f. result.now ≡ imported (place_named self.now) f)
+            self.now.files file }
+        ensures names { HoldsAt (λ f. map (name_at self.now) result.now ≡ f.imports)
+            self.now.files file }
     {
         self.links[file as usize].imports.as_slice()
     }
@@ -103,8 +106,10 @@ impl DescriptorPool {
     pub fn public_imports_of(&self, file: u32) -> &[u32]
         requires { file < length self.now.files }
         ensures inside { All (λ place. place < length self.now.files) result.now }
-        ensures places { HoldsAt (λ f. result.now ≡ imported_publicly (place_named self.now) f) self.now.files file }
-        ensures names { HoldsAt (λ f. map (name_at self.now) result.now ≡ map (import_name f.imports) f.public_imports) self.now.files file }
+        ensures places { HoldsAt (λ f. result.now ≡ imported_publicly (place_named self.now) f)
+            self.now.files file }
+        ensures names { HoldsAt (λ f. map (name_at self.now) result.now
+            ≡ map (import_name f.imports) f.public_imports) self.now.files file }
     {
         self.links[file as usize].public.as_slice()
     }
@@ -171,7 +176,8 @@ impl<'p> MessageDescriptor<'p> {
     /// The places of what is declared in the type.
     pub fn children(&self) -> &'p Children
         ensures inside { ChildrenWithin (counts_of self.now.pool.now) (children_of result.now) }
-        ensures places { children_of result.now ≡ (type_at self.now.pool.now self.now.index).children }
+        ensures places { children_of result.now
+            ≡ (type_at self.now.pool.now self.now.index).children }
     {
         let pool = self.pool;
         &pool.tables.messages[self.index as usize].children

@@ -27,7 +27,9 @@ impl<'p> EnumDescriptor<'p> {
     /// The message that the type is declared in, if it is one.
     pub fn parent_message(&self) -> Option<MessageDescriptor<'p>>
         ensures pool { IfSome result (λ d. d.pool.now ≡ self.now.pool.now) }
-        ensures parent { MatchOption result ((enum_at self.now.pool.now self.now.index).parent ≡ None) (λ d. (enum_at self.now.pool.now self.now.index).parent ≡ Some d.index) }
+        ensures parent { MatchOption result
+            ((enum_at self.now.pool.now self.now.index).parent ≡ None)
+            (λ d. (enum_at self.now.pool.now self.now.index).parent ≡ Some d.index) }
     {
         let pool = self.pool;
         pool.message_at(pool.tables.enums[self.index as usize].parent?)
@@ -41,7 +43,8 @@ impl<'p> EnumDescriptor<'p> {
         pool.tables.enums[self.index as usize].name.as_str()
     }
 
-    /// The name with those of all that holds the type before it, joined by dots, without a leading dot.
+    /// The name with those of all that holds the type before it, joined by dots, without a leading
+    /// dot.
     pub fn full_name(&self) -> &'p str
         ensures { result.now ≡ (enum_at self.now.pool.now self.now.index).full_name }
     {
@@ -80,8 +83,8 @@ impl<'p> EnumDescriptor<'p> {
         }
     }
 
-    /// The value of a number, of several the first that was declared. Takes no memory, and a number of steps that grows with
-    /// the logarithm of the values' count.
+    /// The value of a number, of several the first that was declared. Takes no memory, and a number
+    /// of steps that grows with the logarithm of the values' count.
     pub fn get_value(&self, number: i32) -> Option<EnumValueDescriptor<'p>>
         ensures enumeration { IfSome result (λ v. v.enumeration ≡ self.now) }
         ensures first { FindsValue (λ v. v.number ≡ number) self.now result }
@@ -96,7 +99,8 @@ impl<'p> EnumDescriptor<'p> {
         })
     }
 
-    /// The value of a name. Takes no memory, and a number of steps that grows with the logarithm of the values' count.
+    /// The value of a name. Takes no memory, and a number of steps that grows with the logarithm of
+    /// the values' count.
     pub fn get_value_by_name(&self, name: &str) -> Option<EnumValueDescriptor<'p>>
         ensures enumeration { IfSome result (λ v. v.enumeration ≡ self.now) }
         ensures first { FindsValue (λ v. v.name ≡ name.now) self.now result }
@@ -113,7 +117,8 @@ impl<'p> EnumDescriptor<'p> {
     fn value_at(&self, place: u32) -> Option<EnumValueDescriptor<'p>>
         ensures enumeration { IfSome result (λ v. v.enumeration ≡ self.now) }
         ensures place { IfSome result (λ v. v.index ≡ place) }
-        ensures there { place < length (enum_at self.now.pool.now self.now.index).values → IsSome result }
+        ensures there { place < length (enum_at self.now.pool.now self.now.index).values
+            → IsSome result }
         ensures few { IfSome result (λ v. v.index < 2 ^ 31) }
     {
         let pool = self.pool;
@@ -198,7 +203,8 @@ impl<'p> EnumValueDescriptor<'p> {
     }
 
     pub fn name(&self) -> &'p str
-        ensures { result.now ≡ (type_of_value self.now.enumeration.pool.now self.now.enumeration.index self.now.index).name }
+        ensures { result.now ≡ (type_of_value self.now.enumeration.pool.now
+            self.now.enumeration.index self.now.index).name }
     {
         let pool = self.enumeration.pool;
         pool.tables.enums[self.enumeration.index as usize]
@@ -210,7 +216,8 @@ impl<'p> EnumValueDescriptor<'p> {
 
     /// The value's name behind that of what the enum is declared in.
     pub fn full_name(&self) -> &'p str
-        ensures { result.now ≡ (type_of_value self.now.enumeration.pool.now self.now.enumeration.index self.now.index).full_name }
+        ensures { result.now ≡ (type_of_value self.now.enumeration.pool.now
+            self.now.enumeration.index self.now.index).full_name }
     {
         let pool = self.enumeration.pool;
         pool.tables.enums[self.enumeration.index as usize]
@@ -222,7 +229,8 @@ impl<'p> EnumValueDescriptor<'p> {
 
     /// Where the declaration stands in its file's record.
     pub fn path(&self) -> &'p [i32]
-        ensures { result.now ≡ (type_of_value self.now.enumeration.pool.now self.now.enumeration.index self.now.index).path }
+        ensures { result.now ≡ (type_of_value self.now.enumeration.pool.now
+            self.now.enumeration.index self.now.index).path }
     {
         let pool = self.enumeration.pool;
         pool.tables.enums[self.enumeration.index as usize]
@@ -233,7 +241,8 @@ impl<'p> EnumValueDescriptor<'p> {
     }
 
     pub fn number(&self) -> i32
-        ensures { result ≡ (type_of_value self.now.enumeration.pool.now self.now.enumeration.index self.now.index).number }
+        ensures { result ≡ (type_of_value self.now.enumeration.pool.now self.now.enumeration.index
+            self.now.index).number }
     {
         let pool = self.enumeration.pool;
         pool.tables.enums[self.enumeration.index as usize]

@@ -32,7 +32,9 @@ impl<'p> ExtensionDescriptor<'p> {
     /// The message that the extension is declared in, if it is one, whatever it extends.
     pub fn parent_message(&self) -> Option<MessageDescriptor<'p>>
         ensures pool { IfSome result (λ d. d.pool.now ≡ self.now.pool.now) }
-        ensures parent { MatchOption result ((extension_at self.now.pool.now self.now.index).parent ≡ None) (λ d. (extension_at self.now.pool.now self.now.index).parent ≡ Some d.index) }
+        ensures parent { MatchOption result
+            ((extension_at self.now.pool.now self.now.index).parent ≡ None)
+            (λ d. (extension_at self.now.pool.now self.now.index).parent ≡ Some d.index) }
     {
         let pool = self.pool;
         pool.message_at(pool.tables.extensions[self.index as usize].parent?)
@@ -60,7 +62,8 @@ impl<'p> ExtensionDescriptor<'p> {
             .as_str()
     }
 
-    /// The name with those of all that holds the declaration before it, joined by dots, without a leading dot.
+    /// The name with those of all that holds the declaration before it, joined by dots, without a
+    /// leading dot.
     pub fn full_name(&self) -> &'p str
         ensures { result.now ≡ (extension_at self.now.pool.now self.now.index).field.full_name }
     {
@@ -118,14 +121,16 @@ impl<'p> ExtensionDescriptor<'p> {
 
     /// It holds any number of values, and is no map.
     pub fn is_list(&self) -> bool
-        ensures { result ≡ holds_list self.now.pool.now (extension_at self.now.pool.now self.now.index).field }
+        ensures { result ≡ holds_list self.now.pool.now
+            (extension_at self.now.pool.now self.now.index).field }
     {
         self.cardinality() == Cardinality::Repeated && !self.is_map()
     }
 
     /// Its values are the entries of a map.
     pub fn is_map(&self) -> bool
-        ensures { result ≡ holds_map self.now.pool.now (extension_at self.now.pool.now self.now.index).field }
+        ensures { result ≡ holds_map self.now.pool.now
+            (extension_at self.now.pool.now self.now.index).field }
     {
         let pool = self.pool;
         is_map(pool, &pool.tables.extensions[self.index as usize].field)
@@ -150,7 +155,8 @@ impl<'p> ExtensionDescriptor<'p> {
     }
 
     pub fn kind(&self) -> Kind<'p>
-        ensures { IsKind self.now.pool.now result (extension_at self.now.pool.now self.now.index).field.kind }
+        ensures { IsKind self.now.pool.now result
+            (extension_at self.now.pool.now self.now.index).field.kind }
     {
         let pool = self.pool;
         kind_in(pool, pool.tables.extensions[self.index as usize].field.kind)
@@ -158,7 +164,8 @@ impl<'p> ExtensionDescriptor<'p> {
 
     /// The default that the declaration gives, if it gives one.
     pub fn default(&self) -> Option<DefaultValue<'p>>
-        ensures { IsDefault self.now.pool.now (extension_at self.now.pool.now self.now.index).field result }
+        ensures { IsDefault self.now.pool.now
+            (extension_at self.now.pool.now self.now.index).field result }
     {
         let pool = self.pool;
         default_value(pool, &pool.tables.extensions[self.index as usize].field)

@@ -36,7 +36,8 @@ impl<'p> FieldDescriptor<'p> {
     }
 
     pub fn name(&self) -> &'p str
-        ensures { result.now ≡ (type_of_field self.now.message.pool.now self.now.message.index self.now.index).name }
+        ensures { result.now ≡ (type_of_field self.now.message.pool.now self.now.message.index
+            self.now.index).name }
     {
         let pool = self.message.pool;
         pool.tables.messages[self.message.index as usize]
@@ -48,7 +49,8 @@ impl<'p> FieldDescriptor<'p> {
 
     /// The type's full name, a dot and the field's name.
     pub fn full_name(&self) -> &'p str
-        ensures { result.now ≡ (type_of_field self.now.message.pool.now self.now.message.index self.now.index).full_name }
+        ensures { result.now ≡ (type_of_field self.now.message.pool.now self.now.message.index
+            self.now.index).full_name }
     {
         let pool = self.message.pool;
         pool.tables.messages[self.message.index as usize]
@@ -60,7 +62,10 @@ impl<'p> FieldDescriptor<'p> {
 
     /// The JSON name that was written, if one was.
     pub fn json_name(&self) -> Option<&'p str>
-        ensures { MatchOption result ((type_of_field self.now.message.pool.now self.now.message.index self.now.index).json_name ≡ None) (λ name. (type_of_field self.now.message.pool.now self.now.message.index self.now.index).json_name ≡ Some name.now) }
+        ensures { MatchOption result ((type_of_field self.now.message.pool.now
+            self.now.message.index self.now.index).json_name ≡ None)
+            (λ name. (type_of_field self.now.message.pool.now self.now.message.index
+            self.now.index).json_name ≡ Some name.now) }
     {
         let pool = self.message.pool;
         match &pool.tables.messages[self.message.index as usize]
@@ -75,7 +80,8 @@ impl<'p> FieldDescriptor<'p> {
 
     /// Where the declaration stands in its file's record.
     pub fn path(&self) -> &'p [i32]
-        ensures { result.now ≡ (type_of_field self.now.message.pool.now self.now.message.index self.now.index).path }
+        ensures { result.now ≡ (type_of_field self.now.message.pool.now self.now.message.index
+            self.now.index).path }
     {
         let pool = self.message.pool;
         pool.tables.messages[self.message.index as usize]
@@ -86,7 +92,8 @@ impl<'p> FieldDescriptor<'p> {
     }
 
     pub fn number(&self) -> u32
-        ensures { result ≡ (type_of_field self.now.message.pool.now self.now.message.index self.now.index).number }
+        ensures { result ≡ (type_of_field self.now.message.pool.now self.now.message.index
+            self.now.index).number }
     {
         let pool = self.message.pool;
         pool.tables.messages[self.message.index as usize]
@@ -96,7 +103,8 @@ impl<'p> FieldDescriptor<'p> {
     }
 
     pub fn cardinality(&self) -> Cardinality
-        ensures { result ≡ (type_of_field self.now.message.pool.now self.now.message.index self.now.index).cardinality }
+        ensures { result ≡ (type_of_field self.now.message.pool.now self.now.message.index
+            self.now.index).cardinality }
     {
         let pool = self.message.pool;
         pool.tables.messages[self.message.index as usize]
@@ -107,14 +115,17 @@ impl<'p> FieldDescriptor<'p> {
 
     /// The field has to be set (proto2).
     pub fn is_required(&self) -> bool
-        ensures { result ≡ is_required (type_of_field self.now.message.pool.now self.now.message.index self.now.index).cardinality }
+        ensures { result ≡ is_required
+            (type_of_field self.now.message.pool.now self.now.message.index
+            self.now.index).cardinality }
     {
         self.cardinality() == Cardinality::Required
     }
 
     /// The value is written between two tags, and its type is declared with the field.
     pub fn is_group(&self) -> bool
-        ensures { result ≡ (type_of_field self.now.message.pool.now self.now.message.index self.now.index).group }
+        ensures { result ≡ (type_of_field self.now.message.pool.now self.now.message.index
+            self.now.index).group }
     {
         let pool = self.message.pool;
         pool.tables.messages[self.message.index as usize]
@@ -125,14 +136,16 @@ impl<'p> FieldDescriptor<'p> {
 
     /// The field holds any number of values, and is no map.
     pub fn is_list(&self) -> bool
-        ensures { result ≡ holds_list self.now.message.pool.now (type_of_field self.now.message.pool.now self.now.message.index self.now.index) }
+        ensures { result ≡ holds_list self.now.message.pool.now
+            (type_of_field self.now.message.pool.now self.now.message.index self.now.index) }
     {
         self.cardinality() == Cardinality::Repeated && !self.is_map()
     }
 
     /// The field's values are the entries of a map.
     pub fn is_map(&self) -> bool
-        ensures { result ≡ holds_map self.now.message.pool.now (type_of_field self.now.message.pool.now self.now.message.index self.now.index) }
+        ensures { result ≡ holds_map self.now.message.pool.now
+            (type_of_field self.now.message.pool.now self.now.message.index self.now.index) }
     {
         let pool = self.message.pool;
         is_map(
@@ -145,7 +158,8 @@ impl<'p> FieldDescriptor<'p> {
 
     /// A list of numbers is written as one record.
     pub fn is_packed(&self) -> bool
-        ensures { result ≡ (type_of_field self.now.message.pool.now self.now.message.index self.now.index).packed }
+        ensures { result ≡ (type_of_field self.now.message.pool.now self.now.message.index
+            self.now.index).packed }
     {
         let pool = self.message.pool;
         pool.tables.messages[self.message.index as usize]
@@ -156,7 +170,8 @@ impl<'p> FieldDescriptor<'p> {
 
     /// A field that is not set differs from one that holds the default.
     pub fn supports_presence(&self) -> bool
-        ensures { result ≡ (type_of_field self.now.message.pool.now self.now.message.index self.now.index).presence }
+        ensures { result ≡ (type_of_field self.now.message.pool.now self.now.message.index
+            self.now.index).presence }
     {
         let pool = self.message.pool;
         pool.tables.messages[self.message.index as usize]
@@ -168,8 +183,11 @@ impl<'p> FieldDescriptor<'p> {
     /// The oneof that the field is a member of, a synthetic one too; none where it is in none.
     pub fn containing_oneof(&self) -> Option<OneofDescriptor<'p>>
         ensures message { IfSome result (λ o. o.message ≡ self.now.message) }
-        ensures place { IfSome result (λ o. (type_of_field self.now.message.pool.now self.now.message.index self.now.index).oneof ≡ Some o.index) }
-        ensures there { IsSome (type_of_field self.now.message.pool.now self.now.message.index self.now.index).oneof → IsSome result }
+        ensures place { IfSome result (λ o.
+            (type_of_field self.now.message.pool.now self.now.message.index self.now.index).oneof
+            ≡ Some o.index) }
+        ensures there { IsSome (type_of_field self.now.message.pool.now self.now.message.index
+            self.now.index).oneof → IsSome result }
     {
         let pool = self.message.pool;
         let field = &pool.tables.messages[self.message.index as usize]
@@ -179,7 +197,8 @@ impl<'p> FieldDescriptor<'p> {
     }
 
     pub fn kind(&self) -> Kind<'p>
-        ensures { IsKind self.now.message.pool.now result (type_of_field self.now.message.pool.now self.now.message.index self.now.index).kind }
+        ensures { IsKind self.now.message.pool.now result
+            (type_of_field self.now.message.pool.now self.now.message.index self.now.index).kind }
     {
         let pool = self.message.pool;
         kind_in(
@@ -193,7 +212,8 @@ impl<'p> FieldDescriptor<'p> {
 
     /// The default that the declaration gives, if it gives one.
     pub fn default(&self) -> Option<DefaultValue<'p>>
-        ensures { IsDefault self.now.message.pool.now (type_of_field self.now.message.pool.now self.now.message.index self.now.index) result }
+        ensures { IsDefault self.now.message.pool.now
+            (type_of_field self.now.message.pool.now self.now.message.index self.now.index) result }
     {
         let pool = self.message.pool;
         default_value(

@@ -31,7 +31,9 @@ impl<'p> MessageDescriptor<'p> {
     /// The message that the type is declared in, if it is one.
     pub fn parent_message(&self) -> Option<MessageDescriptor<'p>>
         ensures pool { IfSome result (λ d. d.pool.now ≡ self.now.pool.now) }
-        ensures parent { MatchOption result ((type_at self.now.pool.now self.now.index).parent ≡ None) (λ d. (type_at self.now.pool.now self.now.index).parent ≡ Some d.index) }
+        ensures parent { MatchOption result
+            ((type_at self.now.pool.now self.now.index).parent ≡ None)
+            (λ d. (type_at self.now.pool.now self.now.index).parent ≡ Some d.index) }
     {
         let pool = self.pool;
         pool.message_at(pool.tables.messages[self.index as usize].parent?)
@@ -45,7 +47,8 @@ impl<'p> MessageDescriptor<'p> {
         pool.tables.messages[self.index as usize].name.as_str()
     }
 
-    /// The name with those of all that holds the type before it, joined by dots, without a leading dot.
+    /// The name with those of all that holds the type before it, joined by dots, without a leading
+    /// dot.
     pub fn full_name(&self) -> &'p str
         ensures { result.now ≡ (type_at self.now.pool.now self.now.index).full_name }
     {
@@ -88,7 +91,8 @@ impl<'p> MessageDescriptor<'p> {
         }
     }
 
-    /// The field of a number. Takes no memory, and a number of steps that grows with the logarithm of the fields' count.
+    /// The field of a number. Takes no memory, and a number of steps that grows with the logarithm
+    /// of the fields' count.
     pub fn get_field(&self, number: u32) -> Option<FieldDescriptor<'p>>
         ensures message { IfSome result (λ f. f.message ≡ self.now) }
         ensures first { FindsField (λ f. f.number ≡ number) self.now result }
@@ -103,7 +107,8 @@ impl<'p> MessageDescriptor<'p> {
         })
     }
 
-    /// The field of a name. Takes no memory, and a number of steps that grows with the logarithm of the fields' count.
+    /// The field of a name. Takes no memory, and a number of steps that grows with the logarithm of
+    /// the fields' count.
     pub fn get_field_by_name(&self, name: &str) -> Option<FieldDescriptor<'p>>
         ensures message { IfSome result (λ f. f.message ≡ self.now) }
         ensures first { FindsField (λ f. f.name ≡ name.now) self.now result }
@@ -118,8 +123,8 @@ impl<'p> MessageDescriptor<'p> {
         })
     }
 
-    /// The field of a written JSON name, of several the first that was declared. Takes no memory, and a number of steps that
-    /// grows with the logarithm of the fields' count.
+    /// The field of a written JSON name, of several the first that was declared. Takes no memory,
+    /// and a number of steps that grows with the logarithm of the fields' count.
     pub fn get_field_by_json_name(&self, name: &str) -> Option<FieldDescriptor<'p>>
         ensures message { IfSome result (λ f. f.message ≡ self.now) }
         ensures first { FindsField (λ f. f.json_name ≡ Some name.now) self.now result }
@@ -138,7 +143,8 @@ impl<'p> MessageDescriptor<'p> {
     pub(crate) fn field_at(&self, place: u32) -> Option<FieldDescriptor<'p>>
         ensures message { IfSome result (λ f. f.message ≡ self.now) }
         ensures place { IfSome result (λ f. f.index ≡ place) }
-        ensures there { place < length (type_at self.now.pool.now self.now.index).fields → IsSome result }
+        ensures there { place < length (type_at self.now.pool.now self.now.index).fields
+            → IsSome result }
     {
         let pool = self.pool;
         if (place as usize) < pool.tables.messages[self.index as usize].fields.list.len() {
@@ -155,7 +161,8 @@ impl<'p> MessageDescriptor<'p> {
     pub(crate) fn oneof_at(&self, place: u32) -> Option<OneofDescriptor<'p>>
         ensures message { IfSome result (λ o. o.message ≡ self.now) }
         ensures place { IfSome result (λ o. o.index ≡ place) }
-        ensures there { place < length (type_at self.now.pool.now self.now.index).oneofs → IsSome result }
+        ensures there { place < length (type_at self.now.pool.now self.now.index).oneofs
+            → IsSome result }
         ensures few { IfSome result (λ o. o.index < 2 ^ 31) }
     {
         let pool = self.pool;
@@ -181,7 +188,8 @@ impl<'p> MessageDescriptor<'p> {
     pub fn map_entry_key_field(&self) -> FieldDescriptor<'p>
         requires { IsSome (type_at self.now.pool.now self.now.index).entry }
         ensures message { result.message ≡ self.now }
-        ensures place { IfSome (type_at self.now.pool.now self.now.index).entry (λ e. result.index ≡ e.key) }
+        ensures place { IfSome (type_at self.now.pool.now self.now.index).entry
+            (λ e. result.index ≡ e.key) }
     {
         let pool = self.pool;
         FieldDescriptor {
@@ -194,7 +202,8 @@ impl<'p> MessageDescriptor<'p> {
     pub fn map_entry_value_field(&self) -> FieldDescriptor<'p>
         requires { IsSome (type_at self.now.pool.now self.now.index).entry }
         ensures message { result.message ≡ self.now }
-        ensures place { IfSome (type_at self.now.pool.now self.now.index).entry (λ e. result.index ≡ e.value) }
+        ensures place { IfSome (type_at self.now.pool.now self.now.index).entry
+            (λ e. result.index ≡ e.value) }
     {
         let pool = self.pool;
         FieldDescriptor {
@@ -221,9 +230,13 @@ impl<'p> MessageDescriptor<'p> {
 
     /// The extension of the type with a number. Takes no memory.
     pub fn get_extension(&self, number: u32) -> Option<ExtensionDescriptor<'p>>
-        ensures extendee { IfSome result (λ x. (x.pool.now ≡ self.now.pool.now) × ((extension_at self.now.pool.now x.index).extendee ≡ self.now.index)) }
-        ensures number { IfSome result (λ x. (extension_at x.pool.now x.index).field.number ≡ number) }
-        ensures finds { FindsAny (λ x. (x.extendee ≡ self.now.index) × (x.field.number ≡ number)) self.now.pool.now result }
+        ensures extendee { IfSome result
+            (λ x. (x.pool.now ≡ self.now.pool.now)
+            × ((extension_at self.now.pool.now x.index).extendee ≡ self.now.index)) }
+        ensures number { IfSome result
+            (λ x. (extension_at x.pool.now x.index).field.number ≡ number) }
+        ensures finds { FindsAny (λ x. (x.extendee ≡ self.now.index) × (x.field.number ≡ number))
+            self.now.pool.now result }
     {
         let pool = self.pool;
         pool.extension_at(pool.extension_place(self.index, number)?)
@@ -231,8 +244,11 @@ impl<'p> MessageDescriptor<'p> {
 
     /// The extension of the type with a full name. Takes no memory.
     pub fn get_extension_by_full_name(&self, name: &str) -> Option<ExtensionDescriptor<'p>>
-        ensures extendee { IfSome result (λ x. (x.pool.now ≡ self.now.pool.now) × ((extension_at self.now.pool.now x.index).extendee ≡ self.now.index)) }
-        ensures finds { FindsAny (λ x. (x.extendee ≡ self.now.index) × (x.field.full_name ≡ name.now)) self.now.pool.now result }
+        ensures extendee { IfSome result
+            (λ x. (x.pool.now ≡ self.now.pool.now)
+            × ((extension_at self.now.pool.now x.index).extendee ≡ self.now.index)) }
+        ensures finds { FindsAny (λ x. (x.extendee ≡ self.now.index)
+            × (x.field.full_name ≡ name.now)) self.now.pool.now result }
     {
         let pool = self.pool;
         self.extension_of(pool.extension_named(name)?)
@@ -240,8 +256,11 @@ impl<'p> MessageDescriptor<'p> {
 
     /// The extension of the type whose full name stands in these brackets. Takes no memory.
     pub fn get_extension_by_json_name(&self, name: &str) -> Option<ExtensionDescriptor<'p>>
-        ensures extendee { IfSome result (λ x. (x.pool.now ≡ self.now.pool.now) × ((extension_at self.now.pool.now x.index).extendee ≡ self.now.index)) }
-        ensures finds { FindsAny (λ x. (x.extendee ≡ self.now.index) × (in_brackets x.field.full_name ≡ name.now)) self.now.pool.now result }
+        ensures extendee { IfSome result
+            (λ x. (x.pool.now ≡ self.now.pool.now)
+            × ((extension_at self.now.pool.now x.index).extendee ≡ self.now.index)) }
+        ensures finds { FindsAny (λ x. (x.extendee ≡ self.now.index)
+            × (in_brackets x.field.full_name ≡ name.now)) self.now.pool.now result }
     {
         let name = name.strip_prefix('[')?.strip_suffix(']')?;
         self.get_extension_by_full_name(name)
@@ -249,9 +268,12 @@ impl<'p> MessageDescriptor<'p> {
 
     /// The extension at a place, if it is one of the type.
     fn extension_of(&self, place: u32) -> Option<ExtensionDescriptor<'p>>
-        ensures extendee { IfSome result (λ x. (x.pool.now ≡ self.now.pool.now) × ((extension_at self.now.pool.now x.index).extendee ≡ self.now.index)) }
+        ensures extendee { IfSome result
+            (λ x. (x.pool.now ≡ self.now.pool.now)
+            × ((extension_at self.now.pool.now x.index).extendee ≡ self.now.index)) }
         ensures index { IfSome result (λ x. x.index ≡ place) }
-        ensures there { place < length self.now.pool.now.extensions → (extension_at self.now.pool.now place).extendee ≡ self.now.index → IsSome result }
+        ensures there { place < length self.now.pool.now.extensions
+            → (extension_at self.now.pool.now place).extendee ≡ self.now.index → IsSome result }
     {
         let pool = self.pool;
         if pool.tables.extensions.get(place as usize)?.extendee == self.index {

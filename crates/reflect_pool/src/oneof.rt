@@ -33,7 +33,8 @@ impl<'p> OneofDescriptor<'p> {
     }
 
     pub fn name(&self) -> &'p str
-        ensures { result.now ≡ (type_of_oneof self.now.message.pool.now self.now.message.index self.now.index).name }
+        ensures { result.now ≡ (type_of_oneof self.now.message.pool.now self.now.message.index
+            self.now.index).name }
     {
         let pool = self.message.pool;
         pool.tables.messages[self.message.index as usize].oneofs[self.index as usize]
@@ -43,7 +44,8 @@ impl<'p> OneofDescriptor<'p> {
 
     /// The type's full name, a dot and the oneof's name.
     pub fn full_name(&self) -> &'p str
-        ensures { result.now ≡ (type_of_oneof self.now.message.pool.now self.now.message.index self.now.index).full_name }
+        ensures { result.now ≡ (type_of_oneof self.now.message.pool.now self.now.message.index
+            self.now.index).full_name }
     {
         let pool = self.message.pool;
         pool.tables.messages[self.message.index as usize].oneofs[self.index as usize]
@@ -53,7 +55,8 @@ impl<'p> OneofDescriptor<'p> {
 
     /// Where the declaration stands in its file's record.
     pub fn path(&self) -> &'p [i32]
-        ensures { result.now ≡ (type_of_oneof self.now.message.pool.now self.now.message.index self.now.index).path }
+        ensures { result.now ≡ (type_of_oneof self.now.message.pool.now self.now.message.index
+            self.now.index).path }
     {
         let pool = self.message.pool;
         pool.tables.messages[self.message.index as usize].oneofs[self.index as usize]
@@ -63,7 +66,8 @@ impl<'p> OneofDescriptor<'p> {
 
     /// It stands for one field of a proto3 file that was declared `optional`.
     pub fn is_synthetic(&self) -> bool
-        ensures { result ≡ (type_of_oneof self.now.message.pool.now self.now.message.index self.now.index).synthetic }
+        ensures { result ≡ (type_of_oneof self.now.message.pool.now self.now.message.index
+            self.now.index).synthetic }
     {
         let pool = self.message.pool;
         pool.tables.messages[self.message.index as usize].oneofs[self.index as usize].is_synthetic
@@ -71,7 +75,8 @@ impl<'p> OneofDescriptor<'p> {
 
     /// The members, as they were declared.
     pub fn fields(&self) -> OneofFields<'p>
-        ensures { members_left result ≡ members_of self.now.message.pool.now self.now.message.index self.now.index }
+        ensures { members_left result ≡ members_of self.now.message.pool.now self.now.message.index
+            self.now.index }
     {
         let pool = self.message.pool;
         OneofFields {

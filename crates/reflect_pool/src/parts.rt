@@ -27,7 +27,8 @@ pub struct PoolParts {
 impl DescriptorPool {
     /// The pool of these parts, which have to fit together as those of a pool do. Takes no memory.
     pub fn from_parts(parts: PoolParts) -> DescriptorPool
-        requires { IsLinked (pool_of parts.tables) parts.names parts.file_names parts.extension_numbers parts.links.items }
+        requires { IsLinked (pool_of parts.tables) parts.names parts.file_names
+            parts.extension_numbers parts.links.items }
         ensures { result ≡ pool_of parts.tables }
     {
         let PoolParts {
@@ -51,7 +52,8 @@ impl DescriptorPool {
     /// The parts of the pool. Takes no memory.
     pub fn into_parts(self) -> PoolParts
         ensures holds { pool_of result.tables ≡ self }
-        ensures linked { IsLinked (pool_of result.tables) result.names result.file_names result.extension_numbers result.links.items }
+        ensures linked { IsLinked (pool_of result.tables) result.names result.file_names
+            result.extension_numbers result.links.items }
     {
         let DescriptorPool {
             tables,

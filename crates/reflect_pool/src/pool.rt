@@ -166,7 +166,8 @@ impl DescriptorPool {
 
     /// The place of the extension of a message with a number.
     pub(crate) fn extension_place(&self, message: u32, number: u32) -> Option<u32>
-        ensures { IsFirst (λ x. (x.extendee ≡ message) × (x.field.number ≡ number)) self.now.extensions result }
+        ensures { IsFirst (λ x. (x.extendee ≡ message) × (x.field.number ≡ number))
+            self.now.extensions result }
     {
         self.extension_numbers.get(&(message, number)).copied()
     }

@@ -16,15 +16,21 @@ allows_aliases (Some o) = is_true o.allow_alias
 
 -- two values have one number, without the enum's leave
 abbrev pub alias_faults : Places → List ℤ → EnumDescriptorProto → List Fault
-alias_faults at path e = cond (allows_aliases e.options) [] (repeat_faults duplicate_enum_number (pos 2) (pos 2) path at (map (λ v. v.number) e.value.items))
+alias_faults at path e = cond (allows_aliases e.options) []
+    (repeat_faults duplicate_enum_number (pos 2) (pos 2) path at
+    (map (λ v. v.number) e.value.items))
 
 -- in proto3 the first value is 0
 abbrev pub first_faults : Places → List ℤ → Bool → Option ℤ → List Fault
-first_faults at path is_proto3 number = cond (is_proto3 && not (is_equal number (pos 0))) (bad_first_value (at (entry path (pos 2) 0 ++ (pos 2 ∷ []))) ∷ []) []
+first_faults at path is_proto3 number =
+    cond (is_proto3 && not (is_equal number (pos 0)))
+    (bad_first_value (at (entry path (pos 2) 0 ++ (pos 2 ∷ []))) ∷ []) []
 
-abbrev pub value_faults : Places → List ℤ → Bool → EnumDescriptorProto → List EnumValueDescriptorProto → List Fault
+abbrev pub value_faults : Places → List ℤ → Bool → EnumDescriptorProto
+    → List EnumValueDescriptorProto → List Fault
 value_faults at path is_proto3 e [] = empty_enum (at path) ∷ []
-value_faults at path is_proto3 e (v ∷ vs) = first_faults at path is_proto3 v.number ++ alias_faults at path e
+value_faults at path is_proto3 e (v ∷ vs) = first_faults at path is_proto3 v.number
+    ++ alias_faults at path e
 
 abbrev pub enum_faults : Places → List ℤ → Bool → EnumDescriptorProto → List Fault
 enum_faults at path is_proto3 e = value_faults at path is_proto3 e e.value.items

@@ -18,9 +18,11 @@ is_equal (Some m) n = int_eq m n
 abbrev pub is_part : FieldDescriptorProto → List ℕ → ℤ → Bool
 is_part f name n = has_name f name && is_equal f.number n && is_optional f.label
 
--- integers, truth values and strings: no floats (1, 2), groups, messages and bytes (10 to 12) or enums (14)
+-- integers, truth values and strings: no floats (1, 2), groups, messages and bytes (10 to 12) or
+-- enums (14)
 abbrev pub is_key_type : Option ℤ → Bool
-is_key_type (Some (pos n)) = (nat_le 3 n && nat_le n 9) || ((n == 13) || (nat_le 15 n && nat_le n 18))
+is_key_type (Some (pos n)) = (nat_le 3 n && nat_le n 9)
+    || ((n == 13) || (nat_le 15 n && nat_le n 18))
 is_key_type _ = false
 
 abbrev pub share_oneof : Option ℤ → Option ℤ → Bool

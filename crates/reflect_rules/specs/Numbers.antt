@@ -11,7 +11,8 @@ is_field_number (pos n) = nat_le 1 n && nat_le n 536870911 && not (nat_le 19000 
 is_field_number (negsuc n) = false
 
 abbrev pub number_faults : Places → List ℤ → ℤ → List Fault
-number_faults at path n = cond (is_field_number n) [] (invalid_number n (at (path ++ (pos 3 ∷ []))) ∷ [])
+number_faults at path n = cond (is_field_number n) []
+    (invalid_number n (at (path ++ (pos 3 ∷ []))) ∷ [])
 
 -- a number in one of the message's reserved ranges
 abbrev pub reserved_faults : Places → List ℤ → ℤ → Option Range → List Fault
@@ -25,10 +26,12 @@ kept_faults at path n (Some r) = number_of_extensions n r (at (path ++ (pos 3 �
 
 -- an extension's number in none of those ranges
 abbrev pub outside_faults : Places → List ℤ → ℤ → List ℕ → Option Range → List Fault
-outside_faults at path n message None = no_extension_number n message (at (path ++ (pos 3 ∷ []))) ∷ []
+outside_faults at path n message None = no_extension_number n message (at (path ++ (pos 3 ∷ [])))
+    ∷ []
 outside_faults at path n message (Some r) = []
 
 -- the index of a oneof that its message does not have
 abbrev pub oneof_faults : Places → List ℤ → ℕ → Option ℤ → List Fault
 oneof_faults at path count None = []
-oneof_faults at path count (Some i) = cond (is_index i count) [] (bad_oneof_index i (at (path ++ (pos 9 ∷ []))) ∷ [])
+oneof_faults at path count (Some i) =
+    cond (is_index i count) [] (bad_oneof_index i (at (path ++ (pos 9 ∷ []))) ∷ [])

@@ -26,5 +26,6 @@ repeat_fault fault tag number path at r = fault r.1 (at (entry path tag r.0 ++ (
 abbrev pub listed : (ℤ → Place → Fault) → ℤ → ℤ → List ℤ → Places → List (ℕ × ℤ) → List Fault
 listed fault tag number path at rs = each (λ k r. repeat_fault fault tag number path at r) 0 rs
 
-abbrev pub repeat_faults : (ℤ → Place → Fault) → ℤ → ℤ → List ℤ → Places → List (Option ℤ) → List Fault
+abbrev pub repeat_faults : (ℤ → Place → Fault) → ℤ → ℤ → List ℤ → Places → List (Option ℤ)
+    → List Fault
 repeat_faults fault tag number path at ns = listed fault tag number path at (repeats ns)

@@ -27,10 +27,13 @@ is_one_map _ = false
 
 -- the type of a map's entries that has not their shape, or is not the type of one repeated field
 abbrev pub entry_faults : Places → List ℤ → List ℕ → Option EntryUse → MessageParts → List Fault
-entry_faults at path name used m = cond (says_entry m.options && not (has_entry_shape m.field && is_one_map used)) (bad_map_entry name (at path) ∷ []) []
+entry_faults at path name used m =
+    cond (says_entry m.options && not (has_entry_shape m.field && is_one_map used))
+    (bad_map_entry name (at path) ∷ []) []
 
 abbrev pub message_faults : Places → List ℤ → List ℕ → Option EntryUse → MessageParts → List Fault
-message_faults at path name used m = entry_faults at path name used m ++ repeat_faults duplicate_number (pos 2) (pos 3) path at (map (λ f. f.number) m.field)
+message_faults at path name used m = entry_faults at path name used m
+    ++ repeat_faults duplicate_number (pos 2) (pos 3) path at (map (λ f. f.number) m.field)
 
 -- the message that is meant, if one is
 abbrev pub message_of : Option DefinitionKind → Option ℕ
@@ -40,30 +43,34 @@ message_of _ = None
 -- a field whose type is that of the entries of an older file's map: these have their field
 abbrev pub older_faults : Places → List ℤ → TypesSay → ℕ → Option ℕ → List Fault
 older_faults at path types first None = []
-older_faults at path types first (Some i) = cond (nat_lt i first && types.is_entry i) (bad_map_entry (types.name i) (at path) ∷ []) []
+older_faults at path types first (Some i) =
+    cond (nat_lt i first && types.is_entry i) (bad_map_entry (types.name i) (at path) ∷ []) []
 
 -- a default that does not suit
 abbrev pub default_faults : Places → List ℤ → Option (String Global) → Bool → List Fault
 default_faults at path None suits = []
-default_faults at path (Some value) suits = cond suits [] (bad_default (string_bytes value) (at (path ++ (pos 7 ∷ []))) ∷ [])
+default_faults at path (Some value) suits =
+    cond suits [] (bad_default (string_bytes value) (at (path ++ (pos 7 ∷ []))) ∷ [])
 
 -- what the values of enums are called
 abbrev pub Values : Type 1
 Values = ℕ → List ℕ → Bool → Type 0
 
--- the default of a scalar field is one of the type that has the number, that of an enum's field is the name of one of its
--- values, and no field of a message type has one
+-- the default of a scalar field is one of the type that has the number, that of an enum's field is
+-- the name of one of its values, and no field of a message type has one
 abbrev pub IsSuited : Values → Option ℤ → Option DefinitionKind → List ℕ → Bool → Type 0
 IsSuited values number None text suits = IsScalarSuited number text suits
 IsSuited values number (Some (kind.Enum i)) text suits = values i text suits
 IsSuited values number (Some _) text suits = suits ≡ false
 
-abbrev pub IsDefaultOf : Values → Option ℤ → Option DefinitionKind → Option (String Global) → Bool → Type 0
+abbrev pub IsDefaultOf : Values → Option ℤ → Option DefinitionKind → Option (String Global) → Bool
+    → Type 0
 IsDefaultOf values number m None suits = suits ≡ true
 IsDefaultOf values number m (Some text) suits = IsSuited values number m (string_bytes text) suits
 
 -- what is found of a field: ranges with its number, and whether its default suits
-pub record FieldFindings (g : Facts) (values : Values) (m : Option DefinitionKind) (message : ℕ) (n : ℤ) (f : FieldDescriptorProto) : Type 0 where
+pub record FieldFindings (g : Facts) (values : Values) (m : Option DefinitionKind) (message : ℕ)
+    (n : ℤ) (f : FieldDescriptorProto) : Type 0 where
   pub reserved : Option Range
   pub kept : Option Range
   pub suits : Bool
@@ -74,30 +81,39 @@ pub record FieldFindings (g : Facts) (values : Values) (m : Option DefinitionKin
 abbrev pub number_of : FieldDescriptorProto → ℤ
 number_of f = unwrap_or f.number (pos 0)
 
-abbrev pub FieldFaults : Facts → Values → ℕ → Places → List ℤ → ℕ → FieldDescriptorProto → ℤ → Option DefinitionKind → List Fault → Type 0
+abbrev pub FieldFaults : Facts → Values → ℕ → Places → List ℤ → ℕ → FieldDescriptorProto → ℤ
+    → Option DefinitionKind → List Fault → Type 0
 FieldFaults g values oneofs at path message f n m xs =
     (r : FieldFindings g values m message n f)
-    × (xs ≡ number_faults at path n ++ reserved_faults at path n r.reserved ++ kept_faults at path n r.kept
-    ++ oneof_faults at path oneofs f.oneof_index ++ older_faults at path g.types g.first (message_of m) ++ default_faults at path f.default_value r.suits)
+    × (xs ≡ number_faults at path n ++ reserved_faults at path n r.reserved
+    ++ kept_faults at path n r.kept
+    ++ oneof_faults at path oneofs f.oneof_index
+    ++ older_faults at path g.types g.first (message_of m)
+    ++ default_faults at path f.default_value r.suits)
 
 -- the number of an extension of a message
 abbrev pub ExtensionNumber : TypesSay → Places → List ℤ → ℤ → Option ℕ → List Fault → Type 0
 ExtensionNumber types at path n None xs = xs ≡ []
 ExtensionNumber types at path n (Some i) xs =
-    (reserved : Option Range) × (kept : Option Range) × IsRangeOf (types.reserved i) n reserved × IsRangeOf (types.extensions i) n kept
+    (reserved : Option Range) × (kept : Option Range) × IsRangeOf (types.reserved i) n reserved
+    × IsRangeOf (types.extensions i) n kept
     × (xs ≡ reserved_faults at path n reserved ++ outside_faults at path n (types.name i) kept)
 
 -- what is found of an extension: the faults of its number, and whether its default suits
-pub record ExtensionFindings (g : Facts) (values : Values) (at : Places) (path : List ℤ) (x : FieldDescriptorProto) (n : ℤ) (extendee m : Option DefinitionKind) : Type 0 where
+pub record ExtensionFindings (g : Facts) (values : Values) (at : Places) (path : List ℤ)
+    (x : FieldDescriptorProto) (n : ℤ) (extendee m : Option DefinitionKind) : Type 0 where
   pub numbers : List Fault
   pub suits : Bool
   pub is_number : ExtensionNumber g.types at path n (message_of extendee) numbers
   pub is_suited : IsDefaultOf values x.field_type m x.default_value suits
 
-abbrev pub ExtensionFaults : Facts → Values → Places → List ℤ → FieldDescriptorProto → ℤ → Option DefinitionKind → Option DefinitionKind → List Fault → Type 0
+abbrev pub ExtensionFaults : Facts → Values → Places → List ℤ → FieldDescriptorProto → ℤ
+    → Option DefinitionKind → Option DefinitionKind → List Fault → Type 0
 ExtensionFaults g values at path x n extendee m xs =
     (r : ExtensionFindings g values at path x n extendee m)
-    × (xs ≡ number_faults at path n ++ r.numbers ++ older_faults at path g.types g.first (message_of m) ++ default_faults at path x.default_value r.suits)
+    × (xs ≡ number_faults at path n ++ r.numbers
+    ++ older_faults at path g.types g.first (message_of m)
+    ++ default_faults at path x.default_value r.suits)
 
 -- the index of the message that a declaration is in
 abbrev pub parent_of : Declaration → ℕ
@@ -108,11 +124,13 @@ abbrev pub FaultsOf : Facts → Values → Place → Places → Declaration → 
 FaultsOf g values p at d xs = elim d.body [
   | of_file f ↦ xs ≡ []
   | of_message m ↦ xs ≡ message_faults at d.path d.name (g.uses d.index) m
-  | of_field f ↦ FieldFaults g values p.oneofs at d.path (parent_of d) f (number_of f) (meaning f.type_name p.rest) xs
+  | of_field f ↦ FieldFaults g values p.oneofs at d.path (parent_of d) f (number_of f)
+      (meaning f.type_name p.rest) xs
   | of_oneof o ↦ xs ≡ []
   | of_enum e ↦ xs ≡ enum_faults at d.path p.is_proto3 e
   | of_enum_value v ↦ xs ≡ []
   | of_service s ↦ xs ≡ []
   | of_method m ↦ xs ≡ []
-  | of_extension x ↦ ExtensionFaults g values at d.path x (number_of x) (meaning x.extendee p.rest) (meaning x.type_name (behind x.extendee p.rest)) xs
+  | of_extension x ↦ ExtensionFaults g values at d.path x (number_of x) (meaning x.extendee p.rest)
+      (meaning x.type_name (behind x.extendee p.rest)) xs
 ]

@@ -19,7 +19,8 @@ is_entry_at says i None = false
 is_entry_at says i (Some j) = j == i && says.is_entry j
 
 -- the field, where it means the entries' type of the index
-abbrev pub user : TypesSay → ℕ → Option DefinitionKind → FieldDescriptorProto → List FieldDescriptorProto
+abbrev pub user : TypesSay → ℕ → Option DefinitionKind → FieldDescriptorProto
+    → List FieldDescriptorProto
 user says i m f = cond (is_entry_at says i (message_of m)) (f ∷ []) []
 
 abbrev pub users_in : TypesSay → ℕ → List Reference → Declaration → List FieldDescriptorProto
@@ -42,7 +43,8 @@ users says i rest (d ∷ ds) = users_in says i rest d ++ users says i (rest_behi
 
 -- the use that a field makes alone
 abbrev pub use_of : FieldDescriptorProto → EntryUse
-use_of f = cond (is_equal f.label (label_number labels.Repeated) && not (is_equal f.field_type (type_number types.Group))) uses.OneMap uses.Other
+use_of f = cond (is_equal f.label (label_number labels.Repeated)
+    && not (is_equal f.field_type (type_number types.Group))) uses.OneMap uses.Other
 
 -- the use that all of them make
 abbrev pub use_by : List FieldDescriptorProto → Option EntryUse

@@ -23,7 +23,8 @@ pub fn check_rules<T: Types>(
     references: &[Reference],
     types: &T,
 ) -> Result<Vec<DescriptorErrorKind>, VisitError>
-    ensures { IfOk result (λ found. BatchFaults (T.says types.now) (T.values types.now) before first files.now references.now (map fault_view found.items)) }
+    ensures { IfOk result (λ found. BatchFaults (T.says types.now) (T.values types.now) before first
+        files.now references.now (map fault_view found.items)) }
 {
     let references = References::new(references);
     let mut visitor = UseVisitor::new(alloc, references, types);

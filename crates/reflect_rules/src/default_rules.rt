@@ -24,7 +24,8 @@ fn suits_scalar(number: Option<i32>, text: &str) -> bool
     }
 }
 
-/// A default suits its field: it is a value of the scalar type or the name of a value of the enum. No message type has one.
+/// A default suits its field: it is a value of the scalar type or the name of a value of the enum.
+/// No message type has one.
 fn suits<T: Types>(
     types: &T,
     field_type: Option<i32>,
@@ -46,7 +47,8 @@ pub fn has_right_default<T: Types>(
     field: &FieldDescriptorProto,
     meaning: Option<DefinitionKind>,
 ) -> bool
-    ensures { IsDefaultOf (T.values types.now) field.now.field_type meaning field.now.default_value result }
+    ensures { IsDefaultOf (T.values types.now) field.now.field_type meaning
+        field.now.default_value result }
 {
     match &field.default_value {
         Some(value) => suits(types, field.field_type, meaning, value.as_str()),
@@ -63,7 +65,8 @@ pub fn check_default(
     field: &FieldDescriptorProto,
     suits: bool,
 ) -> Result<(), AllocError>
-    ensures { OnOk result (Adds faults.old faults.new (default_faults (place_at faults.old file) path.now field.now.default_value suits)) }
+    ensures { OnOk result (Adds faults.old faults.new
+        (default_faults (place_at faults.old file) path.now field.now.default_value suits)) }
 {
     let Some(value) = &field.default_value else {
         return Ok(());

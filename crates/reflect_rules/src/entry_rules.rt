@@ -24,7 +24,8 @@ fn is_one_map(used: Option<EntryUse>) -> bool
     }
 }
 
-/// Lists the type of a map's entries that has not the shape of one or is not the type of one repeated field.
+/// Lists the type of a map's entries that has not the shape of one or is not the type of one
+/// repeated field.
 pub fn check_entry(
     alloc: Global,
     faults: &mut Faults<'_>,
@@ -34,7 +35,9 @@ pub fn check_entry(
     message: &DescriptorProto,
     used: Option<EntryUse>,
 ) -> Result<(), AllocError>
-    ensures { OnOk result (Adds faults.old faults.new (entry_faults (place_at faults.old file) path.now full_name.now used (parts_of message.now))) }
+    ensures { OnOk result (Adds faults.old faults.new
+        (entry_faults (place_at faults.old file) path.now full_name.now used
+        (parts_of message.now))) }
 {
     let is_right = has_entry_shape(message) && is_one_map(used);
     if !(says_map_entry(message) && !is_right) {
@@ -55,7 +58,8 @@ pub fn message_meant(meaning: Option<DefinitionKind>) -> Option<u32>
     }
 }
 
-/// Lists a field whose type is that of an older map's entries: these have their field. Message types from `first` on are new.
+/// Lists a field whose type is that of an older map's entries: these have their field. Message
+/// types from `first` on are new.
 pub fn check_older_entry<T: Types>(
     alloc: Global,
     faults: &mut Faults<'_>,
@@ -65,7 +69,9 @@ pub fn check_older_entry<T: Types>(
     first: u32,
     meaning: Option<DefinitionKind>,
 ) -> Result<(), AllocError>
-    ensures { OnOk result (Adds faults.old faults.new (older_faults (place_at faults.old file) path.now (T.says types.now) first (message_of meaning))) }
+    ensures { OnOk result (Adds faults.old faults.new
+        (older_faults (place_at faults.old file) path.now (T.says types.now) first
+        (message_of meaning))) }
 {
     let Some(index) = message_meant(meaning) else {
         return Ok(());

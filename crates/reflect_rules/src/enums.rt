@@ -30,7 +30,9 @@ fn list_repeat(
     place: usize,
     number: i32,
 ) -> Result<(), VisitError>
-    ensures { OnOk result (Adds faults.old faults.new (repeat_fault duplicate_enum_number (pos 2) (pos 2) path.now (place_at faults.old file) (place, number))) }
+    ensures { OnOk result (Adds faults.old faults.new
+        (repeat_fault duplicate_enum_number (pos 2) (pos 2) path.now (place_at faults.old file)
+        (place, number))) }
 {
     let (list, field) = (tag::enumeration::VALUE, tag::enum_value::NUMBER);
     let found = entry_label(alloc, faults, file, path, list, place, field)?;
@@ -45,7 +47,9 @@ fn list_repeats(
     path: &[i32],
     repeats: &[(usize, i32)],
 ) -> Result<(), VisitError>
-    ensures { OnOk result (Adds faults.old faults.new (listed duplicate_enum_number (pos 2) (pos 2) path.now (place_at faults.old file) repeats.now)) }
+    ensures { OnOk result (Adds faults.old faults.new
+        (listed duplicate_enum_number (pos 2) (pos 2) path.now (place_at faults.old file)
+        repeats.now)) }
 {
     'turns: for repeat in repeats {
         list_repeat(alloc, faults, file, path, repeat.0, repeat.1)?;
@@ -75,7 +79,8 @@ fn check_values(
     path: &[i32],
     enumeration: &EnumDescriptorProto,
 ) -> Result<(), VisitError>
-    ensures { OnOk result (Adds faults.old faults.new (alias_faults (place_at faults.old file) path.now enumeration.now)) }
+    ensures { OnOk result (Adds faults.old faults.new
+        (alias_faults (place_at faults.old file) path.now enumeration.now)) }
 {
     if allows_aliases(enumeration) {
         return Ok(());
@@ -95,7 +100,8 @@ fn check_first(
     number: Option<i32>,
     is_proto3: bool,
 ) -> Result<(), VisitError>
-    ensures { OnOk result (Adds faults.old faults.new (first_faults (place_at faults.old file) path.now is_proto3 number)) }
+    ensures { OnOk result (Adds faults.old faults.new
+        (first_faults (place_at faults.old file) path.now is_proto3 number)) }
 {
     if is_proto3 && !is_equal(number, 0) {
         let (list, field) = (tag::enumeration::VALUE, tag::enum_value::NUMBER);
@@ -105,8 +111,9 @@ fn check_first(
     Ok(())
 }
 
-/// Lists what is wrong with an enum: that it has no value, that two of its values have one number without its leave, and in
-/// proto3 that the first value's number is not zero. `TooMany` is a value's place past `i32::MAX`.
+/// Lists what is wrong with an enum: that it has no value, that two of its values have one number
+/// without its leave, and in proto3 that the first value's number is not zero. `TooMany` is a
+/// value's place past `i32::MAX`.
 pub fn check_enum(
     alloc: Global,
     faults: &mut Faults<'_>,
@@ -115,7 +122,8 @@ pub fn check_enum(
     enumeration: &EnumDescriptorProto,
     is_proto3: bool,
 ) -> Result<(), VisitError>
-    ensures { OnOk result (Adds faults.old faults.new (enum_faults (place_at faults.old file) path.now is_proto3 enumeration.now)) }
+    ensures { OnOk result (Adds faults.old faults.new
+        (enum_faults (place_at faults.old file) path.now is_proto3 enumeration.now)) }
 {
     let Some(first) = enumeration.value.first() else {
         let found = faults.label(alloc, file, path)?;

@@ -20,7 +20,9 @@ pub fn check_extension_number<T: Types>(
     number: i32,
     extendee: Option<DefinitionKind>,
 ) -> Result<(), AllocError>
-    ensures { OnOk result ((xs : List Fault) × ExtensionNumber (T.says types.now) (place_at faults.old file) path.now number (message_of extendee) xs × Adds faults.old faults.new xs) }
+    ensures { OnOk result ((xs : List Fault)
+        × ExtensionNumber (T.says types.now) (place_at faults.old file) path.now number
+        (message_of extendee) xs × Adds faults.old faults.new xs) }
 {
     let Some(index) = message_meant(extendee) else {
         return Ok(());

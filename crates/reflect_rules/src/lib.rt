@@ -1,5 +1,5 @@
-//! The rules that hold of numbers: those of fields and extensions, of enums, of defaults, of oneofs and of map entries, in
-//! files whose references are resolved.
+//! The rules that hold of numbers: those of fields and extensions, of enums, of defaults, of oneofs
+//! and of map entries, in files whose references are resolved.
 #![tactic(auto)]
 
 mod check;

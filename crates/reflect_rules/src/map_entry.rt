@@ -1,4 +1,5 @@
-//! The shape of the type of a map's entries (protobuf.dev, "Maps": a repeated field of a message with `key` and `value`).
+//! The shape of the type of a map's entries (protobuf.dev, "Maps": a repeated field of a message
+//! with `key` and `value`).
 
 ghost use Rattle.std.specs.Prelude.{◌≡◌};
 ghost use Rattle.reflect_walk.specs.Tree.{parts_of};
@@ -44,8 +45,8 @@ fn is_part(field: &FieldDescriptorProto, name: &str, number: i32) -> bool
     is_named(field, name) && is_equal(field.number, number) && is_optional(field.label)
 }
 
-/// The number of the type is that of one of the integers, a truth value or a string: not of a float (1, 2), a group, a message
-/// or bytes (10 to 12) or an enum (14).
+/// The number of the type is that of one of the integers, a truth value or a string: not of a float
+/// (1, 2), a group, a message or bytes (10 to 12) or an enum (14).
 fn is_key_type(field_type: Option<i32>) -> bool
     ensures { result ≡ may_be_key field_type }
 {
@@ -79,7 +80,8 @@ fn are_key_and_value(key: &FieldDescriptorProto, value: &FieldDescriptorProto) -
         && !share_oneof(key.oneof_index, value.oneof_index)
 }
 
-/// The message type has two fields, an optional `key` of number 1, of an integer type, `bool` or `string`, and an optional
+/// The message type has two fields, an optional `key` of number 1, of an integer type, `bool` or
+/// `string`, and an optional
 /// `value` of number 2, which are not both in one oneof.
 pub fn has_entry_shape(message: &DescriptorProto) -> bool
     ensures { result ≡ is_shaped (parts_of message.now).field }

@@ -35,7 +35,8 @@ pub fn check_number(
     path: &[i32],
     number: i32,
 ) -> Result<(), AllocError>
-    ensures { OnOk result (Adds faults.old faults.new (number_faults (place_at faults.old file) path.now number)) }
+    ensures { OnOk result (Adds faults.old faults.new
+        (number_faults (place_at faults.old file) path.now number)) }
 {
     if is_field_number(number) {
         return Ok(());
@@ -53,7 +54,8 @@ pub fn check_reserved(
     number: i32,
     reserved: Option<(i32, i32)>,
 ) -> Result<(), AllocError>
-    ensures { OnOk result (Adds faults.old faults.new (reserved_faults (place_at faults.old file) path.now number reserved)) }
+    ensures { OnOk result (Adds faults.old faults.new
+        (reserved_faults (place_at faults.old file) path.now number reserved)) }
 {
     let Some((start, end)) = reserved else {
         return Ok(());
@@ -76,7 +78,8 @@ pub fn check_not_extension(
     number: i32,
     kept: Option<(i32, i32)>,
 ) -> Result<(), AllocError>
-    ensures { OnOk result (Adds faults.old faults.new (kept_faults (place_at faults.old file) path.now number kept)) }
+    ensures { OnOk result (Adds faults.old faults.new
+        (kept_faults (place_at faults.old file) path.now number kept)) }
 {
     let Some((start, end)) = kept else {
         return Ok(());
@@ -90,7 +93,8 @@ pub fn check_not_extension(
     })
 }
 
-/// Lists an extension's number that the extended message type does not keep for extensions: no range has it.
+/// Lists an extension's number that the extended message type does not keep for extensions: no
+/// range has it.
 pub fn check_extension(
     alloc: Global,
     faults: &mut Faults<'_>,
@@ -100,7 +104,8 @@ pub fn check_extension(
     kept: Option<(i32, i32)>,
     message: &str,
 ) -> Result<(), AllocError>
-    ensures { OnOk result (Adds faults.old faults.new (outside_faults (place_at faults.old file) path.now number message.now kept)) }
+    ensures { OnOk result (Adds faults.old faults.new
+        (outside_faults (place_at faults.old file) path.now number message.now kept)) }
 {
     if kept.is_some() {
         return Ok(());
@@ -130,8 +135,8 @@ pub fn repeated(alloc: Global, numbers: &[Option<i32>]) -> Result<Vec<(usize, i3
     Ok(repeated)
 }
 
-/// The place of the field of the number `field` of a list's entry. The list of faults stays as it is. `TooMany` is an entry
-/// past `i32::MAX`.
+/// The place of the field of the number `field` of a list's entry. The list of faults stays as it
+/// is. `TooMany` is an entry past `i32::MAX`.
 pub fn entry_label(
     alloc: Global,
     faults: &mut Faults<'_>,
@@ -141,7 +146,8 @@ pub fn entry_label(
     place: usize,
     field: i32,
 ) -> Result<Label, VisitError>
-    ensures place { IfOk result (λ l. place_of l ≡ place_at faults.old file (entry path.now tag place ++ (field ∷ []))) }
+    ensures place { IfOk result (λ l. place_of l
+        ≡ place_at faults.old file (entry path.now tag place ++ (field ∷ []))) }
     ensures same { Adds faults.old faults.new [] }
 {
     let at = entry_path(alloc, path, tag, place)?;
@@ -157,7 +163,9 @@ fn list_repeat(
     place: usize,
     number: i32,
 ) -> Result<(), VisitError>
-    ensures { OnOk result (Adds faults.old faults.new (repeat_fault duplicate_number (pos 2) (pos 3) path.now (place_at faults.old file) (place, number))) }
+    ensures { OnOk result (Adds faults.old faults.new
+        (repeat_fault duplicate_number (pos 2) (pos 3) path.now (place_at faults.old file)
+        (place, number))) }
 {
     let (list, field) = (tag::message::FIELD, tag::field::NUMBER);
     let found = entry_label(alloc, faults, file, path, list, place, field)?;
@@ -172,7 +180,8 @@ fn list_repeats(
     path: &[i32],
     repeats: &[(usize, i32)],
 ) -> Result<(), VisitError>
-    ensures { OnOk result (Adds faults.old faults.new (listed duplicate_number (pos 2) (pos 3) path.now (place_at faults.old file) repeats.now)) }
+    ensures { OnOk result (Adds faults.old faults.new
+        (listed duplicate_number (pos 2) (pos 3) path.now (place_at faults.old file) repeats.now)) }
 {
     'turns: for repeat in repeats {
         list_repeat(alloc, faults, file, path, repeat.0, repeat.1)?;
@@ -194,7 +203,8 @@ fn field_numbers(
     Ok(numbers)
 }
 
-/// Lists each number of a message's field that an earlier field has. `TooMany` is a field's place past `i32::MAX`.
+/// Lists each number of a message's field that an earlier field has. `TooMany` is a field's place
+/// past `i32::MAX`.
 pub fn check_distinct(
     alloc: Global,
     faults: &mut Faults<'_>,
@@ -202,7 +212,9 @@ pub fn check_distinct(
     path: &[i32],
     message: &DescriptorProto,
 ) -> Result<(), VisitError>
-    ensures { OnOk result (Adds faults.old faults.new (repeat_faults duplicate_number (pos 2) (pos 3) path.now (place_at faults.old file) (map (λ f. f.number) (parts_of message.now).field))) }
+    ensures { OnOk result (Adds faults.old faults.new
+        (repeat_faults duplicate_number (pos 2) (pos 3) path.now (place_at faults.old file)
+        (map (λ f. f.number) (parts_of message.now).field))) }
 {
     let numbers = field_numbers(alloc, message.field.as_slice())?;
     let again = repeated(alloc, numbers.as_slice())?;
@@ -229,7 +241,8 @@ pub fn check_oneof(
     field: &FieldDescriptorProto,
     oneofs: usize,
 ) -> Result<(), AllocError>
-    ensures { OnOk result (Adds faults.old faults.new (oneof_faults (place_at faults.old file) path.now oneofs field.now.oneof_index)) }
+    ensures { OnOk result (Adds faults.old faults.new
+        (oneof_faults (place_at faults.old file) path.now oneofs field.now.oneof_index)) }
 {
     let Some(index) = field.oneof_index else {
         return Ok(());

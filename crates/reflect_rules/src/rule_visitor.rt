@@ -18,7 +18,8 @@ use reflect_references::References;
 use std::alloc::Global;
 use std::collections::BTreeMap;
 
-/// Lists what is wrong with the numbers, the defaults, the oneof indexes and the map entries of the files that it visits.
+/// Lists what is wrong with the numbers, the defaults, the oneof indexes and the map entries of the
+/// files that it visits.
 #[derive(Drop)]
 pub struct RuleVisitor<'a, T: Types> {
     faults: Faults<'a>,
@@ -34,7 +35,8 @@ pub struct RuleVisitor<'a, T: Types> {
 }
 
 impl<'a, T: Types> RuleVisitor<'a, T> {
-    /// Adds to `faults`. The references are all those of the files; message types from `first_message` on are theirs.
+    /// Adds to `faults`. The references are all those of the files; message types from
+    /// `first_message` on are theirs.
     pub fn new(
         faults: Faults<'a>,
         references: References<'a>,

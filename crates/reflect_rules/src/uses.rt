@@ -74,8 +74,12 @@ impl<'a, T: Types> UseVisitor<'a, T> {
 
     /// Notes the use that a field makes of its type, if that is the type of a map's entries.
     fn note(&mut self, field: &FieldDescriptorProto) -> Result<(), AllocError>
-        ensures uses { OnOk result ((i : ℕ) → get nat_cmp self.new.uses i ≡ use_behind (get nat_cmp self.old.uses i) (user (T.says self.old.types.now) i (meaning field.now.type_name self.old.references.rest.now) field.now)) }
-        ensures rest { OnOk result (self.new.references.rest.now ≡ behind field.now.type_name self.old.references.rest.now) }
+        ensures uses { OnOk result ((i : ℕ) → get nat_cmp self.new.uses i
+            ≡ use_behind (get nat_cmp self.old.uses i)
+            (user (T.says self.old.types.now) i
+            (meaning field.now.type_name self.old.references.rest.now) field.now)) }
+        ensures rest { OnOk result (self.new.references.rest.now
+            ≡ behind field.now.type_name self.old.references.rest.now) }
         ensures types { OnOk result (self.new.types.now ≡ self.old.types.now) }
     {
         let Some(DefinitionKind::Message(index)) = self.references.meaning_of(&field.type_name)

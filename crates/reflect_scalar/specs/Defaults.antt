@@ -1,4 +1,5 @@
--- What stands for one value of a field where none is set (protobuf.dev, "Language Guide", Default Field Values).
+-- What stands for one value of a field where none is set (protobuf.dev, "Language Guide", Default
+-- Field Values).
 use Rattle.std.specs.Prelude.{ℕ, ℤ, pos, negsuc, ◌^◌, nat_lt, nat_eq, bytes_eq, Bool, false, cond, List, [], Option, Some, None, option_map}
 use Rattle.std.specs.Bool.{beq}
 use Rattle.std.specs.List.{find}
@@ -54,7 +55,8 @@ lent_in kind (defaults.Float t) = None
 
 -- the number of the first value of a name, of a kind that is an enum
 abbrev pub named_in : PoolType → KindType → List ℕ → Option ℤ
-named_in pool (types.enumeration i) name = option_map (λ v. v.number) (find (λ v. bytes_eq v.name name) (enum_at pool i).values)
+named_in pool (types.enumeration i) name =
+    option_map (λ v. v.number) (find (λ v. bytes_eq v.name name) (enum_at pool i).values)
 named_in pool _ name = None
 
 -- a declared default, as a value of the kind
@@ -89,4 +91,5 @@ kind_default pool (types.enumeration i) = Some (enumerated (type_of_value pool i
 
 -- the declared default of a field, else that of its kind
 abbrev pub default_in : PoolType → FieldType → Option Single
-default_in pool f = option_or (option_and_then (declared_in pool f.kind) f.default) (kind_default pool f.kind)
+default_in pool f = option_or (option_and_then (declared_in pool f.kind) f.default)
+    (kind_default pool f.kind)

@@ -18,7 +18,8 @@ IsFloat _ = ⊥
 
 -- the values of a map's entries, under their number 2, are such numbers
 abbrev pub HasFloats : PoolType → KindType → Type 0
-HasFloats pool (message i) = (k : ℕ) × IsFirst (λ f. f.number ≡ 2) (type_at pool i).fields (Some k) × IsFloat (type_of_field pool i k).kind
+HasFloats pool (message i) = (k : ℕ) × IsFirst (λ f. f.number ≡ 2) (type_at pool i).fields (Some k)
+    × IsFloat (type_of_field pool i k).kind
 HasFloats pool _ = ⊥
 
 -- the field's values, or those of its map, are floating-point numbers

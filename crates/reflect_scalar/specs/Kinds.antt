@@ -75,7 +75,8 @@ suits kinds.Bytes (blob b) = true
 suits (kinds.Enum e) (enumerated z) = true
 suits _ _ = false
 
--- zero, false or empty; of an enum its first value, of a message nothing; a fraction has the bits of zero
+-- zero, false or empty; of an enum its first value, of a message nothing; a fraction has the bits
+-- of zero
 abbrev pub IsDefault : Kind → Option Single → Type 0
 IsDefault kinds.Double d = d ≡ Some (uint64 0)
 IsDefault kinds.Float d = d ≡ Some (uint32 0)

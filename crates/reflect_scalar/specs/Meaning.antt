@@ -1,6 +1,7 @@
 -- What the bytes of a record mean as one value of a kind.
 --
--- Source: "Encoding" at protobuf.dev: Base 128 Varints, More Integer Types, Non-varint Numbers, Length-Delimited Records.
+-- Source: "Encoding" at protobuf.dev: Base 128 Varints, More Integer Types, Non-varint Numbers,
+-- Length-Delimited Records.
 use Rattle.std.specs.Prelude.{◌≡◌, ◌≢◌, ◌⊎◌, ℕ, ℤ, pos, negsuc, ◌+◌, ◌-◌, ◌*◌, ◌%◌, ◌^◌, ◌==◌, not, List}
 use Rattle.std.specs.Int.{w32, w64, cast_signed}
 use Rattle.std.specs.Str.{IsUtf8}
@@ -25,7 +26,8 @@ zigzag (negsuc n) = 2 * (n + 1) - 1
 abbrev pub low : ℕ → ℕ
 low n = n % 2 ^ 32
 
--- the value of a kind that a payload stands for; floating-point numbers and messages are not read as single values
+-- the value of a kind that a payload stands for; floating-point numbers and messages are not read
+-- as single values
 abbrev pub Means : Kind → Payload → Single → Type 0
 Means kinds.Int32 (varint n) v = v ≡ int32 (cast_signed w32 (low n))
 Means kinds.Int64 (varint n) v = v ≡ int64 (cast_signed w64 n)
@@ -43,7 +45,8 @@ Means kinds.String (delimited p) v = IsUtf8 p × (v ≡ text p)
 Means kinds.Bytes (delimited p) v = v ≡ blob p
 Means _ _ v = ⊥
 
--- the bytes behind a key of the wire type spell a payload that is no group, so that the key's number does not count
+-- the bytes behind a key of the wire type spell a payload that is no group, so that the key's
+-- number does not count
 abbrev pub IsPlain : WireType → List ℕ → Payload → Type 0
 IsPlain wire bytes p = (wire ≡ wire_of p) × SpellsPayload 0 0 bytes p
 
@@ -84,5 +87,6 @@ PlainFault wires.ThirtyTwoBit bytes e = FixedFault 4 bytes e
 -- why no value of the kind stands at the front, behind a key of the wire type
 abbrev pub ScalarFault : Kind → WireType → List ℕ → WireError → Type 0
 ScalarFault kind wire bytes BadWireType = (wire ≢ wire_type kind) ⊎ IsUnread kind
-ScalarFault kind wire bytes BadUtf8 = (wire ≡ wire_type kind) × ((p : Payload) × ((rest : List ℕ) × Fronts (IsPlain wire) bytes p rest × IsNoText kind p))
+ScalarFault kind wire bytes BadUtf8 = (wire ≡ wire_type kind)
+    × ((p : Payload) × ((rest : List ℕ) × Fronts (IsPlain wire) bytes p rest × IsNoText kind p))
 ScalarFault kind wire bytes e = (wire ≡ wire_type kind) × PlainFault wire bytes e

@@ -33,7 +33,8 @@ written _ _ = None
 abbrev pub plain_bytes : Payload → List ℕ
 plain_bytes = payload_bytes 0
 
--- a value that the types of the code hold: numbers of 32 or 64 bits, a text of UTF-8, and no more bytes than a length can say
+-- a value that the types of the code hold: numbers of 32 or 64 bits, a text of UTF-8, and no more
+-- bytes than a length can say
 abbrev pub Fits : Single → Type 0
 Fits (truth b) = Unit {0}
 Fits (int32 z) = FitsSigned w32 z

@@ -226,8 +226,8 @@ fn is_float(kind: &Kind<'_>) -> bool
     matches!(kind, Kind::Float | Kind::Double)
 }
 
-/// Its values, or those of its map, are floating-point numbers. Messages do not hold such fields: their records are kept
-/// unread.
+/// Its values, or those of its map, are floating-point numbers. Messages do not hold such fields:
+/// their records are kept unread.
 pub fn holds_floats<'p, F: FieldDescriptorLike<'p>>(field: &F) -> bool
     ensures { IsTrue result ↔ HoldsFloats (F.pool field.now) (F.says field.now) }
 {

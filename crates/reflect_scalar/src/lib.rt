@@ -1,4 +1,5 @@
-//! Values that are no messages: what fields and extensions have in common, single values with their wire forms, map keys.
+//! Values that are no messages: what fields and extensions have in common, single values with their
+//! wire forms, map keys.
 #![tactic(auto)]
 
 mod field_like;

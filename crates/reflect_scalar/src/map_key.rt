@@ -18,8 +18,8 @@ pub enum MapKey {
 }
 
 impl MapKey {
-    /// The default key of a kind: zero, false or empty. Of a kind that keys do not have it is the empty text. Takes no
-    /// memory.
+    /// The default key of a kind: zero, false or empty. Of a kind that keys do not have it is the
+    /// empty text. Takes no memory.
     pub fn default_value(alloc: Global, kind: &Kind<'_>) -> MapKey {
         match kind {
             Kind::Bool => MapKey::Bool(false),

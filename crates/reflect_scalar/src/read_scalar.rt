@@ -45,7 +45,8 @@ fn low(n: u64) -> u32
     (n % (1 << 32)) as u32
 }
 
-/// The signed number that an unsigned one stands for where small amounts of either sign are to be short.
+/// The signed number that an unsigned one stands for where small amounts of either sign are to be
+/// short.
 fn unzigzag32(n: u32) -> i32
     ensures { n ≡ zigzag result }
 {
@@ -105,7 +106,8 @@ fn value_of<'b>(kind: &Kind<'_>, written: WireScalar<'b>) -> Result<Scalar<'b>, 
     }
 }
 
-/// What is written at the front behind a key of the wire type, and the bytes behind it. A group is no single value.
+/// What is written at the front behind a key of the wire type, and the bytes behind it. A group is
+/// no single value.
 #[inline]
 fn wire_scalar_at(wire: WireType, bytes: &[u8]) -> Result<(WireScalar<'_>, &[u8]), WireError>
     ensures read { ReadsBy wire_view (IsPlain wire) bytes.now result }

@@ -51,7 +51,8 @@ impl<'a> Scalar<'a> {
         )
     }
 
-    /// The default of a kind, `None` of a message: zero, false or empty, of an enum its first value.
+    /// The default of a kind, `None` of a message: zero, false or empty, of an enum its first
+    /// value.
     ///
     /// Messages hold no floating-point numbers; of these kinds it is the bits of zero.
     pub fn default_value(kind: &Kind<'_>) -> Option<Scalar<'a>>
@@ -108,12 +109,14 @@ fn declared_default<'p>(kind: &Kind<'p>, default: DefaultValue<'p>) -> Option<Sc
 
 /// The default that a field's declaration gives, as a value of its kind.
 fn declared_scalar<'p, F: FieldDescriptorLike<'p>>(field: &F, kind: &Kind<'p>) -> Option<Scalar<'p>>
-    ensures { (o : Option DefaultValue) × pools.IsDefault (F.pool field.now) (F.says field.now) o × (option_map scalar_view result ≡ option_and_then (lent_in (kind_type kind.now)) o) }
+    ensures { (o : Option DefaultValue) × pools.IsDefault (F.pool field.now) (F.says field.now) o
+        × (option_map scalar_view result ≡ option_and_then (lent_in (kind_type kind.now)) o) }
 {
     declared_default(kind, field.default()?)
 }
 
-/// What one value of a field is where none was set: the declared default, else that of the kind. `None` of a message.
+/// What one value of a field is where none was set: the declared default, else that of the kind.
+/// `None` of a message.
 pub fn default_scalar<'p, F: FieldDescriptorLike<'p>>(field: &F) -> Option<Scalar<'p>>
     ensures { option_map scalar_view result ≡ default_in (F.pool field.now) (F.says field.now) }
 {

@@ -14,7 +14,8 @@ use reflect_pool::Kind;
 use reflect_wire::{delimited_len, varint_len};
 use std::alloc::AllocError;
 
-/// The unsigned number that a signed one is written as where small amounts of either sign are to be short.
+/// The unsigned number that a signed one is written as where small amounts of either sign are to be
+/// short.
 fn zigzag32(n: i32) -> u32
     ensures { result ≡ zigzag n }
 {
@@ -42,7 +43,8 @@ fn sign_extended(n: i32) -> u64
     i64::from(n).cast_unsigned()
 }
 
-// One function for each type of value: of a function's number the prover knows that it fits its type.
+// One function for each type of value: of a function's number the prover knows that it fits its
+// type.
 
 /// What a truth value is written as.
 fn of_bool<'a>(kind: &Kind<'_>, is_true: bool) -> Option<WireScalar<'a>>
@@ -130,7 +132,8 @@ fn of_bytes<'a>(kind: &Kind<'_>, bytes: &'a [u8]) -> Option<WireScalar<'a>>
     }
 }
 
-/// What a value is written as in a record of a kind, `None` where it does not suit the kind. It is read as the value.
+/// What a value is written as in a record of a kind, `None` where it does not suit the kind. It is
+/// read as the value.
 #[tactic(auto, using(crate::proofs::ReadBack::read_written, crate::proofs::ReadBack::written_suits))]
 pub fn wire_scalar<'a>(kind: &Kind<'_>, value: Scalar<'a>) -> Option<WireScalar<'a>>
     ensures form { option_map wire_view result ≡ written kind.now (scalar_view value.entry) }
@@ -151,7 +154,8 @@ pub fn wire_scalar<'a>(kind: &Kind<'_>, value: Scalar<'a>) -> Option<WireScalar<
 
 /// How many bytes a value takes behind its key, `None` past `usize::MAX`. Takes no memory.
 pub fn scalar_len(scalar: WireScalar<'_>) -> Option<usize>
-    ensures { let n = length (plain_bytes (wire_view scalar.entry)) in SomeIff result (n < 2 ^ 64) n }
+    ensures { let n = length (plain_bytes (wire_view scalar.entry)) in SomeIff result
+        (n < 2 ^ 64) n }
 {
     match scalar {
         WireScalar::Varint(n) => Some(varint_len(n)),

@@ -5,7 +5,8 @@ use Rattle.schema_core.specs.declared.payload.Fault.TheVariants as fault
 use Rattle.reflect_schema.specs.declared.program.RunFault.{RunFault}
 use Rattle.reflect_schema.specs.declared.program.RunFault.TheVariants as run
 
--- 1: the schema is refused; 3: the payload is; 4: something cannot be read or written; 5: memory ran out
+-- 1: the schema is refused; 3: the payload is; 4: something cannot be read or written; 5: memory
+-- ran out
 abbrev pub status_of : RunFault → ℕ
 status_of (run.Schema schema.Memory) = 5
 status_of (run.Schema e) = 1

@@ -145,7 +145,8 @@ fn first_schema<F: SourceFiles>(
     }
 }
 
-/// The schema of the files that are asked for: first what declares the types of options, then the set, then the sources.
+/// The schema of the files that are asked for: first what declares the types of options, then the
+/// set, then the sources.
 fn read_schema<F: SourceFiles>(
     alloc: Global,
     files: &mut F,
@@ -228,10 +229,12 @@ fn tell_usage<W: Write, E: Write>(
     }
 }
 
-/// Runs the program `schema` on its words, without its own name, and gives the status that it ends with.
+/// Runs the program `schema` on its words, without its own name, and gives the status that it ends
+/// with.
 ///
-/// 0: answered, or help was asked for. 1: the schema is refused, or a source is not UTF-8. 2: the command line is refused.
-/// 3: the payload is refused. 4: a file, the input or the output cannot be read or written. 5: memory ran out.
+/// 0: answered, or help was asked for. 1: the schema is refused, or a source is not UTF-8. 2: the
+/// command line is refused. 3: the payload is refused. 4: a file, the input or the output cannot be
+/// read or written. 5: memory ran out.
 pub fn run<F: SourceFiles, R: Read, W: Write, E: Write>(
     alloc: Global,
     words: &[&str],

@@ -13,7 +13,8 @@ indexes_of m = λ t. get_by_text m t
 
 -- an index below the mark is that of a name in both or in neither
 abbrev pub KeepsIndexes : ℕ → Indexes → Indexes → Type 0
-KeepsIndexes mark old new = (t : List ℕ) (i : ℕ) → i < mark → (old t ≡ Some i → new t ≡ Some i) × (new t ≡ Some i → old t ≡ Some i)
+KeepsIndexes mark old new = (t : List ℕ) (i : ℕ) → i < mark → (old t ≡ Some i → new t ≡ Some i)
+    × (new t ≡ Some i → old t ≡ Some i)
 
 -- the files that a file imports, and those that it imports publicly
 abbrev pub link_view : Links → List ℕ × List ℕ

@@ -25,11 +25,13 @@ may_repeat first next = is_package first && is_package next
 
 -- the first definition of a name stays
 abbrev pub declared : Known → List ℕ → Definition → Known
-declared known name d = elim (known name) [ None ↦ update bytes_eq known name (Some d) | Some e ↦ known ]
+declared known name d = elim (known name)
+    [ None ↦ update bytes_eq known name (Some d) | Some e ↦ known ]
 
 -- the name is taken by what may not repeat
 abbrev pub is_taken : Known → List ℕ → Definition → Bool
-is_taken known name d = elim (known name) [ None ↦ false | Some e ↦ elim (may_repeat e.kind d.kind) [ true ↦ false | false ↦ true ] ]
+is_taken known name d = elim (known name)
+    [ None ↦ false | Some e ↦ elim (may_repeat e.kind d.kind) [ true ↦ false | false ↦ true ] ]
 
 -- the entries of the files below the mark
 abbrev pub below : ℕ → List (String Global × Definition) → List (String Global × Definition)

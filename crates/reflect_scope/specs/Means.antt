@@ -1,4 +1,5 @@
--- What a name means where it stands, scope by scope. See "Packages and Name Resolution" in the public Language Guide.
+-- What a name means where it stands, scope by scope. See "Packages and Name Resolution" in the
+-- public Language Guide.
 use Rattle.std.specs.Prelude.{◌≡◌, ℕ, zero, suc, List, [], ◌∷◌, ◌++◌, length, Bool, true, false, cond, ◌||◌, ◌==◌, eqb, Option, Some, None, Result, Ok, Err, string_bytes}
 use Rattle.std.specs.List.{before_first}
 use Rattle.reflect_scope.specs.declared.definition.Definition.{Definition}
@@ -61,7 +62,13 @@ standing sees f (Some d) = cond (is_seen sees d) (cond (is_wanted f d.kind) (Wan
 
 abbrev pub is_holder : Option Definition → Bool
 is_holder None = false
-is_holder (Some d) = elim d.kind [ kind.Package ↦ true | kind.Message i ↦ true | kind.Service i ↦ true | kind.Enum i ↦ true | _ ↦ false ]
+is_holder (Some d) = elim d.kind [
+  | kind.Package ↦ true
+  | kind.Message i ↦ true
+  | kind.Service i ↦ true
+  | kind.Enum i ↦ true
+  | _ ↦ false
+]
 
 abbrev pub step : {R : Type 0} → Standing → (Definition → R) → R → R
 step (Wanted d) found rest = found d
@@ -82,7 +89,8 @@ missing false = not_found
 -- the innermost wanted one, going on past others
 abbrev pub undotted : (List ℕ → Standing) → List ℕ → List (List ℕ) → Bool → Meaning
 undotted at name [] passed = missing passed
-undotted at name (p ∷ ps) passed = step (at p) (λ d. means (join p name) d) (undotted at name ps (marks (at p) passed))
+undotted at name (p ∷ ps) passed =
+    step (at p) (λ d. means (join p name) d) (undotted at name ps (marks (at p) passed))
 
 abbrev pub settled : Standing → List ℕ → Meaning
 settled (Wanted d) full = means full d
@@ -93,7 +101,8 @@ settled Absent full = shadowed full
 -- settled at the innermost scope where the first part holds names
 abbrev pub dotted : (List ℕ → Bool) → (List ℕ → Standing) → List ℕ → List (List ℕ) → Meaning
 dotted first at name [] = not_found
-dotted first at name (p ∷ ps) = cond (first p) (settled (at p) (join p name)) (dotted first at name ps)
+dotted first at name (p ∷ ps) =
+    cond (first p) (settled (at p) (join p name)) (dotted first at name ps)
 
 -- the meaning of a full name
 abbrev pub rooted : Standing → List ℕ → Meaning
@@ -105,15 +114,20 @@ rooted Absent full = not_found
 abbrev pub first_part : List ℕ → List ℕ
 first_part name = before_first (λ b. eqb b 46) name
 
-abbrev pub by_dots : (List ℕ → Option Definition) → (ℕ → Bool) → ResolveNameFilter → List ℕ → List ℕ → Meaning
+abbrev pub by_dots : (List ℕ → Option Definition) → (ℕ → Bool) → ResolveNameFilter → List ℕ → List ℕ
+    → Meaning
 by_dots names sees f scope name =
     cond (has_dot name)
-    (dotted (λ p. is_holder (names (join p (first_part name)))) (λ p. standing sees f (names (join p name))) name (scopes scope))
+    (dotted (λ p. is_holder (names (join p (first_part name))))
+    (λ p. standing sees f (names (join p name))) name (scopes scope))
     (undotted (λ p. standing sees f (names (join p name))) name (scopes scope) false)
 
-abbrev pub resolve : (List ℕ → Option Definition) → (ℕ → Bool) → ResolveNameFilter → List ℕ → List ℕ → Meaning
+abbrev pub resolve : (List ℕ → Option Definition) → (ℕ → Bool) → ResolveNameFilter → List ℕ → List ℕ
+    → Meaning
 resolve names sees f scope [] = by_dots names sees f scope []
-resolve names sees f scope (b ∷ name) = cond (b == 46) (rooted (standing sees f (names name)) name) (by_dots names sees f scope (b ∷ name))
+resolve names sees f scope (b ∷ name) =
+    cond (b == 46) (rooted (standing sees f (names name)) name)
+    (by_dots names sees f scope (b ∷ name))
 
 -- the answer, but for want of memory
 abbrev pub Answers : Result Resolved ResolveNameError → Meaning → Type 0

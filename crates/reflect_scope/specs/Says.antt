@@ -16,31 +16,39 @@ IsScope s p = (p ≡ s) ⊎ ((p ≡ []) ⊎ ((rest : List ℕ) × (s ≡ p ++ (4
 abbrev pub NoneWanted : (List ℕ → Standing) → List ℕ → Type 0
 NoneWanted at s = (q : List ℕ) → IsScope s q → (e : Definition) → at q ≡ Wanted e → ⊥
 
--- of a name without a dot: the innermost wanted definition; or that there is none, and whether another kind is seen
+-- of a name without a dot: the innermost wanted definition; or that there is none, and whether
+-- another kind is seen
 abbrev pub SaysUndotted : (List ℕ → Standing) → List ℕ → List ℕ → Meaning → Type 0
 SaysUndotted at name s (means full d) =
-    (p : List ℕ) × IsScope s p × (full ≡ join p name) × (at p ≡ Wanted d) × ((q : List ℕ) → IsScope s q → length p < length q → (e : Definition) → at q ≡ Wanted e → ⊥)
+    (p : List ℕ) × IsScope s p × (full ≡ join p name) × (at p ≡ Wanted d)
+    × ((q : List ℕ) → IsScope s q → length p < length q → (e : Definition) → at q ≡ Wanted e
+    → ⊥)
 SaysUndotted at name s wrong_kind = NoneWanted at s × ((p : List ℕ) × IsScope s p × (at p ≡ Wrong))
 SaysUndotted at name s not_found = NoneWanted at s × ((p : List ℕ) → IsScope s p → at p ≡ Wrong → ⊥)
 SaysUndotted at name s (shadowed full) = ⊥
 
 -- p is the innermost scope where the first part holds names
 abbrev pub IsSettledAt : (List ℕ → Bool) → List ℕ → List ℕ → Type 0
-IsSettledAt first s p = IsScope s p × (first p ≡ true) × ((q : List ℕ) → IsScope s q → length p < length q → first q ≡ true → ⊥)
+IsSettledAt first s p = IsScope s p × (first p ≡ true)
+    × ((q : List ℕ) → IsScope s q → length p < length q → first q ≡ true → ⊥)
 
--- of a name with a dot: what stands under the whole name where its first part settles it; or that it does so nowhere
+-- of a name with a dot: what stands under the whole name where its first part settles it; or that
+-- it does so nowhere
 abbrev pub SaysDotted : (List ℕ → Bool) → (List ℕ → Standing) → List ℕ → List ℕ → Meaning → Type 0
 SaysDotted first at name s m =
     ((p : List ℕ) × IsSettledAt first s p × (m ≡ settled (at p) (join p name)))
     ⊎ (((q : List ℕ) → IsScope s q → first q ≡ true → ⊥) × (m ≡ not_found))
 
-abbrev pub SaysPlain : (List ℕ → Option Definition) → (ℕ → Bool) → ResolveNameFilter → List ℕ → List ℕ → Meaning → Type 0
+abbrev pub SaysPlain : (List ℕ → Option Definition) → (ℕ → Bool) → ResolveNameFilter → List ℕ
+    → List ℕ → Meaning → Type 0
 SaysPlain names sees f scope name m = MatchBool (has_dot name)
-    (SaysDotted (λ p. is_holder (names (join p (first_part name)))) (λ p. standing sees f (names (join p name))) name scope m)
+    (SaysDotted (λ p. is_holder (names (join p (first_part name))))
+    (λ p. standing sees f (names (join p name))) name scope m)
     (SaysUndotted (λ p. standing sees f (names (join p name))) name scope m)
 
 -- what a name means in a scope, with a leading dot or without
-abbrev pub Means : (List ℕ → Option Definition) → (ℕ → Bool) → ResolveNameFilter → List ℕ → List ℕ → Meaning → Type 0
+abbrev pub Means : (List ℕ → Option Definition) → (ℕ → Bool) → ResolveNameFilter → List ℕ → List ℕ
+    → Meaning → Type 0
 Means names sees f scope [] m = SaysPlain names sees f scope [] m
 Means names sees f scope (b ∷ name) m = MatchBool (b == 46)
     (m ≡ rooted (standing sees f (names name)) name)

@@ -1,6 +1,7 @@
 use std::fmt;
 
-/// What kind of thing a full name stands for. The numbers are indexes among all messages, enums, extensions or services.
+/// What kind of thing a full name stands for. The numbers are indexes among all messages, enums,
+/// extensions or services.
 #[derive(Clone, Copy, PartialEq, Eq)]
 pub enum DefinitionKind {
     Package,
@@ -14,7 +15,8 @@ pub enum DefinitionKind {
     Method,
 }
 
-/// What a full name stands for, and the index of the file that defines it. A package's file is the first that bears it.
+/// What a full name stands for, and the index of the file that defines it. A package's file is the
+/// first that bears it.
 #[derive(Clone, Copy, PartialEq, Eq)]
 pub struct Definition {
     pub file: u32,

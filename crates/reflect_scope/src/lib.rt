@@ -1,4 +1,5 @@
-//! What a name in a scope means, and which files a file sees: each answer is what the public scoping rules of protobuf say.
+//! What a name in a scope means, and which files a file sees: each answer is what the public
+//! scoping rules of protobuf say.
 #![tactic(auto)]
 
 mod definition;

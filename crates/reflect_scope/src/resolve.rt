@@ -21,7 +21,8 @@ pub struct Resolved {
 pub enum ResolveNameError {
     /// Nothing of that name is seen.
     NotFound,
-    /// The first part of the name means something in whose scope the whole is not defined; the full name that was looked for.
+    /// The first part of the name means something in whose scope the whole is not defined; the full
+    /// name that was looked for.
     Shadowed { shadowed_name: String },
     /// What the name means is of another kind than wanted.
     InvalidType,
@@ -163,7 +164,9 @@ fn in_scopes(
     name: &str,
     filter: ResolveNameFilter,
 ) -> Result<Resolved, ResolveNameError>
-    ensures { Answers result (undotted (λ p. standing (tells dependencies.now) filter (get_by_text names.now (join p name.now))) name.now (scopes scope.now) false) }
+    ensures { Answers result (undotted
+        (λ p. standing (tells dependencies.now) filter (get_by_text names.now (join p name.now)))
+        name.now (scopes scope.now) false) }
 {
     let mut full_name = String::new(alloc);
     let mut scope = scope;
@@ -211,7 +214,9 @@ fn by_first_part(
     name: &str,
     filter: ResolveNameFilter,
 ) -> Result<Resolved, ResolveNameError>
-    ensures { Answers result (dotted (λ p. holds (get_by_text names.now (join p first.now))) (λ p. standing (tells dependencies.now) filter (get_by_text names.now (join p name.now))) name.now (scopes scope.now)) }
+    ensures { Answers result (dotted (λ p. holds (get_by_text names.now (join p first.now)))
+        (λ p. standing (tells dependencies.now) filter (get_by_text names.now (join p name.now)))
+        name.now (scopes scope.now)) }
 {
     let mut full_name = String::new(alloc);
     let mut scope = scope;
@@ -236,7 +241,9 @@ fn by_full_name(
     full_name: &str,
     filter: ResolveNameFilter,
 ) -> Result<Resolved, ResolveNameError>
-    ensures { Answers result (rooted (standing (tells dependencies.now) filter (get_by_text names.now full_name.now)) full_name.now) }
+    ensures { Answers result (rooted
+        (standing (tells dependencies.now) filter (get_by_text names.now full_name.now))
+        full_name.now) }
 {
     match standing_of(dependencies, filter, names.get(full_name).copied()) {
         Standing::Wanted(definition) => Ok(Resolved {
@@ -256,8 +263,8 @@ fn by_full_name(
 /// - Any other name is settled at the innermost scope where its first part is a package, message, service or enum, seen or
 ///   not: it is `Shadowed` where the whole is not defined there, and `NotFound` where it is defined but not seen.
 ///
-/// Where nothing of a wanted kind is found, it is `InvalidType` where a definition of another kind is seen under the name,
-/// picked or passed over; else `NotFound`. Packages are seen everywhere.
+/// Where nothing of a wanted kind is found, it is `InvalidType` where a definition of another kind
+/// is seen under the name, picked or passed over; else `NotFound`. Packages are seen everywhere.
 pub fn resolve_name(
     alloc: Global,
     dependencies: &SeenFiles,
@@ -267,8 +274,11 @@ pub fn resolve_name(
     filter: ResolveNameFilter,
 ) -> Result<Resolved, ResolveNameError>
     // `resolve` goes from scope to scope; `Means` says the same of all scopes at once.
-    ensures answers { Answers result (resolve (λ t. get_by_text names.now t) (tells dependencies.now) filter scope.now name.now) }
-    ensures means { Tells (Means (λ t. get_by_text names.now t) (tells dependencies.now) filter scope.now name.now) result }
+    ensures answers { Answers result
+        (resolve (λ t. get_by_text names.now t) (tells dependencies.now) filter
+        scope.now name.now) }
+    ensures means { Tells (Means (λ t. get_by_text names.now t) (tells dependencies.now) filter
+        scope.now name.now) result }
 {
     if let Some(full_name) = name.strip_prefix('.') {
         return by_full_name(alloc, dependencies, names, full_name, filter);

@@ -12,10 +12,11 @@ pub struct Links {
     pub public: Vec<u32>,
 }
 
-/// Which files are seen from one file: itself, its imports, and what any chain of public imports reaches from those.
+/// Which files are seen from one file: itself, its imports, and what any chain of public imports
+/// reaches from those.
 ///
-/// See "Importing Definitions" in the public Language Guide. One value serves many files in turn, and each look costs as
-/// much as the files that it reaches and their imports.
+/// See "Importing Definitions" in the public Language Guide. One value serves many files in turn,
+/// and each look costs as much as the files that it reaches and their imports.
 #[derive(Drop)]
 pub struct SeenFiles {
     marks: Vec<bool>,
@@ -25,11 +26,14 @@ pub struct SeenFiles {
 
 /// Marks a file and puts it behind the others, unless it has a mark or there is no such file.
 fn mark(marks: &mut Vec<bool>, order: &mut Vec<u32>, file: u32) -> Result<(), AllocError>
-    ensures marked { OnOk result (IsMarked marks.old.items order.old.items → IsMarked marks.new.items order.new.items) }
+    ensures marked { OnOk result (IsMarked marks.old.items order.old.items
+        → IsMarked marks.new.items order.new.items) }
     ensures same { length marks.new.items ≡ length marks.old.items }
     ensures grown { OnOk result (Extends (λ g. g ≡ file) order.old.items order.new.items) }
-    ensures there { OnOk result (IsMarked marks.old.items order.old.items → file < length marks.old.items → Contains order.new.items file) }
-    ensures listed { AreListed marks.old.items order.old.items → AreListed marks.new.items order.new.items }
+    ensures there { OnOk result (IsMarked marks.old.items order.old.items → file
+        < length marks.old.items → Contains order.new.items file) }
+    ensures listed { AreListed marks.old.items order.old.items
+        → AreListed marks.new.items order.new.items }
 {
     let index = file as usize;
     if index < marks.len() && !marks[index] {
@@ -40,11 +44,15 @@ fn mark(marks: &mut Vec<bool>, order: &mut Vec<u32>, file: u32) -> Result<(), Al
 }
 
 fn mark_all(marks: &mut Vec<bool>, order: &mut Vec<u32>, files: &Vec<u32>) -> Result<(), AllocError>
-    ensures marked { OnOk result (IsMarked marks.old.items order.old.items → IsMarked marks.new.items order.new.items) }
+    ensures marked { OnOk result (IsMarked marks.old.items order.old.items
+        → IsMarked marks.new.items order.new.items) }
     ensures same { length marks.new.items ≡ length marks.old.items }
-    ensures grown { OnOk result (Extends (Contains files.now.items) order.old.items order.new.items) }
-    ensures there { OnOk result (IsMarked marks.old.items order.old.items → (g : ℕ) → Contains files.now.items g → g < length marks.old.items → Contains order.new.items g) }
-    ensures listed { AreListed marks.old.items order.old.items → AreListed marks.new.items order.new.items }
+    ensures grown { OnOk result (Extends (Contains files.now.items) order.old.items
+        order.new.items) }
+    ensures there { OnOk result (IsMarked marks.old.items order.old.items → (g : ℕ)
+        → Contains files.now.items g → g < length marks.old.items → Contains order.new.items g) }
+    ensures listed { AreListed marks.old.items order.old.items
+        → AreListed marks.new.items order.new.items }
 {
     'turns: for file in files {
         mark(marks, order, *file)?;
@@ -58,11 +66,16 @@ fn mark_imports(
     files: &[Links],
     file: u32,
 ) -> Result<(), AllocError>
-    ensures marked { OnOk result (IsMarked marks.old.items order.old.items → IsMarked marks.new.items order.new.items) }
+    ensures marked { OnOk result (IsMarked marks.old.items order.old.items
+        → IsMarked marks.new.items order.new.items) }
     ensures same { length marks.new.items ≡ length marks.old.items }
-    ensures grown { OnOk result (Extends (Contains (imports_at files.now file)) order.old.items order.new.items) }
-    ensures there { OnOk result (IsMarked marks.old.items order.old.items → (g : ℕ) → Contains (imports_at files.now file) g → g < length marks.old.items → Contains order.new.items g) }
-    ensures listed { AreListed marks.old.items order.old.items → AreListed marks.new.items order.new.items }
+    ensures grown { OnOk result (Extends (Contains (imports_at files.now file)) order.old.items
+        order.new.items) }
+    ensures there { OnOk result (IsMarked marks.old.items order.old.items → (g : ℕ)
+        → Contains (imports_at files.now file) g → g < length marks.old.items
+        → Contains order.new.items g) }
+    ensures listed { AreListed marks.old.items order.old.items
+        → AreListed marks.new.items order.new.items }
 {
     match files.get(file as usize) {
         Some(links) => mark_all(marks, order, &links.imports),
@@ -76,11 +89,16 @@ fn mark_public(
     files: &[Links],
     file: u32,
 ) -> Result<(), AllocError>
-    ensures marked { OnOk result (IsMarked marks.old.items order.old.items → IsMarked marks.new.items order.new.items) }
+    ensures marked { OnOk result (IsMarked marks.old.items order.old.items
+        → IsMarked marks.new.items order.new.items) }
     ensures same { length marks.new.items ≡ length marks.old.items }
-    ensures grown { OnOk result (Extends (Contains (publics_at files.now file)) order.old.items order.new.items) }
-    ensures there { OnOk result (IsMarked marks.old.items order.old.items → (g : ℕ) → Contains (publics_at files.now file) g → g < length marks.old.items → Contains order.new.items g) }
-    ensures listed { AreListed marks.old.items order.old.items → AreListed marks.new.items order.new.items }
+    ensures grown { OnOk result (Extends (Contains (publics_at files.now file)) order.old.items
+        order.new.items) }
+    ensures there { OnOk result (IsMarked marks.old.items order.old.items → (g : ℕ)
+        → Contains (publics_at files.now file) g → g < length marks.old.items
+        → Contains order.new.items g) }
+    ensures listed { AreListed marks.old.items order.old.items
+        → AreListed marks.new.items order.new.items }
 {
     match files.get(file as usize) {
         Some(links) => mark_all(marks, order, &links.public),
@@ -128,7 +146,8 @@ fn reach(
     requires clear { AllClear marks.old.items }
     requires none { order.old.items ≡ [] }
     requires room { length files.now ≤ length marks.old.items }
-    ensures sees { OnOk result ((g : ℕ) → g < length files.now → (slice_index_or marks.new.items g false ≡ true ↔ Sees files.now file g)) }
+    ensures sees { OnOk result ((g : ℕ) → g < length files.now
+        → (slice_index_or marks.new.items g false ≡ true ↔ Sees files.now file g)) }
     ensures listed { AreListed marks.new.items order.new.items }
 {
     mark_imports(marks, order, files, file)?;
@@ -149,7 +168,8 @@ fn look(
     file: u32,
 ) -> Result<(), AllocError>
     requires listed { AreListed marks.old.items order.old.items }
-    ensures sees { OnOk result ((g : ℕ) → g < length files.now → (slice_index_or marks.new.items g false ≡ true ↔ Sees files.now file g)) }
+    ensures sees { OnOk result ((g : ℕ) → g < length files.now
+        → (slice_index_or marks.new.items g false ≡ true ↔ Sees files.now file g)) }
     ensures listed { AreListed marks.new.items order.new.items }
 {
     clear_marks(marks, order);
@@ -172,10 +192,12 @@ impl SeenFiles {
         }
     }
 
-    /// Looks from `file`, and forgets what was seen before. `files` has the links of all files by their indexes; indexes of
-    /// no file are passed over. After an `Err` it is not said which files are seen.
+    /// Looks from `file`, and forgets what was seen before. `files` has the links of all files by
+    /// their indexes; indexes of no file are passed over. After an `Err` it is not said which files
+    /// are seen.
     pub fn look_from(&mut self, files: &[Links], file: u32) -> Result<(), AllocError>
-        ensures { OnOk result ((g : ℕ) → g < length files.now → (IsTrue (tells self.new g) ↔ Sees files.now file g)) }
+        ensures { OnOk result ((g : ℕ) → g < length files.now
+            → (IsTrue (tells self.new g) ↔ Sees files.now file g)) }
     {
         look(&mut self.marks, &mut self.order, files, file)
     }

@@ -20,4 +20,5 @@ numbers_of m = λ k. get key_cmp m k
 
 -- a place below the mark is that of a message and a number in both or in neither
 abbrev pub KeepsNumbers : ℕ → Numbers → Numbers → Type 0
-KeepsNumbers mark old new = (k : KeyType) (i : ℕ) → i < mark → (old k ≡ Some i → new k ≡ Some i) × (new k ≡ Some i → old k ≡ Some i)
+KeepsNumbers mark old new = (k : KeyType) (i : ℕ) → i < mark → (old k ≡ Some i → new k ≡ Some i)
+    × (new k ≡ Some i → old k ≡ Some i)

@@ -46,12 +46,16 @@ key_at keys place = slice_index_or keys place no_key
 
 -- each place has a lower key than the next
 abbrev pub IsAscending : List KeyType → List ℕ → Type 0
-IsAscending keys places = AllAdjacentBelow (λ a b. key_order (key_at keys a) (key_at keys b) ≡ Less) places (length places)
+IsAscending keys places = AllAdjacentBelow (λ a b. key_order (key_at keys a) (key_at keys b) ≡ Less)
+    places (length places)
 
 -- not without a place of the same key that is not behind this one
 abbrev pub IsListed : List KeyType → List ℕ → ℕ → Type 0
-IsListed keys places place = ((i d : ℕ) → i < length places → key_at keys (slice_index_or places i d) ≡ key_at keys place → slice_index_or places i d ≤ place → ⊥) → ⊥
+IsListed keys places place = ((i d : ℕ) → i < length places
+    → key_at keys (slice_index_or places i d) ≡ key_at keys place → slice_index_or places i d
+    ≤ place → ⊥) → ⊥
 
 -- the places of the first item of each key, by ascending key
 abbrev pub IsIndex : List KeyType → List ℕ → Type 0
-IsIndex keys places = All (λ p. p < length keys) places × (IsAscending keys places × ((place : ℕ) → place < length keys → IsListed keys places place))
+IsIndex keys places = All (λ p. p < length keys) places
+    × (IsAscending keys places × ((place : ℕ) → place < length keys → IsListed keys places place))

@@ -40,20 +40,25 @@ names_of p services = map service_name p.services
 -- the place of a definition of the sort
 abbrev pub place_of : Sort → DefinitionKind → Option ℕ
 place_of s kind.Package = None
-place_of s (kind.Message i) = elim s [ messages ↦ Some i | enums ↦ None | extensions ↦ None | services ↦ None ]
+place_of s (kind.Message i) = elim s
+    [ messages ↦ Some i | enums ↦ None | extensions ↦ None | services ↦ None ]
 place_of s kind.Field = None
 place_of s kind.Oneof = None
-place_of s (kind.Enum i) = elim s [ messages ↦ None | enums ↦ Some i | extensions ↦ None | services ↦ None ]
+place_of s (kind.Enum i) = elim s
+    [ messages ↦ None | enums ↦ Some i | extensions ↦ None | services ↦ None ]
 place_of s kind.EnumValue = None
-place_of s (kind.Service i) = elim s [ messages ↦ None | enums ↦ None | extensions ↦ None | services ↦ Some i ]
+place_of s (kind.Service i) = elim s
+    [ messages ↦ None | enums ↦ None | extensions ↦ None | services ↦ Some i ]
 place_of s kind.Method = None
-place_of s (kind.Extension i) = elim s [ messages ↦ None | enums ↦ None | extensions ↦ Some i | services ↦ None ]
+place_of s (kind.Extension i) =
+    elim s [ messages ↦ None | enums ↦ None | extensions ↦ Some i | services ↦ None ]
 
 abbrev pub with_file : Definition → Option ℕ → Option (ℕ × ℕ)
 with_file d None = None
 with_file d (Some i) = Some (i, d.file)
 
--- the place of what a full name stands for, where that is of the sort, and the file of its declaration
+-- the place of what a full name stands for, where that is of the sort, and the file of its
+-- declaration
 abbrev pub place_in : Sort → Option Definition → Option (ℕ × ℕ)
 place_in s None = None
 place_in s (Some d) = with_file d (place_of s d.kind)
@@ -63,7 +68,9 @@ found s known t = place_in s (known t)
 
 -- a full name stands for a place exactly where it is the one at this place
 abbrev pub AreFound : (List ℕ → Option (ℕ × ℕ)) → List FullName → Type 0
-AreFound at names = (t : List ℕ) (i file : ℕ) → (at t ≡ Some (i, file) → slice_get names i ≡ Some (t, file)) × (slice_get names i ≡ Some (t, file) → at t ≡ Some (i, file))
+AreFound at names = (t : List ℕ) (i file : ℕ)
+    → (at t ≡ Some (i, file) → slice_get names i ≡ Some (t, file))
+    × (slice_get names i ≡ Some (t, file) → at t ≡ Some (i, file))
 
 -- the files ascend
 abbrev pub AreInOrder : List FullName → Type 0

@@ -1,5 +1,5 @@
--- What a pool holds: files with their records, message types with their fields and oneofs, enum types with their values, extensions
--- and services, each at its place.
+-- What a pool holds: files with their records, message types with their fields and oneofs, enum
+-- types with their values, extensions and services, each at its place.
 use Rattle.std.specs.Prelude.{◌≡◌, ◌==◌, ◌+◌, ◌^◌, ℕ, ℤ, ◌<◌, List, [], ◌∷◌, length, Bool, false, cond, Option, None, Some, slice_index_or}
 use Rattle.std.specs.List.{All, AllByRecursion}
 use Rattle.descriptor_records.specs.declared.file.FileDescriptorProto.{FileDescriptorProto}
@@ -29,7 +29,8 @@ pub data KindType : Type 0 where
   message : ℕ → KindType
   enumeration : ℕ → KindType
 
--- the default that a declaration gives; an enum's is the name of a value, that of a floating-point number its text
+-- the default that a declaration gives; an enum's is the name of a value, that of a floating-point
+-- number its text
 pub data DefaultType : Type 0 where
   signed : ℤ → DefaultType
   unsigned : ℕ → DefaultType
@@ -61,7 +62,8 @@ pub record OneofType : Type 0 where
   pub fields : List ℕ
   pub synthetic : Bool
 
--- the places of the types and extensions that a file or a message declares itself, as they were declared
+-- the places of the types and extensions that a file or a message declares itself, as they were
+-- declared
 pub record ChildPlaces : Type 0 where
   pub messages : List ℕ
   pub enums : List ℕ
@@ -144,7 +146,13 @@ abbrev pub IsSettled : PoolType → PoolType → Type 0
 IsSettled old new = new ≡ record old { records = new.records }
 
 abbrev pub counts_of : PoolType → Counts
-counts_of p = record { files = length p.files; messages = length p.messages; enums = length p.enums; extensions = length p.extensions; services = length p.services }
+counts_of p = record {
+  files = length p.files;
+  messages = length p.messages;
+  enums = length p.enums;
+  extensions = length p.extensions;
+  services = length p.services;
+}
 
 -- the type that a field names is there
 abbrev pub IsWithin : Counts → KindType → Type 0
@@ -168,7 +176,9 @@ is_member oneof f = elim f.oneof [ None ↦ false | Some k ↦ oneof == k ]
 -- the places of the oneof's members among fields, the first of which has this place
 abbrev pub members_from : ℕ → ℕ → List FieldType → List ℕ
 members_from place oneof [] = []
-members_from place oneof (f ∷ fs) = cond (is_member oneof f) (place ∷ members_from (place + 1) oneof fs) (members_from (place + 1) oneof fs)
+members_from place oneof (f ∷ fs) =
+    cond (is_member oneof f) (place ∷ members_from (place + 1) oneof fs)
+    (members_from (place + 1) oneof fs)
 
 -- what stands for a oneof that is not there
 abbrev pub no_oneof : OneofType
@@ -182,7 +192,8 @@ no_oneof = record {
 
 -- each oneof lists its members
 abbrev pub AreListed : List OneofType → List FieldType → Type 0
-AreListed oneofs fields = (k : ℕ) → k < length oneofs → (slice_index_or oneofs k no_oneof).fields ≡ members_from 0 k fields
+AreListed oneofs fields = (k : ℕ) → k < length oneofs → (slice_index_or oneofs k no_oneof).fields
+    ≡ members_from 0 k fields
 
 abbrev pub ListsMembers : MessageType → Type 0
 ListsMembers m = AreListed m.oneofs m.fields

@@ -91,7 +91,12 @@ oneof_of o = record {
 }
 
 abbrev pub children_of : Children → ChildPlaces
-children_of c = record { messages = c.messages.items; enums = c.enums.items; extensions = c.extensions.items }
+children_of c = record {
+  messages = c.messages.items;
+  enums = c.enums.items;
+  extensions =
+      c.extensions.items;
+}
 
 abbrev pub message_of : StoredMessage → MessageType
 message_of m = record {

@@ -20,16 +20,20 @@ pub fn key_of<T: Keyed>(items: &[T], by: By, place: u32) -> Key<'_>
 /// Where the place of an item with this key stands among the places.
 pub fn search<T: Keyed>(items: &[T], by: By, places: &[u32], key: Key<'_>) -> Result<usize, usize>
     ensures in_range { IsSearchInRange result (length places.now) }
-    ensures found { IfOk result (HoldsAt (λ p. key_at (map (T.key_of by) items.now) p ≡ key_view key.entry) places.now) }
-    ensures missing { IsAscending (map (T.key_of by) items.now) places.now → IfErr result (λ at. All (λ p. key_at (map (T.key_of by) items.now) p ≢ key_view key.entry) places.now) }
+    ensures found { IfOk result (HoldsAt
+        (λ p. key_at (map (T.key_of by) items.now) p ≡ key_view key.entry) places.now) }
+    ensures missing { IsAscending (map (T.key_of by) items.now) places.now
+        → IfErr result (λ at. All (λ p. key_at (map (T.key_of by) items.now) p ≢ key_view key.entry)
+        places.now) }
 {
     places.binary_search_by(|place| compare(key_of(items, by, *place), key))
 }
 
-/// The place of the first item with this key. Takes no memory, and a number of steps that grows with the logarithm of the
-/// items' count.
+/// The place of the first item with this key. Takes no memory, and a number of steps that grows
+/// with the logarithm of the items' count.
 pub fn first<T: Keyed>(items: &[T], by: By, places: &[u32], key: Key<'_>) -> Option<u32>
-    ensures { IsIndex (map (T.key_of by) items.now) places.now → IsFirst (λ k. k ≡ key_view key.entry) (map (T.key_of by) items.now) result }
+    ensures { IsIndex (map (T.key_of by) items.now) places.now
+        → IsFirst (λ k. k ≡ key_view key.entry) (map (T.key_of by) items.now) result }
 {
     match search(items, by, places, key) {
         Ok(at) => Some(places[at]),

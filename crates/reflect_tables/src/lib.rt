@@ -1,4 +1,5 @@
-//! What a pool keeps of linked files: entries that name each other by places, and how the parts of types are looked up.
+//! What a pool keeps of linked files: entries that name each other by places, and how the parts of
+//! types are looked up.
 #![tactic(auto)]
 
 mod find;

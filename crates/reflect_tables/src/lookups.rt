@@ -9,8 +9,8 @@ use crate::keys::{By, Key};
 use crate::lists::{FieldList, ValueList};
 
 impl FieldList {
-    /// The place of the first field of a number. Takes no memory, and a number of steps that grows with the logarithm of the
-    /// fields' count, as the other lookups do.
+    /// The place of the first field of a number. Takes no memory, and a number of steps that grows
+    /// with the logarithm of the fields' count, as the other lookups do.
     pub fn of_number(&self, number: u32) -> Option<u32>
         ensures { IsFirst (λ f. f.number ≡ number) (map field_of self.now.list.items) result }
     {
@@ -36,7 +36,8 @@ impl FieldList {
 
     /// The place of the first field of a written JSON name.
     pub fn of_json_name(&self, name: &str) -> Option<u32>
-        ensures { IsFirst (λ f. f.json_name ≡ Some name.now) (map field_of self.now.list.items) result }
+        ensures { IsFirst (λ f. f.json_name ≡ Some name.now)
+            (map field_of self.now.list.items) result }
     {
         first(
             self.list.as_slice(),
@@ -48,8 +49,8 @@ impl FieldList {
 }
 
 impl ValueList {
-    /// The place of the first value of a number. Takes no memory, and a number of steps that grows with the logarithm of the
-    /// values' count, as the lookup by name does.
+    /// The place of the first value of a number. Takes no memory, and a number of steps that grows
+    /// with the logarithm of the values' count, as the lookup by name does.
     pub fn of_number(&self, number: i32) -> Option<u32>
         ensures { IsFirst (λ v. v.number ≡ number) (map value_of self.now.list.items) result }
     {

@@ -23,13 +23,16 @@ pub struct NumberRanges {
     ghost last: { EndLast ranges.items furthest.items },
 }
 
-/// Of the places of two ranges that of the one which ends later, and of ranges that end alike the first.
+/// Of the places of two ranges that of the one which ends later, and of ranges that end alike the
+/// first.
 fn later(ranges: &[NumberRange], first: usize, second: usize) -> usize
     requires first { first < length ranges.now }
     requires second { second < length ranges.now }
     ensures either { (result ≡ first) ⊎ (result ≡ second) }
-    ensures not_before_first { (slice_index_or ranges.now first no_range).end ≤ℤ (slice_index_or ranges.now result no_range).end }
-    ensures not_before_second { (slice_index_or ranges.now second no_range).end ≤ℤ (slice_index_or ranges.now result no_range).end }
+    ensures not_before_first { (slice_index_or ranges.now first no_range).end ≤ℤ
+        (slice_index_or ranges.now result no_range).end }
+    ensures not_before_second { (slice_index_or ranges.now second no_range).end ≤ℤ
+        (slice_index_or ranges.now result no_range).end }
 {
     if ranges[first].end < ranges[second].end {
         second
@@ -85,8 +88,8 @@ impl NumberRanges {
         Ok(NumberRanges { ranges, furthest })
     }
 
-    /// The start and the end of a range that has the number, if one does. Takes no memory, and a number of steps that grows
-    /// with the logarithm of the ranges' count.
+    /// The start and the end of a range that has the number, if one does. Takes no memory, and a
+    /// number of steps that grows with the logarithm of the ranges' count.
     pub fn find(&self, number: i32) -> Option<(i32, i32)>
         ensures { IsRangeOf (ranges_of self.now) number result }
     {

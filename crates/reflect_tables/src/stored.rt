@@ -42,7 +42,8 @@ pub enum StoredDefault {
     Float(String),
 }
 
-/// The places of the types and extensions that a file or a message declares itself, as they were declared.
+/// The places of the types and extensions that a file or a message declares itself, as they were
+/// declared.
 #[derive(Drop)]
 pub struct Children {
     pub messages: Vec<u32>,

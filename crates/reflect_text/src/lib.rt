@@ -1,5 +1,6 @@
-//! Text format and options: a text is read into a message or refused with its first fault, and a message is written as text;
-//! options are read by the types of the pool alone, and settled as a whole or not at all.
+//! Text format and options: a text is read into a message or refused with its first fault, and a
+//! message is written as text; options are read by the types of the pool alone, and settled as a
+//! whole or not at all.
 #![tactic(auto)]
 
 pub use reflect_format::{Int, ParseError, ParseErrorKind, Parser, Radix, Span, Token};

@@ -12,7 +12,8 @@ past_files o (f ∷ fs) = past_files (past_file o f) fs
 -- the declarations of files, the first of which has this index
 abbrev pub batch_declarations : Offsets → ℕ → List FileDescriptorProto → List Declaration
 batch_declarations o i [] = []
-batch_declarations o i (f ∷ fs) = file_declarations o i f ++ batch_declarations (past_file o f) (i + 1) fs
+batch_declarations o i (f ∷ fs) = file_declarations o i f
+    ++ batch_declarations (past_file o f) (i + 1) fs
 
 -- what is kept at so many files, one after another, the first of which has this index
 abbrev pub KeptBy : {S : Type 0} → (ℕ → S → S → Type 0) → ℕ → ℕ → S → S → Type 0

@@ -1,4 +1,5 @@
-//! The declarations of protobuf files as one list: a visitor is called at each of them, in the order of that list.
+//! The declarations of protobuf files as one list: a visitor is called at each of them, in the
+//! order of that list.
 #![tactic(auto)]
 
 mod map_entry;

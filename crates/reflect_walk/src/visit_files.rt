@@ -8,7 +8,8 @@ use crate::visitor::Visitor;
 use descriptor_records::FileDescriptorProto;
 use std::alloc::Global;
 
-/// Calls the visitor at each declaration of the files, the first of which has the index `first`, as `visit` does of one file.
+/// Calls the visitor at each declaration of the files, the first of which has the index `first`, as
+/// `visit` does of one file.
 ///
 /// `before` counts what is declared in the files before them; the answer counts what they declare too.
 pub fn visit_all<V: Visitor>(
@@ -18,7 +19,8 @@ pub fn visit_all<V: Visitor>(
     files: &[FileDescriptorProto],
     visitor: &mut V,
 ) -> Result<Offsets, VisitError>
-    ensures runs { OnOk result (Runs V.steps visitor.old (batch_declarations before first files.now) visitor.new) }
+    ensures runs { OnOk result (Runs V.steps visitor.old (batch_declarations before first files.now)
+        visitor.new) }
     ensures counts { IfOk result (λ o. o ≡ past_files before files.now) }
     ensures keeps { KeptBy V.kept first (length files.now) visitor.old visitor.new }
 {

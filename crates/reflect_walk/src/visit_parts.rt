@@ -81,7 +81,8 @@ fn visit_field<V: Visitor>(
     field: &FieldDescriptorProto,
 ) -> Result<(), VisitError>
     requires { index < 2 ^ 31 }
-    ensures runs { OnOk result (Runs V.steps visitor.old (one_field path.now scope.now file message index field.now) visitor.new) }
+    ensures runs { OnOk result (Runs V.steps visitor.old
+        (one_field path.now scope.now file message index field.now) visitor.new) }
     ensures keeps { V.kept file visitor.old visitor.new }
 {
     let place = item_path(alloc, path, tag::message::FIELD, index)?;
@@ -106,7 +107,8 @@ fn visit_fields<V: Visitor>(
     message: u32,
     fields: &Vec<FieldDescriptorProto>,
 ) -> Result<(), VisitError>
-    ensures runs { OnOk result (Runs V.steps visitor.old (each (one_field path.now scope.now file message) 0 fields.now.items) visitor.new) }
+    ensures runs { OnOk result (Runs V.steps visitor.old
+        (each (one_field path.now scope.now file message) 0 fields.now.items) visitor.new) }
     ensures keeps { V.kept file visitor.old visitor.new }
 {
     'turns: for (at, field) in fields.iter().enumerate() {
@@ -127,7 +129,8 @@ fn visit_oneof<V: Visitor>(
     oneof: &OneofDescriptorProto,
 ) -> Result<(), VisitError>
     requires { index < 2 ^ 31 }
-    ensures runs { OnOk result (Runs V.steps visitor.old (one_oneof path.now scope.now file message index oneof.now) visitor.new) }
+    ensures runs { OnOk result (Runs V.steps visitor.old
+        (one_oneof path.now scope.now file message index oneof.now) visitor.new) }
     ensures keeps { V.kept file visitor.old visitor.new }
 {
     let place = item_path(alloc, path, tag::message::ONEOF_DECL, index)?;
@@ -152,7 +155,8 @@ fn visit_oneofs<V: Visitor>(
     message: u32,
     oneofs: &Vec<OneofDescriptorProto>,
 ) -> Result<(), VisitError>
-    ensures runs { OnOk result (Runs V.steps visitor.old (each (one_oneof path.now scope.now file message) 0 oneofs.now.items) visitor.new) }
+    ensures runs { OnOk result (Runs V.steps visitor.old
+        (each (one_oneof path.now scope.now file message) 0 oneofs.now.items) visitor.new) }
     ensures keeps { V.kept file visitor.old visitor.new }
 {
     'turns: for (at, oneof) in oneofs.iter().enumerate() {
@@ -173,7 +177,8 @@ fn visit_enum_value<V: Visitor>(
     value: &EnumValueDescriptorProto,
 ) -> Result<(), VisitError>
     requires { index < 2 ^ 31 }
-    ensures runs { OnOk result (Runs V.steps visitor.old (one_value path.now scope.now file enumeration index value.now) visitor.new) }
+    ensures runs { OnOk result (Runs V.steps visitor.old
+        (one_value path.now scope.now file enumeration index value.now) visitor.new) }
     ensures keeps { V.kept file visitor.old visitor.new }
 {
     let place = item_path(alloc, path, tag::enumeration::VALUE, index)?;
@@ -198,7 +203,8 @@ fn visit_values<V: Visitor>(
     enumeration: u32,
     values: &Vec<EnumValueDescriptorProto>,
 ) -> Result<(), VisitError>
-    ensures runs { OnOk result (Runs V.steps visitor.old (each (one_value path.now scope.now file enumeration) 0 values.now.items) visitor.new) }
+    ensures runs { OnOk result (Runs V.steps visitor.old
+        (each (one_value path.now scope.now file enumeration) 0 values.now.items) visitor.new) }
     ensures keeps { V.kept file visitor.old visitor.new }
 {
     'turns: for (at, value) in values.iter().enumerate() {
@@ -219,7 +225,8 @@ fn visit_method<V: Visitor>(
     method: &MethodDescriptorProto,
 ) -> Result<(), VisitError>
     requires { index < 2 ^ 31 }
-    ensures runs { OnOk result (Runs V.steps visitor.old (one_method path.now scope.now file service index method.now) visitor.new) }
+    ensures runs { OnOk result (Runs V.steps visitor.old
+        (one_method path.now scope.now file service index method.now) visitor.new) }
     ensures keeps { V.kept file visitor.old visitor.new }
 {
     let place = item_path(alloc, path, tag::service::METHOD, index)?;
@@ -244,7 +251,8 @@ fn visit_methods<V: Visitor>(
     service: u32,
     methods: &Vec<MethodDescriptorProto>,
 ) -> Result<(), VisitError>
-    ensures runs { OnOk result (Runs V.steps visitor.old (each (one_method path.now scope.now file service) 0 methods.now.items) visitor.new) }
+    ensures runs { OnOk result (Runs V.steps visitor.old
+        (each (one_method path.now scope.now file service) 0 methods.now.items) visitor.new) }
     ensures keeps { V.kept file visitor.old visitor.new }
 {
     'turns: for (at, method) in methods.iter().enumerate() {
@@ -265,7 +273,10 @@ fn visit_enum<V: Visitor>(
     index: u32,
     enumeration: &EnumDescriptorProto,
 ) -> Result<(), VisitError>
-    ensures runs { OnOk result (Runs V.steps visitor.old (enum_declaration path.now (join scope.now (content_of enumeration.now.name)) file parent index enumeration.now ∷ each (one_value path.now scope.now file index) 0 enumeration.now.value.items) visitor.new) }
+    ensures runs { OnOk result (Runs V.steps visitor.old
+        (enum_declaration path.now (join scope.now (content_of enumeration.now.name)) file parent
+        index enumeration.now ∷ each (one_value path.now scope.now file index) 0
+        enumeration.now.value.items) visitor.new) }
     ensures keeps { V.kept file visitor.old visitor.new }
 {
     let full_name = name_in(alloc, scope, &enumeration.name)?;
@@ -285,7 +296,9 @@ fn visit_enums<V: Visitor>(
     parent: Option<u32>,
     enums: &Vec<EnumDescriptorProto>,
 ) -> Result<(), VisitError>
-    ensures runs { OnOk result (Runs V.steps visitor.old (each (one_enum path.now tag scope.now file parent offsets.old.enums) 0 enums.now.items) visitor.new) }
+    ensures runs { OnOk result (Runs V.steps visitor.old
+        (each (one_enum path.now tag scope.now file parent offsets.old.enums) 0 enums.now.items)
+        visitor.new) }
     ensures counts { OnOk result (offsets.new ≡ past_enums offsets.old (length enums.now.items)) }
     ensures keeps { V.kept file visitor.old visitor.new }
 {
@@ -317,7 +330,9 @@ fn visit_extension<V: Visitor>(
     index: u32,
     extension: &FieldDescriptorProto,
 ) -> Result<(), VisitError>
-    ensures runs { OnOk result (Runs V.steps visitor.old (extension_declaration path.now (join scope.now (content_of extension.now.name)) file parent index extension.now ∷ []) visitor.new) }
+    ensures runs { OnOk result (Runs V.steps visitor.old
+        (extension_declaration path.now (join scope.now (content_of extension.now.name)) file parent
+        index extension.now ∷ []) visitor.new) }
     ensures keeps { V.kept file visitor.old visitor.new }
 {
     let full_name = name_in(alloc, scope, &extension.name)?;
@@ -336,8 +351,11 @@ fn visit_extensions<V: Visitor>(
     parent: Option<u32>,
     extensions: &Vec<FieldDescriptorProto>,
 ) -> Result<(), VisitError>
-    ensures runs { OnOk result (Runs V.steps visitor.old (each (one_extension path.now tag scope.now file parent offsets.old.extensions) 0 extensions.now.items) visitor.new) }
-    ensures counts { OnOk result (offsets.new ≡ past_extensions offsets.old (length extensions.now.items)) }
+    ensures runs { OnOk result (Runs V.steps visitor.old
+        (each (one_extension path.now tag scope.now file parent offsets.old.extensions) 0
+        extensions.now.items) visitor.new) }
+    ensures counts { OnOk result (offsets.new
+        ≡ past_extensions offsets.old (length extensions.now.items)) }
     ensures keeps { V.kept file visitor.old visitor.new }
 {
     'turns: for (at, extension) in extensions.iter().enumerate() {
@@ -367,7 +385,10 @@ fn visit_service<V: Visitor>(
     index: u32,
     service: &ServiceDescriptorProto,
 ) -> Result<(), VisitError>
-    ensures runs { OnOk result (Runs V.steps visitor.old (service_declaration path.now (join scope.now (content_of service.now.name)) file index service.now ∷ each (one_method path.now (join scope.now (content_of service.now.name)) file index) 0 service.now.method.items) visitor.new) }
+    ensures runs { OnOk result (Runs V.steps visitor.old
+        (service_declaration path.now (join scope.now (content_of service.now.name)) file index
+        service.now ∷ each (one_method path.now (join scope.now (content_of service.now.name)) file
+        index) 0 service.now.method.items) visitor.new) }
     ensures keeps { V.kept file visitor.old visitor.new }
 {
     let full_name = name_in(alloc, scope, &service.name)?;
@@ -384,8 +405,10 @@ fn visit_services<V: Visitor>(
     file: u32,
     services: &Vec<ServiceDescriptorProto>,
 ) -> Result<(), VisitError>
-    ensures runs { OnOk result (Runs V.steps visitor.old (each (one_service scope.now file offsets.old.services) 0 services.now.items) visitor.new) }
-    ensures counts { OnOk result (offsets.new ≡ past_services offsets.old (length services.now.items)) }
+    ensures runs { OnOk result (Runs V.steps visitor.old
+        (each (one_service scope.now file offsets.old.services) 0 services.now.items) visitor.new) }
+    ensures counts { OnOk result (offsets.new
+        ≡ past_services offsets.old (length services.now.items)) }
     ensures keeps { V.kept file visitor.old visitor.new }
 {
     'turns: for (at, service) in services.iter().enumerate() {
@@ -415,7 +438,9 @@ fn visit_message<V: Visitor>(
     parent: Option<u32>,
     message: &DescriptorProto,
 ) -> Result<(), VisitError>
-    ensures runs { OnOk result (Runs V.steps visitor.old (tree_declarations path.now scope.now file parent offsets.old (tree_of message.now)) visitor.new) }
+    ensures runs { OnOk result (Runs V.steps visitor.old
+        (tree_declarations path.now scope.now file parent offsets.old (tree_of message.now))
+        visitor.new) }
     ensures counts { OnOk result (offsets.new ≡ past_tree offsets.old (tree_of message.now)) }
     ensures keeps { V.kept file visitor.old visitor.new }
 {
@@ -481,8 +506,11 @@ fn visit_messages<V: Visitor>(
     parent: Option<u32>,
     messages: &Vec<DescriptorProto>,
 ) -> Result<(), VisitError>
-    ensures runs { OnOk result (Runs V.steps visitor.old (trees_declarations path.now tag scope.now file parent 0 offsets.old (messages_of (map tree_of messages.now.items))) visitor.new) }
-    ensures counts { OnOk result (offsets.new ≡ past_trees offsets.old (messages_of (map tree_of messages.now.items))) }
+    ensures runs { OnOk result (Runs V.steps visitor.old
+        (trees_declarations path.now tag scope.now file parent 0 offsets.old
+        (messages_of (map tree_of messages.now.items))) visitor.new) }
+    ensures counts { OnOk result (offsets.new
+        ≡ past_trees offsets.old (messages_of (map tree_of messages.now.items))) }
     ensures keeps { V.kept file visitor.old visitor.new }
 {
     'turns: for (at, message) in messages.iter().enumerate() {
@@ -501,8 +529,9 @@ fn visit_messages<V: Visitor>(
     Ok(())
 }
 
-/// Calls the visitor at each declaration of the file at index `file_index`: a declaration before its parts, and parts by the
-/// number that stands for them in a path, those of one number in their order.
+/// Calls the visitor at each declaration of the file at index `file_index`: a declaration before
+/// its parts, and parts by the number that stands for them in a path, those of one number in their
+/// order.
 ///
 /// `offsets` counts what is declared in the files before; the answer counts this file's declarations too. An index past
 /// `i32::MAX` is `TooMany`; the visitor may then have been called.
@@ -513,7 +542,8 @@ pub fn visit<V: Visitor>(
     file: &FileDescriptorProto,
     visitor: &mut V,
 ) -> Result<Offsets, VisitError>
-    ensures runs { OnOk result (Runs V.steps visitor.old (file_declarations offsets file_index file.now) visitor.new) }
+    ensures runs { OnOk result (Runs V.steps visitor.old
+        (file_declarations offsets file_index file.now) visitor.new) }
     ensures counts { IfOk result (λ o. o ≡ past_file offsets file.now) }
     ensures keeps { V.kept file_index visitor.old visitor.new }
 {

@@ -11,15 +11,17 @@ use std::alloc::Global;
 
 /// What is done at each declaration of a file.
 ///
-/// Each call is given the declaration's path, its full name (none of a file), the index of its file, the index of what it is
-/// declared in, its own index, and its record. Messages, enums, extensions and services are counted over all files; fields
-/// and oneofs in their message, values in their enum, methods in their service. A call fails only for want of memory or
-/// where an index does not fit, which ends the walk.
+/// Each call is given the declaration's path, its full name (none of a file), the index of its
+/// file, the index of what it is declared in, its own index, and its record. Messages, enums,
+/// extensions and services are counted over all files; fields and oneofs in their message, values
+/// in their enum, methods in their service. A call fails only for want of memory or where an index
+/// does not fit, which ends the walk.
 pub trait Visitor {
     /// Which states a declaration may lead to.
     ghost steps: { Self → Declaration → Self → Type 0 };
 
-    /// What each call for a declaration of the file of an index keeps, whether it is refused or not.
+    /// What each call for a declaration of the file of an index keeps, whether it is refused or
+    /// not.
     ghost kept: { ℕ → Self → Self → Type 0 };
 
     fn visit_file(
@@ -29,7 +31,8 @@ pub trait Visitor {
         file: u32,
         descriptor: &FileDescriptorProto,
     ) -> Result<(), VisitError>
-        ensures step { OnOk result (steps self.old (file_declaration path.now file descriptor.now) self.new) }
+        ensures step { OnOk result (steps self.old
+            (file_declaration path.now file descriptor.now) self.new) }
         ensures keeps { kept file self.old self.new };
 
     fn visit_message(
@@ -42,7 +45,9 @@ pub trait Visitor {
         index: u32,
         message: &DescriptorProto,
     ) -> Result<(), VisitError>
-        ensures step { OnOk result (steps self.old (message_declaration path.now full_name.now file parent index (parts_of message.now)) self.new) }
+        ensures step { OnOk result (steps self.old
+            (message_declaration path.now full_name.now file parent index (parts_of message.now))
+            self.new) }
         ensures keeps { kept file self.old self.new };
 
     fn visit_field(
@@ -55,7 +60,8 @@ pub trait Visitor {
         index: u32,
         field: &FieldDescriptorProto,
     ) -> Result<(), VisitError>
-        ensures step { OnOk result (steps self.old (field_declaration path.now full_name.now file message index field.now) self.new) }
+        ensures step { OnOk result (steps self.old
+            (field_declaration path.now full_name.now file message index field.now) self.new) }
         ensures keeps { kept file self.old self.new };
 
     fn visit_oneof(
@@ -68,7 +74,8 @@ pub trait Visitor {
         index: u32,
         oneof: &OneofDescriptorProto,
     ) -> Result<(), VisitError>
-        ensures step { OnOk result (steps self.old (oneof_declaration path.now full_name.now file message index oneof.now) self.new) }
+        ensures step { OnOk result (steps self.old
+            (oneof_declaration path.now full_name.now file message index oneof.now) self.new) }
         ensures keeps { kept file self.old self.new };
 
     fn visit_enum(
@@ -81,7 +88,8 @@ pub trait Visitor {
         index: u32,
         enumeration: &EnumDescriptorProto,
     ) -> Result<(), VisitError>
-        ensures step { OnOk result (steps self.old (enum_declaration path.now full_name.now file parent index enumeration.now) self.new) }
+        ensures step { OnOk result (steps self.old
+            (enum_declaration path.now full_name.now file parent index enumeration.now) self.new) }
         ensures keeps { kept file self.old self.new };
 
     /// The full name of a value stands beside that of its enum.
@@ -95,7 +103,9 @@ pub trait Visitor {
         index: u32,
         value: &EnumValueDescriptorProto,
     ) -> Result<(), VisitError>
-        ensures step { OnOk result (steps self.old (enum_value_declaration path.now full_name.now file enumeration index value.now) self.new) }
+        ensures step { OnOk result (steps self.old
+            (enum_value_declaration path.now full_name.now file enumeration index value.now)
+            self.new) }
         ensures keeps { kept file self.old self.new };
 
     fn visit_service(
@@ -107,7 +117,8 @@ pub trait Visitor {
         index: u32,
         service: &ServiceDescriptorProto,
     ) -> Result<(), VisitError>
-        ensures step { OnOk result (steps self.old (service_declaration path.now full_name.now file index service.now) self.new) }
+        ensures step { OnOk result (steps self.old
+            (service_declaration path.now full_name.now file index service.now) self.new) }
         ensures keeps { kept file self.old self.new };
 
     fn visit_method(
@@ -120,7 +131,8 @@ pub trait Visitor {
         index: u32,
         method: &MethodDescriptorProto,
     ) -> Result<(), VisitError>
-        ensures step { OnOk result (steps self.old (method_declaration path.now full_name.now file service index method.now) self.new) }
+        ensures step { OnOk result (steps self.old
+            (method_declaration path.now full_name.now file service index method.now) self.new) }
         ensures keeps { kept file self.old self.new };
 
     /// `parent` is the message in which the extension is declared, whatever it extends.
@@ -134,7 +146,9 @@ pub trait Visitor {
         index: u32,
         extension: &FieldDescriptorProto,
     ) -> Result<(), VisitError>
-        ensures step { OnOk result (steps self.old (extension_declaration path.now full_name.now file parent index extension.now) self.new) }
+        ensures step { OnOk result (steps self.old
+            (extension_declaration path.now full_name.now file parent index extension.now)
+            self.new) }
         ensures keeps { kept file self.old self.new };
 
     ghost kept_same: { (file : ℕ) (s : Self) → kept file s s };

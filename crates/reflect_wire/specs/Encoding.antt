@@ -8,10 +8,12 @@ use Rattle.reflect_wire.specs.declared.wire_error.WireError.TheVariants as error
 use Rattle.reflect_wire.specs.Key.{key_code}
 use Rattle.reflect_wire.specs.Records.{Payload, varint, fixed64, delimited, group, fixed32, Records, no_records, more_records, key_of, wire_of}
 
--- the low seven bits first, each byte but the last with 128 added; `more` is at least how many bytes follow the first
+-- the low seven bits first, each byte but the last with 128 added; `more` is at least how many
+-- bytes follow the first
 abbrev pub varint_within : ℕ → ℕ → List ℕ
 varint_within zero n = n ∷ []
-varint_within (suc more) n = if nat_lt n 128 then n ∷ [] else (n % 128 + 128) ∷ varint_within more (n / 128)
+varint_within (suc more) n = if nat_lt n 128 then n ∷ [] else (n % 128 + 128)
+    ∷ varint_within more (n / 128)
 
 -- a number is more than the bytes that follow the first
 unfoldable pub varint_bytes : ℕ → List ℕ
@@ -34,7 +36,8 @@ abbrev mutual
 
   pub records_bytes : Records → List ℕ
   records_bytes no_records = []
-  records_bytes (more_records n p rs) = (key_bytes (key_of n (wire_of p)) ++ payload_bytes n p) ++ records_bytes rs
+  records_bytes (more_records n p rs) = (key_bytes (key_of n (wire_of p)) ++ payload_bytes n p)
+      ++ records_bytes rs
 
 abbrev pub field_bytes : ℕ × Payload → List ℕ
 field_bytes r = key_bytes (key_of r.0 (wire_of r.1)) ++ payload_bytes r.0 r.1

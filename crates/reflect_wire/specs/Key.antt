@@ -25,7 +25,8 @@ pub record IsKey (bytes : List ℕ) (key : WireKey) : Type 0 where
 
 -- a length and so many bytes
 abbrev pub IsDelimited : List ℕ → List ℕ → Type 0
-IsDelimited bytes payload = (front : List ℕ) × IsVarint front (length payload) × (bytes ≡ front ++ payload)
+IsDelimited bytes payload = (front : List ℕ) × IsVarint front (length payload)
+    × (bytes ≡ front ++ payload)
 
 abbrev pub IsFixed32 : List ℕ → ℕ → Type 0
 IsFixed32 bytes n = (length bytes ≡ 4) × (n ≡ from_le_bytes w32 bytes)

@@ -1,4 +1,5 @@
--- What it means to read a value from the front of a text of bytes, by a relation between bytes and values.
+-- What it means to read a value from the front of a text of bytes, by a relation between bytes and
+-- values.
 use Rattle.std.specs.Prelude.{◌≡◌, ℕ, List, ◌++◌, Result, Ok, Err}
 use Rattle.std.specs.Borrow.{Bor}
 use Rattle.reflect_wire.specs.declared.wire_error.WireError.{WireError}
@@ -18,12 +19,14 @@ Refuses R bytes errors.Memory = Unit {0}
 Refuses R bytes _ = NoFront R bytes
 
 -- a value and the bytes behind it are read exactly where a front spells one, unless memory ran out
-abbrev pub Reads : {X : Type 0} → (List ℕ → X → Type 0) → List ℕ → Result (X × Bor (List ℕ)) WireError → Type 0
+abbrev pub Reads : {X : Type 0} → (List ℕ → X → Type 0) → List ℕ
+    → Result (X × Bor (List ℕ)) WireError → Type 0
 Reads R bytes (Ok found) = Fronts R bytes found.0 found.1.now
 Reads R bytes (Err e) = Refuses R bytes e
 
 -- the same, where the relation speaks of what view sees of a value
-abbrev pub ReadsBy : {X Y : Type 0} → (X → Y) → (List ℕ → Y → Type 0) → List ℕ → Result (X × Bor (List ℕ)) WireError → Type 0
+abbrev pub ReadsBy : {X Y : Type 0} → (X → Y) → (List ℕ → Y → Type 0) → List ℕ
+    → Result (X × Bor (List ℕ)) WireError → Type 0
 ReadsBy view R bytes (Ok found) = Fronts R bytes (view found.0) found.1.now
 ReadsBy view R bytes (Err e) = Refuses R bytes e
 

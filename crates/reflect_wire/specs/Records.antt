@@ -35,14 +35,17 @@ abbrev mutual
   SpellsPayload levels n bytes (varint v) = IsVarint bytes v
   SpellsPayload levels n bytes (fixed64 v) = IsFixed64 bytes v
   SpellsPayload levels n bytes (delimited p) = IsDelimited bytes p
-  SpellsPayload levels n bytes (group rs) = (0 < levels) × ((body end : List ℕ) × SpellsRecords (levels - 1) body rs × IsKey end (key_of n wires.EndGroup) × (bytes ≡ body ++ end))
+  SpellsPayload levels n bytes (group rs) = (0 < levels)
+      × ((body end : List ℕ) × SpellsRecords (levels - 1) body rs
+      × IsKey end (key_of n wires.EndGroup) × (bytes ≡ body ++ end))
   SpellsPayload levels n bytes (fixed32 v) = IsFixed32 bytes v
 
   -- the bytes spell records, one after another
   pub SpellsRecords : ℕ → List ℕ → Records → Type 0
   SpellsRecords levels bytes no_records = bytes ≡ []
   SpellsRecords levels bytes (more_records n p rs) =
-      (key value rest : List ℕ) × IsKey key (key_of n (wire_of p)) × SpellsPayload levels n value p × SpellsRecords levels rest rs × (bytes ≡ key ++ (value ++ rest))
+      (key value rest : List ℕ) × IsKey key (key_of n (wire_of p)) × SpellsPayload levels n value p
+      × SpellsRecords levels rest rs × (bytes ≡ key ++ (value ++ rest))
 
 -- the bytes behind a key spell a payload of its form
 abbrev pub IsValue : ℕ → WireKey → List ℕ → Payload → Type 0
@@ -50,8 +53,10 @@ IsValue levels key bytes p = (key.wire ≡ wire_of p) × SpellsPayload levels ke
 
 -- the bytes behind a group's key spell its records, with its end
 abbrev pub IsGroup : ℕ → ℕ → List ℕ → Records → Type 0
-IsGroup levels n bytes rs = (body end : List ℕ) × SpellsRecords levels body rs × IsKey end (key_of n wires.EndGroup) × (bytes ≡ body ++ end)
+IsGroup levels n bytes rs = (body end : List ℕ) × SpellsRecords levels body rs
+    × IsKey end (key_of n wires.EndGroup) × (bytes ≡ body ++ end)
 
 -- the bytes spell one record
 abbrev pub IsField : ℕ → List ℕ → ℕ × Payload → Type 0
-IsField levels bytes r = (key value : List ℕ) × IsKey key (key_of r.0 (wire_of r.1)) × SpellsPayload levels r.0 value r.1 × (bytes ≡ key ++ value)
+IsField levels bytes r = (key value : List ℕ) × IsKey key (key_of r.0 (wire_of r.1))
+    × SpellsPayload levels r.0 value r.1 × (bytes ≡ key ++ value)

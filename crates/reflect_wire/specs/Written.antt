@@ -17,4 +17,5 @@ abbrev mutual
 
   pub FitsRecords : ℕ → Records → Type 0
   FitsRecords levels no_records = Unit {0}
-  FitsRecords levels (more_records n p rs) = (0 < n) × (n < 2 ^ 29) × FitsPayload levels p × FitsRecords levels rs
+  FitsRecords levels (more_records n p rs) = (0 < n) × (n < 2 ^ 29) × FitsPayload levels p
+      × FitsRecords levels rs

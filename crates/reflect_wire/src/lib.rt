@@ -1,4 +1,5 @@
-//! Wire records: bytes are read as exactly the records that they spell, and records are written in one form.
+//! Wire records: bytes are read as exactly the records that they spell, and records are written in
+//! one form.
 #![tactic(auto)]
 
 pub mod laws;

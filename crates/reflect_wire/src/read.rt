@@ -30,7 +30,8 @@ fn varint_within(bytes: &[u8], left: u32) -> Result<(u64, &[u8]), WireError>
     Ok((high * 128 + u64::from(low - 128), rest))
 }
 
-/// The number at the front, where it is spelled in at most four bytes. Most are, and this reads them fast.
+/// The number at the front, where it is spelled in at most four bytes. Most are, and this reads
+/// them fast.
 #[inline]
 fn short_varint_at(bytes: &[u8]) -> Option<(u64, &[u8])>
     ensures { IfSome result (λ x. Fronts IsVarint bytes.now x.0 x.1.now) }
@@ -47,7 +48,8 @@ fn short_varint_at(bytes: &[u8]) -> Option<(u64, &[u8])>
 /// The number at the front, where it is spelled in at most three bytes.
 #[inline]
 fn three_bytes_at(bytes: &[u8]) -> Option<(u64, &[u8])>
-    ensures { IfSome result (λ x. Fronts (IsVarintWithin 9) bytes.now x.0 x.1.now × (x.0 < 128 * 128 * 128)) }
+    ensures { IfSome result (λ x. Fronts (IsVarintWithin 9) bytes.now x.0 x.1.now
+        × (x.0 < 128 * 128 * 128)) }
 {
     let (first, rest) = bytes.split_first()?;
     let low = *first;
@@ -70,7 +72,8 @@ fn three_bytes_at(bytes: &[u8]) -> Option<(u64, &[u8])>
 
 /// The base-128 varint at the front, in at most ten bytes ("Encoding", Base 128 Varints).
 ///
-/// A spelling that is longer than it needs to be is accepted. `Truncated` where the bytes end inside the number,
+/// A spelling that is longer than it needs to be is accepted. `Truncated` where the bytes end
+/// inside the number,
 /// `BadVarint` where it has more than ten bytes or does not fit 64 bits.
 #[inline]
 pub fn varint_at(bytes: &[u8]) -> Result<(u64, &[u8]), WireError>
@@ -83,7 +86,8 @@ pub fn varint_at(bytes: &[u8]) -> Result<(u64, &[u8]), WireError>
     }
 }
 
-/// The key at the front: a field number of 1 to 536870911 and a wire type ("Encoding", Message Structure).
+/// The key at the front: a field number of 1 to 536870911 and a wire type ("Encoding", Message
+/// Structure).
 ///
 /// Refused as `varint_at` is, and with `BadKey` where the number or the wire type is none.
 #[inline]
@@ -114,7 +118,8 @@ pub fn key_at(bytes: &[u8]) -> Result<(WireKey, &[u8]), WireError>
     ))
 }
 
-/// A length and so many bytes ("Encoding", Length-Delimited Records). The payload is lent, not copied.
+/// A length and so many bytes ("Encoding", Length-Delimited Records). The payload is lent, not
+/// copied.
 ///
 /// Refused as `varint_at` is, and with `Truncated` where fewer bytes follow than the length says.
 #[inline]

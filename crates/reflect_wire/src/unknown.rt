@@ -50,8 +50,8 @@ pub struct UnknownFieldSet {
 
 /// The value behind a key, with at most `levels` groups in one another.
 ///
-/// Refused as the reader of its form is; `TooDeep` where more groups nest, `EndGroupMismatch` where an end tag
-/// stands outside a group or has another number than the group that it ends.
+/// Refused as the reader of its form is; `TooDeep` where more groups nest, `EndGroupMismatch` where
+/// an end tag stands outside a group or has another number than the group that it ends.
 #[cycle(value)]
 pub fn value_at(
     alloc: Global,
@@ -126,9 +126,11 @@ fn group_at(
 impl UnknownField {
     /// The record at the front, below `depth` levels; the bytes then begin behind it.
     ///
-    /// Refused as `key_at` and `value_at` are, of at most 100 levels with those above. A refusal leaves the bytes.
+    /// Refused as `key_at` and `value_at` are, of at most 100 levels with those above. A refusal
+    /// leaves the bytes.
     pub fn decode(alloc: Global, bytes: &mut &[u8], depth: u32) -> Result<UnknownField, WireError>
-        ensures ok { IfOk result (λ f. Fronts (IsField (100 - depth)) bytes.old.now (field_view f) bytes.new.now) }
+        ensures ok { IfOk result (λ f. Fronts (IsField (100 - depth)) bytes.old.now (field_view f)
+            bytes.new.now) }
         ensures err { IfErr result (λ e. Refuses (IsField (100 - depth)) bytes.old.now e) }
         ensures fault { IfErr result (Tells (FieldFault (100 - depth)) bytes.old.now) }
         ensures left { OnErr result (bytes.new ≡ bytes.old) }
@@ -144,7 +146,8 @@ impl UnknownField {
 
     /// The record of this number whose key was read already: its value stands at the front.
     ///
-    /// Refused as `value_at` is, of at most 100 levels with the `depth` above. A refusal leaves the bytes.
+    /// Refused as `value_at` is, of at most 100 levels with the `depth` above. A refusal leaves the
+    /// bytes.
     pub fn decode_value(
         alloc: Global,
         number: u32,
@@ -155,9 +158,12 @@ impl UnknownField {
         requires positive { 0 < number }
         requires small { number ≤ 536870911 }
         ensures number { IfOk result (λ f. (field_view f).0 ≡ number) }
-        ensures ok { IfOk result (λ f. Fronts (IsValue (100 - depth) (key_of number wire_type)) bytes.old.now (field_view f).1 bytes.new.now) }
-        ensures err { IfErr result (λ e. Refuses (IsValue (100 - depth) (key_of number wire_type)) bytes.old.now e) }
-        ensures fault { IfErr result (Tells (ValueFault (100 - depth) (key_of number wire_type)) bytes.old.now) }
+        ensures ok { IfOk result (λ f. Fronts (IsValue (100 - depth) (key_of number wire_type))
+            bytes.old.now (field_view f).1 bytes.new.now) }
+        ensures err { IfErr result (λ e. Refuses (IsValue (100 - depth) (key_of number wire_type))
+            bytes.old.now e) }
+        ensures fault { IfErr result (Tells (ValueFault (100 - depth) (key_of number wire_type))
+            bytes.old.now) }
         ensures left { OnErr result (bytes.new ≡ bytes.old) }
     {
         let key = WireKey {
@@ -199,7 +205,8 @@ impl UnknownField {
     /// How many bytes the record is written in, `None` past `usize::MAX`.
     #[cycle(length)]
     pub fn encoded_len(&self) -> Option<usize>
-        ensures { let n = length (field_bytes (field_view self.now)) in SomeIff result (n < 2 ^ 64) n }
+        ensures { let n = length (field_bytes (field_view self.now)) in SomeIff result
+            (n < 2 ^ 64) n }
     {
         let value = self.value.encoded_len(self.number)?;
         key_len(self.key()).checked_add(value)
@@ -209,7 +216,8 @@ impl UnknownField {
     ///
     /// `TooLong` where its length passes `usize::MAX`. A refusal leaves the vector.
     pub fn encode(&self, out: &mut Vec<u8>) -> Result<(), WireError>
-        ensures ok { OnOk result (out.new.items ≡ out.old.items ++ field_bytes (field_view self.now)) }
+        ensures ok { OnOk result (out.new.items ≡ out.old.items
+            ++ field_bytes (field_view self.now)) }
         ensures err { IfErr result (IsUnwritten (field_bytes (field_view self.now))) }
         ensures left { OnErr result (out.new.items ≡ out.old.items) }
     {
@@ -222,7 +230,8 @@ impl UnknownField {
     /// Appends the record; a refusal may leave a part of it behind.
     #[cycle(write)]
     pub fn write(&self, out: &mut Vec<u8>) -> Result<(), AllocError>
-        ensures ok { OnOk result (out.new.items ≡ out.old.items ++ field_bytes (field_view self.now)) }
+        ensures ok { OnOk result (out.new.items ≡ out.old.items
+            ++ field_bytes (field_view self.now)) }
         ensures err { OnErr result (KeepsFront out.old.items out.new.items) }
     {
         push_key(out, self.key())?;
@@ -255,7 +264,8 @@ impl UnknownFieldValue {
     /// How many bytes stand behind the key, `None` past `usize::MAX`.
     #[cycle(length)]
     fn encoded_len(&self, number: u32) -> Option<usize>
-        ensures { let n = length (payload_bytes number (payload_view self.now)) in SomeIff result (n < 2 ^ 64) n }
+        ensures { let n = length (payload_bytes number (payload_view self.now)) in SomeIff result
+            (n < 2 ^ 64) n }
     {
         match self {
             UnknownFieldValue::Varint(n) => Some(varint_len(*n)),
@@ -275,7 +285,8 @@ impl UnknownFieldValue {
     /// Appends what stands behind the key.
     #[cycle(write)]
     fn write(&self, number: u32, out: &mut Vec<u8>) -> Result<(), AllocError>
-        ensures ok { OnOk result (out.new.items ≡ out.old.items ++ payload_bytes number (payload_view self.now)) }
+        ensures ok { OnOk result (out.new.items ≡ out.old.items
+            ++ payload_bytes number (payload_view self.now)) }
         ensures err { OnErr result (KeepsFront out.old.items out.new.items) }
     {
         match self {
@@ -358,7 +369,8 @@ impl UnknownFieldSet {
         self.fields.is_empty()
     }
 
-    /// Puts a record behind the others. Refused for want of memory, it gives the record back and the set is as before.
+    /// Puts a record behind the others. Refused for want of memory, it gives the record back and
+    /// the set is as before.
     pub fn insert(&mut self, field: UnknownField) -> Result<(), AllocFailed<UnknownField>>
         ensures ok { OnOk result (fields_of self.new ≡ fields_of self.old ++ field ∷ []) }
         ensures view { set_view self.new ≡ records_view (fields_of self.new) }
@@ -372,7 +384,8 @@ impl UnknownFieldSet {
     /// How many bytes the records are written in, `None` past `usize::MAX`.
     #[cycle(length)]
     pub fn encoded_len(&self) -> Option<usize>
-        ensures { let n = length (records_bytes (set_view self.now)) in SomeIff result (n < 2 ^ 64) n }
+        ensures { let n = length (records_bytes (set_view self.now)) in SomeIff result
+            (n < 2 ^ 64) n }
     {
         let mut len = 0usize;
         for field in &self.fields {
@@ -385,7 +398,8 @@ impl UnknownFieldSet {
     ///
     /// `TooLong` where their length passes `usize::MAX`. A refusal leaves the vector.
     pub fn encode(&self, out: &mut Vec<u8>) -> Result<(), WireError>
-        ensures ok { OnOk result (out.new.items ≡ out.old.items ++ records_bytes (set_view self.now)) }
+        ensures ok { OnOk result (out.new.items ≡ out.old.items
+            ++ records_bytes (set_view self.now)) }
         ensures err { IfErr result (IsUnwritten (records_bytes (set_view self.now))) }
         ensures left { OnErr result (out.new.items ≡ out.old.items) }
     {
@@ -398,7 +412,8 @@ impl UnknownFieldSet {
     /// Appends the records in order; a refusal may leave a part of them behind.
     #[cycle(write)]
     pub fn write(&self, out: &mut Vec<u8>) -> Result<(), AllocError>
-        ensures ok { OnOk result (out.new.items ≡ out.old.items ++ records_bytes (set_view self.now)) }
+        ensures ok { OnOk result (out.new.items ≡ out.old.items
+            ++ records_bytes (set_view self.now)) }
         ensures err { OnErr result (KeepsFront out.old.items out.new.items) }
     {
         for field in &self.fields {

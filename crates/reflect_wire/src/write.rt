@@ -1,4 +1,5 @@
-//! Writers: each appends the one written form of a value, and each form's length is offered beside it.
+//! Writers: each appends the one written form of a value, and each form's length is offered beside
+//! it.
 ghost use Rattle.std.specs.Prelude.{◌≡◌, ◌<◌, ◌+◌, ◌^◌, ◌++◌, length, OnOk, OnErr, IfErr, IfNone, IfSome, IsOk, OnSome, SomeIff, take, vec_len, vec_capacity, ◌≤◌};
 ghost use Rattle.reflect_wire.specs.declared.wire_error.WireError.TheVariants.{TooLong, Memory};
 ghost use Rattle.std.specs.Int.{w32, w64, to_le_bytes};
@@ -126,7 +127,8 @@ pub fn keep_written(
     written: Result<(), AllocError>,
 ) -> Result<(), WireError>
     ensures ok { OnOk written (IsOk result × (out.new.items ≡ out.old.items)) }
-    ensures err { OnErr written ((result ≡ Err Memory) × (out.new.items ≡ take start out.old.items)) }
+    ensures err { OnErr written ((result ≡ Err Memory)
+        × (out.new.items ≡ take start out.old.items)) }
 {
     match written {
         Ok(()) => Ok(()),

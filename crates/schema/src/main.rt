@@ -1,4 +1,5 @@
-//! The program `schema`: protobuf messages between text and wire bytes, by sources that are read as it runs.
+//! The program `schema`: protobuf messages between text and wire bytes, by sources that are read as
+//! it runs.
 #![tactic(auto)]
 
 use reflect_schema::{ReadFault, SourceFiles, run};

@@ -1,6 +1,7 @@
 //! The schema for C: `include/matzupol.h` declares these calls, and says what a caller owes.
 //!
-//! Each answers the number of how it ended, 0 for done. No pointer may be null: the header's calls of the same names without
+//! Each answers the number of how it ended, 0 for done. No pointer may be null: the header's calls
+//! of the same names without
 //! `unchecked` test that.
 #![tactic(auto)]
 
@@ -186,7 +187,8 @@ pub extern "C" fn matzupol_unchecked_answer(slot: &mut Slot, alloc: Global, into
     code.number()
 }
 
-/// How long the name of the file is in which the fault stands for which the last call was refused; 0 where it is not known.
+/// How long the name of the file is in which the fault stands for which the last call was refused;
+/// 0 where it is not known.
 #[unsafe(no_mangle)]
 pub extern "C" fn matzupol_unchecked_file_len(slot: &mut Slot, alloc: Global) -> usize
     ensures len { result ≡ length_in file_text slot.old.value }
@@ -214,10 +216,12 @@ pub extern "C" fn matzupol_unchecked_file(slot: &mut Slot, alloc: Global, into: 
     code.number()
 }
 
-/// Tells the line and the column at which that fault begins, both from 1; 0 where they are not known.
+/// Tells the line and the column at which that fault begins, both from 1; 0 where they are not
+/// known.
 #[unsafe(no_mangle)]
 pub extern "C" fn matzupol_unchecked_place(slot: &mut Slot, alloc: Global, place: &mut Place) -> u32
-    ensures told { Places slot.old.value result (place.old.line, place.old.column) (place.new.line, place.new.column) }
+    ensures told { Places slot.old.value result (place.old.line, place.old.column)
+        (place.new.line, place.new.column) }
     ensures kept { slot.new.value ≡ slot.old.value }
 {
     let Some(session) = slot.take(alloc) else {

@@ -8,7 +8,8 @@ use source_cases::{case_name, tell_case, tell_source_refusal};
 use std::alloc::{AllocError, Global};
 use std::collections::BTreeSet;
 
-/// Files do not fit together: the names of the faults, each once and by the alphabet, and what the faults say.
+/// Files do not fit together: the names of the faults, each once and by the alphabet, and what the
+/// faults say.
 fn tell_link_refusal(
     alloc: Global,
     told: &mut Told<'_>,

@@ -1,4 +1,5 @@
-//! Cases as data: each is a line of JSON with what is asked, and under `expect` what has to come, member by member.
+//! Cases as data: each is a line of JSON with what is asked, and under `expect` what has to come,
+//! member by member.
 //!
 //! `op` names what is asked, `id` the case. A `schema` case builds a schema in steps, which later cases of its file name by its
 //! `id`; after a refused last step it is the schema of the steps before. Bytes are hex text.
@@ -76,7 +77,8 @@ impl Replay {
         Ok(())
     }
 
-    /// A schema of another schema's own set, which has the same set again, and is kept under the case's number.
+    /// A schema of another schema's own set, which has the same set again, and is kept under the
+    /// case's number.
     fn reread(&mut self, case: &Value, told: &mut Told<'_>) -> Result<(), AllocError> {
         let alloc = self.alloc;
         let Some(Ok(set)) = self

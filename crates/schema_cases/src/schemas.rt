@@ -37,7 +37,8 @@ fn set_of(schema: &Schema) -> Result<Vec<u8>, AllocError> {
     }
 }
 
-/// Takes the steps of a case, of which the last alone may be refused; and tells what the schema then is.
+/// Takes the steps of a case, of which the last alone may be refused; and tells what the schema
+/// then is.
 pub fn tell_steps(
     alloc: Global,
     schema: &mut Schema,
@@ -124,8 +125,8 @@ fn has_location(alloc: Global, file: &FileDescriptorProto, path: &str) -> Result
     Ok(false)
 }
 
-/// The bytes of the options of a file, of a message of it or of one of its extension ranges, and of some paths those of which
-/// the file has locations.
+/// The bytes of the options of a file, of a message of it or of one of its extension ranges, and of
+/// some paths those of which the file has locations.
 pub fn tell_options(
     alloc: Global,
     schema: &Schema,

@@ -15,11 +15,14 @@ IsType p name d = (d.pool.now ≡ p) × FindsMessage p name (Some d)
 
 -- the bytes spell the message, which is of the named type
 abbrev pub IsRead : PoolType → List ℕ → List ℕ → DynamicMessage → Type 0
-IsRead p name bytes m = (d : MessageDescriptor) × IsType p name d × (m.descriptor ≡ d) × IsExclusive m × IsSpelled d bytes m
+IsRead p name bytes m = (d : MessageDescriptor) × IsType p name d × (m.descriptor ≡ d)
+    × IsExclusive m × IsSpelled d bytes m
 
--- from text to bytes: the one form of a message of the named type, which steps as a text's fields take made of one with nothing set
+-- from text to bytes: the one form of a message of the named type, which steps as a text's fields
+-- take made of one with nothing set
 abbrev pub Encoded : PoolType → List ℕ → List ℕ → Type 0
-Encoded p name written = (d : MessageDescriptor) × IsType p name d × ((m : DynamicMessage) × Makes d m × (written ≡ message_bytes m))
+Encoded p name written = (d : MessageDescriptor) × IsType p name d
+    × ((m : DynamicMessage) × Makes d m × (written ≡ message_bytes m))
 
 -- from bytes to text: the bytes spell a message of the named type
 abbrev pub Decoded : PoolType → List ℕ → List ℕ → Type 0
@@ -27,4 +30,5 @@ Decoded p name bytes = (m : DynamicMessage) × IsRead p name bytes m
 
 -- from bytes to bytes: the one form of the message of the named type that the bytes spell
 abbrev pub Recoded : PoolType → List ℕ → List ℕ → List ℕ → Type 0
-Recoded p name bytes written = (m : DynamicMessage) × IsRead p name bytes m × (written ≡ message_bytes m)
+Recoded p name bytes written = (m : DynamicMessage) × IsRead p name bytes m
+    × (written ≡ message_bytes m)

@@ -8,7 +8,8 @@ use Rattle.option_parts.specs.Places.{option_place, option_span}
 use Rattle.schema_core.specs.declared.error.SchemaError.{SchemaError}
 use Rattle.schema_core.specs.declared.error.SchemaError.TheVariants.{Parse, Link, Options}
 
--- the file that is told: of a source its own, of files that do not fit together and of their options that of the first fault
+-- the file that is told: of a source its own, of files that do not fit together and of their
+-- options that of the first fault
 abbrev pub told_file : SchemaError → Option (List ℕ)
 told_file (Parse e) = Some (file_of e)
 told_file (Link e) = option_map (λ p. p.file) (first_place e)

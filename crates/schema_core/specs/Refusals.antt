@@ -69,25 +69,31 @@ BytesRefused p name bytes TooLong = IsNoMessage p name bytes wire.TooLong
 BytesRefused p name bytes Memory = Unit {0}
 BytesRefused p name bytes _ = ⊥
 
--- of a text: the type is unknown, or it is known and the text is refused with a fault that is true of the pool
+-- of a text: the type is unknown, or it is known and the text is refused with a fault that is true
+-- of the pool
 abbrev pub TextRefused : PoolType → List ℕ → SchemaError → Type 0
 TextRefused p name (UnknownType n) = (string_bytes n ≡ name) × IsUnknown p name
 TextRefused p name (Text e) = IsKnown p name × TrueOf p e.kind
 TextRefused p name Memory = Unit {0}
 TextRefused p name _ = ⊥
 
--- files fit together and with a pool, which becomes the new one, with the options that linking reads where it reads them
+-- files fit together and with a pool, which becomes the new one, with the options that linking
+-- reads where it reads them
 abbrev pub FilesFit : PoolType → List FileDescriptorProto → PoolType → Type 0
-FilesFit p files new = (typed : List FileDescriptorProto) × TypedFiles files typed × RecordsLinked p typed new
+FilesFit p files new = (typed : List FileDescriptorProto) × TypedFiles files typed
+    × RecordsLinked p typed new
 
 -- files are added to a pool, and what settles their options changes records alone
 abbrev pub FilesLinked : PoolType → List FileDescriptorProto → PoolType → Type 0
 FilesLinked p files new = (linked : PoolType) × FilesFit p files linked × IsSettled linked new
 
--- of files: they do not fit together; or they do and options of one of them, where the fault stands, do not suit their types
+-- of files: they do not fit together; or they do and options of one of them, where the fault
+-- stands, do not suit their types
 abbrev pub FilesRefused : PoolType → List FileDescriptorProto → SchemaError → Type 0
-FilesRefused p files (Link e) = (typed : List FileDescriptorProto) × TypedFiles files typed × Refuses (FaultyFiles p typed) e
-FilesRefused p files (Options e) = (new : PoolType) × FilesFit p files new × IfSome (option_place e) (StandsFrom new.records (length p.files))
+FilesRefused p files (Link e) = (typed : List FileDescriptorProto) × TypedFiles files typed
+    × Refuses (FaultyFiles p typed) e
+FilesRefused p files (Options e) = (new : PoolType) × FilesFit p files new
+    × IfSome (option_place e) (StandsFrom new.records (length p.files))
 FilesRefused p files Memory = Unit {0}
 FilesRefused p files _ = ⊥
 
@@ -112,10 +118,11 @@ AreFilesOf (s ∷ ss) (f ∷ fs) = IsFileOf s f × AreFilesOf ss fs
 
 -- sources are added as such files
 abbrev pub SourcesLinked : PoolType → List (List ℕ × List ℕ) → PoolType → Type 0
-SourcesLinked p sources new = (files : List FileDescriptorProto) × AreFilesOf sources files × FilesLinked p files new
+SourcesLinked p sources new = (files : List FileDescriptorProto) × AreFilesOf sources files
+    × FilesLinked p files new
 
--- the first source that is refused: those before it are files, and it is told under its own name, with what its own text is at
--- fault for, and where
+-- the first source that is refused: those before it are files, and it is told under its own name,
+-- with what its own text is at fault for, and where
 abbrev pub IsFirstRefused : List (List ℕ × List ℕ) → ParseError → Type 0
 IsFirstRefused sources e =
     (i : ℕ) × (s : List ℕ × List ℕ) × (files : List FileDescriptorProto)
@@ -125,20 +132,25 @@ IsFirstRefused sources e =
 -- of sources: one of them is refused as such, or their files are
 abbrev pub SourcesRefused : PoolType → List (List ℕ × List ℕ) → SchemaError → Type 0
 SourcesRefused p sources (Parse e) = IsFirstRefused sources e
-SourcesRefused p sources (Link e) = (files : List FileDescriptorProto) × AreFilesOf sources files × FilesRefused p files (Link e)
-SourcesRefused p sources (Options e) = (files : List FileDescriptorProto) × AreFilesOf sources files × FilesRefused p files (Options e)
+SourcesRefused p sources (Link e) = (files : List FileDescriptorProto) × AreFilesOf sources files
+    × FilesRefused p files (Link e)
+SourcesRefused p sources (Options e) = (files : List FileDescriptorProto) × AreFilesOf sources files
+    × FilesRefused p files (Options e)
 SourcesRefused p sources Memory = Unit {0}
 SourcesRefused p sources _ = ⊥
 
 -- bytes are those of a descriptor set whose files are added
 abbrev pub SetLinked : PoolType → List ℕ → PoolType → Type 0
-SetLinked p bytes new = (files : List FileDescriptorProto) × SpellsSet bytes files × FilesLinked p files new
+SetLinked p bytes new = (files : List FileDescriptorProto) × SpellsSet bytes files
+    × FilesLinked p files new
 
 -- of a descriptor set: the bytes are none, or they are one whose files are refused
 abbrev pub SetRefused : PoolType → List ℕ → SchemaError → Type 0
 SetRefused p bytes (Wire e) = (files : List FileDescriptorProto) → SpellsSet bytes files → ⊥
 SetRefused p bytes TooLong = (files : List FileDescriptorProto) → SpellsSet bytes files → ⊥
-SetRefused p bytes (Link e) = (files : List FileDescriptorProto) × SpellsSet bytes files × FilesRefused p files (Link e)
-SetRefused p bytes (Options e) = (files : List FileDescriptorProto) × SpellsSet bytes files × FilesRefused p files (Options e)
+SetRefused p bytes (Link e) = (files : List FileDescriptorProto) × SpellsSet bytes files
+    × FilesRefused p files (Link e)
+SetRefused p bytes (Options e) = (files : List FileDescriptorProto) × SpellsSet bytes files
+    × FilesRefused p files (Options e)
 SetRefused p bytes Memory = Unit {0}
 SetRefused p bytes _ = ⊥

@@ -19,8 +19,10 @@ is_margin b = b == 32 || b == 13 || b == 10
 -- the text is what stands between such bytes: it neither begins nor ends with one
 abbrev pub IsTrimmed : List ℕ → List ℕ → Type 0
 IsTrimmed whole text =
-    ((front : List ℕ) × (back : List ℕ) × AllPass is_margin front × AllPass is_margin back × (whole ≡ front ++ (text ++ back)))
-    × (is_margin (slice_index text 0) ≡ false) × (is_margin (slice_index text (length text - 1)) ≡ false)
+    ((front : List ℕ) × (back : List ℕ) × AllPass is_margin front × AllPass is_margin back
+    × (whole ≡ front ++ (text ++ back)))
+    × (is_margin (slice_index text 0) ≡ false)
+    × (is_margin (slice_index text (length text - 1)) ≡ false)
 
 -- the wire bytes of an input: they are it, or its hexadecimal text stands for them
 abbrev pub IsPayload : Bool → List ℕ → List ℕ → Type 0
@@ -34,9 +36,12 @@ shown true bytes = encode_lower bytes ++ 10 ∷ []
 
 -- what is written for an input
 abbrev pub Answers : Action → PoolType → List ℕ → Bool → List ℕ → List ℕ → Type 0
-Answers Encode p name is_hex input written = IsUtf8 input × ((bytes : List ℕ) × Encoded p name bytes × (written ≡ shown is_hex bytes))
-Answers Decode p name is_hex input written = (bytes : List ℕ) × IsPayload is_hex input bytes × Decoded p name bytes × ((text : List ℕ) × (written ≡ text ++ 10 ∷ []))
-Answers Recode p name is_hex input written = (bytes : List ℕ) × IsPayload is_hex input bytes × ((recoded : List ℕ) × Recoded p name bytes recoded × (written ≡ shown is_hex recoded))
+Answers Encode p name is_hex input written = IsUtf8 input
+    × ((bytes : List ℕ) × Encoded p name bytes × (written ≡ shown is_hex bytes))
+Answers Decode p name is_hex input written = (bytes : List ℕ) × IsPayload is_hex input bytes
+    × Decoded p name bytes × ((text : List ℕ) × (written ≡ text ++ 10 ∷ []))
+Answers Recode p name is_hex input written = (bytes : List ℕ) × IsPayload is_hex input bytes
+    × ((recoded : List ℕ) × Recoded p name bytes recoded × (written ≡ shown is_hex recoded))
 
 -- the input is no hexadecimal text
 abbrev pub IsNoHex : List ℕ → Type 0
@@ -44,7 +49,8 @@ IsNoHex input = (text : List ℕ) × IsTrimmed input text × IsErr (decode_of te
 
 -- wire bytes are refused as such, or as hexadecimal text
 abbrev pub PayloadRefused : PoolType → List ℕ → Bool → List ℕ → Fault → Type 0
-PayloadRefused p name is_hex input (fault.Schema e) = (bytes : List ℕ) × IsPayload is_hex input bytes × BytesRefused p name bytes e
+PayloadRefused p name is_hex input (fault.Schema e) = (bytes : List ℕ)
+    × IsPayload is_hex input bytes × BytesRefused p name bytes e
 PayloadRefused p name is_hex input fault.NotHex = (is_hex ≡ true) × IsNoHex input
 PayloadRefused p name is_hex input fault.NotUtf8 = ⊥
 PayloadRefused p name is_hex input fault.Read = Unit {0}

@@ -48,7 +48,8 @@ impl SchemaError {
         }
     }
 
-    /// Line and column of the first fault, both from 1 and the column in bytes, where they are known.
+    /// Line and column of the first fault, both from 1 and the column in bytes, where they are
+    /// known.
     pub fn position(&self) -> Option<(usize, usize)>
         ensures { result ≡ told_position self.now }
     {

@@ -1,4 +1,5 @@
-//! Schemas: sources in, refused or added as one batch; text to bytes and bytes to text of a type named at run time.
+//! Schemas: sources in, refused or added as one batch; text to bytes and bytes to text of a type
+//! named at run time.
 #![tactic(auto)]
 
 mod error;

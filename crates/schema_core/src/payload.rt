@@ -63,7 +63,8 @@ impl<T: Drop> From<AllocFailed<T>> for Fault {
 
 /// All bytes of a reader.
 fn read_all<R: Read>(alloc: Global, input: &mut R) -> Result<Vec<u8>, Fault>
-    ensures bytes { IfOk result (λ bytes. IfSome (R.remaining input.old) (λ given. bytes.items ≡ given)) }
+    ensures bytes { IfOk result (λ bytes. IfSome (R.remaining input.old)
+        (λ given. bytes.items ≡ given)) }
     ensures end { OnOk result (IsAtEnd (R.remaining input.new)) }
     ensures err { IfErr result (λ f. (f ≡ fault.Read) ⊎ (f ≡ fault.Memory)) }
 {
@@ -134,8 +135,10 @@ fn trim_end(text: &[u8]) -> &[u8]
 
 /// The bytes that hexadecimal text stands for; spaces and line ends around it do not count.
 fn from_hex(alloc: Global, input: &[u8]) -> Result<Vec<u8>, Fault>
-    ensures ok { IfOk result (λ bytes. (text : List ℕ) × IsTrimmed input.now text × (decode_of text ≡ Ok bytes.items)) }
-    ensures err { IfErr result (λ f. (f ≡ fault.Memory) ⊎ ((f ≡ fault.NotHex) × IsNoHex input.now)) }
+    ensures ok { IfOk result (λ bytes. (text : List ℕ) × IsTrimmed input.now text
+        × (decode_of text ≡ Ok bytes.items)) }
+    ensures err { IfErr result (λ f. (f ≡ fault.Memory)
+        ⊎ ((f ≡ fault.NotHex) × IsNoHex input.now)) }
 {
     match hex::decode(alloc, trim_end(trim_start(input))) {
         Ok(bytes) => Ok(bytes),
@@ -156,7 +159,8 @@ fn line(mut text: String) -> Result<String, Fault>
 /// The wire bytes of a payload.
 fn payload_bytes(alloc: Global, is_hex: bool, input: Vec<u8>) -> Result<Vec<u8>, Fault>
     ensures ok { IfOk result (λ bytes. IsPayload is_hex input.items bytes.items) }
-    ensures err { IfErr result (λ f. (f ≡ fault.Memory) ⊎ ((f ≡ fault.NotHex) × (is_hex ≡ true) × IsNoHex input.items)) }
+    ensures err { IfErr result (λ f. (f ≡ fault.Memory)
+        ⊎ ((f ≡ fault.NotHex) × (is_hex ≡ true) × IsNoHex input.items)) }
 {
     if is_hex {
         from_hex(alloc, input.as_slice())
@@ -174,8 +178,10 @@ pub fn write_bytes<W: Write>(
     bytes: &[u8],
     output: &mut W,
 ) -> Result<(), Fault>
-    ensures ok { OnOk result (Appends (W.contents output.old) (W.contents output.new) (shown is_hex bytes.now)) }
-    ensures err { IfErr result (λ f. (f ≡ fault.Write) ⊎ ((f ≡ fault.Memory) × (output.new ≡ output.old))) }
+    ensures ok { OnOk result (Appends (W.contents output.old) (W.contents output.new)
+        (shown is_hex bytes.now)) }
+    ensures err { IfErr result (λ f. (f ≡ fault.Write)
+        ⊎ ((f ≡ fault.Memory) × (output.new ≡ output.old))) }
 {
     if is_hex {
         let text = line(hex::encode(alloc, bytes)?)?;
@@ -187,8 +193,9 @@ pub fn write_bytes<W: Write>(
 
 /// Reads `input` whole, translates it as a message of the type, and writes the answer to `output`.
 ///
-/// With `is_hex` wire bytes are read and written as hexadecimal text, written in lower case and with a line end. Text is
-/// written with a line end. Before a `Write` fault a part of the answer may be written; before any other, nothing is.
+/// With `is_hex` wire bytes are read and written as hexadecimal text, written in lower case and
+/// with a line end. Text is written with a line end. Before a `Write` fault a part of the answer
+/// may be written; before any other, nothing is.
 pub fn serve<R: Read, W: Write>(
     alloc: Global,
     schema: &Schema,
@@ -199,8 +206,13 @@ pub fn serve<R: Read, W: Write>(
     output: &mut W,
 ) -> Result<(), Fault>
     ensures read { OnOk result (IsAtEnd (R.remaining input.new)) }
-    ensures answered { OnOk result (IfSome (R.remaining input.old) (λ given. (written : List ℕ) × Answers action schema.now.pool type_name.now is_hex given written × Appends (W.contents output.old) (W.contents output.new) written)) }
-    ensures refused { IfErr result (λ f. IfSome (R.remaining input.old) (λ given. Refuses action schema.now.pool type_name.now is_hex given f)) }
+    ensures answered { OnOk result
+        (IfSome (R.remaining input.old)
+        (λ given. (written : List ℕ) × Answers action schema.now.pool type_name.now is_hex given
+        written × Appends (W.contents output.old) (W.contents output.new) written)) }
+    ensures refused { IfErr result
+        (λ f. IfSome (R.remaining input.old)
+        (λ given. Refuses action schema.now.pool type_name.now is_hex given f)) }
     ensures kept { IfErr result (λ f. (f ≡ fault.Write) ⊎ (output.new ≡ output.old)) }
 {
     let input = read_all(alloc, input)?;

@@ -46,12 +46,16 @@ impl Schema {
         }
     }
 
-    /// A schema of one source, which declares the types of options under the name `google/protobuf/descriptor.proto`.
+    /// A schema of one source, which declares the types of options under the name
+    /// `google/protobuf/descriptor.proto`.
     ///
-    /// Refused as `add_sources` is, and as `Options` where not all of the nine types are there and can be read by.
+    /// Refused as `add_sources` is, and as `Options` where not all of the nine types are there and
+    /// can be read by.
     pub fn new(alloc: Global, descriptor_source: &str) -> Result<Schema, SchemaError>
-        ensures linked { IfOk result (λ s. SourcesLinked empty_pool ((descriptor_name, descriptor_source.now) ∷ []) s.pool) }
-        ensures err { IfErr result (SourcesRefused empty_pool ((descriptor_name, descriptor_source.now) ∷ [])) }
+        ensures linked { IfOk result (λ s. SourcesLinked empty_pool
+            ((descriptor_name, descriptor_source.now) ∷ []) s.pool) }
+        ensures err { IfErr result (SourcesRefused empty_pool
+            ((descriptor_name, descriptor_source.now) ∷ [])) }
     {
         let mut schema = Schema::bare(alloc);
         schema.add_sources(&[(DESCRIPTOR_NAME, descriptor_source)])?;
@@ -80,14 +84,16 @@ impl Schema {
 
     /// Adds protobuf sources, each a file's name and its text, as one batch.
     ///
-    /// They are parsed in order, and the first that is refused ends it (`Parse`, with that file's name and the place of the first
-    /// fault in its text). Those whose names the schema has are passed over; the others are linked with each other and with those
-    /// that are there (`Link`, with all faults of the first pass that found one), and their options are read by the types that
-    /// the schema has for them (`Options`, with the first fault).
-    /// Any refusal leaves the schema as it was.
+    /// They are parsed in order, and the first that is refused ends it (`Parse`, with that file's
+    /// name and the place of the first fault in its text). Those whose names the schema has are
+    /// passed over; the others are linked with each other and with those that are there (`Link`,
+    /// with all faults of the first pass that found one), and their options are read by the types
+    /// that the schema has for them (`Options`, with the first fault). Any refusal leaves the
+    /// schema as it was.
     pub fn add_sources(&mut self, sources: &[(&str, &str)]) -> Result<(), SchemaError>
         ensures unchanged { OnErr result (self.new.pool ≡ self.old.pool) }
-        ensures linked { OnOk result (SourcesLinked self.old.pool (sources_of sources.now) self.new.pool) }
+        ensures linked { OnOk result (SourcesLinked self.old.pool (sources_of sources.now)
+            self.new.pool) }
         ensures err { IfErr result (SourcesRefused self.old.pool (sources_of sources.now)) }
     {
         let mut files = Vec::new(self.alloc);
@@ -97,7 +103,8 @@ impl Schema {
         self.add_batch(files)
     }
 
-    /// Adds the files of a descriptor set, as protobuf's `FileDescriptorSet` is written, as one batch.
+    /// Adds the files of a descriptor set, as protobuf's `FileDescriptorSet` is written, as one
+    /// batch.
     ///
     /// `Wire` where the bytes are no set; else as `add_sources` does and refuses with files that are parsed. Any refusal leaves
     /// the schema as it was.
@@ -110,7 +117,8 @@ impl Schema {
         self.add_batch(set.file)
     }
 
-    /// The descriptor set of all files, in the order in which they were added, with their options settled.
+    /// The descriptor set of all files, in the order in which they were added, with their options
+    /// settled.
     ///
     /// Refused for want of memory alone.
     pub fn to_descriptor_set(&self) -> Result<Vec<u8>, SchemaError>
@@ -161,7 +169,8 @@ impl Schema {
         Ok(DynamicMessage::decode(self.alloc, descriptor, bytes)?)
     }
 
-    /// The wire bytes of the message of a type that a text spells. The type's full name may have one leading dot.
+    /// The wire bytes of the message of a type that a text spells. The type's full name may have
+    /// one leading dot.
     ///
     /// `UnknownType` where there is no such type, `Text` with the first fault of the text.
     pub fn encode(&self, type_name: &str, text: &str) -> Result<Vec<u8>, SchemaError>
@@ -173,7 +182,8 @@ impl Schema {
         Ok(message.encode_to_vec()?)
     }
 
-    /// The compact text of the message of a type that wire bytes spell. The type's full name may have one leading dot.
+    /// The compact text of the message of a type that wire bytes spell. The type's full name may
+    /// have one leading dot.
     ///
     /// `UnknownType` where there is no such type, `Wire` where the bytes are no message of it.
     pub fn decode(&self, type_name: &str, bytes: &[u8]) -> Result<String, SchemaError>
@@ -188,12 +198,14 @@ impl Schema {
         }
     }
 
-    /// The one form in which the message of a type is written that wire bytes spell: declared fields by ascending number, then
-    /// the records of undeclared fields by ascending number. The type's full name may have one leading dot.
+    /// The one form in which the message of a type is written that wire bytes spell: declared
+    /// fields by ascending number, then the records of undeclared fields by ascending number. The
+    /// type's full name may have one leading dot.
     ///
     /// Refused as `decode` is.
     pub fn recode(&self, type_name: &str, bytes: &[u8]) -> Result<Vec<u8>, SchemaError>
-        ensures ok { IfOk result (λ written. Recoded self.now.pool type_name.now bytes.now written.items) }
+        ensures ok { IfOk result (λ written. Recoded self.now.pool type_name.now bytes.now
+            written.items) }
         ensures err { IfErr result (BytesRefused self.now.pool type_name.now bytes.now) }
     {
         Ok(self.read(type_name, bytes)?.encode_to_vec()?)

@@ -17,8 +17,8 @@ use Rattle.schema_slot.specs.declared.session.Session.{Session}
 abbrev pub Call : Type 1
 Call = Session → Code → Session → Type 0
 
--- A refusal of the schema: its code, and the refusal itself, from which its place is told. The answer is its text, or
--- nothing where memory runs out for it.
+-- A refusal of the schema: its code, and the refusal itself, from which its place is told. The
+-- answer is its text, or nothing where memory runs out for it.
 abbrev pub Tells : SchemaError → Code → Session → Type 0
 Tells e c new = (c ≡ code_of e) × (new.fault ≡ Some e) × ((answer new ≡ said e) ⊎ (answer new ≡ []))
 
@@ -27,7 +27,8 @@ abbrev pub Unless : Code → Type 0 → Type 0
 Unless code.Done P = Unit {0}
 Unless _ P = P
 
--- How a call ends that reads texts: they are no UTF-8; or it is done, with no fault; or the schema refuses.
+-- How a call ends that reads texts: they are no UTF-8; or it is done, with no fault; or the schema
+-- refuses.
 abbrev pub Ends : Type 0 → (Session → Type 0) → (SchemaError → Type 0) → Code → Session → Type 0
 Ends Read Done Refused code.Done new = Read × (new.fault ≡ None) × Done new
 Ends Read Done Refused code.NotUtf8 new = (¬ Read) × (new.fault ≡ None) × (answer new ≡ [])
@@ -41,54 +42,68 @@ Ends Read Done Refused c new = (e : SchemaError) × Tells e c new × Read × Ref
 abbrev pub Waits : List ℕ → List ℕ → Call
 Waits name text old c new =
     (pool new ≡ pool old) × Unless c (waiting new ≡ waiting old)
-    × Ends (IsUtf8 name × IsUtf8 text) (λ s. (waiting s ≡ waiting old ++ (name, text) ∷ []) × (answer s ≡ [])) (λ e. e ≡ error.Memory) c new
+    × Ends (IsUtf8 name × IsUtf8 text)
+    (λ s. (waiting s ≡ waiting old ++ (name, text) ∷ []) × (answer s ≡ []))
+    (λ e. e ≡ error.Memory) c new
 
--- The sources that wait are linked as one batch, or refused so, which leaves the schema; none waits then.
+-- The sources that wait are linked as one batch, or refused so, which leaves the schema; none waits
+-- then.
 abbrev pub Links : Call
 Links old c new =
     (waiting new ≡ []) × Unless c (pool new ≡ pool old)
-    × Ends (Unit {0}) (λ s. SourcesLinked (pool old) (waiting old) (pool s) × (answer s ≡ [])) (SourcesRefused (pool old) (waiting old)) c new
+    × Ends (Unit {0}) (λ s. SourcesLinked (pool old) (waiting old) (pool s) × (answer s ≡ []))
+    (SourcesRefused (pool old) (waiting old)) c new
 
 -- No source waits any more.
 abbrev pub Forgets : Call
-Forgets old c new = (c ≡ code.Done) × (pool new ≡ pool old) × (waiting new ≡ []) × (answer new ≡ []) × (new.fault ≡ None)
+Forgets old c new = (c ≡ code.Done) × (pool new ≡ pool old) × (waiting new ≡ []) × (answer new ≡ [])
+    × (new.fault ≡ None)
 
 -- The files of a descriptor set are linked as one batch, or refused so, which leaves the schema.
 abbrev pub AddsSet : List ℕ → Call
 AddsSet bytes old c new =
     (waiting new ≡ waiting old) × Unless c (pool new ≡ pool old)
-    × Ends (Unit {0}) (λ s. SetLinked (pool old) bytes (pool s) × (answer s ≡ [])) (SetRefused (pool old) bytes) c new
+    × Ends (Unit {0}) (λ s. SetLinked (pool old) bytes (pool s) × (answer s ≡ []))
+    (SetRefused (pool old) bytes) c new
 
 -- The descriptor set of all files is the answer.
 abbrev pub GivesSet : Call
-GivesSet old c new = Keeps old new × Ends (Unit {0}) (λ s. answer s ≡ pool_bytes (pool old)) (λ e. e ≡ error.Memory) c new
+GivesSet old c new = Keeps old new
+    × Ends (Unit {0}) (λ s. answer s ≡ pool_bytes (pool old)) (λ e. e ≡ error.Memory) c new
 
 -- ---- payloads
 
 -- Text to bytes, bytes to text, bytes to bytes, of the type of a name.
 abbrev pub Encodes : List ℕ → List ℕ → Call
 Encodes name text old c new =
-    Keeps old new × Ends (IsUtf8 name × IsUtf8 text) (λ s. Encoded (pool old) name (answer s)) (TextRefused (pool old) name) c new
+    Keeps old new × Ends (IsUtf8 name × IsUtf8 text) (λ s. Encoded (pool old) name (answer s))
+    (TextRefused (pool old) name) c new
 
 abbrev pub Decodes : List ℕ → List ℕ → Call
 Decodes name bytes old c new =
-    Keeps old new × Ends (IsUtf8 name) (λ s. Decoded (pool old) name bytes) (BytesRefused (pool old) name bytes) c new
+    Keeps old new × Ends (IsUtf8 name) (λ s. Decoded (pool old) name bytes)
+    (BytesRefused (pool old) name bytes) c new
 
 abbrev pub Recodes : List ℕ → List ℕ → Call
 Recodes name bytes old c new =
-    Keeps old new × Ends (IsUtf8 name) (λ s. Recoded (pool old) name bytes (answer s)) (BytesRefused (pool old) name bytes) c new
+    Keeps old new × Ends (IsUtf8 name) (λ s. Recoded (pool old) name bytes (answer s))
+    (BytesRefused (pool old) name bytes) c new
 
 -- ---- slots
 
--- A call on a slot answers the number of how it ends with the session there; a slot that holds none stays closed, which is told.
+-- A call on a slot answers the number of how it ends with the session there; a slot that holds none
+-- stays closed, which is told.
 abbrev pub On : Call → Option Session → ℕ → Option Session → Type 0
 On Does None n new = (n ≡ number_of code.Closed) × (new ≡ None)
-On Does (Some old) n new = (c : Code) × (s : Session) × (n ≡ number_of c) × (new ≡ Some s) × Does old c s
+On Does (Some old) n new = (c : Code) × (s : Session) × (n ≡ number_of c) × (new ≡ Some s)
+    × Does old c s
 
--- A slot that is opened holds a schema without files, for which nothing waits, or, where memory runs out, nothing.
+-- A slot that is opened holds a schema without files, for which nothing waits, or, where memory
+-- runs out, nothing.
 abbrev pub Opens : ℕ → Option Session → Type 0
 Opens n None = n ≡ number_of code.Memory
-Opens n (Some s) = (n ≡ number_of code.Done) × (pool s ≡ empty_pool) × (waiting s ≡ []) × (answer s ≡ [])
+Opens n (Some s) = (n ≡ number_of code.Done) × (pool s ≡ empty_pool) × (waiting s ≡ [])
+    × (answer s ≡ [])
 
 -- A text is copied to the front of a buffer where it fits; else nothing is.
 abbrev pub Copied : List ℕ → Code → List ℕ → List ℕ → Type 0

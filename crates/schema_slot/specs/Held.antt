@@ -22,7 +22,8 @@ waiting s = map pair_of s.waiting.items
 abbrev pub answer : Session → List ℕ
 answer s = s.answer.items
 
--- the file in which the fault stands for which the last call was refused, and the line and column there, from 1
+-- the file in which the fault stands for which the last call was refused, and the line and column
+-- there, from 1
 abbrev pub file : Session → Option (List ℕ)
 file s = option_and_then told_file s.fault
 

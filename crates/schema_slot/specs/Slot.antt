@@ -14,7 +14,8 @@ use Rattle.schema_slot.specs.declared.loose.Loose.{Loose}
 abbrev pub chunk : Ty → Ptr → Fml
 chunk = ghosts.dealloc_token (record { memory = record { seal = tt } })
 
--- a full slot owns the value at its pointer, with the right to free its block; an empty one owns nothing
+-- a full slot owns the value at its pointer, with the right to free its block; an empty one owns
+-- nothing
 abbrev pub slot_owns : Bool → Ptr → Option Session → Fml
 slot_owns true at (Some x) = box_owns chunk the_row at x
 slot_owns false at None = ftrue

@@ -6,7 +6,8 @@ ghost use Rattle.std.specs.Box.Ownership.{box_owns};
 use std::alloc::Allocator;
 use std::marker::Model;
 
-/// The pointer of a box, with its allocator. It owns the value and the right to free its block, as the box did.
+/// The pointer of a box, with its allocator. It owns the value and the right to free its block, as
+/// the box did.
 pub(crate) struct Loose<T, A: Allocator> {
     pub(crate) at: *mut T,
     pub(crate) alloc: A,

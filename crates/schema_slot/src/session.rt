@@ -13,7 +13,8 @@ use schema_core::{Schema, SchemaError};
 use std::alloc::{AllocError, Global};
 use std::mem;
 
-/// A place in a source: line and column, both from 1 and the column in bytes; 0 where it is not known.
+/// A place in a source: line and column, both from 1 and the column in bytes; 0 where it is not
+/// known.
 #[repr(C)]
 #[derive(Clone, Copy, Drop)]
 pub struct Place {
@@ -21,7 +22,8 @@ pub struct Place {
     pub column: usize,
 }
 
-/// A schema, the sources that wait to be linked, and what the last call answered or was refused for.
+/// A schema, the sources that wait to be linked, and what the last call answered or was refused
+/// for.
 #[derive(Drop)]
 pub struct Session {
     alloc: Global,
@@ -102,7 +104,8 @@ impl Session {
     /// A source waits behind the others.
     fn wait(&mut self, name: &str, text: &str) -> Result<(), AllocError>
         ensures schema { pool self.new ≡ pool self.old }
-        ensures ok { OnOk result (waiting self.new ≡ waiting self.old ++ (name.now, text.now) ∷ []) }
+        ensures ok { OnOk result (waiting self.new ≡ waiting self.old ++ (name.now, text.now)
+            ∷ []) }
         ensures err { OnErr result (waiting self.new ≡ waiting self.old) }
     {
         let source = Source::new(self.alloc, name, text)?;
@@ -110,7 +113,8 @@ impl Session {
         Ok(())
     }
 
-    /// Links the sources that wait with each other and with the schema's files, as one batch. None waits then.
+    /// Links the sources that wait with each other and with the schema's files, as one batch. None
+    /// waits then.
     ///
     /// Refused as `Schema::add_sources` is, which leaves the schema.
     pub fn link(&mut self) -> Code
@@ -222,7 +226,8 @@ impl Session {
 
 /// Links sources with the files of a schema, as one batch. A refusal leaves the schema.
 fn add(alloc: Global, schema: &mut Schema, sources: &Vec<Source>) -> Result<(), SchemaError>
-    ensures ok { OnOk result (SourcesLinked schema.old.pool (map pair_of sources.now.items) schema.new.pool) }
+    ensures ok { OnOk result (SourcesLinked schema.old.pool (map pair_of sources.now.items)
+        schema.new.pool) }
     ensures err { IfErr result (SourcesRefused schema.old.pool (map pair_of sources.now.items)) }
     ensures unchanged { OnErr result (schema.new.pool ≡ schema.old.pool) }
 {

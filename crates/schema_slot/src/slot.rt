@@ -13,7 +13,8 @@ use std::marker::Model;
 use std::mem::replace;
 use std::ptr::null_mut;
 
-/// What C holds of a session: its pointer, and whether there is one. Zeroed memory is an empty slot.
+/// What C holds of a session: its pointer, and whether there is one. Zeroed memory is an empty
+/// slot.
 ///
 /// It has no `Drop`, since C lets it go as it likes: `close` or `finish` ends what it holds.
 #[repr(C)]

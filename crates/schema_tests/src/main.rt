@@ -1,7 +1,8 @@
-//! A program that replays cases: each line of the files that it is given is a case, and it prints those that do not hold and
-//! how many of each kind do.
+//! A program that replays cases: each line of the files that it is given is a case, and it prints
+//! those that do not hold and how many of each kind do.
 //!
-//! Answers are worked by hand from the published documentation of the language, the encoding and the text format, or come from
+//! Answers are worked by hand from the published documentation of the language, the encoding and
+//! the text format, or come from
 //! `protoc` or from an independent model. docs/TESTS.md says what each file asserts.
 #![tactic(auto)]
 

@@ -73,8 +73,8 @@ fn tell_stream(
     }
 }
 
-/// A run: its status, what its streams took and whether they took anything, whether the output failed, and how many calls came
-/// to each after it had failed.
+/// A run: its status, what its streams took and whether they took anything, whether the output
+/// failed, and how many calls came to each after it had failed.
 pub fn tell_run(alloc: Global, case: &Value, told: &mut Told<'_>) -> Result<(), AllocError> {
     let Outcome {
         status,

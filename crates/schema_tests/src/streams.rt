@@ -1,4 +1,5 @@
-//! Files, inputs and outputs in memory; the streams give or take a byte at a call, and fail once they answered so many calls.
+//! Files, inputs and outputs in memory; the streams give or take a byte at a call, and fail once
+//! they answered so many calls.
 
 use case_json::members::{bytes, items, text};
 use reflect_schema::{ReadFault, SourceFiles};

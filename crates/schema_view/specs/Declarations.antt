@@ -14,7 +14,14 @@ pub record FieldFacts : Type 0 where
   pub oneof : Option ℤ
 
 abbrev pub facts_of : FieldContent → FieldFacts
-facts_of f = record { name = f.name; number = f.number; label = f.label; scalar = scalar_type f.field_type f.type_name; oneof = f.oneof_index }
+facts_of f = record {
+  name = f.name;
+  number = f.number;
+  label = f.label;
+  scalar =
+      scalar_type f.field_type f.type_name;
+  oneof = f.oneof_index;
+}
 
 -- from the first number, below the second
 pub record Range : Type 0 where
@@ -69,7 +76,8 @@ abbrev pub one_value : Text → EnumValueContent → Declaration
 one_value scope v = record { name = join scope (text_of v.name); body = of_value v }
 
 abbrev pub one_enum : Text → EnumContent → List Declaration
-one_enum scope e = record { name = join scope (text_of e.name); body = of_enum e } ∷ map (one_value scope) e.value
+one_enum scope e = record { name = join scope (text_of e.name); body = of_enum e }
+    ∷ map (one_value scope) e.value
 
 abbrev pub one_method : Text → MethodContent → Declaration
 one_method scope m = record { name = join scope (text_of m.name); body = of_method m }
@@ -88,7 +96,15 @@ abbrev mutual
   in_message scope (message name fs xs nested es rs os o rr rn) =
       record {
         name = join scope (text_of name);
-        body = of_message (record { name = name; fields = map facts_of fs; oneofs = length os; extensions = rs; reserved = rr; reserved_names = rn; options = o });
+        body = of_message (record {
+          name = name;
+          fields = map facts_of fs;
+          oneofs = length os;
+          extensions = rs;
+          reserved = rr;
+          reserved_names = rn;
+          options = o;
+        });
       }
       ∷ (map (one_field (join scope (text_of name))) fs
       ++ (in_messages (join scope (text_of name)) nested

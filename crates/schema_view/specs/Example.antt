@@ -1,4 +1,5 @@
--- A file that is lawful by itself: `syntax = "proto3"; package p; message M { .p.M f = 1; }`, with the type of the field filled in.
+-- A file that is lawful by itself: `syntax = "proto3"; package p; message M { .p.M f = 1; }`, with
+-- the type of the field filled in.
 use Rattle.std.specs.Prelude.{[], ◌∷◌, pos, Some, None, codes}
 use Rattle.descriptor_records.specs.Content.{FieldContent, MessageContent, message, no_messages, FileContent}
 

@@ -1,4 +1,5 @@
--- What the fields and extensions of linked files hold (protobuf.dev, "Encoding", Packed Repeated Fields; "Field Presence").
+-- What the fields and extensions of linked files hold (protobuf.dev, "Encoding", Packed Repeated
+-- Fields; "Field Presence").
 use Rattle.std.specs.Prelude.{ℤ, pos, Bool, false, not, ◌||◌, ◌&&◌, nat_le, is_some, Option, Some, None}
 use Rattle.descriptor_records.specs.Content.{OptionsContent, FieldContent}
 use Rattle.schema_view.specs.Rules.{is_number}
@@ -31,9 +32,11 @@ asks_packed proto3 None = proto3
 asks_packed proto3 (Some b) = b
 
 abbrev pub is_packed : Bool → FieldContent → Bool
-is_packed proto3 f = is_repeated f && (is_packable f.field_type && asks_packed proto3 (packed_option f.options))
+is_packed proto3 f = is_repeated f
+    && (is_packable f.field_type && asks_packed proto3 (packed_option f.options))
 
--- lists and maps have none; messages, members of oneofs, extensions and what is no field of proto3 have it
+-- lists and maps have none; messages, members of oneofs, extensions and what is no field of proto3
+-- have it
 abbrev pub has_presence : (proto3 extension : Bool) → FieldContent → Bool
 has_presence proto3 extension f =
     not (is_repeated f) && (holds_message f || (is_some f.oneof_index || (not proto3 || extension)))

@@ -54,13 +54,15 @@ IsMapUse full _ = Unit {0}
 -- the type of a map's entries is the type of one field or extension, which is a map
 pub record IsOneMap (fs : List FileContent) (full : Text) : Type 0 where
   pub once : times_by (is_use full) fs ≡ 1
-  pub map : (f : FileContent) (d : Declaration) → Contains fs f → Contains (declarations f) d → IsMapUse full d.body
+  pub map : (f : FileContent) (d : Declaration) → Contains fs f → Contains (declarations f) d
+      → IsMapUse full d.body
 
 -- a message of the name keeps the number for extensions, and for nothing else
 abbrev pub Keeps : List Outline → Text → ℤ → Type 0
 Keeps os full n =
     (extensions reserved : List Range) × IsDeclared os full (message_sort extensions reserved)
-    × ((r : Range) × Contains extensions r × IsIn n r) × ((r : Range) → Contains reserved r → IsIn n r → ⊥)
+    × ((r : Range) × Contains extensions r × IsIn n r)
+    × ((r : Range) → Contains reserved r → IsIn n r → ⊥)
 
 -- an extension as linked files write it
 abbrev pub KeepsNumber : List Outline → Body → Type 0
@@ -88,7 +90,8 @@ pub record IsSettled (os : List Outline) (b : Body) : Type 0 where
 pub record AreSettled (fs : List FileContent) : Type 0 where
   pub extended : (k : Key) → times_by (has_key k) fs ≤ 1
   pub entries : (f : FileContent) (d : Declaration) (m : MessageFacts)
-      → Contains fs f → Contains (declarations f) d → d.body ≡ of_message m → SaysEntry m.options → IsOneMap fs d.name
+      → Contains fs f → Contains (declarations f) d → d.body ≡ of_message m → SaysEntry m.options
+      → IsOneMap fs d.name
 
 -- a file by itself: a name, a syntax, and public imports among its imports
 pub record IsFile (f : FileContent) : Type 0 where
@@ -103,16 +106,19 @@ pub record IsLawful (old new : List FileContent) (meanings : Meanings) : Type 0 
   pub imports : (f : FileContent) (i : Import)
       → Contains new f → Contains (imports_of f) i → IsNamed (outlines (old ++ new)) i.file
   pub means : (f : FileContent) (r : Reference)
-      → Contains new f → Contains (references f) r → Means (outlines (old ++ new)) (outline_of f) r (meanings f r)
+      → Contains new f → Contains (references f) r
+      → Means (outlines (old ++ new)) (outline_of f) r (meanings f r)
   pub sound : (f : FileContent) (d : Declaration)
       → Contains new f → Contains (declarations f) d → IsSound (is_proto3 f) d.body
   pub settled : (f : FileContent) (d : Declaration)
-      → Contains new f → Contains (declarations (linked (meanings f) f)) d → IsSettled (outlines (old ++ new)) d.body
+      → Contains new f → Contains (declarations (linked (meanings f) f)) d
+      → IsSettled (outlines (old ++ new)) d.body
   pub together : AreSettled (old ++ all_linked meanings new)
 
 -- the new files are lawful, and stand behind the older ones, linked
 abbrev pub Adds : List FileContent → List FileContent → List FileContent → Type 0
-Adds old new after = (meanings : Meanings) × IsLawful old new meanings × (after ≡ old ++ all_linked meanings new)
+Adds old new after = (meanings : Meanings) × IsLawful old new meanings
+    × (after ≡ old ++ all_linked meanings new)
 
 -- batches, the last of them first, are added one behind the other
 abbrev pub Builds : List (List FileContent) → List FileContent → Type 0
@@ -125,4 +131,5 @@ sources [] = []
 sources (new ∷ earlier) = new ++ sources earlier
 
 abbrev pub SameFiles : List FileContent → List FileContent → Type 0
-SameFiles fs gs = (f : FileContent) → (Contains fs f → Contains gs f) × (Contains gs f → Contains fs f)
+SameFiles fs gs = (f : FileContent) → (Contains fs f → Contains gs f)
+    × (Contains gs f → Contains fs f)

@@ -1,4 +1,5 @@
--- What a name means where it stands: a statement over all prefixes of its scope (protobuf.dev, "Packages and Name Resolution").
+-- What a name means where it stands: a statement over all prefixes of its scope (protobuf.dev,
+-- "Packages and Name Resolution").
 use Rattle.std.specs.Prelude.{◌≡◌, ◌<◌, ℤ, pos, List, [], ◌∷◌, ◌⊎◌, length, Bool, true, false, ◌||◌, ◌==◌, cond, MatchBool, Contains, None, Some}
 use Rattle.descriptor_records.specs.Content.{Text}
 use Rattle.schema_view.specs.Files.{join}
@@ -47,7 +48,8 @@ IsWanted os from w full =
 abbrev pub Holds : List Outline → Text → Type 0
 Holds os n =
     IsPackage os n
-    ⊎ ((o : Outline) × (h : Head) × Contains os o × Contains o.heads h × (h.name ≡ n) × (is_holder h.sort ≡ true))
+    ⊎ ((o : Outline) × (h : Head) × Contains os o × Contains o.heads h × (h.name ≡ n)
+    × (is_holder h.sort ≡ true))
 
 -- by which definitions are wanted, and which names hold others
 module _ (Wanted Holding : Text → Type 0) where
@@ -60,26 +62,31 @@ module _ (Wanted Holding : Text → Type 0) where
   -- the whole name where its first part is settled, at the innermost scope that has it
   abbrev pub MeansDotted : Text → Text → Text → Type 0
   MeansDotted scope name full =
-      (p : Text) × IsScope scope p × (full ≡ join p name) × Wanted full × Holding (join p (first_part name))
-      × ((q : Text) → IsScope scope q → length p < length q → Holding (join q (first_part name)) → ⊥)
+      (p : Text) × IsScope scope p × (full ≡ join p name) × Wanted full
+      × Holding (join p (first_part name))
+      × ((q : Text) → IsScope scope q → length p < length q → Holding (join q (first_part name))
+      → ⊥)
 
   abbrev pub MeansPlain : Text → Text → Text → Type 0
-  MeansPlain scope name full = MatchBool (has_dot name) (MeansDotted scope name full) (MeansUndotted scope name full)
+  MeansPlain scope name full = MatchBool (has_dot name) (MeansDotted scope name full)
+      (MeansUndotted scope name full)
 
   -- with a leading dot, or without
   abbrev pub MeansBy : Text → Text → Text → Type 0
   MeansBy scope [] full = MeansPlain scope [] full
-  MeansBy scope (b ∷ name) full = MatchBool (b == 46) ((full ≡ name) × Wanted name) (MeansPlain scope (b ∷ name) full)
+  MeansBy scope (b ∷ name) full =
+      MatchBool (b == 46) ((full ≡ name) × Wanted name) (MeansPlain scope (b ∷ name) full)
 
--- the number of a type of the sort (descriptor.proto, FieldDescriptorProto.Type): a message's or an enum's
+-- the number of a type of the sort (descriptor.proto, FieldDescriptorProto.Type): a message's or an
+-- enum's
 abbrev pub HasType : Sort → ℤ → Type 0
 HasType (message_sort extensions reserved) n = n ≡ pos 11
 HasType (enum_sort values) n = n ≡ pos 14
 HasType service_sort n = ⊥
 HasType other_sort n = ⊥
 
--- the number of a message where one is wanted; of a type, where a number is given, this one, or that of a group where the
--- target is a message
+-- the number of a message where one is wanted; of a type, where a number is given, this one, or
+-- that of a group where the target is a message
 abbrev pub SuitsWant : Want → ℤ → Type 0
 SuitsWant a_message type = type ≡ pos 11
 SuitsWant (a_type None) type = Unit {0}

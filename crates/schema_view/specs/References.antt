@@ -47,17 +47,20 @@ pub record Target : Type 0 where
 module _ (names : Reference → Target) where
   abbrev pub rename_message_type : Text → Option Text → Option Text
   rename_message_type scope None = None
-  rename_message_type scope (Some name) = Some (names (record { want = a_message; scope = scope; name = name })).name
+  rename_message_type scope (Some name) =
+      Some (names (record { want = a_message; scope = scope; name = name })).name
 
   abbrev pub rename_type : Text → Option ℤ → Option Text → Option Text
   rename_type scope type None = None
-  rename_type scope type (Some name) = Some (names (record { want = a_type type; scope = scope; name = name })).name
+  rename_type scope type (Some name) =
+      Some (names (record { want = a_type type; scope = scope; name = name })).name
 
   -- a type without a number takes that of what its name means
   abbrev pub fill_type : Text → Option ℤ → Option Text → Option ℤ
   fill_type scope (Some n) name = Some n
   fill_type scope None None = None
-  fill_type scope None (Some name) = Some (names (record { want = a_type None; scope = scope; name = name })).type
+  fill_type scope None (Some name) =
+      Some (names (record { want = a_type None; scope = scope; name = name })).type
 
   abbrev pub rename_field : Text → FieldContent → FieldContent
   rename_field scope f =
@@ -82,17 +85,20 @@ module _ (names : Reference → Target) where
       }
 
   abbrev pub rename_service : Text → ServiceContent → ServiceContent
-  rename_service scope s = record s { method = map (rename_method (join scope (text_of s.name))) s.method }
+  rename_service scope s = record s
+      { method = map (rename_method (join scope (text_of s.name))) s.method }
 
   abbrev mutual
     pub rename_message : Text → MessageContent → MessageContent
     rename_message scope (message name fs xs nested es rs os o rr rn) =
-        message name (map (rename_field (join scope (text_of name))) fs) (map (rename_extension (join scope (text_of name))) xs)
+        message name (map (rename_field (join scope (text_of name))) fs)
+        (map (rename_extension (join scope (text_of name))) xs)
         (rename_messages (join scope (text_of name)) nested) es rs os o rr rn
 
     pub rename_messages : Text → MessageContents → MessageContents
     rename_messages scope no_messages = no_messages
-    rename_messages scope (more_messages m ms) = more_messages (rename_message scope m) (rename_messages scope ms)
+    rename_messages scope (more_messages m ms) =
+        more_messages (rename_message scope m) (rename_messages scope ms)
 
   abbrev pub rename_references : FileContent → FileContent
   rename_references f =

@@ -1,4 +1,5 @@
--- The rules that declarations meet by themselves (protobuf.dev, "Language Guide": Assigning Field Numbers, Enumerations, Reserved Fields, Maps).
+-- The rules that declarations meet by themselves (protobuf.dev, "Language Guide": Assigning Field
+-- Numbers, Enumerations, Reserved Fields, Maps).
 use Rattle.std.specs.Prelude.{◌≡◌, ◌≤◌, ◌<◌, ◌⊎◌, ◌≤ℤ◌, ◌<ℤ◌, ℕ, ℤ, pos, List, [], ◌∷◌, sum_by, Bool, true, false, cond, Option, None, Some, codes, Contains, FitsSigned}
 use Rattle.std.specs.Int.{w32}
 use Rattle.std.specs.Ordering.{int_eq}
@@ -32,8 +33,8 @@ IsIn n r = (start end : ℤ) × (r.start ≡ Some start) × (r.end ≡ Some end)
 abbrev pub HasLabel : Option ℤ → Type 0
 HasLabel o = (o ≡ None) ⊎ ((n : ℤ) × (o ≡ Some n) × (pos 1 ≤ℤ n) × (n ≤ℤ pos 3))
 
--- a type is given by a number of the table, by a name, or by both where the number is that of a group, a message or an
--- enum; those have a name
+-- a type is given by a number of the table, by a name, or by both where the number is that of a
+-- group, a message or an enum; those have a name
 abbrev pub HasType : Option ℤ → Option Text → Type 0
 HasType None name = IsThere name
 HasType (Some n) None = is_scalar n ≡ true
@@ -42,7 +43,8 @@ HasType (Some n) (Some name) = (n ≡ pos 10) ⊎ ((n ≡ pos 11) ⊎ (n ≡ pos
 -- the default of a scalar type is a text of that type
 abbrev pub SuitsScalar : FieldContent → Type 0
 SuitsScalar f =
-    (text : Text) (n : ℤ) → f.default_value ≡ Some text → f.field_type ≡ Some n → is_scalar n ≡ true → IsScalarDefault n text
+    (text : Text) (n : ℤ) → f.default_value ≡ Some text → f.field_type ≡ Some n → is_scalar n ≡ true
+    → IsScalarDefault n text
 
 -- what is asked of a field and of an extension
 pub record IsField (f : FieldContent) : Type 0 where
@@ -83,15 +85,19 @@ pub record IsMessage (m : MessageFacts) : Type 0 where
   pub name : IsThere m.name
   pub apart : (n : ℤ) → sum_by (λ f. cond (is_number n f.number) 1 0) m.fields ≤ 1
   pub unreserved : (f : FieldFacts) (n : ℤ) (r : ReservedRange)
-      → Contains m.fields f → f.number ≡ Some n → Contains m.reserved r → IsIn n (reserved_range r) → ⊥
+      → Contains m.fields f → f.number ≡ Some n → Contains m.reserved r → IsIn n (reserved_range r)
+      → ⊥
   pub no_extension : (f : FieldFacts) (n : ℤ) (r : ExtensionRangeContent)
-      → Contains m.fields f → f.number ≡ Some n → Contains m.extensions r → IsIn n (extension_range r) → ⊥
+      → Contains m.fields f → f.number ≡ Some n → Contains m.extensions r
+      → IsIn n (extension_range r) → ⊥
   pub oneofs : AllByRecursion (λ f. HasOneof m.oneofs f.oneof) m.fields
-  pub bounds : AllByRecursion (λ r. HasBounds (extension_range r)) m.extensions × AllByRecursion (λ r. HasBounds (reserved_range r)) m.reserved
+  pub bounds : AllByRecursion (λ r. HasBounds (extension_range r)) m.extensions
+      × AllByRecursion (λ r. HasBounds (reserved_range r)) m.reserved
   pub entry : SaysEntry m.options → IsEntryType m.fields
 
 abbrev pub AllowsAliases : Option OptionsContent → Type 0
-AllowsAliases o = (options : OptionsContent) × (o ≡ Some options) × (options.allow_alias ≡ Some true)
+AllowsAliases o = (options : OptionsContent) × (o ≡ Some options)
+    × (options.allow_alias ≡ Some true)
 
 -- the first value is there, in proto3 with the number 0
 abbrev pub HasFirst : Bool → List EnumValueContent → Type 0
@@ -106,8 +112,10 @@ pub record IsEnum (proto3 : Bool) (e : EnumContent) : Type 0 where
   pub name : IsThere e.name
   pub first : HasFirst proto3 e.value
   pub numbers : AllByRecursion (λ (v : EnumValueContent). HasValueNumber v.number) e.value
-  pub apart : AllowsAliases e.options ⊎ ((n : ℤ) → sum_by (λ v. cond (is_number n v.number) 1 0) e.value ≤ 1)
-  pub bounds : AllByRecursion (λ (r : EnumReservedRange). IsThere r.start × IsThere r.end) e.reserved_range
+  pub apart : AllowsAliases e.options
+      ⊎ ((n : ℤ) → sum_by (λ v. cond (is_number n v.number) 1 0) e.value ≤ 1)
+  pub bounds : AllByRecursion (λ (r : EnumReservedRange). IsThere r.start × IsThere r.end)
+      e.reserved_range
 
 pub record IsMethod (m : MethodContent) : Type 0 where
   pub name : IsThere m.name

@@ -42,7 +42,8 @@ IsUnsigned bits text = (is_decimal text ≡ true) × (digits_value 10 text < 2 ^
 abbrev pub IsSigned : Width → Text → Type 0
 IsSigned w text = (is_integer text ≡ true) × FitsSigned w (signed_digits_value 10 text)
 
--- the text is a default of the type; that of a float is not read, messages and enums have no such texts
+-- the text is a default of the type; that of a float is not read, messages and enums have no such
+-- texts
 abbrev pub IsDefault : FieldType → Text → Type 0
 IsDefault types.Int32 text = IsSigned w32 text
 IsDefault types.Sint32 text = IsSigned w32 text

@@ -56,7 +56,8 @@ says_proto3 f = bytes_eq (text_of f.syntax) (codes "proto3")
 
 abbrev pub is_proto3_at : View → Text → Bool
 is_proto3_at v n =
-    elim (option_and_then (λ (h : Held). v.files h.file) (v.declared n)) [ None ↦ false | Some f ↦ says_proto3 f ]
+    elim (option_and_then (λ (h : Held). v.files h.file) (v.declared n))
+    [ None ↦ false | Some f ↦ says_proto3 f ]
 
 -- the number of a value of a name, and of the first value
 abbrev pub number_in : EnumValueContent → ℤ
@@ -76,8 +77,10 @@ values_of o = elim (option_and_then enum_in o) [ None ↦ [] | Some e ↦ e.valu
 -- the kind of the number of a type; floats are no kinds of messages
 abbrev pub scalar_numbers : List (ℕ × Scalar)
 scalar_numbers =
-    (3, kinds.int64) ∷ (4, kinds.uint64) ∷ (5, kinds.int32) ∷ (6, kinds.fixed64) ∷ (7, kinds.fixed32) ∷ (8, kinds.bool) ∷ (9, kinds.string)
-    ∷ (12, kinds.bytes) ∷ (13, kinds.uint32) ∷ (14, kinds.enumeration) ∷ (15, kinds.sfixed32) ∷ (16, kinds.sfixed64) ∷ (17, kinds.sint32)
+    (3, kinds.int64) ∷ (4, kinds.uint64) ∷ (5, kinds.int32) ∷ (6, kinds.fixed64)
+    ∷ (7, kinds.fixed32) ∷ (8, kinds.bool) ∷ (9, kinds.string)
+    ∷ (12, kinds.bytes) ∷ (13, kinds.uint32) ∷ (14, kinds.enumeration) ∷ (15, kinds.sfixed32)
+    ∷ (16, kinds.sfixed64) ∷ (17, kinds.sint32)
     ∷ (18, kinds.sint64) ∷ []
 
 abbrev pub scalar_of : ℕ → Option Scalar
@@ -86,7 +89,8 @@ scalar_of n = first (λ (p : ℕ × Scalar). when (p.0 == n) p.1) scalar_numbers
 -- 10 is a group, 11 a message
 abbrev pub kind_by : Option ℤ → Text → Option Kind
 kind_by (Some (pos n)) name =
-    cond (n == 10) (Some (nested tagged name)) (cond (n == 11) (Some (nested sized name)) (option_map scalar (scalar_of n)))
+    cond (n == 10) (Some (nested tagged name))
+    (cond (n == 11) (Some (nested sized name)) (option_map scalar (scalar_of n)))
 kind_by _ name = None
 
 abbrev pub kind_of : FieldContent → Option Kind
@@ -143,14 +147,18 @@ part_of v proto3 extension f =
 
 -- the field of a number that a message declares
 abbrev pub named_in : Text → ℕ → MessageFacts → Option Text
-named_in t n m = first (λ (f : FieldFacts). when (is_number (pos n) f.number) (join t (text_of f.name))) m.fields
+named_in t n m = first (λ (f : FieldFacts). when (is_number (pos n) f.number)
+    (join t (text_of f.name))) m.fields
 
 abbrev pub name_of_field : View → Text → ℕ → Option Text
 name_of_field v t n = option_and_then (named_in t n) (message_at v t)
 
 -- the message of the name is the type of a map's entries
 abbrev pub is_entry : MessageFacts → Bool
-is_entry m = elim m.options [ None ↦ false | Some o ↦ elim o.map_entry [ None ↦ false | Some b ↦ b ] ]
+is_entry m = elim m.options [
+  | None ↦ false
+  | Some o ↦ elim o.map_entry [ None ↦ false | Some b ↦ b ]
+]
 
 abbrev pub names_entry : View → FieldContent → Bool
 names_entry v f =
@@ -160,7 +168,8 @@ names_entry v f =
 -- a part of a map's entry: the key under 1, the value under 2
 abbrev pub entry_part : View → Text → ℕ → Option Part
 entry_part v t n =
-    option_and_then (λ name. option_and_then (part_of v (is_proto3_at v name) false) (field_at v name)) (name_of_field v t n)
+    option_and_then (λ name. option_and_then (part_of v (is_proto3_at v name) false)
+    (field_at v name)) (name_of_field v t n)
 
 abbrev pub key_of : Part → Option Key
 key_of p = elim p.kind [
@@ -175,7 +184,13 @@ oneof_of false f = elim f.oneof_index [ Some (pos k) ↦ Some k | _ ↦ None ]
 
 abbrev pub map_field : View → Bool → FieldContent → Option Field
 map_field v extension f =
-    option_and_then (λ part. option_map (λ k. record { part = part; label = keyed k; oneof = oneof_of extension f; extension = extension })
+    option_and_then (λ part. option_map
+    (λ k. record {
+      part = part;
+      label = keyed k;
+      oneof = oneof_of extension f;
+      extension = extension;
+    })
     (option_and_then key_of (entry_part v (type_name f) 1))) (entry_part v (type_name f) 2)
 
 abbrev pub plain_field : View → (proto3 extension : Bool) → FieldContent → Option Field
@@ -190,10 +205,12 @@ plain_field v proto3 extension f =
 -- a field or an extension as messages hold it; floats and maps of floats are held by none
 abbrev pub held_field : View → (proto3 extension : Bool) → FieldContent → Option Field
 held_field v proto3 extension f =
-    cond (is_repeated f && names_entry v f) (map_field v extension f) (plain_field v proto3 extension f)
+    cond (is_repeated f && names_entry v f) (map_field v extension f)
+    (plain_field v proto3 extension f)
 
 abbrev pub field_named : View → Bool → Text → Option Field
-field_named v extension name = option_and_then (held_field v (is_proto3_at v name) extension) (field_at v name)
+field_named v extension name =
+    option_and_then (held_field v (is_proto3_at v name) extension) (field_at v name)
 
 -- the field of a number, or else the extension
 abbrev pub types_of : View → Types

@@ -13,7 +13,12 @@ pub record FileFacts : Type 0 where
   pub options : Option OptionsContent
 
 abbrev pub facts_of : FileContent → FileFacts
-facts_of f = record { syntax = f.syntax_name; package_name = package_of f; imports = imports_of f; options = f.options }
+facts_of f = record {
+  syntax = f.syntax_name;
+  package_name = package_of f;
+  imports = imports_of f;
+  options = f.options;
+}
 
 -- a declaration, and the name of the file that holds it
 pub record Held : Type 0 where
@@ -41,7 +46,8 @@ abbrev pub file_at : Text → FileContent → Option FileFacts
 file_at n f = when (bytes_eq (file_name f) n) (facts_of f)
 
 abbrev pub declared_at : Text → FileContent → Option Held
-declared_at n f = first (λ d. when (bytes_eq d.name n) (record { body = d.body; file = file_name f })) (declarations f)
+declared_at n f = first (λ d. when (bytes_eq d.name n)
+    (record { body = d.body; file = file_name f })) (declarations f)
 
 -- the full name of the extension of a message and a number
 abbrev pub extension_at : Key → FileContent → Option Text

@@ -14,22 +14,25 @@ ghost use Rattle.schema_view.specs.Views.{view_of, Grows};
 
 /// Files are linked in one way.
 pub fn files_link_in_one_way()
-    ensures { (old new after last : List FileContent) → Adds old new after → Adds old new last → after ≡ last }
+    ensures { (old new after last : List FileContent) → Adds old new after → Adds old new last
+        → after ≡ last }
 {}
 
 /// The files of a batch may stand in any order, and the view is the same.
 pub fn files_in_another_order()
-    ensures { (old new other after : List FileContent) → IsPermutation new other → Adds old new after
+    ensures { (old new other after : List FileContent) → IsPermutation new other
+        → Adds old new after
         → (last : List FileContent) × Adds old other last × (view_of last ≡ view_of after) }
 {}
 
 /// What the view says it says after each further batch.
 pub fn views_grow()
-    ensures { (old new after : List FileContent) → Adds old new after → Grows (view_of old) (view_of after) }
+    ensures { (old new after : List FileContent) → Adds old new after
+        → Grows (view_of old) (view_of after) }
 {}
 
-/// The linked files of a schema, whatever its batches brought, are accepted as one batch by an empty
-/// schema, and it is the same.
+/// The linked files of a schema, whatever its batches brought, are accepted as one batch by an
+/// empty schema, and it is the same.
 pub fn linked_files_stand_again()
     ensures accepted { (batches : List (List FileContent)) (after : List FileContent)
         → Builds batches after → Adds [] after after }
@@ -37,8 +40,8 @@ pub fn linked_files_stand_again()
         → Builds batches after → Adds [] after last → last ≡ after }
 {}
 
-/// Files whose names have no dots may come in any batches: if both runs are accepted, the view is the
-/// same.
+/// Files whose names have no dots may come in any batches: if both runs are accepted, the view is
+/// the same.
 pub fn batches_in_another_order()
     ensures { (batches others : List (List FileContent)) (after last : List FileContent)
         → ((f : FileContent) → Contains (sources batches) f → IsPlainFile f)

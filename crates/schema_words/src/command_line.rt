@@ -96,7 +96,8 @@ pub fn parse<'a>(alloc: Global, words: &'a [&'a str]) -> Result<ArgMatches<'a>, 
     command(alloc)?.try_get_matches_from(words)
 }
 
-/// What is asked of the payload, or of the schema itself; nothing where a word is missing that the command line requires.
+/// What is asked of the payload, or of the schema itself; nothing where a word is missing that the
+/// command line requires.
 fn asked_task<'m, 'a>(matches: &'m ArgMatches<'a>) -> Option<Task<'m>> {
     let action = match matches.get_str("action")? {
         "encode" => Action::Encode,
@@ -108,7 +109,8 @@ fn asked_task<'m, 'a>(matches: &'m ArgMatches<'a>) -> Option<Task<'m>> {
     Some(Task::Payload(action, matches.get_str("type")?))
 }
 
-/// What the words that were read ask for; nothing where a word is missing that the command line requires.
+/// What the words that were read ask for; nothing where a word is missing that the command line
+/// requires.
 pub fn requested<'m, 'a>(matches: &'m ArgMatches<'a>) -> Option<Request<'m>> {
     Some(Request {
         task: asked_task(matches)?,

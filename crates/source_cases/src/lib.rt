@@ -1,4 +1,5 @@
-//! Cases of the layers below the pool: tokens, sources as their records and places, records of no type and descriptor sets.
+//! Cases of the layers below the pool: tokens, sources as their records and places, records of no
+//! type and descriptor sets.
 #![tactic(auto)]
 
 mod options;

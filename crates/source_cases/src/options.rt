@@ -1,4 +1,5 @@
-//! Options beside the stored bytes of a record: those that linking reads, and those that a source wrote and no type has read yet.
+//! Options beside the stored bytes of a record: those that linking reads, and those that a source
+//! wrote and no type has read yet.
 
 use descriptor_records::{
     DescriptorProto, DoubleValue, FieldDescriptorProto, FileDescriptorProto, Options,
@@ -58,7 +59,8 @@ fn write_typed(out: &mut String, owner: &str, options: &Options) -> Result<(), A
     Ok(())
 }
 
-/// Writes a line for each option that linking reads, and for each that no type has read, behind the declaration's name.
+/// Writes a line for each option that linking reads, and for each that no type has read, behind the
+/// declaration's name.
 fn write_options(
     out: &mut String,
     owner: &Option<String>,

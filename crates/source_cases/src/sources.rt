@@ -42,7 +42,8 @@ fn tell_places(
     told.tell("comments", comments.as_str())
 }
 
-/// The record of a source, with and without its places, its options, and its places and comments alone; or the refusal.
+/// The record of a source, with and without its places, its options, and its places and comments
+/// alone; or the refusal.
 pub fn tell_parsed(alloc: Global, case: &Value, told: &mut Told<'_>) -> Result<(), AllocError> {
     match parse(alloc, text(case, "file"), text(case, "source")) {
         Ok(mut file) => {
@@ -79,8 +80,8 @@ fn tell_faults(
     told.tell("spans", spans.as_str())
 }
 
-/// A source's refusal: all faults with their places, the place of the first, the text in front of which it stands, and what it
-/// says with and without the place.
+/// A source's refusal: all faults with their places, the place of the first, the text in front of
+/// which it stands, and what it says with and without the place.
 pub fn tell_source_refusal(
     alloc: Global,
     told: &mut Told<'_>,

@@ -1,4 +1,5 @@
-//! The tokens of sources and of texts as they print, each behind its place and kind, and the fault that ends them.
+//! The tokens of sources and of texts as they print, each behind its place and kind, and the fault
+//! that ends them.
 
 use case_json::Told;
 use case_json::members::text;

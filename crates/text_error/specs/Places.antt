@@ -5,7 +5,8 @@ use Rattle.protox_lex.specs.declared.span.Span.{Span}
 use Rattle.text_error.specs.declared.error.ParseErrorKind.{ParseErrorKind}
 use Rattle.text_error.specs.declared.error.ParseErrorKind.TheVariants as kinds
 
--- the bytes at fault: none where the text ends too early, where a key suits no map, and where memory runs out
+-- the bytes at fault: none where the text ends too early, where a key suits no map, and where
+-- memory runs out
 abbrev pub place_of : ParseErrorKind → Option Span
 place_of (kinds.InvalidToken span) = Some span
 place_of (kinds.InvalidStringCharacters span) = Some span

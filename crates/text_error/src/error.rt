@@ -19,7 +19,8 @@ pub enum ParseErrorKind {
     InvalidStringCharacters {
         span: Span,
     },
-    /// A string literal has a backslash that begins no escape, or one that stands for no byte and no character.
+    /// A string literal has a backslash that begins no escape, or one that stands for no byte and
+    /// no character.
     InvalidStringEscape {
         span: Span,
     },
@@ -305,7 +306,8 @@ impl ParseError {
         &self.kind
     }
 
-    /// Where it is, in bytes from the start of the text; nothing where the text ended too early, and for what is nowhere in it.
+    /// Where it is, in bytes from the start of the text; nothing where the text ended too early,
+    /// and for what is nowhere in it.
     pub fn span(&self) -> Option<Range<usize>>
         ensures { result ≡ option_map bytes_of (place_of self.now.kind) }
     {

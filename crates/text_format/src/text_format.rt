@@ -8,14 +8,16 @@ use reflect_pool::MessageDescriptor;
 use reflect_print::{FormatOptions, WriteError, Writer};
 use std::alloc::Global;
 
-/// Messages as text, in protobuf's text format (protobuf.dev, "Text Format Language Specification").
+/// Messages as text, in protobuf's text format (protobuf.dev, "Text Format Language
+/// Specification").
 pub trait TextFormat<'p>: Sized {
     ghost use Rattle.reflect_message.specs.declared.message.DynamicMessage.{DynamicMessage};
 
     /// The message that it is.
     ghost message: { Self → DynamicMessage };
 
-    /// The message of a type that a text spells. Refused with the first fault of the text, as `merge_text_format` is.
+    /// The message of a type that a text spells. Refused with the first fault of the text, as
+    /// `merge_text_format` is.
     fn parse_text_format(
         alloc: Global,
         descriptor: MessageDescriptor<'p>,
@@ -25,8 +27,9 @@ pub trait TextFormat<'p>: Sized {
         ensures made { IfOk result (λ m. Makes descriptor.entry (message m)) }
         ensures refused { IfErr result (λ e. TrueOf descriptor.entry.pool.now e.kind) };
 
-    /// Reads a text into the message. The first fault ends it; the message then has the fields at the top that were read
-    /// before the fault, and for want of memory perhaps a part of the map or the `google.protobuf.Any` that was to be set.
+    /// Reads a text into the message. The first fault ends it; the message then has the fields at
+    /// the top that were read before the fault, and for want of memory perhaps a part of the map or
+    /// the `google.protobuf.Any` that was to be set.
     ///
     /// A name is called unknown only where its type, its enum or the pool has none such.
     fn merge_text_format(&mut self, text: &str) -> Result<(), ParseError>

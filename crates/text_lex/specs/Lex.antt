@@ -1,4 +1,5 @@
--- The piece at the front of a text, as it is cut: that of a source, but for `/`, for signs that a text does not have, and for the size of integers.
+-- The piece at the front of a text, as it is cut: that of a source, but for `/`, for signs that a
+-- text does not have, and for the size of integers.
 use Rattle.std.specs.Prelude.{ℕ, zero, suc, ◌+◌, ◌-◌, ◌&&◌, ◌||◌, if◌then◌else◌, ◌==◌, nat_lt, List, [], ◌∷◌, length, take, drop, slice_index, Option, Some, None, Result, Ok, Err}
 use Rattle.protox_lex.specs.Class.{Text}
 use Rattle.protox_lex.specs.Lex as source
@@ -20,7 +21,8 @@ Cut = Result (Piece × ℕ) LexError
 -- the integer that is written so
 abbrev pub int_of : Text → Token
 int_of z =
-    if slice_index z 0 == 48 && (slice_index z 1 == 120 || slice_index z 1 == 88) then int radix.Hexadecimal (drop 2 z)
+    if slice_index z 0 == 48 && (slice_index z 1 == 120 || slice_index z 1 == 88)
+    then int radix.Hexadecimal (drop 2 z)
     else if slice_index z 0 == 48 && nat_lt 1 (length z) then int radix.Octal (drop 1 z)
     else int radix.Decimal z
 
@@ -62,15 +64,20 @@ taken at None n = Err (errors.InvalidToken (from_to at 0 n))
 -- where a source has this fault
 abbrev pub refused : ℕ → Text → LexErrorKind → ℕ → ℕ → Cut
 refused at z kinds.IntegerOutOfRange start end = Ok (token (int_of (take end z)), end)
-refused at z kinds.InvalidStringCharacters start end = Err (errors.InvalidStringCharacters (from_to at start end))
-refused at z kinds.InvalidStringEscape start end = Err (errors.InvalidStringEscape (from_to at start end))
+refused at z kinds.InvalidStringCharacters start end =
+    Err (errors.InvalidStringCharacters (from_to at start end))
+refused at z kinds.InvalidStringEscape start end =
+    Err (errors.InvalidStringEscape (from_to at start end))
 refused at z kinds.UnterminatedString start end = Err errors.UnterminatedString
-refused at z kinds.NoSpaceBetweenIntAndIdent start end = Err (errors.NoSpaceBetweenIntAndIdent (from_to at start end))
+refused at z kinds.NoSpaceBetweenIntAndIdent start end =
+    Err (errors.NoSpaceBetweenIntAndIdent (from_to at start end))
 refused at z kinds.InvalidToken start end = Err (errors.InvalidToken (from_to at start end))
 refused at z kinds.NestedBlockComment start end = Err (errors.InvalidToken (from_to at start end))
 refused at z kinds.UnterminatedComment start end = Err (errors.InvalidToken (from_to at start end))
-refused at z kinds.HashCommentOutsideTextFormat start end = Err (errors.InvalidToken (from_to at start end))
-refused at z kinds.FloatSuffixOutsideTextFormat start end = Err (errors.InvalidToken (from_to at start end))
+refused at z kinds.HashCommentOutsideTextFormat start end =
+    Err (errors.InvalidToken (from_to at start end))
+refused at z kinds.FloatSuffixOutsideTextFormat start end =
+    Err (errors.InvalidToken (from_to at start end))
 
 -- where a source is cut so
 abbrev pub as_text : ℕ → Text → source.Cut → Cut

@@ -4,7 +4,8 @@ use Rattle.protox_lex.specs.Class.{Text}
 use Rattle.text_lex.specs.declared.lexer.LexError.{LexError}
 use Rattle.text_lex.specs.declared.token.Radix.{Radix}
 
--- An integer is kept as its digits and what they count in, a float as it is written, a string as what stands between its quotes, and a sign as its byte.
+-- An integer is kept as its digits and what they count in, a float as it is written, a string as
+-- what stands between its quotes, and a sign as its byte.
 pub data Token : Type 0 where
   ident : Text → Token
   int : Radix → Text → Token

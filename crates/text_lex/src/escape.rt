@@ -54,7 +54,8 @@ fn byte_at(raw: &[u8], radix: u32, most: usize) -> (Unit, &[u8])
     (Unit::Byte((number & 0xff) as u8), rest)
 }
 
-/// The character of digits, and what stands behind them. The lexer takes no escape of what is no character.
+/// The character of digits, and what stands behind them. The lexer takes no escape of what is no
+/// character.
 fn char_at(raw: &[u8], most: usize) -> (Unit, &[u8])
     ensures { length result.1.now ≤ length raw.now }
 {
@@ -65,7 +66,8 @@ fn char_at(raw: &[u8], most: usize) -> (Unit, &[u8])
     }
 }
 
-/// What the byte at the front, or the escape that begins there, stands for, and what stands behind it.
+/// What the byte at the front, or the escape that begins there, stands for, and what stands behind
+/// it.
 fn unit_at(raw: &[u8]) -> Option<(Unit, &[u8])>
     ensures { IfSome result (λ p. length p.1.now < length raw.now) }
 {
@@ -100,7 +102,8 @@ fn write_bytes<W: fmt::Write>(f: &mut fmt::Formatter<W>, bytes: &[u8]) -> fmt::R
     Ok(())
 }
 
-/// Writes the bytes that a literal's contents stand for: printable ASCII as itself, other bytes as escapes.
+/// Writes the bytes that a literal's contents stand for: printable ASCII as itself, other bytes as
+/// escapes.
 pub fn write_contents<W: fmt::Write>(f: &mut fmt::Formatter<W>, raw: &[u8]) -> fmt::Result {
     let mut rest = raw;
     'units: while let Some((unit, behind)) = unit_at(rest) {

@@ -21,5 +21,6 @@ pub fn one_reading()
 
 /// The tokens of a text stand in it one behind the other, and none is empty.
 pub fn tokens_are_in_order()
-    ensures { (at : ℕ) (z : Text) (ts : List Lexeme) → Lexes at z ts → InOrder at (at + length z) ts }
+    ensures { (at : ℕ) (z : Text) (ts : List Lexeme) → Lexes at z ts
+        → InOrder at (at + length z) ts }
 {}

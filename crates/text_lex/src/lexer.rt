@@ -1,6 +1,7 @@
 //! The tokens of a text, one after the other.
 //!
-//! They are those of a source, but for comments, for some signs and for integers, which may have any length.
+//! They are those of a source, but for comments, for some signs and for integers, which may have
+//! any length.
 
 ghost use Rattle.protox_lex.specs.Class.{is_in, past};
 ghost use Rattle.protox_lex.specs.Shown as source;
@@ -29,7 +30,8 @@ pub enum LexError {
     InvalidToken(Span),
     /// A NUL or a line end in a string.
     InvalidStringCharacters(Span),
-    /// A backslash in a string that begins no escape, or an escape that means no byte and no character.
+    /// A backslash in a string that begins no escape, or an escape that means no byte and no
+    /// character.
     InvalidStringEscape(Span),
     /// A string without its closing quote.
     UnterminatedString,
@@ -60,8 +62,10 @@ fn is_blank(b: u8) -> bool
 fn gap_end(text: &[u8], at: usize) -> usize
     requires { at ≤ length text.now }
     ensures within { (at ≤ result) × (result ≤ length text.now) }
-    ensures passed { spec.lexemes_from at 0 (drop at text.now) ≡ spec.lexemes_from result 0 (drop result text.now) }
-    ensures begins { (is_in class.Blank (slice_index text.now result) ≡ false) × ((slice_index text.now result == 35) ≡ false) }
+    ensures passed { spec.lexemes_from at 0 (drop at text.now)
+        ≡ spec.lexemes_from result 0 (drop result text.now) }
+    ensures begins { (is_in class.Blank (slice_index text.now result) ≡ false)
+        × ((slice_index text.now result == 35) ≡ false) }
 {
     let mut end = at;
     'gap: while end < text.len() {
@@ -87,8 +91,10 @@ fn integer_to(rest: &str, end: usize) -> Token<'_>
 
 /// What the token that a source has in its front is in a text.
 fn text_token<'a>(rest: &'a str, lexeme: protox_lex::Lexeme<'a>) -> Option<Token<'a>>
-    requires { (n : ℕ) → source.token_of lexeme.token ≡ int n → IsCharBoundary rest.now lexeme.span.end }
-    ensures { option_map token_of result ≡ spec.token_in (take lexeme.entry.span.end rest.now) (source.token_of lexeme.entry.token) }
+    requires { (n : ℕ) → source.token_of lexeme.token ≡ int n
+        → IsCharBoundary rest.now lexeme.span.end }
+    ensures { option_map token_of result
+        ≡ spec.token_in (take lexeme.entry.span.end rest.now) (source.token_of lexeme.entry.token) }
 {
     match lexeme.token {
         protox_lex::Token::Ident(text) => Some(Token::Ident(text)),
@@ -103,7 +109,8 @@ fn text_token<'a>(rest: &'a str, lexeme: protox_lex::Lexeme<'a>) -> Option<Token
 /// A token of so many bytes at a place, or the fault that none is there.
 fn taken(found: Option<Token<'_>>, at: usize, len: usize) -> Result<(Token<'_>, usize), LexError>
     requires { at + len < 2 ^ 64 }
-    ensures { source.Gives (λ p. (token (token_of p.0), p.1)) result (spec.taken at (option_map token_of found.entry) len) }
+    ensures { source.Gives (λ p. (token (token_of p.0), p.1)) result
+        (spec.taken at (option_map token_of found.entry) len) }
 {
     match found {
         Some(token) => Ok((token, len)),
@@ -114,12 +121,14 @@ fn taken(found: Option<Token<'_>>, at: usize, len: usize) -> Result<(Token<'_>, 
     }
 }
 
-/// The fault at a place where a source has this one in its front. An integer of any length is a token here.
+/// The fault at a place where a source has this one in its front. An integer of any length is a
+/// token here.
 fn refused(rest: &str, at: usize, error: SourceError) -> Result<(Token<'_>, usize), LexError>
     requires start { at + error.span.start < 2 ^ 64 }
     requires end { at + error.span.end < 2 ^ 64 }
     requires cut { error.kind ≡ kinds.IntegerOutOfRange → IsCharBoundary rest.now error.span.end }
-    ensures { source.Gives (λ p. (token (token_of p.0), p.1)) result (spec.refused at rest.now error.kind error.span.start error.span.end) }
+    ensures { source.Gives (λ p. (token (token_of p.0), p.1)) result
+        (spec.refused at rest.now error.kind error.span.start error.span.end) }
 {
     let span = Span {
         start: at + error.span.start,
@@ -143,7 +152,8 @@ fn refused(rest: &str, at: usize, error: SourceError) -> Result<(Token<'_>, usiz
 
 /// The sign that a byte is, whatever stands behind it. A point may begin a number.
 fn lone_sign(b: u8) -> Option<Token<'static>>
-    ensures sign { IfSome result (λ t. (at : ℕ) (rest : List ℕ) → slice_index rest 0 ≡ b → spec.front at rest ≡ Ok (token (token_of t), 1)) }
+    ensures sign { IfSome result (λ t. (at : ℕ) (rest : List ℕ) → slice_index rest 0 ≡ b
+        → spec.front at rest ≡ Ok (token (token_of t), 1)) }
     ensures other { IfNone result ((b == 47) ≡ false) }
 {
     match b {
@@ -167,7 +177,8 @@ fn lone_sign(b: u8) -> Option<Token<'static>>
 fn source_token(rest: &str, at: usize) -> Result<(Token<'_>, usize), LexError>
     requires some { 0 < length rest.now }
     requires fits { at + length rest.now < 2 ^ 64 }
-    requires begins { (is_in class.Blank (slice_index rest.now 0) ≡ false) × ((slice_index rest.now 0 == 35) ≡ false) }
+    requires begins { (is_in class.Blank (slice_index rest.now 0) ≡ false)
+        × ((slice_index rest.now 0 == 35) ≡ false) }
     requires slash { (slice_index rest.now 0 == 47) ≡ false }
     ensures { source.Gives (λ p. (token (token_of p.0), p.1)) result (spec.front at rest.now) }
 {
@@ -183,7 +194,8 @@ fn source_token(rest: &str, at: usize) -> Result<(Token<'_>, usize), LexError>
 fn front(rest: &str, at: usize) -> Result<(Token<'_>, usize), LexError>
     requires some { 0 < length rest.now }
     requires fits { at + length rest.now < 2 ^ 64 }
-    requires begins { (is_in class.Blank (slice_index rest.now 0) ≡ false) × ((slice_index rest.now 0 == 35) ≡ false) }
+    requires begins { (is_in class.Blank (slice_index rest.now 0) ≡ false)
+        × ((slice_index rest.now 0 == 35) ≡ false) }
     ensures { source.Gives (λ p. (token (token_of p.0), p.1)) result (spec.front at rest.now) }
 {
     match lone_sign(rest.as_bytes()[0]) {
@@ -194,8 +206,9 @@ fn front(rest: &str, at: usize) -> Result<(Token<'_>, usize), LexError>
 
 /// A text, and how far it is read.
 ///
-/// In contracts `stream` is the list of what is left: the tokens with their places, and at the first fault that fault and no more. `new` says
-/// that the list of a whole text is one that the longest match cuts it into (`Lexes` of specs/Longest.antt), by `laws::one_reading` there is no
+/// In contracts `stream` is the list of what is left: the tokens with their places, and at the
+/// first fault that fault and no more. `new` says that the list of a whole text is one that the
+/// longest match cuts it into (`Lexes` of specs/Longest.antt), by `laws::one_reading` there is no
 /// other such list, and `next` takes the first of what is left.
 #[derive(Clone, Copy)]
 pub struct Lexer<'a> {
@@ -209,7 +222,8 @@ impl<'a> Lexer<'a> {
     ghost use Rattle.text_lex.specs.Stream.{stream};
     ghost use Rattle.text_lex.specs.Unread.{unread};
 
-    /// A lexer at the front of a text, whose tokens are those that the longest match cuts it into (`laws`).
+    /// A lexer at the front of a text, whose tokens are those that the longest match cuts it into
+    /// (`laws`).
     pub fn new(text: &'a str) -> Lexer<'a>
         ensures { Lexes 0 text.now (stream result) }
     {
@@ -218,9 +232,12 @@ impl<'a> Lexer<'a> {
 
     /// The next token, or nothing at the end of the text. After an `Err` each call gives it again.
     pub fn next(&mut self) -> Result<Option<Lexeme<'a>>, LexError>
-        ensures ok { IfOk result (λ o. MatchOption o ((stream self.old ≡ []) × (stream self.new ≡ []))
-            (λ t. stream self.old ≡ token_at t.span.start t.span.end (token_of t.token) ∷ stream self.new)) }
-        ensures err { IfErr result (λ e. (stream self.old ≡ fault e ∷ []) × (stream self.new ≡ stream self.old)) }
+        ensures ok { IfOk result (λ o. MatchOption o
+            ((stream self.old ≡ []) × (stream self.new ≡ []))
+            (λ t. stream self.old ≡ token_at t.span.start t.span.end (token_of t.token)
+            ∷ stream self.new)) }
+        ensures err { IfErr result (λ e. (stream self.old ≡ fault e ∷ [])
+            × (stream self.new ≡ stream self.old)) }
         ensures moves { IfOk result (λ o. IfSome o (λ _. unread self.new < unread self.old)) }
     {
         let text = self.text;

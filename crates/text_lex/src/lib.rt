@@ -1,4 +1,5 @@
-//! Cuts a message's text into its tokens, each the longest that stands at its place, and says where they stand.
+//! Cuts a message's text into its tokens, each the longest that stands at its place, and says where
+//! they stand.
 #![tactic(auto)]
 
 mod escape;

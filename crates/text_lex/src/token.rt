@@ -51,7 +51,8 @@ impl<'a> Int<'a> {
 
 /// A token of the text format, lent from its text.
 ///
-/// It prints as it is written, but an integer without its prefix, and a string in `"` with its bytes escaped.
+/// It prints as it is written, but an integer without its prefix, and a string in `"` with its
+/// bytes escaped.
 #[derive(Clone, Copy, PartialEq)]
 pub enum Token<'a> {
     Ident(&'a str),
