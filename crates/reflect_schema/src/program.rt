@@ -1,7 +1,8 @@
 //! The program `schema`, over any files and any streams.
 
-ghost use Rattle.std.specs.Prelude.{◌≡◌};
+ghost use Rattle.std.specs.Prelude.{◌≡◌, Some};
 ghost use Rattle.reflect_schema.specs.Statuses.{status_of};
+ghost use Rattle.reflect_schema.specs.Texts.{said};
 
 use clap::error::ErrorKind;
 use schema_core::{Fault, Schema, SchemaError, serve, write_bytes};
@@ -50,6 +51,8 @@ impl RunFault {
 }
 
 impl fmt::Display for RunFault {
+    ghost output = { λ f. Some (said f) };
+
     fn fmt<W: fmt::Write>(&self, f: &mut fmt::Formatter<W>) -> fmt::Result {
         match self {
             RunFault::Schema(error) => write!(f, "{error}"),

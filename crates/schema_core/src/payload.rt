@@ -1,10 +1,11 @@
 //! One payload: read, translated, written.
 
-ghost use Rattle.std.specs.Prelude.{◌≡◌, ◌≢◌, ◌⊎◌, true, false, ◌∷◌, ◌++◌, ◌-◌, ◌≤◌, [], ℕ, List, length, slice_index, IfOk, IfErr, IfSome, OnOk, string_bytes, IsUtf8, Ok, IsErr};
+ghost use Rattle.std.specs.Prelude.{◌≡◌, ◌≢◌, ◌⊎◌, true, false, ◌∷◌, ◌++◌, ◌-◌, ◌≤◌, [], ℕ, List, length, slice_index, IfOk, IfErr, IfSome, OnOk, string_bytes, IsUtf8, Ok, IsErr, Some};
 ghost use Rattle.std.specs.List.{AllPass};
 ghost use Rattle.std.specs.Io.KnownBytes.{Appends, IsAtEnd, Keeps};
 ghost use Rattle.hex.specs.Hex.{decode_of};
 ghost use Rattle.schema_core.specs.Serving.{Answers, IsNoHex, IsPayload, IsTrimmed, Refuses, is_margin, shown};
+ghost use Rattle.schema_core.specs.Texts.{told};
 ghost use Rattle.schema_core.specs.declared.payload.Fault.TheVariants as fault;
 
 use crate::error::SchemaError;
@@ -12,25 +13,38 @@ use crate::schema::Schema;
 use hex::FromHexError;
 use schema_words::Action;
 use std::alloc::{AllocError, AllocFailed, Global};
+use std::error::Error;
+use std::fmt;
 use std::io::{ErrorKind, Read, Write};
-use thiserror::Error;
 
 /// Why a payload was not answered.
-#[derive(Debug, Drop, Error)]
+#[derive(Debug, Drop)]
 pub enum Fault {
-    #[error("{0}")]
+    /// The schema refuses it.
     Schema(SchemaError),
-    #[error("the input is not hexadecimal")]
     NotHex,
-    #[error("the input is not UTF-8")]
     NotUtf8,
-    #[error("the input cannot be read")]
     Read,
-    #[error("the output cannot be written")]
     Write,
-    #[error("out of memory")]
     Memory,
 }
+
+impl fmt::Display for Fault {
+    ghost output = { λ f. Some (told f) };
+
+    fn fmt<W: fmt::Write>(&self, f: &mut fmt::Formatter<W>) -> fmt::Result {
+        match self {
+            Fault::Schema(error) => write!(f, "{error}"),
+            Fault::NotHex => f.write_str("the input is not hexadecimal"),
+            Fault::NotUtf8 => f.write_str("the input is not UTF-8"),
+            Fault::Read => f.write_str("the input cannot be read"),
+            Fault::Write => f.write_str("the output cannot be written"),
+            Fault::Memory => f.write_str("out of memory"),
+        }
+    }
+}
+
+impl Error for Fault {}
 
 impl From<SchemaError> for Fault {
     ghost use Rattle.schema_core.specs.Serving.{of_schema};
