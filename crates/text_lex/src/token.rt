@@ -102,8 +102,13 @@ impl Token<'static> {
 }
 
 impl Token<'_> {
+    ghost use Rattle.text_lex.specs.Printed.{plain_text};
+    ghost use Rattle.text_lex.specs.Shown.{token_of};
+
     /// What the token prints; nothing of a string, which prints its bytes.
-    fn text(&self) -> &str {
+    fn text(&self) -> &str
+        ensures { result.now ≡ plain_text (token_of self.now) }
+    {
         match self {
             Token::Ident(text) | Token::FloatLiteral(text) => text,
             Token::IntLiteral(int) => int.digits,
@@ -125,6 +130,11 @@ impl Token<'_> {
 }
 
 impl fmt::Display for Token<'_> {
+    ghost use Rattle.text_lex.specs.Printed.{printed};
+    ghost use Rattle.text_lex.specs.Shown.{token_of};
+
+    ghost output = { λ t. printed (token_of t) };
+
     fn fmt<W: fmt::Write>(&self, f: &mut fmt::Formatter<W>) -> fmt::Result {
         match self {
             Token::StringLiteral(raw) => {

@@ -1,10 +1,11 @@
 -- Which fault is told where what is wanted does not stand at the front of lexemes.
-use Rattle.std.specs.Prelude.{◌≡◌, Bool, true, false, List, [], ◌∷◌, codes}
+use Rattle.std.specs.Prelude.{◌≡◌, Bool, true, false, List, [], ◌∷◌, Option, None, Some, codes, string_bytes}
 use Rattle.protox_lex.specs.Class.{Text}
 use Rattle.protox_lex.specs.declared.span.Span.{Span}
 use Rattle.text_lex.specs.declared.lexer.LexError.{LexError}
 use Rattle.text_lex.specs.declared.lexer.LexError.TheVariants as lexical
-use Rattle.text_lex.specs.Token.{Lexeme, token_at, fault}
+use Rattle.text_lex.specs.Printed.{printed}
+use Rattle.text_lex.specs.Token.{Token, Lexeme, token_at, fault}
 use Rattle.text_error.specs.declared.error.ParseErrorKind.{ParseErrorKind}
 use Rattle.text_error.specs.declared.error.ParseErrorKind.TheVariants as kinds
 use Rattle.text_scalars.specs.Front.{from_to}
@@ -35,17 +36,22 @@ IsLexical (lexical.InvalidStringEscape s) kind = kind ≡ kinds.InvalidStringEsc
 IsLexical (lexical.NoSpaceBetweenIntAndIdent s) kind = kind ≡ kinds.NoSpaceBetweenIntAndIdent s
 IsLexical lexical.UnterminatedString kind = IsEnd (codes "string terminator") kind
 
+-- a token is told as it prints, where that is said
+abbrev pub IsFound : Option Text → Text → Type 0
+IsFound (Some printed) found = found ≡ printed
+IsFound None found = Unit {0}
+
 -- a token of these bytes stands where these words say what is expected, or memory ran out
-abbrev pub IsToken : Text → Span → ParseErrorKind → Type 0
-IsToken words bytes (kinds.UnexpectedToken expected found span) =
-    (expected.now ≡ words) × (span ≡ bytes)
-IsToken words bytes kinds.Memory = Unit {0}
-IsToken words bytes _ = ⊥
+abbrev pub IsToken : Text → Token → Span → ParseErrorKind → Type 0
+IsToken words t bytes (kinds.UnexpectedToken expected found span) =
+    (expected.now ≡ words) × IsFound (printed t) (string_bytes found) × (span ≡ bytes)
+IsToken words t bytes kinds.Memory = Unit {0}
+IsToken words t bytes _ = ⊥
 
 -- the lexeme at the front is refused, where these words say what is expected
 abbrev pub IsUnexpected : Text → List Lexeme → ParseErrorKind → Type 0
 IsUnexpected words [] kind = IsEnd words kind
-IsUnexpected words (token_at start end t ∷ ls) kind = IsToken words (from_to start end) kind
+IsUnexpected words (token_at start end t ∷ ls) kind = IsToken words t (from_to start end) kind
 IsUnexpected words (fault e ∷ ls) kind = IsLexical e kind
 
 -- the fault at the front is told

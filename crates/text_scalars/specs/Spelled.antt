@@ -7,7 +7,8 @@ use Rattle.text_model.specs.Tokens.{name_tokens, scalar_tokens}
 use Rattle.text_scalars.specs.Front.{fault_at, literal_in, next}
 use Rattle.text_scalars.specs.Scalars.{Found}
 
--- the lexemes, which begin behind a place, are these tokens, up to another place, and others behind them
+-- the lexemes, which begin behind a place, are these tokens, up to another place, and others
+-- behind them
 abbrev pub Begin : List Token → ℕ → List Lexeme → ℕ → List Lexeme → Type 0
 Begin [] place ls stop rest = (stop ≡ place) × (rest ≡ ls)
 Begin (t ∷ ts) place (token_at start end u ∷ ls) stop rest = (u ≡ t) × Begin ts end ls stop rest
@@ -30,6 +31,7 @@ pub record IsScalar (ls : List Lexeme) (f : Found) : Type 0 where
   pub follows : Follows f.value f.rest
 
 -- the name stands at the front, in these bytes, and the rest behind it
-pub record IsName (ls : List Lexeme) (n : FieldName) (span : Span) (rest : List Lexeme) : Type 0 where
+pub record IsName (ls : List Lexeme) (n : FieldName) (span : Span) (rest : List Lexeme)
+    : Type 0 where
   pub begin : Begin (name_tokens n) 0 ls span.end rest
   pub start : span.start ≡ start_of ls

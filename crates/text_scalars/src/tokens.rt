@@ -68,8 +68,8 @@ fn is_this_sign(token: Token<'_>, sign: u8) -> bool
 
 /// A text, and the first of its tokens that is not taken.
 ///
-/// In contracts `remaining` is the list of the lexemes that are not taken: tokens with their places,
-/// and at the first fault that fault and no more.
+/// In contracts `remaining` is the list of the lexemes that are not taken: tokens with their
+/// places, and at the first fault that fault and no more.
 #[derive(Drop)]
 pub struct Tokens<'a> {
     pub alloc: Global,
