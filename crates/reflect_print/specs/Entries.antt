@@ -16,8 +16,8 @@ use Rattle.reflect_access.specs.Walked.{Holding, set_fields_of, set_extensions_o
 use Rattle.text_lines.specs.declared.options.FormatOptions.{FormatOptions}
 use Rattle.reflect_print.specs.Pairwise.{Pairwise}
 
--- a declared field or an extension with its value, and the pool that it stands in; or a record of an
--- undeclared number
+-- a declared field or an extension with its value, and the pool that it stands in; or a record of
+-- an undeclared number
 pub data Entry : Type 0 where
   field : PoolType → FieldType → Value → Entry
   extension : PoolType → FieldType → Value → Entry
@@ -50,7 +50,8 @@ known_fields m =
     filter_map (λ f. known_field (pool_of m) m.descriptor.index f.number)
     (type_at (pool_of m) m.descriptor.index).fields
 
--- a field that is set; where defaults are not left out, also one that cannot differ from its default
+-- a field that is set; where defaults are not left out, also one that cannot differ from its
+-- default
 abbrev pub is_printed : FormatOptions → DynamicMessage → FieldType → Bool
 is_printed form m f =
     (not form.skip_default_fields && not f.presence) || is_held (pool_of m) f (held_under m f)
@@ -60,7 +61,8 @@ printed_fields form m = filter (is_printed form m) (known_fields m)
 
 -- the field with what it holds, or its default
 abbrev pub IsFieldOf : DynamicMessage → FieldType → Entry → Type 0
-IsFieldOf m f e = (v : Value) × IsHeldOrDefault (pool_of m) f (held_under m f) v × (e ≡ field (pool_of m) f v)
+IsFieldOf m f e =
+    (v : Value) × IsHeldOrDefault (pool_of m) f (held_under m f) v × (e ≡ field (pool_of m) f v)
 
 abbrev pub set_entry : DynamicMessage → Holding → Entry
 set_entry m h = field (pool_of m) h.0 h.1
@@ -88,8 +90,8 @@ AreChosen form m es =
     (found : List Entry) × ArePrinted form m found
     × IsArranged form.in_index_order found es
 
--- the declared fields that are printed: where only those that are set are, by ascending number, they
--- come as the walk over the message gives them
+-- the declared fields that are printed: where only those that are set are, by ascending number,
+-- they come as the walk over the message gives them
 abbrev pub AreDeclared : FormatOptions → DynamicMessage → List Entry → Type 0
 AreDeclared form m es =
     cond (form.skip_default_fields && not form.in_index_order)

@@ -39,7 +39,8 @@ pub record IsUnder (m : DynamicMessage) (n : ℕ) (v : Value) : Type 0 where
   pub field : FieldDescriptor
   pub declared : Declares m.descriptor field
   pub number : (field_type field).number ≡ n
-  pub value : IsHeldOrDefault (field_pool field) (field_type field) (value_at (fields_of m) (field_type field).number) v
+  pub value : IsHeldOrDefault (field_pool field) (field_type field)
+      (value_at (fields_of m) (field_type field).number) v
 
 -- the byte stands nowhere in the text
 abbrev pub Lacks : ℕ → List ℕ → Type 0
@@ -49,7 +50,8 @@ Lacks b z = (i : ℕ) → i < length z → slice_index_or z i 0 ≡ b → ⊥
 abbrev pub FindsByUrl : PoolType → List ℕ → Option MessageDescriptor → Type 0
 FindsByUrl pool url found =
     (Lacks 47 url × (found ≡ None))
-    ⊎ ((front name : List ℕ) × (url ≡ front ++ 47 ∷ name) × Lacks 47 name × FindsMessage pool name found)
+    ⊎ ((front name : List ℕ) × (url ≡ front ++ 47 ∷ name) × Lacks 47 name
+    × FindsMessage pool name found)
 
 -- bytes are refused for what they are
 abbrev pub IsFault : WireError → Type 0
@@ -62,12 +64,19 @@ IsFault _ = Unit {0}
 pub data Expands : DynamicMessage → Option (List ℕ × DynamicMessage) → Type 0 where
   other : {m : DynamicMessage} → (IsAny m.descriptor → ⊥) → Expands m None
   without_url : {m : DynamicMessage} (u : Value) → IsUnder m 1 u → text_of u ≡ None → Expands m None
-  without_type : {m : DynamicMessage} (u : Value) (url : List ℕ) → IsUnder m 1 u → text_of u ≡ Some url
+  without_type : {m : DynamicMessage} (u : Value) (url : List ℕ) → IsUnder m 1 u
+      → text_of u ≡ Some url
       → FindsByUrl m.descriptor.pool.now url None → Expands m None
-  without_bytes : {m : DynamicMessage} (b : Value) → IsUnder m 2 b → bytes_of b ≡ None → Expands m None
-  refused : {m : DynamicMessage} (u b : Value) (url bytes : List ℕ) (d : MessageDescriptor) (e : WireError)
-      → IsUnder m 1 u → text_of u ≡ Some url → FindsByUrl m.descriptor.pool.now url (Some d) → d.pool.now ≡ m.descriptor.pool.now
+  without_bytes : {m : DynamicMessage} (b : Value) → IsUnder m 2 b → bytes_of b ≡ None
+      → Expands m None
+  refused : {m : DynamicMessage} (u b : Value) (url bytes : List ℕ) (d : MessageDescriptor)
+      (e : WireError)
+      → IsUnder m 1 u → text_of u ≡ Some url → FindsByUrl m.descriptor.pool.now url (Some d)
+      → d.pool.now ≡ m.descriptor.pool.now
       → IsUnder m 2 b → bytes_of b ≡ Some bytes → IsFault e → TellsWhy d bytes e → Expands m None
-  holds : {m : DynamicMessage} (u b : Value) (url bytes : List ℕ) (d : MessageDescriptor) (body : DynamicMessage)
-      → IsAny m.descriptor → IsUnder m 1 u → text_of u ≡ Some url → FindsByUrl m.descriptor.pool.now url (Some d) → d.pool.now ≡ m.descriptor.pool.now
-      → IsUnder m 2 b → bytes_of b ≡ Some bytes → body.descriptor ≡ d → IsSpelled d bytes body → Expands m (Some (url, body))
+  holds : {m : DynamicMessage} (u b : Value) (url bytes : List ℕ) (d : MessageDescriptor)
+      (body : DynamicMessage)
+      → IsAny m.descriptor → IsUnder m 1 u → text_of u ≡ Some url
+      → FindsByUrl m.descriptor.pool.now url (Some d) → d.pool.now ≡ m.descriptor.pool.now
+      → IsUnder m 2 b → bytes_of b ≡ Some bytes → body.descriptor ≡ d → IsSpelled d bytes body
+      → Expands m (Some (url, body))

@@ -34,7 +34,10 @@ kind_held (Some k) = kind_view k
 -- what a map's values are, by the type of its entries
 abbrev pub entry_value_kind : PoolType → KindType → Named
 entry_value_kind pool (message i) =
-    elim (type_at pool i).entry [ None ↦ None | Some e ↦ named pool (type_of_field pool i e.value).kind ]
+    elim (type_at pool i).entry [
+      | None ↦ None
+      | Some e ↦ named pool (type_of_field pool i e.value).kind
+    ]
 entry_value_kind pool _ = None
 
 abbrev pub value_kind : Named → Named

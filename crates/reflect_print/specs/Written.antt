@@ -50,7 +50,8 @@ IsExpansion form x m None = (MayExpand form x → ⊥) ⊎ Expands m None
 IsExpansion form x m (Some h) = MayExpand form x × Expands m (Some (url_of h, h.body))
 
 -- the text of entries in a row, behind the items that were there; these are then all
-abbrev pub IsSpan : FormatOptions → ℕ → ℕ → ℕ → Items → Items → (List Entry → Type 0) → List ℕ → Type 0
+abbrev pub IsSpan : FormatOptions → ℕ → ℕ → ℕ → Items → Items → (List Entry → Type 0) → List ℕ
+    → Type 0
 IsSpan form payloads x i old new Are text =
     (es : List Entry) × Are es × IsRowText form payloads x i old.in_braces old.any es text
     × (new ≡ record old { any = any_behind old.any es })

@@ -38,7 +38,8 @@ pub fn declared_fields<'m, 'p>(
     message: &'m DynamicMessage<'p>,
     options: FormatOptions,
 ) -> Result<Vec<Declared<'m, 'p>>, WriteError>
-    ensures { IfOk result (λ fields. AreChosen options message.now (map declared_entry fields.items)) }
+    ensures { IfOk result
+        (λ fields. AreChosen options message.now (map declared_entry fields.items)) }
 {
     let mut fields = printed_fields(alloc, message, options)?;
     if options.in_index_order {
@@ -54,7 +55,8 @@ fn printed_fields<'m, 'p>(
     message: &'m DynamicMessage<'p>,
     options: FormatOptions,
 ) -> Result<Vec<Declared<'m, 'p>>, WriteError>
-    ensures { IfOk result (λ fields. ArePrinted options message.now (map declared_entry fields.items)) }
+    ensures { IfOk result
+        (λ fields. ArePrinted options message.now (map declared_entry fields.items)) }
 {
     let mut fields = Vec::new(alloc);
     for declared in message.descriptor().fields() {
@@ -152,7 +154,8 @@ fn push_extension<'m, 'p>(
     value: &'m Value<'p>,
 ) -> Result<(), WriteError>
     ensures { OnOk result (map other_entry others.new.items
-        ≡ map other_entry others.old.items ++ option_list (known_entry message.now number value.now)) }
+        ≡ map other_entry others.old.items
+        ++ option_list (known_entry message.now number value.now)) }
 {
     if let Some(extension) = declared_extension(message.descriptor(), number) {
         others.push(Other::Extension(extension, value))?;
