@@ -1,2 +1,11 @@
-pub mod Appending
-pub mod Rows
+pub mod Answering
+pub mod AnyParts
+pub mod Choosing
+pub mod EnumNames
+pub mod Listing
+pub mod Loops
+pub mod NamedKinds
+pub mod Parts
+pub mod Spans
+pub mod Urls
+pub mod Viewed

@@ -1,5 +1,6 @@
-pub mod Appends
-pub mod Errors
-pub mod Forms
-pub mod Pieces
-pub mod UnknownTexts
+pub mod Entries
+pub mod Expands
+pub mod MessageTexts
+pub mod Named
+pub mod Pairwise
+pub mod Written

@@ -1,12 +1,28 @@
 //! What a message prints, in order.
 
-use crate::error::WriteError;
-use crate::options::FormatOptions;
-use reflect_access::{FieldsByNumber, MessageWalks};
-use reflect_message::{DynamicMessage, FieldRef, Value};
+ghost use Rattle.std.specs.Prelude.{◌≡◌, ◌++◌, IfOk, OnOk, map};
+ghost use Rattle.reflect_message.specs.Held.{unknown_of};
+ghost use Rattle.reflect_pool.specs.FieldsLeft.{field_type};
+ghost use Rattle.reflect_print.specs.Entries.{
+  AreChosen,
+  AreOthers,
+  ArePrinted,
+  PutsField,
+  extension_entries,
+  is_printed,
+  known_entry,
+  number_of,
+  option_list,
+  undeclared,
+};
+ghost use Rattle.reflect_print.specs.Written.{declared_entry, other_entry};
+
+use reflect_access::MessageWalks;
+use reflect_message::{DynamicMessage, FieldRef, Value, declared_extension, declared_field};
 use reflect_pool::{ExtensionDescriptor, FieldDescriptor};
 use reflect_wire::UnknownField;
 use std::alloc::Global;
+use text_lines::{FormatOptions, WriteError};
 
 /// A declared field that is printed, with its value.
 #[derive(Drop)]
@@ -21,33 +37,64 @@ pub fn declared_fields<'m, 'p>(
     alloc: Global,
     message: &'m DynamicMessage<'p>,
     options: FormatOptions,
-) -> Result<Vec<Declared<'m, 'p>>, WriteError> {
-    let mut fields = Vec::new(alloc);
-    for field in message.descriptor().fields() {
-        if !is_printed(message, &field, options) {
-            continue;
-        }
-        if let Some(value) = message.get_field_by_number(field.number())? {
-            fields.push(Declared { field, value })?;
-        }
+) -> Result<Vec<Declared<'m, 'p>>, WriteError>
+    ensures { IfOk result
+        (λ fields. AreChosen options message.now (map declared_entry fields.items)) }
+{
+    let mut fields = printed_fields(alloc, message, options)?;
+    if options.in_index_order {
+        return Ok(fields);
     }
-    if !options.in_index_order {
-        fields.sort_by_key(|entry| entry.field.number())?;
+    fields.sort_by_key(|entry| entry.field.number())?;
+    Ok(fields)
+}
+
+/// The declared fields that are printed with these options, as they are declared.
+fn printed_fields<'m, 'p>(
+    alloc: Global,
+    message: &'m DynamicMessage<'p>,
+    options: FormatOptions,
+) -> Result<Vec<Declared<'m, 'p>>, WriteError>
+    ensures { IfOk result
+        (λ fields. ArePrinted options message.now (map declared_entry fields.items)) }
+{
+    let mut fields = Vec::new(alloc);
+    for declared in message.descriptor().fields() {
+        if let Some(field) = declared_field(message.descriptor(), declared.number()) {
+            push_field(&mut fields, message, field, options)?;
+        }
     }
     Ok(fields)
 }
 
+/// Puts the field behind the others, if it is printed.
+fn push_field<'m, 'p>(
+    fields: &mut Vec<Declared<'m, 'p>>,
+    message: &'m DynamicMessage<'p>,
+    field: FieldDescriptor<'p>,
+    options: FormatOptions,
+) -> Result<(), WriteError>
+    requires { field.message ≡ message.now.descriptor }
+    ensures { OnOk result (PutsField options message.now (field_type field.entry)
+        (map declared_entry fields.old.items) (map declared_entry fields.new.items)) }
+{
+    if is_field_printed(message, &field, options) {
+        let value = message.get_field(&field)?;
+        fields.push(Declared { field, value })?;
+    }
+    Ok(())
+}
+
 /// The field is set, or it cannot differ from its default and defaults are printed.
-fn is_printed<'p>(
+fn is_field_printed<'p>(
     message: &DynamicMessage<'p>,
     field: &FieldDescriptor<'p>,
     options: FormatOptions,
-) -> bool {
-    if !message.declares(field) {
-        return false;
-    }
-    let is_default = !options.skip_default_fields && !field.supports_presence();
-    is_default || message.has_field_by_number(field.number())
+) -> bool
+    requires { field.now.message ≡ message.now.descriptor }
+    ensures { result ≡ is_printed options message.now (field_type field.now) }
+{
+    (!options.skip_default_fields && !field.supports_presence()) || message.has_field(field)
 }
 
 /// What is printed behind the declared fields.
@@ -58,7 +105,9 @@ pub enum Other<'m, 'p> {
 }
 
 impl Other<'_, '_> {
-    fn number(&self) -> u32 {
+    fn number(&self) -> u32
+        ensures { result ≡ number_of (other_entry self.now) }
+    {
         match self {
             Other::Extension(extension, _) => extension.number(),
             Other::Unknown(record) => record.number(),
@@ -71,22 +120,56 @@ pub fn other_entries<'m, 'p>(
     alloc: Global,
     message: &'m DynamicMessage<'p>,
     options: FormatOptions,
-) -> Result<Vec<Other<'m, 'p>>, WriteError> {
+) -> Result<Vec<Other<'m, 'p>>, WriteError>
+    ensures { IfOk result (λ others. AreOthers options message.now (map other_entry others.items)) }
+{
     let mut others = Vec::new(alloc);
+    push_extensions(&mut others, message)?;
+    if options.skip_unknown_fields {
+        return Ok(others);
+    }
+    push_unknown(&mut others, message)?;
+    others.sort_by_key(|other| other.number())?;
+    Ok(others)
+}
+
+fn push_extensions<'m, 'p>(
+    others: &mut Vec<Other<'m, 'p>>,
+    message: &'m DynamicMessage<'p>,
+) -> Result<(), WriteError>
+    ensures { OnOk result (map other_entry others.new.items
+        ≡ map other_entry others.old.items ++ extension_entries message.now) }
+{
     for (extension, value) in message.extensions() {
+        push_extension(others, message, extension.number(), value)?;
+    }
+    Ok(())
+}
+
+/// Puts the extension of the number behind the others: the one that the message's own type says.
+fn push_extension<'m, 'p>(
+    others: &mut Vec<Other<'m, 'p>>,
+    message: &'m DynamicMessage<'p>,
+    number: u32,
+    value: &'m Value<'p>,
+) -> Result<(), WriteError>
+    ensures { OnOk result (map other_entry others.new.items
+        ≡ map other_entry others.old.items
+        ++ option_list (known_entry message.now number value.now)) }
+{
+    if let Some(extension) = declared_extension(message.descriptor(), number) {
         others.push(Other::Extension(extension, value))?;
     }
-    if !options.skip_unknown_fields {
-        push_unknown(&mut others, message)?;
-        others.sort_by_key(|other| other.number())?;
-    }
-    Ok(others)
+    Ok(())
 }
 
 fn push_unknown<'m, 'p>(
     others: &mut Vec<Other<'m, 'p>>,
     message: &'m DynamicMessage<'p>,
-) -> Result<(), WriteError> {
+) -> Result<(), WriteError>
+    ensures { OnOk result (map other_entry others.new.items
+        ≡ map other_entry others.old.items ++ map undeclared (unknown_of message.now)) }
+{
     for record in message.unknown_fields() {
         others.push(Other::Unknown(record))?;
     }

@@ -3,13 +3,8 @@
 
 mod any;
 mod entries;
-mod error;
-mod options;
-mod output;
-mod place;
-mod unknown;
+mod messages;
 mod writer;
 
-pub use error::WriteError;
-pub use options::FormatOptions;
+pub use text_lines::{FormatOptions, WriteError};
 pub use writer::Writer;

@@ -1,0 +1,23 @@
+use Rattle.std.proofs.Common.{rules, ◌≡◌, ◌∷◌, [], Some, ap, ◌∙◌}
+use Rattle.reflect_pool.specs.FieldsLeft.{field_type, fields_left}
+use Rattle.reflect_pool.specs.declared.message.MessageDescriptor.{MessageDescriptor}
+use Rattle.reflect_message.specs.Known.{known_field}
+use Rattle.reflect_print.proofs.Choosing.{all_chosen, one_put}
+use Rattle.reflect_print.proofs.entries.printed_fields.Goals as goal
+
+pub loop-declared-preserved-in-Continue-1 : goal.loop-declared-preserved-in-Continue-1
+loop-declared-preserved-in-Continue-1 c =
+    let d = c.args.message.now.descriptor in
+    let g = field_type c.in-Some.declared in
+    let f = c.in-Some-declared_field.field in
+    let step : fields_left c.loop-declared.declared-iterator ≡ g ∷ fields_left c.next.new.self = search rules in
+    let known : Some (field_type f) ≡ known_field d.pool.now d.index g.number =
+    c.in-Some-declared_field.ensures.known
+    ∙ ap (λ (m : MessageDescriptor). known_field m.pool.now m.index c.number.result) c.descriptor-in-loop-declared.ensures
+    ∙ ap (known_field d.pool.now d.index) c.number.ensures in
+    one_put c.args.options c.args.message.now _ _ g (field_type f) _ _ step known c.in_ok-push_field.ensures c.loop-declared.invariant
+
+pub returns : goal.returns
+returns c =
+    let none : fields_left c.loop-declared.declared-iterator ≡ [] = search rules in
+    all_chosen c.args.options c.args.message.now _ _ none c.loop-declared.invariant

@@ -1,0 +1,12 @@
+use Rattle.std.proofs.Common.{◌≡◌, ◌++◌, map}
+use Rattle.reflect_message.specs.Held.{unknown_of}
+use Rattle.reflect_access.specs.Left.{records_left}
+use Rattle.reflect_print.specs.Entries.{undeclared}
+use Rattle.reflect_print.specs.Written.{other_entry}
+use Rattle.reflect_print.proofs.entries.push_unknown.Given as goal
+
+-- those that were put and those that are left are all
+abbrev pub invariant-loop-record : goal.invariant-loop-record
+invariant-loop-record l =
+    map other_entry l.others.items ++ map undeclared (records_left l.record-iterator)
+    ≡ map other_entry l.initial.others.items ++ map undeclared (unknown_of l.message)

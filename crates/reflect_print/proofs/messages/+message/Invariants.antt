@@ -1,0 +1,94 @@
+use Rattle.std.proofs.Common.{◌≡◌, ◌+◌, ◌*◌, ◌∷◌, [], drop, true, map}
+use Rattle.reflect_access.specs.Walked.{fields_left}
+use Rattle.text_lines.proofs.Fronts.{IsFront}
+use Rattle.reflect_print.specs.Entries.{set_entries}
+use Rattle.reflect_print.specs.MessageTexts.{IsListText, IsMapText}
+use Rattle.reflect_print.specs.Named.{kind_given, kind_held}
+use Rattle.reflect_print.specs.Written.{declared_entry, other_entry}
+use Rattle.reflect_print.proofs.Spans.{IsSpanFront, given_entry}
+use Rattle.reflect_print.proofs.messages.+message.Given as goal
+
+abbrev pub decreases-braced_message : goal.decreases-braced_message
+decreases-braced_message g l = 16 * l.at.levels
+
+abbrev pub decreases-items : goal.decreases-items
+decreases-items g l = 16 * l.at.levels + 12
+
+abbrev pub decreases-entries : goal.decreases-entries
+decreases-entries g l = 16 * l.at.levels + 11
+
+abbrev pub decreases-expansion : goal.decreases-expansion
+decreases-expansion g l = 16 * l.at.levels + 11
+
+abbrev pub decreases-declared : goal.decreases-declared
+decreases-declared g l = 16 * l.at.levels + 10
+
+abbrev pub decreases-others : goal.decreases-others
+decreases-others g l = 16 * l.at.levels + 10
+
+abbrev pub decreases-set_fields : goal.decreases-set_fields
+decreases-set_fields g l = 16 * l.at.levels + 9
+
+abbrev pub decreases-chosen_fields : goal.decreases-chosen_fields
+decreases-chosen_fields g l = 16 * l.at.levels + 9
+
+abbrev pub decreases-other_text : goal.decreases-other_text
+decreases-other_text g l = 16 * l.at.levels + 9
+
+abbrev pub decreases-field_text : goal.decreases-field_text
+decreases-field_text g l = 16 * l.at.levels + 8
+
+abbrev pub decreases-extension_text : goal.decreases-extension_text
+decreases-extension_text g l = 16 * l.at.levels + 8
+
+abbrev pub decreases-entry_value : goal.decreases-entry_value
+decreases-entry_value g l = 16 * l.at.levels + 8
+
+abbrev pub decreases-named_value : goal.decreases-named_value
+decreases-named_value g l = 16 * l.at.levels + 7
+
+abbrev pub decreases-value_text : goal.decreases-value_text
+decreases-value_text g l = 16 * l.at.levels + 6
+
+abbrev pub decreases-list : goal.decreases-list
+decreases-list g l = 16 * l.at.levels + 5
+
+abbrev pub decreases-map : goal.decreases-map
+decreases-map g l = 16 * l.at.levels + 5
+
+abbrev pub decreases-pair : goal.decreases-pair
+decreases-pair g l = 16 * l.at.levels + 4
+
+abbrev pub invariant-set_fields-each : goal.invariant-set_fields-each
+invariant-set_fields-each g l =
+    IsSpanFront g.W.Write.write_str_gives l.fn.lines.options l.fn.at.payloads l.fn.at.expansions l.fn.at.indent
+    l.fn.lines.output.now l.fn.items (set_entries l.fn.message)
+    l.lines.output.now l.items l.lines.options (map given_entry (fields_left l.field-iterator))
+
+abbrev pub invariant-chosen_fields-each : goal.invariant-chosen_fields-each
+invariant-chosen_fields-each g l =
+    IsSpanFront g.W.Write.write_str_gives l.fn.lines.options l.fn.at.payloads l.fn.at.expansions l.fn.at.indent
+    l.fn.lines.output.now l.fn.items (map declared_entry l.entry-items)
+    l.lines.output.now l.items l.lines.options (map declared_entry (drop l.entry-index l.entry-items))
+
+abbrev pub invariant-others-each : goal.invariant-others-each
+invariant-others-each g l =
+    IsSpanFront g.W.Write.write_str_gives l.fn.lines.options l.fn.at.payloads l.fn.at.expansions l.fn.at.indent
+    l.fn.lines.output.now l.fn.items (map other_entry l.other-items)
+    l.lines.output.now l.items l.lines.options (map other_entry (drop l.other-index l.other-items))
+
+abbrev pub invariant-list-each : goal.invariant-list-each
+invariant-list-each g l = record {
+  row : IsFront g.W.Write.write_str_gives
+      (IsListText l.fn.lines.options l.inner.payloads l.inner.expansions l.inner.indent (kind_given l.fn.kind))
+      l.fn.lines.output.now (91 ∷ []) true l.values l.lines.output.now l.is_first (drop l.value-index l.values);
+  form : l.lines.options ≡ l.fn.lines.options;
+}
+
+abbrev pub invariant-map-each : goal.invariant-map-each
+invariant-map-each g l = record {
+  row : IsFront g.W.Write.write_str_gives
+      (IsMapText l.fn.lines.options l.inner.payloads l.inner.expansions l.inner.indent (kind_held l.kind_within))
+      l.fn.lines.output.now (91 ∷ []) true l.fn.pairs.entries l.lines.output.now l.is_first l.key-iterator;
+  form : l.lines.options ≡ l.fn.lines.options;
+}

@@ -1,5 +1,0 @@
-use Rattle.reflect_print.proofs.Appending.{writes_on}
-use Rattle.reflect_print.proofs.writer.Writer.fixed_32.Goals as goal
-
-pub returns-clause-text : goal.returns-clause-text
-returns-clause-text g c = writes_on _ _ _ _ c.in_ok-colon.ensures.text c.put_hex_32.ensures

@@ -1,0 +1,179 @@
+//! Lines, items and their separators.
+
+ghost use Rattle.text_lines.specs.Appends.{Writes};
+ghost use Rattle.text_lines.specs.Pieces.{
+  before_element,
+  before_item,
+  bracketed,
+  colon,
+  last_line,
+  new_line,
+  padding,
+  quoted,
+};
+ghost use Rattle.std.specs.Prelude.{◌≡◌, ◌++◌, ◌∷◌, [], IfSome, OnOk, true, false};
+
+use crate::error::WriteError;
+use crate::options::FormatOptions;
+use crate::output::{put, put_bracketed, put_quoted, put_shown};
+use crate::place::Place;
+use std::alloc::Global;
+use std::fmt;
+
+/// Writes texts to an output, in the form of the options. After an error a part of the text may be
+/// written.
+#[derive(Drop)]
+pub struct Lines<'a, W: fmt::Write> {
+    pub alloc: Global,
+    pub options: FormatOptions,
+    pub output: &'a mut W,
+}
+
+/// How far a list of lines or of entries is.
+#[derive(Clone, Copy)]
+pub struct Items {
+    /// Braces stand around the items.
+    pub in_braces: bool,
+    /// An item is printed.
+    pub any: bool,
+}
+
+impl Items {
+    pub fn new(in_braces: bool) -> Items
+        ensures { result ≡ record { in_braces = in_braces; any = false } }
+    {
+        Items {
+            in_braces,
+            any: false,
+        }
+    }
+}
+
+impl<'a, W: fmt::Write> Lines<'a, W> {
+    /// A text.
+    pub fn put(&mut self, text: &str) -> Result<(), WriteError>
+        ensures text { Writes W.write_str_gives self.old.output.now result
+            text.now self.new.output.now }
+        ensures form { self.new.options ≡ self.old.options }
+    {
+        put(self.output, text)
+    }
+
+    /// A value as it displays itself.
+    pub fn put_shown<D: fmt::Display + Drop>(&mut self, value: D) -> Result<(), WriteError>
+        ensures text { IfSome (D.output value)
+            (λ text. Writes W.write_str_gives self.old.output.now result text self.new.output.now) }
+        ensures form { self.new.options ≡ self.old.options }
+    {
+        put_shown(self.output, value)
+    }
+
+    /// A name in brackets.
+    pub fn put_bracketed(&mut self, name: &str) -> Result<(), WriteError>
+        ensures text { Writes W.write_str_gives self.old.output.now result
+            (bracketed name.now) self.new.output.now }
+        ensures form { self.new.options ≡ self.old.options }
+    {
+        put_bracketed(self.output, name)
+    }
+
+    /// What stands before an element of a list.
+    pub fn next_element(&mut self, is_first: &mut bool) -> Result<(), WriteError>
+        ensures text { Writes W.write_str_gives self.old.output.now result
+            (before_element self.old.options.pretty is_first.old) self.new.output.now }
+        ensures first { OnOk result (is_first.new ≡ false) }
+        ensures form { self.new.options ≡ self.old.options }
+    {
+        if !*is_first {
+            put(self.output, ",")?;
+            self.padding()?;
+        }
+        *is_first = false;
+        Ok(())
+    }
+
+    /// What stands before an item.
+    pub fn next_item(&mut self, items: &mut Items, at: Place) -> Result<(), WriteError>
+        ensures text { Writes W.write_str_gives self.old.output.now result
+            (before_item self.old.options.pretty items.old.in_braces items.old.any at.indent)
+            self.new.output.now }
+        ensures items { OnOk result (items.new ≡ record items.old { any = true }) }
+        ensures form { self.new.options ≡ self.old.options }
+    {
+        if self.options.pretty {
+            if items.any || items.in_braces {
+                self.line(at)?;
+            }
+        } else if items.any {
+            put(self.output, ",")?;
+        }
+        items.any = true;
+        Ok(())
+    }
+
+    /// The brace behind items that stand in braces at a place.
+    pub fn close(&mut self, any: bool, at: Place) -> Result<(), WriteError>
+        ensures text { Writes W.write_str_gives self.old.output.now result
+            (last_line self.old.options.pretty any at.indent ++ 125 ∷ []) self.new.output.now }
+        ensures form { self.new.options ≡ self.old.options }
+    {
+        self.last_line(any, at)?;
+        put(self.output, "}")
+    }
+
+    /// The line that the brace behind items stands in.
+    fn last_line(&mut self, any: bool, at: Place) -> Result<(), WriteError>
+        ensures text { Writes W.write_str_gives self.old.output.now result
+            (last_line self.old.options.pretty any at.indent) self.new.output.now }
+        ensures form { self.new.options ≡ self.old.options }
+    {
+        if any && self.options.pretty {
+            self.line(at)?;
+        }
+        Ok(())
+    }
+
+    /// The end of a line, and the spaces that the next one begins with.
+    fn line(&mut self, at: Place) -> Result<(), WriteError>
+        ensures text { Writes W.write_str_gives self.old.output.now result
+            (new_line at.indent) self.new.output.now }
+        ensures form { self.new.options ≡ self.old.options }
+    {
+        put(self.output, "\n")?;
+        for _ in 0..at.indent {
+            put(self.output, " ")?;
+        }
+        Ok(())
+    }
+
+    /// A space where the form has one.
+    pub fn padding(&mut self) -> Result<(), WriteError>
+        ensures text { Writes W.write_str_gives self.old.output.now result
+            (padding self.old.options.pretty) self.new.output.now }
+        ensures form { self.new.options ≡ self.old.options }
+    {
+        if self.options.pretty {
+            put(self.output, " ")?;
+        }
+        Ok(())
+    }
+
+    /// A colon and the space behind it.
+    pub fn colon(&mut self) -> Result<(), WriteError>
+        ensures text { Writes W.write_str_gives self.old.output.now result
+            (colon self.old.options.pretty) self.new.output.now }
+        ensures form { self.new.options ≡ self.old.options }
+    {
+        put(self.output, ":")?;
+        self.padding()
+    }
+
+    /// Bytes as a string literal.
+    pub fn string(&mut self, bytes: &[u8]) -> Result<(), WriteError>
+        ensures text { Writes W.write_str_gives self.old.output.now result
+            (quoted bytes.now) self.new.output.now }
+        ensures form { self.new.options ≡ self.old.options }
+    {
+        put_quoted(self.output, bytes)
+    }
+}
