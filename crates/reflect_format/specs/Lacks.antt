@@ -13,24 +13,33 @@ use Rattle.reflect_message.specs.Declares.{Declares, Extends}
 
 -- no field of the type has the name, or the first that has it is a group
 abbrev pub LacksField : MessageDescriptor → List ℕ → Type 0
-LacksField m name = (found : Option FieldDescriptor) × FindsField (λ f. f.name ≡ name) m found × IfSome found (λ f. (f.message ≡ m) × ((field_type f).group ≡ true))
+LacksField m name = (found : Option FieldDescriptor) × FindsField (λ f. f.name ≡ name) m found
+    × IfSome found (λ f. (f.message ≡ m) × ((field_type f).group ≡ true))
 
 -- the field is a group, whose type has the name
 abbrev pub IsGroupCalled : FieldDescriptor → List ℕ → Type 0
-IsGroupCalled f name = ((field_type f).group ≡ true) × (i : ℕ) × ((field_type f).kind ≡ message i) × ((type_at (field_pool f) i).name ≡ name)
+IsGroupCalled f name = ((field_type f).group ≡ true) × (i : ℕ) × ((field_type f).kind ≡ message i)
+    × ((type_at (field_pool f) i).name ≡ name)
 
--- no field of the type has the name in lower case, or the first that has it is no group whose type has the name
+-- no field of the type has the name in lower case, or the first that has it is no group whose type
+-- has the name
 abbrev pub LacksGroup : MessageDescriptor → List ℕ → Type 0
-LacksGroup m name = (found : Option FieldDescriptor) × FindsField (λ f. f.name ≡ map to_ascii_lowercase name) m found × IfSome found (λ f. (f.message ≡ m) × (IsGroupCalled f name → ⊥))
+LacksGroup m name = (found : Option FieldDescriptor)
+    × FindsField (λ f. f.name ≡ map to_ascii_lowercase name) m found
+    × IfSome found (λ f. (f.message ≡ m) × (IsGroupCalled f name → ⊥))
 
 -- a field of the type has the name and holds floating-point numbers
 abbrev pub HasFloatField : MessageDescriptor → List ℕ → Type 0
-HasFloatField m name = (f : FieldDescriptor) × Declares m f × ((field_type f).name ≡ name) × HoldsFloats (field_pool f) (field_type f)
+HasFloatField m name = (f : FieldDescriptor) × Declares m f × ((field_type f).name ≡ name)
+    × HoldsFloats (field_pool f) (field_type f)
 
 -- no extension of the type has the full name
 abbrev pub LacksExtension : MessageDescriptor → List ℕ → Type 0
-LacksExtension m name = FindsAny (λ x. (x.extendee ≡ m.index) × (x.field.full_name ≡ name)) m.pool.now None
+LacksExtension m name = FindsAny (λ x. (x.extendee ≡ m.index) × (x.field.full_name ≡ name))
+    m.pool.now None
 
 -- an extension of the type has the full name in brackets and holds floating-point numbers
 abbrev pub HasFloatExtension : MessageDescriptor → List ℕ → Type 0
-HasFloatExtension m name = (x : ExtensionDescriptor) × Extends m x × ((extension_at x.pool.now x.index).json_name ≡ name) × HoldsFloats (extension_pool x) (extension_type x)
+HasFloatExtension m name = (x : ExtensionDescriptor) × Extends m x
+    × ((extension_at x.pool.now x.index).json_name ≡ name)
+    × HoldsFloats (extension_pool x) (extension_type x)

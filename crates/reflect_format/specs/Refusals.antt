@@ -29,7 +29,8 @@ TellsValue e name bytes (kinds.EnumValueNotFound value enumeration span) =
     × (string_bytes enumeration ≡ (enum_at e.pool.now e.index).full_name) × (span ≡ bytes)
 TellsValue e name bytes _ = ⊥
 
--- A refusal of an enum's value: the enum that it tells has no value of the name that it tells; the others are of the text alone.
+-- A refusal of an enum's value: the enum that it tells has no value of the name that it tells; the
+-- others are of the text alone.
 abbrev pub RefusesValue : EnumDescriptor → ParseErrorKind → Type 0
 RefusesValue e (kinds.EnumValueNotFound value enumeration span) =
     (string_bytes enumeration ≡ (enum_at e.pool.now e.index).full_name)
@@ -42,35 +43,42 @@ TellsField m name (kinds.FieldNotFound field message span) =
     (string_bytes field ≡ name) × (string_bytes message ≡ (type_at m.pool.now m.index).full_name)
 TellsField m name _ = ⊥
 
--- It tells this message type by its full name and this name of a field that holds floating-point numbers.
+-- It tells this message type by its full name and this name of a field that holds floating-point
+-- numbers.
 abbrev pub TellsFloatField : MessageDescriptor → List ℕ → ParseErrorKind → Type 0
 TellsFloatField m name (kinds.FloatField field message span) =
     (string_bytes field ≡ name) × (string_bytes message ≡ (type_at m.pool.now m.index).full_name)
 TellsFloatField m name _ = ⊥
 
--- A refusal of a field's name: it is called unknown only where the type that it tells has no field of the name but a group, and no
--- group whose type has the name. One of floating-point numbers is told with its type, or memory ran out.
+-- A refusal of a field's name: it is called unknown only where the type that it tells has no field
+-- of the name but a group, and no group whose type has the name. One of floating-point numbers is
+-- told with its type, or memory ran out.
 abbrev pub RefusesField : MessageDescriptor → List ℕ → ParseErrorKind → Type 0
 RefusesField m name (kinds.FieldNotFound field message span) =
-    (string_bytes field ≡ name) × (string_bytes message ≡ (type_at m.pool.now m.index).full_name) × LacksField m name × LacksGroup m name
+    (string_bytes field ≡ name) × (string_bytes message ≡ (type_at m.pool.now m.index).full_name)
+    × LacksField m name × LacksGroup m name
 RefusesField m name (kinds.FloatField field message span) =
-    (string_bytes field ≡ name) × (string_bytes message ≡ (type_at m.pool.now m.index).full_name) × HasFloatField m name
+    (string_bytes field ≡ name) × (string_bytes message ≡ (type_at m.pool.now m.index).full_name)
+    × HasFloatField m name
 RefusesField m name kinds.Memory = Unit {0}
 RefusesField m name _ = ⊥
 
 -- It tells this message type by its full name and this full name of an extension.
 abbrev pub TellsExtension : MessageDescriptor → List ℕ → ParseErrorKind → Type 0
 TellsExtension m name (kinds.ExtensionNotFound extension message span) =
-    (string_bytes extension ≡ name) × (string_bytes message ≡ (type_at m.pool.now m.index).full_name)
+    (string_bytes extension ≡ name)
+    × (string_bytes message ≡ (type_at m.pool.now m.index).full_name)
 TellsExtension m name _ = ⊥
 
--- A refusal of an extension's full name: it is called unknown only where the type that it tells has no extension of the name. One of
--- floating-point numbers is told with its type, or memory ran out.
+-- A refusal of an extension's full name: it is called unknown only where the type that it tells has
+-- no extension of the name. One of floating-point numbers is told with its type, or memory ran out.
 abbrev pub RefusesExtension : MessageDescriptor → List ℕ → ParseErrorKind → Type 0
 RefusesExtension m name (kinds.ExtensionNotFound extension message span) =
-    (string_bytes extension ≡ name) × (string_bytes message ≡ (type_at m.pool.now m.index).full_name) × LacksExtension m name
+    (string_bytes extension ≡ name)
+    × (string_bytes message ≡ (type_at m.pool.now m.index).full_name) × LacksExtension m name
 RefusesExtension m name (kinds.FloatField field message span) =
-    (string_bytes message ≡ (type_at m.pool.now m.index).full_name) × HasFloatExtension m (string_bytes field)
+    (string_bytes message ≡ (type_at m.pool.now m.index).full_name)
+    × HasFloatExtension m (string_bytes field)
 RefusesExtension m name kinds.Memory = Unit {0}
 RefusesExtension m name _ = ⊥
 
@@ -86,7 +94,8 @@ TellsSet name _ = ⊥
 
 -- It tells this oneof by its name.
 abbrev pub TellsOneof : OneofDescriptor → ParseErrorKind → Type 0
-TellsOneof o (kinds.OneofAlreadySet oneof span) = string_bytes oneof ≡ (type_of_oneof o.message.pool.now o.message.index o.index).name
+TellsOneof o (kinds.OneofAlreadySet oneof span) = string_bytes oneof
+    ≡ (type_of_oneof o.message.pool.now o.message.index o.index).name
 TellsOneof o _ = ⊥
 
 -- the oneof is one of the field's type, and the field is a member of it
@@ -112,11 +121,12 @@ HoldsAmong m fs = Any (λ f. IsSome (value_at (fields_of m) f.number)) fs
 abbrev pub HoldsMember : DynamicMessage → OneofDescriptor → Type 0
 HoldsMember m o = HoldsAmong m (members_of o.message.pool.now o.message.index o.index)
 
--- A refusal of a second value: the message holds one of what is told; or a oneof is told that has the field for a member, and of which the
--- message holds one; or memory ran out.
+-- A refusal of a second value: the message holds one of what is told; or a oneof is told that has
+-- the field for a member, and of which the message holds one; or memory ran out.
 abbrev pub RefusesSecond : DynamicMessage → Target → ParseErrorKind → Type 0
 RefusesSecond m t (kinds.FieldAlreadySet field span) = Holds m t × IsTextName t (string_bytes field)
-RefusesSecond m t (kinds.OneofAlreadySet oneof span) = (o : OneofDescriptor) × Shares t o × HoldsMember m o × TellsOneof o (kinds.OneofAlreadySet oneof span)
+RefusesSecond m t (kinds.OneofAlreadySet oneof span) = (o : OneofDescriptor) × Shares t o
+    × HoldsMember m o × TellsOneof o (kinds.OneofAlreadySet oneof span)
 RefusesSecond m t kinds.Memory = Unit {0}
 RefusesSecond m t _ = ⊥
 

@@ -20,7 +20,8 @@ target_pool (target.Extension x) = extension_pool x
 
 -- it is a list or a map
 abbrev pub holds_many : Target → Bool
-holds_many t = holds_list (target_pool t) (target_type t) || holds_map (target_pool t) (target_type t)
+holds_many t = holds_list (target_pool t) (target_type t)
+    || holds_map (target_pool t) (target_type t)
 
 -- the place of the type that it belongs to
 abbrev pub type_place : Target → ℕ

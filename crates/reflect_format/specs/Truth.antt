@@ -29,26 +29,37 @@ IsEnum pool e name = (e.pool.now ≡ pool) × (name ≡ (enum_at e.pool.now e.in
 abbrev pub HasFloats : MessageDescriptor → List ℕ → Type 0
 HasFloats m name = HasFloatField m name ⊎ HasFloatExtension m name
 
--- What a refusal says of a pool is so: a field, an extension or a value is called unknown where the type that is told has none of the
--- name, a message type where no type of the pool has the name, and floating-point numbers are told where a field holds them. A
--- field or extension that is told to be set is one of the pool that holds one value, and so is a member of a oneof that is told. A type that
--- is told not to keep a message of any type is one of the pool that does not. The other refusals say nothing of types. A map's key is never
--- refused, and no message is too long.
+-- What a refusal says of a pool is so: a field, an extension or a value is called unknown where the
+-- type that is told has none of the name, a message type where no type of the pool has the name,
+-- and floating-point numbers are told where a field holds them. A field or extension that is told
+-- to be set is one of the pool that holds one value, and so is a member of a oneof that is told. A
+-- type that is told not to keep a message of any type is one of the pool that does not. The other
+-- refusals say nothing of types. A map's key is never refused, and no message is too long.
 abbrev pub TrueOf : PoolType → ParseErrorKind → Type 0
-TrueOf pool (kinds.FieldNotFound field message span) = (m : MessageDescriptor) × IsType pool m (string_bytes message) × LacksField m (string_bytes field) × LacksGroup m (string_bytes field)
-TrueOf pool (kinds.ExtensionNotFound extension message span) = (m : MessageDescriptor) × IsType pool m (string_bytes message) × LacksExtension m (string_bytes extension)
+TrueOf pool (kinds.FieldNotFound field message span) = (m : MessageDescriptor)
+    × IsType pool m (string_bytes message) × LacksField m (string_bytes field)
+    × LacksGroup m (string_bytes field)
+TrueOf pool (kinds.ExtensionNotFound extension message span) = (m : MessageDescriptor)
+    × IsType pool m (string_bytes message) × LacksExtension m (string_bytes extension)
 TrueOf pool (kinds.MessageNotFound message span) = FindsMessage pool (string_bytes message) None
 TrueOf pool (kinds.EnumValueNotFound value enumeration span) =
-    (e : EnumDescriptor) × IsEnum pool e (string_bytes enumeration) × IsFirst (λ v. v.name ≡ string_bytes value) (enum_at e.pool.now e.index).values None
-TrueOf pool (kinds.FloatField field message span) = (m : MessageDescriptor) × IsType pool m (string_bytes message) × HasFloats m (string_bytes field)
-TrueOf pool (kinds.FieldAlreadySet field span) = (t : Target) × (target_pool t ≡ pool) × (holds_many t ≡ false) × IsTextName t (string_bytes field)
-TrueOf pool (kinds.OneofAlreadySet oneof span) = (t : Target) × (target_pool t ≡ pool) × (holds_many t ≡ false) × (o : OneofDescriptor) × Shares t o × TellsOneof o (kinds.OneofAlreadySet oneof span)
-TrueOf pool (kinds.InvalidTypeForAny span) = (m : MessageDescriptor) × (m.pool.now ≡ pool) × (IsAny m → ⊥)
+    (e : EnumDescriptor) × IsEnum pool e (string_bytes enumeration)
+    × IsFirst (λ v. v.name ≡ string_bytes value) (enum_at e.pool.now e.index).values None
+TrueOf pool (kinds.FloatField field message span) = (m : MessageDescriptor)
+    × IsType pool m (string_bytes message) × HasFloats m (string_bytes field)
+TrueOf pool (kinds.FieldAlreadySet field span) = (t : Target) × (target_pool t ≡ pool)
+    × (holds_many t ≡ false) × IsTextName t (string_bytes field)
+TrueOf pool (kinds.OneofAlreadySet oneof span) = (t : Target) × (target_pool t ≡ pool)
+    × (holds_many t ≡ false) × (o : OneofDescriptor) × Shares t o
+    × TellsOneof o (kinds.OneofAlreadySet oneof span)
+TrueOf pool (kinds.InvalidTypeForAny span) = (m : MessageDescriptor) × (m.pool.now ≡ pool)
+    × (IsAny m → ⊥)
 TrueOf pool kinds.InvalidMapKey = ⊥
 TrueOf pool (kinds.TooLong span) = ⊥
 TrueOf pool _ = Unit {0}
 
--- a refusal of a value of the kind is true of the pool that its type stands in, or of the text alone
+-- a refusal of a value of the kind is true of the pool that its type stands in, or of the text
+-- alone
 abbrev pub TrueFor : Kind → ParseErrorKind → Type 0
 TrueFor (values.Message d) kind = TrueOf d.pool.now kind
 TrueFor (values.Enum e) kind = TrueOf e.pool.now kind

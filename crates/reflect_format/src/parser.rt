@@ -39,8 +39,9 @@ impl<'a> Parser<'a> {
 
     /// Reads the whole text into a message.
     ///
-    /// The first fault ends it; the message then has the fields at the top that were read before the fault, and for want of
-    /// memory perhaps a part of the map or the `google.protobuf.Any` that was to be set.
+    /// The first fault ends it; the message then has the fields at the top that were read before
+    /// the fault, and for want of memory perhaps a part of the map or the `google.protobuf.Any`
+    /// that was to be set.
     pub fn parse_message(&mut self, message: &mut DynamicMessage<'_>) -> Result<(), ParseError>
         ensures type_stays { message.new.descriptor ≡ message.old.descriptor }
         ensures refused { IfErr result (λ e. TrueOf message.old.descriptor.pool.now e.kind) }

@@ -88,7 +88,8 @@ impl<'p> Target<'p> {
         }
     }
 
-    /// The name by which a text sets it: of a group its type's, of an extension the full one in brackets.
+    /// The name by which a text sets it: of a group its type's, of an extension the full one in
+    /// brackets.
     pub fn text_name(&self) -> &'p str
         ensures { IsTextName self.now result.now }
     {
@@ -142,8 +143,8 @@ impl<'p> Target<'p> {
         }
     }
 
-    /// Puts values of its kind behind those of a list, or the entries that they are into a map. A refusal leaves the values of a
-    /// list, and of a map perhaps some of the entries more.
+    /// Puts values of its kind behind those of a list, or the entries that they are into a map. A
+    /// refusal leaves the values of a list, and of a map perhaps some of the entries more.
     pub fn add(
         &self,
         message: &mut DynamicMessage<'p>,

@@ -55,8 +55,8 @@ impl<'a, W: fmt::Write> Writer<'a, W> {
         value_text(&mut self.lines, value, kind, Place::TOP)
     }
 
-    /// Writes a record with its number. A payload that spells records is written as such, up to 100 in
-    /// one another, and any other as a string.
+    /// Writes a record with its number. A payload that spells records is written as such, up to 100
+    /// in one another, and any other as a string.
     pub fn fmt_unknown_field(&mut self, field: &UnknownField) -> Result<(), WriteError>
         ensures { WritesOne W.write_str_gives self.old.lines.output.now result
             (IsRecordText self.old.lines.options.pretty

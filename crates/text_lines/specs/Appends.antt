@@ -14,8 +14,10 @@ abbrev pub UnlessRefused : WriteError → Type 0 → Type 0
 UnlessRefused errors.Memory P = P
 UnlessRefused errors.Format P = Unit {0}
 
--- The text was written behind what the output had; unless the output refused, at least some text was.
-abbrev pub Writes : {W T : Type 0} → (W → List ℕ → W → Type 0) → W → Result T WriteError → List ℕ → W → Type 0
+-- The text was written behind what the output had; unless the output refused, at least some text
+-- was.
+abbrev pub Writes : {W T : Type 0} → (W → List ℕ → W → Type 0) → W → Result T WriteError → List ℕ
+    → W → Type 0
 Writes took old (Ok x) text new = WritesInCalls took old text new
 Writes took old (Err e) text new = UnlessRefused e (Appends took old new)
 
@@ -27,6 +29,7 @@ WritesOne took old (Ok x) Is new = (text : List ℕ) × Is text × WritesInCalls
 WritesOne took old (Err e) Is new = UnlessRefused e (Appends took old new)
 
 -- Unless the output refused, some text was written behind what it had.
-abbrev pub KeepsOutput : {W T : Type 0} → (W → List ℕ → W → Type 0) → W → Result T WriteError → W → Type 0
+abbrev pub KeepsOutput : {W T : Type 0} → (W → List ℕ → W → Type 0) → W → Result T WriteError → W
+    → Type 0
 KeepsOutput took old (Ok x) new = Appends took old new
 KeepsOutput took old (Err e) new = UnlessRefused e (Appends took old new)

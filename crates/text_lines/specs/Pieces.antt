@@ -9,7 +9,8 @@ quoted bs = 34 ∷ (escaped bs ++ 34 ∷ [])
 
 -- `0x` and a number in so many hexadecimal digits
 abbrev pub hexadecimal : ℕ → ℕ → List ℕ
-hexadecimal width n = 48 ∷ 120 ∷ padded_integral (format_spec 32 0 4 width (2 ^ 64 - 1)) false [] (digits 16 false n)
+hexadecimal width n = 48 ∷ 120
+    ∷ padded_integral (format_spec 32 0 4 width (2 ^ 64 - 1)) false [] (digits 16 false n)
 
 -- the name in brackets
 abbrev pub bracketed : List ℕ → List ℕ
