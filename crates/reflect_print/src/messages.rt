@@ -64,9 +64,9 @@ fn text_name<'p>(field: &FieldDescriptor<'p>, kind: &Kind<'p>) -> &'p str
 }
 
 /// What stands between a name and its value.
-fn put_before<W: fmt::Write>(lines: &mut Lines<'_, W>, value: &Value<'_>) -> Result<(), WriteError>
-    ensures text { Writes W.write_str_gives lines.old.output.now result
-        (before_value lines.old.options.pretty (message_in value.now)) lines.new.output.now }
+fn put_before<W: fmt::Write>(lines: &mut Lines<W>, value: &Value<'_>) -> Result<(), WriteError>
+    ensures text { Writes W.write_str_gives lines.old.output result
+        (before_value lines.old.options.pretty (message_in value.now)) lines.new.output }
     ensures form { lines.new.options ≡ lines.old.options }
 {
     match value {
@@ -77,12 +77,12 @@ fn put_before<W: fmt::Write>(lines: &mut Lines<'_, W>, value: &Value<'_>) -> Res
 
 /// The name of an enum's value, or its number where it has none.
 fn enum_text<W: fmt::Write>(
-    lines: &mut Lines<'_, W>,
+    lines: &mut Lines<W>,
     number: &i32,
     kind: Option<&Kind<'_>>,
 ) -> Result<(), WriteError>
-    ensures text { WritesOne W.write_str_gives lines.old.output.now result
-        (IsEnumText (kind_given kind.entry) number.now) lines.new.output.now }
+    ensures text { WritesOne W.write_str_gives lines.old.output result
+        (IsEnumText (kind_given kind.entry) number.now) lines.new.output }
     ensures form { lines.new.options ≡ lines.old.options }
 {
     if let Some(Kind::Enum(descriptor)) = kind {
@@ -94,9 +94,9 @@ fn enum_text<W: fmt::Write>(
 }
 
 /// The key of a map's entry.
-fn map_key<W: fmt::Write>(lines: &mut Lines<'_, W>, key: &MapKey) -> Result<(), WriteError>
-    ensures text { WritesOne W.write_str_gives lines.old.output.now result
-        (IsSingleText None (key_view key.now)) lines.new.output.now }
+fn map_key<W: fmt::Write>(lines: &mut Lines<W>, key: &MapKey) -> Result<(), WriteError>
+    ensures text { WritesOne W.write_str_gives lines.old.output result
+        (IsSingleText None (key_view key.now)) lines.new.output }
     ensures form { lines.new.options ≡ lines.old.options }
 {
     match key {
@@ -111,14 +111,14 @@ fn map_key<W: fmt::Write>(lines: &mut Lines<'_, W>, key: &MapKey) -> Result<(), 
 
 /// The key of an entry in braces, under its name.
 fn entry_key<W: fmt::Write>(
-    lines: &mut Lines<'_, W>,
+    lines: &mut Lines<W>,
     key: &MapKey,
     items: &mut Items,
     at: Place,
 ) -> Result<(), WriteError>
     requires { items.old ≡ record { in_braces = true; any = false } }
-    ensures text { WritesOne W.write_str_gives lines.old.output.now result
-        (IsKeyText lines.old.options.pretty at.indent (key_view key.now)) lines.new.output.now }
+    ensures text { WritesOne W.write_str_gives lines.old.output result
+        (IsKeyText lines.old.options.pretty at.indent (key_view key.now)) lines.new.output }
     ensures items { OnOk result (items.new ≡ record { in_braces = true; any = true }) }
     ensures form { lines.new.options ≡ lines.old.options }
 {
@@ -130,7 +130,7 @@ fn entry_key<W: fmt::Write>(
 
 /// What is printed in place of a `google.protobuf.Any`, if the form expands it.
 fn expanded<'m, 'p, W: fmt::Write>(
-    lines: &Lines<'_, W>,
+    lines: &Lines<W>,
     message: &'m DynamicMessage<'p>,
     at: Place,
 ) -> Result<Option<Held<'m, 'p>>, WriteError>
@@ -146,13 +146,13 @@ fn expanded<'m, 'p, W: fmt::Write>(
 /// A message in braces.
 #[cycle(message)]
 fn braced_message<W: fmt::Write>(
-    lines: &mut Lines<'_, W>,
+    lines: &mut Lines<W>,
     message: &DynamicMessage<'_>,
     at: Place,
 ) -> Result<(), WriteError>
-    ensures text { WritesOne W.write_str_gives lines.old.output.now result
+    ensures text { WritesOne W.write_str_gives lines.old.output result
         (IsBracedText lines.old.options at.payloads at.expansions at.indent message.now)
-        lines.new.output.now }
+        lines.new.output }
     ensures form { lines.new.options ≡ lines.old.options }
 {
     lines.put("{")?;
@@ -164,14 +164,14 @@ fn braced_message<W: fmt::Write>(
 /// What a message holds; says whether anything was printed.
 #[cycle(message)]
 pub fn items<W: fmt::Write>(
-    lines: &mut Lines<'_, W>,
+    lines: &mut Lines<W>,
     message: &DynamicMessage<'_>,
     in_braces: bool,
     at: Place,
 ) -> Result<bool, WriteError>
-    ensures text { WritesFor W.write_str_gives lines.old.output.now result
+    ensures text { WritesFor W.write_str_gives lines.old.output result
         (IsItemsText lines.old.options at.payloads at.expansions at.indent in_braces message.now)
-        lines.new.output.now }
+        lines.new.output }
     ensures form { lines.new.options ≡ lines.old.options }
 {
     match expanded(lines, message, at)? {
@@ -186,14 +186,14 @@ pub fn items<W: fmt::Write>(
 /// The fields, extensions and unknown records of a message; says whether there are any.
 #[cycle(message)]
 fn entries<W: fmt::Write>(
-    lines: &mut Lines<'_, W>,
+    lines: &mut Lines<W>,
     message: &DynamicMessage<'_>,
     in_braces: bool,
     at: Place,
 ) -> Result<bool, WriteError>
-    ensures text { WritesFor W.write_str_gives lines.old.output.now result
+    ensures text { WritesFor W.write_str_gives lines.old.output result
         (AreItems lines.old.options at.payloads at.expansions at.indent in_braces message.now)
-        lines.new.output.now }
+        lines.new.output }
     ensures form { lines.new.options ≡ lines.old.options }
 {
     let mut items = Items::new(in_braces);
@@ -205,15 +205,15 @@ fn entries<W: fmt::Write>(
 /// The message that a `google.protobuf.Any` holds, under its type's URL.
 #[cycle(message)]
 fn expansion<W: fmt::Write>(
-    lines: &mut Lines<'_, W>,
+    lines: &mut Lines<W>,
     held: &Held<'_, '_>,
     in_braces: bool,
     at: Place,
 ) -> Result<(), WriteError>
-    ensures text { WritesOne W.write_str_gives lines.old.output.now result
+    ensures text { WritesOne W.write_str_gives lines.old.output result
         (IsUrlText lines.old.options at.payloads at.expansions at.indent in_braces
         (url_of held.now) held.now.body)
-        lines.new.output.now }
+        lines.new.output }
     ensures form { lines.new.options ≡ lines.old.options }
 {
     let mut items = Items::new(in_braces);
@@ -230,15 +230,15 @@ fn expansion<W: fmt::Write>(
 /// The declared fields.
 #[cycle(message)]
 fn declared<W: fmt::Write>(
-    lines: &mut Lines<'_, W>,
+    lines: &mut Lines<W>,
     message: &DynamicMessage<'_>,
     items: &mut Items,
     at: Place,
 ) -> Result<(), WriteError>
-    ensures text { WritesOne W.write_str_gives lines.old.output.now result
+    ensures text { WritesOne W.write_str_gives lines.old.output result
         (IsSpan lines.old.options at.payloads at.expansions at.indent items.old items.new
         (AreDeclared lines.old.options message.now))
-        lines.new.output.now }
+        lines.new.output }
     ensures form { lines.new.options ≡ lines.old.options }
 {
     if lines.options.skip_default_fields && !lines.options.in_index_order {
@@ -251,15 +251,15 @@ fn declared<W: fmt::Write>(
 /// The fields that are set, by ascending number.
 #[cycle(message)]
 fn set_fields<W: fmt::Write>(
-    lines: &mut Lines<'_, W>,
+    lines: &mut Lines<W>,
     message: &DynamicMessage<'_>,
     items: &mut Items,
     at: Place,
 ) -> Result<(), WriteError>
-    ensures text { WritesOne W.write_str_gives lines.old.output.now result
+    ensures text { WritesOne W.write_str_gives lines.old.output result
         (IsSpan lines.old.options at.payloads at.expansions at.indent items.old items.new
         (λ es. es ≡ set_entries message.now))
-        lines.new.output.now }
+        lines.new.output }
     ensures form { lines.new.options ≡ lines.old.options }
 {
     'each: for (field, value) in message.fields() {
@@ -272,15 +272,15 @@ fn set_fields<W: fmt::Write>(
 /// The fields that the options choose, in their order.
 #[cycle(message)]
 fn chosen_fields<W: fmt::Write>(
-    lines: &mut Lines<'_, W>,
+    lines: &mut Lines<W>,
     message: &DynamicMessage<'_>,
     items: &mut Items,
     at: Place,
 ) -> Result<(), WriteError>
-    ensures text { WritesOne W.write_str_gives lines.old.output.now result
+    ensures text { WritesOne W.write_str_gives lines.old.output result
         (IsSpan lines.old.options at.payloads at.expansions at.indent items.old items.new
         (AreChosen lines.old.options message.now))
-        lines.new.output.now }
+        lines.new.output }
     ensures form { lines.new.options ≡ lines.old.options }
 {
     let fields = declared_fields(lines.alloc, message, lines.options)?;
@@ -294,15 +294,15 @@ fn chosen_fields<W: fmt::Write>(
 /// Extensions and unknown records.
 #[cycle(message)]
 fn others<W: fmt::Write>(
-    lines: &mut Lines<'_, W>,
+    lines: &mut Lines<W>,
     message: &DynamicMessage<'_>,
     items: &mut Items,
     at: Place,
 ) -> Result<(), WriteError>
-    ensures text { WritesOne W.write_str_gives lines.old.output.now result
+    ensures text { WritesOne W.write_str_gives lines.old.output result
         (IsSpan lines.old.options at.payloads at.expansions at.indent items.old items.new
         (AreOthers lines.old.options message.now))
-        lines.new.output.now }
+        lines.new.output }
     ensures form { lines.new.options ≡ lines.old.options }
 {
     let entries = other_entries(lines.alloc, message, lines.options)?;
@@ -316,14 +316,14 @@ fn others<W: fmt::Write>(
 /// An extension or an unknown record.
 #[cycle(message)]
 fn other_text<W: fmt::Write>(
-    lines: &mut Lines<'_, W>,
+    lines: &mut Lines<W>,
     other: &Other<'_, '_>,
     at: Place,
 ) -> Result<(), WriteError>
-    ensures text { WritesOne W.write_str_gives lines.old.output.now result
+    ensures text { WritesOne W.write_str_gives lines.old.output result
         (IsEntryText lines.old.options at.payloads at.expansions at.indent
         (other_entry other.now))
-        lines.new.output.now }
+        lines.new.output }
     ensures form { lines.new.options ≡ lines.old.options }
 {
     match other {
@@ -335,15 +335,15 @@ fn other_text<W: fmt::Write>(
 /// A field with its value.
 #[cycle(message)]
 fn field_text<W: fmt::Write>(
-    lines: &mut Lines<'_, W>,
+    lines: &mut Lines<W>,
     descriptor: FieldDescriptor<'_>,
     value: &Value<'_>,
     at: Place,
 ) -> Result<(), WriteError>
-    ensures text { WritesOne W.write_str_gives lines.old.output.now result
+    ensures text { WritesOne W.write_str_gives lines.old.output result
         (IsEntryText lines.old.options at.payloads at.expansions at.indent
         (field (field_pool descriptor.entry) (field_type descriptor.entry) value.now))
-        lines.new.output.now }
+        lines.new.output }
     ensures form { lines.new.options ≡ lines.old.options }
 {
     let kind = descriptor.kind();
@@ -354,15 +354,15 @@ fn field_text<W: fmt::Write>(
 /// An extension with its value.
 #[cycle(message)]
 fn extension_text<W: fmt::Write>(
-    lines: &mut Lines<'_, W>,
+    lines: &mut Lines<W>,
     descriptor: ExtensionDescriptor<'_>,
     value: &Value<'_>,
     at: Place,
 ) -> Result<(), WriteError>
-    ensures text { WritesOne W.write_str_gives lines.old.output.now result
+    ensures text { WritesOne W.write_str_gives lines.old.output result
         (IsEntryText lines.old.options at.payloads at.expansions at.indent
         (extension (extension_pool descriptor.entry) (extension_type descriptor.entry) value.now))
-        lines.new.output.now }
+        lines.new.output }
     ensures form { lines.new.options ≡ lines.old.options }
 {
     lines.put_bracketed(descriptor.full_name())?;
@@ -372,15 +372,15 @@ fn extension_text<W: fmt::Write>(
 /// What stands behind a name: a colon but before a message, and the value.
 #[cycle(message)]
 fn named_value<W: fmt::Write>(
-    lines: &mut Lines<'_, W>,
+    lines: &mut Lines<W>,
     value: &Value<'_>,
     kind: Option<&Kind<'_>>,
     at: Place,
 ) -> Result<(), WriteError>
-    ensures text { WritesOne W.write_str_gives lines.old.output.now result
+    ensures text { WritesOne W.write_str_gives lines.old.output result
         (IsNamedText lines.old.options at.payloads at.expansions at.indent (kind_given kind.entry)
         value.now)
-        lines.new.output.now }
+        lines.new.output }
     ensures form { lines.new.options ≡ lines.old.options }
 {
     put_before(lines, value)?;
@@ -390,15 +390,15 @@ fn named_value<W: fmt::Write>(
 /// A value of a kind.
 #[cycle(message)]
 pub fn value_text<W: fmt::Write>(
-    lines: &mut Lines<'_, W>,
+    lines: &mut Lines<W>,
     value: &Value<'_>,
     kind: Option<&Kind<'_>>,
     at: Place,
 ) -> Result<(), WriteError>
-    ensures text { WritesOne W.write_str_gives lines.old.output.now result
+    ensures text { WritesOne W.write_str_gives lines.old.output result
         (IsValueText lines.old.options at.payloads at.expansions at.indent (kind_given kind.entry)
         value.now)
-        lines.new.output.now }
+        lines.new.output }
     ensures form { lines.new.options ≡ lines.old.options }
 {
     match value {
@@ -419,15 +419,15 @@ pub fn value_text<W: fmt::Write>(
 /// The values of a list in brackets.
 #[cycle(message)]
 fn list<W: fmt::Write>(
-    lines: &mut Lines<'_, W>,
+    lines: &mut Lines<W>,
     values: &[Value<'_>],
     kind: Option<&Kind<'_>>,
     at: Place,
 ) -> Result<(), WriteError>
-    ensures text { WritesOne W.write_str_gives lines.old.output.now result
+    ensures text { WritesOne W.write_str_gives lines.old.output result
         (IsInBrackets (IsListText lines.old.options at.payloads at.expansions at.indent
         (kind_given kind.entry) true values.now))
-        lines.new.output.now }
+        lines.new.output }
     ensures form { lines.new.options ≡ lines.old.options }
 {
     let inner = at.deeper()?;
@@ -455,15 +455,15 @@ fn kind_of_values<'p>(kind: Option<&Kind<'p>>) -> Option<Kind<'p>>
 /// The entries of a map as a list of messages.
 #[cycle(message)]
 fn map<W: fmt::Write>(
-    lines: &mut Lines<'_, W>,
+    lines: &mut Lines<W>,
     pairs: &BTreeMap<MapKey, Value<'_>>,
     kind: Option<&Kind<'_>>,
     at: Place,
 ) -> Result<(), WriteError>
-    ensures text { WritesOne W.write_str_gives lines.old.output.now result
+    ensures text { WritesOne W.write_str_gives lines.old.output result
         (IsInBrackets (IsMapText lines.old.options at.payloads at.expansions at.indent
         (value_kind (kind_given kind.entry)) true pairs.now.entries))
-        lines.new.output.now }
+        lines.new.output }
     ensures form { lines.new.options ≡ lines.old.options }
 {
     let inner = at.deeper()?;
@@ -480,16 +480,16 @@ fn map<W: fmt::Write>(
 /// An entry of a map as a message.
 #[cycle(message)]
 fn pair<W: fmt::Write>(
-    lines: &mut Lines<'_, W>,
+    lines: &mut Lines<W>,
     key: &MapKey,
     value: &Value<'_>,
     kind: Option<&Kind<'_>>,
     at: Place,
 ) -> Result<(), WriteError>
-    ensures text { WritesOne W.write_str_gives lines.old.output.now result
+    ensures text { WritesOne W.write_str_gives lines.old.output result
         (IsPairText lines.old.options at.payloads at.expansions at.indent (kind_given kind.entry)
         (key.now, value.now))
-        lines.new.output.now }
+        lines.new.output }
     ensures form { lines.new.options ≡ lines.old.options }
 {
     lines.put("{")?;
@@ -503,17 +503,17 @@ fn pair<W: fmt::Write>(
 /// The value of an entry, under its name.
 #[cycle(message)]
 fn entry_value<W: fmt::Write>(
-    lines: &mut Lines<'_, W>,
+    lines: &mut Lines<W>,
     value: &Value<'_>,
     kind: Option<&Kind<'_>>,
     items: &mut Items,
     at: Place,
 ) -> Result<(), WriteError>
     requires { items.old ≡ record { in_braces = true; any = true } }
-    ensures text { WritesOne W.write_str_gives lines.old.output.now result
+    ensures text { WritesOne W.write_str_gives lines.old.output result
         (IsValueUnder lines.old.options at.payloads at.expansions at.indent (kind_given kind.entry)
         value.now)
-        lines.new.output.now }
+        lines.new.output }
     ensures form { lines.new.options ≡ lines.old.options }
 {
     lines.next_item(items, at)?;

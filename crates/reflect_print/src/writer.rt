@@ -1,5 +1,6 @@
 //! From a message to text.
 
+ghost use Rattle.std.specs.Prelude.{◌≡◌, OnOk};
 ghost use Rattle.text_lines.specs.Appends.{WritesOne};
 ghost use Rattle.text_lines.specs.UnknownTexts.{IsPayloadText, IsRecordText};
 ghost use Rattle.reflect_print.specs.MessageTexts.{IsItemsText, IsValueText, IsMessageText};
@@ -18,12 +19,16 @@ use text_lines::{FormatOptions, Lines, Place, WriteError};
 /// written.
 #[derive(Drop)]
 pub struct Writer<'a, W: fmt::Write> {
-    lines: Lines<'a, W>,
+    lines: Lines<&'a mut W>,
 }
 
 impl<'a, W: fmt::Write> Writer<'a, W> {
     /// A writer in the form of the options to an output.
-    pub fn new(alloc: Global, options: FormatOptions, output: &'a mut W) -> Writer<'a, W> {
+    pub fn new(alloc: Global, options: FormatOptions, output: &'a mut W) -> Writer<'a, W>
+        ensures same { result.lines.output.ghost_name ≡ output.entry.ghost_name }
+        ensures output { result.lines.output.now ≡ output.old }
+        ensures form { result.lines.options ≡ options }
+    {
         Writer {
             lines: Lines {
                 alloc,
@@ -35,8 +40,10 @@ impl<'a, W: fmt::Write> Writer<'a, W> {
 
     /// Writes a message, without braces around it.
     pub fn fmt_message(&mut self, message: &DynamicMessage<'_>) -> Result<(), WriteError>
-        ensures { WritesOne W.write_str_gives self.old.lines.output.now result
+        ensures text { WritesOne W.write_str_gives self.old.lines.output.now result
             (IsMessageText self.old.lines.options message.now) self.new.lines.output.now }
+        ensures same { OnOk result
+            (self.new.lines.output.ghost_name ≡ self.old.lines.output.ghost_name) }
     {
         items(&mut self.lines, message, false, Place::TOP)?;
         Ok(())
@@ -48,9 +55,11 @@ impl<'a, W: fmt::Write> Writer<'a, W> {
         value: &Value<'_>,
         kind: Option<&Kind<'_>>,
     ) -> Result<(), WriteError>
-        ensures { WritesOne W.write_str_gives self.old.lines.output.now result
+        ensures text { WritesOne W.write_str_gives self.old.lines.output.now result
             (IsValueText self.old.lines.options 100 100 0 (kind_given kind.entry) value.now)
             self.new.lines.output.now }
+        ensures same { OnOk result
+            (self.new.lines.output.ghost_name ≡ self.old.lines.output.ghost_name) }
     {
         value_text(&mut self.lines, value, kind, Place::TOP)
     }
@@ -58,10 +67,12 @@ impl<'a, W: fmt::Write> Writer<'a, W> {
     /// Writes a record with its number. A payload that spells records is written as such, up to 100
     /// in one another, and any other as a string.
     pub fn fmt_unknown_field(&mut self, field: &UnknownField) -> Result<(), WriteError>
-        ensures { WritesOne W.write_str_gives self.old.lines.output.now result
+        ensures text { WritesOne W.write_str_gives self.old.lines.output.now result
             (IsRecordText self.old.lines.options.pretty
             (IsPayloadText 100 self.old.lines.options.pretty) 0 (field_view field.now))
             self.new.lines.output.now }
+        ensures same { OnOk result
+            (self.new.lines.output.ghost_name ≡ self.old.lines.output.ghost_name) }
     {
         self.lines.unknown_field(field, Place::TOP)
     }

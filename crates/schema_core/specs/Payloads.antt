@@ -1,5 +1,5 @@
 -- What the calls answer that take payloads.
-use Rattle.std.specs.Prelude.{◌≡◌, ℕ, List, Some}
+use Rattle.std.specs.Prelude.{◌≡◌, ℕ, List, Some, false}
 use Rattle.reflect_tables.specs.Types.{PoolType}
 use Rattle.reflect_pool.specs.FindsNames.{FindsMessage}
 use Rattle.reflect_pool.specs.declared.message.MessageDescriptor.{MessageDescriptor}
@@ -7,6 +7,9 @@ use Rattle.reflect_message.specs.Bytes.{message_bytes}
 use Rattle.reflect_message.specs.Oneofs.{IsExclusive}
 use Rattle.reflect_decode.specs.Spelled.{IsSpelled}
 use Rattle.reflect_message.specs.declared.message.DynamicMessage.{DynamicMessage}
+use Rattle.text_lines.specs.Forms.{usual_form}
+use Rattle.text_lines.specs.declared.options.FormatOptions.{FormatOptions}
+use Rattle.reflect_print.specs.MessageTexts.{IsMessageText}
 use Rattle.reflect_format.specs.Steps.{Makes}
 
 -- the message type of the name
@@ -24,9 +27,15 @@ abbrev pub Encoded : PoolType → List ℕ → List ℕ → Type 0
 Encoded p name written = (d : MessageDescriptor) × IsType p name d
     × ((m : DynamicMessage) × Makes d m × (written ≡ message_bytes m))
 
--- from bytes to text: the bytes spell a message of the named type
-abbrev pub Decoded : PoolType → List ℕ → List ℕ → Type 0
-Decoded p name bytes = (m : DynamicMessage) × IsRead p name bytes m
+-- on one line without spaces, the fields that are set, by ascending number, and each
+-- `google.protobuf.Any` by its own fields
+abbrev pub compact_form : FormatOptions
+compact_form = record usual_form { expand_any = false }
+
+-- from bytes to text: the compact text of the message of the named type that the bytes spell
+abbrev pub Decoded : PoolType → List ℕ → List ℕ → List ℕ → Type 0
+Decoded p name bytes written = (m : DynamicMessage) × IsRead p name bytes m
+    × IsMessageText compact_form m written
 
 -- from bytes to bytes: the one form of the message of the named type that the bytes spell
 abbrev pub Recoded : PoolType → List ℕ → List ℕ → List ℕ → Type 0

@@ -39,7 +39,7 @@ abbrev pub Answers : Action → PoolType → List ℕ → Bool → List ℕ → 
 Answers Encode p name is_hex input written = IsUtf8 input
     × ((bytes : List ℕ) × Encoded p name bytes × (written ≡ shown is_hex bytes))
 Answers Decode p name is_hex input written = (bytes : List ℕ) × IsPayload is_hex input bytes
-    × Decoded p name bytes × ((text : List ℕ) × (written ≡ text ++ 10 ∷ []))
+    × ((text : List ℕ) × Decoded p name bytes text × (written ≡ text ++ 10 ∷ []))
 Answers Recode p name is_hex input written = (bytes : List ℕ) × IsPayload is_hex input bytes
     × ((recoded : List ℕ) × Recoded p name bytes recoded × (written ≡ shown is_hex recoded))
 

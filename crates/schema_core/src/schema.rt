@@ -1,4 +1,4 @@
-ghost use Rattle.std.specs.Prelude.{◌≡◌, ◌∷◌, [], Some, OnOk, OnErr, IfOk, IfErr};
+ghost use Rattle.std.specs.Prelude.{◌≡◌, ◌∷◌, [], Some, OnOk, OnErr, IfOk, IfErr, string_bytes};
 ghost use Rattle.linked_messages.specs.OneProof.{IsSound-prop};
 ghost use Rattle.message_view.specs.Sound.{IsSound};
 
@@ -187,7 +187,8 @@ impl Schema {
     ///
     /// `UnknownType` where there is no such type, `Wire` where the bytes are no message of it.
     pub fn decode(&self, type_name: &str, bytes: &[u8]) -> Result<String, SchemaError>
-        ensures ok { OnOk result (Decoded self.now.pool type_name.now bytes.now) }
+        ensures ok { IfOk result
+            (λ text. Decoded self.now.pool type_name.now bytes.now (string_bytes text)) }
         ensures err { IfErr result (BytesRefused self.now.pool type_name.now bytes.now) }
     {
         let message = self.read(type_name, bytes)?;

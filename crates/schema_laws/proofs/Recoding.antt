@@ -25,8 +25,9 @@ use Rattle.schema_core.specs.Payloads.{Decoded, Recoded}
 use Rattle.schema_core.specs.Refusals.{IsNoMessage}
 use Rattle.schema_laws.specs.Schemas.{SchemaType, type_of, RecodedThrough}
 
-pub accepted : (p : PoolType) → IsSound p → (name bytes : List ℕ) → AreBytes bytes → Decoded p name bytes → IsAccepted (types_of p) (without_dot name) bytes
-accepted p sound name bytes b (m, (d, (there, found), type, apart, spelled)) =
+pub accepted : (p : PoolType) → IsSound p → (name bytes text : List ℕ) → AreBytes bytes
+    → Decoded p name bytes text → IsAccepted (types_of p) (without_dot name) bytes
+accepted p sound name bytes text b (m, (d, (there, found), type, apart, spelled), printed) =
     let means = decoded_means d (subst IsSound (sym there) sound) bytes b m type spelled in
     subst (λ n. IsAccepted (types_of p) n bytes) (found_named d p name found)
     (subst (λ p. IsAccepted (types_of p) (name_at p d.index) bytes) there (means.0, means.1))

@@ -1,7 +1,7 @@
 //! Laws of `Schema::decode` and `Schema::recode`, each the contract of a function that does
-//! nothing. `Decoded s.pool name bytes` and `Recoded s.pool name bytes out` are what these calls
-//! promise where a schema `s` answers: that the bytes spell a message of the named type, and that
-//! `out` is what is written of it. `IsNoMessage s.pool name bytes e` is what they promise where
+//! nothing. `Decoded s.pool name bytes text` and `Recoded s.pool name bytes out` are what these
+//! calls promise where a schema `s` answers: that the bytes spell a message of the named type, that
+//! `text` is what is printed of it, and `out` what is written of it. `IsNoMessage s.pool name bytes e` is what they promise where
 //! they refuse bytes as a message of a known type.
 ghost use Rattle.std.specs.Prelude.{◌≡◌, ◌<◌, ◌^◌, ℕ, List, length, map};
 ghost use Rattle.protobuf_model.specs.Coded.{AreOlderThan, IsAccepted, IsRecoded, Mean};
@@ -25,7 +25,8 @@ pub fn schemas_are_sound()
 
 /// The type accepts bytes that a schema decodes.
 pub fn decoded_bytes_are_accepted()
-    ensures { (s : Schema) (name bytes : List ℕ) → AreBytes bytes → Decoded s.pool name bytes
+    ensures { (s : Schema) (name bytes text : List ℕ) → AreBytes bytes
+        → Decoded s.pool name bytes text
         → IsAccepted (types_of s.pool) (without_dot name) bytes }
 {}
 

@@ -81,7 +81,7 @@ Encodes name text old c new =
 
 abbrev pub Decodes : List ℕ → List ℕ → Call
 Decodes name bytes old c new =
-    Keeps old new × Ends (IsUtf8 name) (λ s. Decoded (pool old) name bytes)
+    Keeps old new × Ends (IsUtf8 name) (λ s. Decoded (pool old) name bytes (answer s))
     (BytesRefused (pool old) name bytes) c new
 
 abbrev pub Recodes : List ℕ → List ℕ → Call

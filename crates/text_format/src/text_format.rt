@@ -1,6 +1,8 @@
-ghost use Rattle.std.specs.Prelude.{◌≡◌, IfErr, IfOk, OnOk};
+ghost use Rattle.std.specs.Prelude.{◌≡◌, IfErr, IfOk, OnOk, string_bytes};
 ghost use Rattle.reflect_format.specs.Steps.{Makes, Reaches, Stops};
 ghost use Rattle.reflect_format.specs.Truth.{TrueOf};
+ghost use Rattle.reflect_print.specs.MessageTexts.{IsMessageText};
+ghost use Rattle.text_lines.specs.Forms.{usual_form};
 
 use reflect_format::{ParseError, Parser};
 use reflect_message::{DynamicMessage, MessageParts};
@@ -39,14 +41,18 @@ pub trait TextFormat<'p>: Sized {
         ensures stops { IfErr result (λ e. Stops e.kind (message self.old) (message self.new)) };
 
     /// The message's text in the form of [`FormatOptions::new`].
-    fn to_text_format(&self, alloc: Global) -> Result<String, WriteError>;
+    fn to_text_format(&self, alloc: Global) -> Result<String, WriteError>
+        ensures { IfOk result
+            (λ text. IsMessageText usual_form (message self.now) (string_bytes text)) };
 
     /// The message's text in the form of the options.
     fn to_text_format_with_options(
         &self,
         alloc: Global,
         options: &FormatOptions,
-    ) -> Result<String, WriteError>;
+    ) -> Result<String, WriteError>
+        ensures { IfOk result
+            (λ text. IsMessageText options.now (message self.now) (string_bytes text)) };
 }
 
 impl<'p> TextFormat<'p> for DynamicMessage<'p> {

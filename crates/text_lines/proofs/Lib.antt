@@ -1,3 +1,4 @@
 pub mod Appending
 pub mod Fronts
 pub mod Rows
+pub mod Lent

@@ -23,10 +23,10 @@ use std::fmt;
 /// Writes texts to an output, in the form of the options. After an error a part of the text may be
 /// written.
 #[derive(Drop)]
-pub struct Lines<'a, W: fmt::Write> {
+pub struct Lines<W: fmt::Write> {
     pub alloc: Global,
     pub options: FormatOptions,
-    pub output: &'a mut W,
+    pub output: W,
 }
 
 /// How far a list of lines or of entries is.
@@ -49,43 +49,43 @@ impl Items {
     }
 }
 
-impl<'a, W: fmt::Write> Lines<'a, W> {
+impl<W: fmt::Write> Lines<W> {
     /// A text.
     pub fn put(&mut self, text: &str) -> Result<(), WriteError>
-        ensures text { Writes W.write_str_gives self.old.output.now result
-            text.now self.new.output.now }
+        ensures text { Writes W.write_str_gives self.old.output result
+            text.now self.new.output }
         ensures form { self.new.options ≡ self.old.options }
     {
-        put(self.output, text)
+        put(&mut self.output, text)
     }
 
     /// A value as it displays itself.
     pub fn put_shown<D: fmt::Display + Drop>(&mut self, value: D) -> Result<(), WriteError>
         ensures text { IfSome (D.output value)
-            (λ text. Writes W.write_str_gives self.old.output.now result text self.new.output.now) }
+            (λ text. Writes W.write_str_gives self.old.output result text self.new.output) }
         ensures form { self.new.options ≡ self.old.options }
     {
-        put_shown(self.output, value)
+        put_shown(&mut self.output, value)
     }
 
     /// A name in brackets.
     pub fn put_bracketed(&mut self, name: &str) -> Result<(), WriteError>
-        ensures text { Writes W.write_str_gives self.old.output.now result
-            (bracketed name.now) self.new.output.now }
+        ensures text { Writes W.write_str_gives self.old.output result
+            (bracketed name.now) self.new.output }
         ensures form { self.new.options ≡ self.old.options }
     {
-        put_bracketed(self.output, name)
+        put_bracketed(&mut self.output, name)
     }
 
     /// What stands before an element of a list.
     pub fn next_element(&mut self, is_first: &mut bool) -> Result<(), WriteError>
-        ensures text { Writes W.write_str_gives self.old.output.now result
-            (before_element self.old.options.pretty is_first.old) self.new.output.now }
+        ensures text { Writes W.write_str_gives self.old.output result
+            (before_element self.old.options.pretty is_first.old) self.new.output }
         ensures first { OnOk result (is_first.new ≡ false) }
         ensures form { self.new.options ≡ self.old.options }
     {
         if !*is_first {
-            put(self.output, ",")?;
+            put(&mut self.output, ",")?;
             self.padding()?;
         }
         *is_first = false;
@@ -94,9 +94,9 @@ impl<'a, W: fmt::Write> Lines<'a, W> {
 
     /// What stands before an item.
     pub fn next_item(&mut self, items: &mut Items, at: Place) -> Result<(), WriteError>
-        ensures text { Writes W.write_str_gives self.old.output.now result
+        ensures text { Writes W.write_str_gives self.old.output result
             (before_item self.old.options.pretty items.old.in_braces items.old.any at.indent)
-            self.new.output.now }
+            self.new.output }
         ensures items { OnOk result (items.new ≡ record items.old { any = true }) }
         ensures form { self.new.options ≡ self.old.options }
     {
@@ -105,7 +105,7 @@ impl<'a, W: fmt::Write> Lines<'a, W> {
                 self.line(at)?;
             }
         } else if items.any {
-            put(self.output, ",")?;
+            put(&mut self.output, ",")?;
         }
         items.any = true;
         Ok(())
@@ -113,18 +113,18 @@ impl<'a, W: fmt::Write> Lines<'a, W> {
 
     /// The brace behind items that stand in braces at a place.
     pub fn close(&mut self, any: bool, at: Place) -> Result<(), WriteError>
-        ensures text { Writes W.write_str_gives self.old.output.now result
-            (last_line self.old.options.pretty any at.indent ++ 125 ∷ []) self.new.output.now }
+        ensures text { Writes W.write_str_gives self.old.output result
+            (last_line self.old.options.pretty any at.indent ++ 125 ∷ []) self.new.output }
         ensures form { self.new.options ≡ self.old.options }
     {
         self.last_line(any, at)?;
-        put(self.output, "}")
+        put(&mut self.output, "}")
     }
 
     /// The line that the brace behind items stands in.
     fn last_line(&mut self, any: bool, at: Place) -> Result<(), WriteError>
-        ensures text { Writes W.write_str_gives self.old.output.now result
-            (last_line self.old.options.pretty any at.indent) self.new.output.now }
+        ensures text { Writes W.write_str_gives self.old.output result
+            (last_line self.old.options.pretty any at.indent) self.new.output }
         ensures form { self.new.options ≡ self.old.options }
     {
         if any && self.options.pretty {
@@ -135,45 +135,45 @@ impl<'a, W: fmt::Write> Lines<'a, W> {
 
     /// The end of a line, and the spaces that the next one begins with.
     fn line(&mut self, at: Place) -> Result<(), WriteError>
-        ensures text { Writes W.write_str_gives self.old.output.now result
-            (new_line at.indent) self.new.output.now }
+        ensures text { Writes W.write_str_gives self.old.output result
+            (new_line at.indent) self.new.output }
         ensures form { self.new.options ≡ self.old.options }
     {
-        put(self.output, "\n")?;
+        put(&mut self.output, "\n")?;
         for _ in 0..at.indent {
-            put(self.output, " ")?;
+            put(&mut self.output, " ")?;
         }
         Ok(())
     }
 
     /// A space where the form has one.
     pub fn padding(&mut self) -> Result<(), WriteError>
-        ensures text { Writes W.write_str_gives self.old.output.now result
-            (padding self.old.options.pretty) self.new.output.now }
+        ensures text { Writes W.write_str_gives self.old.output result
+            (padding self.old.options.pretty) self.new.output }
         ensures form { self.new.options ≡ self.old.options }
     {
         if self.options.pretty {
-            put(self.output, " ")?;
+            put(&mut self.output, " ")?;
         }
         Ok(())
     }
 
     /// A colon and the space behind it.
     pub fn colon(&mut self) -> Result<(), WriteError>
-        ensures text { Writes W.write_str_gives self.old.output.now result
-            (colon self.old.options.pretty) self.new.output.now }
+        ensures text { Writes W.write_str_gives self.old.output result
+            (colon self.old.options.pretty) self.new.output }
         ensures form { self.new.options ≡ self.old.options }
     {
-        put(self.output, ":")?;
+        put(&mut self.output, ":")?;
         self.padding()
     }
 
     /// Bytes as a string literal.
     pub fn string(&mut self, bytes: &[u8]) -> Result<(), WriteError>
-        ensures text { Writes W.write_str_gives self.old.output.now result
-            (quoted bytes.now) self.new.output.now }
+        ensures text { Writes W.write_str_gives self.old.output result
+            (quoted bytes.now) self.new.output }
         ensures form { self.new.options ≡ self.old.options }
     {
-        put_quoted(self.output, bytes)
+        put_quoted(&mut self.output, bytes)
     }
 }

@@ -36,29 +36,29 @@ fn inferred(alloc: Global, payload: &[u8]) -> Result<Option<UnknownFieldSet>, Wr
     }
 }
 
-impl<'a, W: fmt::Write> Lines<'a, W> {
+impl<W: fmt::Write> Lines<W> {
     /// A record with its number.
     #[cycle(unknown)]
     pub fn unknown_field(&mut self, record: &UnknownField, at: Place) -> Result<(), WriteError>
-        ensures text { WritesOne W.write_str_gives self.old.output.now result
+        ensures text { WritesOne W.write_str_gives self.old.output result
             (IsRecordText self.old.options.pretty
             (IsPayloadText at.payloads self.old.options.pretty) at.indent
             (field_view «record».now))
-            self.new.output.now }
+            self.new.output }
         ensures form { self.new.options ≡ self.old.options }
     {
-        put_shown(self.output, record.number())?;
+        put_shown(&mut self.output, record.number())?;
         self.unknown_value(record.value(), at)
     }
 
     /// What stands behind a record's number.
     #[cycle(unknown)]
     fn unknown_value(&mut self, value: &UnknownFieldValue, at: Place) -> Result<(), WriteError>
-        ensures text { WritesOne W.write_str_gives self.old.output.now result
+        ensures text { WritesOne W.write_str_gives self.old.output result
             (IsValueText self.old.options.pretty
             (IsPayloadText at.payloads self.old.options.pretty) at.indent
             (payload_view value.now))
-            self.new.output.now }
+            self.new.output }
         ensures form { self.new.options ≡ self.old.options }
     {
         match value {
@@ -71,38 +71,38 @@ impl<'a, W: fmt::Write> Lines<'a, W> {
     }
 
     fn varint(&mut self, value: u64) -> Result<(), WriteError>
-        ensures text { Writes W.write_str_gives self.old.output.now result
-            (colon self.old.options.pretty ++ decimal value) self.new.output.now }
+        ensures text { Writes W.write_str_gives self.old.output result
+            (colon self.old.options.pretty ++ decimal value) self.new.output }
         ensures form { self.new.options ≡ self.old.options }
     {
         self.colon()?;
-        put_shown(self.output, value)
+        put_shown(&mut self.output, value)
     }
 
     fn fixed_32(&mut self, value: u32) -> Result<(), WriteError>
-        ensures text { Writes W.write_str_gives self.old.output.now result
-            (colon self.old.options.pretty ++ hexadecimal 8 value) self.new.output.now }
+        ensures text { Writes W.write_str_gives self.old.output result
+            (colon self.old.options.pretty ++ hexadecimal 8 value) self.new.output }
         ensures form { self.new.options ≡ self.old.options }
     {
         self.colon()?;
-        put_hex_32(self.output, value)
+        put_hex_32(&mut self.output, value)
     }
 
     fn fixed_64(&mut self, value: u64) -> Result<(), WriteError>
-        ensures text { Writes W.write_str_gives self.old.output.now result
-            (colon self.old.options.pretty ++ hexadecimal 16 value) self.new.output.now }
+        ensures text { Writes W.write_str_gives self.old.output result
+            (colon self.old.options.pretty ++ hexadecimal 16 value) self.new.output }
         ensures form { self.new.options ≡ self.old.options }
     {
         self.colon()?;
-        put_hex_64(self.output, value)
+        put_hex_64(&mut self.output, value)
     }
 
     /// A payload: as records where it spells some, else as a string.
     #[cycle(unknown)]
     fn payload(&mut self, payload: &[u8], at: Place) -> Result<(), WriteError>
-        ensures text { WritesOne W.write_str_gives self.old.output.now result
+        ensures text { WritesOne W.write_str_gives self.old.output result
             (IsPayloadText at.payloads self.old.options.pretty at.indent payload.now)
-            self.new.output.now }
+            self.new.output }
         ensures form { self.new.options ≡ self.old.options }
     {
         if let Some(payloads) = at.payloads.checked_sub(1) {
@@ -115,8 +115,8 @@ impl<'a, W: fmt::Write> Lines<'a, W> {
 
     /// Bytes behind a number.
     fn bytes(&mut self, bytes: &[u8]) -> Result<(), WriteError>
-        ensures text { Writes W.write_str_gives self.old.output.now result
-            (colon self.old.options.pretty ++ quoted bytes.now) self.new.output.now }
+        ensures text { Writes W.write_str_gives self.old.output result
+            (colon self.old.options.pretty ++ quoted bytes.now) self.new.output }
         ensures form { self.new.options ≡ self.old.options }
     {
         self.colon()?;
@@ -126,11 +126,11 @@ impl<'a, W: fmt::Write> Lines<'a, W> {
     /// Records in braces behind a number.
     #[cycle(unknown)]
     fn group(&mut self, records: &UnknownFieldSet, at: Place) -> Result<(), WriteError>
-        ensures text { WritesOne W.write_str_gives self.old.output.now result
+        ensures text { WritesOne W.write_str_gives self.old.output result
             (IsValueText self.old.options.pretty
             (IsPayloadText at.payloads self.old.options.pretty) at.indent
             (group (set_view records.now)))
-            self.new.output.now }
+            self.new.output }
         ensures form { self.new.options ≡ self.old.options }
     {
         self.padding()?;
@@ -140,14 +140,14 @@ impl<'a, W: fmt::Write> Lines<'a, W> {
     /// Records in braces.
     #[cycle(unknown)]
     fn braced_records(&mut self, records: &UnknownFieldSet, at: Place) -> Result<(), WriteError>
-        ensures text { WritesOne W.write_str_gives self.old.output.now result
+        ensures text { WritesOne W.write_str_gives self.old.output result
             (IsBraced self.old.options.pretty
             (IsPayloadText at.payloads self.old.options.pretty) at.indent
             (set_view records.now))
-            self.new.output.now }
+            self.new.output }
         ensures form { self.new.options ≡ self.old.options }
     {
-        put(self.output, "{")?;
+        put(&mut self.output, "{")?;
         let inner = at.in_braces()?;
         let mut items = Items::new(true);
         for record in records.iter() {

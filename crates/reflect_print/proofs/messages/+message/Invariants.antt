@@ -62,26 +62,26 @@ decreases-pair g l = 16 * l.at.levels + 4
 abbrev pub invariant-set_fields-each : goal.invariant-set_fields-each
 invariant-set_fields-each g l =
     IsSpanFront g.W.Write.write_str_gives l.fn.lines.options l.fn.at.payloads l.fn.at.expansions l.fn.at.indent
-    l.fn.lines.output.now l.fn.items (set_entries l.fn.message)
-    l.lines.output.now l.items l.lines.options (map given_entry (fields_left l.field-iterator))
+    l.fn.lines.output l.fn.items (set_entries l.fn.message)
+    l.lines.output l.items l.lines.options (map given_entry (fields_left l.field-iterator))
 
 abbrev pub invariant-chosen_fields-each : goal.invariant-chosen_fields-each
 invariant-chosen_fields-each g l =
     IsSpanFront g.W.Write.write_str_gives l.fn.lines.options l.fn.at.payloads l.fn.at.expansions l.fn.at.indent
-    l.fn.lines.output.now l.fn.items (map declared_entry l.entry-items)
-    l.lines.output.now l.items l.lines.options (map declared_entry (drop l.entry-index l.entry-items))
+    l.fn.lines.output l.fn.items (map declared_entry l.entry-items)
+    l.lines.output l.items l.lines.options (map declared_entry (drop l.entry-index l.entry-items))
 
 abbrev pub invariant-others-each : goal.invariant-others-each
 invariant-others-each g l =
     IsSpanFront g.W.Write.write_str_gives l.fn.lines.options l.fn.at.payloads l.fn.at.expansions l.fn.at.indent
-    l.fn.lines.output.now l.fn.items (map other_entry l.other-items)
-    l.lines.output.now l.items l.lines.options (map other_entry (drop l.other-index l.other-items))
+    l.fn.lines.output l.fn.items (map other_entry l.other-items)
+    l.lines.output l.items l.lines.options (map other_entry (drop l.other-index l.other-items))
 
 abbrev pub invariant-list-each : goal.invariant-list-each
 invariant-list-each g l = record {
   row : IsFront g.W.Write.write_str_gives
       (IsListText l.fn.lines.options l.inner.payloads l.inner.expansions l.inner.indent (kind_given l.fn.kind))
-      l.fn.lines.output.now (91 ∷ []) true l.values l.lines.output.now l.is_first (drop l.value-index l.values);
+      l.fn.lines.output (91 ∷ []) true l.values l.lines.output l.is_first (drop l.value-index l.values);
   form : l.lines.options ≡ l.fn.lines.options;
 }
 
@@ -89,6 +89,6 @@ abbrev pub invariant-map-each : goal.invariant-map-each
 invariant-map-each g l = record {
   row : IsFront g.W.Write.write_str_gives
       (IsMapText l.fn.lines.options l.inner.payloads l.inner.expansions l.inner.indent (kind_held l.kind_within))
-      l.fn.lines.output.now (91 ∷ []) true l.fn.pairs.entries l.lines.output.now l.is_first l.key-iterator;
+      l.fn.lines.output (91 ∷ []) true l.fn.pairs.entries l.lines.output l.is_first l.key-iterator;
   form : l.lines.options ≡ l.fn.lines.options;
 }

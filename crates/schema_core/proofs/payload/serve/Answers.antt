@@ -17,7 +17,7 @@ pub returns-in_ok-text-in-Decode-clause-answered : goal.returns-in_ok-text-in-De
 returns-in_ok-text-in-Decode-clause-answered g c =
     let bytes = c.in_ok-bytes-in-Decode in
     answered (Answers c.args.action c.args.schema.now.pool c.args.type_name.now c.args.is_hex) _ _ _ _ c.in_ok-input.input.items (string_bytes c.in_ok-text-in-Decode.text) c.in_ok-input.ensures.bytes
-    (rw c.in-Decode.is (bytes.bytes.items, bytes.ensures.ok, subst (Decoded c.args.schema.now.pool c.args.type_name.now) c.as_slice-in-Decode.ensures.value c.in_ok-decode-in-Decode.ensures.ok, (string_bytes c.in_ok-decode-in-Decode.field-0, c.in_ok-text-in-Decode.ensures.ok))) (rw (c.as_bytes.ensures.value, c.as_str.ensures.value) at c.write_all.ensures.ok)
+    (rw c.in-Decode.is (bytes.bytes.items, bytes.ensures.ok, (string_bytes c.in_ok-decode-in-Decode.field-0, subst (λ b. Decoded c.args.schema.now.pool c.args.type_name.now b (string_bytes c.in_ok-decode-in-Decode.field-0)) c.as_slice-in-Decode.ensures.value c.in_ok-decode-in-Decode.ensures.ok, c.in_ok-text-in-Decode.ensures.ok))) (rw (c.as_bytes.ensures.value, c.as_str.ensures.value) at c.write_all.ensures.ok)
 
 pub returns-in_ok-bytes-in-Recode-2-clause-answered : goal.returns-in_ok-bytes-in-Recode-2-clause-answered
 returns-in_ok-bytes-in-Recode-2-clause-answered g c =

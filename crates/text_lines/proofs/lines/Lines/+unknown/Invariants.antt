@@ -23,9 +23,9 @@ abbrev pub invariant-braced_records-loop-record : goal.invariant-braced_records-
 invariant-braced_records-loop-record g l = record {
   next : (goal.iterator-braced_records-loop-record g).can_next l.record-iterator;
   finite : (goal.iterator-braced_records-loop-record g).is_finite l.record-iterator;
-  front : IsFront g.W.Write.write_str_gives l.fn.self.output.now l.fn.self.options.pretty
+  front : IsFront g.W.Write.write_str_gives l.fn.self.output l.fn.self.options.pretty
       (IsPayloadText l.fn.at.payloads l.fn.self.options.pretty) (l.fn.at.indent + 2)
-      (set_view l.fn.records) l.self.output.now l.items.any
+      (set_view l.fn.records) l.self.output l.items.any
       (records_view l.record-iterator.rest.now);
   form : l.self.options ≡ l.fn.self.options;
   braces : l.items.in_braces ≡ true;
