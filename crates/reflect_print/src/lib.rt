@@ -7,4 +7,4 @@ mod messages;
 mod writer;
 
 pub use text_lines::{FormatOptions, WriteError};
-pub use writer::Writer;
+pub use writer::{Writer, message_text};

@@ -1,6 +1,6 @@
 //! From a message to text.
 
-ghost use Rattle.std.specs.Prelude.{◌≡◌, OnOk};
+ghost use Rattle.std.specs.Prelude.{◌≡◌, IfOk, OnOk, string_bytes};
 ghost use Rattle.text_lines.specs.Appends.{WritesOne};
 ghost use Rattle.text_lines.specs.UnknownTexts.{IsPayloadText, IsRecordText};
 ghost use Rattle.reflect_print.specs.MessageTexts.{IsItemsText, IsValueText, IsMessageText};
@@ -76,4 +76,22 @@ impl<'a, W: fmt::Write> Writer<'a, W> {
     {
         self.lines.unknown_field(field, Place::TOP)
     }
+}
+
+/// The text of a message in the form of the options, without braces around it.
+pub fn message_text(
+    alloc: Global,
+    message: &DynamicMessage<'_>,
+    options: FormatOptions,
+) -> Result<String, WriteError>
+    ensures { IfOk result (λ text. IsMessageText options message.now (string_bytes text)) }
+{
+    let mut lines = Lines {
+        alloc,
+        options,
+        output: String::new(alloc),
+    };
+    items(&mut lines, message, false, Place::TOP)?;
+    let Lines { output, .. } = lines;
+    Ok(output)
 }

@@ -7,7 +7,7 @@ ghost use Rattle.text_lines.specs.Forms.{usual_form};
 use reflect_format::{ParseError, Parser};
 use reflect_message::{DynamicMessage, MessageParts};
 use reflect_pool::MessageDescriptor;
-use reflect_print::{FormatOptions, WriteError, Writer};
+use reflect_print::{FormatOptions, WriteError, message_text};
 use std::alloc::Global;
 
 /// Messages as text, in protobuf's text format (protobuf.dev, "Text Format Language
@@ -81,8 +81,6 @@ impl<'p> TextFormat<'p> for DynamicMessage<'p> {
         alloc: Global,
         options: &FormatOptions,
     ) -> Result<String, WriteError> {
-        let mut text = String::new(alloc);
-        Writer::new(alloc, *options, &mut text).fmt_message(self)?;
-        Ok(text)
+        message_text(alloc, self, *options)
     }
 }
