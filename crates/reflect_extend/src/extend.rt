@@ -1,11 +1,15 @@
 //! Values put behind those of a list, and entries put into a map.
 
-ghost use Rattle.std.specs.Prelude.{◌≡◌, ◌≢◌, ℕ, ◌++◌, true, Some, IfSome, OnOk, OnErr};
-ghost use Rattle.reflect_entries.specs.Entries.{value_at};
-ghost use Rattle.reflect_pool.specs.Shapes.{holds_list};
+ghost use Rattle.std.specs.Prelude.{◌≡◌, ◌≢◌, ℕ, ◌++◌, true, false, None, Some, IfOk, IfSome, OnOk, OnErr};
+ghost use Rattle.reflect_entries.specs.Entries.{Updates, value_at};
+ghost use Rattle.reflect_pool.specs.FieldsLeft.{field_type};
+ghost use Rattle.reflect_pool.specs.Shapes.{holds_list, holds_map};
+ghost use Rattle.reflect_scalar.specs.FieldTypes.{field_pool};
 ghost use Rattle.reflect_message.specs.Declares.{Declares};
 ghost use Rattle.reflect_message.specs.Lists.{list_items, Lengthens, KeepsList};
-ghost use Rattle.reflect_message.specs.Held.{Same};
+ghost use Rattle.reflect_message.specs.Held.{fields_of, Same};
+ghost use Rattle.reflect_extend.specs.Gives.{Gives, GivesEntry, IsPart};
+ghost use Rattle.reflect_extend.specs.Puts.{Puts, PutsAll, PutsFront, PutsEntries, PutsSome};
 
 use reflect_entries::Entries;
 use reflect_message::{DynamicMessage, Value, default_of};
@@ -31,6 +35,14 @@ pub fn extend<'p, F: FieldDescriptorLike<'p>>(
     ensures left { holds_list (F.pool field.now) (F.says field.now) ≡ true
         → OnErr result (KeepsList (value_at content.old (F.says field.now).number)
         (value_at content.new (F.says field.now).number)) }
+    ensures map { holds_map (F.pool field.now) (F.says field.now) ≡ true
+        → OnOk result (PutsEntries (value_at content.old (F.says field.now).number)
+        (value_at content.new (F.says field.now).number) values.entry.items) }
+    ensures part { holds_map (F.pool field.now) (F.says field.now) ≡ true
+        → OnErr result (PutsSome (value_at content.old (F.says field.now).number)
+        (value_at content.new (F.says field.now).number) values.entry.items) }
+    ensures neither { holds_list (F.pool field.now) (F.says field.now) ≡ false
+        → holds_map (F.pool field.now) (F.says field.now) ≡ false → content.new ≡ content.old }
 {
     let number = field.number();
     if field.is_list() {
@@ -56,30 +68,65 @@ fn append<'p>(list: &mut Value<'p>, mut values: Vec<Value<'p>>) -> Result<(), Al
     held.append(&mut values)
 }
 
-/// Puts entries into a map, each over what stood under its key.
-fn insert<'p>(
+/// Puts the entries that values give into a map, one behind the other, each over what stood under
+/// its key.
+fn insert<'p>(alloc: Global, map: &mut Value<'p>, entries: Vec<Value<'p>>) -> Result<(), AllocError>
+    ensures puts { OnOk result (PutsEntries (Some map.old) (Some map.new) entries.entry.items) }
+    ensures part { OnErr result (PutsSome (Some map.old) (Some map.new) entries.entry.items) }
+{
+    match map {
+        Value::Map(held) => insert_all(alloc, held, entries),
+        _ => Ok(()),
+    }
+}
+
+fn insert_all<'p>(
     alloc: Global,
-    map: &mut Value<'p>,
+    held: &mut BTreeMap<MapKey, Value<'p>>,
     entries: Vec<Value<'p>>,
-) -> Result<(), AllocError> {
-    let Value::Map(held) = map else {
-        return Ok(());
-    };
+) -> Result<(), AllocError>
+    ensures puts { OnOk result (PutsAll held.old.entries held.new.entries entries.entry.items) }
+    ensures part { OnErr result (PutsFront held.old.entries held.new.entries
+        entries.entry.items) }
+{
     for entry in entries {
-        if let Value::Message(entry) = entry {
-            if let Some((key, value)) = key_and_value(alloc, entry)? {
-                held.insert(key, value)?;
-            }
-        }
+        insert_one(alloc, held, entry)?;
     }
     Ok(())
+}
+
+/// Puts the entry that a value gives, if it gives one. A refusal leaves the map.
+fn insert_one<'p>(
+    alloc: Global,
+    held: &mut BTreeMap<MapKey, Value<'p>>,
+    entry: Value<'p>,
+) -> Result<(), AllocError>
+    ensures puts { OnOk result (Puts held.old.entries held.new.entries entry.entry) }
+    ensures left { OnErr result (held.new.entries ≡ held.old.entries) }
+{
+    if let Some((key, value)) = entry_of(alloc, entry)? {
+        held.insert(key, value)?;
+    }
+    Ok(())
+}
+
+/// The entry that a value gives, if it is a message of a type of entries.
+fn entry_of<'p>(alloc: Global, value: Value<'p>) -> Result<Option<(MapKey, Value<'p>)>, AllocError>
+    ensures { IfOk result (Gives value.entry) }
+{
+    match value {
+        Value::Message(entry) => key_and_value(alloc, entry),
+        _other => Ok(None),
+    }
 }
 
 /// The key and the value of an entry. Each is its default where the entry has none.
 fn key_and_value<'p>(
     alloc: Global,
     mut entry: DynamicMessage<'p>,
-) -> Result<Option<(MapKey, Value<'p>)>, AllocError> {
+) -> Result<Option<(MapKey, Value<'p>)>, AllocError>
+    ensures { IfOk result (GivesEntry entry.entry) }
+{
     let descriptor = entry.descriptor();
     if !descriptor.is_map_entry() {
         return Ok(None);
@@ -94,14 +141,18 @@ fn key_and_value<'p>(
     }
 }
 
-/// What a message holds under a field of its type, or the field's default.
+/// What a message holds under a field of its type, taken out, or the field's default.
 fn taken<'p>(
     alloc: Global,
     message: &mut DynamicMessage<'p>,
     field: FieldDescriptor<'p>,
 ) -> Result<Value<'p>, AllocError>
     requires { Declares message.old.descriptor field }
-    ensures { message.new.descriptor ≡ message.old.descriptor }
+    ensures type_stays { message.new.descriptor ≡ message.old.descriptor }
+    ensures part { IfOk result (IsPart (field_pool field.entry) (field_type field.entry)
+        (value_at (fields_of message.old) (field_type field.entry).number)) }
+    ensures taken { Updates (fields_of message.old) (fields_of message.new)
+        (field_type field.entry).number None }
 {
     match message.take_field(&field) {
         Some(value) => Ok(value),

@@ -1,12 +1,13 @@
-ghost use Rattle.std.specs.Prelude.{◌≡◌, ◌≢◌, ℕ, true, Some, OnOk, OnErr};
+ghost use Rattle.std.specs.Prelude.{◌≡◌, ◌≢◌, ℕ, true, false, Some, OnOk, OnErr};
 ghost use Rattle.reflect_pool.specs.FieldsLeft.{field_type};
-ghost use Rattle.reflect_pool.specs.Shapes.{holds_list};
+ghost use Rattle.reflect_pool.specs.Shapes.{holds_list, holds_map};
 ghost use Rattle.reflect_scalar.specs.FieldTypes.{field_pool, extension_pool, extension_type};
 ghost use Rattle.reflect_entries.specs.Entries.{value_at};
 ghost use Rattle.reflect_message.specs.Declares.{Declares};
 ghost use Rattle.reflect_message.specs.Held.{fields_of, choices_of, extensions_of, unknown_of, Same};
 ghost use Rattle.reflect_message.specs.Lists.{Lengthens, KeepsList};
 ghost use Rattle.reflect_message.specs.Oneofs.{sibling};
+ghost use Rattle.reflect_extend.specs.Puts.{PutsEntries, PutsSome};
 
 use crate::extend::extend;
 use reflect_message::{DynamicMessage, MessageParts, Parts, Value};
@@ -43,6 +44,19 @@ pub trait ExtendMessage<'p> {
             → OnErr result (KeepsList (value_at (fields_of (message self.old))
             (field_type field.now).number)
             (value_at (fields_of (message self.new)) (field_type field.now).number)) }
+        ensures map { holds_map (field_pool field.now) (field_type field.now) ≡ true
+            → OnOk result (PutsEntries (value_at (fields_of (message self.old))
+            (field_type field.now).number)
+            (value_at (fields_of (message self.new)) (field_type field.now).number)
+            values.entry.items) }
+        ensures part { holds_map (field_pool field.now) (field_type field.now) ≡ true
+            → OnErr result (PutsSome (value_at (fields_of (message self.old))
+            (field_type field.now).number)
+            (value_at (fields_of (message self.new)) (field_type field.now).number)
+            values.entry.items) }
+        ensures neither { holds_list (field_pool field.now) (field_type field.now) ≡ false
+            → holds_map (field_pool field.now) (field_type field.now) ≡ false
+            → fields_of (message self.new) ≡ fields_of (message self.old) }
         ensures others { (n : ℕ) → n ≢ (field_type field.now).number
             → sibling field.now (choices_of (message self.old)) ≢ Some n
             → Same (fields_of (message self.old)) (fields_of (message self.new)) n }
@@ -66,6 +80,19 @@ pub trait ExtendMessage<'p> {
             ≡ true → OnErr result (KeepsList
             (value_at (extensions_of (message self.old)) (extension_type extension.now).number)
             (value_at (extensions_of (message self.new)) (extension_type extension.now).number)) }
+        ensures map { holds_map (extension_pool extension.now) (extension_type extension.now)
+            ≡ true → OnOk result (PutsEntries
+            (value_at (extensions_of (message self.old)) (extension_type extension.now).number)
+            (value_at (extensions_of (message self.new)) (extension_type extension.now).number)
+            values.entry.items) }
+        ensures part { holds_map (extension_pool extension.now) (extension_type extension.now)
+            ≡ true → OnErr result (PutsSome
+            (value_at (extensions_of (message self.old)) (extension_type extension.now).number)
+            (value_at (extensions_of (message self.new)) (extension_type extension.now).number)
+            values.entry.items) }
+        ensures neither { holds_list (extension_pool extension.now) (extension_type extension.now)
+            ≡ false → holds_map (extension_pool extension.now) (extension_type extension.now)
+            ≡ false → extensions_of (message self.new) ≡ extensions_of (message self.old) }
         ensures others { (n : ℕ) → n ≢ (extension_type extension.now).number
             → Same (extensions_of (message self.old)) (extensions_of (message self.new)) n }
         ensures fields { fields_of (message self.new) ≡ fields_of (message self.old) }
@@ -118,6 +145,15 @@ fn extend_parts<'p>(
     ensures left { holds_list (field_pool field.now) (field_type field.now) ≡ true
         → OnErr result (KeepsList (value_at parts.old.fields (field_type field.now).number)
         (value_at parts.new.fields (field_type field.now).number)) }
+    ensures map { holds_map (field_pool field.now) (field_type field.now) ≡ true
+        → OnOk result (PutsEntries (value_at parts.old.fields (field_type field.now).number)
+        (value_at parts.new.fields (field_type field.now).number) values.entry.items) }
+    ensures part { holds_map (field_pool field.now) (field_type field.now) ≡ true
+        → OnErr result (PutsSome (value_at parts.old.fields (field_type field.now).number)
+        (value_at parts.new.fields (field_type field.now).number) values.entry.items) }
+    ensures neither { holds_list (field_pool field.now) (field_type field.now) ≡ false
+        → holds_map (field_pool field.now) (field_type field.now) ≡ false
+        → parts.new.fields ≡ parts.old.fields }
     ensures extensions { parts.new.extensions ≡ parts.old.extensions }
     ensures unknown { parts.new.unknown ≡ parts.old.unknown }
 {

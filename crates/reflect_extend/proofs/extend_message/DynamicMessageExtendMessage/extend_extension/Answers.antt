@@ -1,0 +1,16 @@
+use Rattle.std.proofs.Common.{ap, ◌∙◌}
+use Rattle.reflect_message.specs.Held.{extensions_of}
+use Rattle.reflect_scalar.specs.FieldTypes.{extension_type}
+use Rattle.reflect_message.specs.Lists.{KeepsList}
+use Rattle.reflect_message.specs.declared.parts.Parts.{Parts}
+use Rattle.reflect_extend.proofs.Putting.{puts_none_at, left_back}
+use Rattle.reflect_extend.proofs.extend_message.DynamicMessageExtendMessage.extend_extension.Goals as goal
+
+pub returns-in_err-parts-clause-part : goal.returns-in_err-parts-clause-part
+returns-in_err-parts-clause-part c = λ map. puts_none_at c.from_residual.result (extensions_of c.args.self.now) (extensions_of c.take_block.new.self) (extension_type c.args.extension.now).number c.args.values.items (ap extensions_of c.in_err-parts.ensures.err)
+
+pub returns-clause-left : goal.returns-clause-left
+returns-clause-left c = λ list.
+    let out = ap (λ (parts : Parts). parts.extensions) c.deref_mut.ensures.value ∙ c.in_ok-parts.ensures.extensions in
+    left_back c.extend-outcome.result KeepsList (extensions_of c.args.self.now) c.deref_mut.result.now.extensions c.extend-outcome.new.content (extensions_of c.put_block.new.self) (extension_type c.args.extension.now).number
+    out c.put_block.ensures.extensions (c.extend-outcome.ensures.left list)
