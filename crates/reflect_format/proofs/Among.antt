@@ -1,13 +1,11 @@
 -- Of which of some fields a message holds a value.
-use Rattle.std.proofs.Common.{suc, List, ◌∷◌, refl, arith}
-use Rattle.std.specs.Prelude.{IsSome}
-use Rattle.reflect_entries.specs.Entries.{value_at}
+use Rattle.std.proofs.Common.{true, suc, List, ◌∷◌, refl, arith}
+use Rattle.reflect_access.specs.Called.{HasNumber, TellsMeant}
 use Rattle.reflect_tables.specs.Types.{FieldType}
-use Rattle.reflect_message.specs.Held.{fields_of}
 use Rattle.reflect_message.specs.declared.message.DynamicMessage.{DynamicMessage}
 use Rattle.reflect_format.specs.Refusals.{HoldsAmong}
 
-pub first_held : (m : DynamicMessage) (f : FieldType) (fs : List FieldType) → IsSome (value_at (fields_of m) f.number) → HoldsAmong m (f ∷ fs)
+pub first_held : (m : DynamicMessage) (f : FieldType) (fs : List FieldType) → TellsMeant (HasNumber f.number) m true → HoldsAmong m (f ∷ fs)
 first_held m f fs held = (0, f, omega arith, refl, held)
 
 pub held_behind : (m : DynamicMessage) (f : FieldType) (fs : List FieldType) → HoldsAmong m fs → HoldsAmong m (f ∷ fs)

@@ -1,4 +1,6 @@
 pub mod Among
 pub mod Enumerated
+pub mod Filling
+pub mod Single
 pub mod Stepping
 pub mod Telling

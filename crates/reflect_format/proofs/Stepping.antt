@@ -1,5 +1,5 @@
 -- What the fields of a text do to a message, from what the calls that they come down to do.
-use Rattle.std.proofs.Common.{◌≡◌, ◌≢◌, inl, inr, ℕ, List, [], ◌∷◌, ◌++◌, Some, None, Result, Ok, Err, IfErr, IsErrAnd, refl, sym, ◌∙◌, subst}
+use Rattle.std.proofs.Common.{◌≡◌, ◌≢◌, inl, inr, ℕ, Some, None, Result, Ok, Err, IfErr, IsErrAnd, refl, sym, ◌∙◌, subst}
 use Rattle.reflect_entries.specs.Entries.{value_at}
 use Rattle.reflect_pool.specs.FieldsLeft.{field_type}
 use Rattle.reflect_pool.specs.declared.field.FieldDescriptor.{FieldDescriptor}
@@ -8,17 +8,9 @@ use Rattle.reflect_message.specs.Held.{fields_of, choices_of}
 use Rattle.reflect_message.specs.Oneofs.{SetsField, Changes, IsExclusive, IsSibling}
 use Rattle.reflect_message.specs.declared.message.DynamicMessage.{DynamicMessage}
 use Rattle.reflect_message.specs.declared.value.Value.{Value}
-use Rattle.reflect_format.specs.Steps.{Step, Steps, Reaches, Stays, Begins, Refuses}
+use Rattle.reflect_format.specs.Steps.{Stays, Begins, Refuses}
 use Rattle.text_error.specs.declared.error.ParseErrorKind.{ParseErrorKind}
 use Rattle.text_error.specs.declared.error.ParseErrorKind.TheVariants as kinds
-
-steps_on : (further : List DynamicMessage) (old reached new : DynamicMessage) → Steps further old reached → Step reached new → Steps (further ++ new ∷ []) old new
-steps_on [] old reached new h s = (subst (λ m. Step m new) h s, refl)
-steps_on (next ∷ further) old reached new h s = (h.0, steps_on further next reached new h.1 s)
-
--- a field of a text more
-pub reaches_on : (old reached new : DynamicMessage) → Reaches old reached → Step reached new → Reaches old new
-reaches_on old reached new h s = (h.0 ++ new ∷ [], steps_on h.0 old reached new h.1 s)
 
 -- a refusal of what was not begun
 pub untouched : {T : Type 0} (m : DynamicMessage) (r : Result T ParseErrorKind) → IfErr r (λ k. Refuses k m m)

@@ -16,6 +16,8 @@ use Rattle.text_error.specs.declared.error.ParseErrorKind.TheVariants as kinds
 use Rattle.text_scalars.specs.Front.{integer_in, next, sees, word_in}
 use Rattle.text_scalars.specs.Number.{nameless, signed_32_bounds, signed_64_bounds, unsigned_32_bounds, unsigned_64_bounds}
 use Rattle.text_scalars.specs.Refusals.{IsUnexpected}
+use Rattle.text_model.specs.Scalars.{scalar_in}
+use Rattle.text_model.specs.Tree.{ScalarValue}
 use Rattle.text_scalars.specs.Scalars.{RefusesInteger, RefusesStrings, RefusesText, truth_words, value_at}
 use Rattle.reflect_format.specs.Enums.{number_named}
 use Rattle.reflect_format.specs.Refusals.{TellsValue}
@@ -43,9 +45,21 @@ names_of (values.Enum e) = number_named e
 names_of _ = nameless
 
 -- what the scalar value at the front of lexemes stands for in a field of the kind
+abbrev pub value_by : (Text → Option ℤ) → Option Scalar → List Lexeme
+    → Option (Single × Span × List Lexeme)
+value_by enum (Some s) ls = value_at enum s ls
+value_by enum None ls = None
+
 abbrev pub kind_value_at : Kind → List Lexeme → Option (Single × Span × List Lexeme)
-kind_value_at k ls =
-    elim (scalar_of k) [ Some s ↦ value_at (names_of k) s ls | None ↦ None ]
+kind_value_at k ls = value_by (names_of k) (scalar_of k) ls
+
+-- what a scalar value of a text stands for in a field of the kind
+abbrev pub given_by : (Text → Option ℤ) → Option Scalar → ScalarValue → Option Single
+given_by enum (Some k) s = scalar_in enum k s
+given_by enum None s = None
+
+abbrev pub scalar_given : Kind → ScalarValue → Option Single
+scalar_given k s = given_by (names_of k) (scalar_of k) s
 
 -- a value that is no message, no list and no map
 abbrev pub single_of : Value → Option Single

@@ -1,5 +1,5 @@
 -- What types have no field or extension of, and which of these hold floating-point numbers.
-use Rattle.std.specs.Prelude.{◌≡◌, true, ℕ, List, Option, None, IfSome, map}
+use Rattle.std.specs.Prelude.{◌≡◌, true, false, ℕ, List, Option, None, Some, IfSome, map}
 use Rattle.std.specs.Char.{to_ascii_lowercase}
 use Rattle.reflect_tables.specs.Types.{message, type_at, extension_at}
 use Rattle.reflect_pool.specs.Finds.{FindsField, FindsAny}
@@ -9,7 +9,7 @@ use Rattle.reflect_pool.specs.declared.field.FieldDescriptor.{FieldDescriptor}
 use Rattle.reflect_pool.specs.declared.message.MessageDescriptor.{MessageDescriptor}
 use Rattle.reflect_scalar.specs.FieldTypes.{field_pool, extension_pool, extension_type}
 use Rattle.reflect_scalar.specs.Floats.{HoldsFloats}
-use Rattle.reflect_message.specs.Declares.{Declares, Extends}
+use Rattle.reflect_message.specs.Declares.{Extends}
 
 -- no field of the type has the name, or the first that has it is a group
 abbrev pub LacksField : MessageDescriptor → List ℕ → Type 0
@@ -28,10 +28,15 @@ LacksGroup m name = (found : Option FieldDescriptor)
     × FindsField (λ f. f.name ≡ map to_ascii_lowercase name) m found
     × IfSome found (λ f. (f.message ≡ m) × (IsGroupCalled f name → ⊥))
 
--- a field of the type has the name and holds floating-point numbers
+-- the field of the name, which is no group
+abbrev pub FindsPlain : MessageDescriptor → List ℕ → FieldDescriptor → Type 0
+FindsPlain m name f = (f.message ≡ m) × FindsField (λ g. g.name ≡ name) m (Some f)
+    × ((field_type f).group ≡ false)
+
+-- it holds floating-point numbers
 abbrev pub HasFloatField : MessageDescriptor → List ℕ → Type 0
-HasFloatField m name = (f : FieldDescriptor) × Declares m f × ((field_type f).name ≡ name)
-    × HoldsFloats (field_pool f) (field_type f)
+HasFloatField m name =
+    (f : FieldDescriptor) × FindsPlain m name f × HoldsFloats (field_pool f) (field_type f)
 
 -- no extension of the type has the full name
 abbrev pub LacksExtension : MessageDescriptor → List ℕ → Type 0

@@ -1,7 +1,11 @@
 pub mod Enums
 pub mod Kinds
+pub mod Filled
 pub mod Lacks
+pub mod Named
+pub mod Reads
 pub mod Refusals
 pub mod Steps
 pub mod Takes
 pub mod Truth
+pub mod Unfit

@@ -12,6 +12,7 @@ use Rattle.reflect_pool.specs.declared.oneof.OneofDescriptor.{OneofDescriptor}
 use Rattle.reflect_pool.specs.Parts.{members_of, type_of_oneof}
 use Rattle.reflect_scalar.specs.FieldTypes.{extension_type}
 use Rattle.reflect_entries.specs.Entries.{value_at}
+use Rattle.reflect_access.specs.Called.{HasNumber, TellsMeant}
 use Rattle.reflect_message.specs.Held.{fields_of, extensions_of}
 use Rattle.reflect_message.specs.declared.message.DynamicMessage.{DynamicMessage}
 use Rattle.reflect_format.specs.Lacks.{IsGroupCalled, LacksField, LacksGroup, HasFloatField, LacksExtension, HasFloatExtension}
@@ -113,9 +114,9 @@ abbrev pub Holds : DynamicMessage → Target → Type 0
 Holds m (targets.Field f) = IsSome (value_at (fields_of m) (field_type f).number)
 Holds m (targets.Extension x) = IsSome (value_at (extensions_of m) (extension_type x).number)
 
--- the message holds a value of some of the fields
+-- some of the fields is set
 abbrev pub HoldsAmong : DynamicMessage → List FieldType → Type 0
-HoldsAmong m fs = Any (λ f. IsSome (value_at (fields_of m) f.number)) fs
+HoldsAmong m fs = Any (λ f. TellsMeant (HasNumber f.number) m true) fs
 
 -- and of some member of the oneof
 abbrev pub HoldsMember : DynamicMessage → OneofDescriptor → Type 0

@@ -1,11 +1,21 @@
 //! From text to a message.
 
-ghost use Rattle.text_scalars.specs.Left.{left};
-ghost use Rattle.reflect_format.specs.Steps.{Reaches, Refuses, Step, Stops, is_set};
-ghost use Rattle.reflect_format.specs.Takes.{Takes};
+ghost use Rattle.reflect_any.specs.Any.{IsAny};
+ghost use Rattle.reflect_format.specs.Filled.{AreGiven, AreValues, Assigns, Expands, Fills, FillsBody, FillsField, HasRival, Holds, IsAlone, IsGiven, IsValue, Makes};
+ghost use Rattle.reflect_format.specs.Reads.{IsCause, Reads, Refutes, Stops};
 ghost use Rattle.reflect_format.specs.Refusals.{RefusesSecond};
+ghost use Rattle.reflect_format.specs.Steps.{Refuses, is_set};
+ghost use Rattle.reflect_format.specs.Takes.{Takes};
 ghost use Rattle.reflect_format.specs.Truth.{TrueFor, TrueOf};
-ghost use Rattle.std.specs.Prelude.{◌≡◌, ◌<◌, IfErr, IfOk, OnOk, false};
+ghost use Rattle.reflect_format.specs.Unfit.{AreUnfitGiven, AreUnfitValues, CannotMake, IsUnfitBody, IsUnfitField, IsUnfitGiven, IsUnfitValue, Rejects, RejectsExpansion, Unfit};
+ghost use Rattle.std.specs.Prelude.{◌≡◌, ◌<◌, ◌⊎◌, ◌∷◌, ◌++◌, Bool, IfErr, IfOk, OnOk, Some, false, string_bytes, true};
+ghost use Rattle.text_lex.specs.Longest.{Lexes};
+ghost use Rattle.text_model.specs.Tree.{FieldName, Fields};
+ghost use Rattle.text_scalars.specs.Braces as signs;
+ghost use Rattle.text_scalars.specs.Left.{left};
+ghost use Rattle.text_scalars.specs.Names.{name_view, text_of};
+ghost use Rattle.text_scalars.specs.Remaining.{remaining};
+ghost use Rattle.text_syntax.specs.Syntax.{at_end, at_sign, field_at, fields_at, given_at, list_at, message_at, text_at, value_at};
 
 use crate::fault::{already_set, oneof_already_set, unknown_message};
 use crate::scalar::scalar_value;
@@ -31,7 +41,9 @@ pub struct Parser<'a> {
 
 impl<'a> Parser<'a> {
     /// A parser at the start of a text. Takes no memory.
-    pub fn new(alloc: Global, text: &'a str) -> Parser<'a> {
+    pub fn new(alloc: Global, text: &'a str) -> Parser<'a>
+        ensures { Lexes 0 text.now (remaining result.tokens) }
+    {
         Parser {
             tokens: Tokens::new(alloc, text),
         }
@@ -44,9 +56,14 @@ impl<'a> Parser<'a> {
     /// that was to be set.
     pub fn parse_message(&mut self, message: &mut DynamicMessage<'_>) -> Result<(), ParseError>
         ensures type_stays { message.new.descriptor ≡ message.old.descriptor }
+        ensures filled { OnOk result ((fs : Fields) × (text_at (remaining self.old.tokens) ≡ Some fs)
+            × Fills fs message.old message.new) }
         ensures refused { IfErr result (λ e. TrueOf message.old.descriptor.pool.now e.kind) }
-        ensures reached { OnOk result (Reaches message.old message.new) }
-        ensures stops { IfErr result (λ e. Stops e.kind message.old message.new) }
+        ensures cause { IfErr result (λ e. IsCause
+            ((fs : Fields) → text_at (remaining self.old.tokens) ≡ Some fs → Unfit fs message.old)
+            e.kind) }
+        ensures stops { IfErr result
+            (λ e. Stops (remaining self.old.tokens) e.kind message.old message.new) }
     {
         match fields_to_end(&mut self.tokens, message) {
             Ok(()) => Ok(()),
@@ -60,9 +77,15 @@ fn fields_to_end(
     message: &mut DynamicMessage<'_>,
 ) -> Result<(), ParseErrorKind>
     ensures type_stays { message.new.descriptor ≡ message.old.descriptor }
+    ensures filled { OnOk result
+        (Reads (fields_at at_end (message_at 100) (remaining tokens.old))
+        (λ fs. Fills fs message.old message.new) (remaining tokens.new)) }
     ensures refused { IfErr result (TrueOf message.old.descriptor.pool.now) }
-    ensures reached { OnOk result (Reaches message.old message.new) }
-    ensures stops { IfErr result (λ kind. Stops kind message.old message.new) }
+    ensures cause { IfErr result
+        (Refutes (fields_at at_end (message_at 100) (remaining tokens.old))
+        (λ fs. Unfit fs message.old)) }
+    ensures stops { IfErr result
+        (λ kind. Stops (remaining tokens.old) kind message.old message.new) }
 {
     'fields: while !tokens.is_empty() {
         field(tokens, message, MAX_BRACES)?;
@@ -79,24 +102,16 @@ fn field(
 ) -> Result<(), ParseErrorKind>
     ensures taken { OnOk result (left tokens.new < left tokens.old) }
     ensures type_stays { message.new.descriptor ≡ message.old.descriptor }
+    ensures filled { OnOk result (Reads (field_at (message_at braces) (remaining tokens.old))
+        (λ f. FillsField f.name f.given message.old message.new) (remaining tokens.new)) }
     ensures refused { IfErr result (TrueOf message.old.descriptor.pool.now) }
-    ensures step { OnOk result (Step message.old message.new) }
+    ensures cause { IfErr result (Refutes (field_at (message_at braces) (remaining tokens.old))
+        (λ f. IsUnfitField f.name f.given message.old)) }
     ensures stays { IfErr result (λ kind. Refuses kind message.old message.new) }
 {
     let (name, span) = tokens.name()?;
     tokens.separator()?;
-    let descriptor = message.descriptor();
-    match name {
-        Name::Field(name) => {
-            let target = Target::field(tokens.alloc, descriptor, name, span)?;
-            assignment(tokens, message, target, braces)?;
-        }
-        Name::Extension(name) => {
-            let target = Target::extension(tokens.alloc, descriptor, name, span)?;
-            assignment(tokens, message, target, braces)?;
-        }
-        Name::Any(name) => expansion(tokens, message, name, span, braces)?,
-    }
+    named_value(tokens, message, name, span, braces)?;
     if tokens.eat(b',').is_none() {
         tokens.eat(b';');
     }
@@ -104,6 +119,40 @@ fn field(
 }
 
 /// What stands behind a name, which the message then holds.
+#[cycle(field)]
+fn named_value(
+    tokens: &mut Tokens<'_>,
+    message: &mut DynamicMessage<'_>,
+    name: Name<'_>,
+    span: Span,
+    braces: u32,
+) -> Result<(), ParseErrorKind>
+    ensures taken { OnOk result (left tokens.new < left tokens.old) }
+    ensures type_stays { message.new.descriptor ≡ message.old.descriptor }
+    ensures filled { (n : FieldName) (colon : Bool) → text_of n ≡ name_view name.entry
+        → OnOk result (Reads (given_at (message_at braces) colon (remaining tokens.old))
+        (λ given. FillsField n given message.old message.new) (remaining tokens.new)) }
+    ensures refused { IfErr result (TrueOf message.old.descriptor.pool.now) }
+    ensures cause { (n : FieldName) (colon : Bool) → text_of n ≡ name_view name.entry
+        → IfErr result (Refutes (given_at (message_at braces) colon (remaining tokens.old))
+        (λ given. IsUnfitField n given message.old)) }
+    ensures stays { IfErr result (λ kind. Refuses kind message.old message.new) }
+{
+    let descriptor = message.descriptor();
+    match name {
+        Name::Field(name) => {
+            let target = Target::field(tokens.alloc, descriptor, name, span)?;
+            assignment(tokens, message, target, braces)
+        }
+        Name::Extension(name) => {
+            let target = Target::extension(tokens.alloc, descriptor, name, span)?;
+            assignment(tokens, message, target, braces)
+        }
+        Name::Any(name) => expansion(tokens, message, name, span, braces),
+    }
+}
+
+/// What is given to a field or an extension, which the message then holds.
 #[cycle(field)]
 fn assignment<'p>(
     tokens: &mut Tokens<'_>,
@@ -114,8 +163,14 @@ fn assignment<'p>(
     requires { Takes message.old.descriptor target }
     ensures taken { OnOk result (left tokens.new < left tokens.old) }
     ensures type_stays { message.new.descriptor ≡ message.old.descriptor }
+    ensures filled { (colon : Bool)
+        → OnOk result (Reads (given_at (message_at braces) colon (remaining tokens.old))
+        (λ given. Assigns target.entry (IsGiven given) (AreGiven given) message.old message.new)
+        (remaining tokens.new)) }
     ensures refused { IfErr result (TrueOf message.old.descriptor.pool.now) }
-    ensures step { OnOk result (Step message.old message.new) }
+    ensures cause { (colon : Bool)
+        → IfErr result (Refutes (given_at (message_at braces) colon (remaining tokens.old))
+        (λ given. Rejects target.entry (IsUnfitGiven given) (AreUnfitGiven given) message.old)) }
     ensures stays { IfErr result (λ kind. Refuses kind message.old message.new) }
 {
     if target.holds_many() {
@@ -136,7 +191,10 @@ fn refuse_second<'p>(
 ) -> Result<(), ParseErrorKind>
     requires { Takes message.now.descriptor target }
     ensures refused { IfErr result (RefusesSecond message.now target.entry) }
+    ensures cause { IfErr result (IsCause
+        ((is_set message.now target.entry ≡ true) ⊎ HasRival target.entry message.now)) }
     ensures none { OnOk result (is_set message.now target.entry ≡ false) }
+    ensures alone { OnOk result (IsAlone target.entry message.now) }
 {
     if target.is_set(message) {
         return Err(already_set(alloc, target.text_name(), span)?);
@@ -147,7 +205,7 @@ fn refuse_second<'p>(
     }
 }
 
-/// The values of a list or a map: a list in brackets, or one value.
+/// What is given to a list or a map: a list in brackets, or one value.
 #[cycle(field)]
 fn values<'p>(
     tokens: &mut Tokens<'_>,
@@ -155,17 +213,45 @@ fn values<'p>(
     braces: u32,
 ) -> Result<Vec<Value<'p>>, ParseErrorKind>
     ensures taken { IfOk result (λ _. left tokens.new < left tokens.old) }
+    ensures read { (colon : Bool)
+        → IfOk result (λ vs. Reads (given_at (message_at braces) colon (remaining tokens.old))
+        (λ given. AreGiven given kind.entry vs.items) (remaining tokens.new)) }
     ensures refused { IfErr result (TrueFor kind.entry) }
+    ensures cause { (colon : Bool)
+        → IfErr result (Refutes (given_at (message_at braces) colon (remaining tokens.old))
+        (λ given. AreUnfitGiven given kind.entry)) }
+{
+    if tokens.eat(b'[').is_some() {
+        return list(tokens, kind, braces);
+    }
+    let (value, _) = value(tokens, kind, braces)?;
+    let mut values = Vec::new(tokens.alloc);
+    values.push(value)?;
+    Ok(values)
+}
+
+/// The values of a list, behind the bracket that opens it.
+#[cycle(field)]
+fn list<'p>(
+    tokens: &mut Tokens<'_>,
+    kind: Kind<'p>,
+    braces: u32,
+) -> Result<Vec<Value<'p>>, ParseErrorKind>
+    ensures taken { IfOk result (λ _. left tokens.new < left tokens.old) }
+    ensures read { IfOk result (λ vs. Reads (list_at (message_at braces) (remaining tokens.old))
+        (λ given. AreValues given kind.entry vs.items) (remaining tokens.new)) }
+    ensures refused { IfErr result (TrueFor kind.entry) }
+    ensures cause { IfErr result (Refutes (list_at (message_at braces) (remaining tokens.old))
+        (λ given. AreUnfitValues given kind.entry)) }
 {
     let mut values = Vec::new(tokens.alloc);
-    let is_bracketed = tokens.eat(b'[').is_some();
-    if is_bracketed && tokens.eat(b']').is_some() {
+    if tokens.eat(b']').is_some() {
         return Ok(values);
     }
     'values: loop {
         let (value, _) = value(tokens, kind, braces)?;
         values.push(value)?;
-        if !is_bracketed || tokens.eat(b']').is_some() {
+        if tokens.eat(b']').is_some() {
             return Ok(values);
         }
         if tokens.eat(b',').is_none() {
@@ -185,8 +271,14 @@ fn expansion(
 ) -> Result<(), ParseErrorKind>
     ensures taken { OnOk result (left tokens.new < left tokens.old) }
     ensures type_stays { message.new.descriptor ≡ message.old.descriptor }
+    ensures filled { (colon : Bool)
+        → OnOk result (Reads (given_at (message_at braces) colon (remaining tokens.old))
+        (λ given. Expands (string_bytes name.domain) (string_bytes name.message)
+        (FillsBody given) message.old message.new) (remaining tokens.new)) }
     ensures refused { IfErr result (TrueOf message.old.descriptor.pool.now) }
-    ensures step { OnOk result (Step message.old message.new) }
+    ensures cause { (colon : Bool)
+        → IfErr result (Refutes (given_at (message_at braces) colon (remaining tokens.old))
+        (λ given. RejectsExpansion (string_bytes name.message) (IsUnfitBody given) message.old)) }
     ensures stays { IfErr result (λ kind. Refuses kind message.old message.new) }
 {
     let descriptor = message.descriptor();
@@ -209,8 +301,11 @@ fn hold(
     span: Span,
 ) -> Result<(), ParseErrorKind>
     ensures type_stays { message.new.descriptor ≡ message.old.descriptor }
+    ensures held { OnOk result
+        (Holds (string_bytes name.now.domain ++ 47 ∷ string_bytes name.now.message) body.now
+        message.old message.new) }
     ensures refused { IfErr result (TrueOf message.old.descriptor.pool.now) }
-    ensures step { OnOk result (Step message.old message.new) }
+    ensures cause { IfErr result (IsCause (IsAny message.old.descriptor → ⊥)) }
     ensures stays { IfErr result (λ kind. Refuses kind message.old message.new) }
 {
     let Some(fields) = any_fields(message.descriptor()) else {
@@ -236,7 +331,11 @@ fn value<'p>(
     braces: u32,
 ) -> Result<(Value<'p>, Span), ParseErrorKind>
     ensures taken { IfOk result (λ _. left tokens.new < left tokens.old) }
+    ensures read { IfOk result (λ p. Reads (value_at (message_at braces) (remaining tokens.old))
+        (λ v. IsValue v kind.entry p.0) (remaining tokens.new)) }
     ensures refused { IfErr result (TrueFor kind.entry) }
+    ensures cause { IfErr result (Refutes (value_at (message_at braces) (remaining tokens.old))
+        (λ v. IsUnfitValue v kind.entry)) }
 {
     match kind {
         Kind::Message(descriptor) => {
@@ -255,7 +354,11 @@ fn message_value<'p>(
     braces: u32,
 ) -> Result<(DynamicMessage<'p>, Span), ParseErrorKind>
     ensures taken { IfOk result (λ _. left tokens.new < left tokens.old) }
+    ensures made { IfOk result (λ p. Reads (message_at braces (remaining tokens.old))
+        (λ m. Makes descriptor.entry (Fills m.1) p.0) (remaining tokens.new)) }
     ensures refused { IfErr result (TrueOf descriptor.entry.pool.now) }
+    ensures cause { IfErr result (Refutes (message_at braces (remaining tokens.old))
+        (λ m. CannotMake descriptor.entry (Unfit m.1))) }
 {
     let Some((open, closing)) = tokens.open_brace() else {
         return Err(tokens.refuse("'{' or '<'"));
@@ -278,7 +381,13 @@ fn fields_to_brace(
 ) -> Result<Span, ParseErrorKind>
     ensures taken { IfOk result (λ _. left tokens.new < left tokens.old) }
     ensures type_stays { message.new.descriptor ≡ message.old.descriptor }
+    ensures filled { IfOk result (λ _. Reads
+        (fields_at (at_sign (signs.closing closing)) (message_at braces) (remaining tokens.old))
+        (λ fs. Fills fs message.old message.new) (remaining tokens.new)) }
     ensures refused { IfErr result (TrueOf message.old.descriptor.pool.now) }
+    ensures cause { IfErr result (Refutes
+        (fields_at (at_sign (signs.closing closing)) (message_at braces) (remaining tokens.old))
+        (λ fs. Unfit fs message.old)) }
 {
     'fields: loop {
         if let Some(close) = tokens.eat(closing.sign()) {

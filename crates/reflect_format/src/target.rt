@@ -1,11 +1,15 @@
 //! Fields and extensions alike, as a text sets them.
 
-ghost use Rattle.std.specs.Prelude.{◌≡◌, IfErr, IfNone, IfOk, IfSome, IsTrue, OnErr, OnOk, string_bytes};
-ghost use Rattle.reflect_pool.specs.FieldsLeft.{field_type};
+ghost use Rattle.std.specs.Prelude.{◌≡◌, true, IfErr, IfNone, IfOk, IfSome, IsTrue, OnErr, OnOk, string_bytes};
+ghost use Rattle.reflect_extend.specs.Puts.{PutsSome};
 ghost use Rattle.reflect_pool.specs.Kinds.{IsKind};
-ghost use Rattle.reflect_format.specs.Lacks.{IsGroupCalled, LacksField, LacksGroup};
+ghost use Rattle.reflect_pool.specs.Shapes.{holds_map};
+ghost use Rattle.reflect_format.specs.Filled.{IsAlone};
+ghost use Rattle.reflect_format.specs.Lacks.{FindsPlain, IsGroupCalled, LacksField, LacksGroup};
+ghost use Rattle.reflect_format.specs.Named.{FindsGroup, NamesExtension, NamesField, NoExtensionNamed, NoFieldNamed};
+ghost use Rattle.reflect_format.specs.Reads.{IsCause};
 ghost use Rattle.reflect_format.specs.Refusals.{Holds, HoldsMember, IsTextName, RefusesExtension, RefusesField, Shares};
-ghost use Rattle.reflect_format.specs.Steps.{Adds, AddsPart, Puts, Stays, is_set};
+ghost use Rattle.reflect_format.specs.Steps.{Adds, AddsPart, Puts, Stays, held_by, is_set};
 ghost use Rattle.reflect_format.specs.Takes.{Takes, holds_many, target_pool, target_type};
 
 use crate::fault::{float_field, unknown_extension, unknown_field};
@@ -36,6 +40,8 @@ impl<'p> Target<'p> {
         span: Span,
     ) -> Result<Target<'p>, ParseErrorKind>
         ensures takes { IfOk result (Takes descriptor.entry) }
+        ensures named { IfOk result (NamesField descriptor.entry name.now) }
+        ensures unnamed { IfErr result (IsCause (NoFieldNamed descriptor.entry name.now)) }
         ensures refused { IfErr result (RefusesField descriptor.entry name.now) }
     {
         if let Some(field) = plain_field(descriptor, name) {
@@ -58,6 +64,9 @@ impl<'p> Target<'p> {
         span: Span,
     ) -> Result<Target<'p>, ParseErrorKind>
         ensures takes { IfOk result (Takes descriptor.entry) }
+        ensures named { IfOk result (NamesExtension descriptor.entry (string_bytes name)) }
+        ensures unnamed { IfErr result
+            (IsCause (NoExtensionNamed descriptor.entry (string_bytes name))) }
         ensures refused { IfErr result (RefusesExtension descriptor.entry (string_bytes name)) }
     {
         let Some(extension) = descriptor.get_extension_by_full_name(name.as_str()) else {
@@ -116,7 +125,9 @@ impl<'p> Target<'p> {
 
     /// The oneof that it shares with a field which the message holds a value of.
     pub fn rival(&self, message: &DynamicMessage<'p>) -> Option<OneofDescriptor<'p>>
-        ensures { IfSome result (λ oneof. Shares self.now oneof × HoldsMember message.now oneof) }
+        ensures set { IfSome result
+            (λ oneof. Shares self.now oneof × HoldsMember message.now oneof) }
+        ensures alone { IfNone result (IsAlone self.now message.now) }
     {
         let Target::Field(field) = self else {
             return None;
@@ -154,6 +165,9 @@ impl<'p> Target<'p> {
         ensures type_stays { message.new.descriptor ≡ message.old.descriptor }
         ensures ok { OnOk result (Adds self.now values.entry.items message.old message.new) }
         ensures left { OnErr result (AddsPart self.now message.old message.new) }
+        ensures part { holds_map (target_pool self.now) (target_type self.now) ≡ true
+            → OnErr result (PutsSome (held_by message.old self.now) (held_by message.new self.now)
+            values.entry.items) }
     {
         match self {
             Target::Field(field) => message.extend_field(field, values),
@@ -164,8 +178,7 @@ impl<'p> Target<'p> {
 
 /// The field of a name that is no group.
 fn plain_field<'p>(descriptor: MessageDescriptor<'p>, name: &str) -> Option<FieldDescriptor<'p>>
-    ensures message { IfSome result (λ f. f.message ≡ descriptor.entry) }
-    ensures named { IfSome result (λ f. (field_type f).name ≡ name.now) }
+    ensures found { IfSome result (FindsPlain descriptor.entry name.now) }
     ensures lacks { IfNone result (LacksField descriptor.entry name.now) }
 {
     let field = descriptor.get_field_by_name(name)?;
@@ -175,13 +188,14 @@ fn plain_field<'p>(descriptor: MessageDescriptor<'p>, name: &str) -> Option<Fiel
     Some(field)
 }
 
-/// The group whose type has the name.
+/// The group whose type has the name, where no other field has it.
 fn group_field<'p>(
     alloc: Global,
     descriptor: MessageDescriptor<'p>,
     name: &str,
 ) -> Result<Option<FieldDescriptor<'p>>, AllocError>
-    ensures message { IfOk result (λ found. IfSome found (λ f. f.message ≡ descriptor.entry)) }
+    ensures found { LacksField descriptor.entry name.now
+        → IfOk result (λ found. IfSome found (FindsGroup descriptor.entry name.now)) }
     ensures lacks { IfOk result (λ found. IfNone found (LacksGroup descriptor.entry name.now)) }
 {
     let lower = name.to_ascii_lowercase(alloc)?;
@@ -197,7 +211,8 @@ fn group_field<'p>(
 
 /// The field is a group, whose type has the name.
 fn is_group_called(field: &FieldDescriptor<'_>, name: &str) -> bool
-    ensures { IsGroupCalled field.now name.now → IsTrue result }
+    ensures yes { IsTrue result → IsGroupCalled field.now name.now }
+    ensures no { IsGroupCalled field.now name.now → IsTrue result }
 {
     match field.kind() {
         Kind::Message(group) => field.is_group() && group.name() == name,

@@ -33,7 +33,7 @@ use Rattle.reflect_decode.specs.Spelled.{TellsWhy}
 use Rattle.reflect_pool.specs.declared.message.MessageDescriptor.{MessageDescriptor}
 use Rattle.schema_core.specs.Payloads.{IsType}
 use Rattle.schema_core.specs.Serving.{IsPayload, PayloadRefused, of_schema}
-use Rattle.schema_core.specs.Refusals.{of_source, of_wire, of_text, IsKnown, BytesRefused, TextRefused, FilesFit, FilesRefused, sources_of, IsFileOf, AreFilesOf, SourcesLinked, SourcesRefused, SetRefused}
+use Rattle.schema_core.specs.Refusals.{of_source, of_wire, of_text, IsKnown, IsNoText, BytesRefused, TextRefused, FilesFit, FilesRefused, sources_of, IsFileOf, AreFilesOf, SourcesLinked, SourcesRefused, SetRefused}
 
 -- a linker's refusal is one of files
 pub of_link : (p : PoolType) (files typed : List FileDescriptorProto) (d : DescriptorError) (e : SchemaError) → TypedFiles files typed → Refuses (FaultyFiles p typed) d → (e ≡ Memory) ⊎ (e ≡ Link d) → FilesRefused p files e
@@ -128,10 +128,11 @@ of_bytes p bytes wire.BadUtf8 h = λ files s. h.none (λ q. cc q) s.0 s.1
 of_bytes p bytes wire.TooLong h = λ files s. h.none (λ q. cc q) s.0 s.1
 
 -- a text of a known type is refused with what is true of its pool
-pub of_text_kind : (p : PoolType) (name : List ℕ) (e : text.ParseError) (kind : ParseErrorKind) → e.kind ≡ kind → IsKnown p name → TrueOf p kind → TextRefused p name (of_text e kind)
-of_text_kind p name e texts.Memory is known true = tt
-of_text_kind p name e (texts.TooLong span) is known true = absurd true
-of_text_kind p name e kind is known true = (known, subst (TrueOf p) (sym is) true)
+pub of_text_kind : (p : PoolType) (name z : List ℕ) (e : text.ParseError) (kind : ParseErrorKind)
+    → e.kind ≡ kind → IsNoText p name z kind → TextRefused p name z (of_text e kind)
+of_text_kind p name z e texts.Memory is h = tt
+of_text_kind p name z e (texts.TooLong span) is h = absurd h.3
+of_text_kind p name z e kind is h = subst (IsNoText p name z) (sym is) h
 
 -- bytes that spell no message of a known type
 pub of_message : (p : PoolType) (name bytes : List ℕ) (d : MessageDescriptor) (e : WireError) → IsType p name d → TellsWhy d bytes e → BytesRefused p name bytes (of_wire e)

@@ -10,7 +10,7 @@ use Rattle.reflect_message.specs.declared.message.DynamicMessage.{DynamicMessage
 use Rattle.text_lines.specs.Forms.{usual_form}
 use Rattle.text_lines.specs.declared.options.FormatOptions.{FormatOptions}
 use Rattle.reflect_print.specs.MessageTexts.{IsMessageText}
-use Rattle.reflect_format.specs.Steps.{Makes}
+use Rattle.text_format.specs.Texts.{Makes}
 
 -- the message type of the name
 abbrev pub IsType : PoolType → List ℕ → MessageDescriptor → Type 0
@@ -21,11 +21,11 @@ abbrev pub IsRead : PoolType → List ℕ → List ℕ → DynamicMessage → Ty
 IsRead p name bytes m = (d : MessageDescriptor) × IsType p name d × (m.descriptor ≡ d)
     × IsExclusive m × IsSpelled d bytes m
 
--- from text to bytes: the one form of a message of the named type, which steps as a text's fields
--- take made of one with nothing set
-abbrev pub Encoded : PoolType → List ℕ → List ℕ → Type 0
-Encoded p name written = (d : MessageDescriptor) × IsType p name d
-    × ((m : DynamicMessage) × Makes d m × (written ≡ message_bytes m))
+-- from text to bytes: the one form of the message of the named type that the fields of the text
+-- make of one with nothing set
+abbrev pub Encoded : PoolType → List ℕ → List ℕ → List ℕ → Type 0
+Encoded p name text written = (d : MessageDescriptor) × IsType p name d
+    × ((m : DynamicMessage) × Makes d text m × (written ≡ message_bytes m))
 
 -- on one line without spaces, the fields that are set, by ascending number, and each
 -- `google.protobuf.Any` by its own fields

@@ -15,7 +15,9 @@ use Rattle.reflect_wire.specs.declared.wire_error.WireError.{WireError}
 use Rattle.reflect_wire.specs.declared.wire_error.WireError.TheVariants as wire
 use Rattle.reflect_bytes.specs.Spelled.{SpellsSet, RecordsLinked}
 use Rattle.reflect_decode.specs.Spelled.{TellsWhy}
+use Rattle.reflect_format.specs.Reads.{IsCause}
 use Rattle.reflect_format.specs.Truth.{TrueOf}
+use Rattle.text_format.specs.Texts.{MakesNone}
 use Rattle.reflect_pool.specs.declared.message.MessageDescriptor.{MessageDescriptor}
 use Rattle.schema_core.specs.Payloads.{IsType}
 use Rattle.text_error.specs.declared.error.ParseError as text
@@ -69,13 +71,17 @@ BytesRefused p name bytes TooLong = IsNoMessage p name bytes wire.TooLong
 BytesRefused p name bytes Memory = Unit {0}
 BytesRefused p name bytes _ = ⊥
 
--- of a text: the type is unknown, or it is known and the text is refused with a fault that is true
--- of the pool
-abbrev pub TextRefused : PoolType → List ℕ → SchemaError → Type 0
-TextRefused p name (UnknownType n) = (string_bytes n ≡ name) × IsUnknown p name
-TextRefused p name (Text e) = IsKnown p name × TrueOf p e.kind
-TextRefused p name Memory = Unit {0}
-TextRefused p name _ = ⊥
+-- the type is known, the text makes no message of it, and what is told is true of the pool
+abbrev pub IsNoText : PoolType → List ℕ → List ℕ → ParseErrorKind → Type 0
+IsNoText p name text kind = (d : MessageDescriptor) × IsType p name d
+    × IsCause (MakesNone d text) kind × TrueOf p kind
+
+-- of a text: the type is unknown, or it is known and the text is refused
+abbrev pub TextRefused : PoolType → List ℕ → List ℕ → SchemaError → Type 0
+TextRefused p name text (UnknownType n) = (string_bytes n ≡ name) × IsUnknown p name
+TextRefused p name text (Text e) = IsNoText p name text e.kind
+TextRefused p name text Memory = Unit {0}
+TextRefused p name text _ = ⊥
 
 -- files fit together and with a pool, which becomes the new one, with the options that linking
 -- reads where it reads them

@@ -37,7 +37,7 @@ shown true bytes = encode_lower bytes ++ 10 ∷ []
 -- what is written for an input
 abbrev pub Answers : Action → PoolType → List ℕ → Bool → List ℕ → List ℕ → Type 0
 Answers Encode p name is_hex input written = IsUtf8 input
-    × ((bytes : List ℕ) × Encoded p name bytes × (written ≡ shown is_hex bytes))
+    × ((bytes : List ℕ) × Encoded p name input bytes × (written ≡ shown is_hex bytes))
 Answers Decode p name is_hex input written = (bytes : List ℕ) × IsPayload is_hex input bytes
     × ((text : List ℕ) × Decoded p name bytes text × (written ≡ text ++ 10 ∷ []))
 Answers Recode p name is_hex input written = (bytes : List ℕ) × IsPayload is_hex input bytes
@@ -59,7 +59,7 @@ PayloadRefused p name is_hex input fault.Memory = Unit {0}
 
 -- how an input is refused
 abbrev pub Refuses : Action → PoolType → List ℕ → Bool → List ℕ → Fault → Type 0
-Refuses Encode p name is_hex input (fault.Schema e) = TextRefused p name e
+Refuses Encode p name is_hex input (fault.Schema e) = TextRefused p name input e
 Refuses Encode p name is_hex input fault.NotHex = ⊥
 Refuses Encode p name is_hex input fault.NotUtf8 = ¬ IsUtf8 input
 Refuses Encode p name is_hex input fault.Read = Unit {0}

@@ -174,8 +174,9 @@ impl Schema {
     ///
     /// `UnknownType` where there is no such type, `Text` with the first fault of the text.
     pub fn encode(&self, type_name: &str, text: &str) -> Result<Vec<u8>, SchemaError>
-        ensures ok { IfOk result (λ written. Encoded self.now.pool type_name.now written.items) }
-        ensures err { IfErr result (TextRefused self.now.pool type_name.now) }
+        ensures ok { IfOk result
+            (λ written. Encoded self.now.pool type_name.now text.now written.items) }
+        ensures err { IfErr result (TextRefused self.now.pool type_name.now text.now) }
     {
         let descriptor = self.message_type(type_name)?;
         let message = DynamicMessage::parse_text_format(self.alloc, descriptor, text)?;

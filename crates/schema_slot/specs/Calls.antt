@@ -76,8 +76,8 @@ GivesSet old c new = Keeps old new
 -- Text to bytes, bytes to text, bytes to bytes, of the type of a name.
 abbrev pub Encodes : List ℕ → List ℕ → Call
 Encodes name text old c new =
-    Keeps old new × Ends (IsUtf8 name × IsUtf8 text) (λ s. Encoded (pool old) name (answer s))
-    (TextRefused (pool old) name) c new
+    Keeps old new × Ends (IsUtf8 name × IsUtf8 text) (λ s. Encoded (pool old) name text (answer s))
+    (TextRefused (pool old) name text) c new
 
 abbrev pub Decodes : List ℕ → List ℕ → Call
 Decodes name bytes old c new =

@@ -1,6 +1,7 @@
 ghost use Rattle.std.specs.Prelude.{◌≡◌, IfErr, IfOk, OnOk, string_bytes};
-ghost use Rattle.reflect_format.specs.Steps.{Makes, Reaches, Stops};
+ghost use Rattle.reflect_format.specs.Reads.{IsCause};
 ghost use Rattle.reflect_format.specs.Truth.{TrueOf};
+ghost use Rattle.text_format.specs.Texts.{Fills, IsUnfit, Makes, MakesNone, Stops};
 ghost use Rattle.reflect_print.specs.MessageTexts.{IsMessageText};
 ghost use Rattle.text_lines.specs.Forms.{usual_form};
 
@@ -26,8 +27,10 @@ pub trait TextFormat<'p>: Sized {
         text: &str,
     ) -> Result<Self, ParseError>
         ensures same_type { IfOk result (λ m. (message m).descriptor ≡ descriptor.entry) }
-        ensures made { IfOk result (λ m. Makes descriptor.entry (message m)) }
-        ensures refused { IfErr result (λ e. TrueOf descriptor.entry.pool.now e.kind) };
+        ensures made { IfOk result (λ m. Makes descriptor.entry text.now (message m)) }
+        ensures refused { IfErr result (λ e. TrueOf descriptor.entry.pool.now e.kind) }
+        ensures cause { IfErr result
+            (λ e. IsCause (MakesNone descriptor.entry text.now) e.kind) };
 
     /// Reads a text into the message. The first fault ends it; the message then has the fields at
     /// the top that were read before the fault, and for want of memory perhaps a part of the map or
@@ -37,8 +40,11 @@ pub trait TextFormat<'p>: Sized {
     fn merge_text_format(&mut self, text: &str) -> Result<(), ParseError>
         ensures type_stays { (message self.new).descriptor ≡ (message self.old).descriptor }
         ensures refused { IfErr result (λ e. TrueOf (message self.old).descriptor.pool.now e.kind) }
-        ensures reached { OnOk result (Reaches (message self.old) (message self.new)) }
-        ensures stops { IfErr result (λ e. Stops e.kind (message self.old) (message self.new)) };
+        ensures filled { OnOk result (Fills text.now (message self.old) (message self.new)) }
+        ensures cause { IfErr result
+            (λ e. IsCause (IsUnfit text.now (message self.old)) e.kind) }
+        ensures stops { IfErr result
+            (λ e. Stops text.now e.kind (message self.old) (message self.new)) };
 
     /// The message's text in the form of [`FormatOptions::new`].
     fn to_text_format(&self, alloc: Global) -> Result<String, WriteError>

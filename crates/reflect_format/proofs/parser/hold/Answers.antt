@@ -1,4 +1,5 @@
-use Rattle.std.proofs.Common.{rules, inl, inr, refl, sym, subst, ◌∙◌}
+use Rattle.std.proofs.Common.{rules, ◌≡◌, ◌∷◌, ◌++◌, Option, Some, string_bytes, inl, inr, refl, sym, ap, subst, ◌∙◌}
+use Rattle.protobuf_model.specs.Values.{Single, text, blob}
 use Rattle.reflect_message.specs.Declares.{Declares}
 use Rattle.reflect_any.specs.Any.{IsAny}
 use Rattle.reflect_format.specs.Steps.{Stays}
@@ -28,20 +29,18 @@ returns-in_err-set_field-2-clause-stays c =
     let url = c.in-Some.fields.type_url in
     let stays : Stays c.set_field.new.self c.set_field-2.new.self = (c.in_err-set_field-2.ensures.err, c.set_field-2.ensures.extensions, c.set_field-2.ensures.unknown) in
     unfinished m c.set_field-2.new.self r.result r.ensures.1
-    (inr (subst IsAny c.descriptor.ensures c.in-Some.ensures.any, (url, _, subst (λ d. Declares d url) c.descriptor.ensures c.in-Some.ensures.type_url.0, c.in-Some.ensures.type_url.1, sets_kept m c.set_field.new.self c.set_field-2.new.self url _ stays c.in_ok-set_field.ensures.ok)))
+    (inr (subst IsAny c.descriptor.ensures c.in-Some.ensures.any, _, (url, _, subst (λ d. Declares d url) c.descriptor.ensures c.in-Some.ensures.type_url.0, c.in-Some.ensures.type_url.1, refl, sets_kept m c.set_field.new.self c.set_field-2.new.self url _ stays c.in_ok-set_field.ensures.ok)))
 
-pub returns-clause-step : goal.returns-clause-step
-returns-clause-step c =
+pub returns-clause-held : goal.returns-clause-held
+returns-clause-held c =
     let m = c.args.message.now in
     let mid = c.set_field.new.self in
     let url = c.in-Some.fields.type_url in
     let value = c.in-Some.fields.value in
-    let same = c.descriptor.ensures ∙ sym c.set_field.ensures.type_stays in (
-      c.set_field-2.ensures.type_stays ∙ c.set_field.ensures.type_stays,
-      inr (
-        subst IsAny c.descriptor.ensures c.in-Some.ensures.any,
-        mid,
-        (url, _, subst (λ d. Declares d url) c.descriptor.ensures c.in-Some.ensures.type_url.0, c.in-Some.ensures.type_url.1, c.in_ok-set_field.ensures.ok),
-        (value, _, subst (λ d. Declares d value) same c.in-Some.ensures.value.0, c.in-Some.ensures.value.1, c.in_ok-set_field-2.ensures.ok),
-      ),
+    let same = c.descriptor.ensures ∙ sym c.set_field.ensures.type_stays in
+    let named : string_bytes c.in_ok-type_url.type_url ≡ string_bytes c.args.name.now.domain ++ 47 ∷ string_bytes c.args.name.now.message = search rules in (
+      subst IsAny c.descriptor.ensures c.in-Some.ensures.any,
+      mid,
+      (url, _, subst (λ d. Declares d url) c.descriptor.ensures c.in-Some.ensures.type_url.0, c.in-Some.ensures.type_url.1, ap (λ t. let it : Option Single = Some (text t) in it) named, c.in_ok-set_field.ensures.ok),
+      (value, _, subst (λ d. Declares d value) same c.in-Some.ensures.value.0, c.in-Some.ensures.value.1, ap (λ b. let it : Option Single = Some (blob b) in it) c.in-Ok.ensures.ok, c.in_ok-set_field-2.ensures.ok),
     )

@@ -1,5 +1,5 @@
-use Rattle.std.proofs.Common.{refl, subst, string_bytes, IsUtf8}
-use Rattle.schema_core.specs.Payloads.{Decoded, Recoded}
+use Rattle.std.proofs.Common.{refl, ◌∙◌, subst, string_bytes, IsUtf8}
+use Rattle.schema_core.specs.Payloads.{Decoded, Encoded, Recoded}
 use Rattle.std.proofs.lemmas.Result.{err_from_is_err_and}
 use Rattle.schema_core.specs.Refusals.{BytesRefused}
 use Rattle.schema_core.specs.Serving.{Answers, Refuses, of_schema, shown}
@@ -11,7 +11,7 @@ pub returns-in_ok-bytes-in-Encode-clause-answered : goal.returns-in_ok-bytes-in-
 returns-in_ok-bytes-in-Encode-clause-answered g c =
     let text = c.in_ok-utf8-in-Encode.ensures.ok in
     let bytes = c.in_ok-bytes-in-Encode in
-    answered (Answers c.args.action c.args.schema.now.pool c.args.type_name.now c.args.is_hex) _ _ _ _ c.in_ok-input.input.items (shown c.args.is_hex bytes.bytes.items) c.in_ok-input.ensures.bytes (rw c.in-Encode.is (subst IsUtf8 c.as_slice.ensures.value text.1, (bytes.bytes.items, bytes.ensures.ok, refl))) (rw c.as_slice-in-Encode.ensures.value at c.write_bytes.ensures.ok)
+    answered (Answers c.args.action c.args.schema.now.pool c.args.type_name.now c.args.is_hex) _ _ _ _ c.in_ok-input.input.items (shown c.args.is_hex bytes.bytes.items) c.in_ok-input.ensures.bytes (rw c.in-Encode.is (subst IsUtf8 c.as_slice.ensures.value text.1, (bytes.bytes.items, subst (λ z. Encoded c.args.schema.now.pool c.args.type_name.now z bytes.bytes.items) (text.0 ∙ c.as_slice.ensures.value) bytes.ensures.ok, refl))) (rw c.as_slice-in-Encode.ensures.value at c.write_bytes.ensures.ok)
 
 pub returns-in_ok-text-in-Decode-clause-answered : goal.returns-in_ok-text-in-Decode-clause-answered
 returns-in_ok-text-in-Decode-clause-answered g c =

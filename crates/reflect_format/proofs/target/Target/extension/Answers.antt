@@ -1,7 +1,9 @@
-use Rattle.std.proofs.Common.{rules, sym, ap, ◌∙◌, string_bytes}
+use Rattle.std.proofs.Common.{rules, ◌≡◌, Some, inr, sym, ap, ◌∙◌, string_bytes}
+use Rattle.reflect_pool.specs.Finds.{FindsAny}
 use Rattle.reflect_tables.specs.Types.{extension_at}
 use Rattle.reflect_scalar.specs.FieldTypes.{extension_pool, extension_type}
 use Rattle.reflect_scalar.specs.Floats.{HoldsFloats}
+use Rattle.reflect_format.proofs.Filling.{cause}
 use Rattle.reflect_format.proofs.Telling.{float_extension_told}
 use Rattle.reflect_format.proofs.target.Target.extension.Goals as goal
 
@@ -12,3 +14,12 @@ returns-then-holds_floats-clause-refused c =
     let holds : HoldsFloats (extension_pool found.extension) (extension_type found.extension) = search rules in
     float_extension_told c.args.descriptor (string_bytes c.args.name) c.json_name.result.now _ c.in_ok-float_field.ensures
     (found.extension, (type.0, ap (λ p. (extension_at p found.extension.index).extendee) type.0 ∙ type.1), sym c.json_name.ensures, holds)
+
+pub returns-then-holds_floats-clause-unnamed : goal.returns-then-holds_floats-clause-unnamed
+returns-then-holds_floats-clause-unnamed c =
+    let found = c.in-Some in
+    let type = found.ensures.extendee in
+    let holds : HoldsFloats (extension_pool found.extension) (extension_type found.extension) = search rules in
+    let finds : FindsAny (λ y. (y.extendee ≡ c.args.descriptor.index) × (y.field.full_name ≡ string_bytes c.args.name)) c.args.descriptor.pool.now (Some found.extension) = search rules in
+    cause _ c.in_ok-float_field.field-0
+    (inr (found.extension, ((type.0, ap (λ p. (extension_at p found.extension.index).extendee) type.0 ∙ type.1), finds), holds))

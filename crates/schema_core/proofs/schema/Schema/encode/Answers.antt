@@ -10,7 +10,8 @@ returns-in_err-message-clause-err c =
     let p = err_from_is_err_and r.result r.ensures.1 in
     let type = c.in_ok-descriptor.ensures in
     let e = c.in_err-message.field-0.0 in
-    rw (p.1, p.2) (of_text_kind c.args.self.now.pool c.args.type_name.now e e.kind refl (c.in_ok-descriptor.descriptor.index, type.ok) (subst (λ pool. TrueOf pool e.kind) type.pool c.in_err-message.ensures.refused))
+    rw (p.1, p.2) (of_text_kind c.args.self.now.pool c.args.type_name.now c.args.text.now e e.kind refl
+    (c.in_ok-descriptor.descriptor, (type.pool, type.ok), c.in_err-message.ensures.cause, subst (λ pool. TrueOf pool e.kind) type.pool c.in_err-message.ensures.refused))
 
 pub returns-clause-ok : goal.returns-clause-ok
 returns-clause-ok c =
