@@ -1,0 +1,88 @@
+-- A text is a default of a scalar type for the pass over numbers exactly where it is one.
+use Rattle.std.proofs.Common.{◌≡◌, ◌∙◌, inl, inr, ℕ, ℤ, true, false, cond, ◌==◌, List, [], ◌∷◌, Some, None, String, Global, string_bytes, ap, sym, refl}
+use Rattle.std.specs.Int.{Width}
+use Rattle.std.proofs.lemmas.Str.{IsUtf8-string_bytes}
+use Rattle.descriptor_records.specs.declared.field.FieldType.{FieldType}
+use Rattle.descriptor_records.specs.declared.field.FieldType.TheVariants as types
+use Rattle.reflect_defaults.specs.Defaults.{IsTruth, Says, HasDefault, IsScalarSuited}
+use Rattle.reflect_defaults.specs.Defaults as pass
+use Rattle.reflect_defaults.specs.declared.default.DefaultText.{DefaultText}
+use Rattle.reflect_defaults.specs.declared.default.DefaultText.TheVariants as says
+use Rattle.schema_view.specs.Scalars.{is_scalar, IsDefault, IsScalarDefault}
+use Rattle.schema_view.specs.Scalars as view
+
+decimal_same : (text : List ℕ) → pass.is_decimal text ≡ view.is_decimal text
+decimal_same [] = refl
+decimal_same (c ∷ cs) = refl
+
+integer_same : (text : List ℕ) → pass.is_integer text ≡ view.is_integer text
+integer_same [] = refl
+integer_same (c ∷ cs) = ap (λ b. cond (c == 45) b (view.is_decimal (c ∷ cs))) (decimal_same cs)
+
+unsigned_to : (bits : ℕ) (text : List ℕ) → pass.IsUnsigned bits text → view.IsUnsigned bits text
+unsigned_to bits text h = (sym (decimal_same text) ∙ h.0, h.1)
+
+unsigned_from : (bits : ℕ) (text : List ℕ) → view.IsUnsigned bits text → pass.IsUnsigned bits text
+unsigned_from bits text h = (decimal_same text ∙ h.0, h.1)
+
+signed_to : (w : Width) (text : List ℕ) → pass.IsSigned w text → view.IsSigned w text
+signed_to w text h = (sym (integer_same text) ∙ h.0, h.1)
+
+signed_from : (w : Width) (text : List ℕ) → view.IsSigned w text → pass.IsSigned w text
+signed_from w text h = (integer_same text ∙ h.0, h.1)
+
+truth_to : (text : List ℕ) (d : DefaultText) → IsTruth text d → IsDefault types.Bool text
+truth_to text (says.Bool true) h = inl h
+truth_to text (says.Bool false) h = inr h
+truth_to text _ h = absurd h
+
+says_to : (t : FieldType) (s : String Global) (d : DefaultText) → Says t (string_bytes s) d
+    → IsDefault t (string_bytes s)
+says_to types.Int32 s d h = signed_to _ (string_bytes s) h.0
+says_to types.Sint32 s d h = signed_to _ (string_bytes s) h.0
+says_to types.Sfixed32 s d h = signed_to _ (string_bytes s) h.0
+says_to types.Int64 s d h = signed_to _ (string_bytes s) h.0
+says_to types.Sint64 s d h = signed_to _ (string_bytes s) h.0
+says_to types.Sfixed64 s d h = signed_to _ (string_bytes s) h.0
+says_to types.Uint32 s d h = unsigned_to 32 (string_bytes s) h.0
+says_to types.Fixed32 s d h = unsigned_to 32 (string_bytes s) h.0
+says_to types.Uint64 s d h = unsigned_to 64 (string_bytes s) h.0
+says_to types.Fixed64 s d h = unsigned_to 64 (string_bytes s) h.0
+says_to types.Bool s d h = truth_to (string_bytes s) d h
+says_to types.String s d h = IsUtf8-string_bytes s
+says_to types.Bytes s d h = h.0
+says_to types.Float s d h = tt
+says_to types.Double s d h = tt
+says_to types.Group s d h = absurd h
+says_to types.Message s d h = absurd h
+says_to types.Enum s d h = absurd h
+
+says_from : (t : FieldType) (text : List ℕ) → IsDefault t text → (d : DefaultText) × Says t text d
+says_from types.Int32 text h = (_, (signed_from _ text h, refl))
+says_from types.Sint32 text h = (_, (signed_from _ text h, refl))
+says_from types.Sfixed32 text h = (_, (signed_from _ text h, refl))
+says_from types.Int64 text h = (_, (signed_from _ text h, refl))
+says_from types.Sint64 text h = (_, (signed_from _ text h, refl))
+says_from types.Sfixed64 text h = (_, (signed_from _ text h, refl))
+says_from types.Uint32 text h = (_, (unsigned_from 32 text h, refl))
+says_from types.Fixed32 text h = (_, (unsigned_from 32 text h, refl))
+says_from types.Uint64 text h = (_, (unsigned_from 64 text h, refl))
+says_from types.Fixed64 text h = (_, (unsigned_from 64 text h, refl))
+says_from types.Bool text (inl e) = (says.Bool true, e)
+says_from types.Bool text (inr e) = (says.Bool false, e)
+says_from types.String text h = (says.Text, refl)
+says_from types.Bytes text h = (says.Bytes, (h, refl))
+says_from types.Float text h = (says.Float, refl)
+says_from types.Double text h = (says.Float, refl)
+says_from types.Group text h = absurd h
+says_from types.Message text h = absurd h
+says_from types.Enum text h = absurd h
+
+pub suited_to : (z : ℤ) (s : String Global) → IsScalarSuited (Some z) (string_bytes s) true
+    → IsScalarDefault z (string_bytes s)
+suited_to z s (None, e, decides) = absurd (decides.0 refl)
+suited_to z s (Some t, e, decides) = let d = decides.0 refl in (t, e, says_to t s d.0 d.1)
+
+pub suited_from : (z : ℤ) (text : List ℕ) → IsScalarDefault z text
+    → IsScalarSuited (Some z) text true
+suited_from z text (t, e, h) = (Some t, e, ((λ is. says_from t text h), λ x. refl))

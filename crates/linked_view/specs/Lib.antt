@@ -1,0 +1,13 @@
+pub mod Alone
+pub mod Complete
+pub mod Enums
+pub mod Known
+pub mod NamedFiles
+pub mod Named
+pub mod Referred
+pub mod Resolved
+pub mod Ruled
+pub mod AtHand
+pub mod Passed
+pub mod Taken
+pub mod Whole

@@ -1,0 +1,9 @@
+//! That linking accepts files exactly where they are lawful behind those that are there: the passes
+//! over a batch, and the statements on the set of its files that they decide. Nothing here does
+//! anything.
+#![tactic(auto)]
+
+pub mod laws;
+mod pools;
+
+pub use pools::pools_are_recorded;
