@@ -123,41 +123,41 @@ module _ (old new : PoolType) (ns : List FileDescriptorProto) (w : Linking) (is 
   have_names = named_to (batch_places ns w.first) w.indexes w.before w.first old.records ns
       (placed old ns w is has) has.named none
 
-  files_none : files_faults (batch_places ns w.first) w.indexes w.first ns ≡ []
+  pub files_none : files_faults (batch_places ns w.first) w.indexes w.first ns ≡ []
   files_none = (none_both (files_faults (batch_places ns w.first) w.indexes w.first ns) _ names).0
 
-  abbrev links : List Links
+  abbrev pub links : List Links
   links = batch.means.links
 
-  abbrev sees : ℕ → ℕ → Bool
+  abbrev pub sees : ℕ → ℕ → Bool
   sees = batch.means.right.sees
 
-  abbrev all_files : List FileDescriptorProto
+  abbrev pub all_files : List FileDescriptorProto
   all_files = old.records ++ ns
 
-  abbrev indexes : Indexes
+  abbrev pub indexes : Indexes
   indexes = (with_declared w ns).indexes
 
-  abbrev known : Known
+  abbrev pub known : Known
   known = (with_declared w ns).known
 
   views_of_both : map file_view all_files ≡ map file_view old.records ++ map file_view ns
   views_of_both = map-append file_view old.records ns
 
-  known_all : AreKnown all_files known
+  pub known_all : AreKnown all_files known
   known_all = are_known old ns w is has have_names files_none links batch.means.linked sees
       batch.means.right.right
 
-  seen_all : AreSeenBy all_files w.first ns sees
+  pub seen_all : AreSeenBy all_files w.first ns sees
   seen_all = seen_by old ns w is has have_names files_none links batch.means.linked sees
       batch.means.right.right
 
-  names_at : (k : ℕ) (f : FileDescriptorProto) → slice_get ns k ≡ Some f
+  pub names_at : (k : ℕ) (f : FileDescriptorProto) → slice_get ns k ≡ Some f
       → indexes (file_name (file_view f)) ≡ Some (w.first + k)
   names_at = name_at old ns w is has have_names files_none links batch.means.linked sees
       batch.means.right.right
 
-  told : AreTold batch.types w.before w.first ns
+  pub told : AreTold batch.types w.before w.first ns
   told = types_tell batch.types w.before w.first ns
       (is.before.messages ∙ ap (λ (p : PoolType). length p.messages) (sym is.tables)
       ∙ length-map w.tables.messages.items message_of
@@ -165,7 +165,7 @@ module _ (old new : PoolType) (ns : List FileDescriptorProto) (w : Linking) (is 
       (sym batch.declared.old))
       batch.declared.ranges
 
-  refs : Each IsLabelled (map file_view ns) × Each IsTyped (map file_view ns)
+  pub refs : Each IsLabelled (map file_view ns) × Each IsTyped (map file_view ns)
       × AreMeant (outlines (map file_view all_files)) (map file_view ns)
   refs = referred_to all_files known known_all (batch_places ns w.first) sees
       w.before w.first ns seen_all have_names.complete
@@ -178,7 +178,7 @@ module _ (old new : PoolType) (ns : List FileDescriptorProto) (w : Linking) (is 
       ∙ batch_targets all_files known known_all indexes sees w.before
       w.first ns names_at seen_all refs.2
 
-  written_is : written batch.references (map file_view ns)
+  pub written_is : written batch.references (map file_view ns)
       ≡ all_linked (meanings all_files known known_all indexes sees)
       (map file_view ns)
   written_is =
@@ -198,6 +198,14 @@ module _ (old new : PoolType) (ns : List FileDescriptorProto) (w : Linking) (is 
       subst (λ x. Means (outlines (map file_view all_files)) (outline_of x) r
       (meanings all_files known known_all indexes sees x r)) f.2 m
 
+  pub stand_linked : map file_view new.records ≡ map file_view old.records
+      ++ all_linked (meanings all_files known known_all indexes sees) (map file_view ns)
+  stand_linked =
+      batch.records
+      ∙ ap (λ (p : PoolType). map file_view p.records ++ written batch.references (map file_view ns))
+      is.tables
+      ∙ ap (λ fs. map file_view old.records ++ fs) written_is
+
   pub lawful_alone : AreLawfulAlone (map file_view old.records) (map file_view ns) (map file_view new.records)
   lawful_alone =
       let g = facts_of batch.types w.before w.first ns batch.references in
@@ -216,12 +224,13 @@ module _ (old new : PoolType) (ns : List FileDescriptorProto) (w : Linking) (is 
           ruled.0,
           batch_fits (with_declared w ns) ns new batch kept.numbers,
         );
-        stand =
-            batch.records
-            ∙ ap (λ (p : PoolType). map file_view p.records ++ written batch.references (map file_view ns))
-            is.tables
-            ∙ ap (λ fs. map file_view old.records ++ fs) written_is;
+        stand = stand_linked;
       }
+
+  pub meanings_alone : lawful_alone.meanings
+      ≡ meanings all_files known known_all indexes sees
+  unfolding lawful_alone
+  meanings_alone = refl
 
 pub accepted_alone : (old new : PoolType) (fs : List FileDescriptorProto) → IsWellNamed old
     → IsKept new → FaultlessFiles old fs new

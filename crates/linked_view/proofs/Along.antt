@@ -166,14 +166,14 @@ own_batch_from b o i (f ∷ fs) h =
     (own_batch_from (proto3_after b (file_declarations o i f)) (past_file o f) (i + 1) fs h.1)
 
 -- ranges of the types are those of the declaration
-range_in : (n : ℤ) (start end : Option ℤ) → IsIn n (record { start = start; end = end })
+pub range_in : (n : ℤ) (start end : Option ℤ) → IsIn n (record { start = start; end = end })
     → pool.IsIn n (unwrap_or start (pos 0), unwrap_or end (pos 0))
 range_in n start end (s, e, is, are, low, high) = (
   subst (λ o. unwrap_or o (pos 0) ≤ℤ n) (sym is) low,
   subst (λ o. n <ℤ unwrap_or o (pos 0)) (sym are) high,
 )
 
-in_range : (n : ℤ) (start end : Option ℤ) → IsThere start × IsThere end
+pub in_range : (n : ℤ) (start end : Option ℤ) → IsThere start × IsThere end
     → pool.IsIn n (unwrap_or start (pos 0), unwrap_or end (pos 0))
     → IsIn n (record { start = start; end = end })
 in_range n start end ((s, is), (e, are)) h = (

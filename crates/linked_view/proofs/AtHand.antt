@@ -21,7 +21,7 @@ use Rattle.linked_view.proofs.Faults.{none_both}
 use Rattle.linked_view.proofs.References.{met_to}
 
 -- a name that is there means something
-abbrev IsResolved : View → ResolveNameFilter → List ℕ → Option (String Global) → Type 0
+abbrev pub IsResolved : View → ResolveNameFilter → List ℕ → Option (String Global) → Type 0
 IsResolved v f scope None = Unit {0}
 IsResolved v f scope (Some s) =
     (full : List ℕ) × (d : Definition) × (meaning_of v f scope (string_bytes s) ≡ means full d)
@@ -32,7 +32,7 @@ pub record IsAtHand (v : View) (f : ResolveNameFilter) (scope : List ℕ) (o : O
   pub kind : meaning o rest ≡ kind_by v f scope o
   pub left : map target_of (behind o rest) ≡ more
 
-at_hand : (v : View) (f : ResolveNameFilter) (scope : List ℕ) (o : Option (String Global))
+pub at_hand : (v : View) (f : ResolveNameFilter) (scope : List ℕ) (o : Option (String Global))
     (rest : List Reference) (more : List Target) → IsResolved v f scope o
     → map target_of rest ≡ name_targets v f scope o ++ more → IsAtHand v f scope o rest more
 at_hand v f scope None rest more h e = record { kind = refl; left = e }
@@ -49,7 +49,7 @@ at_hand v f scope (Some s) (r ∷ rs) more (full, d, is) e =
     }
 
 module _ (at : Places) (v : View) (path : List ℤ) (scope : List ℕ) where
-  resolved_one : (f : ResolveNameFilter) (tag : ℤ) (o : Option (String Global))
+  pub resolved_one : (f : ResolveNameFilter) (tag : ℤ) (o : Option (String Global))
       → reference_faults at v f path scope tag o ≡ [] → IsResolved v f scope o
   resolved_one f tag None e = tt
   resolved_one f tag (Some s) e = met_to (meaning_of v f scope (string_bytes s)) (string_bytes s) _ e
@@ -64,7 +64,7 @@ module _ (at : Places) (v : View) (path : List ℤ) (scope : List ℕ) where
       (mismatch at path f.field_type (kind_meant (meaning_of v filter.FieldType scope (string_bytes s))))
       e).0
 
-  resolved_type : (f : FieldDescriptorProto) → field_reference_faults at v path scope f ≡ []
+  pub resolved_type : (f : FieldDescriptorProto) → field_reference_faults at v path scope f ≡ []
       → IsResolved v filter.FieldType scope f.type_name
   resolved_type f e =
       let first = none_both (label_faults at path f.label) _ e in

@@ -41,7 +41,7 @@ use Rattle.linked_view.proofs.Walked.{text_seen}
 use Rattle.linked_view.proofs.Sees.{sees_to, sees_from}
 
 -- the declarations of files, and of further ones behind them
-batch_on : (o : Offsets) (i : ℕ) (fs gs : List FileDescriptorProto)
+pub batch_on : (o : Offsets) (i : ℕ) (fs gs : List FileDescriptorProto)
     → batch_declarations o i (fs ++ gs)
     ≡ batch_declarations o i fs ++ batch_declarations (past_files o fs) (i + length fs) gs
 batch_on o i [] gs = let e : i ≡ i + 0 = omega arith in ap (λ n. batch_declarations o n gs) e
@@ -82,7 +82,7 @@ named_all old new h k = record {
   ];
 }
 
-get_behind : {X : Type 0} (xs ys : List X) (k : ℕ) (x : X) → slice_get ys k ≡ Some x
+pub get_behind : {X : Type 0} (xs ys : List X) (k : ℕ) (x : X) → slice_get ys k ≡ Some x
     → slice_get (xs ++ ys) (length xs + k) ≡ Some x
 get_behind [] ys k x e = let place : 0 + k ≡ k = omega arith in ap (slice_get ys) place ∙ e
 get_behind (y ∷ xs) ys k x e =

@@ -132,7 +132,7 @@ from_given (d ∷ ds) g x h k = elim (contains_cases d ds x h) [
   | inr j ↦ Contains-append_right (gives d) (given ds) g (from_given ds g x j k)
 ]
 
-package_in : (file : ℕ) (ss : List Text) (n : Text) (d : Definition)
+pub package_in : (file : ℕ) (ss : List Text) (n : Text) (d : Definition)
     → Contains (packages_given file ss) (n, d)
     → Contains ss n × (n ≡ [] → ⊥) × (d ≡ package_of file)
 package_in file [] n d h = absurd (contains_none (n, d) h)
@@ -173,7 +173,7 @@ next_file file o p (d ∷ ds) x next h = elim (contains_cases d ds x h) [
   | inr j ↦ next_file file (past_one o d.body) p ds x next.1.1 j
 ]
 
-batch_file : (o : Offsets) (i : ℕ) (fs : List FileDescriptorProto) (x : Declaration)
+pub batch_file : (o : Offsets) (i : ℕ) (fs : List FileDescriptorProto) (x : Declaration)
     → Contains (batch_declarations o i fs) x
     → (q : Offsets) × (k : ℕ) × (f : FileDescriptorProto) × (slice_get fs k ≡ Some f)
     × Contains (file_declarations q (i + k) f) x
@@ -255,7 +255,7 @@ module _ (files : List FileDescriptorProto) (named : AreWellNamed [] (map file_v
         AllByRecursion (λ (v : view.Declaration). IsComplete v.body) (view.declarations (file_view g)))
         files whole f (get_contains files i f at))
 
-    one_given : (x : Declaration) → Contains (inner_declarations q i f) x
+    pub one_given : (x : Declaration) → Contains (inner_declarations q i f) x
         → (gives x ≡ (x.name, definition_of x) ∷ []) × (is_package (definition_of x).kind ≡ false)
     one_given x h =
         gives_one x x.body
@@ -298,7 +298,7 @@ module _ (files : List FileDescriptorProto) (named : AreWellNamed [] (map file_v
         )
 
   -- what is known was given in a file
-  given_in : (n : Text) (d : Definition) → known_of_files files n ≡ Some d
+  pub given_in : (n : Text) (d : Definition) → known_of_files files n ≡ Some d
       → (x : Declaration) × Contains ds x × Contains (gives x) (n, d)
   given_in n d e =
       let k = known_given nothing_known (given ds) n d (sym (ap (λ (m : Known). m n) known_as) ∙ e) in
@@ -313,7 +313,7 @@ module _ (files : List FileDescriptorProto) (named : AreWellNamed [] (map file_v
     subst (λ s. IsScope s n) (sym (text_seen f.package)) (scopes_are (text_of f.package) n h),
   )
 
-  single : (g h : Giving) → Contains (g ∷ []) h → g ≡ h
+  pub single : (g h : Giving) → Contains (g ∷ []) h → g ≡ h
   single g h j = elim (contains_cases g [] h j) [ inl e ↦ e | inr k ↦ absurd (contains_none h k) ]
 
   -- what it is known for

@@ -194,7 +194,7 @@ module _ (files : List FileDescriptorProto) (known : Known) (are : AreKnown file
   AreAt first fs = (k : ℕ) (f : FileDescriptorProto) → slice_get fs k ≡ Some f
       → indexes (file_name (file_view f)) ≡ Some (first + k)
 
-  sees_at : (f : FileDescriptorProto) (i : ℕ) → indexes (file_name (file_view f)) ≡ Some i
+  pub sees_at : (f : FileDescriptorProto) (i : ℕ) → indexes (file_name (file_view f)) ≡ Some i
       → sees_of (file_view f) ≡ sees i
   sees_at f i e = ap (λ (o : Option ℕ). λ j. elim o as (λ _. Bool) [ None ↦ false | Some x ↦ sees x j ]) e
 

@@ -1,13 +1,16 @@
 pub mod Alone
 pub mod Complete
 pub mod Enums
+pub mod Extended
 pub mod Known
 pub mod NamedFiles
 pub mod Named
+pub mod Ranged
 pub mod Referred
 pub mod Resolved
 pub mod Ruled
 pub mod AtHand
 pub mod Passed
 pub mod Taken
+pub mod Valued
 pub mod Whole

@@ -1,9 +1,9 @@
 //! The laws of the passes over a batch, each the contract of a function that does nothing.
-ghost use Rattle.std.specs.Prelude.{◌≡◌, ◌↔◌, ℕ, ℤ, Bool, List, [], map, slice_get, Some};
+ghost use Rattle.std.specs.Prelude.{◌≡◌, ◌≤◌, ◌↔◌, ℕ, ℤ, Bool, List, [], map, slice_get, Some};
 ghost use Rattle.descriptor_records.specs.Content.{Text, FileContent, enum_view, file_view};
 ghost use Rattle.descriptor_records.specs.declared.enums.EnumDescriptorProto.{EnumDescriptorProto};
 ghost use Rattle.descriptor_records.specs.declared.file.FileDescriptorProto.{FileDescriptorProto};
-ghost use Rattle.reflect_build.specs.Accepted.{FaultlessFiles};
+ghost use Rattle.reflect_build.specs.Accepted.{Faultless, FaultlessFiles};
 ghost use Rattle.reflect_build.specs.Refusals.{FaultyReferences, IsOf, Linking, new_files, with_declared};
 ghost use Rattle.reflect_known.specs.KnownNames.{known_of_files};
 ghost use Rattle.reflect_names.specs.Faults.{Fault};
@@ -30,13 +30,14 @@ ghost use Rattle.reflect_tables.specs.Views.{record_file};
 ghost use Rattle.reflect_walk.specs.Batches.{batch_declarations};
 ghost use Rattle.reflect_walk.specs.declared.visit_parts.Offsets.{Offsets};
 ghost use Rattle.schema_view.specs.Files.{file_name};
-ghost use Rattle.schema_view.specs.Lawful.{outlines, Adds, IsLawful, Meanings};
+ghost use Rattle.schema_view.specs.Lawful.{outlines, Adds, IsLawful, Meanings, Key, has_key, times_by};
 ghost use Rattle.schema_view.specs.Means.{IsWanted, Holds, MeansBy};
 ghost use Rattle.schema_view.specs.Outlines as view;
 ghost use Rattle.schema_view.specs.Outlines.{Outline, outline_of};
 ghost use Rattle.schema_view.specs.References.{Want};
 ghost use Rattle.schema_view.specs.Rules.{HasFirst};
 ghost use Rattle.linked_view.specs.Enums.{IsNumbered};
+ghost use Rattle.linked_view.specs.Extended.{IsIndexed, TellsExtensions};
 ghost use Rattle.linked_messages.specs.Kept.{IsKept};
 ghost use Rattle.linked_view.specs.Alone.{AreLawfulAlone, AreSettledAlone, IsWellNamed, IsRecorded};
 ghost use Rattle.linked_view.specs.Complete.{IsComplete};
@@ -48,6 +49,8 @@ ghost use Rattle.linked_view.specs.Referred.{AreMeant, AreSeenBy};
 ghost use Rattle.linked_view.specs.Resolved.{filter_of, SeesThose};
 ghost use Rattle.linked_view.specs.Ruled.{IsTyped, Each, AreRuled};
 ghost use Rattle.linked_view.specs.Whole.{IsLabelled, IsFitting, AreSound};
+ghost use Rattle.linked_view.specs.Ranged.{KeepNumbers, TellsRanges};
+ghost use Rattle.linked_view.specs.Valued.{SuitEnums, TellsValues};
 ghost use Rattle.linked_view.specs.NamedFiles.{HaveNoFault, AreFiles};
 
 /// The pass over names finds nothing wrong with new files themselves exactly where they have names,
@@ -193,4 +196,49 @@ pub fn lawful_files_have_no_fault_of_names_and_references()
 pub fn lawful_files_that_agree_are_added()
     ensures { (old new after : List FileContent) (l : AreLawfulAlone old new after)
         → AreSettledAlone old new l.meanings → Adds old new after }
+{}
+
+/// Where the entries of a pool's extensions are those of its records, no two extensions that these
+/// declare extend one message under one number.
+pub fn extensions_have_their_own_numbers()
+    ensures { (p : PoolType) → IsIndexed p → TellsExtensions p
+        → (k : Key) → times_by (has_key k) (map file_view p.records) ≤ 1 }
+{}
+
+/// A pool without extensions tells of those of its records, and so it stays where files are accepted:
+/// what is asked of the new pool beside this its type keeps.
+pub fn pools_tell_of_extensions()
+    ensures empty { TellsExtensions empty_pool }
+    ensures kept { (old new : PoolType) (files : List FileDescriptorProto) → IsWellNamed old
+        → IsIndexed new → IsKept new → TellsExtensions old
+        → FaultlessFiles old files new → TellsExtensions new }
+{}
+
+/// A pool without enums tells of those of its records, and so it stays where files are accepted.
+pub fn pools_tell_of_values()
+    ensures empty { TellsValues empty_pool }
+    ensures kept { (old new : PoolType) (files : List FileDescriptorProto) → IsWellNamed old
+        → IsKept new → TellsValues old → FaultlessFiles old files new → TellsValues new }
+{}
+
+/// Where files are accepted, each default of theirs that stands at an enum's name is the name of one
+/// of the enum's values.
+pub fn accepted_defaults_are_values()
+    ensures { (old new : PoolType) (files : List FileDescriptorProto) → IsWellNamed old
+        → IsIndexed new → IsKept new → TellsValues old → FaultlessFiles old files new
+        → (w : Linking) × IsOf old w
+        × (l : AreLawfulAlone (map file_view old.records) (map file_view (new_files w.indexes files))
+        (map file_view new.records))
+        × SuitEnums (map file_view old.records) (map file_view (new_files w.indexes files)) l.meanings }
+{}
+
+/// Behind types whose ranges are those that a pool's records declare, each extension of accepted
+/// files has a number that the message that it extends keeps for extensions, and for nothing else.
+pub fn accepted_numbers_are_kept()
+    ensures { (old new : PoolType) (w : Linking) (files : List FileDescriptorProto)
+        → IsWellNamed old → IsKept new → IsOf old w → TellsRanges old.records w.tables
+        → Faultless w (new_files w.indexes files) new
+        → (l : AreLawfulAlone (map file_view old.records) (map file_view (new_files w.indexes files))
+        (map file_view new.records))
+        × KeepNumbers (map file_view old.records) (map file_view (new_files w.indexes files)) l.meanings }
 {}

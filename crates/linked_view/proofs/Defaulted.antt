@@ -1,0 +1,192 @@
+-- The defaults of accepted files that stand at enums' names are names of the enums' values.
+use Rattle.std.proofs.Common.{◌≡◌, ◌∙◌, ◌+◌, ◌-◌, inl, inr, ℕ, Bool, true, false, cond, nat_lt, List, [], ◌++◌, Option, Some, None, map, length, slice_get, ap, sym, subst, refl, arith}
+use Rattle.std.specs.List.{Contains, flat_map}
+use Rattle.std.proofs.lemmas.List.{map-append}
+use Rattle.descriptor_records.specs.Content.{Text, FileContent, file_view}
+use Rattle.descriptor_records.specs.declared.file.FileDescriptorProto.{FileDescriptorProto}
+use Rattle.reflect_scope.specs.declared.definition.Definition.{Definition}
+use Rattle.reflect_scope.specs.declared.definition.DefinitionKind.TheVariants as kind
+use Rattle.reflect_scope.specs.Known.{Known}
+use Rattle.reflect_names.specs.Faults.{batch_places}
+use Rattle.reflect_names.specs.ReferencePass.{views_of}
+use Rattle.reflect_passes.specs.Linked.{enum_at, HasValue, linked_values}
+use Rattle.reflect_passes.specs.NameFaults.{name_faults}
+use Rattle.reflect_tables.specs.Names.{FullName, found, place_in, place_of, with_file, enum_name, names_of, enums}
+use Rattle.reflect_tables.specs.Types.{PoolType, EnumType, ValueType}
+use Rattle.reflect_tables.specs.Views.{enum_of}
+use Rattle.reflect_tables.specs.declared.stored.StoredEnum.{StoredEnum}
+use Rattle.reflect_tables.specs.declared.tables.Tables.{Tables}
+use Rattle.reflect_walk.specs.Batches.{batch_declarations}
+use Rattle.reflect_build.specs.Accepted.{FaultlessBatch, FaultlessFiles}
+use Rattle.reflect_build.specs.Refusals.{Linking, with_declared, IsOf, new_files}
+use Rattle.linked_messages.specs.Kept.{IsKept}
+use Rattle.schema_view.specs.Declarations.{Body, of_message, of_field, of_oneof, of_enum, of_value, of_service, of_method, of_extension, declarations}
+use Rattle.schema_view.specs.Lawful.{outlines, SuitsEnum}
+use Rattle.schema_view.specs.Outlines.{value_name, sort_of, enum_sort, head_of, outline_of}
+use Rattle.schema_view.specs.References.{linked}
+use Rattle.schema_view.proofs.Lists.{contains_cases, contains_none, contains_map, contains_map_cases, contains_flat_cases}
+use Rattle.schema_view.proofs.Road.{outlines_linked}
+use Rattle.linked_view.specs.Alone.{IsWellNamed, AreLawfulAlone}
+use Rattle.linked_view.specs.Extended.{IsIndexed}
+use Rattle.linked_view.specs.Passed.{facts_of, start_of}
+use Rattle.linked_view.specs.Valued.{NamedValues, values_in, kept_values, TellsValues, SuitEnums}
+use Rattle.linked_view.proofs.Accepted.{have_names, refs, told, known, known_all, indexes, names_at, lawful_alone, meanings_alone}
+use Rattle.linked_view.proofs.Along.{ruled_to}
+use Rattle.linked_view.proofs.Behind.{get_behind}
+use Rattle.linked_view.proofs.AtHand.{met_to_by}
+use Rattle.linked_view.proofs.Linked.{meanings}
+use Rattle.linked_view.proofs.Places.{get_contains, get_map}
+use Rattle.linked_view.proofs.Settling.{all_good, batch_holds}
+use Rattle.linked_view.proofs.Suited.{IsValueOf, suits_seen}
+use Rattle.linked_view.proofs.Telling.{get_before, known_new}
+use Rattle.linked_view.proofs.Valued.{values_new}
+
+-- what is declared as an enum with these values
+in_values : (n : Text) (b : Body) (p : NamedValues)
+    → Contains (values_in (record { name = n; body = b })) p
+    → (values : List Text) × (sort_of b ≡ enum_sort values) × ((n, values) ≡ p)
+in_values n (of_enum e) p h = elim (contains_cases (n, map value_name e.value) [] p h) [
+  | inl same ↦ (map value_name e.value, refl, same)
+  | inr none ↦ absurd (contains_none p none)
+]
+in_values n (of_message m) p h = absurd (contains_none p h)
+in_values n (of_field f) p h = absurd (contains_none p h)
+in_values n (of_oneof o) p h = absurd (contains_none p h)
+in_values n (of_value v) p h = absurd (contains_none p h)
+in_values n (of_service s) p h = absurd (contains_none p h)
+in_values n (of_method m) p h = absurd (contains_none p h)
+in_values n (of_extension x) p h = absurd (contains_none p h)
+
+-- at a place of two lists, one behind the other
+pub at_both : {X : Type 0} (xs ys : List X) (i : ℕ) (x : X)
+    → cond (nat_lt i (length xs)) (slice_get xs i) (slice_get ys (i - length xs)) ≡ Some x
+    → slice_get (xs ++ ys) i ≡ Some x
+at_both {X} xs ys i x e = by (nat_lt i (length xs)) refl where
+  at_last : (b : Bool) → nat_lt i (length xs) ≡ b
+      → cond b (slice_get xs i) (slice_get ys (i - length xs)) ≡ Some x
+  at_last b is = sym (ap (λ c. cond c (slice_get xs i) (slice_get ys (i - length xs))) is) ∙ e
+
+  by : (b : Bool) → nat_lt i (length xs) ≡ b → slice_get (xs ++ ys) i ≡ Some x
+  by true is = get_before xs ys i x (at_last true is)
+  by false is =
+      let place : length xs + (i - length xs) ≡ i = grind (arith, is) in
+      ap (slice_get (xs ++ ys)) (sym place) ∙ get_behind xs ys (i - length xs) x (at_last false is)
+
+-- an enum's entry that has a value of the name
+has_value : (o : Option StoredEnum) (text : Text) → HasValue o text
+    → (e : StoredEnum) × (o ≡ Some e) × Contains (map (λ (v : ValueType). v.name) (enum_of e).values) text
+has_value None text h = absurd h
+has_value (Some e) text (k, v, lt, at, name) = (
+  e,
+  refl,
+  subst (Contains (map (λ (v : ValueType). v.name) (enum_of e).values)) name
+      (contains_map (λ (v : ValueType). v.name) (enum_of e).values v (k, lt, at)),
+)
+
+pub written_value : (p : PoolType) → IsIndexed p → TellsValues p → (i : ℕ) (e : EnumType)
+    (full : Text) (text : Text) (file : ℕ) → slice_get p.enums i ≡ Some e
+    → slice_get (names_of p enums) i ≡ Some (full, file)
+    → Contains (map (λ (v : ValueType). v.name) e.values) text
+    → IsValueOf (outlines (map file_view p.records)) full text
+written_value p index tells i e full text file at named has =
+    let fs = map file_view p.records in
+    let same : ◌≡◌ {A = FullName} (enum_name e) (full, file) =
+    cc (sym (get_map enum_name p.enums i e at) ∙ named) in
+    let name : e.full_name ≡ full = ap (λ (n : FullName). n.0) same in
+    let there = subst (λ vs. Contains vs (kept_values e)) tells
+    (get_contains (map kept_values p.enums) i (kept_values e)
+    (get_map kept_values p.enums i e at)) in
+    let f = contains_flat_cases (λ f. flat_map values_in (declarations f)) fs (kept_values e) there in
+    let d = contains_flat_cases values_in (declarations f.0) (kept_values e) f.2 in
+    let v = in_values d.0.name d.0.body (kept_values e) d.2 in (
+      v.0,
+      (
+        outline_of f.0,
+        head_of d.0,
+        contains_map outline_of fs f.0 f.1,
+        contains_map head_of (declarations f.0) d.0 d.1,
+        ap (λ (n : NamedValues). n.0) v.2 ∙ name,
+        v.1,
+      ),
+      subst (λ vs. Contains vs text) (sym (ap (λ (n : NamedValues). n.1) v.2)) has,
+    )
+
+module _ (old new : PoolType) (ns : List FileDescriptorProto) (w : Linking) (is : IsOf old w)
+    (has : IsWellNamed old) (names : name_faults w.indexes w.known w.before w.first ns ≡ [])
+    (batch : FaultlessBatch (with_declared w ns) ns new) (kept : IsKept new) (index : IsIndexed new)
+    (tells : TellsValues old) where
+  abbrev given : List FileContent
+  given = map file_view old.records
+
+  abbrev more : List FileContent
+  more = map file_view ns
+
+  abbrev all_known : Known
+  all_known = known old new ns w is has names batch kept
+
+  place_at : (i : ℕ) (e : StoredEnum) → enum_at batch.types i ≡ Some e
+      → slice_get new.enums i ≡ Some (enum_of e)
+  place_at i e at =
+      let olds = batch.types.old.now.enums.items in
+      let items = batch.types.new.now.enums.items in
+      let here : slice_get (map enum_of (olds ++ items)) i ≡ Some (enum_of e) =
+      get_map enum_of (olds ++ items) i e (at_both olds items i e at) in
+      let all : new.enums ≡ map enum_of (olds ++ items) =
+      batch.added.enums
+      ∙ ap (λ (t : Tables). map enum_of t.enums.items ++ map enum_of items) (sym batch.declared.old)
+      ∙ sym (map-append enum_of olds items) in
+      ap (λ es. slice_get es i) all ∙ here
+
+  value_there : (i : ℕ) (full text : Text) (d : Definition) → all_known full ≡ Some d
+      → d.kind ≡ kind.Enum i → HasValue (enum_at batch.types i) text
+      → IsValueOf (outlines (given ++ more)) full text
+  value_there i full text d knows same h =
+      let l = lawful_alone old new ns w is has names batch kept in
+      let v = has_value (enum_at batch.types i) text h in
+      let named = (index.named.found enums full i d.file).0
+      (ap (λ k. found enums k full) (known_new old new ns w is has names batch kept)
+      ∙ ap (place_in enums) knows ∙ ap (λ k. with_file d (place_of enums k)) same) in
+      subst (λ os. IsValueOf os full text)
+      (ap outlines l.stand ∙ outlines_linked given more l.meanings)
+      (written_value new index (values_new old new ns w is has names batch kept tells) i (enum_of v.0)
+      full text d.file (place_at i v.0 v.1) named v.2)
+
+  pub defaults_suit : SuitEnums given more (lawful_alone old new ns w is has names batch kept).meanings
+  defaults_suit =
+      let g = facts_of batch.types w.before w.first ns batch.references in
+      let views = views_of all_known batch.means.right.sees in
+      let ds = batch_declarations w.before w.first ns in
+      let at = batch_places ns w.first in
+      let ruled = ruled_to g (linked_values batch.types) at (start_of batch.references) w.before w.first
+      ns (have_names old new ns w is has names batch kept).complete
+      (refs old new ns w is has names batch kept).1
+      (told old new ns w is has names batch kept) batch.numbers in
+      let met = met_to_by g (linked_values batch.types) views at (start_of batch.references) ds
+      (sym batch.means.right.faults) batch.means.right.targets ruled.1 in
+      let all = known_all old new ns w is has names batch kept in
+      let named = indexes old new ns w is has names batch kept in
+      let good = all_good (old.records ++ ns) all_known all named batch.means.right.sees batch.types g at
+      views ds (sym batch.means.right.faults) met in
+      subst (SuitEnums given more) (sym (meanings_alone old new ns w is has names batch kept))
+      (λ c d i j.
+      let f = contains_map_cases file_view ns c i in
+      batch_holds (old.records ++ ns) all_known all named batch.means.right.sees batch.types g at
+      (SuitsEnum (outlines (given ++ more)))
+      (suits_seen (old.records ++ ns) all_known all named batch.means.right.sees batch.types g at
+      (outlines (given ++ more)) value_there) w.before w.first ns
+      (names_at old new ns w is has names batch kept) good f.0 f.1 d
+      (subst (λ x. Contains (declarations (linked (meanings (old.records ++ ns) all_known all named
+      batch.means.right.sees x) x)) d) (sym f.2) j))
+
+pub defaults_are : (old new : PoolType) (fs : List FileDescriptorProto) → IsWellNamed old
+    → IsIndexed new → IsKept new → TellsValues old → FaultlessFiles old fs new
+    → (w : Linking) × IsOf old w
+    × (l : AreLawfulAlone (map file_view old.records) (map file_view (new_files w.indexes fs))
+    (map file_view new.records))
+    × SuitEnums (map file_view old.records) (map file_view (new_files w.indexes fs)) l.meanings
+defaults_are old new fs has index kept tells (w, is, (names, batch)) = (
+  w,
+  is,
+  lawful_alone old new (new_files w.indexes fs) w is has names batch kept,
+  defaults_suit old new (new_files w.indexes fs) w is has names batch kept index tells,
+)

@@ -1,0 +1,223 @@
+-- The numbers of accepted extensions are kept for extensions by the messages that they extend.
+use Rattle.std.proofs.Common.{◌≡◌, ◌∙◌, ◌+◌, ℕ, List, [], ◌∷◌, ◌++◌, Option, Some, None, map, length, ap, sym, subst, refl}
+use Rattle.std.specs.List.{Contains}
+use Rattle.std.proofs.lemmas.List.{map-append}
+use Rattle.descriptor_records.specs.Content.{Text, FileContent, file_view}
+use Rattle.descriptor_records.specs.declared.file.FileDescriptorProto.{FileDescriptorProto}
+use Rattle.reflect_scope.specs.declared.definition.Definition.{Definition}
+use Rattle.reflect_scope.specs.declared.definition.DefinitionKind.TheVariants as kind
+use Rattle.reflect_scope.specs.Known.{Known}
+use Rattle.reflect_names.specs.Faults.{batch_places}
+use Rattle.reflect_names.specs.ReferencePass.{views_of}
+use Rattle.reflect_passes.specs.Linked.{linked_values}
+use Rattle.reflect_passes.specs.NameFaults.{name_faults}
+use Rattle.reflect_tables.specs.Types.{PoolType}
+use Rattle.reflect_tables.specs.declared.tables.Tables.{Tables}
+use Rattle.reflect_walk.specs.Batches.{batch_declarations}
+use Rattle.reflect_build.specs.Accepted.{FaultlessBatch, Faultless}
+use Rattle.reflect_build.specs.Refusals.{Linking, with_declared, IsOf, new_files}
+use Rattle.linked_messages.specs.Kept.{IsKept}
+use Rattle.schema_view.specs.Declarations.{Body, of_message, of_field, of_oneof, of_enum, of_value, of_service, of_method, of_extension, Declaration, declarations}
+use Rattle.schema_view.specs.Lawful.{outlines}
+use Rattle.schema_view.specs.References.{linked}
+use Rattle.schema_view.proofs.Lists.{contains_none, contains_map, contains_map_cases}
+use Rattle.linked_view.specs.Alone.{IsWellNamed, AreLawfulAlone}
+use Rattle.linked_view.specs.Named.{AreWellNamed}
+use Rattle.linked_view.specs.Passed.{facts_of, start_of}
+use Rattle.linked_view.proofs.Accepted.{have_names, refs, told, known, known_all, indexes, names_at, lawful_alone, meanings_alone}
+use Rattle.linked_view.proofs.Along.{ruled_to}
+use Rattle.linked_view.proofs.AtHand.{met_to_by}
+use Rattle.linked_view.proofs.Linked.{meanings}
+use Rattle.linked_view.proofs.Places.{get_map}
+use Rattle.linked_view.proofs.Settling.{all_good, batch_holds}
+use Rattle.std.specs.Prelude.{ℤ}
+use Rattle.std.proofs.lemmas.List.Sorted.{Contains-permutation, IsPermutation-sym}
+use Rattle.std.proofs.lemmas.List.Elements.{All-contains}
+use Rattle.std.proofs.Common.{append_assoc, zero-add}
+use Rattle.descriptor_records.specs.Content.{extension_range_view}
+use Rattle.descriptor_records.specs.Content as content
+use Rattle.reflect_index.specs.OfDeclarations.{RangesType, AreDeclared, AllDeclared, message_in, messages_in, stored_ranges}
+use Rattle.reflect_known.specs.KnownNames.{nothing_before, known_of_files}
+use Rattle.reflect_passes.specs.Linked.{message_at, linked_says}
+use Rattle.reflect_tables.specs.Ranges as pool
+use Rattle.reflect_tables.specs.Views.{ranges_of}
+use Rattle.reflect_tables.specs.declared.stored.StoredMessage.{StoredMessage}
+use Rattle.reflect_walk.specs.Declarations as walk
+use Rattle.reflect_walk.specs.Tree.{MessageParts}
+use Rattle.schema_view.specs.Declarations as view
+use Rattle.schema_view.specs.Lawful.{Keeps, KeepsNumber}
+use Rattle.schema_view.specs.Rules.{IsIn, HasBounds}
+use Rattle.linked_messages.proofs.Declared.{declared_at}
+use Rattle.linked_view.specs.Ranged.{TellsRanges, KeepNumbers}
+use Rattle.linked_view.specs.Ruled.{IsExtensionNumber}
+use Rattle.linked_view.proofs.Accepted.{files_none}
+use Rattle.linked_view.proofs.Along.{range_in, in_range}
+use Rattle.linked_view.proofs.Behind.{all_named, batch_on, first_is, known_is}
+use Rattle.linked_view.proofs.Defaulted.{at_both}
+use Rattle.linked_view.proofs.Indexed.{IsMessageAt, message_known}
+use Rattle.linked_view.proofs.Named.{in_all}
+use Rattle.linked_view.proofs.Reserved.{kept_seen}
+
+messages_both : (a b : List walk.Declaration) → messages_in (a ++ b) ≡ messages_in a ++ messages_in b
+messages_both [] b = refl
+messages_both (d ∷ a) b =
+    ap (λ ms. message_in d.body ++ ms) (messages_both a b)
+    ∙ sym (append_assoc (message_in d.body) (messages_in a) (messages_in b))
+
+declared_both : (a b : List MessageParts) (x y : List RangesType) → AllDeclared a x
+    → AllDeclared b y → AllDeclared (a ++ b) (x ++ y)
+declared_both [] b [] y h k = k
+declared_both [] b (r ∷ x) y h k = absurd h
+declared_both (m ∷ a) b [] y h k = absurd h
+declared_both (m ∷ a) b (r ∷ x) y h k = (h.0, declared_both a b x y h.1 k)
+
+module _ (old new : PoolType) (ns : List FileDescriptorProto) (w : Linking) (is : IsOf old w)
+    (has : IsWellNamed old) (names : name_faults w.indexes w.known w.before w.first ns ≡ [])
+    (batch : FaultlessBatch (with_declared w ns) ns new) (kept : IsKept new)
+    (tells : TellsRanges old.records w.tables) where
+  abbrev given : List FileContent
+  given = map file_view old.records
+
+  abbrev more : List FileContent
+  more = map file_view ns
+
+  abbrev all_known : Known
+  all_known = known old new ns w is has names batch kept
+
+  abbrev all : List FileDescriptorProto
+  all = old.records ++ ns
+
+  abbrev stored : List StoredMessage
+  stored = batch.types.old.now.messages.items ++ batch.types.new.now.messages.items
+
+  named_files : AreWellNamed [] (map file_view all)
+  named_files = all_named old ns w is has (have_names old new ns w is has names batch kept)
+      (files_none old new ns w is has names batch kept) batch.means.links batch.means.linked
+      batch.means.right.sees batch.means.right.right
+
+  known_all_files : all_known ≡ known_of_files all
+  known_all_files = known_is old ns w is has (have_names old new ns w is has names batch kept)
+      (files_none old new ns w is has names batch kept) batch.means.links batch.means.linked
+      batch.means.right.sees batch.means.right.right
+
+  -- what is kept of all messages is what is declared
+  all_ranges : AllDeclared (messages_in (batch_declarations nothing_before 0 all))
+      (map stored_ranges stored)
+  all_ranges =
+      let front = batch_declarations nothing_before 0 old.records in
+      let back = batch_declarations w.before w.first ns in
+      let place : w.first ≡ 0 + length old.records =
+      first_is old ns w is has ∙ sym (zero-add (length old.records)) in
+      let both : batch_declarations nothing_before 0 all ≡ front ++ back =
+      batch_on nothing_before 0 old.records ns
+      ∙ ap (λ o. front ++ batch_declarations o (0 + length old.records) ns) (sym is.counts)
+      ∙ ap (λ n. front ++ batch_declarations w.before n ns) (sym place) in
+      let older = subst (λ (s : Tables). AllDeclared (messages_in front)
+      (map stored_ranges s.messages.items)) (sym batch.declared.old) tells in
+      subst (λ ds. AllDeclared (messages_in ds) (map stored_ranges stored)) (sym both)
+      (subst (λ ms. AllDeclared ms (map stored_ranges stored)) (sym (messages_both front back))
+      (subst (AllDeclared (messages_in front ++ messages_in back))
+      (sym (map-append stored_ranges batch.types.old.now.messages.items
+      batch.types.new.now.messages.items))
+      (declared_both (messages_in front) (messages_in back) _ _ older batch.declared.ranges)))
+
+  -- the ranges of a message, as they are kept and as its record has them
+  ranges_keep : (full : Text) (n : ℤ) (i : ℕ) (m : IsMessageAt all named_files full i)
+      (s : StoredMessage) → AreDeclared m.own (stored_ranges s) → (r : pool.Range)
+      → Contains (ranges_of s.extension_numbers) r → pool.IsIn n r
+      → pool.IsRangeOf (ranges_of s.reserved_numbers) n None
+      → Keeps (outlines (map file_view all)) full n
+  ranges_keep full n i m s declared r inside within none =
+      let own = m.own in
+      let shown = map extension_range_view own.extension_range in
+      let back = Contains-permutation (ranges_of s.extension_numbers)
+      (map pool.extension_range own.extension_range) r
+      (IsPermutation-sym (map pool.extension_range own.extension_range)
+      (ranges_of s.extension_numbers) declared.extensions) inside in
+      let x = contains_map_cases pool.extension_range own.extension_range r back in
+      let there = contains_map extension_range_view own.extension_range x.0 x.1 in
+      let bounds = in_all (λ (q : content.ExtensionRangeContent). HasBounds (view.extension_range q))
+      shown m.complete.1 (extension_range_view x.0) there in (
+        map view.extension_range shown,
+        map view.reserved_range own.reserved_range,
+        m.declared,
+        (
+          view.extension_range (extension_range_view x.0),
+          contains_map view.extension_range shown (extension_range_view x.0) there,
+          in_range n x.0.start x.0.end bounds (subst (pool.IsIn n) (sym x.2) within),
+        ),
+        λ q j k.
+            let y = contains_map_cases view.reserved_range own.reserved_range q j in
+            let kept_there = Contains-permutation (map pool.reserved_range own.reserved_range)
+            (ranges_of s.reserved_numbers) (pool.reserved_range y.0) declared.reserved
+            (contains_map pool.reserved_range own.reserved_range y.0 y.1) in
+            All-contains (λ q. pool.IsIn n q → ⊥) (ranges_of s.reserved_numbers)
+            (pool.reserved_range y.0) none kept_there
+            (range_in n y.0.start y.0.end (subst (IsIn n) (sym y.2) k)),
+      )
+
+  abbrev reserved_by : Option StoredMessage → List pool.Range
+  reserved_by o = elim o [ None ↦ [] | Some m ↦ ranges_of m.reserved_numbers ]
+
+  abbrev extensions_by : Option StoredMessage → List pool.Range
+  extensions_by o = elim o [ None ↦ [] | Some m ↦ ranges_of m.extension_numbers ]
+
+  number_kept : (i : ℕ) (full : Text) (n : ℤ) (d : Definition) → all_known full ≡ Some d
+      → d.kind ≡ kind.Message i → IsExtensionNumber (linked_says batch.types) n (Some i)
+      → Keeps (outlines (map file_view all)) full n
+  number_kept i full n d knows same (none, r, (inside, within)) =
+      by (message_at batch.types i) refl where
+        by : (o : Option StoredMessage) → message_at batch.types i ≡ o
+            → Keeps (outlines (map file_view all)) full n
+        by None e = absurd (contains_none r (subst (λ l. Contains l r) (ap extensions_by e) inside))
+        by (Some s) e =
+            let m = message_known all named_files full d i
+            (ap (λ (k : Known). k full) (sym known_all_files) ∙ knows) same in
+            let declared = declared_at (messages_in (batch_declarations nothing_before 0 all))
+            (map stored_ranges stored) i m.own (stored_ranges s) all_ranges m.place
+            (get_map stored_ranges stored i s (at_both batch.types.old.now.messages.items
+            batch.types.new.now.messages.items i s e)) in
+            ranges_keep full n i m s declared r
+            (subst (λ l. Contains l r) (ap extensions_by e) inside) within
+            (subst (λ l. pool.IsRangeOf l n None) (ap reserved_by e) none)
+
+  pub numbers_keep : KeepNumbers given more (lawful_alone old new ns w is has names batch kept).meanings
+  numbers_keep =
+      let g = facts_of batch.types w.before w.first ns batch.references in
+      let views = views_of all_known batch.means.right.sees in
+      let ds = batch_declarations w.before w.first ns in
+      let at = batch_places ns w.first in
+      let ruled = ruled_to g (linked_values batch.types) at (start_of batch.references) w.before w.first
+      ns (have_names old new ns w is has names batch kept).complete
+      (refs old new ns w is has names batch kept).1
+      (told old new ns w is has names batch kept) batch.numbers in
+      let met = met_to_by g (linked_values batch.types) views at (start_of batch.references) ds
+      (sym batch.means.right.faults) batch.means.right.targets ruled.1 in
+      let are = known_all old new ns w is has names batch kept in
+      let named = indexes old new ns w is has names batch kept in
+      let good = all_good all all_known are named batch.means.right.sees batch.types g at
+      views ds (sym batch.means.right.faults) met in
+      let os = outlines (map file_view all) in
+      let same : os ≡ outlines (given ++ more) = ap outlines (map-append file_view old.records ns) in
+      subst (KeepNumbers given more) (sym (meanings_alone old new ns w is has names batch kept))
+      (λ c d i j.
+      let f = contains_map_cases file_view ns c i in
+      subst (λ ps. KeepsNumber ps d.body) same
+      (batch_holds all all_known are named batch.means.right.sees batch.types g at
+      (KeepsNumber os)
+      (kept_seen all all_known are named batch.means.right.sees batch.types g at os number_kept)
+      w.before w.first ns
+      (names_at old new ns w is has names batch kept) good f.0 f.1 d
+      (subst (λ x. Contains (declarations (linked (meanings all all_known are named
+      batch.means.right.sees x) x)) d) (sym f.2) j)))
+
+pub numbers_are : (old new : PoolType) (w : Linking) (fs : List FileDescriptorProto)
+    → IsWellNamed old → IsKept new → IsOf old w → TellsRanges old.records w.tables
+    → Faultless w (new_files w.indexes fs) new
+    → (l : AreLawfulAlone (map file_view old.records) (map file_view (new_files w.indexes fs))
+    (map file_view new.records))
+    × KeepNumbers (map file_view old.records) (map file_view (new_files w.indexes fs)) l.meanings
+numbers_are old new w fs has kept is tells (names, batch) = (
+  lawful_alone old new (new_files w.indexes fs) w is has names batch kept,
+  numbers_keep old new (new_files w.indexes fs) w is has names batch kept tells,
+)
