@@ -1,0 +1,5 @@
+pub mod Names
+pub mod Schemas
+pub mod Apart
+pub mod Targets
+pub mod Values
