@@ -1,16 +1,16 @@
 -- What adding values to a list does to what is seen of a message.
-use Rattle.std.proofs.Common.{◌≡◌, ◌≢◌, ◌⊎◌, inl, inr, ℕ, ◌==◌, ◌&&◌, not, Bool, true, false, true≢false, cond, List, [], ◌∷◌, ◌++◌, map, Option, Some, None, option_map, unwrap_or, refl, sym, ap, ◌∙◌, subst, arith}
+use Rattle.std.proofs.Common.{◌≡◌, ◌≢◌, ◌⊎◌, inl, inr, ℕ, ◌==◌, ◌&&◌, not, Bool, true, false, true≢false, cond, List, [], ◌∷◌, ◌++◌, map, Option, Some, None, option_map, unwrap_or, refl, sym, ap, ◌∙◌, subst}
 use Rattle.std.specs.Prelude.{IfSome}
 use mathlib.Core.Path.{fun_ext}
 use Rattle.std.specs.Option.{option_and_then}
 use Rattle.protobuf_model.specs.Types.{Field, one, many, keyed, oneof_of, same_oneof, rival}
-use Rattle.protobuf_model.specs.Values.{Content, list, Held, content, Message, absent, chain_of, list_of}
+use Rattle.protobuf_model.specs.Values.{Content, list, Held, absent, chain_of}
 use Rattle.protobuf_model.specs.Meaning.{if_any, items, payloads}
 use Rattle.protobuf_model.proofs.Pieces.{listed}
 use Rattle.protox_lex.specs.Class.{Text}
 use Rattle.reflect_tables.specs.Types.{PoolType, FieldType}
 use Rattle.reflect_entries.specs.Entries.{value_at}
-use Rattle.reflect_entries.specs.Members.{first_number, first_member_of, other_than}
+use Rattle.reflect_entries.specs.Members.{first_number, other_than}
 use Rattle.reflect_pool.specs.FieldsLeft.{field_type}
 use Rattle.reflect_pool.specs.Parts.{members_of}
 use Rattle.reflect_pool.specs.Shapes.{holds_list, holds_map, is_repeated}

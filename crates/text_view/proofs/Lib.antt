@@ -7,3 +7,5 @@ pub mod Scalars
 pub mod Puts
 pub mod Wanted
 pub mod Adds
+pub mod Shapes
+mod Example

@@ -11,8 +11,8 @@ use Rattle.reflect_pool.specs.Dots.{without_dot}
 use Rattle.reflect_pool.specs.Shapes.{holds_list, holds_map}
 use Rattle.reflect_any.specs.Any.{shares}
 use Rattle.reflect_message.specs.Known.{numbered_field}
-use Rattle.text_model.specs.Schemas.{Schema}
-use Rattle.message_view.specs.Types.{place_in, types_of}
+use Rattle.text_model.specs.Schemas.{Schema, Shape}
+use Rattle.message_view.specs.Types.{field_at, place_in, types_of}
 use Rattle.text_view.specs.Names.{names_of}
 
 abbrev pub is_string : KindType → Bool
@@ -49,4 +49,12 @@ schema_of pool decoded = record {
   message = type_called pool;
   is_any = λ t. is_any_at pool (place_in pool.messages t);
   decoded = decoded;
+}
+
+-- what the fields of a text are found in, in a message of the type at a place
+abbrev pub shape_at : PoolType → ℕ → Shape
+shape_at pool i = record {
+  fields = field_at pool i;
+  names = names_of pool i;
+  is_any = is_any_at pool i;
 }

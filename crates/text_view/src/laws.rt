@@ -1,6 +1,6 @@
 //! Laws of pools and messages in the words of the model of texts, each the contract of a function
 //! that does nothing.
-ghost use Rattle.std.specs.Prelude.{◌≡◌, ◌⊎◌, ◌↔◌, ℕ, false, true, map, Bool, List, None, Some};
+ghost use Rattle.std.specs.Prelude.{◌≡◌, ◌⊎◌, ◌↔◌, ◌<◌, ℕ, length, Option, false, true, map, Bool, List, None, Some};
 ghost use Rattle.protox_lex.specs.Class.{Text};
 ghost use Rattle.reflect_pool.specs.declared.message.MessageDescriptor.{MessageDescriptor};
 ghost use Rattle.reflect_any.specs.Any.{IsAny};
@@ -20,15 +20,17 @@ ghost use Rattle.reflect_format.specs.Named.{NamesExtension, NamesField, NoExten
 ghost use Rattle.reflect_format.specs.Steps.{held_by, Adds, Puts};
 ghost use Rattle.reflect_format.specs.Takes.{holds_many, target_pool, target_type};
 ghost use Rattle.reflect_format.specs.declared.target.Target.{Target};
+ghost use Rattle.protobuf_model.specs.Types.{Name};
+ghost use Rattle.protobuf_model.specs.Values.{Message};
 ghost use Rattle.message_view.specs.Sound.{HaveNames};
 ghost use Rattle.message_view.specs.Types.{kind_in, name_at, types_of};
 ghost use Rattle.message_view.specs.Views.{content_view, view};
-ghost use Rattle.text_model.specs.Schemas.{Schema};
+ghost use Rattle.text_model.specs.Schemas.{shape_of, Schema};
 ghost use Rattle.text_model.specs.Tree.{ScalarValue};
 ghost use Rattle.text_model.specs.Value.{add_all, assign, scalar_content, settled, wanted_in, wanted_of};
 ghost use Rattle.text_view.specs.Apart.{AreApart};
 ghost use Rattle.text_view.specs.Names.{names_of, number_in};
-ghost use Rattle.text_view.specs.Schemas.{is_any_at, type_called};
+ghost use Rattle.text_view.specs.Schemas.{is_any_at, schema_of, shape_at, type_called};
 ghost use Rattle.text_view.specs.Targets.{target_field};
 ghost use Rattle.text_view.specs.Values.{IsOne};
 
@@ -172,4 +174,11 @@ pub fn named_types_are_found()
 pub fn no_type_is_found()
     ensures { (pool : PoolType) (w : Text) → FindsMessage pool w None
         → type_called pool w ≡ None }
+{}
+
+/// Where names are apart, texts of a type are read by what stands at its place.
+pub fn the_shape_of_a_name_is_that_of_its_place()
+    ensures { (pool : PoolType) → HaveNames pool → (decoded : Name → Text → Option Message)
+        → (i : ℕ) → i < length pool.messages
+        → shape_of (schema_of pool decoded) (name_at pool i) ≡ shape_at pool i }
 {}
