@@ -76,7 +76,7 @@ number_is n (Some m) e = ap Some ((Decides-int_eq m n).0 e)
 abbrev writes_key : Key → WrittenKey → Bool
 writes_key k w = is_dotted k.0 w.0 && is_number k.1 w.1
 
-sum_flat : {X Y : Type 0} (w : Y → ℕ) (g : X → List Y) (xs : List X)
+pub sum_flat : {X Y : Type 0} (w : Y → ℕ) (g : X → List Y) (xs : List X)
     → sum_by w (flat_map g xs) ≡ sum_by (λ x. sum_by w (g x)) xs
 sum_flat w g [] = refl
 sum_flat w g (x ∷ xs) =

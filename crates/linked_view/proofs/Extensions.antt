@@ -1,6 +1,6 @@
 -- The entries of a batch's extensions are those of the records as they are linked.
-use Rattle.std.proofs.Common.{◌≡◌, ◌∙◌, ◌+◌, ℕ, suc, Bool, List, [], ◌∷◌, ◌++◌, Option, Some, None, String, Global, string_bytes, map, slice_get, cond, append_assoc, ap, sym, refl, arith}
-use Rattle.std.specs.List.{AllZip, AllByRecursion, flat_map}
+use Rattle.std.proofs.Common.{◌≡◌, ◌∙◌, ℕ, Bool, List, [], ◌∷◌, ◌++◌, Option, Some, None, String, Global, string_bytes, map, slice_get, cond, append_assoc, ap, sym, refl}
+use Rattle.std.specs.List.{AllZip}
 use Rattle.descriptor_records.specs.Content.{Text, FileContent, text_view, file_view}
 use Rattle.descriptor_records.specs.declared.file.FileDescriptorProto.{FileDescriptorProto}
 use Rattle.reflect_scope.specs.declared.definition.DefinitionKind.TheVariants as kind
@@ -9,7 +9,7 @@ use Rattle.reflect_scope.specs.FileIndexes.{Indexes}
 use Rattle.reflect_scope.specs.Known.{Known}
 use Rattle.reflect_scope.specs.Means.{Meaning, means, not_found, wrong_kind, shadowed}
 use Rattle.reflect_walk.specs.declared.visit_parts.Offsets.{Offsets}
-use Rattle.reflect_walk.specs.Declarations.{Declaration, Body, of_file, of_message, of_field, of_oneof, of_enum, of_enum_value, of_service, of_method, of_extension, file_declaration, file_declarations, past_file}
+use Rattle.reflect_walk.specs.Declarations.{Declaration, Body, of_file, of_message, of_field, of_oneof, of_enum, of_enum_value, of_service, of_method, of_extension}
 use Rattle.reflect_walk.specs.Batches.{batch_declarations}
 use Rattle.reflect_names.specs.Names.{Places}
 use Rattle.reflect_names.specs.References.{View, Target, meaning_of, kind_meant, name_targets, targets_of, reference_faults, reference_faults_at}
@@ -18,24 +18,19 @@ use Rattle.reflect_names.specs.ReferenceSteps.{target_of}
 use Rattle.reflect_references.specs.Meanings.{behind, rest_behind}
 use Rattle.reflect_index.specs.Along.{AtHand, Met, along, all_of, hand_behind, met, is_extension}
 use Rattle.reflect_index.specs.Entries.{IsExtensionOf}
-use Rattle.reflect_index.proofs.Counted.{file_next}
 use Rattle.reflect_tables.specs.Names.{FullName, AreFound, found, place_in, place_of, with_file, messages}
 use Rattle.reflect_tables.specs.Types.{ExtensionType}
-use Rattle.schema_view.specs.Declarations as view
-use Rattle.schema_view.specs.References.{Reference, Target as Naming, rename_message_type, dotted, linked}
+use Rattle.schema_view.specs.References.{rename_message_type}
 use Rattle.schema_view.specs.Lawful.{all_linked}
-use Rattle.schema_view.proofs.Lists.{contains_there}
-use Rattle.schema_view.proofs.Renames.{renamed, declarations_renamed}
 use Rattle.linked_view.specs.AtHand.{kind_by}
 use Rattle.linked_view.specs.Extended.{WrittenKey, keys_of, written_keys, HasWritten}
 use Rattle.linked_view.specs.Known.{AreKnown}
 use Rattle.linked_view.proofs.AtHand.{at_hand, resolved_one, resolved_type}
 use Rattle.linked_view.proofs.Faults.{none_both}
-use Rattle.linked_view.proofs.Known.{next_file}
-use Rattle.linked_view.proofs.Linked.{found_by, meanings, AreAt, sees_at, sees_of}
+use Rattle.linked_view.proofs.Linked.{found_by, meanings, AreAt}
+use Rattle.linked_view.proofs.Listed.{listed_along, names, see, listed_seen, batch_listed}
 use Rattle.linked_view.proofs.Means.{resolved_to}
-use Rattle.linked_view.proofs.Named.{all_in}
-use Rattle.linked_view.proofs.Walked.{Seen, seen, told, inner_declarations, file_seen}
+use Rattle.linked_view.proofs.Walked.{seen}
 
 -- how a name is written where it means something
 abbrev pub name_by : View → Text → Option (String Global) → Option Text
@@ -58,11 +53,11 @@ keys_by v d = elim d.body [
 ]
 
 abbrev pub keys_along : (ℕ → View) → List Declaration → List WrittenKey
-keys_along views [] = []
-keys_along views (d ∷ ds) = keys_by (views d.file) d ++ keys_along views ds
+keys_along views ds = listed_along keys_by keys_of views ds
 
 -- along a batch
-module _ (names : List FullName) (known : Known) (are : AreFound (found messages known) names)
+module _ (full_names : List FullName) (known : Known)
+    (are : AreFound (found messages known) full_names)
     (sees : ℕ → ℕ → Bool) (at : ℕ → Places) where
   abbrev views : ℕ → View
   views = views_of known sees
@@ -72,7 +67,7 @@ module _ (names : List FullName) (known : Known) (are : AreFound (found messages
     full : Text
     file : ℕ
     written : o ≡ Some (46 ∷ full)
-    there : slice_get names i ≡ Some (full, file)
+    there : slice_get full_names i ≡ Some (full, file)
 
   named_by : (v : View) → v.known ≡ known → (scope : Text) (o : Option (String Global)) (i : ℕ)
       → kind_by v filter.Message scope o ≡ Some (kind.Message i) → IsNamed (name_by v scope o) i
@@ -97,7 +92,7 @@ module _ (names : List FullName) (known : Known) (are : AreFound (found messages
     by (shadowed full) f = absurd (cc (sym (ap kind_meant f) ∙ e))
 
   -- the references behind a declaration
-  left_behind : (h : List _) (d : Declaration) (b : Body) (more : List Target)
+  pub left_behind : (h : List _) (d : Declaration) (b : Body) (more : List Target)
       → reference_faults_at (at d.file) (views d.file) (record d { body = b }) ≡ []
       → map target_of h ≡ targets_of (views d.file) (record d { body = b }) ++ more
       → map target_of (rest_behind (record d { body = b }) h) ≡ more
@@ -132,7 +127,7 @@ module _ (names : List FullName) (known : Known) (are : AreFound (found messages
       (resolved_type (at d.file) v d.path d.name x parts.1) first.left).left
 
   abbrev Zipped : List WrittenKey → List ExtensionType → Type 0
-  Zipped ks es = AllZip (HasWritten names) ks es
+  Zipped ks es = AllZip (HasWritten full_names) ks es
 
   -- one declaration, and those behind it
   one_zipped : (h : AtHand) (d : Declaration) (b : Body) (more : List Target) (ms : List Met)
@@ -187,93 +182,32 @@ module _ (names : List FullName) (known : Known) (are : AreFound (found messages
       (keys_along views ds) es parts.0 e
       (λ xs k. zipped (hand_behind h d) ds xs parts.1 left k) z
 
-keys_both : (views : ℕ → View) (a b : List Declaration)
-    → keys_along views (a ++ b) ≡ keys_along views a ++ keys_along views b
-keys_both views [] b = refl
-keys_both views (d ∷ a) b =
-    ap (λ ks. keys_by (views d.file) d ++ ks) (keys_both views a b)
-    ∙ sym (append_assoc (keys_by (views d.file) d) (keys_along views a) (keys_along views b))
-
 -- and these are the keys of the linked files
 module _ (files : List FileDescriptorProto) (known : Known) (are : AreKnown files known)
     (indexes : Indexes) (sees : ℕ → ℕ → Bool) where
-  module _ (f : FileContent) where
-    abbrev names : Reference → Naming
-    names r = dotted (meanings files known are indexes sees f r)
+  name_seen : (f : FileContent) (scope : Text) (o : Option (String Global))
+      → name_by (see keys_by keys_of files known are indexes sees f) scope o
+      ≡ rename_message_type (names keys_by keys_of files known are indexes sees f) scope (text_view o)
+  name_seen f scope None = refl
+  name_seen f scope (Some s) = refl
 
-    abbrev see : View
-    see = record { known = known; sees = sees_of files known are indexes sees f }
-
-    abbrev keys_seen : Seen → List WrittenKey
-    keys_seen s = elim s.1 [
-      | None ↦ []
-      | Some b ↦ keys_of (renamed names (record { name = s.0; body = b }))
-    ]
-
-    name_seen : (scope : Text) (o : Option (String Global))
-        → name_by see scope o ≡ rename_message_type names scope (text_view o)
-    name_seen scope None = refl
-    name_seen scope (Some s) = refl
-
-    body_keys : (d : Declaration) (b : Body) → keys_by see (record d { body = b })
-        ≡ keys_seen (seen (record d { body = b }))
-    body_keys d (of_file x) = refl
-    body_keys d (of_message m) = refl
-    body_keys d (of_field x) = refl
-    body_keys d (of_oneof o) = refl
-    body_keys d (of_enum k) = refl
-    body_keys d (of_enum_value x) = refl
-    body_keys d (of_service s) = refl
-    body_keys d (of_method m) = refl
-    body_keys d (of_extension x) =
-        ap (λ (o : Option Text). (o, x.number) ∷ []) (name_seen d.name x.extendee)
-
-    along_keys : (views : ℕ → View) (i : ℕ) → views i ≡ see → (ds : List Declaration)
-        → AllByRecursion (λ (d : Declaration). d.file ≡ i) ds
-        → keys_along views ds ≡ flat_map keys_seen (map seen ds)
-    along_keys views i is [] h = refl
-    along_keys views i is (d ∷ ds) h =
-        let here : keys_by (views d.file) d ≡ keys_seen (seen d) =
-        ap (λ v. keys_by v d) (ap views h.0 ∙ is) ∙ body_keys d d.body in
-        ap (λ ks. ks ++ keys_along views ds) here
-        ∙ ap (λ ks. keys_seen (seen d) ++ ks) (along_keys views i is ds h.1)
-
-    told_keys : (vs : List view.Declaration) → flat_map keys_seen (map told vs)
-        ≡ flat_map keys_of (map (renamed names) vs)
-    told_keys [] = refl
-    told_keys (v ∷ vs) = ap (λ ks. keys_of (renamed names v) ++ ks) (told_keys vs)
-
-  file_keys : (views : ℕ → View) (o : Offsets) (i : ℕ) (f : FileDescriptorProto)
-      → views i ≡ see (file_view f)
-      → keys_along views (file_declarations o i f) ≡ flat_map keys_of
-      (view.declarations (linked (meanings files known are indexes sees (file_view f)) (file_view f)))
-  file_keys views o i f is =
-      let c = file_view f in
-      let inner = inner_declarations o i f in
-      let own = all_in (λ (d : Declaration). d.file ≡ i) inner (λ d j.
-      next_file i o (past_file o f) (file_declarations o i f) d (file_next i o f)
-      (contains_there (file_declaration [] i f) inner d j)) in
-      along_keys c views i is inner own
-      ∙ ap (flat_map (keys_seen c)) (file_seen o i f)
-      ∙ told_keys c (view.declarations c)
-      ∙ ap (flat_map keys_of) (sym (declarations_renamed (names c) c))
+  body_keys : (f : FileContent) (d : Declaration) (b : Body)
+      → keys_by (see keys_by keys_of files known are indexes sees f) (record d { body = b })
+      ≡ listed_seen keys_by keys_of files known are indexes sees f (seen (record d { body = b }))
+  body_keys f d (of_file x) = refl
+  body_keys f d (of_message m) = refl
+  body_keys f d (of_field x) = refl
+  body_keys f d (of_oneof o) = refl
+  body_keys f d (of_enum k) = refl
+  body_keys f d (of_enum_value x) = refl
+  body_keys f d (of_service s) = refl
+  body_keys f d (of_method m) = refl
+  body_keys f d (of_extension x) =
+      ap (λ (o : Option Text). (o, x.number) ∷ []) (name_seen f d.name x.extendee)
 
   pub batch_keys : (o : Offsets) (i : ℕ) (fs : List FileDescriptorProto)
       → AreAt files known are indexes sees i fs
       → keys_along (views_of known sees) (batch_declarations o i fs)
       ≡ written_keys (all_linked (meanings files known are indexes sees) (map file_view fs))
-  batch_keys o i [] at = refl
-  batch_keys o i (f ∷ fs) at =
-      let c = file_view f in
-      let views = views_of known sees in
-      let zero_place : i + 0 ≡ i = omega arith in
-      let here = at 0 f refl ∙ ap Some zero_place in
-      let own = file_keys views o i f
-      (ap (λ (s : ℕ → Bool). record { known = known; sees = s })
-      (sym (sees_at files known are indexes sees f i here))) in
-      let later = batch_keys (past_file o f) (i + 1) fs
-      (λ k g e. (let place : i + suc k ≡ i + 1 + k = omega arith in at (suc k) g e ∙ ap Some place)) in
-      keys_both views (file_declarations o i f) (batch_declarations (past_file o f) (i + 1) fs)
-      ∙ ap (λ ks. ks ++ keys_along views (batch_declarations (past_file o f) (i + 1) fs)) own
-      ∙ ap (λ ks. flat_map keys_of
-      (view.declarations (linked (meanings files known are indexes sees c) c)) ++ ks) later
+  batch_keys o i fs at = batch_listed keys_by keys_of files known are indexes sees
+      (record { none = λ v i f. refl; one = body_keys }) o i fs at

@@ -16,12 +16,12 @@ use Rattle.linked_messages.proofs.Declared.{stands_in_batch}
 use Rattle.schema_view.specs.Declarations as view
 use Rattle.schema_view.specs.Lawful.{outlines}
 use Rattle.schema_view.specs.Outlines.{sort_of, head_of, outline_of, IsDeclared}
-use Rattle.schema_view.proofs.Lists.{contains_cases, contains_none, contains_map, contains_map_cases}
+use Rattle.schema_view.proofs.Lists.{contains_here, contains_cases, contains_none, contains_map, contains_map_cases}
 use Rattle.linked_view.specs.Complete.{IsComplete}
 use Rattle.linked_view.specs.Named.{AreWellNamed}
 use Rattle.linked_view.proofs.Completes.{gives}
 use Rattle.linked_view.proofs.Given.{Giving}
-use Rattle.linked_view.proofs.Known.{given_in, single, one_given, batch_file, package_in}
+use Rattle.linked_view.proofs.Known.{given_in, known_where, single, one_given, batch_file, package_in}
 use Rattle.linked_view.proofs.Places.{get_contains}
 use Rattle.linked_view.proofs.Walked.{Seen, seen, seen_body, told, facts_in, inner_declarations, file_seen}
 
@@ -95,4 +95,26 @@ module _ (files : List FileDescriptorProto) (named : AreWellNamed [] (map file_v
               );
               complete = subst IsComplete same (named.complete c v.0 there v.1);
             })
+      ]
+
+  -- and back: what is declared as a message is known by its name for its index
+  pub message_index : (x : Declaration) (own : MessageParts)
+      → Contains (batch_declarations nothing_before 0 files) x → x.body ≡ of_message own
+      → known_of_files files x.name ≡ Some (definition_of x)
+  message_index x own h is =
+      let r = batch_file nothing_before 0 files x h in
+      let place : 0 + r.1 ≡ r.1 = omega arith in
+      let inside = subst (λ m. Contains (file_declarations r.0 m r.2) x) place r.4 in
+      elim (contains_cases (file_declaration [] r.1 r.2) (inner_declarations r.0 r.1 r.2) x inside) [
+        | inl same ↦ absurd (cc (ap (λ (y : Declaration). y.body) same ∙ is))
+        | inr j ↦ (
+            let one = one_given files named r.0 r.1 r.2 r.3 x j in
+            let here = subst (λ l. Contains l (x.name, definition_of x)) (sym one.0)
+            (contains_here (x.name, definition_of x) []) in
+            let k = known_where files named x x.name (definition_of x) h here in
+            let same : k.0 ≡ definition_of x = elim k.2 [
+              | inl e ↦ e
+              | inr both ↦ absurd (cc (sym both.1 ∙ one.1))
+            ] in
+            k.1 ∙ ap Some same)
       ]

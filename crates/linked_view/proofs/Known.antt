@@ -361,7 +361,7 @@ module _ (files : List FileDescriptorProto) (named : AreWellNamed [] (map file_v
             ))
       ]
 
-  known_where : (x : Declaration) (n : Text) (d : Definition) → Contains ds x
+  pub known_where : (x : Declaration) (n : Text) (d : Definition) → Contains ds x
       → Contains (gives x) (n, d)
       → (e : Definition) × (known_of_files files n ≡ Some e) × IsSame e d
   known_where x n d h j =

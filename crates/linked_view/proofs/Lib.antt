@@ -6,6 +6,7 @@ pub mod Completes
 pub mod Counts
 pub mod Defaulted
 pub mod Defaults
+pub mod Entries
 pub mod Enums
 pub mod Extended
 pub mod Extensions
@@ -17,12 +18,14 @@ pub mod Kept
 pub mod Known
 pub mod Lawful
 pub mod Linked
+pub mod Listed
 pub mod Means
 pub mod Messages
 pub mod AtHand
 pub mod Named
 pub mod NamedFiles
 pub mod Numbers
+pub mod Once
 pub mod Paired
 pub mod Places
 pub mod Ranged
@@ -39,6 +42,7 @@ pub mod Suited
 pub mod Sound
 pub mod Taken
 pub mod Telling
+pub mod Used
 pub mod Valued
 pub mod Values
 pub mod Walked

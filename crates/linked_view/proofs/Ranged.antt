@@ -40,7 +40,8 @@ use Rattle.reflect_index.specs.OfDeclarations.{RangesType, AreDeclared, AllDecla
 use Rattle.reflect_known.specs.KnownNames.{nothing_before, known_of_files}
 use Rattle.reflect_passes.specs.Linked.{message_at, linked_says}
 use Rattle.reflect_tables.specs.Ranges as pool
-use Rattle.reflect_tables.specs.Views.{ranges_of}
+use Rattle.reflect_pool.specs.Linked.{empty_pool}
+use Rattle.reflect_tables.specs.Views.{message_of, ranges_of}
 use Rattle.reflect_tables.specs.declared.stored.StoredMessage.{StoredMessage}
 use Rattle.reflect_walk.specs.Declarations as walk
 use Rattle.reflect_walk.specs.Tree.{MessageParts}
@@ -70,6 +71,18 @@ declared_both [] b [] y h k = k
 declared_both [] b (r ∷ x) y h k = absurd h
 declared_both (m ∷ a) b [] y h k = absurd h
 declared_both (m ∷ a) b (r ∷ x) y h k = (h.0, declared_both a b x y h.1 k)
+
+-- the declarations of a pool's records, and behind them those of new files
+pub batch_all : (old : PoolType) (ns : List FileDescriptorProto) (w : Linking) → IsOf old w
+    → IsWellNamed old → batch_declarations nothing_before 0 (old.records ++ ns)
+    ≡ batch_declarations nothing_before 0 old.records ++ batch_declarations w.before w.first ns
+batch_all old ns w is has =
+    let front = batch_declarations nothing_before 0 old.records in
+    let place : w.first ≡ 0 + length old.records =
+    first_is old ns w is has ∙ sym (zero-add (length old.records)) in
+    batch_on nothing_before 0 old.records ns
+    ∙ ap (λ o. front ++ batch_declarations o (0 + length old.records) ns) (sym is.counts)
+    ∙ ap (λ n. front ++ batch_declarations w.before n ns) (sym place)
 
 module _ (old new : PoolType) (ns : List FileDescriptorProto) (w : Linking) (is : IsOf old w)
     (has : IsWellNamed old) (names : name_faults w.indexes w.known w.before w.first ns ≡ [])
@@ -106,15 +119,9 @@ module _ (old new : PoolType) (ns : List FileDescriptorProto) (w : Linking) (is 
   all_ranges =
       let front = batch_declarations nothing_before 0 old.records in
       let back = batch_declarations w.before w.first ns in
-      let place : w.first ≡ 0 + length old.records =
-      first_is old ns w is has ∙ sym (zero-add (length old.records)) in
-      let both : batch_declarations nothing_before 0 all ≡ front ++ back =
-      batch_on nothing_before 0 old.records ns
-      ∙ ap (λ o. front ++ batch_declarations o (0 + length old.records) ns) (sym is.counts)
-      ∙ ap (λ n. front ++ batch_declarations w.before n ns) (sym place) in
       let older = subst (λ (s : Tables). AllDeclared (messages_in front)
       (map stored_ranges s.messages.items)) (sym batch.declared.old) tells in
-      subst (λ ds. AllDeclared (messages_in ds) (map stored_ranges stored)) (sym both)
+      subst (λ ds. AllDeclared (messages_in ds) (map stored_ranges stored)) (sym (batch_all old ns w is has))
       (subst (λ ms. AllDeclared ms (map stored_ranges stored)) (sym (messages_both front back))
       (subst (AllDeclared (messages_in front ++ messages_in back))
       (sym (map-append stored_ranges batch.types.old.now.messages.items
@@ -221,3 +228,13 @@ numbers_are old new w fs has kept is tells (names, batch) = (
   lawful_alone old new (new_files w.indexes fs) w is has names batch kept,
   numbers_keep old new (new_files w.indexes fs) w is has names batch kept tells,
 )
+
+none_stored : (ms : List StoredMessage) → map message_of ms ≡ []
+    → AllDeclared [] (map stored_ranges ms)
+none_stored [] e = tt
+none_stored (m ∷ ms) e = absurd (cc e)
+
+-- a pool without files has no types, and so no ranges
+pub empty_ranges : (w : Linking) → IsOf empty_pool w → TellsRanges [] w.tables
+empty_ranges w is =
+    none_stored w.tables.messages.items (ap (λ (p : PoolType). p.messages) is.tables)

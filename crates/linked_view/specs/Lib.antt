@@ -1,5 +1,6 @@
 pub mod Alone
 pub mod Complete
+pub mod Entries
 pub mod Enums
 pub mod Extended
 pub mod Known

@@ -30,13 +30,14 @@ ghost use Rattle.reflect_tables.specs.Views.{record_file};
 ghost use Rattle.reflect_walk.specs.Batches.{batch_declarations};
 ghost use Rattle.reflect_walk.specs.declared.visit_parts.Offsets.{Offsets};
 ghost use Rattle.schema_view.specs.Files.{file_name};
-ghost use Rattle.schema_view.specs.Lawful.{outlines, Adds, IsLawful, Meanings, Key, has_key, times_by};
+ghost use Rattle.schema_view.specs.Lawful.{outlines, all_linked, Adds, IsLawful, Meanings, Key, has_key, times_by};
 ghost use Rattle.schema_view.specs.Means.{IsWanted, Holds, MeansBy};
 ghost use Rattle.schema_view.specs.Outlines as view;
 ghost use Rattle.schema_view.specs.Outlines.{Outline, outline_of};
 ghost use Rattle.schema_view.specs.References.{Want};
 ghost use Rattle.schema_view.specs.Rules.{HasFirst};
 ghost use Rattle.linked_view.specs.Enums.{IsNumbered};
+ghost use Rattle.linked_view.specs.Entries.{HaveOneUse};
 ghost use Rattle.linked_view.specs.Extended.{IsIndexed, TellsExtensions};
 ghost use Rattle.linked_messages.specs.Kept.{IsKept};
 ghost use Rattle.linked_view.specs.Alone.{AreLawfulAlone, AreSettledAlone, IsWellNamed, IsRecorded};
@@ -63,9 +64,9 @@ pub fn files_have_no_fault_where_they_are_files()
         ↔ AreFiles (map file_view old) (map file_view new)) }
 {}
 
-/// Behind files that have names as they should, the pass over names finds nothing wrong exactly where
-/// the new files have names as they should: those of files, of declarations and of packages apart,
-/// and all there that must be there.
+/// Behind files that have names as they should, the pass over names finds nothing wrong exactly
+/// where the new files have names as they should: those of files, of declarations and of packages
+/// apart, and all there that must be there.
 pub fn names_have_no_fault_where_they_are_apart()
     ensures { (indexes : Indexes) (before : Offsets) (first : ℕ)
         (old new : List FileDescriptorProto)
@@ -95,15 +96,16 @@ pub fn numbers_have_no_fault_where_they_meet_the_rules()
         ↔ (AreRuled (map file_view new) × ReferTo t before first new references)) }
 {}
 
-/// The declarations of files are sound exactly where they are complete, typed and labelled, meet the
-/// rules of numbers, and the numbers of enum values have 32 bits.
+/// The declarations of files are sound exactly where they are complete, typed and labelled, meet
+/// the rules of numbers, and the numbers of enum values have 32 bits.
 pub fn sound_declarations_are_complete_and_ruled()
     ensures { (fs : List FileContent) → (AreSound fs
         ↔ (Each IsComplete fs × Each IsTyped fs × Each IsLabelled fs × AreRuled fs
         × Each IsFitting fs)) }
 {}
 
-/// The file of an index sees that of another by the links of a batch exactly where it sees its name.
+/// The file of an index sees that of another by the links of a batch exactly where it sees its
+/// name.
 pub fn files_see_by_names()
     ensures { (indexes : Indexes) (links : List Links) (files : List FileDescriptorProto)
         → AreIndexed indexes (names_of_files (map record_file files))
@@ -122,8 +124,8 @@ pub fn names_are_known_as_they_are_declared()
         → AreKnown files (known_of_files files) }
 {}
 
-/// A name is resolved, by what is known and by the indexes of the files that a file sees, exactly to
-/// what it means by the statement on prefixes, and by the names of these files.
+/// A name is resolved, by what is known and by the indexes of the files that a file sees, exactly
+/// to what it means by the statement on prefixes, and by the names of these files.
 pub fn names_mean_what_they_are_resolved_to()
     ensures { (files : List FileDescriptorProto) (known : Known) → AreKnown files known
         → (from : Outline) (sees : ℕ → Bool) → SeesThose files from sees
@@ -133,9 +135,9 @@ pub fn names_mean_what_they_are_resolved_to()
         (Holds (outlines (map file_view files))) scope name full) }
 {}
 
-/// Where declarations are complete, the pass over references finds nothing wrong in new files exactly
-/// where their labels are labels, types fit their names, and each reference means something of the
-/// kind that it needs, among all files.
+/// Where declarations are complete, the pass over references finds nothing wrong in new files
+/// exactly where their labels are labels, types fit their names, and each reference means something
+/// of the kind that it needs, among all files.
 pub fn references_have_no_fault_where_they_mean_something()
     ensures { (files new : List FileDescriptorProto) (known : Known) (sees : ℕ → ℕ → Bool)
         (at : ℕ → Places) (before : Offsets) (first : ℕ)
@@ -205,8 +207,8 @@ pub fn extensions_have_their_own_numbers()
         → (k : Key) → times_by (has_key k) (map file_view p.records) ≤ 1 }
 {}
 
-/// A pool without extensions tells of those of its records, and so it stays where files are accepted:
-/// what is asked of the new pool beside this its type keeps.
+/// A pool without extensions tells of those of its records, and so it stays where files are
+/// accepted: what is asked of the new pool beside this its type keeps.
 pub fn pools_tell_of_extensions()
     ensures empty { TellsExtensions empty_pool }
     ensures kept { (old new : PoolType) (files : List FileDescriptorProto) → IsWellNamed old
@@ -221,8 +223,8 @@ pub fn pools_tell_of_values()
         → IsKept new → TellsValues old → FaultlessFiles old files new → TellsValues new }
 {}
 
-/// Where files are accepted, each default of theirs that stands at an enum's name is the name of one
-/// of the enum's values.
+/// Where files are accepted, each default of theirs that stands at an enum's name is the name of
+/// one of the enum's values.
 pub fn accepted_defaults_are_values()
     ensures { (old new : PoolType) (files : List FileDescriptorProto) → IsWellNamed old
         → IsIndexed new → IsKept new → TellsValues old → FaultlessFiles old files new
@@ -234,11 +236,25 @@ pub fn accepted_defaults_are_values()
 
 /// Behind types whose ranges are those that a pool's records declare, each extension of accepted
 /// files has a number that the message that it extends keeps for extensions, and for nothing else.
+/// So it is behind a pool without files; of another, no contract says yet what ranges its types
+/// have.
 pub fn accepted_numbers_are_kept()
-    ensures { (old new : PoolType) (w : Linking) (files : List FileDescriptorProto)
+    ensures empty { (w : Linking) → IsOf empty_pool w → TellsRanges [] w.tables }
+    ensures kept { (old new : PoolType) (w : Linking) (files : List FileDescriptorProto)
         → IsWellNamed old → IsKept new → IsOf old w → TellsRanges old.records w.tables
         → Faultless w (new_files w.indexes files) new
         → (l : AreLawfulAlone (map file_view old.records) (map file_view (new_files w.indexes files))
         (map file_view new.records))
         × KeepNumbers (map file_view old.records) (map file_view (new_files w.indexes files)) l.meanings }
+{}
+
+/// Where files are accepted, the type of a map's entries that they declare is the type of one of
+/// their fields or extensions, which is a map.
+pub fn accepted_entries_have_one_use()
+    ensures { (old new : PoolType) (files : List FileDescriptorProto) → IsWellNamed old
+        → IsIndexed new → IsKept new → FaultlessFiles old files new
+        → (w : Linking) × IsOf old w
+        × (l : AreLawfulAlone (map file_view old.records) (map file_view (new_files w.indexes files))
+        (map file_view new.records))
+        × HaveOneUse (all_linked l.meanings (map file_view (new_files w.indexes files))) }
 {}
