@@ -1,1 +1,2 @@
+mod Exclusive
 mod Putting

@@ -1,12 +1,13 @@
 ghost use Rattle.std.specs.Prelude.{◌≡◌, ◌≢◌, ℕ, true, false, Some, OnOk, OnErr};
 ghost use Rattle.reflect_pool.specs.FieldsLeft.{field_type};
 ghost use Rattle.reflect_pool.specs.Shapes.{holds_list, holds_map};
+ghost use Rattle.reflect_pool.specs.declared.message.MessageDescriptor.{MessageDescriptor};
 ghost use Rattle.reflect_scalar.specs.FieldTypes.{field_pool, extension_pool, extension_type};
 ghost use Rattle.reflect_entries.specs.Entries.{value_at};
-ghost use Rattle.reflect_message.specs.Declares.{Declares};
+ghost use Rattle.reflect_message.specs.Declares.{Declares, Owns};
 ghost use Rattle.reflect_message.specs.Held.{fields_of, choices_of, extensions_of, unknown_of, Same};
 ghost use Rattle.reflect_message.specs.Lists.{Lengthens, KeepsList};
-ghost use Rattle.reflect_message.specs.Oneofs.{sibling};
+ghost use Rattle.reflect_message.specs.Oneofs.{AreChosen, IsExclusive, sibling};
 ghost use Rattle.reflect_extend.specs.Puts.{PutsEntries, PutsSome};
 
 use crate::extend::extend;
@@ -60,6 +61,8 @@ pub trait ExtendMessage<'p> {
         ensures others { (n : ℕ) → n ≢ (field_type field.now).number
             → sibling field.now (choices_of (message self.old)) ≢ Some n
             → Same (fields_of (message self.old)) (fields_of (message self.new)) n }
+        ensures exclusive { Owns (message self.old).descriptor field.now
+            → IsExclusive (message self.old) → OnOk result (IsExclusive (message self.new)) }
         ensures extensions { extensions_of (message self.new) ≡ extensions_of (message self.old) }
         ensures unknown { unknown_of (message self.new) ≡ unknown_of (message self.old) };
 
@@ -95,6 +98,7 @@ pub trait ExtendMessage<'p> {
             ≡ false → extensions_of (message self.new) ≡ extensions_of (message self.old) }
         ensures others { (n : ℕ) → n ≢ (extension_type extension.now).number
             → Same (extensions_of (message self.old)) (extensions_of (message self.new)) n }
+        ensures exclusive { IsExclusive (message self.old) → IsExclusive (message self.new) }
         ensures fields { fields_of (message self.new) ≡ fields_of (message self.old) }
         ensures unknown { unknown_of (message self.new) ≡ unknown_of (message self.old) };
 }
@@ -127,9 +131,8 @@ impl<'p> ExtendMessage<'p> for DynamicMessage<'p> {
     }
 }
 
-/// Puts values behind those of a list, or entries into a map, and unsets the other members of the
-/// field's oneof, as
-/// `extend` does. Of a field that is neither nothing happens.
+/// Puts values behind those of a list, or entries into a map, as `extend` does, and unsets the
+/// other members of the field's oneof. Of a field that is neither nothing happens.
 fn extend_parts<'p>(
     parts: &mut Parts<'p>,
     alloc: Global,
@@ -154,6 +157,9 @@ fn extend_parts<'p>(
     ensures neither { holds_list (field_pool field.now) (field_type field.now) ≡ false
         → holds_map (field_pool field.now) (field_type field.now) ≡ false
         → parts.new.fields ≡ parts.old.fields }
+    ensures chosen { (m : MessageDescriptor) → Owns m field.now
+        → AreChosen m parts.old.choices.members parts.old.fields
+        → OnOk result (AreChosen m parts.new.choices.members parts.new.fields) }
     ensures extensions { parts.new.extensions ≡ parts.old.extensions }
     ensures unknown { parts.new.unknown ≡ parts.old.unknown }
 {

@@ -21,7 +21,7 @@ use Rattle.text_model.specs.Tree.{FieldName, plain, extension, expansion, Scalar
 use Rattle.text_model.specs.Value.{written}
 use Rattle.reflect_format.specs.Kinds.{scalar_given, single_of}
 use Rattle.reflect_format.specs.Named.{NamesField, NamesExtension}
-use Rattle.reflect_format.specs.Steps.{Adds, Puts, SetsNumber, is_set}
+use Rattle.reflect_format.specs.Steps.{Adds, Puts, SetsNumber, StaysExclusive, is_set}
 use Rattle.reflect_format.specs.Refusals.{Shares, HoldsMember}
 use Rattle.reflect_format.specs.Takes.{holds_many, target_pool, target_type}
 use Rattle.reflect_format.specs.declared.target.Target.{Target}
@@ -63,6 +63,7 @@ pub record PutsOne (t : Target) (v : held.Value) (old new : DynamicMessage) : Ty
   pub unset : is_set old t ≡ false
   pub alone : IsAlone t old
   pub put : Puts t v old new
+  pub exclusive : StaysExclusive t old new
 
 -- values of a kind of one, or of any number
 abbrev pub OfKind : Type 1
@@ -84,12 +85,16 @@ Holds url body old new = IsAny old.descriptor
     × (between : DynamicMessage) × SetsNumber 1 (text url) old between
     × SetsNumber 2 (blob (message_bytes body)) between new
 
+-- the URL of a type: a domain and the type's name
+abbrev pub url_of : (domain name : Text) → Text
+url_of domain name = domain ++ 47 ∷ name
+
 -- an expansion: a message of the type, which the pool has
 abbrev pub Expands : (domain name : Text) → (fills : Filling) → Filling
 Expands domain name fills old new =
     (d : MessageDescriptor) × (body : DynamicMessage)
     × (d.pool.now ≡ old.descriptor.pool.now) × FindsMessage old.descriptor.pool.now name (Some d)
-    × Makes d fills body × Holds (domain ++ 47 ∷ name) body old new
+    × Makes d fills body × Holds (url_of domain name) body old new
 
 -- what stands under a name: it fills fields and extensions by the values that are given, and an
 -- Any by the message
@@ -98,7 +103,8 @@ Names (plain w) one all fills old new =
     (t : Target) × NamesField old.descriptor w t × Assigns t one all old new
 Names (extension n) one all fills old new =
     (t : Target) × NamesExtension old.descriptor (written n) t × Assigns t one all old new
-Names (expansion domain n) one all fills old new = Expands (written domain) (written n) fills old new
+Names (expansion domain n) one all fills old new =
+    Expands (written domain) (written n) fills old new
 
 abbrev mutual
   -- a value of a list

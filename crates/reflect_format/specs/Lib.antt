@@ -1,3 +1,4 @@
+pub mod Begun
 pub mod Enums
 pub mod Kinds
 pub mod Filled

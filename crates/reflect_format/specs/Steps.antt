@@ -1,24 +1,21 @@
 -- What putting a value, or values, does to a message, and what a refusal leaves of it.
-use Rattle.std.specs.Prelude.{◌≡◌, ◌≢◌, ◌⊎◌, true, Bool, ℕ, List, Option, Some}
+use Rattle.std.specs.Prelude.{◌≡◌, ◌≢◌, true, Bool, ℕ, List, Option, Some}
 use Rattle.protobuf_model.specs.Values.{Single}
 use Rattle.reflect_entries.specs.Entries.{value_at}
 use Rattle.reflect_pool.specs.FieldsLeft.{field_type}
 use Rattle.reflect_pool.specs.Shapes.{holds_list, holds_map}
 use Rattle.reflect_pool.specs.declared.field.FieldDescriptor.{FieldDescriptor}
 use Rattle.reflect_scalar.specs.FieldTypes.{extension_type}
-use Rattle.reflect_message.specs.Declares.{Declares}
+use Rattle.reflect_message.specs.Declares.{Declares, Owns}
 use Rattle.reflect_message.specs.Held.{fields_of, choices_of, extensions_of, unknown_of, UpdatesExtension, Same}
 use Rattle.reflect_message.specs.Lists.{Lengthens, KeepsList}
-use Rattle.reflect_message.specs.Oneofs.{SetsField, sibling}
+use Rattle.reflect_message.specs.Oneofs.{IsExclusive, SetsField, sibling}
 use Rattle.reflect_message.specs.Present.{is_held}
 use Rattle.reflect_message.specs.declared.message.DynamicMessage.{DynamicMessage}
 use Rattle.reflect_message.specs.declared.value.Value.{Value}
-use Rattle.reflect_any.specs.Any.{IsAny}
 use Rattle.reflect_format.specs.Kinds.{single_of}
 use Rattle.reflect_extend.specs.Puts.{PutsEntries, PutsSome}
-use Rattle.reflect_format.specs.Takes.{Takes, holds_many, target_pool, target_type}
-use Rattle.text_error.specs.declared.error.ParseErrorKind.{ParseErrorKind}
-use Rattle.text_error.specs.declared.error.ParseErrorKind.TheVariants as kinds
+use Rattle.reflect_format.specs.Takes.{target_pool, target_type}
 use Rattle.reflect_format.specs.declared.target.Target.{Target}
 use Rattle.reflect_format.specs.declared.target.Target.TheVariants as targets
 
@@ -41,6 +38,13 @@ abbrev pub Puts : Target → Value → DynamicMessage → DynamicMessage → Typ
 Puts (targets.Field f) v old new = SetsField old new f v
 Puts (targets.Extension x) v old new = UpdatesExtension old new (extension_type x).number (Some v)
 
+-- where of each oneof one member at most was set, it is so still; of a field the records of its
+-- number are its own
+abbrev pub StaysExclusive : Target → DynamicMessage → DynamicMessage → Type 0
+StaysExclusive (targets.Field f) old new =
+    Owns old.descriptor f → IsExclusive old → IsExclusive new
+StaysExclusive (targets.Extension x) old new = IsExclusive old → IsExclusive new
+
 -- nothing else is changed, but that another member of the field's oneof may be unset
 abbrev pub ChangesOnly : Target → DynamicMessage → DynamicMessage → Type 0
 ChangesOnly (targets.Field f) old new =
@@ -58,28 +62,18 @@ Adds t vs old new = ChangesOnly t old new
     → Lengthens (held_by old t) (held_by new t) vs)
     × (holds_map (target_pool t) (target_type t) ≡ true
     → PutsEntries (held_by old t) (held_by new t) vs)
+    × StaysExclusive t old new
 
--- a list keeps its values, and of the entries that values are the first are put into a map
-abbrev pub AddsPart : Target → DynamicMessage → DynamicMessage → Type 0
-AddsPart t old new = ChangesOnly t old new
+-- a list keeps its values, and of the entries that the values are the first are put into a map
+abbrev pub AddsPart : Target → List Value → DynamicMessage → DynamicMessage → Type 0
+AddsPart t vs old new = ChangesOnly t old new
     × (holds_list (target_pool t) (target_type t) ≡ true
     → KeepsList (held_by old t) (held_by new t))
     × (holds_map (target_pool t) (target_type t) ≡ true
-    → (vs : List Value) × PutsSome (held_by old t) (held_by new t) vs)
+    → PutsSome (held_by old t) (held_by new t) vs)
 
 -- the field of the number, one of the message's type, gets what is given
 abbrev pub SetsNumber : ℕ → Single → DynamicMessage → DynamicMessage → Type 0
 SetsNumber n x old new =
     (f : FieldDescriptor) × (v : Value) × Declares old.descriptor f × ((field_type f).number ≡ n)
-    × (single_of v ≡ Some x) × SetsField old new f v
-
--- memory ran out within such a step: a list or a map took a part, or a google.protobuf.Any has the
--- name of a type and not yet its bytes
-abbrev pub Begins : DynamicMessage → DynamicMessage → Type 0
-Begins old new =
-    ((t : Target) × Takes old.descriptor t × (holds_many t ≡ true) × AddsPart t old new)
-    ⊎ (IsAny old.descriptor × (url : Single) × SetsNumber 1 url old new)
-
--- one field of a text is refused: what is held stays, unless memory ran out within it
-abbrev pub Refuses : ParseErrorKind → DynamicMessage → DynamicMessage → Type 0
-Refuses kind old new = Stays old new ⊎ ((kind ≡ kinds.Memory) × Begins old new)
+    × (single_of v ≡ Some x) × SetsField old new f v × StaysExclusive (targets.Field f) old new

@@ -1,14 +1,15 @@
 //! From text to a message.
 
 ghost use Rattle.reflect_any.specs.Any.{IsAny};
-ghost use Rattle.reflect_format.specs.Filled.{AreGiven, AreValues, Assigns, Expands, Fills, FillsBody, FillsField, HasRival, Holds, IsAlone, IsGiven, IsValue, Makes};
-ghost use Rattle.reflect_format.specs.Reads.{IsCause, Reads, Refutes, Stops};
+ghost use Rattle.reflect_format.specs.Begun.{AddsSome, Begins, HoldsUrl};
+ghost use Rattle.reflect_format.specs.Filled.{AreGiven, AreValues, Assigns, Expands, Fills, FillsBody, FillsField, HasRival, Holds, IsAlone, IsGiven, IsValue, Makes, url_of};
+ghost use Rattle.reflect_format.specs.Reads.{IsCause, Reads, Refutes, StaysUnless, Stops, There};
 ghost use Rattle.reflect_format.specs.Refusals.{RefusesSecond};
-ghost use Rattle.reflect_format.specs.Steps.{Refuses, is_set};
+ghost use Rattle.reflect_format.specs.Steps.{is_set};
 ghost use Rattle.reflect_format.specs.Takes.{Takes};
 ghost use Rattle.reflect_format.specs.Truth.{TrueFor, TrueOf};
 ghost use Rattle.reflect_format.specs.Unfit.{AreUnfitGiven, AreUnfitValues, CannotMake, IsUnfitBody, IsUnfitField, IsUnfitGiven, IsUnfitValue, Rejects, RejectsExpansion, Unfit};
-ghost use Rattle.std.specs.Prelude.{◌≡◌, ◌<◌, ◌⊎◌, ◌∷◌, ◌++◌, Bool, IfErr, IfOk, OnOk, Some, false, string_bytes, true};
+ghost use Rattle.std.specs.Prelude.{◌≡◌, ◌<◌, ◌⊎◌, Bool, IfErr, IfOk, OnOk, Some, false, string_bytes, true};
 ghost use Rattle.text_lex.specs.Longest.{Lexes};
 ghost use Rattle.text_model.specs.Tree.{FieldName, Fields};
 ghost use Rattle.text_scalars.specs.Braces as signs;
@@ -56,7 +57,8 @@ impl<'a> Parser<'a> {
     /// that was to be set.
     pub fn parse_message(&mut self, message: &mut DynamicMessage<'_>) -> Result<(), ParseError>
         ensures type_stays { message.new.descriptor ≡ message.old.descriptor }
-        ensures filled { OnOk result ((fs : Fields) × (text_at (remaining self.old.tokens) ≡ Some fs)
+        ensures filled { OnOk result
+            ((fs : Fields) × (text_at (remaining self.old.tokens) ≡ Some fs)
             × Fills fs message.old message.new) }
         ensures refused { IfErr result (λ e. TrueOf message.old.descriptor.pool.now e.kind) }
         ensures cause { IfErr result (λ e. IsCause
@@ -107,7 +109,9 @@ fn field(
     ensures refused { IfErr result (TrueOf message.old.descriptor.pool.now) }
     ensures cause { IfErr result (Refutes (field_at (message_at braces) (remaining tokens.old))
         (λ f. IsUnfitField f.name f.given message.old)) }
-    ensures stays { IfErr result (λ kind. Refuses kind message.old message.new) }
+    ensures stays { IfErr result (λ kind. StaysUnless
+        (There (field_at (message_at braces) (remaining tokens.old))
+        (λ f. Begins f.name f.given message.old message.new)) kind message.old message.new) }
 {
     let (name, span) = tokens.name()?;
     tokens.separator()?;
@@ -136,7 +140,10 @@ fn named_value(
     ensures cause { (n : FieldName) (colon : Bool) → text_of n ≡ name_view name.entry
         → IfErr result (Refutes (given_at (message_at braces) colon (remaining tokens.old))
         (λ given. IsUnfitField n given message.old)) }
-    ensures stays { IfErr result (λ kind. Refuses kind message.old message.new) }
+    ensures stays { (n : FieldName) (colon : Bool) → text_of n ≡ name_view name.entry
+        → IfErr result (λ kind. StaysUnless
+        (There (given_at (message_at braces) colon (remaining tokens.old))
+        (λ given. Begins n given message.old message.new)) kind message.old message.new) }
 {
     let descriptor = message.descriptor();
     match name {
@@ -171,7 +178,10 @@ fn assignment<'p>(
     ensures cause { (colon : Bool)
         → IfErr result (Refutes (given_at (message_at braces) colon (remaining tokens.old))
         (λ given. Rejects target.entry (IsUnfitGiven given) (AreUnfitGiven given) message.old)) }
-    ensures stays { IfErr result (λ kind. Refuses kind message.old message.new) }
+    ensures stays { (colon : Bool) → IfErr result (λ kind. StaysUnless
+        (There (given_at (message_at braces) colon (remaining tokens.old))
+        (λ given. AddsSome target.entry (AreGiven given) message.old message.new))
+        kind message.old message.new) }
 {
     if target.holds_many() {
         let values = values(tokens, target.kind(), braces)?;
@@ -279,7 +289,10 @@ fn expansion(
     ensures cause { (colon : Bool)
         → IfErr result (Refutes (given_at (message_at braces) colon (remaining tokens.old))
         (λ given. RejectsExpansion (string_bytes name.message) (IsUnfitBody given) message.old)) }
-    ensures stays { IfErr result (λ kind. Refuses kind message.old message.new) }
+    ensures stays { (colon : Bool) → IfErr result (λ kind. StaysUnless
+        (There (given_at (message_at braces) colon (remaining tokens.old))
+        (λ given. HoldsUrl (url_of (string_bytes name.domain) (string_bytes name.message))
+        message.old message.new)) kind message.old message.new) }
 {
     let descriptor = message.descriptor();
     let known = descriptor
@@ -302,11 +315,13 @@ fn hold(
 ) -> Result<(), ParseErrorKind>
     ensures type_stays { message.new.descriptor ≡ message.old.descriptor }
     ensures held { OnOk result
-        (Holds (string_bytes name.now.domain ++ 47 ∷ string_bytes name.now.message) body.now
+        (Holds (url_of (string_bytes name.now.domain) (string_bytes name.now.message)) body.now
         message.old message.new) }
     ensures refused { IfErr result (TrueOf message.old.descriptor.pool.now) }
     ensures cause { IfErr result (IsCause (IsAny message.old.descriptor → ⊥)) }
-    ensures stays { IfErr result (λ kind. Refuses kind message.old message.new) }
+    ensures stays { IfErr result (λ kind. StaysUnless
+        (HoldsUrl (url_of (string_bytes name.now.domain) (string_bytes name.now.message))
+        message.old message.new) kind message.old message.new) }
 {
     let Some(fields) = any_fields(message.descriptor()) else {
         return Err(ParseErrorKind::InvalidTypeForAny { span });

@@ -1,15 +1,13 @@
 //! Fields and extensions alike, as a text sets them.
 
-ghost use Rattle.std.specs.Prelude.{◌≡◌, true, IfErr, IfNone, IfOk, IfSome, IsTrue, OnErr, OnOk, string_bytes};
-ghost use Rattle.reflect_extend.specs.Puts.{PutsSome};
+ghost use Rattle.std.specs.Prelude.{◌≡◌, IfErr, IfNone, IfOk, IfSome, IsTrue, OnErr, OnOk, string_bytes};
 ghost use Rattle.reflect_pool.specs.Kinds.{IsKind};
-ghost use Rattle.reflect_pool.specs.Shapes.{holds_map};
 ghost use Rattle.reflect_format.specs.Filled.{IsAlone};
 ghost use Rattle.reflect_format.specs.Lacks.{FindsPlain, IsGroupCalled, LacksField, LacksGroup};
 ghost use Rattle.reflect_format.specs.Named.{FindsGroup, NamesExtension, NamesField, NoExtensionNamed, NoFieldNamed};
 ghost use Rattle.reflect_format.specs.Reads.{IsCause};
 ghost use Rattle.reflect_format.specs.Refusals.{Holds, HoldsMember, IsTextName, RefusesExtension, RefusesField, Shares};
-ghost use Rattle.reflect_format.specs.Steps.{Adds, AddsPart, Puts, Stays, held_by, is_set};
+ghost use Rattle.reflect_format.specs.Steps.{Adds, AddsPart, Puts, Stays, StaysExclusive, is_set};
 ghost use Rattle.reflect_format.specs.Takes.{Takes, holds_many, target_pool, target_type};
 
 use crate::fault::{float_field, unknown_extension, unknown_field};
@@ -146,6 +144,7 @@ impl<'p> Target<'p> {
         requires { Takes message.old.descriptor self.now }
         ensures type_stays { message.new.descriptor ≡ message.old.descriptor }
         ensures ok { OnOk result (Puts self.now value.entry message.old message.new) }
+        ensures exclusive { OnOk result (StaysExclusive self.now message.old message.new) }
         ensures left { OnErr result (Stays message.old message.new) }
     {
         match self {
@@ -164,10 +163,7 @@ impl<'p> Target<'p> {
         requires { Takes message.old.descriptor self.now }
         ensures type_stays { message.new.descriptor ≡ message.old.descriptor }
         ensures ok { OnOk result (Adds self.now values.entry.items message.old message.new) }
-        ensures left { OnErr result (AddsPart self.now message.old message.new) }
-        ensures part { holds_map (target_pool self.now) (target_type self.now) ≡ true
-            → OnErr result (PutsSome (held_by message.old self.now) (held_by message.new self.now)
-            values.entry.items) }
+        ensures left { OnErr result (AddsPart self.now values.entry.items message.old message.new) }
     {
         match self {
             Target::Field(field) => message.extend_field(field, values),

@@ -1,8 +1,23 @@
 use Rattle.std.proofs.Common.{refl}
 use Rattle.reflect_pool.specs.FieldsLeft.{field_type}
+use Rattle.reflect_message.proofs.Choosing.{chosen_next, makes_room, room_exclusive, unsets_changes}
 use Rattle.reflect_extend.proofs.Putting.{puts_none_at}
 use Rattle.reflect_extend.proofs.extend_message.extend_parts.Goals as goal
 
 pub returns-in_err-make_room-clause-part : goal.returns-in_err-make_room-clause-part
 returns-in_err-make_room-clause-part c = λ map. let held = c.args.parts.now.fields in
     puts_none_at c.from_residual.result held held (field_type c.args.field.now).number c.args.values.items refl
+
+pub returns-clause-chosen : goal.returns-clause-chosen
+returns-clause-chosen c = λ m owns chosen.
+    let f = c.args.field.now in
+    let before = c.args.parts.now in
+    let noted = c.make_room.new.self.members in
+    let filled = c.extend.new.content in
+    let after = c.clear_siblings.new.self in
+    let room = c.in_ok-make_room.ensures in
+    let cleared = c.clear_siblings.ensures in
+    let made = makes_room f before.choices.members noted room.first room.stays room.others in
+    let start = room_exclusive m f before.choices.members noted before.fields owns made chosen in
+    chosen_next m f owns noted after.choices.members before.fields after.fields start (cleared.chooses room.room)
+    (unsets_changes f noted before.fields filled after.fields c.extend.ensures.others cleared.unsets)

@@ -11,14 +11,16 @@ use Rattle.text_syntax.specs.Syntax.{OneField, Read, alone, at_sign, brace_of, e
 use Rattle.text_syntax.proofs.Continuing.{all_read, begin_on, behind_begun, behind_values, fields_stop, first_of, first_value, joined, listed_on, listed_twice, none_listed, one, values_next, values_over, values_stop}
 use Rattle.text_syntax.proofs.Parts.{end_comma, end_semicolon, field_parts, field_read, given_alone, given_listed, list_closed, list_opened, message_fields, message_made, message_read, name_found, no_brace, none_open, sign_ends, sign_misses, taken_sign, untaken_sign}
 use Rattle.text_syntax.proofs.Unfolding.{fields_is, message_shorter, more_is, unnamed}
-use Rattle.reflect_format.specs.Filled.{AreGiven, AreValues, Expands, FillsBody, FillsField}
+use Rattle.reflect_format.specs.Begun.{Begins, HoldsUrl}
+use Rattle.reflect_format.specs.Filled.{AreGiven, AreValues, Expands, FillsBody, FillsField, url_of}
 use Rattle.reflect_format.specs.Named.{NamesExtension, NamesField, NoExtensionNamed, NoFieldNamed}
+use Rattle.reflect_format.specs.Reads.{StaysUnless, There}
 use Rattle.reflect_format.specs.Truth.{TrueOf}
 use Rattle.reflect_format.specs.Unfit.{AreUnfitValues, CannotMake, IsUnfitBody, IsUnfitField, RejectsExpansion, Unfit}
 use Rattle.reflect_format.proofs.Filling.{alone_are, alone_is, cause, cause_of, colon_told, expansion_only, extension_only, fills_on, given_message, name_told, passes, plain_only, unfit_all, unfit_body, unfit_listed, unfit_message, unfit_on, unfit_one, unfit_values_on, unread, values_on}
 use Rattle.reflect_format.proofs.Single.{scalar_reads, scalar_refutes}
 use Rattle.reflect_format.proofs.Telling.{field_true, extension_true, scalar_true, second_true, passed}
-use Rattle.reflect_format.proofs.Stepping.{untouched, kept, unfinished}
+use Rattle.reflect_format.proofs.Stepping.{begun_so, untouched, kept, unfinished}
 use Rattle.reflect_format.proofs.parser.+field.Goals as goal
 use Rattle.reflect_format.proofs.parser.+field.Goals.{field-then-is_none, field-else-is_none}
 
@@ -49,39 +51,101 @@ assignment-returns-in_err-refuse_second-clause-refused t c =
     (second_true m c.args.target fault.field-0.0 c.requires.0 (sym c.holds_many.ensures ∙ c.if-holds_many.false) fault.ensures.refused)
 
 pub field-returns-in_err-name-clause-stays : goal.field-returns-in_err-name-clause-stays
-field-returns-in_err-name-clause-stays t c = untouched c.args.message.now c.from_residual.result
+field-returns-in_err-name-clause-stays t c = untouched _ c.args.message.now c.from_residual.result
 
 pub field-returns-in_err-separator-clause-stays : goal.field-returns-in_err-separator-clause-stays
-field-returns-in_err-separator-clause-stays t c = untouched c.args.message.now c.from_residual-in_err-separator.result
+field-returns-in_err-separator-clause-stays t c = untouched _ c.args.message.now c.from_residual-in_err-separator.result
+
+pub field-returns-in_err-named_value-clause-stays :
+    goal.field-returns-in_err-named_value-clause-stays
+field-returns-in_err-named_value-clause-stays t c =
+    let inner = message_at c.args.braces in
+    let ls = remaining c.args.tokens.now in
+    let named = remaining c.name.new.self in
+    let found = name_found ls named _ c.in_ok-name.ensures.read in
+    let fault = c.in_err-named_value in
+    let r = c.from_residual-in_err-named_value in
+    let old = c.args.message.now in
+    let new = c.named_value.new.message in
+    passed r.result (λ k. StaysUnless (There (field_at inner ls) (λ f. Begins f.name f.given old new)) k old new) fault.field-0.0 r.ensures.1
+    (begun_so _ _ fault.field-0.0 old new
+    (λ w.
+    let field : OneField = record { name = found.name; given = w.0; separator = (end_at w.1).0 } in
+    (field, (end_at w.1).1, field_read inner ls named (remaining c.separator.new.self) w.1 found.name found.span w.0 found.there c.in_ok-separator.ensures.read w.2, w.3))
+    (fault.ensures.stays found.name (sees 58 named) found.same))
 
 pub named_value-returns-in_err-target-in-Field-clause-stays : goal.named_value-returns-in_err-target-in-Field-clause-stays
-named_value-returns-in_err-target-in-Field-clause-stays t c = untouched c.args.message.now c.from_residual.result
+named_value-returns-in_err-target-in-Field-clause-stays t c = λ n colon same. untouched _ c.args.message.now c.from_residual.result
 
 pub named_value-returns-in_err-target-in-Extension-clause-stays : goal.named_value-returns-in_err-target-in-Extension-clause-stays
-named_value-returns-in_err-target-in-Extension-clause-stays t c = untouched c.args.message.now c.from_residual-in_err-target-in-Extension.result
+named_value-returns-in_err-target-in-Extension-clause-stays t c = λ n colon same. untouched _ c.args.message.now c.from_residual-in_err-target-in-Extension.result
+
+pub named_value-returns-in_ok-target-in-Field-clause-stays :
+    goal.named_value-returns-in_ok-target-in-Field-clause-stays
+named_value-returns-in_ok-target-in-Field-clause-stays t c = λ n colon same.
+    let old = c.args.message.now in
+    let new = c.assignment.new.message in
+    let target = c.in_ok-target-in-Field.target in
+    let w = c.in-Field.name.now in
+    let named = subst (λ d. NamesField d w target) c.descriptor-descriptor.ensures c.in_ok-target-in-Field.ensures.named in
+    IfErr-weaker c.assignment.result _ _ (λ k h. begun_so _ _ k old new
+    (λ b. (b.0, b.1, b.2, plain_only (λ n. Begins n b.0 old new) n w (same ∙ ap name_view c.in-Field.is) (target, named, b.3))) h)
+    (c.assignment.ensures.stays colon)
+
+pub named_value-returns-in_ok-target-in-Extension-clause-stays :
+    goal.named_value-returns-in_ok-target-in-Extension-clause-stays
+named_value-returns-in_ok-target-in-Extension-clause-stays t c = λ n colon same.
+    let old = c.args.message.now in
+    let new = c.assignment-in-Extension.new.message in
+    let target = c.in_ok-target-in-Extension.target in
+    let w = string_bytes c.in-Extension.name in
+    let named = subst (λ d. NamesExtension d w target) c.descriptor-descriptor.ensures c.in_ok-target-in-Extension.ensures.named in
+    IfErr-weaker c.assignment-in-Extension.result _ _ (λ k h. begun_so _ _ k old new
+    (λ b. (b.0, b.1, b.2, extension_only (λ n. Begins n b.0 old new) n w (same ∙ ap name_view c.in-Extension.is)
+    (λ e is. (target, subst (λ w. NamesExtension old.descriptor w target) (sym is) named, b.3)))) h)
+    (c.assignment-in-Extension.ensures.stays colon)
+
+pub named_value-returns-in-Any-clause-stays : goal.named_value-returns-in-Any-clause-stays
+named_value-returns-in-Any-clause-stays t c = λ n colon same.
+    let old = c.args.message.now in
+    let new = c.expansion.new.message in
+    let name = c.in-Any.name in
+    IfErr-weaker c.expansion.result _ _ (λ k h. begun_so _ _ k old new
+    (λ b. (b.0, b.1, b.2, expansion_only (λ n. Begins n b.0 old new) n (string_bytes name.domain) (string_bytes name.message) (same ∙ ap name_view c.in-Any.is)
+    (λ d e is was. subst (λ x. HoldsUrl (url_of x (written e)) old new) (sym is) (subst (λ y. HoldsUrl (url_of (string_bytes name.domain) y) old new) (sym was) b.3)))) h)
+    (c.expansion.ensures.stays colon)
 
 pub assignment-returns-in_err-values-clause-stays : goal.assignment-returns-in_err-values-clause-stays
-assignment-returns-in_err-values-clause-stays t c = untouched c.args.message.now c.from_residual.result
+assignment-returns-in_err-values-clause-stays t c = λ colon. untouched _ c.args.message.now c.from_residual.result
 
 pub assignment-returns-in_err-value-clause-stays : goal.assignment-returns-in_err-value-clause-stays
-assignment-returns-in_err-value-clause-stays t c = untouched c.args.message.now c.from_residual-in_err-value.result
+assignment-returns-in_err-value-clause-stays t c = λ colon. untouched _ c.args.message.now c.from_residual-in_err-value.result
 
 pub assignment-returns-in_err-refuse_second-clause-stays : goal.assignment-returns-in_err-refuse_second-clause-stays
-assignment-returns-in_err-refuse_second-clause-stays t c = untouched c.args.message.now c.from_residual-in_err-refuse_second.result
+assignment-returns-in_err-refuse_second-clause-stays t c = λ colon. untouched _ c.args.message.now c.from_residual-in_err-refuse_second.result
 
 pub assignment-returns-in_err-add-clause-stays : goal.assignment-returns-in_err-add-clause-stays
-assignment-returns-in_err-add-clause-stays t c =
+assignment-returns-in_err-add-clause-stays t c = λ colon.
     let r = c.from_residual-in_err-add in
-    unfinished c.args.message.now c.add.new.message r.result r.ensures.1 (inl (c.args.target, c.requires, sym c.holds_many.ensures ∙ c.if-holds_many.true, c.in_err-add.ensures.left))
+    let w = c.in_ok-values.ensures.read colon in
+    unfinished _ c.args.message.now c.add.new.message r.result r.ensures.1
+    (w.0, remaining c.values.new.tokens, w.1, (c.kind.result, c.kind.ensures, sym c.holds_many.ensures ∙ c.if-holds_many.true, c.in_ok-values.values.items, w.2, c.in_err-add.ensures.left))
 
 pub assignment-returns-in_err-set-clause-stays : goal.assignment-returns-in_err-set-clause-stays
-assignment-returns-in_err-set-clause-stays t c = kept c.args.message.now c.set.new.message c.from_residual-in_err-set.result c.in_err-set.ensures.left
+assignment-returns-in_err-set-clause-stays t c = λ colon. kept _ c.args.message.now c.set.new.message c.from_residual-in_err-set.result c.in_err-set.ensures.left
 
 pub expansion-returns-in_default-clause-stays : goal.expansion-returns-in_default-clause-stays
-expansion-returns-in_default-clause-stays t c = inl (refl, refl, refl)
+expansion-returns-in_default-clause-stays t c = λ colon. inl (refl, refl, refl)
 
 pub expansion-returns-in_err-body-clause-stays : goal.expansion-returns-in_err-body-clause-stays
-expansion-returns-in_err-body-clause-stays t c = untouched c.args.message.now c.from_residual.result
+expansion-returns-in_err-body-clause-stays t c = λ colon. untouched _ c.args.message.now c.from_residual.result
+
+pub expansion-returns-clause-stays : goal.expansion-returns-clause-stays
+expansion-returns-clause-stays t c = λ colon.
+    let w = c.in_ok-body.ensures.made in
+    let rest = remaining c.message_value.new.tokens in
+    let read = given_message c.args.braces colon (remaining c.args.tokens.now) rest w.0 w.1 in
+    IfErr-weaker c.hold.result _ _ (λ k h. begun_so _ _ k c.args.message.now c.hold.new.message (λ b. (one_message colon w.0.0 w.0.1, rest, read, b)) h) c.hold.ensures.stays
 
 -- ---- a field
 
@@ -415,6 +479,7 @@ assignment-returns-clause-filled t c = λ colon.
             unset = c.in_ok-refuse_second.ensures.none;
             alone = c.in_ok-refuse_second.ensures.alone;
             put = c.in_ok-set.ensures.ok;
+            exclusive = c.in_ok-set.ensures.exclusive;
           },
         ),
       ),

@@ -46,7 +46,7 @@ returns-in_err-field-clause-stops c =
     let r = c.from_residual in
     let inv = c.fields.invariant in
     passed r.result (λ k. Stops (remaining c.args.tokens.now) k c.args.message.now c.field.new.message) c.in_err-field.field-0.0 r.ensures.1
-    (inv.1, remaining c.fields.tokens, c.fields.message, inv.2, inv.3, c.in_err-field.ensures.stays)
+    (inv.1, remaining c.fields.tokens, c.fields.message, inv.2, inv.3, record { cause = c.in_err-field.ensures.cause; stays = c.in_err-field.ensures.stays })
 
 pub returns-clause-filled : goal.returns-clause-filled
 returns-clause-filled c =

@@ -1,9 +1,8 @@
-use Rattle.std.proofs.Common.{rules, ◌≡◌, ◌∷◌, ◌++◌, Option, Some, string_bytes, inl, inr, refl, sym, ap, subst, ◌∙◌}
+use Rattle.std.proofs.Common.{rules, ◌≡◌, ◌∷◌, ◌++◌, Option, Some, string_bytes, inl, refl, sym, ap, subst, ◌∙◌}
 use Rattle.protobuf_model.specs.Values.{Single, text, blob}
 use Rattle.reflect_message.specs.Declares.{Declares}
 use Rattle.reflect_any.specs.Any.{IsAny}
-use Rattle.reflect_format.specs.Steps.{Stays}
-use Rattle.reflect_format.proofs.Stepping.{untouched, kept, unfinished, sets_kept}
+use Rattle.reflect_format.proofs.Stepping.{untouched, kept, unfinished}
 use Rattle.reflect_format.proofs.parser.hold.Goals as goal
 
 pub returns-in_default-clause-refused : goal.returns-in_default-clause-refused
@@ -16,20 +15,24 @@ pub returns-in-Err-Memory-clause-stays : goal.returns-in-Err-Memory-clause-stays
 returns-in-Err-Memory-clause-stays c = inl (refl, refl, refl)
 
 pub returns-in_err-type_url-clause-stays : goal.returns-in_err-type_url-clause-stays
-returns-in_err-type_url-clause-stays c = untouched c.args.message.now c.from_residual.result
+returns-in_err-type_url-clause-stays c = untouched _ c.args.message.now c.from_residual.result
 
 pub returns-in_err-set_field-clause-stays : goal.returns-in_err-set_field-clause-stays
 returns-in_err-set_field-clause-stays c =
-    kept c.args.message.now c.set_field.new.self c.from_residual-in_err-set_field.result (c.in_err-set_field.ensures.err, c.set_field.ensures.extensions, c.set_field.ensures.unknown)
+    kept _ c.args.message.now c.set_field.new.self c.from_residual-in_err-set_field.result (c.in_err-set_field.ensures.err, c.set_field.ensures.extensions, c.set_field.ensures.unknown)
 
 pub returns-in_err-set_field-2-clause-stays : goal.returns-in_err-set_field-2-clause-stays
 returns-in_err-set_field-2-clause-stays c =
     let m = c.args.message.now in
     let r = c.from_residual-in_err-set_field-2 in
     let url = c.in-Some.fields.type_url in
-    let stays : Stays c.set_field.new.self c.set_field-2.new.self = (c.in_err-set_field-2.ensures.err, c.set_field-2.ensures.extensions, c.set_field-2.ensures.unknown) in
-    unfinished m c.set_field-2.new.self r.result r.ensures.1
-    (inr (subst IsAny c.descriptor.ensures c.in-Some.ensures.any, _, (url, _, subst (λ d. Declares d url) c.descriptor.ensures c.in-Some.ensures.type_url.0, c.in-Some.ensures.type_url.1, refl, sets_kept m c.set_field.new.self c.set_field-2.new.self url _ stays c.in_ok-set_field.ensures.ok)))
+    let named : string_bytes c.in_ok-type_url.type_url ≡ string_bytes c.args.name.now.domain ++ 47 ∷ string_bytes c.args.name.now.message = search rules in
+    unfinished _ m c.set_field-2.new.self r.result r.ensures.1 (
+      subst IsAny c.descriptor.ensures c.in-Some.ensures.any,
+      c.set_field.new.self,
+      (url, _, subst (λ d. Declares d url) c.descriptor.ensures c.in-Some.ensures.type_url.0, c.in-Some.ensures.type_url.1, ap (λ t. let it : Option Single = Some (text t) in it) named, c.in_ok-set_field.ensures.ok, c.set_field.ensures.exclusive),
+      (c.in_err-set_field-2.ensures.err, c.set_field-2.ensures.extensions, c.set_field-2.ensures.unknown),
+    )
 
 pub returns-clause-held : goal.returns-clause-held
 returns-clause-held c =
@@ -41,6 +44,6 @@ returns-clause-held c =
     let named : string_bytes c.in_ok-type_url.type_url ≡ string_bytes c.args.name.now.domain ++ 47 ∷ string_bytes c.args.name.now.message = search rules in (
       subst IsAny c.descriptor.ensures c.in-Some.ensures.any,
       mid,
-      (url, _, subst (λ d. Declares d url) c.descriptor.ensures c.in-Some.ensures.type_url.0, c.in-Some.ensures.type_url.1, ap (λ t. let it : Option Single = Some (text t) in it) named, c.in_ok-set_field.ensures.ok),
-      (value, _, subst (λ d. Declares d value) same c.in-Some.ensures.value.0, c.in-Some.ensures.value.1, ap (λ b. let it : Option Single = Some (blob b) in it) c.in-Ok.ensures.ok, c.in_ok-set_field-2.ensures.ok),
+      (url, _, subst (λ d. Declares d url) c.descriptor.ensures c.in-Some.ensures.type_url.0, c.in-Some.ensures.type_url.1, ap (λ t. let it : Option Single = Some (text t) in it) named, c.in_ok-set_field.ensures.ok, c.set_field.ensures.exclusive),
+      (value, _, subst (λ d. Declares d value) same c.in-Some.ensures.value.0, c.in-Some.ensures.value.1, ap (λ b. let it : Option Single = Some (blob b) in it) c.in-Ok.ensures.ok, c.in_ok-set_field-2.ensures.ok, c.set_field-2.ensures.exclusive),
     )

@@ -1,8 +1,10 @@
-use Rattle.std.proofs.Common.{ap, ◌∙◌}
-use Rattle.reflect_message.specs.Held.{extensions_of}
+use Rattle.std.proofs.Common.{rules, ◌≡◌, ap, refl, subst, sym, ◌∙◌}
+use Rattle.reflect_message.specs.Held.{choices_of, extensions_of, fields_of}
+use Rattle.reflect_message.specs.Oneofs.{IsExclusive}
 use Rattle.reflect_scalar.specs.FieldTypes.{extension_type}
 use Rattle.reflect_message.specs.Lists.{KeepsList}
 use Rattle.reflect_message.specs.declared.parts.Parts.{Parts}
+use Rattle.reflect_extend.proofs.Exclusive.{put_back}
 use Rattle.reflect_extend.proofs.Putting.{puts_none_at, left_back}
 use Rattle.reflect_extend.proofs.extend_message.DynamicMessageExtendMessage.extend_extension.Goals as goal
 
@@ -14,3 +16,15 @@ returns-clause-left c = λ list.
     let out = ap (λ (parts : Parts). parts.extensions) c.deref_mut.ensures.value ∙ c.in_ok-parts.ensures.extensions in
     left_back c.extend-outcome.result KeepsList (extensions_of c.args.self.now) c.deref_mut.result.now.extensions c.extend-outcome.new.content (extensions_of c.put_block.new.self) (extension_type c.args.extension.now).number
     out c.put_block.ensures.extensions (c.extend-outcome.ensures.left list)
+
+pub returns-in_err-parts-clause-exclusive : goal.returns-in_err-parts-clause-exclusive
+returns-in_err-parts-clause-exclusive c = subst IsExclusive (sym c.in_err-parts.ensures.err)
+
+pub returns-clause-exclusive : goal.returns-clause-exclusive
+returns-clause-exclusive c =
+    let old = c.args.self.now in
+    let new = c.put_block.new.self in
+    let is : choices_of new ≡ choices_of old = search rules in
+    let has : fields_of new ≡ fields_of old = search rules in
+    let type : new.descriptor ≡ old.descriptor = search rules in
+    put_back old new (choices_of old) (choices_of old) (fields_of old) (fields_of old) refl refl is has type

@@ -1,8 +1,9 @@
-use Rattle.std.proofs.Common.{ap, ◌∙◌}
+use Rattle.std.proofs.Common.{rules, ◌≡◌, ap, ◌∙◌}
 use Rattle.reflect_pool.specs.FieldsLeft.{field_type}
-use Rattle.reflect_message.specs.Held.{fields_of}
+use Rattle.reflect_message.specs.Held.{choices_of, fields_of}
 use Rattle.reflect_message.specs.Lists.{KeepsList}
 use Rattle.reflect_message.specs.declared.parts.Parts.{Parts}
+use Rattle.reflect_extend.proofs.Exclusive.{stays_exclusive}
 use Rattle.reflect_extend.proofs.Putting.{puts_none_at, left_back}
 use Rattle.reflect_extend.proofs.extend_message.DynamicMessageExtendMessage.extend_field.Goals as goal
 
@@ -14,3 +15,17 @@ returns-clause-left c = λ list.
     let out = ap (λ (parts : Parts). parts.fields) c.deref_mut.ensures.value ∙ c.in_ok-parts.ensures.fields in
     left_back c.extend_parts-outcome.result KeepsList (fields_of c.args.self.now) c.deref_mut.result.now.fields c.extend_parts-outcome.new.parts.fields (fields_of c.put_block.new.self) (field_type c.args.field.now).number
     out c.put_block.ensures.fields (c.extend_parts-outcome.ensures.left list)
+
+pub returns-clause-exclusive : goal.returns-clause-exclusive
+returns-clause-exclusive c = λ owns.
+    let old = c.args.self.now in
+    let new = c.put_block.new.self in
+    let before = c.deref_mut.result.now in
+    let after = c.extend_parts-outcome.new.parts in
+    let was : before.choices.members ≡ choices_of old = search rules in
+    let had : before.fields ≡ fields_of old = search rules in
+    let is : choices_of new ≡ after.choices.members = search rules in
+    let has : fields_of new ≡ after.fields = search rules in
+    let type : new.descriptor ≡ old.descriptor = search rules in
+    stays_exclusive old new before.choices.members after.choices.members before.fields after.fields was had is has type c.extend_parts-outcome.result
+    (c.extend_parts-outcome.ensures.chosen old.descriptor owns)

@@ -4,7 +4,7 @@ use Rattle.reflect_message.specs.Lists.{Lengthens, KeepsList}
 use Rattle.reflect_message.specs.declared.message.DynamicMessage.{DynamicMessage}
 use Rattle.reflect_message.specs.declared.value.Value.{Value}
 use Rattle.reflect_extend.specs.Puts.{PutsEntries, PutsSome}
-use Rattle.reflect_format.specs.Steps.{Adds, AddsPart, ChangesOnly, held_by}
+use Rattle.reflect_format.specs.Steps.{Adds, AddsPart, ChangesOnly, StaysExclusive, held_by}
 use Rattle.reflect_format.specs.Takes.{target_pool, target_type}
 use Rattle.reflect_format.specs.declared.target.Target.{Target}
 use Rattle.reflect_format.specs.declared.target.Target.TheVariants as targets
@@ -13,27 +13,36 @@ use Rattle.reflect_format.proofs.target.Target.add.Goals as goal
 -- what is added, from what holds of lists and of maps
 module _ {T E : Type 0} (t : Target) (vs : List Value) (old new : DynamicMessage) (only : ChangesOnly t old new) where
   adds : (r : Result T E) → (holds_list (target_pool t) (target_type t) ≡ true → OnOk r (Lengthens (held_by old t) (held_by new t) vs))
-      → (holds_map (target_pool t) (target_type t) ≡ true → OnOk r (PutsEntries (held_by old t) (held_by new t) vs)) → OnOk r (Adds t vs old new)
-  adds (Ok x) list map = (only, list, map)
-  adds (Err e) list map = tt
+      → (holds_map (target_pool t) (target_type t) ≡ true → OnOk r (PutsEntries (held_by old t) (held_by new t) vs)) → OnOk r (StaysExclusive t old new) → OnOk r (Adds t vs old new)
+  adds (Ok x) list map exclusive = (only, list, map, exclusive)
+  adds (Err e) list map exclusive = tt
 
   adds_part : (r : Result T E) → (holds_list (target_pool t) (target_type t) ≡ true → OnErr r (KeepsList (held_by old t) (held_by new t)))
-      → (holds_map (target_pool t) (target_type t) ≡ true → OnErr r (PutsSome (held_by old t) (held_by new t) vs)) → OnErr r (AddsPart t old new)
+      → (holds_map (target_pool t) (target_type t) ≡ true → OnErr r (PutsSome (held_by old t) (held_by new t) vs)) → OnErr r (AddsPart t vs old new)
   adds_part (Ok x) list map = tt
-  adds_part (Err e) list map = (only, list, λ is. (vs, map is))
+  adds_part (Err e) list map = (only, list, map)
+
+-- what holds where a call is Ok, and only by premises
+under : {T E : Type 0} (P Q R : Type 0) (r : Result T E) → (P → Q → OnOk r R) → OnOk r (P → Q → R)
+under P Q R (Ok x) h = h
+under P Q R (Err e) h = tt
+
+always : {T E : Type 0} (P : Type 0) (r : Result T E) → P → OnOk r P
+always P (Ok x) h = h
+always P (Err e) h = tt
 
 pub returns-in-Field-clause-ok : goal.returns-in-Field-clause-ok
 returns-in-Field-clause-ok c =
     let t : Target = targets.Field c.in-Field.field in
     let said = c.extend_field.ensures in
     subst (λ u. OnOk c.extend_field.result (Adds u c.args.values.items c.args.message.now c.extend_field.new.self)) (sym c.in-Field.is)
-    (adds t c.args.values.items c.args.message.now c.extend_field.new.self (said.others, said.extensions, said.unknown) c.extend_field.result said.list said.map)
+    (adds t c.args.values.items c.args.message.now c.extend_field.new.self (said.others, said.extensions, said.unknown) c.extend_field.result said.list said.map (under _ _ _ c.extend_field.result said.exclusive))
 
 pub returns-in-Field-clause-left : goal.returns-in-Field-clause-left
 returns-in-Field-clause-left c =
     let t : Target = targets.Field c.in-Field.field in
     let said = c.extend_field.ensures in
-    subst (λ u. OnErr c.extend_field.result (AddsPart u c.args.message.now c.extend_field.new.self)) (sym c.in-Field.is)
+    subst (λ u. OnErr c.extend_field.result (AddsPart u c.args.values.items c.args.message.now c.extend_field.new.self)) (sym c.in-Field.is)
     (adds_part t c.args.values.items c.args.message.now c.extend_field.new.self (said.others, said.extensions, said.unknown) c.extend_field.result said.left said.part)
 
 pub returns-in-Extension-clause-ok : goal.returns-in-Extension-clause-ok
@@ -41,11 +50,11 @@ returns-in-Extension-clause-ok c =
     let t : Target = targets.Extension c.in-Extension.extension in
     let said = c.extend_extension.ensures in
     subst (λ u. OnOk c.extend_extension.result (Adds u c.args.values.items c.args.message.now c.extend_extension.new.self)) (sym c.in-Extension.is)
-    (adds t c.args.values.items c.args.message.now c.extend_extension.new.self (said.others, said.fields, said.unknown) c.extend_extension.result said.list said.map)
+    (adds t c.args.values.items c.args.message.now c.extend_extension.new.self (said.others, said.fields, said.unknown) c.extend_extension.result said.list said.map (always _ c.extend_extension.result said.exclusive))
 
 pub returns-in-Extension-clause-left : goal.returns-in-Extension-clause-left
 returns-in-Extension-clause-left c =
     let t : Target = targets.Extension c.in-Extension.extension in
     let said = c.extend_extension.ensures in
-    subst (λ u. OnErr c.extend_extension.result (AddsPart u c.args.message.now c.extend_extension.new.self)) (sym c.in-Extension.is)
+    subst (λ u. OnErr c.extend_extension.result (AddsPart u c.args.values.items c.args.message.now c.extend_extension.new.self)) (sym c.in-Extension.is)
     (adds_part t c.args.values.items c.args.message.now c.extend_extension.new.self (said.others, said.fields, said.unknown) c.extend_extension.result said.left said.part)
