@@ -1,0 +1,152 @@
+//! Calls of pools: what they have, and files that are added, refused and taken back.
+
+use crate::options::write_options;
+use crate::starts::file_of;
+use test_json::members::{bytes, items, text, truth};
+use test_described::described;
+use descriptor_records::Options;
+use test_messages::{Answers, i32_of, text_of, write_name, write_truth};
+use reflect_build::{BuildFiles, Edit};
+use reflect_bytes::PoolExt;
+use reflect_link::{DescriptorPool, EnumReaders, PoolReaders};
+use serde_json::Value as Json;
+use std::alloc::{AllocError, Global};
+
+/// A pool whose calls change it too.
+#[derive(Drop)]
+pub struct PoolCase {
+    pub pool: DescriptorPool,
+}
+
+impl Answers for PoolCase {
+    fn answer(&mut self, alloc: Global, call: &Json, out: &mut String) -> Result<(), AllocError> {
+        let pool = &mut self.pool;
+        match text(call, "call") {
+            "add" => add(alloc, out, pool, call),
+            "build" => build(alloc, out, pool, call),
+            "settle" => settle(alloc, pool, call),
+            "options" => write_options(alloc, out, pool, call),
+            "line" => write_line(alloc, out, pool, text(call, "of")),
+            name => write_found(out, pool, name, call),
+        }
+    }
+}
+
+/// Writes the name of what the pool has by a name, or what it says of the name.
+fn write_found(
+    out: &mut String,
+    pool: &DescriptorPool,
+    sort: &str,
+    call: &Json,
+) -> Result<(), AllocError> {
+    let name = text(call, "name");
+    match sort {
+        "has_file" => write_truth(out, pool.has_file(name)),
+        "files" => write!(out, "{}", pool.files().count()),
+        "message" => write_name(out, message_name(pool, name)),
+        "extension" => write_name(out, extension_name(pool, name)),
+        "value" => write_name(out, value_name(pool, call)),
+        "values" => match pool.get_enum_by_name(name) {
+            Some(found) => write!(out, "{}", found.enum_descriptor_proto().value.len()),
+            None => out.push_str("-"),
+        },
+        _ => out.push_str("no call"),
+    }
+}
+
+/// The full name of the message type that the pool has by a name.
+fn message_name<'p>(pool: &'p DescriptorPool, name: &str) -> Option<&'p str> {
+    Some(pool.get_message_by_name(name)?.full_name())
+}
+
+/// The full name of the extension that the pool has by a name.
+fn extension_name<'p>(pool: &'p DescriptorPool, name: &str) -> Option<&'p str> {
+    Some(pool.get_extension_by_name(name)?.full_name())
+}
+
+/// The full name of the value of an enum, which the call names by its number or its name.
+fn value_name<'p>(pool: &'p DescriptorPool, call: &Json) -> Option<&'p str> {
+    let kind = pool.get_enum_by_name(text(call, "enum"))?;
+    match text_of(call, "name") {
+        Some(name) => Some(kind.get_value_by_name(name)?.full_name()),
+        None => Some(kind.get_value(i32_of(call, "number")?)?.full_name()),
+    }
+}
+
+/// Writes the line that begins with some words of all that the pool's descriptors answer, without
+/// those words.
+fn write_line(
+    alloc: Global,
+    out: &mut String,
+    pool: &DescriptorPool,
+    words: &str,
+) -> Result<(), AllocError> {
+    let lines = described(alloc, pool)?;
+    for line in lines.as_str().lines() {
+        if let Some(rest) = line.strip_prefix(words) {
+            out.push_str(rest)?;
+        }
+    }
+    Ok(())
+}
+
+/// Adds the file that bytes spell, or writes that it is refused.
+fn add(
+    alloc: Global,
+    out: &mut String,
+    pool: &mut DescriptorPool,
+    call: &Json,
+) -> Result<(), AllocError> {
+    let file = bytes(alloc, call, "file")?;
+    match pool.decode_file_descriptor_proto(alloc, file.as_slice()) {
+        Ok(()) => Ok(()),
+        Err(_) => out.push_str("refused"),
+    }
+}
+
+/// Builds the file that bytes spell, and takes it back where the call says so; or writes that it is
+/// refused.
+fn build(
+    alloc: Global,
+    out: &mut String,
+    pool: &mut DescriptorPool,
+    call: &Json,
+) -> Result<(), AllocError> {
+    let files = vec![in alloc; file_of(alloc, call, "file")?]?;
+    let mark = pool.mark();
+    match pool.build_files(alloc, files) {
+        Ok(()) => {
+            if truth(call, "then_cut") {
+                pool.cut(mark);
+            }
+            Ok(())
+        }
+        Err(_) => out.push_str("refused"),
+    }
+}
+
+/// The path of a declaration, which a call gives as a list of numbers.
+fn path_of(alloc: Global, call: &Json) -> Result<Vec<i32>, AllocError> {
+    let mut path = Vec::new(alloc);
+    for step in items(call, "path") {
+        if let Some(step) = step.as_i64() {
+            if let Ok(step) = i32::try_from(step) {
+                path.push(step)?;
+            }
+        }
+    }
+    Ok(path)
+}
+
+/// Settles bytes as the options of the declaration at a path of the first file.
+fn settle(alloc: Global, pool: &mut DescriptorPool, call: &Json) -> Result<(), AllocError> {
+    let mut options = Options::new(alloc);
+    options.encoded = bytes(alloc, call, "bytes")?;
+    let edit = Edit::Options {
+        file: 0,
+        path: path_of(alloc, call)?,
+        options,
+    };
+    pool.settle(vec![in alloc; edit]?);
+    Ok(())
+}

@@ -1,0 +1,82 @@
+//! Cases of calls. A `pool` case makes a pool, which later cases of its file name by its `id`; what
+//! they ask has a `type` of it.
+//!
+//! `op` names what the calls are made of, `calls` has them, and each has under `is` what it answers. Bytes are hex text.
+
+use crate::pools::PoolCase;
+use crate::starts::start_of;
+use crate::texts::{replay_message, replay_values};
+use crate::types::TypeCase;
+use test_files::Replays;
+use test_json::members::{items, number, text};
+use test_messages::{replay_calls, replay_key, replay_value};
+use reflect_link::{DescriptorPool, PoolReaders};
+use serde_json::Value as Json;
+use std::alloc::{AllocError, Global};
+use std::collections::BTreeMap;
+
+/// The pools that cases make for later ones.
+#[derive(Drop)]
+pub struct Replay {
+    alloc: Global,
+    pools: BTreeMap<u64, DescriptorPool>,
+}
+
+impl Replay {
+    /// Makes the pool of a case, and the calls of it, and keeps it.
+    fn keep_pool(&mut self, case: &Json, difference: &mut String) -> Result<(), AllocError> {
+        let Some(pool) = start_of(self.alloc, case)? else {
+            return difference.push_str("no pool ");
+        };
+        let mut asked = PoolCase { pool };
+        replay_calls(self.alloc, &mut asked, case, difference)?;
+        self.pools.insert(number(case, "id"), asked.pool)?;
+        Ok(())
+    }
+}
+
+/// Makes the calls of a case that a pool has been made for.
+fn replay_of(
+    alloc: Global,
+    pool: &DescriptorPool,
+    case: &Json,
+    difference: &mut String,
+) -> Result<(), AllocError> {
+    let Some(descriptor) = pool.get_message_by_name(text(case, "type")) else {
+        return difference.push_str("no type ");
+    };
+    let op = text(case, "op");
+    if op != "values" && items(case, "calls").is_empty() {
+        return difference.push_str("no calls ");
+    }
+    match op {
+        "type" => replay_calls(alloc, &mut TypeCase { descriptor }, case, difference),
+        "message" => replay_message(alloc, descriptor, case, difference),
+        "value" => replay_value(alloc, descriptor, case, difference),
+        "values" => replay_values(alloc, pool, case, difference),
+        "key" => replay_key(alloc, descriptor, case, difference),
+        _ => difference.push_str("no such cases "),
+    }
+}
+
+impl Replays for Replay {
+    fn new(alloc: Global) -> Replay {
+        Replay {
+            alloc,
+            pools: BTreeMap::new(alloc),
+        }
+    }
+
+    fn difference(&mut self, case: &Json) -> Result<String, AllocError> {
+        let mut difference = String::new(self.alloc);
+        if text(case, "op") == "pool" {
+            self.keep_pool(case, &mut difference)?;
+            return Ok(difference);
+        }
+        match self.pools.get(&number(case, "pool")) {
+            Some(pool) => replay_of(self.alloc, pool, case, &mut difference)?,
+            None => difference.push_str("no such pool ")?,
+        }
+        Ok(difference)
+    }
+}

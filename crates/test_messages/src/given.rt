@@ -1,0 +1,157 @@
+//! Numbers, values, messages and kinds that cases give. What a case lacks is read as empty: then
+//! other answers come than it wants.
+
+use test_json::members::{bytes, items, text};
+use reflect_decode::DecodeMessage;
+use reflect_message::{DynamicMessage, MapKey, Value};
+use reflect_pool::{DescriptorPool, ExtensionDescriptor, FieldDescriptor, Kind, MessageDescriptor};
+use serde_json::Value as Json;
+use std::alloc::{AllocError, Global};
+use std::collections::BTreeMap;
+
+/// The signed number of a member, if it fits in 32 bits.
+pub fn i32_of(given: &Json, name: &'static str) -> Option<i32> {
+    i32::try_from(given.get(name)?.as_i64()?).ok()
+}
+
+/// The natural number of a member, if it fits in 32 bits.
+pub fn u32_of(given: &Json, name: &'static str) -> Option<u32> {
+    u32::try_from(given.get(name)?.as_u64()?).ok()
+}
+
+/// The text of a member.
+pub fn text_of<'c>(given: &'c Json, name: &'static str) -> Option<&'c str> {
+    given.get(name)?.as_str()
+}
+
+/// The truth value or the number that an object gives under the name of its sort.
+pub fn number_of<'p>(given: &Json) -> Option<Value<'p>> {
+    if let Some(truth) = given.get("bool") {
+        return Some(Value::Bool(truth.as_bool()?));
+    }
+    if let Some(n) = given.get("i64") {
+        return Some(Value::I64(n.as_i64()?));
+    }
+    if let Some(n) = given.get("u64") {
+        return Some(Value::U64(n.as_u64()?));
+    }
+    if let Some(n) = u32_of(given, "u32") {
+        return Some(Value::U32(n));
+    }
+    if let Some(n) = i32_of(given, "enum") {
+        return Some(Value::EnumNumber(n));
+    }
+    Some(Value::I32(i32_of(given, "i32")?))
+}
+
+/// The number, the text or the bytes that an object gives under the name of its sort.
+pub fn scalar_of<'p>(alloc: Global, given: &Json) -> Result<Value<'p>, AllocError> {
+    if let Some(number) = number_of(given) {
+        return Ok(number);
+    }
+    match text_of(given, "string") {
+        Some(text) => Ok(Value::String(String::from_str(alloc, text)?)),
+        None => Ok(Value::Bytes(bytes(alloc, given, "bytes")?)),
+    }
+}
+
+/// The message of a type that the bytes of a case spell, empty without them.
+///
+/// Bytes that are refused are as want of memory is.
+pub fn message_of<'p>(
+    alloc: Global,
+    descriptor: MessageDescriptor<'p>,
+    given: &Json,
+) -> Result<DynamicMessage<'p>, AllocError> {
+    let bytes = bytes(alloc, given, "bytes")?;
+    match DynamicMessage::decode(alloc, descriptor, bytes.as_slice()) {
+        Ok(message) => Ok(message),
+        Err(_) => Err(AllocError),
+    }
+}
+
+/// The message of the type that an object names under `message`, or the single value that it gives.
+fn single_of<'p>(
+    alloc: Global,
+    pool: &'p DescriptorPool,
+    given: &Json,
+) -> Result<Value<'p>, AllocError> {
+    let Some(descriptor) = pool.get_message_by_name(text(given, "message")) else {
+        return scalar_of(alloc, given);
+    };
+    Ok(Value::Message(message_of(alloc, descriptor, given)?))
+}
+
+/// The single values of a list.
+pub fn list_of<'p>(
+    alloc: Global,
+    pool: &'p DescriptorPool,
+    given: &Json,
+) -> Result<Vec<Value<'p>>, AllocError> {
+    let mut values = Vec::new(alloc);
+    for item in items(given, "list") {
+        values.push(single_of(alloc, pool, item)?)?;
+    }
+    Ok(values)
+}
+
+/// Puts a key and a value, which stand side by side in a list, into a map.
+pub fn put_entry<'p>(
+    alloc: Global,
+    entries: &mut BTreeMap<MapKey, Value<'p>>,
+    entry: &Json,
+) -> Result<(), AllocError> {
+    let Some([key, value]) = entry.as_array().map(|pair| pair.as_slice()) else {
+        return Ok(());
+    };
+    if let Some(key) = scalar_of(alloc, key)?.into_map_key() {
+        entries.insert(key, scalar_of(alloc, value)?)?;
+    }
+    Ok(())
+}
+
+/// The entries of a map.
+fn map_of<'p>(alloc: Global, given: &Json) -> Result<BTreeMap<MapKey, Value<'p>>, AllocError> {
+    let mut entries = BTreeMap::new(alloc);
+    for entry in items(given, "map") {
+        put_entry(alloc, &mut entries, entry)?;
+    }
+    Ok(entries)
+}
+
+/// The list, the map or the single value that an object gives.
+pub fn value_of<'p>(
+    alloc: Global,
+    pool: &'p DescriptorPool,
+    given: &Json,
+) -> Result<Value<'p>, AllocError> {
+    if given.get("list").is_some() {
+        return Ok(Value::List(list_of(alloc, pool, given)?));
+    }
+    if given.get("map").is_some() {
+        return Ok(Value::Map(map_of(alloc, given)?));
+    }
+    single_of(alloc, pool, given)
+}
+
+/// The field of a type that an object names by its number, under `field`.
+pub fn field_of<'p>(
+    descriptor: MessageDescriptor<'p>,
+    given: &Json,
+) -> Option<FieldDescriptor<'p>> {
+    descriptor.get_field(u32_of(given, "field")?)
+}
+
+/// The extension of a type that an object names by its number, under `extension`.
+pub fn extension_of<'p>(
+    descriptor: MessageDescriptor<'p>,
+    given: &Json,
+) -> Option<ExtensionDescriptor<'p>> {
+    descriptor.get_extension(u32_of(given, "extension")?)
+}
+
+/// The kind of the field of a type that is named under `kind`.
+pub fn kind_of<'p>(descriptor: MessageDescriptor<'p>, given: &Json) -> Option<Kind<'p>> {
+    let field = descriptor.get_field_by_name(text(given, "kind"))?;
+    Some(field.kind())
+}

@@ -1,0 +1,163 @@
+//! Calls of messages as wholes, and of which of their parts others are.
+
+use crate::answers::Answers;
+use crate::by_extension::answer_by_extension;
+use crate::by_field::answer_by_field;
+use crate::by_name::answer_by_name;
+use crate::by_number::answer_by_number;
+use crate::given::{text_of, u32_of};
+use crate::shown::{write_bytes, write_gap, write_hex, write_truth, write_value};
+use test_json::members::{bytes, text};
+use reflect_access::{MessageTests, MessageWalks, TakeContents};
+use reflect_decode::DecodeMessage;
+use reflect_encode::EncodeMessage;
+use reflect_message::DynamicMessage;
+use serde_json::Value as Json;
+use std::alloc::{AllocError, Global};
+
+/// Calls of the field of a `number`, of a `name`, of the descriptor of a `field`'s number or of an
+/// `extension`'s; else of the whole.
+impl Answers for DynamicMessage<'_> {
+    fn answer(&mut self, alloc: Global, call: &Json, out: &mut String) -> Result<(), AllocError> {
+        if let Some(number) = u32_of(call, "number") {
+            return answer_by_number(alloc, out, self, number, call);
+        }
+        if let Some(name) = text_of(call, "name") {
+            return answer_by_name(alloc, out, self, name, call);
+        }
+        if let Some(number) = u32_of(call, "field") {
+            return answer_by_field(alloc, out, self, number, call);
+        }
+        if let Some(number) = u32_of(call, "extension") {
+            return answer_by_extension(alloc, out, self, number, call);
+        }
+        match text(call, "call") {
+            "clear" => {
+                self.clear();
+                Ok(())
+            }
+            "merge" => merge(alloc, out, self, call),
+            "encode" => encode(alloc, out, self, call),
+            "take_fields" => take_fields(out, self),
+            "take_extensions" => take_extensions(out, self),
+            "take_unknown" => take_unknown(out, self),
+            name => write_answer(out, self, name, call),
+        }
+    }
+}
+
+/// Merges bytes, or writes why they are refused.
+fn merge(
+    alloc: Global,
+    out: &mut String,
+    message: &mut DynamicMessage<'_>,
+    call: &Json,
+) -> Result<(), AllocError> {
+    match message.merge(bytes(alloc, call, "bytes")?.as_slice()) {
+        Ok(()) => Ok(()),
+        Err(error) => write!(out, "{error:?}"),
+    }
+}
+
+/// Writes bytes with those of the message behind them.
+fn encode(
+    alloc: Global,
+    out: &mut String,
+    message: &DynamicMessage<'_>,
+    call: &Json,
+) -> Result<(), AllocError> {
+    let mut bytes = bytes(alloc, call, "behind")?;
+    match message.encode(&mut bytes) {
+        Ok(()) => write_hex(out, bytes.as_slice()),
+        Err(_) => Err(AllocError),
+    }
+}
+
+/// Writes what the message says of itself.
+fn write_answer(
+    out: &mut String,
+    message: &DynamicMessage<'_>,
+    name: &str,
+    call: &Json,
+) -> Result<(), AllocError> {
+    match name {
+        "bytes" => write_bytes(out, message),
+        "len" => write!(out, "{:?}", message.encoded_len()),
+        "type" => out.push_str(message.descriptor().full_name()),
+        "is_empty" => write_truth(out, message.is_empty()),
+        "is_typed" => write_truth(out, message.is_typed()),
+        "is_encodable" => write_truth(out, message.is_encodable()),
+        "declares" => write_truth(out, declares(message, call) == Some(true)),
+        "fields" => write_fields(out, message),
+        "extensions" => write_extensions(out, message),
+        "unknown" => write_unknown(out, message),
+        _ => out.push_str("no call"),
+    }
+}
+
+/// Whether the message's type declares a field or an extension of the type that the call names;
+/// `None` where that has none.
+fn declares(message: &DynamicMessage<'_>, call: &Json) -> Option<bool> {
+    let pool = message.descriptor().parent_pool();
+    let other = pool.get_message_by_name(text(call, "of"))?;
+    if let Some(number) = u32_of(call, "its_field") {
+        return Some(message.declares(&other.get_field(number)?));
+    }
+    let extension = other.get_extension(u32_of(call, "its_extension")?)?;
+    Some(message.declares_extension(&extension))
+}
+
+/// Writes the fields that are set.
+fn write_fields(out: &mut String, message: &DynamicMessage<'_>) -> Result<(), AllocError> {
+    for (field, value) in message.fields() {
+        write_gap(out)?;
+        write!(out, "{} ", field.number())?;
+        write_value(out, value)?;
+    }
+    Ok(())
+}
+
+/// Writes the extensions that are set.
+fn write_extensions(out: &mut String, message: &DynamicMessage<'_>) -> Result<(), AllocError> {
+    for (extension, value) in message.extensions() {
+        write_gap(out)?;
+        write!(out, "{} ", extension.name())?;
+        write_value(out, value)?;
+    }
+    Ok(())
+}
+
+/// Writes the numbers of the records that the type does not declare.
+fn write_unknown(out: &mut String, message: &DynamicMessage<'_>) -> Result<(), AllocError> {
+    for record in message.unknown_fields() {
+        write_gap(out)?;
+        write!(out, "{}", record.number())?;
+    }
+    Ok(())
+}
+
+/// Takes the fields, and writes those that were set.
+fn take_fields(out: &mut String, message: &mut DynamicMessage<'_>) -> Result<(), AllocError> {
+    for (field, value) in message.take_fields() {
+        write_gap(out)?;
+        write!(out, "{} ", field.number())?;
+        write_value(out, &value)?;
+    }
+    Ok(())
+}
+
+/// Takes the extensions, and writes those that were set.
+fn take_extensions(out: &mut String, message: &mut DynamicMessage<'_>) -> Result<(), AllocError> {
+    for (extension, value) in message.take_extensions() {
+        write_gap(out)?;
+        write!(out, "{} ", extension.number())?;
+        write_value(out, &value)?;
+    }
+    Ok(())
+}
+
+/// Takes the records that the type does not declare, and writes how many there were.
+fn take_unknown(out: &mut String, message: &mut DynamicMessage<'_>) -> Result<(), AllocError> {
+    let records = message.take_unknown_fields()?;
+    write!(out, "{}", records.len())
+}

@@ -1,0 +1,97 @@
+//! Messages of a schema's types: bytes and text, in and out.
+
+use crate::refusals::{tell_refusal, tell_text_refusal};
+use test_json::Told;
+use test_json::members::{bytes, text, truth};
+use reflect_dynamic::{DecodeMessage, DynamicMessage, EncodeMessage};
+use reflect_link::PoolReaders;
+use reflect_text::{FormatOptions, TextFormat};
+use schema_core::{Schema, SchemaError};
+use serde_json::Value;
+use std::alloc::{AllocError, Global};
+
+/// Tells bytes, or why there are none.
+fn tell_bytes(
+    alloc: Global,
+    told: &mut Told<'_>,
+    came: Result<Vec<u8>, SchemaError>,
+) -> Result<(), AllocError> {
+    match came {
+        Ok(bytes) => told.tell_bytes("ok", bytes.as_slice()),
+        Err(error) => tell_refusal(alloc, told, &error),
+    }
+}
+
+/// What a schema encodes, decodes or recodes.
+pub fn tell_asked(
+    alloc: Global,
+    op: &str,
+    schema: &Schema,
+    case: &Value,
+    told: &mut Told<'_>,
+) -> Result<(), AllocError> {
+    let type_name = text(case, "type");
+    let bytes = bytes(alloc, case, "bytes")?;
+    match op {
+        "encode" => tell_bytes(alloc, told, schema.encode(type_name, text(case, "text"))),
+        "recode" => tell_bytes(alloc, told, schema.recode(type_name, bytes.as_slice())),
+        "decode" => match schema.decode(type_name, bytes.as_slice()) {
+            Ok(printed) => told.tell("ok", printed.as_str()),
+            Err(error) => tell_refusal(alloc, told, &error),
+        },
+        _ => Ok(()),
+    }
+}
+
+/// The form of text that a case names.
+fn form(case: &Value) -> FormatOptions {
+    let Some(form) = case.get("options") else {
+        return FormatOptions::new();
+    };
+    FormatOptions::new()
+        .pretty(truth(form, "pretty"))
+        .skip_unknown_fields(truth(form, "skip_unknown_fields"))
+        .expand_any(truth(form, "expand_any"))
+        .skip_default_fields(truth(form, "skip_default_fields"))
+        .print_message_fields_in_index_order(truth(form, "print_message_fields_in_index_order"))
+}
+
+/// The text of a message in the form that the case names.
+pub fn tell_printed(
+    alloc: Global,
+    schema: &Schema,
+    case: &Value,
+    told: &mut Told<'_>,
+) -> Result<(), AllocError> {
+    let bytes = bytes(alloc, case, "bytes")?;
+    let Some(descriptor) = schema.pool().get_message_by_name(text(case, "type")) else {
+        return Ok(());
+    };
+    let Ok(message) = DynamicMessage::decode(alloc, descriptor, bytes.as_slice()) else {
+        return Ok(());
+    };
+    match message.to_text_format_with_options(alloc, &form(case)) {
+        Ok(printed) => told.tell("ok", printed.as_str()),
+        Err(_) => Err(AllocError),
+    }
+}
+
+/// A text that is refused, and what it leaves in a message that was empty.
+pub fn tell_merged(
+    alloc: Global,
+    schema: &Schema,
+    case: &Value,
+    told: &mut Told<'_>,
+) -> Result<(), AllocError> {
+    let Some(descriptor) = schema.pool().get_message_by_name(text(case, "type")) else {
+        return Ok(());
+    };
+    let mut message = DynamicMessage::new(alloc, descriptor);
+    if let Err(error) = message.merge_text_format(text(case, "text")) {
+        tell_text_refusal(alloc, told, &error)?;
+    }
+    match message.encode_to_vec() {
+        Ok(left) => told.tell_bytes("left", left.as_slice()),
+        Err(_) => Err(AllocError),
+    }
+}
