@@ -6,16 +6,13 @@
 //! the text format. docs/TESTS.md says what each file asserts.
 #![tactic(auto)]
 
-mod options;
-mod pools;
 mod replay;
-mod starts;
 mod texts;
 mod types;
 
-use test_files::replay_files;
 use replay::Replay;
 use std::process::ExitCode;
+use test_files::replay_files;
 
 fn main(rt: HostRuntime) -> ExitCode {
     match replay_files::<Replay>(&rt) {

@@ -3,17 +3,16 @@
 //!
 //! `op` names what the calls are made of, `calls` has them, and each has under `is` what it answers. Bytes are hex text.
 
-use crate::pools::PoolCase;
-use crate::starts::start_of;
 use crate::texts::{replay_message, replay_values};
 use crate::types::TypeCase;
-use test_files::Replays;
-use test_json::members::{items, number, text};
-use test_messages::{replay_calls, replay_key, replay_value};
 use reflect_link::{DescriptorPool, PoolReaders};
 use serde_json::Value as Json;
 use std::alloc::{AllocError, Global};
 use std::collections::BTreeMap;
+use test_files::Replays;
+use test_json::members::{items, number, text};
+use test_pools::{PoolCase, start_of};
+use test_values::{replay_calls, replay_key, replay_value};
 
 /// The pools that cases make for later ones.
 #[derive(Drop)]

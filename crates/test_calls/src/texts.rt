@@ -1,13 +1,14 @@
 //! Messages, values and records as text.
 
-use test_json::members::{items, text};
-use test_messages::{Answers, message_of, replay_calls, scalar_of, text_of};
 use reflect_dynamic::{DynamicMessage, MessageWalks};
 use reflect_format::{ParseError, Parser};
 use reflect_link::{DescriptorPool, Kind, MessageDescriptor};
 use reflect_print::{FormatOptions, WriteError, Writer};
 use serde_json::Value as Json;
 use std::alloc::{AllocError, Global};
+use test_json::members::{items, text};
+use test_messages::answer_message;
+use test_values::{Answers, message_of, replay_calls, scalar_of, text_of};
 use text_format::TextFormat;
 
 /// A message whose calls read and write text too.
@@ -56,7 +57,7 @@ impl Answers for MessageCase<'_> {
             },
             "write" => write_message(alloc, out, message),
             "write_unknown" => write_unknown(alloc, out, message),
-            _ => message.answer(alloc, call, out),
+            _ => answer_message(alloc, out, message, call),
         }
     }
 }

@@ -1,13 +1,13 @@
 //! Calls of message types.
 
-use test_json::members::text;
-use test_messages::{
-    Answers, extension_of, field_of, kind_of, text_of, u32_of, write_name, write_truth, write_value,
-};
 use reflect_dynamic::{FieldDefault, KindExt, Value};
 use reflect_link::{FieldDescriptor, FieldReaders, Kind, MessageDescriptor, PoolReaders};
 use serde_json::Value as Json;
 use std::alloc::{AllocError, Global};
+use test_json::members::text;
+use test_values::{
+    Answers, extension_of, field_of, kind_of, text_of, u32_of, write_name, write_truth, write_value,
+};
 
 /// A message type that is asked.
 #[derive(Drop)]

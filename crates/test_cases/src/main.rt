@@ -9,15 +9,15 @@
 mod runs;
 mod streams;
 
-use test_files::{Replays, replay_files};
-use test_json::Told;
-use test_json::members::text;
 use runs::tell_run;
-use test_schema_cases::Replay;
 use serde_json::Value;
 use std::alloc::{AllocError, Global};
 use std::io;
 use std::process::ExitCode;
+use test_files::{Replays, replay_files};
+use test_json::Told;
+use test_json::members::text;
+use test_schema_cases::Replay;
 
 /// How many random sources the laws of messages are tried on.
 const SOURCES: u32 = 50;

@@ -1,11 +1,11 @@
 //! Runs of the program over files and streams in memory.
 
 use crate::streams::{Calls, CaseFiles, Input, Output, content};
-use test_json::Told;
-use test_json::members::items;
 use reflect_schema::run;
 use serde_json::Value;
 use std::alloc::{AllocError, Global};
+use test_json::Told;
+use test_json::members::items;
 
 /// What a run came to.
 #[derive(Drop)]

@@ -1,12 +1,12 @@
 //! Files, inputs and outputs in memory; the streams give or take a byte at a call, and fail once
 //! they answered so many calls.
 
-use test_json::members::{bytes, items, text};
 use reflect_schema::{ReadFault, SourceFiles};
 use serde_json::Value;
 use std::alloc::{AllocError, Global};
-use std::io;
 use std::io::{Read, Write};
+use std::io;
+use test_json::members::{bytes, items, text};
 
 /// The bytes of a member: those of its `text`, or without one those that it has as `hex`.
 pub fn content(alloc: Global, member: &Value) -> Result<Vec<u8>, AllocError> {

@@ -1,14 +1,13 @@
 //! A line for each declaration of a pool, sort by sort: files, messages, enums, extensions,
 //! services.
 
-use crate::fields::write_extension;
-use crate::parts::{or_dash, record_name, write_names, write_path};
 use crate::types::{write_enums, write_messages};
 use reflect_link::{
     DescriptorPool, FileDescriptor, InFile, MethodDescriptor, PoolReaders, ServiceDescriptor,
     Syntax,
 };
 use std::alloc::{AllocError, Global};
+use test_fields::{or_dash, record_name, write_extension, write_names, write_path};
 
 /// What all readers of the pool's descriptors answer.
 pub fn described(alloc: Global, pool: &DescriptorPool) -> Result<String, AllocError> {

@@ -2,8 +2,6 @@
 #![tactic(auto)]
 
 mod declarations;
-mod fields;
-mod parts;
 mod types;
 
 pub use declarations::described;

@@ -1,12 +1,11 @@
 //! Lines of messages with their oneofs and fields, and of enums with their values.
 
-use crate::fields::write_field;
-use crate::parts::{or_dash, record_name, write_names, write_path};
 use reflect_link::{
     DescriptorPool, EnumDescriptor, EnumReaders, EnumValueDescriptor, EnumValueReaders, InFile,
     MessageDescriptor, MessageReaders, OneofDescriptor, OneofReaders, PoolReaders,
 };
 use std::alloc::AllocError;
+use test_fields::{or_dash, record_name, write_field, write_names, write_path};
 
 /// Writes the pool's messages.
 pub fn write_messages(out: &mut String, pool: &DescriptorPool) -> Result<(), AllocError> {

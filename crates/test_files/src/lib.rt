@@ -2,12 +2,12 @@
 //! hold is printed, and how many of each kind do.
 #![tactic(auto)]
 
-use test_json::members::text;
 use serde_json::Value;
 use std::alloc::{AllocError, Global};
 use std::collections::BTreeMap;
 use std::io::ErrorKind;
 use std::{env, fs, io};
+use test_json::members::text;
 
 /// What replays the cases of a file.
 pub trait Replays: Drop {

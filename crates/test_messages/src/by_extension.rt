@@ -1,13 +1,11 @@
 //! Calls of extensions by their descriptors.
 
-use crate::changes::change;
-use crate::given::{list_of, value_of};
-use crate::shown::{write_taken, write_truth, write_value};
-use test_json::members::text;
 use reflect_extend::ExtendMessage;
 use reflect_message::DynamicMessage;
 use serde_json::Value as Json;
 use std::alloc::{AllocError, Global};
+use test_json::members::text;
+use test_values::{change, list_of, value_of, write_taken, write_truth, write_value};
 
 /// Makes a call of the extension of a number by the extension's descriptor.
 pub fn answer_by_extension(

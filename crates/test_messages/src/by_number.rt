@@ -1,13 +1,11 @@
 //! Calls of fields by their numbers.
 
-use crate::changes::change_lent;
-use crate::given::value_of;
-use crate::shown::{write_held, write_outcome, write_taken, write_truth};
-use test_json::members::text;
 use reflect_access::FieldsByNumber;
 use reflect_message::DynamicMessage;
 use serde_json::Value as Json;
 use std::alloc::{AllocError, Global};
+use test_json::members::text;
+use test_values::{change_lent, value_of, write_held, write_outcome, write_taken, write_truth};
 
 /// Makes a call of the field of a number.
 pub fn answer_by_number(

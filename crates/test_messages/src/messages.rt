@@ -1,48 +1,49 @@
 //! Calls of messages as wholes, and of which of their parts others are.
 
-use crate::answers::Answers;
 use crate::by_extension::answer_by_extension;
 use crate::by_field::answer_by_field;
 use crate::by_name::answer_by_name;
 use crate::by_number::answer_by_number;
-use crate::given::{text_of, u32_of};
-use crate::shown::{write_bytes, write_gap, write_hex, write_truth, write_value};
-use test_json::members::{bytes, text};
 use reflect_access::{MessageTests, MessageWalks, TakeContents};
 use reflect_decode::DecodeMessage;
 use reflect_encode::EncodeMessage;
 use reflect_message::DynamicMessage;
 use serde_json::Value as Json;
 use std::alloc::{AllocError, Global};
+use test_json::members::{bytes, text};
+use test_values::{text_of, u32_of, write_bytes, write_gap, write_hex, write_truth, write_value};
 
-/// Calls of the field of a `number`, of a `name`, of the descriptor of a `field`'s number or of an
-/// `extension`'s; else of the whole.
-impl Answers for DynamicMessage<'_> {
-    fn answer(&mut self, alloc: Global, call: &Json, out: &mut String) -> Result<(), AllocError> {
-        if let Some(number) = u32_of(call, "number") {
-            return answer_by_number(alloc, out, self, number, call);
+/// Makes a call of the field of a `number`, of a `name`, of the descriptor of a `field`'s number or
+/// of an `extension`'s; else of the whole message. What it answers is written.
+pub fn answer_message(
+    alloc: Global,
+    out: &mut String,
+    message: &mut DynamicMessage<'_>,
+    call: &Json,
+) -> Result<(), AllocError> {
+    if let Some(number) = u32_of(call, "number") {
+        return answer_by_number(alloc, out, message, number, call);
+    }
+    if let Some(name) = text_of(call, "name") {
+        return answer_by_name(alloc, out, message, name, call);
+    }
+    if let Some(number) = u32_of(call, "field") {
+        return answer_by_field(alloc, out, message, number, call);
+    }
+    if let Some(number) = u32_of(call, "extension") {
+        return answer_by_extension(alloc, out, message, number, call);
+    }
+    match text(call, "call") {
+        "clear" => {
+            message.clear();
+            Ok(())
         }
-        if let Some(name) = text_of(call, "name") {
-            return answer_by_name(alloc, out, self, name, call);
-        }
-        if let Some(number) = u32_of(call, "field") {
-            return answer_by_field(alloc, out, self, number, call);
-        }
-        if let Some(number) = u32_of(call, "extension") {
-            return answer_by_extension(alloc, out, self, number, call);
-        }
-        match text(call, "call") {
-            "clear" => {
-                self.clear();
-                Ok(())
-            }
-            "merge" => merge(alloc, out, self, call),
-            "encode" => encode(alloc, out, self, call),
-            "take_fields" => take_fields(out, self),
-            "take_extensions" => take_extensions(out, self),
-            "take_unknown" => take_unknown(out, self),
-            name => write_answer(out, self, name, call),
-        }
+        "merge" => merge(alloc, out, message, call),
+        "encode" => encode(alloc, out, message, call),
+        "take_fields" => take_fields(out, message),
+        "take_extensions" => take_extensions(out, message),
+        "take_unknown" => take_unknown(out, message),
+        name => write_answer(out, message, name, call),
     }
 }
 

@@ -2,7 +2,6 @@
 #![tactic(auto)]
 
 mod messages;
-mod refusals;
 mod replay;
 mod schemas;
 

@@ -1,14 +1,14 @@
 //! Messages of a schema's types: bytes and text, in and out.
 
-use crate::refusals::{tell_refusal, tell_text_refusal};
-use test_json::Told;
-use test_json::members::{bytes, text, truth};
 use reflect_dynamic::{DecodeMessage, DynamicMessage, EncodeMessage};
 use reflect_link::PoolReaders;
 use reflect_text::{FormatOptions, TextFormat};
 use schema_core::{Schema, SchemaError};
 use serde_json::Value;
 use std::alloc::{AllocError, Global};
+use test_json::Told;
+use test_json::members::{bytes, text, truth};
+use test_refusals::{tell_refusal, tell_text_refusal};
 
 /// Tells bytes, or why there are none.
 fn tell_bytes(

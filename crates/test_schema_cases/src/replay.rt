@@ -5,18 +5,18 @@
 //! `id`; after a refused last step it is the schema of the steps before. Bytes are hex text.
 
 use crate::messages::{tell_asked, tell_merged, tell_printed};
-use crate::refusals::tell_refusal;
 use crate::schemas::{tell_options, tell_steps};
-use test_json::Told;
-use test_json::members::{items, number, text, truth};
-use test_described::described;
 use schema_core::Schema;
 use serde_json::Value;
+use std::alloc::{AllocError, Global};
+use std::collections::BTreeMap;
+use test_described::described;
+use test_json::Told;
+use test_json::members::{items, number, text, truth};
+use test_refusals::tell_refusal;
 use test_sources::{
     tell_int, tell_lines, tell_parsed, tell_records, tell_set, tell_text_tokens, tell_tokens,
 };
-use std::alloc::{AllocError, Global};
-use std::collections::BTreeMap;
 
 /// What cases build for later ones.
 #[derive(Drop)]

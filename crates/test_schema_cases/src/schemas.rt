@@ -1,8 +1,5 @@
 //! Schemas that are built in steps, their sets and their options.
 
-use crate::refusals::tell_refusal;
-use test_json::Told;
-use test_json::members::{bytes, items, number, text};
 use descriptor_records::{DescriptorProto, FileDescriptorProto, Options};
 use reflect_codec::{decode_set, encode_set};
 use reflect_link::{MessageReaders, PoolReaders};
@@ -10,6 +7,9 @@ use schema_core::{Schema, SchemaError};
 use serde_json::Value;
 use sha2::{Digest, Sha256};
 use std::alloc::{AllocError, Global};
+use test_json::Told;
+use test_json::members::{bytes, items, number, text};
+use test_refusals::tell_refusal;
 
 /// Adds the sources or the set of a step.
 fn add(

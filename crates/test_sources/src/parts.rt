@@ -2,11 +2,11 @@
 
 ghost use Rattle.std.specs.Prelude.{◌<◌, ◌^◌};
 
-use test_json::Told;
-use test_json::members::{items, number, text, truth};
 use protox_lex::{Int, LineResolver, Span};
 use serde_json::Value;
 use std::alloc::{AllocError, Global};
+use test_json::Told;
+use test_json::members::{items, number, text, truth};
 
 /// An integer in each type, where it fits, and as text.
 pub fn tell_int(alloc: Global, case: &Value, told: &mut Told<'_>) -> Result<(), AllocError> {

@@ -3,14 +3,14 @@
 use crate::case_name;
 use crate::options::write_file;
 use crate::places::{write_commented, write_places};
-use test_json::Told;
-use test_json::members::text;
 use descriptor_records::FileDescriptorProto;
 use protox_lex::Span;
 use protox_parse::{ParseError, ParseErrorKind, parse};
 use reflect_codec::encode_file;
 use serde_json::Value;
 use std::alloc::{AllocError, Global};
+use test_json::Told;
+use test_json::members::text;
 
 /// Tells the bytes of a record.
 fn tell_record(

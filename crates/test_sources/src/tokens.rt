@@ -1,11 +1,11 @@
 //! The tokens of sources and of texts as they print, each behind its place and kind, and the fault
 //! that ends them.
 
-use test_json::Told;
-use test_json::members::text;
 use protox_lex::{Lexeme, Lexer, Token};
 use serde_json::Value;
 use std::alloc::{AllocError, Global};
+use test_json::Told;
+use test_json::members::text;
 use text_lex::{LexError as TextFault, Lexer as TextLexer, Token as TextToken};
 
 /// What kind of token it is, in a letter.

@@ -1,12 +1,12 @@
 //! Records of no type and descriptor sets, as they are written again.
 
 use crate::tell_case;
-use test_json::Told;
-use test_json::members::bytes;
 use reflect_codec::{decode_set, encode_set};
 use reflect_wire::{UnknownFieldSet, WireError};
 use serde_json::Value;
 use std::alloc::{AllocError, Global};
+use test_json::Told;
+use test_json::members::bytes;
 
 /// Tells what was written, or why the bytes are refused.
 fn tell_written(

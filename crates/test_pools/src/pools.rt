@@ -2,15 +2,15 @@
 
 use crate::options::write_options;
 use crate::starts::file_of;
-use test_json::members::{bytes, items, text, truth};
-use test_described::described;
 use descriptor_records::Options;
-use test_messages::{Answers, i32_of, text_of, write_name, write_truth};
 use reflect_build::{BuildFiles, Edit};
 use reflect_bytes::PoolExt;
 use reflect_link::{DescriptorPool, EnumReaders, PoolReaders};
 use serde_json::Value as Json;
 use std::alloc::{AllocError, Global};
+use test_described::described;
+use test_json::members::{bytes, items, text, truth};
+use test_values::{Answers, i32_of, text_of, write_name, write_truth};
 
 /// A pool whose calls change it too.
 #[derive(Drop)]

@@ -1,12 +1,12 @@
 //! What is told of refusals, layer by layer.
 
-use test_json::Told;
 use reflect_build::DescriptorError;
 use reflect_text::{OptionError, OptionErrorKind, ParseError as TextError};
 use schema_core::SchemaError;
-use test_sources::{case_name, tell_case, tell_source_refusal};
 use std::alloc::{AllocError, Global};
 use std::collections::BTreeSet;
+use test_json::Told;
+use test_sources::{case_name, tell_case, tell_source_refusal};
 
 /// Files do not fit together: the names of the faults, each once and by the alphabet, and what the
 /// faults say.

@@ -1,13 +1,13 @@
 //! Numbers, values, messages and kinds that cases give. What a case lacks is read as empty: then
 //! other answers come than it wants.
 
-use test_json::members::{bytes, items, text};
 use reflect_decode::DecodeMessage;
 use reflect_message::{DynamicMessage, MapKey, Value};
 use reflect_pool::{DescriptorPool, ExtensionDescriptor, FieldDescriptor, Kind, MessageDescriptor};
 use serde_json::Value as Json;
 use std::alloc::{AllocError, Global};
 use std::collections::BTreeMap;
+use test_json::members::{bytes, items, text};
 
 /// The signed number of a member, if it fits in 32 bits.
 pub fn i32_of(given: &Json, name: &'static str) -> Option<i32> {

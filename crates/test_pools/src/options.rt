@@ -1,12 +1,12 @@
 //! Options of declarations, read by the types that a pool has for them.
 
-use test_json::members::text;
-use test_messages::u32_of;
 use reflect_dynamic::{DynamicMessage, ReadOptions};
 use reflect_link::{DescriptorPool, PoolReaders};
 use reflect_wire::WireError;
 use serde_json::Value as Json;
 use std::alloc::{AllocError, Global};
+use test_json::members::text;
+use test_values::u32_of;
 use text_format::TextFormat;
 
 /// What was read: a message, or `None` where the pool has no type of such options.

@@ -2,12 +2,12 @@
 
 use crate::given::{i32_of, put_entry, scalar_of, text_of, u32_of};
 use crate::shown::{write_key, write_value};
-use test_json::members::{bytes, items};
 use reflect_decode::DecodeMessage;
 use reflect_message::{DynamicMessage, MapKey, Value};
 use serde_json::Value as Json;
 use std::alloc::{AllocError, Global};
 use std::collections::BTreeMap;
+use test_json::members::{bytes, items};
 
 /// Puts what is given into the place, if there is both.
 fn put<T: Copy>(place: Option<&mut T>, given: Option<T>) -> bool {

@@ -4,12 +4,12 @@ use crate::answers::{Answers, replay_calls};
 use crate::changes::change;
 use crate::given::{extension_of, field_of, kind_of, value_of};
 use crate::shown::{write_key, write_truth, write_value};
-use test_json::members::text;
 use reflect_access::ValueTests;
 use reflect_message::Value;
 use reflect_pool::MessageDescriptor;
 use serde_json::Value as Json;
 use std::alloc::{AllocError, Global};
+use test_json::members::text;
 
 /// A value beside a type whose fields and extensions are asked of it.
 #[derive(Drop)]

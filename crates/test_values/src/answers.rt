@@ -1,8 +1,8 @@
 //! Calls of a case, and what they answer.
 
-use test_json::members::{items, text};
 use serde_json::Value as Json;
 use std::alloc::{AllocError, Global};
+use test_json::members::{items, text};
 
 /// What calls are made of.
 pub trait Answers {

@@ -5,11 +5,11 @@ use crate::changes::change_key;
 use crate::given::{kind_of, value_of};
 use crate::shown::{write_key, write_truth, write_value};
 use crate::values::write_if_asked;
-use test_json::members::text;
 use reflect_message::{MapKey, Value};
 use reflect_pool::MessageDescriptor;
 use serde_json::Value as Json;
 use std::alloc::{AllocError, Global};
+use test_json::members::text;
 
 /// A key beside a type whose fields have the kinds that are asked of it.
 #[derive(Drop)]

@@ -1,6 +1,5 @@
 //! What cases begin with: pools and records of files.
 
-use test_json::members::{bytes, text};
 use descriptor_records::FileDescriptorProto;
 use protox_parse::parse;
 use reflect_build::BuildFiles;
@@ -9,6 +8,7 @@ use reflect_codec::decode_file;
 use reflect_link::DescriptorPool;
 use serde_json::Value as Json;
 use std::alloc::{AllocError, Global};
+use test_json::members::{bytes, text};
 
 /// The record of a file that the bytes of a member spell.
 pub fn file_of(
