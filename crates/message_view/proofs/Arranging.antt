@@ -14,7 +14,7 @@ use Rattle.reflect_entries.specs.Sets.{up_to, above}
 use Rattle.reflect_scalar.specs.FieldTypes.{extension_type}
 use Rattle.reflect_message.specs.Bytes.{Form, content_bytes, declared_bytes, extension_bytes, others_down, content, form_of, forms, message_bytes}
 use Rattle.reflect_message.specs.Contents.{Content, content_of}
-use Rattle.reflect_message.specs.Declares.{Owns, OwnsExtension, IsDeclared}
+use Rattle.reflect_message.specs.Declares.{Owns, OwnsExtension, IsDeclared, NoField}
 use Rattle.reflect_message.specs.Known.{known_field, known_extension}
 use Rattle.reflect_message.specs.declared.message.DynamicMessage.{DynamicMessage}
 use Rattle.reflect_message.specs.declared.value.Value.{Value}
@@ -97,6 +97,7 @@ pub record IsShaped (inner : DynamicMessage → Type 0) (d : MessageDescriptor) 
   pub extensions : (x : ExtensionDescriptor) → OwnsExtension d x → known_field d.pool.now d.index (extension_type x).number ≡ None → (v : Value) → value_at c.extensions (extension_type x).number ≡ Some v
       → FitsAs inner d.pool.now (extension_type x) (holds_map d.pool.now (extension_type x)) (holds_list d.pool.now (extension_type x)) v
   pub apart : (f : FieldDescriptor) → Owns d f → value_at c.extensions (field_type f).number ≡ None
+  pub unowned : (n : ℕ) → NoField d n → value_at c.fields n ≡ None
   pub declared : (n : ℕ) → IsDeclared d n → payloads n c.unknown ≡ []
 
 rise_forms : (low high : ℕ) (es : List (ℕ × Value)) → Rise low high es → Rise low high (forms es)

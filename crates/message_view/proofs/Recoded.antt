@@ -14,11 +14,11 @@ use Rattle.reflect_entries.specs.Entries.{value_at}
 use Rattle.reflect_scalar.specs.FieldTypes.{extension_type}
 use Rattle.reflect_message.specs.Bytes.{content, forms, message_bytes}
 use Rattle.reflect_message.specs.Contents as contents
-use Rattle.reflect_message.specs.Declares.{OwnsExtension}
+use Rattle.reflect_message.specs.Declares.{NoField, OwnsExtension}
 use Rattle.reflect_message.specs.declared.value.Value.{Value}
 use Rattle.reflect_decode.specs.Fields.{HoldFields, LeavesExtension}
 use Rattle.reflect_decode.specs.Keeps.{Keeps}
-use Rattle.reflect_decode.specs.Spares.{HoldsRead}
+use Rattle.reflect_decode.specs.Spares.{HoldsRead, NoExtension}
 use Rattle.reflect_message.specs.Contents.{content_of}
 use Rattle.reflect_message.specs.declared.message.DynamicMessage.{DynamicMessage}
 use Rattle.reflect_decode.specs.Levels.{TakesAt}
@@ -45,7 +45,7 @@ use Rattle.message_view.proofs.Sound.{named}
 -- what is decoded is written in the one form of what it means
 pub decoded_written : (d : MessageDescriptor) → IsSound d.pool.now → (bytes : List ℕ) (m : DynamicMessage) → m.descriptor ≡ d → IsSpelled d bytes m → message_bytes m ≡ bytes_of (types_of d.pool.now) (name_at d.pool.now d.index) (view m)
 decoded_written d sound bytes m type (rs, spelled, keeps, some, also, fields, (extensions, apart), accepts, ordered) =
-    let left : AreKept (TakesAt 100) d (content_of m) rs = record { left = record { unknown = keeps; fields = fields; extensions = extensions }; apart = apart; ordered = ordered } in
+    let left : AreKept (TakesAt 100) d (content_of m) rs = record { left = record { unknown = keeps; fields = fields; extensions = extensions }; apart = apart; unowned = λ n none. some n (inr none); ordered = ordered } in
     let shaped = kept_shaped 100 m rs (subst (λ d. AreKept (TakesAt 100) d (content_of m) rs) (sym type) left) in
     let pool = d.pool.now in
     shaped_bytes pool sound.keys sound.entries sound.lists (types_of pool) (named pool sound.names) 101 m (ap (λ (d : MessageDescriptor). d.pool.now) type) shaped
@@ -133,14 +133,14 @@ pub nothing_recoded : (d : MessageDescriptor) (m : DynamicMessage) → m.descrip
 nothing_recoded d m type empty = record {
   message = m;
   type = type;
-  decoded = ([], refl, keeps_nothing, none_read (content_of m).fields (ap (λ (c : contents.Content). c.fields) empty), none_read (content_of m).extensions (ap (λ (c : contents.Content). c.extensions) empty), fields_left, (extensions_left, λ f owns. none_at (content_of m).extensions (ap (λ (c : contents.Content). c.extensions) empty) (field_type f).number), tt, subst IsOrdered (sym empty) nothing_ordered);
+  decoded = ([], refl, keeps_nothing, none_read (NoField d) (content_of m).fields (ap (λ (c : contents.Content). c.fields) empty), none_read (NoExtension d) (content_of m).extensions (ap (λ (c : contents.Content). c.extensions) empty), fields_left, (extensions_left, λ f owns. none_at (content_of m).extensions (ap (λ (c : contents.Content). c.extensions) empty) (field_type f).number), tt, subst IsOrdered (sym empty) nothing_ordered);
   encoded = bytes_opened m ∙ ap (λ (c : contents.Content). content m.descriptor.pool.now m.descriptor.index (forms c.fields) (forms c.extensions) c.unknown) empty;
 } where
   none_at : (es : List (ℕ × Value)) → es ≡ [] → (n : ℕ) → value_at es n ≡ None
   none_at es e n = ap (λ es. value_at es n) e
 
-  none_read : (es : List (ℕ × Value)) → es ≡ [] → HoldsRead es []
-  none_read es e n unread = none_at es e n
+  none_read : (nowhere : ℕ → Type 0) (es : List (ℕ × Value)) → es ≡ [] → HoldsRead nowhere es []
+  none_read nowhere es e n spared = none_at es e n
 
   keeps_nothing : Keeps d [] (content_of m).unknown []
   keeps_nothing = subst (λ rs. Keeps d [] rs []) (sym (ap (λ (c : contents.Content). c.unknown) empty)) (record { behind = λ n u. refl; declared = λ n u. refl; others = λ n u. refl })

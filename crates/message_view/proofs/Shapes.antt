@@ -1,5 +1,5 @@
 -- What records leave suits its fields, at each depth.
-use Rattle.std.proofs.Common.{◌≡◌, inl, inr, ℕ, zero, suc, Bool, true, false, true≢false, List, [], ◌∷◌, ◌++◌, map, Option, Some, None, Ordering, Less, Equal, Greater, refl, sym, ap, ◌∙◌, subst}
+use Rattle.std.proofs.Common.{◌≡◌, ◌⊎◌, inl, inr, ℕ, zero, suc, Bool, true, false, true≢false, List, [], ◌∷◌, ◌++◌, map, Option, Some, None, Ordering, Less, Equal, Greater, refl, sym, ap, ◌∙◌, subst}
 use Rattle.std.specs.BTreeMap.{insert_entry}
 use Rattle.std.specs.List.{AllByRecursion}
 use Rattle.std.specs.Ordering.{match_ordering}
@@ -18,7 +18,8 @@ use Rattle.reflect_scalar.specs.FieldTypes.{field_pool, extension_type}
 use Rattle.reflect_scalar.specs.Singles as held
 use Rattle.reflect_scalar.specs.declared.map_key.MapKey.{MapKey}
 use Rattle.reflect_message.specs.Contents.{Content, content_of, nothing}
-use Rattle.reflect_message.specs.Declares.{Owns, OwnsExtension}
+use Rattle.reflect_message.specs.Declares.{NoField, Owns, OwnsExtension}
+use Rattle.reflect_message.specs.Held.{Same}
 use Rattle.reflect_message.specs.KindTypes.{IsScalarType, IsMessageType}
 use Rattle.reflect_message.specs.Known.{entry_field, holds_floats, known_field}
 use Rattle.reflect_message.specs.Maps.{key_order}
@@ -33,7 +34,7 @@ use Rattle.reflect_decode.specs.Maps.{LeavesSingle, LeavesValue, IsEntry, PutEnt
 use Rattle.reflect_decode.specs.Messages.{Takes, IsMade, MergesMessage}
 use Rattle.reflect_decode.specs.Ordered.{IsOrdered}
 use Rattle.reflect_decode.specs.Scalars.{LeavesAs, HoldsLast, ContinuesWith}
-use Rattle.reflect_decode.specs.Spares.{Merges}
+use Rattle.reflect_decode.specs.Spares.{Merges, ReadsMember}
 use Rattle.reflect_decode.specs.Taking.{AreMade, AddsMessages, TakesAs, Leaves}
 use Rattle.reflect_decode.proofs.Ordering.{nothing_ordered}
 use Rattle.reflect_decode.proofs.Telling.{both_kinds}
@@ -147,10 +148,14 @@ module _ (takes : Takes) (inner : DynamicMessage → Type 0) (makes : Makes take
 pub record AreKept (takes : Takes) (d : MessageDescriptor) (c : Content) (rs : List (ℕ × Payload)) : Type 0 where
   pub left : AreLeft takes d c rs
   pub apart : (f : FieldDescriptor) → Owns d f → value_at c.extensions (field_type f).number ≡ None
+  pub unowned : (n : ℕ) → NoField d n → value_at c.fields n ≡ None
   pub ordered : IsOrdered c
 
 pub merged_kept : (takes : Takes) (d : MessageDescriptor) (c : Content) (rs : List (ℕ × Payload)) → Merges takes d nothing c rs → AreKept takes d c rs
-merged_kept takes d c rs h = record { left = merged_left takes d c rs h; apart = h.extended.behind; ordered = h.ordered nothing_ordered }
+merged_kept takes d c rs h = record { left = merged_left takes d c rs h; apart = h.extended.behind; unowned = λ n none. by n (h.fields.spared n (inr none)); ordered = h.ordered nothing_ordered } where
+  by : (n : ℕ) → Same nothing.fields c.fields n ⊎ ((value_at c.fields n ≡ None) × ReadsMember d rs) → value_at c.fields n ≡ None
+  by n (inl same) = same
+  by n (inr unset) = unset.0
 
 module _ (takes : Takes) (shape : DynamicMessage → Type 0) (makes : Makes takes shape) (d : MessageDescriptor) (c : Content) (rs : List (ℕ × Payload)) (kept : AreKept takes d c rs) where
   leaves_of : (f : FieldDescriptor) (new : Option Value) → LeavesField takes d f None new rs → (ps : List Payload) × Leaves takes (field_pool f) (field_type f) None new ps
@@ -180,6 +185,7 @@ module _ (takes : Takes) (shape : DynamicMessage → Type 0) (makes : Makes take
     fields = fits_field;
     extensions = fits_extension;
     apart = kept.apart;
+    unowned = kept.unowned;
     declared = λ n is. sym (payloads_same n c.unknown) ∙ ap (map (λ (r : ℕ × Payload). r.1)) (kept.left.unknown.declared n is);
   }
 

@@ -25,7 +25,7 @@ use Rattle.reflect_decode.specs.Ordered.{AreNumbered, Ascend, IsOrdered, last}
 use Rattle.reflect_message.specs.Declares.{Owns, OwnsExtension, NoField}
 use Rattle.reflect_message.specs.Oneofs.{AreChosen, MakesRoom, Chooses, Unsets, sibling}
 use Rattle.reflect_message.specs.Held.{Same}
-use Rattle.reflect_decode.specs.Spares.{ReadsMember, SparesFields, SparesExtensions, HoldsRead, Merges}
+use Rattle.reflect_decode.specs.Spares.{NoExtension, IsSpared, ReadsMember, SparesFields, SparesExtensions, HoldsRead, Merges}
 use Rattle.reflect_decode.specs.Suits.{Suits, HeldSuits, SuitsBelow}
 use Rattle.reflect_decode.specs.Taking.{Leaves}
 use Rattle.reflect_message.specs.declared.value.Value.{Value}
@@ -54,22 +54,29 @@ module _ (k : ℕ) (rs ts : List (ℕ × Payload)) where
   both_unread : numbered k (rs ++ ts) ≡ [] → (numbered k rs ≡ []) × (numbered k ts ≡ [])
   both_unread e = two_empty (numbered k rs) (numbered k ts) (sym (filter-append (λ r. r.0 == k) rs ts) ∙ e)
 
-pub extensions_more : (a b c : List (ℕ × Value)) (rs ts : List (ℕ × Payload)) → SparesExtensions a b rs → SparesExtensions b c ts → SparesExtensions a c (rs ++ ts)
-extensions_more a b c rs ts h k = record { unread = λ n e. let both = both_unread n rs ts e in k.unread n both.1 ∙ h.unread n both.0 }
-
-pub extensions_run : (old new : List (ℕ × Value)) (n : ℕ) (run : List Payload × Payload) → ((k : ℕ) → k ≢ n → Same old new k) → SparesExtensions old new (run_records n run)
-extensions_run old new n run h = record { unread = λ k e. h k (other_run k n run e) }
-
-pub extensions_same : (old new : List (ℕ × Value)) (rs : List (ℕ × Payload)) → new ≡ old → SparesExtensions old new rs
-extensions_same old new rs is = record { unread = λ n e. ap (λ l. value_at l n) is }
+  both_spared : (P : Type 0) → IsSpared (rs ++ ts) k P → IsSpared rs k P × IsSpared ts k P
+  both_spared P (inl e) = let both = both_unread e in (inl both.0, inl both.1)
+  both_spared P (inr nowhere) = (inr nowhere, inr nowhere)
 
 module _ (m : MessageDescriptor) where
+  pub extensions_more : (a b c : List (ℕ × Value)) (rs ts : List (ℕ × Payload)) → SparesExtensions m a b rs → SparesExtensions m b c ts → SparesExtensions m a c (rs ++ ts)
+  extensions_more a b c rs ts h k = record { spared = λ n e. let both = both_spared n rs ts (NoExtension m n) e in k.spared n both.1 ∙ h.spared n both.0 }
+
+  pub extensions_run : (x : ExtensionDescriptor) → OwnsExtension m x → (old new : List (ℕ × Value)) (n : ℕ) → (extension_type x).number ≡ n → (run : List Payload × Payload) → ((k : ℕ) → k ≢ n → Same old new k) → SparesExtensions m old new (run_records n run)
+  extensions_run x owns old new n is run h = record { spared = λ k e. h k (other k e) } where
+    other : (k : ℕ) → IsSpared (run_records n run) k (NoExtension m k) → k ≢ n
+    other k (inl e) = other_run k n run e
+    other k (inr none) = λ same. none x owns (is ∙ sym same)
+
+  pub extensions_same : (old new : List (ℕ × Value)) (rs : List (ℕ × Payload)) → new ≡ old → SparesExtensions m old new rs
+  extensions_same old new rs is = record { spared = λ n e. ap (λ l. value_at l n) is }
+
   read_more : (rs ts : List (ℕ × Payload)) → ReadsMember m rs ⊎ ReadsMember m ts → ReadsMember m (rs ++ ts)
   read_more rs ts (inl (f, is, some, read)) = (f, is, some, λ e. read (both_unread (field_type f).number rs ts e).0)
   read_more rs ts (inr (f, is, some, read)) = (f, is, some, λ e. read (both_unread (field_type f).number rs ts e).1)
 
   pub fields_same : (old new : List (ℕ × Value)) (rs : List (ℕ × Payload)) → new ≡ old → SparesFields m old new rs
-  fields_same old new rs is = record { unread = λ n e. inl (ap (λ l. value_at l n) is) }
+  fields_same old new rs is = record { spared = λ n e. inl (ap (λ l. value_at l n) is) }
 
   module _ (a b c : List (ℕ × Value)) (rs ts : List (ℕ × Payload)) (h : SparesFields m a b rs) (k : SparesFields m b c ts) where
     one_more : (n : ℕ) → Same a b n ⊎ ((value_at b n ≡ None) × ReadsMember m rs) → Same b c n ⊎ ((value_at c n ≡ None) × ReadsMember m ts) → Same a c n ⊎ ((value_at c n ≡ None) × ReadsMember m (rs ++ ts))
@@ -78,12 +85,16 @@ module _ (m : MessageDescriptor) where
     one_more n x (inr y) = inr (y.0, read_more rs ts (inr y.1))
 
     pub fields_more : SparesFields m a c (rs ++ ts)
-    fields_more = record { unread = λ n e. let both = both_unread n rs ts e in one_more n (h.unread n both.0) (k.unread n both.1) }
+    fields_more = record { spared = λ n e. let both = both_spared n rs ts (NoField m n) e in one_more n (h.spared n both.0) (k.spared n both.1) }
 
   -- a record of a field that unsets at most one sibling
   pub fields_run : (f : FieldDescriptor) (choices : List (ℕ × ℕ)) (a b c : List (ℕ × Value)) (run : List Payload × Payload) → Owns m f
       → ((k : ℕ) → k ≢ (field_type f).number → Same a b k) → Unsets f choices b c → SparesFields m a c (run_records (field_type f).number run)
-  fields_run f choices a b c run owns h unsets = record { unread = λ k e. by k (h k (other_run k (field_type f).number run e)) (is_or_not (sibling f choices) k) } where
+  fields_run f choices a b c run owns h unsets = record { spared = λ k e. by k (h k (other k e)) (is_or_not (sibling f choices) k) } where
+    other : (k : ℕ) → IsSpared (run_records (field_type f).number run) k (NoField m k) → k ≢ (field_type f).number
+    other k (inl e) = other_run k (field_type f).number run e
+    other k (inr none) = λ same. none f owns (sym same)
+
     by : (k : ℕ) → Same a b k → (sibling f choices ≡ Some k) ⊎ (sibling f choices ≢ Some k) → Same a c k ⊎ ((value_at c k ≡ None) × ReadsMember m (run_records (field_type f).number run))
     by k x (inl is) = inr (unsets.unset k is, (f, owns.0, in_oneof f choices k is, run_read (field_type f).number run))
     by k x (inr not) = inl (unsets.others k not ∙ x)
@@ -93,7 +104,7 @@ module _ (inner : Takes) (m : MessageDescriptor) where
   merges_none a = record {
     fields = fields_same m a.fields a.fields [] refl;
     filled = filled_none inner m a;
-    extensions = extensions_same a.extensions a.extensions [] refl;
+    extensions = extensions_same m a.extensions a.extensions [] refl;
     extended = extended_none inner m a.extensions;
     unknown = keeps_none m a.unknown;
     ordered = λ before. before;
@@ -103,7 +114,7 @@ module _ (inner : Takes) (m : MessageDescriptor) where
   merges_more joins a b c rs ts h k = record {
     fields = fields_more m a.fields b.fields c.fields rs ts h.fields k.fields;
     filled = λ chosen. let first = h.filled chosen in filled_both inner m joins a b c rs ts first (k.filled first.chosen);
-    extensions = extensions_more a.extensions b.extensions c.extensions rs ts h.extensions k.extensions;
+    extensions = extensions_more m a.extensions b.extensions c.extensions rs ts h.extensions k.extensions;
     extended = extended_both inner m joins a.extensions b.extensions c.extensions rs ts h.extended k.extended;
     unknown = keeps_more m a.unknown b.unknown c.unknown rs ts h.unknown k.unknown;
     ordered = λ before. k.ordered (h.ordered before);
@@ -124,7 +135,7 @@ module _ (inner : Takes) (m : MessageDescriptor) where
       let merged : Merges inner m old new (run_records number run) = record {
         fields = fields_run m g old.choices old.fields between new.fields run owns there clears;
         filled = λ chosen. filled_run inner m g owns old new between chosen notes there clears run left;
-        extensions = extensions_same old.extensions new.extensions (run_records number run) extensions;
+        extensions = extensions_same m old.extensions new.extensions (run_records number run) extensions;
         extended = extended_apart inner m old.extensions new.extensions number run (λ x owned free e. free g owns (sym e)) extensions;
         unknown = keeps_declared m old.unknown new.unknown number run unknown (field_declared m g number owns refl);
         ordered = λ before. record {
@@ -155,7 +166,7 @@ module _ (inner : Takes) (m : MessageDescriptor) where
       record {
         fields = fields_same m old.fields new.fields (run_records key.number h.0) fields;
         filled = filled_apart inner m old new key.number h.0 none fields choices;
-        extensions = extensions_same old.extensions new.extensions (run_records key.number h.0) extensions;
+        extensions = extensions_same m old.extensions new.extensions (run_records key.number h.0) extensions;
         extended = extended_apart inner m old.extensions new.extensions key.number h.0 (λ x owns free. apart x owns) extensions;
         unknown = h.2;
         ordered = λ before. record {
@@ -181,7 +192,7 @@ module _ (inner : Takes) (m : MessageDescriptor) where
       record {
         fields = fields_same m old.fields new.fields (run_records key.number h.0) fields;
         filled = filled_apart inner m old new key.number h.0 none fields choices;
-        extensions = extensions_run old.extensions new.extensions key.number h.0 others;
+        extensions = extensions_run m x owns old.extensions new.extensions key.number is h.0 others;
         extended = extended_run inner m x owns key.number is none old.extensions new.extensions h.0 others h.2;
         unknown = keeps_declared m old.unknown new.unknown key.number h.0 unknown (inr (x, owns, is));
         ordered = λ before. record {
@@ -201,14 +212,14 @@ module _ (inner : Takes) (m : MessageDescriptor) where
 -- what a message that held nothing holds of the records
 pub decoded : (inner : Takes) (m type : MessageDescriptor) (levels : ℕ) (bytes rest : List ℕ) (a b : Content) (rs : List (ℕ × Payload)) → type ≡ m → Fronts (IsBody None levels) bytes rs rest → rest ≡ [] → Merges inner type a b rs
     → a.fields ≡ [] → a.extensions ≡ [] → a.unknown ≡ [] → AreChosen type a.choices a.fields → a ≡ nothing → (Suits levels type a → Accepts levels type rs)
-    → (rs : List (ℕ × Payload)) × SpellsRecords levels bytes (records_of rs) × Keeps m [] b.unknown rs × HoldsRead b.fields rs × HoldsRead b.extensions rs × HoldFields inner m b.fields rs × HoldExtensions inner m b.extensions rs × Accepts levels m rs × IsOrdered b
+    → (rs : List (ℕ × Payload)) × SpellsRecords levels bytes (records_of rs) × Keeps m [] b.unknown rs × HoldsRead (NoField m) b.fields rs × HoldsRead (NoExtension m) b.extensions rs × HoldFields inner m b.fields rs × HoldExtensions inner m b.extensions rs × Accepts levels m rs × IsOrdered b
 decoded inner m type levels bytes rest a b rs same read whole h fields extensions unknown chosen empty accepted =
     let merged = subst (λ m. Merges inner m a b rs) same h in (
       rs,
       whole_body levels bytes rest rs read whole,
       subst (λ l. Keeps m l b.unknown rs) unknown merged.unknown,
-      λ n e. by n (merged.fields.unread n e),
-      λ n e. merged.extensions.unread n e ∙ ap (λ l. value_at l n) extensions,
+      λ n e. by n (merged.fields.spared n e),
+      λ n e. merged.extensions.spared n e ∙ ap (λ l. value_at l n) extensions,
       filled_empty inner m a b rs fields (merged.filled (subst (λ m. AreChosen m a.choices a.fields) same chosen)),
       extended_empty inner m a.extensions b.extensions rs extensions merged.extended,
       subst (λ t. Accepts levels t rs) same (accepted (subst (Suits levels type) (sym empty) (nothing_suits (SuitsBelow levels) type))),

@@ -9,12 +9,13 @@ use Rattle.reflect_decode.specs.Accepts.{Accepts}
 use Rattle.reflect_decode.specs.Fields.{HoldFields, HoldExtensions}
 use Rattle.reflect_message.specs.Contents.{Content, content_of}
 use Rattle.reflect_message.specs.Copies.{IsCopy}
+use Rattle.reflect_message.specs.Declares.{NoField}
 use Rattle.reflect_message.specs.Held.{fields_of, extensions_of, unknown_of}
 use Rattle.reflect_decode.specs.Keeps.{Keeps}
 use Rattle.reflect_decode.specs.Levels.{MergesAt, TakesAt}
 use Rattle.reflect_decode.specs.Ordered.{IsOrdered}
 use Rattle.reflect_decode.specs.Refused.{BodyFault}
-use Rattle.reflect_decode.specs.Spares.{HoldsRead}
+use Rattle.reflect_decode.specs.Spares.{HoldsRead, NoExtension}
 use Rattle.reflect_decode.specs.Suits.{Suits}
 use Rattle.reflect_message.specs.declared.message.DynamicMessage.{DynamicMessage}
 
@@ -24,7 +25,7 @@ abbrev pub IsSpelled : MessageDescriptor → List ℕ → DynamicMessage → Typ
 IsSpelled d bytes m =
     (rs : List (ℕ × Payload)) × SpellsRecords 100 bytes (records_of rs)
     × Keeps d [] (unknown_of m) rs
-    × HoldsRead (fields_of m) rs × HoldsRead (extensions_of m) rs
+    × HoldsRead (NoField d) (fields_of m) rs × HoldsRead (NoExtension d) (extensions_of m) rs
     × HoldFields (TakesAt 100) d (fields_of m) rs
     × HoldExtensions (TakesAt 100) d (extensions_of m) rs
     × Accepts 100 d rs × IsOrdered (content_of m)
