@@ -1,5 +1,5 @@
 -- What is recoded, in the words of the model.
-use Rattle.std.proofs.Common.{◌≡◌, inl, None, refl, ◌↔◌, ◌<◌, ◌^◌, ℕ, List, [], ◌∷◌, map, length, sym, ap, ◌∙◌, subst, Some}
+use Rattle.std.proofs.Common.{◌≡◌, inl, inr, None, refl, ◌↔◌, ◌<◌, ◌^◌, ℕ, List, [], ◌∷◌, map, length, sym, ap, ◌∙◌, subst, Some}
 use Rattle.std.specs.List.{AllByRecursion}
 use Rattle.reflect_tables.specs.Types.{PoolType, no_type}
 use Rattle.reflect_pool.specs.Dots.{without_dot}

@@ -1,3 +1,1 @@
 pub mod Calling
-pub mod Unsetting
-pub mod Walking

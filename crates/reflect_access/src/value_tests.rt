@@ -1,7 +1,7 @@
 //! Values that are asked whether they suit fields, and whether they are their defaults.
 
 use crate::validity::{Strictness, is_valid_for, value_suits};
-use crate::walks::MessageWalks;
+use reflect_contents::MessageWalks;
 use reflect_message::{ScalarValue, Value, is_default_scalar};
 use reflect_pool::{ExtensionDescriptor, FieldDescriptor, Kind};
 use reflect_scalar::{AnyField, FieldDescriptorLike, Scalar};

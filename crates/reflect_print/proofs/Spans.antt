@@ -3,7 +3,7 @@ use Rattle.std.proofs.Common.{◌≡◌, ℕ, Bool, true, false, List, [], ◌�
 use Rattle.std.proofs.Output.{writes_in_calls_append, writes_in_calls_nil}
 use Rattle.std.specs.Fmt.{WritesInCalls}
 use Rattle.reflect_message.specs.declared.message.DynamicMessage.{DynamicMessage}
-use Rattle.reflect_access.specs.Walked.{FieldGiven, Holding, of_message}
+use Rattle.reflect_contents.specs.Walked.{FieldGiven, Holding, of_message}
 use Rattle.text_lines.specs.Pieces.{before_item}
 use Rattle.text_lines.specs.declared.lines.Items.{Items}
 use Rattle.text_lines.specs.declared.options.FormatOptions.{FormatOptions}

@@ -12,7 +12,7 @@ use Rattle.reflect_message.specs.Present.{is_held}
 use Rattle.reflect_message.specs.Shown.{IsHeldOrDefault}
 use Rattle.reflect_message.specs.declared.message.DynamicMessage.{DynamicMessage}
 use Rattle.reflect_message.specs.declared.value.Value.{Value}
-use Rattle.reflect_access.specs.Walked.{Holding, set_fields_of, set_extensions_of}
+use Rattle.reflect_contents.specs.Walked.{Holding, set_fields_of, set_extensions_of}
 use Rattle.text_lines.specs.declared.options.FormatOptions.{FormatOptions}
 use Rattle.reflect_print.specs.Pairwise.{Pairwise}
 

@@ -1,6 +1,6 @@
 use Rattle.std.proofs.Common.{◌≡◌, ◌++◌, map}
 use Rattle.std.specs.List.{filter_map}
-use Rattle.reflect_access.specs.Walked.{extensions_left}
+use Rattle.reflect_contents.specs.Walked.{extensions_left}
 use Rattle.reflect_print.specs.Entries.{extension_entries, known_entry}
 use Rattle.reflect_print.specs.Written.{other_entry}
 use Rattle.reflect_print.proofs.entries.push_extensions.Given as goal

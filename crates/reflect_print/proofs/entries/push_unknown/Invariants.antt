@@ -1,6 +1,6 @@
 use Rattle.std.proofs.Common.{◌≡◌, ◌++◌, map}
 use Rattle.reflect_message.specs.Held.{unknown_of}
-use Rattle.reflect_access.specs.Left.{records_left}
+use Rattle.reflect_contents.specs.Left.{records_left}
 use Rattle.reflect_print.specs.Entries.{undeclared}
 use Rattle.reflect_print.specs.Written.{other_entry}
 use Rattle.reflect_print.proofs.entries.push_unknown.Given as goal

@@ -1,6 +1,6 @@
 use Rattle.std.proofs.Common.{rules, arith, ◌≡◌, ◌-◌, ◌∷◌, [], List, ℕ, drop, Some, true, false, map, ap, ◌∙◌, refl, subst, string_bytes}
 use Rattle.std.proofs.Output.{writes_in_calls_append}
-use Rattle.reflect_access.specs.Walked.{field_lent, fields_left, of_message, set_fields_of}
+use Rattle.reflect_contents.specs.Walked.{field_lent, fields_left, of_message, set_fields_of}
 use Rattle.text_lines.specs.declared.place.Place.{Place}
 use Rattle.text_lines.specs.declared.options.FormatOptions.{FormatOptions}
 use Rattle.text_lines.specs.Pieces.{before_element, quoted}

@@ -1,5 +1,5 @@
 use Rattle.std.proofs.Common.{◌≡◌, ◌+◌, ◌*◌, ◌∷◌, [], drop, true, map}
-use Rattle.reflect_access.specs.Walked.{fields_left}
+use Rattle.reflect_contents.specs.Walked.{fields_left}
 use Rattle.text_lines.proofs.Fronts.{IsFront}
 use Rattle.reflect_print.specs.Entries.{set_entries}
 use Rattle.reflect_print.specs.MessageTexts.{IsListText, IsMapText}

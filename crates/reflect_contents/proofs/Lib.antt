@@ -1,0 +1,2 @@
+pub mod Unsetting
+pub mod Walking

@@ -1,0 +1,16 @@
+use Rattle.std.proofs.Common.{length, ◌≡◌}
+use Rattle.reflect_entries.specs.Ahead.{taken}
+use Rattle.reflect_contents.specs.Walked.{set_fields}
+use Rattle.reflect_contents.proofs.taken.TakenFieldsIterator.next.Given as goal
+
+-- what is set of what is left is what was
+abbrev pub invariant-entries : goal.invariant-entries
+invariant-entries l = record {
+  same_type : l.self.descriptor ≡ l.initial.self.descriptor;
+  same_type_then : l.descriptor ≡ l.initial.self.descriptor;
+  ahead : set_fields l.descriptor.pool.now l.descriptor.index (taken l.self.entries)
+      ≡ set_fields l.descriptor.pool.now l.descriptor.index (taken l.initial.self.entries);
+}
+
+abbrev pub decreases-entries : goal.decreases-entries
+decreases-entries l = length (taken l.self.entries)

@@ -1,0 +1,3 @@
+pub mod EntriesLeft
+pub mod Left
+pub mod Walked
