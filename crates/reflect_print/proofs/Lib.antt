@@ -1,11 +1,6 @@
 pub mod Answering
-pub mod AnyParts
-pub mod Choosing
 pub mod EnumNames
-pub mod Listing
 pub mod Loops
 pub mod NamedKinds
 pub mod Parts
 pub mod Spans
-pub mod Urls
-pub mod Viewed

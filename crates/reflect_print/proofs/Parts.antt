@@ -13,8 +13,8 @@ use Rattle.reflect_message.specs.declared.value.Value.{Value}
 use Rattle.text_lines.specs.Pieces.{before_item, bracketed, colon, last_line, padding}
 use Rattle.text_lines.specs.declared.options.FormatOptions.{FormatOptions}
 use Rattle.text_lines.specs.declared.place.Place.{Place}
-use Rattle.reflect_print.specs.Entries.{field, extension}
-use Rattle.reflect_print.specs.Expands.{Expands}
+use Rattle.print_parts.specs.Entries.{field, extension}
+use Rattle.print_parts.specs.Expands.{Expands}
 use Rattle.reflect_print.specs.Named.{Named, named, label_of, value_kind}
 use Rattle.reflect_print.specs.MessageTexts.{AreItems, IsBracedText, IsEntryText, IsInBrackets, IsItemsText, IsKeyText, IsListText, IsMapText, IsNamedText, IsPairText, IsSingleText, IsUrlText, IsValueText, IsValueUnder, MayExpand, any_behind, before_value, braced, expanded, extension_text, field_text, key_text, list_text, listed, map_text, pair_text, value_text}
 

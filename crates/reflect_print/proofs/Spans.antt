@@ -8,7 +8,7 @@ use Rattle.text_lines.specs.Pieces.{before_item}
 use Rattle.text_lines.specs.declared.lines.Items.{Items}
 use Rattle.text_lines.specs.declared.options.FormatOptions.{FormatOptions}
 use Rattle.text_lines.proofs.Fronts.{IsFront}
-use Rattle.reflect_print.specs.Entries.{Entry, field, set_entry, AreDeclared, AreOthers}
+use Rattle.print_parts.specs.Entries.{Entry, field, set_entry, AreDeclared, AreOthers}
 use Rattle.reflect_print.specs.MessageTexts.{IsRowText, no_entries, more_entries, IsEntryText, IsPairText, AreItems, any_behind}
 use Rattle.reflect_print.specs.Named.{Named}
 use Rattle.reflect_print.specs.Written.{IsSpan}

@@ -15,8 +15,8 @@ use Rattle.reflect_message.specs.declared.value.Value.{Value}
 use Rattle.text_lines.specs.Pieces.{quoted, bracketed, padding, colon, before_element, before_item, in_braces}
 use Rattle.text_lines.specs.UnknownTexts.{IsPayloadText, IsRecordText}
 use Rattle.text_lines.specs.declared.options.FormatOptions.{FormatOptions}
-use Rattle.reflect_print.specs.Entries.{Entry, field, extension, undeclared, AreDeclared, AreOthers}
-use Rattle.reflect_print.specs.Expands.{Expands}
+use Rattle.print_parts.specs.Entries.{Entry, field, extension, undeclared, AreDeclared, AreOthers}
+use Rattle.print_parts.specs.Expands.{Expands}
 use Rattle.reflect_print.specs.Named.{Named, named, value_kind, IsEnumText, label_of}
 
 -- a single value

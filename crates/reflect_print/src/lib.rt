@@ -1,8 +1,6 @@
 //! Messages, values and unknown records as text, in any of the forms that the options name.
 #![tactic(auto)]
 
-mod any;
-mod entries;
 mod messages;
 mod writer;
 

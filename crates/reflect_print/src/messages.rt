@@ -6,7 +6,7 @@ ghost use Rattle.reflect_pool.specs.FieldsLeft.{field_type};
 ghost use Rattle.reflect_pool.specs.Kinds.{IsKind};
 ghost use Rattle.reflect_scalar.specs.FieldTypes.{extension_pool, extension_type, field_pool};
 ghost use Rattle.reflect_message.specs.Messages.{message_in};
-ghost use Rattle.reflect_print.specs.Entries.{AreChosen, AreDeclared, AreOthers, extension, field, set_entries};
+ghost use Rattle.print_parts.specs.Entries.{AreChosen, AreDeclared, AreOthers, extension, field, set_entries};
 ghost use Rattle.reflect_print.specs.MessageTexts.{
   AreItems,
   IsBracedText,
@@ -34,18 +34,12 @@ ghost use Rattle.reflect_print.specs.Named.{
   named,
   value_kind,
 };
-ghost use Rattle.reflect_print.specs.Written.{
-  IsExpansion,
-  IsSpan,
-  WritesFor,
-  other_entry,
-  url_of,
-};
+ghost use Rattle.print_parts.specs.Parts.{other_entry, url_of};
+ghost use Rattle.reflect_print.specs.Written.{IsExpansion, IsSpan, WritesFor};
 ghost use Rattle.std.specs.Prelude.{◌≡◌, IfOk, None, OnOk, Some, true, false};
 
-use crate::any::{Held, held_message};
-use crate::entries::{Other, declared_fields, other_entries};
-use reflect_access::MessageWalks;
+use print_parts::{Held, Other, declared_fields, held_message, other_entries};
+use reflect_contents::MessageWalks;
 use reflect_message::{DynamicMessage, MapKey, Value};
 use reflect_pool::{ExtensionDescriptor, FieldDescriptor, Kind};
 use std::collections::BTreeMap;

@@ -12,10 +12,11 @@ use Rattle.reflect_pool.specs.FieldsLeft.{field_type}
 use Rattle.reflect_scalar.specs.Singles.{truth, int32, int64, uint32, uint64, text, blob, enumerated}
 use Rattle.reflect_wire.specs.Views.{field_view}
 use Rattle.reflect_scalar.specs.FieldTypes.{field_pool}
-use Rattle.reflect_print.specs.Entries.{Entry, AreChosen, AreOthers, field, undeclared}
+use Rattle.print_parts.specs.Entries.{Entry, AreChosen, AreOthers, field, undeclared}
 use Rattle.reflect_print.specs.Named.{kind_given, kind_held}
 use Rattle.reflect_print.specs.MessageTexts.{IsEntryText, IsListText, IsMapText, IsPairText, IsValueText, no_values, more_values, no_pairs, more_pairs, single_text, message_text, record_text}
-use Rattle.reflect_print.specs.Written.{IsExpansion, declared_entry, other_entry}
+use Rattle.print_parts.specs.Parts.{declared_entry, other_entry}
+use Rattle.reflect_print.specs.Written.{IsExpansion}
 use Rattle.reflect_print.proofs.Answering.{for_as, for_failed}
 use Rattle.reflect_print.proofs.Loops.{begun, next_one, all_of, drop_end, drop_item}
 use Rattle.reflect_print.proofs.NamedKinds.{given_held, kind_named}

@@ -1,10 +1,10 @@
 use Rattle.std.proofs.Common.{◌≡◌, ◌+◌, ◌*◌, ◌∷◌, [], drop, true, map}
 use Rattle.reflect_contents.specs.Walked.{fields_left}
 use Rattle.text_lines.proofs.Fronts.{IsFront}
-use Rattle.reflect_print.specs.Entries.{set_entries}
+use Rattle.print_parts.specs.Entries.{set_entries}
 use Rattle.reflect_print.specs.MessageTexts.{IsListText, IsMapText}
 use Rattle.reflect_print.specs.Named.{kind_given, kind_held}
-use Rattle.reflect_print.specs.Written.{declared_entry, other_entry}
+use Rattle.print_parts.specs.Parts.{declared_entry, other_entry}
 use Rattle.reflect_print.proofs.Spans.{IsSpanFront, given_entry}
 use Rattle.reflect_print.proofs.messages.+message.Given as goal
 

@@ -1,11 +1,11 @@
 use Rattle.std.proofs.Common.{rules, ◌≡◌, ◌++◌, List, map, cond, ap, ◌∙◌, sym, subst}
 use Rattle.std.proofs.lemmas.List.Sorted.{answers_always}
 use Rattle.reflect_message.specs.Held.{unknown_of}
-use Rattle.reflect_print.specs.Entries.{Entry, IsByNumber, extension_entries, number_of, undeclared}
-use Rattle.reflect_print.specs.Written.{other_entry}
-use Rattle.reflect_print.specs.declared.entries.Other.{Other}
-use Rattle.reflect_print.proofs.Choosing.{by_number}
-use Rattle.reflect_print.proofs.entries.other_entries.Goals as goal
+use Rattle.print_parts.specs.Entries.{Entry, IsByNumber, extension_entries, number_of, undeclared}
+use Rattle.print_parts.specs.Parts.{other_entry}
+use Rattle.print_parts.specs.declared.entries.Other.{Other}
+use Rattle.print_parts.proofs.Choosing.{by_number}
+use Rattle.print_parts.proofs.entries.other_entries.Goals as goal
 
 pub returns : goal.returns
 returns c =

@@ -2,8 +2,8 @@ use Rattle.std.proofs.Common.{rules, ◌≡◌, ◌∷◌, [], Some, ap, ◌∙�
 use Rattle.reflect_pool.specs.FieldsLeft.{field_type, fields_left}
 use Rattle.reflect_pool.specs.declared.message.MessageDescriptor.{MessageDescriptor}
 use Rattle.reflect_message.specs.Known.{known_field}
-use Rattle.reflect_print.proofs.Choosing.{all_chosen, one_put}
-use Rattle.reflect_print.proofs.entries.printed_fields.Goals as goal
+use Rattle.print_parts.proofs.Choosing.{all_chosen, one_put}
+use Rattle.print_parts.proofs.entries.printed_fields.Goals as goal
 
 pub loop-declared-preserved-in-Continue-1 : goal.loop-declared-preserved-in-Continue-1
 loop-declared-preserved-in-Continue-1 c =

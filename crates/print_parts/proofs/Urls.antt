@@ -5,7 +5,7 @@ use Rattle.std.proofs.lemmas.Str.Pattern.{NoCharPasses-char}
 use Rattle.reflect_tables.specs.Types.{PoolType}
 use Rattle.reflect_pool.specs.FindsNames.{FindsMessage}
 use Rattle.reflect_pool.specs.declared.message.MessageDescriptor.{MessageDescriptor}
-use Rattle.reflect_print.specs.Expands.{Lacks, FindsByUrl}
+use Rattle.print_parts.specs.Expands.{Lacks, FindsByUrl}
 
 -- takes what `rsplit_once` says where there is none
 pub no_slash : (pool : PoolType) (url : List ℕ) (found : Option MessageDescriptor) → RFindsChar 47 url None → found ≡ None → FindsByUrl pool url found

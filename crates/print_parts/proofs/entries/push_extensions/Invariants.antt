@@ -1,9 +1,9 @@
 use Rattle.std.proofs.Common.{◌≡◌, ◌++◌, map}
 use Rattle.std.specs.List.{filter_map}
 use Rattle.reflect_contents.specs.Walked.{extensions_left}
-use Rattle.reflect_print.specs.Entries.{extension_entries, known_entry}
-use Rattle.reflect_print.specs.Written.{other_entry}
-use Rattle.reflect_print.proofs.entries.push_extensions.Given as goal
+use Rattle.print_parts.specs.Entries.{extension_entries, known_entry}
+use Rattle.print_parts.specs.Parts.{other_entry}
+use Rattle.print_parts.proofs.entries.push_extensions.Given as goal
 
 -- those that were put and those that are left are all
 abbrev pub invariant-loop-extension : goal.invariant-loop-extension

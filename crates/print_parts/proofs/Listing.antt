@@ -2,7 +2,7 @@
 use Rattle.std.proofs.Common.{◌≡◌, List, [], ◌∷◌, ◌++◌, map, Option, None, Some, sym, ap, ◌∙◌, refl}
 use Rattle.std.specs.List.{cons_option, filter_map}
 use Rattle.std.proofs.lemmas.List.{append_assoc}
-use Rattle.reflect_print.specs.Entries.{option_list}
+use Rattle.print_parts.specs.Entries.{option_list}
 
 module _ {X Y : Type 0} (f : X → Option Y) where
   listed_first : (x : X) (xs : List X) → filter_map f (x ∷ xs) ≡ option_list (f x) ++ filter_map f xs

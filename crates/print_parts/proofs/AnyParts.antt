@@ -11,8 +11,8 @@ use Rattle.reflect_message.specs.Shown.{Shows, shown}
 use Rattle.reflect_message.specs.declared.field_ref.FieldRef.{FieldRef}
 use Rattle.reflect_message.specs.declared.message.DynamicMessage.{DynamicMessage}
 use Rattle.reflect_decode.specs.Spelled.{IsSpelled}
-use Rattle.reflect_print.specs.Expands.{Expands, holds, FindsByUrl, IsUnder, bytes_of, text_of}
-use Rattle.reflect_print.specs.Written.{url_in}
+use Rattle.print_parts.specs.Expands.{Expands, holds, FindsByUrl, IsUnder, bytes_of, text_of}
+use Rattle.print_parts.specs.Parts.{url_in}
 use Rattle.reflect_any.specs.Any.{IsAny}
 
 pub under : (m : DynamicMessage) (d : MessageDescriptor) (f : FieldDescriptor) (n : ℕ) (r : FieldRef) → d ≡ m.descriptor

@@ -2,9 +2,9 @@ use Rattle.std.proofs.Common.{Some, None, sym, ap, ◌∙◌, subst}
 use Rattle.reflect_any.specs.Any.{IsAny}
 use Rattle.reflect_message.specs.Shown.{shown}
 use Rattle.reflect_pool.specs.declared.message.MessageDescriptor.{MessageDescriptor}
-use Rattle.reflect_print.specs.Expands.{FindsByUrl, bytes_of, other, refused, text_of, without_bytes, without_type, without_url}
-use Rattle.reflect_print.proofs.AnyParts.{held_under_url, under}
-use Rattle.reflect_print.proofs.any.held_message.Goals as goal
+use Rattle.print_parts.specs.Expands.{FindsByUrl, bytes_of, other, refused, text_of, without_bytes, without_type, without_url}
+use Rattle.print_parts.proofs.AnyParts.{held_under_url, under}
+use Rattle.print_parts.proofs.any.held_message.Goals as goal
 
 pub returns-in_default : goal.returns-in_default
 returns-in_default c = other (λ any. c.in_default.ensures.other (subst IsAny (sym c.descriptor.ensures) any))

@@ -1,10 +1,10 @@
 use Rattle.std.proofs.Common.{rules, ◌≡◌, map, sym, subst}
 use Rattle.std.proofs.lemmas.List.Sorted.{answers_always}
-use Rattle.reflect_print.specs.Entries.{IsArranged, number_of}
-use Rattle.reflect_print.specs.Written.{declared_entry}
-use Rattle.reflect_print.specs.declared.entries.Declared.{Declared}
-use Rattle.reflect_print.proofs.Choosing.{by_number}
-use Rattle.reflect_print.proofs.entries.declared_fields.Goals as goal
+use Rattle.print_parts.specs.Entries.{IsArranged, number_of}
+use Rattle.print_parts.specs.Parts.{declared_entry}
+use Rattle.print_parts.specs.declared.entries.Declared.{Declared}
+use Rattle.print_parts.proofs.Choosing.{by_number}
+use Rattle.print_parts.proofs.entries.declared_fields.Goals as goal
 
 pub returns : goal.returns
 returns c =

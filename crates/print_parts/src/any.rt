@@ -2,8 +2,8 @@
 
 ghost use Rattle.std.specs.Option.{option_copied};
 ghost use Rattle.std.specs.Prelude.{◌≡◌, IfOk, IfSome, OnOk};
-ghost use Rattle.reflect_print.specs.Expands.{FindsByUrl, IsFault, bytes_of, text_of};
-ghost use Rattle.reflect_print.specs.Written.{HoldsIn, url_of};
+ghost use Rattle.print_parts.specs.Expands.{FindsByUrl, IsFault, bytes_of, text_of};
+ghost use Rattle.print_parts.specs.Parts.{HoldsIn, url_of};
 
 use reflect_any::any_fields;
 use reflect_decode::DecodeMessage;

@@ -1,6 +1,6 @@
 use Rattle.std.proofs.Common.{rules}
-use Rattle.reflect_print.proofs.Urls.{no_slash, at_slash}
-use Rattle.reflect_print.proofs.any.named_type.Goals as goal
+use Rattle.print_parts.proofs.Urls.{no_slash, at_slash}
+use Rattle.print_parts.proofs.any.named_type.Goals as goal
 
 pub returns-in_err-name-clause-finds : goal.returns-in_err-name-clause-finds
 returns-in_err-name-clause-finds c = no_slash c.args.descriptor.pool.now c.args.type_url.now _ c.in_err-name.ensures.cases (search rules)

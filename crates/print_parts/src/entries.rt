@@ -3,7 +3,7 @@
 ghost use Rattle.std.specs.Prelude.{◌≡◌, ◌++◌, IfOk, OnOk, map};
 ghost use Rattle.reflect_message.specs.Held.{unknown_of};
 ghost use Rattle.reflect_pool.specs.FieldsLeft.{field_type};
-ghost use Rattle.reflect_print.specs.Entries.{
+ghost use Rattle.print_parts.specs.Entries.{
   AreChosen,
   AreOthers,
   ArePrinted,
@@ -15,9 +15,9 @@ ghost use Rattle.reflect_print.specs.Entries.{
   option_list,
   undeclared,
 };
-ghost use Rattle.reflect_print.specs.Written.{declared_entry, other_entry};
+ghost use Rattle.print_parts.specs.Parts.{declared_entry, other_entry};
 
-use reflect_access::MessageWalks;
+use reflect_contents::MessageWalks;
 use reflect_message::{DynamicMessage, FieldRef, Value, declared_extension, declared_field};
 use reflect_pool::{ExtensionDescriptor, FieldDescriptor};
 use reflect_wire::UnknownField;

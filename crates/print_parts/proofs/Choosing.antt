@@ -9,9 +9,9 @@ use Rattle.reflect_tables.specs.Types.{FieldType}
 use Rattle.reflect_message.specs.Known.{known_field}
 use Rattle.reflect_message.specs.declared.message.DynamicMessage.{DynamicMessage}
 use Rattle.text_lines.specs.declared.options.FormatOptions.{FormatOptions}
-use Rattle.reflect_print.specs.Pairwise.{Pairwise}
-use Rattle.reflect_print.specs.Entries.{Entry, IsByNumber, IsFieldOf, PutsField, is_printed, number_of, pool_of, printed_fields}
-use Rattle.reflect_print.proofs.Viewed.{ascend_viewed, stable_viewed}
+use Rattle.print_parts.specs.Pairwise.{Pairwise}
+use Rattle.print_parts.specs.Entries.{Entry, IsByNumber, IsFieldOf, PutsField, is_printed, number_of, pool_of, printed_fields}
+use Rattle.print_parts.proofs.Viewed.{ascend_viewed, stable_viewed}
 
 abbrev known_in : DynamicMessage → FieldType → Option FieldType
 known_in m f = known_field (pool_of m) m.descriptor.index f.number

@@ -14,7 +14,7 @@ use Rattle.reflect_message.specs.declared.message.DynamicMessage.{DynamicMessage
 use Rattle.reflect_message.specs.declared.value.Value.{Value}
 use Rattle.reflect_contents.specs.Walked.{Holding, set_fields_of, set_extensions_of}
 use Rattle.text_lines.specs.declared.options.FormatOptions.{FormatOptions}
-use Rattle.reflect_print.specs.Pairwise.{Pairwise}
+use Rattle.print_parts.specs.Pairwise.{Pairwise}
 
 -- a declared field or an extension with its value, and the pool that it stands in; or a record of
 -- an undeclared number

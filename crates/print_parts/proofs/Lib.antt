@@ -1,0 +1,5 @@
+pub mod AnyParts
+pub mod Choosing
+pub mod Listing
+pub mod Urls
+pub mod Viewed

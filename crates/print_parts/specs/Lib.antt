@@ -1,0 +1,4 @@
+pub mod Entries
+pub mod Expands
+pub mod Pairwise
+pub mod Parts
