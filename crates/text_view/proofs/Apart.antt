@@ -22,7 +22,7 @@ use Rattle.message_view.proofs.Fields.{owned, extension_owned}
 use Rattle.text_view.specs.Apart.{AreApart}
 use Rattle.text_view.specs.Targets.{target_field}
 
-any_default : {X : Type 0} (xs : List X) (k : ℕ) (d e : X) → k < length xs → slice_index_or xs k d ≡ slice_index_or xs k e
+pub any_default : {X : Type 0} (xs : List X) (k : ℕ) (d e : X) → k < length xs → slice_index_or xs k d ≡ slice_index_or xs k e
 any_default [] k d e lt = absurd (omega (arith, lt))
 any_default (x ∷ xs) zero d e lt = refl
 any_default (x ∷ xs) (suc k) d e lt = any_default xs k d e (omega (arith, lt))
@@ -42,7 +42,7 @@ group_whole pool f i group kind (inr h) = true≢false (sym h.0 ∙ ap (λ b. is
   never false b = refl
 
 module _ (m : MessageDescriptor) (apart : AreApart m.pool.now) where
-  field_first : (f : FieldDescriptor) → f.message ≡ m → f.index < length (type_at m.pool.now m.index).fields → FindsField (λ g. g.number ≡ (field_type f).number) m (Some f)
+  pub field_first : (f : FieldDescriptor) → f.message ≡ m → f.index < length (type_at m.pool.now m.index).fields → FindsField (λ g. g.number ≡ (field_type f).number) m (Some f)
   field_first f is lt = (lt, ((λ d. ap (λ (t : FieldType). t.number) (any_default fields f.index d no_field lt ∙ here)), before)) where
     fields : List FieldType
     fields = (type_at m.pool.now m.index).fields

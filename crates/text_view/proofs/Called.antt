@@ -28,7 +28,7 @@ use Rattle.reflect_format.specs.declared.target.Target.TheVariants as targets
 use Rattle.text_view.proofs.Floats.{WholeOrFloat, whole_or_float}
 use Rattle.text_view.specs.Names.{first_called, if_plain, is_type_called, if_group_called, held_or, field_called, extension_called}
 
-called : (w : Text) → Tells (λ (f : FieldType). f.name ≡ w) (λ f. bytes_eq f.name w)
+pub called : (w : Text) → Tells (λ (f : FieldType). f.name ≡ w) (λ f. bytes_eq f.name w)
 called w = record {
   says = λ f e. (bytes_eq-Decides f.name w).0 e;
   passes = λ f e. (bytes_eq-Decides f.name w).1 e;

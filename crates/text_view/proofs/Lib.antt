@@ -5,7 +5,24 @@ pub mod Named
 pub mod Any
 pub mod Scalars
 pub mod Puts
+pub mod Owned
 pub mod Wanted
+pub mod Set
+pub mod Rivals
+pub mod Once
+pub mod Kept
 pub mod Adds
 pub mod Shapes
+pub mod Forms
+pub mod Alike
+pub mod Entries
+pub mod Gives
+pub mod Maps
+pub mod Given
+pub mod Steady
+pub mod Expanded
+pub mod Stepping
+pub mod Refusing
+pub mod Filling
+pub mod Told
 mod Example

@@ -62,7 +62,7 @@ seen_at m q =
     ∙ ap (λ o. held_either d.pool.now f x o (value_at (contents_view (extensions_of m)) q) (payloads q (unknown_of m))) (value_at-view (fields_of m) q)
     ∙ ap (λ o. held_either d.pool.now f x (option_map content_view (value_at (fields_of m) q)) o (payloads q (unknown_of m))) (value_at-view (extensions_of m) q)
 
-message_is : (m : DynamicMessage) → message_in (held.Message m) ≡ Some m
+pub message_is : (m : DynamicMessage) → message_in (held.Message m) ≡ Some m
 message_is m = search (rules, the_lemmas)
 
 -- a single value or a message, as a field holds it
@@ -178,7 +178,7 @@ module _ (old new : DynamicMessage) (x : ExtensionDescriptor) (v : Value)
   extension_put = fun_ext extension_at_number
 
 -- a field of one value has the values that it has
-one_part : (pool : PoolType) (f : FieldType) → holds_map pool f ≡ false → part_of pool (values_of pool f) ≡ part_of pool f
+pub one_part : (pool : PoolType) (f : FieldType) → holds_map pool f ≡ false → part_of pool (values_of pool f) ≡ part_of pool f
 one_part pool f e = ap (λ b. part_of pool (cond b (entry_part pool f 2) f)) e
 
 no_map : (a b : Bool) → (a || b) ≡ false → b ≡ false

@@ -31,7 +31,7 @@ use Rattle.message_view.proofs.Seen.{single_seen}
 use Rattle.text_view.specs.Names.{number_in}
 
 -- the single value of a value, by one word and by another
-one_value : (v : Value) → single_of v ≡ option_map single_view (singles.single v)
+pub one_value : (v : Value) → single_of v ≡ option_map single_view (singles.single v)
 one_value (held.Bool b) = search (rules, the_lemmas)
 one_value (held.I32 z) = search (rules, the_lemmas)
 one_value (held.I64 z) = search (rules, the_lemmas)
@@ -60,7 +60,7 @@ module _ (w : Schema) (pool : PoolType) (group : Bool) (s : ScalarValue) where
       ∙ ap (λ k. scalar_content (wanted_in w (number_in pool u) k) s) kind
       ∙ ap (λ (e : Text → Option ℤ). option_map single (scalar_in e k s)) (fun_ext none)
 
-  told : (k : publics.Kind) (t : KindType) → IsKind pool k t → is_float t ≡ false → read_as t ≡ option_map single (scalar_given k s)
+  pub told : (k : publics.Kind) (t : KindType) → IsKind pool k t → is_float t ≡ false → read_as t ≡ option_map single (scalar_given k s)
   told values.Double t is whole = absurd (cc (sym (ap is_float is) ∙ whole))
   told values.Float t is whole = absurd (cc (sym (ap is_float is) ∙ whole))
   told values.Int32 t is whole = of_kind t types.int32 kinds.int32 is refl (λ v. refl)

@@ -35,7 +35,8 @@ use Rattle.text_view.specs.Apart.{AreApart}
 use Rattle.text_view.specs.Names.{kind_at, names_of, number_in, value_kind}
 use Rattle.text_view.specs.Schemas.{type_called}
 use Rattle.text_view.specs.Targets.{target_field}
-use Rattle.text_view.proofs.Apart.{named_owns, named_extension_owns, no_field_there}
+use Rattle.text_view.proofs.Apart.{named_owns, no_field_there}
+use Rattle.text_view.proofs.Owned.{OwnsTarget, named_target, pool_is}
 use Rattle.text_view.proofs.Scalars.{scalar_is_given, none_is_given}
 
 module _ (w : Schema) (pool : PoolType) (i n : ℕ) (f : FieldType) (whole : holds_map pool f ≡ false) (at : kind_at pool i n ≡ Some (values_of pool f).kind) where
@@ -60,26 +61,34 @@ no_float_kind types.double h = absurd (h tt)
 no_float_kind types.float h = absurd (h tt)
 no_float_kind k h = refl
 
+module _ (d : MessageDescriptor) (apart : AreApart d.pool.now) where
+  -- of which kind the values of a target are, by its number
+  kind_under : (t : Target) → OwnsTarget d t → kind_at d.pool.now d.index (target_type t).number ≡ Some (values_of d.pool.now (target_type t)).kind
+  kind_under (targets.Field f) owns = ap (λ o. value_kind d.pool.now o (known_extension d.pool.now d.index (field_type f).number)) (owned d f owns)
+  kind_under (targets.Extension x) owns =
+      ap (λ o. value_kind d.pool.now o (known_extension d.pool.now d.index (extension_type x).number)) (no_field_there d apart x owns)
+      ∙ ap (value_kind d.pool.now None) (extension_owned d x owns)
+
+  pub enum_under : (t : Target) → OwnsTarget d t → (names_of d.pool.now d.index).enum_number (target_type t).number ≡ number_in d.pool.now (values_of d.pool.now (target_type t)).kind
+  enum_under t owns = ap (λ o. λ v. option_and_then (λ k. number_in d.pool.now k v) o) (kind_under t owns)
+
+  -- what a target wants that is no map
+  pub wanted_target : (w : Schema) (t : Target) → OwnsTarget d t → holds_map d.pool.now (target_type t) ≡ false
+      → wanted_of w (names_of d.pool.now d.index) (target_type t).number (target_field d t).part (target_field d t).label
+      ≡ wanted_in w (number_in d.pool.now (target_type t).kind) (kind_in d.pool.now (target_type t).group (target_type t).kind)
+  wanted_target w (targets.Field f) owns whole = plain w d.pool.now d.index (field_type f).number (field_type f) whole (kind_under (targets.Field f) owns)
+  wanted_target w (targets.Extension x) owns whole = plain w d.pool.now d.index (extension_type x).number (extension_type x) whole (kind_under (targets.Extension x) owns)
+
 module _ (m : MessageDescriptor) (apart : AreApart m.pool.now) (w : Schema) (name : Text) where
   -- what it wants of a target
   wanted : (t : Target) → NamesField m name t ⊎ NamesExtension m name t → holds_map (target_pool t) (target_type t) ≡ false
       → wanted_of w (names_of m.pool.now m.index) (target_type t).number (target_field m t).part (target_field m t).label
       ≡ wanted_in w (number_in (target_pool t) (target_type t).kind) (kind_in (target_pool t) (target_type t).group (target_type t).kind)
-  wanted (targets.Field f) (inl h) whole =
-      let owns = named_owns m apart name f h in
-      let g = field_type f in
-      plain w m.pool.now m.index g.number g (subst (λ p. holds_map p g ≡ false) owns.0.1 whole)
-      (ap (λ o. value_kind m.pool.now o (known_extension m.pool.now m.index g.number)) (owned m f owns))
-      ∙ ap (λ p. wanted_in w (number_in p g.kind) (kind_in p g.group g.kind)) (sym owns.0.1)
-  wanted (targets.Field f) (inr h) whole = absurd h
-  wanted (targets.Extension x) (inl h) whole = absurd h
-  wanted (targets.Extension x) (inr h) whole =
-      let owns = named_extension_owns m apart name x h in
-      let g = extension_type x in
-      plain w m.pool.now m.index g.number g (subst (λ p. holds_map p g ≡ false) owns.0.0 whole)
-      (ap (λ o. value_kind m.pool.now o (known_extension m.pool.now m.index g.number)) (no_field_there m apart x owns)
-      ∙ ap (value_kind m.pool.now None) (extension_owned m x owns))
-      ∙ ap (λ p. wanted_in w (number_in p g.kind) (kind_in p g.group g.kind)) (sym owns.0.0)
+  wanted t h whole =
+      let owns = named_target m apart name t h in
+      let pool = pool_is m apart t owns in
+      wanted_target m apart w t owns (subst (λ p. holds_map p (target_type t) ≡ false) pool whole)
+      ∙ ap (λ p. wanted_in w (number_in p (target_type t).kind) (kind_in p (target_type t).group (target_type t).kind)) (sym pool)
 
   target_whole : (t : Target) → NamesField m name t ⊎ NamesExtension m name t → is_float (target_type t).kind ≡ false
   target_whole (targets.Field f) (inl h) = let owns = named_owns m apart name f h in no_float_kind (field_type f).kind (λ e. owns.2 (inl e))

@@ -3,3 +3,6 @@ pub mod Schemas
 pub mod Apart
 pub mod Targets
 pub mod Values
+pub mod Holds
+pub mod Ruled
+pub mod Expansions

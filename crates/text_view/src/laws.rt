@@ -1,38 +1,44 @@
 //! Laws of pools and messages in the words of the model of texts, each the contract of a function
 //! that does nothing.
 ghost use Rattle.std.specs.Prelude.{◌≡◌, ◌⊎◌, ◌↔◌, ◌<◌, ℕ, length, Option, false, true, map, Bool, List, None, Some};
+ghost use Rattle.std.specs.List.{AllByRecursion};
 ghost use Rattle.protox_lex.specs.Class.{Text};
 ghost use Rattle.reflect_pool.specs.declared.message.MessageDescriptor.{MessageDescriptor};
 ghost use Rattle.reflect_any.specs.Any.{IsAny};
 ghost use Rattle.reflect_pool.specs.Kinds.{IsKind};
 ghost use Rattle.reflect_pool.specs.declared.kind.Kind.{Kind};
-ghost use Rattle.reflect_tables.specs.Types.{KindType, PoolType};
-ghost use Rattle.reflect_message.specs.Known.{is_float};
+ghost use Rattle.reflect_tables.specs.Types.{FieldType, KindType, PoolType};
+ghost use Rattle.reflect_tables.specs.Types as types;
+ghost use Rattle.reflect_message.specs.Contents as contents;
+ghost use Rattle.reflect_message.specs.Contents.{content_of};
+ghost use Rattle.reflect_message.specs.Known.{holds_floats, is_float};
 ghost use Rattle.reflect_message.specs.declared.value.Value.{Value};
 ghost use Rattle.reflect_message.specs.Lists.{items_held};
 ghost use Rattle.reflect_message.specs.Oneofs.{IsExclusive};
 ghost use Rattle.reflect_message.specs.declared.message.DynamicMessage.{DynamicMessage};
 ghost use Rattle.reflect_pool.specs.FindsNames.{FindsMessage};
 ghost use Rattle.reflect_pool.specs.Shapes.{holds_list, holds_map};
-ghost use Rattle.reflect_format.specs.Filled.{IsScalar};
+ghost use Rattle.reflect_format.specs.Filled.{HasRival, IsScalar, PutsOne};
 ghost use Rattle.reflect_format.specs.Kinds.{scalar_given};
 ghost use Rattle.reflect_format.specs.Named.{NamesExtension, NamesField, NoExtensionNamed, NoFieldNamed};
-ghost use Rattle.reflect_format.specs.Steps.{held_by, Adds, Puts};
+ghost use Rattle.reflect_format.specs.Steps.{held_by, is_set, Adds, Puts, SetsNumber};
 ghost use Rattle.reflect_format.specs.Takes.{holds_many, target_pool, target_type};
 ghost use Rattle.reflect_format.specs.declared.target.Target.{Target};
 ghost use Rattle.protobuf_model.specs.Types.{Name};
-ghost use Rattle.protobuf_model.specs.Values.{Message};
+ghost use Rattle.protobuf_model.specs.Values.{blob, nothing, text, Content, Message};
 ghost use Rattle.message_view.specs.Sound.{HaveNames};
-ghost use Rattle.message_view.specs.Types.{kind_in, name_at, types_of};
+ghost use Rattle.message_view.specs.Types.{entry_part, field_at, key_of, kind_in, name_at, part_of, types_of};
 ghost use Rattle.message_view.specs.Views.{content_view, view};
-ghost use Rattle.text_model.specs.Schemas.{shape_of, Schema};
-ghost use Rattle.text_model.specs.Tree.{ScalarValue};
-ghost use Rattle.text_model.specs.Value.{add_all, assign, scalar_content, settled, wanted_in, wanted_of};
+ghost use Rattle.text_model.specs.Schemas.{entry_shape, shape_of, Names, Schema};
+ghost use Rattle.text_model.specs.Tree.{Fields, ScalarValue};
+ghost use Rattle.text_model.specs.Value.{add_all, assign, hold, scalar_content, set_one, settled, value, wanted_in, wanted_of};
 ghost use Rattle.text_view.specs.Apart.{AreApart};
+ghost use Rattle.text_view.specs.Holds.{HoldsKinds};
 ghost use Rattle.text_view.specs.Names.{names_of, number_in};
+ghost use Rattle.text_view.specs.Ruled.{IsRuled};
 ghost use Rattle.text_view.specs.Schemas.{is_any_at, schema_of, shape_at, type_called};
 ghost use Rattle.text_view.specs.Targets.{target_field};
-ghost use Rattle.text_view.specs.Values.{IsOne};
+ghost use Rattle.text_view.specs.Values.{IsMessageOf, IsOne};
 
 /// The field that a text names is found by its name.
 pub fn named_fields_are_found()
@@ -181,4 +187,69 @@ pub fn the_shape_of_a_name_is_that_of_its_place()
     ensures { (pool : PoolType) → HaveNames pool → (decoded : Name → Text → Option Message)
         → (i : ℕ) → i < length pool.messages
         → shape_of (schema_of pool decoded) (name_at pool i) ≡ shape_at pool i }
+{}
+
+/// Of a message in which nothing is set nothing is seen, and what texts ask of messages is so.
+pub fn nothing_is_seen_where_nothing_is_set()
+    ensures { (m : DynamicMessage) → content_of m ≡ contents.nothing
+        → (view m ≡ nothing) × IsExclusive m × HoldsKinds m }
+{}
+
+/// A value that is put where neither its target nor another member of the oneof is set is set, in
+/// what is seen of the message.
+pub fn what_is_put_alone_is_set()
+    ensures { (old new : DynamicMessage) → IsRuled old.descriptor.pool.now → (w : Text) (t : Target)
+        → NamesField old.descriptor w t ⊎ NamesExtension old.descriptor w t
+        → (v : Value) → IsOne v → IsExclusive old → HoldsKinds old
+        → new.descriptor ≡ old.descriptor → PutsOne t v old new
+        → set_one (field_at old.descriptor.pool.now old.descriptor.index) (target_type t).number
+        (target_field old.descriptor t).part (view old) (content_view v)
+        ≡ Some (view new) }
+{}
+
+/// Where the target is set, or another member of its oneof, no value is.
+pub fn no_second_value_is_set()
+    ensures { (m : DynamicMessage) → IsRuled m.descriptor.pool.now → (w : Text) (t : Target)
+        → NamesField m.descriptor w t ⊎ NamesExtension m.descriptor w t
+        → holds_many t ≡ false → HoldsKinds m → (is_set m t ≡ true) ⊎ HasRival t m → (c : Content)
+        → set_one (field_at m.descriptor.pool.now m.descriptor.index) (target_type t).number
+        (target_field m.descriptor t).part (view m) c
+        ≡ None }
+{}
+
+/// The entries of a map are read as messages of their type.
+pub fn entries_are_read_as_messages_of_their_type()
+    ensures { (d : MessageDescriptor) → IsRuled d.pool.now → (f : FieldType)
+        → f.kind ≡ types.message d.index → holds_map d.pool.now f ≡ true
+        → holds_floats d.pool.now f ≡ false → (w : Schema) (names : Names) (n : ℕ)
+        → names.enum_number n ≡ number_in d.pool.now (entry_part d.pool.now f 2).kind
+        → (fs : Fields) (m : Message)
+        → value w (entry_shape names n (key_of d.pool.now (entry_part d.pool.now f 1))
+        (part_of d.pool.now (entry_part d.pool.now f 2))) fs m
+        ≡ value w (shape_at d.pool.now d.index) fs m }
+{}
+
+/// Messages that are put into a map, of its type of entries, are put as the entries that they are.
+pub fn what_is_put_into_a_map_is_added()
+    ensures { (old new : DynamicMessage) → IsRuled old.descriptor.pool.now → (w : Text) (t : Target)
+        → NamesField old.descriptor w t ⊎ NamesExtension old.descriptor w t
+        → holds_map (target_pool t) (target_type t) ≡ true → HoldsKinds old
+        → (d : MessageDescriptor) → d.pool.now ≡ old.descriptor.pool.now
+        → (target_type t).kind ≡ types.message d.index
+        → (vs : List Value) → AllByRecursion (IsMessageOf d) vs
+        → new.descriptor ≡ old.descriptor → Adds t vs old new
+        → add_all (field_at old.descriptor.pool.now old.descriptor.index) (target_type t).number
+        (target_field old.descriptor t).part (target_field old.descriptor t).label (view old)
+        (map content_view vs)
+        ≡ Some (view new) }
+{}
+
+/// A google.protobuf.Any that gets a URL and bytes holds them, in what is seen of it.
+pub fn what_an_any_gets_is_held()
+    ensures { (old between new : DynamicMessage) → AreApart old.descriptor.pool.now
+        → IsExclusive old → IsExclusive between → between.descriptor ≡ old.descriptor
+        → new.descriptor ≡ old.descriptor → IsAny old.descriptor → (url bytes : Text)
+        → SetsNumber 1 (text url) old between → SetsNumber 2 (blob bytes) between new
+        → hold (shape_at old.descriptor.pool.now old.descriptor.index) url bytes (view old)
+        ≡ Some (view new) }
 {}
