@@ -1,12 +1,12 @@
 -- A pool in which numbers are apart, with the type of a map's entries.
-use Rattle.std.proofs.Common.{◌≡◌, ◌⊎◌, inl, inr, ℕ, ◌<◌, ◌^◌, zero, suc, [], ◌∷◌, false, None, Some, unwrap_or, codes, refl, ap, subst, arith}
+use Rattle.std.proofs.Common.{◌≡◌, ◌⊎◌, inl, inr, ℕ, ◌<◌, zero, suc, [], ◌∷◌, false, None, Some, unwrap_or, codes, refl, ap, subst, arith}
 use Rattle.reflect_tables.specs.Types.{PoolType, FieldType, MessageType, ExtensionType, no_field, no_type, no_extension, type_at, type_of_field, extension_at}
 use Rattle.reflect_tables.specs.declared.stored.StoredEntry.{StoredEntry}
 use Rattle.std.specs.Prelude.{length}
 use Rattle.reflect_pool.specs.Shapes.{is_repeated}
 use Rattle.reflect_message.specs.Known.{numbered_field}
 use Rattle.text_view.specs.Apart.{AreApart}
-use Rattle.text_view.specs.Ruled.{AreNumbered, HaveEntryTypes, IsEntryType, IsPart}
+use Rattle.text_view.specs.Ruled.{AreProperFields, HaveEntryTypes, IsEntryType, IsFieldNumber, IsPart}
 
 abbrev one_field : FieldType
 one_field = record no_field { number = 1; name = codes "key" }
@@ -58,7 +58,7 @@ of_extension (suc k) lt = absurd (omega (arith, lt))
 example : AreApart the_pool
 example = record { fields = of_types; extensions = λ j k a b of e. omega (arith, a, b); between = of_extension }
 
-small : (j : ℕ) → j < 2 → (0 < (type_of_field the_pool 0 j).number) × ((type_of_field the_pool 0 j).number < 2 ^ 29)
+small : (j : ℕ) → j < 2 → IsFieldNumber (type_of_field the_pool 0 j).number
 small zero lt = (omega arith, omega arith)
 small (suc zero) lt = (omega arith, omega arith)
 small (suc (suc j)) lt = absurd (omega (arith, lt))
@@ -68,9 +68,13 @@ alone zero k lt e = cc e
 alone (suc zero) k lt e = cc e
 alone (suc (suc j)) k lt e = omega (arith, lt)
 
-numbered : AreNumbered the_pool
-numbered = record { numbers = numbers; members = members } where
-  numbers : (i j : ℕ) → j < length (type_at the_pool i).fields → (0 < (type_of_field the_pool i j).number) × ((type_of_field the_pool i j).number < 2 ^ 29)
+numbered : AreProperFields the_pool
+numbered = record { numbers = numbers; extensions = extensions; members = members } where
+  extensions : (k : ℕ) → k < 1 → IsFieldNumber (extension_at the_pool k).field.number
+  extensions zero lt = (omega arith, omega arith)
+  extensions (suc k) lt = absurd (omega (arith, lt))
+
+  numbers : (i j : ℕ) → j < length (type_at the_pool i).fields → IsFieldNumber (type_of_field the_pool i j).number
   numbers zero j lt = small j lt
   numbers (suc zero) j lt = small j lt
   numbers (suc (suc i)) j lt = absurd (omega (arith, lt))

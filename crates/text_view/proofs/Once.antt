@@ -26,7 +26,7 @@ use Rattle.message_view.proofs.Accepting.{not_float}
 use Rattle.message_view.proofs.Fields.{owned, extension_owned}
 use Rattle.text_view.specs.Apart.{AreApart}
 use Rattle.text_view.specs.Holds.{HoldsKinds, IsHeldAs}
-use Rattle.text_view.specs.Ruled.{AreNumbered}
+use Rattle.text_view.specs.Ruled.{AreProperFields}
 use Rattle.text_view.specs.Targets.{target_field}
 use Rattle.text_view.specs.Values.{IsOne}
 use Rattle.text_view.proofs.Apart.{extension_there, no_field_there}
@@ -64,7 +64,7 @@ put_assigned old new apart (targets.Extension x) owns no_map v one exclusive sam
     extension_put old new x v owns puts one (field_at d.pool.now d.index) (ap oneof_of (extension_there d apart x owns)) (no_field_there d apart x owns)
     ∙ ap (λ p. assign (field_at d.pool.now d.index) (extension_type x).number (settled p (content_view v)) (view old)) (sym (one_part d.pool.now (extension_type x) no_map))
 
-module _ (m : DynamicMessage) (apart : AreApart m.descriptor.pool.now) (numbered : AreNumbered m.descriptor.pool.now) (kinds : HoldsKinds m) (t : Target) (owns : OwnsTarget m.descriptor t) (one : holds_many t ≡ false) where
+module _ (m : DynamicMessage) (apart : AreApart m.descriptor.pool.now) (numbered : AreProperFields m.descriptor.pool.now) (kinds : HoldsKinds m) (t : Target) (owns : OwnsTarget m.descriptor t) (one : holds_many t ≡ false) where
   abbrev type : ℕ → Option Field
   type = field_at m.descriptor.pool.now m.descriptor.index
 
@@ -95,7 +95,7 @@ module _ (m : DynamicMessage) (apart : AreApart m.descriptor.pool.now) (numbered
     by (inr h) = of_rival t owns h
 
 -- what is put where nothing is set is set
-pub put_once : (old new : DynamicMessage) → AreApart old.descriptor.pool.now → AreNumbered old.descriptor.pool.now → IsExclusive old → HoldsKinds old → (t : Target) → OwnsTarget old.descriptor t → (v : Value) → IsOne v
+pub put_once : (old new : DynamicMessage) → AreApart old.descriptor.pool.now → AreProperFields old.descriptor.pool.now → IsExclusive old → HoldsKinds old → (t : Target) → OwnsTarget old.descriptor t → (v : Value) → IsOne v
     → new.descriptor ≡ old.descriptor → PutsOne t v old new
     → set_one (field_at old.descriptor.pool.now old.descriptor.index) (target_type t).number (target_field old.descriptor t).part (view old) (content_view v) ≡ Some (view new)
 put_once old new apart numbered exclusive kinds t owns v one same puts =

@@ -85,7 +85,7 @@ module _ (decoded : Name → Text → Option Message) (m : DynamicMessage) (kind
 
         by : IsUnfitGiven g k ⊎ ((steps.is_set m t ≡ true) ⊎ HasRival t m) → option_and_then (set_one s.fields (target_type t).number (target_field d t).part (view m)) (one_content w a g) ≡ None
         by (inl h) = ap (option_and_then (set_one s.fields (target_type t).number (target_field d t).part (view m))) (unfit.one k a (target_wants d ruled decoded t owns k kind) h)
-        by (inr h) = none_then (one_content w a g) (set_one s.fields (target_type t).number (target_field d t).part (view m)) (λ c. refused m ruled.apart ruled.numbered kinds t owns one h c)
+        by (inr h) = none_then (one_content w a g) (set_one s.fields (target_type t).number (target_field d t).part (view m)) (λ c. refused m ruled.apart ruled.proper kinds t owns one h c)
 
   target_refused : (t : Target) → OwnsTarget d t → Rejects t (IsUnfitGiven g) (AreUnfitGiven g) m → given_to t ≡ None
   target_refused t owns (k, is, choice) = by choice where

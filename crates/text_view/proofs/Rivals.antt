@@ -34,7 +34,7 @@ use Rattle.message_view.proofs.Fields.{owned, owned_whole}
 use Rattle.message_view.proofs.Oneofs.{oneof_told, rival_is_sibling}
 use Rattle.text_view.specs.Apart.{AreApart}
 use Rattle.text_view.specs.Holds.{HoldsKinds}
-use Rattle.text_view.specs.Ruled.{AreNumbered}
+use Rattle.text_view.specs.Ruled.{AreProperFields}
 use Rattle.text_view.proofs.Owned.{under_target}
 use Rattle.text_view.proofs.Puts.{is_number, number_is}
 use Rattle.text_view.proofs.Set.{one_held, set_same, unset_absent}
@@ -128,7 +128,17 @@ any_number : (test : ℕ → Bool) (q : ℕ) → 0 < q → q < 2 ^ 29 → test q
 unfolding field_numbers
 any_number test q low high is = any_at test q 1 (2 ^ 29 - 1) (omega (arith, low)) (omega (arith, high)) is
 
-module _ (m : DynamicMessage) (apart : AreApart m.descriptor.pool.now) (numbered : AreNumbered m.descriptor.pool.now) (kinds : HoldsKinds m) where
+-- a field as its type has it
+pub place_of : (d : MessageDescriptor) (g : FieldDescriptor) → Owns d g → type_of_field d.pool.now d.index g.index ≡ field_type g
+place_of d g h = ap (λ j. type_of_field d.pool.now j g.index) (sym h.0.0) ∙ ap (λ p. type_of_field p g.message.index g.index) (sym h.0.1)
+
+-- a member of a oneof holds one value
+pub member_one : (d : MessageDescriptor) → AreProperFields d.pool.now → (g : FieldDescriptor) → Owns d g → (k : ℕ) → (field_type g).oneof ≡ Some k → is_repeated (field_type g).cardinality ≡ false
+member_one d proper g h k e =
+    let at = place_of d g h in
+    ap (λ (t : FieldType). is_repeated t.cardinality) (sym at) ∙ proper.members d.index g.index k h.1.0 (ap (λ (t : FieldType). t.oneof) at ∙ e)
+
+module _ (m : DynamicMessage) (apart : AreApart m.descriptor.pool.now) (numbered : AreProperFields m.descriptor.pool.now) (kinds : HoldsKinds m) where
   abbrev pool : PoolType
   pool = m.descriptor.pool.now
 
@@ -137,9 +147,6 @@ module _ (m : DynamicMessage) (apart : AreApart m.descriptor.pool.now) (numbered
 
   abbrev fields : List FieldType
   fields = (type_at m.descriptor.pool.now m.descriptor.index).fields
-
-  place_of : (g : FieldDescriptor) → Owns m.descriptor g → type_of_field pool i g.index ≡ field_type g
-  place_of g h = ap (λ j. type_of_field pool j g.index) (sym h.0.0) ∙ ap (λ p. type_of_field p g.message.index g.index) (sym h.0.1)
 
   members_here : (g : FieldDescriptor) → Owns m.descriptor g → (k : ℕ) → members_of g.message.pool.now g.message.index k ≡ members_of pool i k
   members_here g h k = ap (λ p. members_of p g.message.index k) h.0.1 ∙ ap (λ j. members_of pool j k) h.0.0
@@ -175,7 +182,7 @@ module _ (m : DynamicMessage) (apart : AreApart m.descriptor.pool.now) (numbered
       (record {
         message = refl;
         first = subst (λ n. IsFirst (λ (t : FieldType). t.number ≡ n) fields (Some g.index)) is h.1;
-        held = subst (λ t. HoldsFloats pool t → ⊥) (sym (place_of g h)) (subst (λ p. HoldsFloats p (field_type g) → ⊥) h.0.1 h.2);
+        held = subst (λ t. HoldsFloats pool t → ⊥) (sym (place_of m.descriptor g h)) (subst (λ p. HoldsFloats p (field_type g) → ⊥) h.0.1 h.2);
       })
 
   -- whether a field of one value is set is seen
@@ -194,12 +201,6 @@ module _ (m : DynamicMessage) (apart : AreApart m.descriptor.pool.now) (numbered
   unset_seen g h one e =
       let under = under_target m.descriptor apart (targets.Field g) h m refl in
       under ∙ unset_absent pool (field_type g) (option_map content_view (value_at (fields_of m) (field_type g).number)) (sym (ap is_set under) ∙ sym (seen_set g h one) ∙ e)
-
-  -- a member of a oneof holds one value
-  pub member_one : (g : FieldDescriptor) → Owns m.descriptor g → (k : ℕ) → (field_type g).oneof ≡ Some k → is_repeated (field_type g).cardinality ≡ false
-  member_one g h k e =
-      let at = place_of g h in
-      ap (λ (t : FieldType). is_repeated t.cardinality) (sym at) ∙ numbered.members i g.index k h.1.0 (ap (λ (t : FieldType). t.oneof) at ∙ e)
 
   module _ (f : FieldDescriptor) (owns : Owns m.descriptor f) where
     abbrev n : ℕ
@@ -224,12 +225,12 @@ module _ (m : DynamicMessage) (apart : AreApart m.descriptor.pool.now) (numbered
       shared = its.1 ∙ ap Some (one_oneof pool apart i its.0 mine.0 sibling.0 its.2 mine.2)
 
       among : IsAmong mine.0 fields (type_of_field pool i g.index)
-      among = member_there mine.0 fields g.index sibling.2.1.0 (ap (λ (t : FieldType). t.oneof) (place_of g sibling.2) ∙ shared)
+      among = member_there mine.0 fields g.index sibling.2.1.0 (ap (λ (t : FieldType). t.oneof) (place_of m.descriptor g sibling.2) ∙ shared)
 
       told : TellsMeant (HasNumber q) m false
       told =
           let all = subst (λ (ms : List FieldType). All (λ (t : FieldType). TellsMeant (HasNumber t.number) m false) ms) (members_here f owns mine.0) (alone mine.0 mine.1) in
-          subst (λ k. TellsMeant (HasNumber k) m false) (ap (λ (t : FieldType). t.number) (among.2 no_field ∙ place_of g sibling.2) ∙ sibling.3) (all among.0 no_field among.1)
+          subst (λ k. TellsMeant (HasNumber k) m false) (ap (λ (t : FieldType). t.number) (among.2 no_field ∙ place_of m.descriptor g sibling.2) ∙ sibling.3) (all among.0 no_field among.1)
 
       by : TellsMeant (HasNumber q) m false → view m q ≡ absent
       by (inr h) = absurd (owns_meant q g sibling.2 sibling.3 h.0)
@@ -237,7 +238,7 @@ module _ (m : DynamicMessage) (apart : AreApart m.descriptor.pool.now) (numbered
           let its_own = meant_owns q h.0 h.1 in
           let number = meant_number q h.0 h.1 in
           let same : field_type h.0 ≡ field_type g = same_field h.0 g its_own sibling.2 (number ∙ sym sibling.3) in
-          ap (view m) (sym number) ∙ unset_seen h.0 its_own (member_one h.0 its_own mine.0 (ap (λ (t : FieldType). t.oneof) same ∙ shared)) (sym h.2)
+          ap (view m) (sym number) ∙ unset_seen h.0 its_own (member_one m.descriptor numbered h.0 its_own mine.0 (ap (λ (t : FieldType). t.oneof) same ∙ shared)) (sym h.2)
 
     -- where another member is set that is seen, or that the field is itself
     pub rival_seen : HasRival (targets.Field f) m → (is_set (view m n) || has_rival (field_at pool i) n (view m)) ≡ true
@@ -279,10 +280,10 @@ module _ (m : DynamicMessage) (apart : AreApart m.descriptor.pool.now) (numbered
           let number = meant_number x.number g h.1 in
           let place : g.index ≡ stands.0 =
           apart.fields i g.index stands.0 its_own.1.0 stands.1
-          (ap (λ (t : FieldType). t.number) (place_of g its_own) ∙ number ∙ ap (λ (t : FieldType). t.number) (sym stands.2)) in
-          let same : field_type g ≡ x = sym (place_of g its_own) ∙ ap (type_of_field pool i) place ∙ stands.2 in
+          (ap (λ (t : FieldType). t.number) (place_of m.descriptor g its_own) ∙ number ∙ ap (λ (t : FieldType). t.number) (sym stands.2)) in
+          let same : field_type g ≡ x = sym (place_of m.descriptor g its_own) ∙ ap (type_of_field pool i) place ∙ stands.2 in
           let in_one : (field_type g).oneof ≡ Some o.index = ap (λ (t : FieldType). t.oneof) same ∙ stands.3 in
           let small = numbered.numbers i stands.0 stands.1 in
-          seen x.number (ap (λ k. is_set (view m k)) (sym number) ∙ sym (h.2 ∙ seen_set g its_own (member_one g its_own o.index in_one)))
+          seen x.number (ap (λ k. is_set (view m k)) (sym number) ∙ sym (h.2 ∙ seen_set g its_own (member_one m.descriptor numbered g its_own o.index in_one)))
           (subst (λ (t : FieldType). 0 < t.number) stands.2 small.0) (subst (λ (t : FieldType). t.number < 2 ^ 29) stands.2 small.1)
           (ap (λ k. oneof_of (field_at pool i k)) (sym number) ∙ oneof_in g its_own in_one) (x.number == n) refl

@@ -92,12 +92,12 @@ map_repeats pool f e = by (is_entry pool f.kind) (is_repeated f.cardinality) e w
   by false b h = absurd (true≢false (sym h))
 
 -- a target of many values is in no oneof
-pub many_free : (m : DynamicMessage) → IsRuled m.descriptor.pool.now → HoldsKinds m → (t : Target) → OwnsTarget m.descriptor t → is_repeated (target_type t).cardinality ≡ true → IsFree t
-many_free m ruled kinds (targets.Extension x) owns repeats = tt
-many_free m ruled kinds (targets.Field f) owns repeats = by (field_type f).oneof refl where
+pub many_free : (d : MessageDescriptor) → IsRuled d.pool.now → (t : Target) → OwnsTarget d t → is_repeated (target_type t).cardinality ≡ true → IsFree t
+many_free d ruled (targets.Extension x) owns repeats = tt
+many_free d ruled (targets.Field f) owns repeats = by (field_type f).oneof refl where
   by : (o : Option ℕ) → (field_type f).oneof ≡ o → (field_type f).oneof ≡ None
   by None e = e
-  by (Some k) e = absurd (true≢false (sym repeats ∙ member_one m ruled.apart ruled.numbered kinds f owns k e))
+  by (Some k) e = absurd (true≢false (sym repeats ∙ member_one d ruled.proper f owns k e))
 
 -- entries that are put into a map
 pub map_all : (old new : DynamicMessage) → IsRuled old.descriptor.pool.now → HoldsKinds old → new.descriptor ≡ old.descriptor → (t : Target) → OwnsTarget old.descriptor t → holds_map old.descriptor.pool.now (target_type t) ≡ true
@@ -114,7 +114,7 @@ map_all old new ruled kinds same t owns is_map c at kind vs entries adds =
     let its_whole = subst (λ p. holds_floats p f ≡ false) (sym at) (target_whole d ruled.apart t owns) in
     let entry = the_entry c f kind its_ruled its_map its_whole in
     let before = map_of_kind pool f is_map (held_by old t) (held_kind old ruled.apart kinds t owns) in
-    let added = map_added old new ruled.apart same t owns is_map (many_free old ruled kinds t owns (map_repeats pool f is_map)) c at kind its_ruled entry.0 entry.1
+    let added = map_added old new ruled.apart same t owns is_map (many_free old.descriptor ruled t owns (map_repeats pool f is_map)) c at kind its_ruled entry.0 entry.1
     (value_no_float c f kind its_ruled its_map its_whole) vs entries before.0 before.1 before.2 adds in (
       ap (λ l. add_all type f.number (target_field d t).part l (view old) (map content_view vs)) (target_label d t ∙ label_keyed pool f is_map)
           ∙ ap (λ p. add_all type f.number p (keyed (key_of pool (entry_part pool f 1))) (view old) (map content_view vs)) (target_part d t ∙ ap (λ b. part_of pool (cond b (entry_part pool f 2) f)) is_map)
@@ -151,7 +151,7 @@ module _ (decoded : Name → Text → Option Message) (keeps : KeepExclusive) (o
       let here = subst (IsHeldAs pool (target_type t)) (sym (put_here t v old next puts.put)) (held_one pool (target_type t) none.0 none.1 v (good_kind pool k (target_type t).kind v kind of.1)) in (
         field_one w s g (view old) (target_type t).number (target_field d t) (target_label d t ∙ label_one pool (target_type t) none.0 none.1)
             ∙ ap (option_and_then (set_one s.fields (target_type t).number (target_field d t).part (view old))) of.0
-            ∙ put_once old next ruled.apart ruled.numbered exclusive kinds t owns v (good_one k v of.1) same puts,
+            ∙ put_once old next ruled.apart ruled.proper exclusive kinds t owns v (good_one k v of.1) same puts,
         keeps.once t v old next owns puts exclusive,
         same_kinds old next same (kinds_kept d t old next owns (put_leaves t v old next puts.put) here kinds),
       )
@@ -160,7 +160,7 @@ module _ (decoded : Name → Text → Option Message) (keeps : KeepExclusive) (o
   list_step : (t : Target) → OwnsTarget d t → holds_list pool (target_type t) ≡ true → (k : Kind) → IsKind pool k (target_type t).kind → (vs : List held.Value) → AreGiven g k vs → Adds t vs old next → Stepped (given_to t)
   list_step t owns is_list k kind vs given adds =
       let two = list_of_many pool (target_type t) is_list in
-      let alone = many_free old ruled kinds t owns two.0 in
+      let alone = many_free old.descriptor ruled t owns two.0 in
       let a = wanted d ruled decoded t owns in
       let of = known.all k a (target_wants d ruled decoded t owns k kind) vs given in
       let before = list_of_kind pool (target_type t) two.1 is_list (held_by old t) (held_kind old ruled.apart kinds t owns) in
@@ -185,7 +185,7 @@ module _ (decoded : Name → Text → Option Message) (keeps : KeepExclusive) (o
             ∙ ap (option_and_then (add_all s.fields f.number (target_field d t).part (target_field d t).label (view old))) of.0
             ∙ added.0,
         keeps.more t vs old next owns adds exclusive,
-        same_kinds old next same (kinds_kept d t old next owns (add_leaves t old next (many_free old ruled kinds t owns (map_repeats pool f is_map)) adds.0) added.1 kinds),
+        same_kinds old next same (kinds_kept d t old next owns (add_leaves t old next (many_free old.descriptor ruled t owns (map_repeats pool f is_map)) adds.0) added.1 kinds),
       )
 
   target_step : (t : Target) → OwnsTarget d t → Assigns t (IsGiven g) (AreGiven g) old next → Stepped (given_to t)

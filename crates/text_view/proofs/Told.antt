@@ -37,12 +37,12 @@ pub put_alone : (old new : DynamicMessage) → IsRuled old.descriptor.pool.now �
     → (v : Value) → IsOne v → IsExclusive old → HoldsKinds old → new.descriptor ≡ old.descriptor → PutsOne t v old new
     → set_one (field_at old.descriptor.pool.now old.descriptor.index) (target_type t).number (target_field old.descriptor t).part (view old) (content_view v) ≡ Some (view new)
 put_alone old new ruled w t named v one exclusive kinds same puts =
-    put_once old new ruled.apart ruled.numbered exclusive kinds t (named_target old.descriptor ruled.apart w t named) v one same puts
+    put_once old new ruled.apart ruled.proper exclusive kinds t (named_target old.descriptor ruled.apart w t named) v one same puts
 
 pub no_second : (m : DynamicMessage) → IsRuled m.descriptor.pool.now → (w : Text) (t : Target) → NamesField m.descriptor w t ⊎ NamesExtension m.descriptor w t
     → holds_many t ≡ false → HoldsKinds m → (is_set m t ≡ true) ⊎ HasRival t m → (c : Content)
     → set_one (field_at m.descriptor.pool.now m.descriptor.index) (target_type t).number (target_field m.descriptor t).part (view m) c ≡ None
-no_second m ruled w t named one kinds h c = refused m ruled.apart ruled.numbered kinds t (named_target m.descriptor ruled.apart w t named) one h c
+no_second m ruled w t named one kinds h c = refused m ruled.apart ruled.proper kinds t (named_target m.descriptor ruled.apart w t named) one h c
 
 pub entries_read : (d : MessageDescriptor) → IsRuled d.pool.now → (f : FieldType) → f.kind ≡ types.message d.index → holds_map d.pool.now f ≡ true → holds_floats d.pool.now f ≡ false
     → (w : Schema) (names : Names) (n : ℕ) → names.enum_number n ≡ number_in d.pool.now (entry_part d.pool.now f 2).kind → (fs : Fields) (m : Message)

@@ -8,10 +8,16 @@ use Rattle.message_view.specs.Sound.{IsSound}
 use Rattle.text_view.specs.Apart.{AreApart}
 use Rattle.text_view.specs.Schemas.{is_any_at}
 
--- numbers are those that fields may have, and members of oneofs hold one value
-pub record AreNumbered (pool : PoolType) : Type 0 where
+-- the number is one that fields may have
+abbrev pub IsFieldNumber : ℕ → Type 0
+IsFieldNumber n = (0 < n) × (n < 2 ^ 29)
+
+-- fields and extensions have such numbers, and members of oneofs hold one value
+pub record AreProperFields (pool : PoolType) : Type 0 where
   pub numbers : (i j : ℕ) → j < length (type_at pool i).fields
-      → (0 < (type_of_field pool i j).number) × ((type_of_field pool i j).number < 2 ^ 29)
+      → IsFieldNumber (type_of_field pool i j).number
+  pub extensions : (k : ℕ) → k < length pool.extensions
+      → IsFieldNumber (extension_at pool k).field.number
   pub members : (i j k : ℕ) → j < length (type_at pool i).fields
       → (type_of_field pool i j).oneof ≡ Some k
       → is_repeated (type_of_field pool i j).cardinality ≡ false
@@ -42,5 +48,5 @@ HaveEntryTypes pool =
 pub record IsRuled (pool : PoolType) : Type 0 where
   pub sound : IsSound pool
   pub apart : AreApart pool
-  pub numbered : AreNumbered pool
+  pub proper : AreProperFields pool
   pub entries : HaveEntryTypes pool
