@@ -35,20 +35,24 @@ use Rattle.message_view.specs.Recoded.{Recodes, type_of, RecodesThrough}
 use Rattle.message_view.specs.Sound.{IsSound}
 use Rattle.message_view.specs.Types.{name_at, types_of}
 use Rattle.message_view.specs.Views.{view}
-use Rattle.message_view.proofs.Arranging.{shaped_bytes}
+use Rattle.message_view.proofs.Arranging.{Shaped, shaped_bytes}
 use Rattle.message_view.proofs.Decoded.{decoded_means, decoded_suits, told_refused}
 use Rattle.message_view.proofs.Forms.{bytes_opened}
 use Rattle.message_view.proofs.Defaults.{have_defaults}
 use Rattle.message_view.proofs.Shapes.{AreKept, kept_shaped}
 use Rattle.message_view.proofs.Sound.{named}
 
+-- what is decoded suits its type, in the order of its numbers
+pub decoded_shaped : (d : MessageDescriptor) (bytes : List ℕ) (m : DynamicMessage) → m.descriptor ≡ d → IsSpelled d bytes m → Shaped 101 m
+decoded_shaped d bytes m type (rs, spelled, keeps, some, also, fields, (extensions, apart), accepts, ordered) =
+    let left : AreKept (TakesAt 100) d (content_of m) rs = record { left = record { unknown = keeps; fields = fields; extensions = extensions }; apart = apart; unowned = λ n none. some n (inr none); ordered = ordered } in
+    kept_shaped 100 m rs (subst (λ d. AreKept (TakesAt 100) d (content_of m) rs) (sym type) left)
+
 -- what is decoded is written in the one form of what it means
 pub decoded_written : (d : MessageDescriptor) → IsSound d.pool.now → (bytes : List ℕ) (m : DynamicMessage) → m.descriptor ≡ d → IsSpelled d bytes m → message_bytes m ≡ bytes_of (types_of d.pool.now) (name_at d.pool.now d.index) (view m)
-decoded_written d sound bytes m type (rs, spelled, keeps, some, also, fields, (extensions, apart), accepts, ordered) =
-    let left : AreKept (TakesAt 100) d (content_of m) rs = record { left = record { unknown = keeps; fields = fields; extensions = extensions }; apart = apart; unowned = λ n none. some n (inr none); ordered = ordered } in
-    let shaped = kept_shaped 100 m rs (subst (λ d. AreKept (TakesAt 100) d (content_of m) rs) (sym type) left) in
+decoded_written d sound bytes m type spelled =
     let pool = d.pool.now in
-    shaped_bytes pool sound.keys sound.entries sound.lists (types_of pool) (named pool sound.names) 101 m (ap (λ (d : MessageDescriptor). d.pool.now) type) shaped
+    shaped_bytes pool sound.keys sound.entries sound.lists (types_of pool) (named pool sound.names) 101 m (ap (λ (d : MessageDescriptor). d.pool.now) type) (decoded_shaped d bytes m type spelled)
     ∙ ap (λ (d : MessageDescriptor). bytes_of (types_of pool) (name_at pool d.index) (view m)) type
 
 -- recoding is the model's

@@ -110,7 +110,7 @@ same_value (held.text a) (held.text b) = refl
 same_value (held.blob a) (held.blob b) = refl
 same_value v w = refl
 
-default_same : (pool : PoolType) (f : FieldType) (w : held.Single) → IsScalarType f.kind → is_default pool f (Some w) ≡ same (single_view w) (default_of pool f)
+pub default_same : (pool : PoolType) (f : FieldType) (w : held.Single) → IsScalarType f.kind → is_default pool f (Some w) ≡ same (single_view w) (default_of pool f)
 default_same pool f w type =
     let d = some_default pool f type in
     ap (λ o. elim o [ None ↦ false | Some d ↦ same_single w d ]) d.1 ∙ same_value w d.0 ∙ ap (same (single_view w)) (sym (default_is pool f d.0 d.1))

@@ -1,0 +1,421 @@
+-- What is printed of a message, number by number, and entry by entry.
+use Rattle.std.proofs.Common.{◌≡◌, ◌⊎◌, inl, inr, ◌<◌, ◌≤◌, ℕ, ℤ, zero, suc, ◌-◌, ◌^◌, ◌==◌, ◌&&◌, ◌||◌, Bool, true, false, true≢false, cond, not, List, [], ◌∷◌, ◌++◌, map, length, Option, Some, None, option_map, unwrap_or, refl, sym, ap, ◌∙◌, subst, arith}
+use Rattle.std.specs.List.{AllByRecursion, cons_option, find, filter, filter_map, flat_map}
+use Rattle.std.specs.Option.{option_and_then}
+use Rattle.std.proofs.lemmas.Grind.{flat_map-append}
+use Rattle.protox_lex.specs.Class.{Text}
+use Rattle.reflect_tables.specs.Types.{PoolType, FieldType, ExtensionType, KindType}
+use Rattle.reflect_pool.specs.FieldsLeft.{field_type}
+use Rattle.reflect_wire.specs.Records.{Payload}
+use Rattle.reflect_pool.specs.Shapes.{is_entry, is_repeated, holds_list, holds_map}
+use Rattle.reflect_pool.specs.declared.message.MessageDescriptor.{MessageDescriptor}
+use Rattle.reflect_entries.specs.Entries.{value_at}
+use Rattle.reflect_scalar.specs.FieldTypes.{extension_type}
+use Rattle.reflect_access.specs.Walked.{Holding, if_set, set_field, set_extension, numbered_extension}
+use Rattle.reflect_message.specs.Bytes as forms
+use Rattle.reflect_message.specs.Bytes.{form_of}
+use Rattle.reflect_message.specs.Contents.{Content, content_of}
+use Rattle.reflect_message.specs.Held.{fields_of, extensions_of, unknown_of}
+use Rattle.reflect_message.specs.KindTypes.{IsScalarType, IsMessageType}
+use Rattle.reflect_message.specs.Known.{is_float, has_floats, holds_floats, if_held, numbered_field, known_field, known_extension}
+use Rattle.reflect_message.specs.Lists.{list_items}
+use Rattle.reflect_message.specs.Maps.{map_entries}
+use Rattle.reflect_message.specs.declared.message.DynamicMessage.{DynamicMessage}
+use Rattle.reflect_message.specs.declared.value.Value.{Value}
+use Rattle.reflect_scalar.specs.declared.map_key.MapKey.{MapKey}
+use Rattle.reflect_print.specs.Entries.{Entry, field, extension, undeclared, set_entry, set_entries, known_entry, extension_entries}
+use Rattle.reflect_print.specs.Named.{label_of}
+use Rattle.protobuf_model.specs.Types.{Name, Field}
+use Rattle.protobuf_model.specs.Values as model
+use Rattle.protobuf_model.specs.Values.{Held, content, records, Message, absent}
+use Rattle.protobuf_model.specs.Meaning.{payloads}
+use Rattle.protobuf_model.specs.Bytes.{field_numbers, is_declared}
+use Rattle.text_model.specs.Printed.{Inner, parts, field_name, printed_content, printed_fields, printed_held, printing_order}
+use Rattle.text_model.specs.Schemas.{Names, Schema}
+use Rattle.text_model.specs.Tree as tree
+use Rattle.text_model.specs.Tree.{Given}
+use Rattle.message_view.specs.Singles.{single_view}
+use Rattle.message_view.specs.Sound.{HaveNames, HaveEntryFields, HaveLists}
+use Rattle.message_view.specs.Types.{name_at, field_of, field_at, either_field, oneof_at, values_of, default_of}
+use Rattle.message_view.specs.Views as views
+use Rattle.message_view.specs.Views.{held_in, held_either, content_view, contents_view, view, view_of}
+use Rattle.message_view.proofs.Accepting.{known_whole, extension_known_whole}
+use Rattle.message_view.proofs.Arranging.{IsShaped, Shaped}
+use Rattle.message_view.proofs.Entries.{Sort, plain, floating, message_type, sort_of}
+use Rattle.message_view.proofs.Fields.{held_is, known, known_extension_is, none_owned}
+use Rattle.message_view.proofs.Forms.{single_form_seen, message_form_seen, list_form_seen, map_form_seen, forms_of}
+use Rattle.message_view.proofs.Ordering.{Rise, found_each}
+use Rattle.message_view.proofs.Seen.{single_seen, message_seen, list_seen, map_seen, pairs_view, value_at-view, view_opened}
+use Rattle.message_view.proofs.Written.{FitsOne, FitsAs, default_same}
+use Rattle.text_view.specs.Names.{name_in, names_of, printed_name, value_kind}
+use Rattle.text_view.specs.Schemas.{schema_of}
+use Rattle.text_view.proofs.Shapes.{placed}
+use Rattle.print_view.specs.Forms.{own_form}
+use Rattle.print_view.specs.Parts.{HaveValues}
+use Rattle.print_view.proofs.Counting.{same_numbers, filtered, shown, under, each, all_numbers}
+use Rattle.print_view.proofs.Pieces.{Pair}
+use Rattle.print_view.proofs.Values.{given, pairs_in, FitsField, EntryFits, pair_of}
+
+-- ---- which fields are set
+
+or_true : (b : Bool) → (b || true) ≡ true
+or_true true = refl
+or_true false = refl
+
+module _ (pool : PoolType) (inner : DynamicMessage → Type 0) where
+  Set : FieldType → Value → Type 0
+  Set f v = forms.is_set pool f (form_of v) ≡ views.is_set pool f (content_view v)
+
+  set_one : (f : FieldType) (v : Value) → is_float f.kind ≡ false → FitsOne inner pool f v → Set f v
+  set_one f v whole fits = by (sort_of f.kind) where
+    by : Sort f.kind → Set f v
+    by (floating e) = absurd (true≢false (sym e ∙ whole))
+    by (plain type) =
+        let w = fits.plain type in
+        ap (forms.is_set pool f) (single_form_seen v w.0 w.1) ∙ ap (λ b. f.presence || not b) (default_same pool f w.0 type) ∙ sym (ap (views.is_set pool f) (single_seen v w.0 w.1))
+    by (message_type type) =
+        let m = fits.nested type in
+        ap (forms.is_set pool f) (message_form_seen v m.0 m.1) ∙ or_true f.presence ∙ sym (ap (views.is_set pool f) (message_seen v m.0 m.1))
+
+  set_list : (f : FieldType) (v : Value) (vs : List Value) → f.presence ≡ false → list_items v ≡ Some vs → Set f v
+  set_list f v vs unset is = ap (forms.is_set pool f) (list_form_seen v vs is) ∙ by vs ∙ sym (ap (views.is_set pool f) (list_seen v vs is)) where
+    by : (vs : List Value) → forms.is_set pool f (forms.list_form (map form_of vs)) ≡ views.is_set pool f (model.list (model.chain_of (map content_view vs)))
+    by [] = ap (λ b. b || false) unset
+    by (u ∷ us) = or_true f.presence
+
+  set_map : (f : FieldType) (v : Value) (es : List (MapKey × Value)) → f.presence ≡ false → map_entries v ≡ Some es → Set f v
+  set_map f v es unset is = ap (forms.is_set pool f) (map_form_seen v es is) ∙ by es ∙ sym (ap (views.is_set pool f) (map_seen v es is)) where
+    by : (es : List (MapKey × Value)) → forms.is_set pool f (forms.map_form (forms_of es)) ≡ views.is_set pool f (model.dictionary (model.entries_of (pairs_view es)))
+    by [] = ap (λ b. b || false) unset
+    by (e ∷ es) = or_true f.presence
+
+  repeats_if_map : (f : FieldType) → holds_map pool f ≡ true → is_repeated f.cardinality ≡ true
+  repeats_if_map f is = by (is_entry pool f.kind) (is_repeated f.cardinality) (not f.group) is where
+    by : (a b c : Bool) → a && (b && c) ≡ true → b ≡ true
+    by true true c e = refl
+    by true false c e = absurd (cc e)
+    by false b c e = absurd (cc e)
+
+  repeats_if_list : (f : FieldType) → holds_list pool f ≡ true → is_repeated f.cardinality ≡ true
+  repeats_if_list f is = by (is_repeated f.cardinality) (not (holds_map pool f)) is where
+    by : (a b : Bool) → a && b ≡ true → a ≡ true
+    by true b e = refl
+    by false b e = absurd (cc e)
+
+  -- a field is set by the program's test exactly if it is by the model's
+  set_same : (f : FieldType) (v : Value) → holds_floats pool f ≡ false → (is_repeated f.cardinality ≡ true → f.presence ≡ false) → FitsAs inner pool f (holds_map pool f) (holds_list pool f) v → Set f v
+  set_same f v whole repeats fits = by (holds_map pool f) refl (holds_list pool f) refl fits where
+    by : (b : Bool) → holds_map pool f ≡ b → (c : Bool) → holds_list pool f ≡ c → FitsAs inner pool f b c v → Set f v
+    by true e c k h = set_map f v h.0 (repeats (repeats_if_map f e)) h.1
+    by false e true k h = set_list f v h.0 (repeats (repeats_if_list f k)) h.1
+    by false e false k h = set_one f v (one (is_float f.kind) refl) h where
+      one : (x : Bool) → is_float f.kind ≡ x → is_float f.kind ≡ false
+      one false is = is
+      one true is = absurd (true≢false (sym (ap (λ a. a || (holds_map pool f && has_floats pool f.kind)) is) ∙ whole))
+
+-- ---- a message
+
+passes : {X : Type 0} (test : X → Bool) (xs : List X) (x : X) → find test xs ≡ Some x → test x ≡ true
+passes test [] x e = absurd (cc e)
+passes test (y ∷ ys) x e = by (test y) refl (passes test ys x) where
+  by : (b : Bool) → test y ≡ b → (find test ys ≡ Some x → test x ≡ true) → test x ≡ true
+  by true is later = let same : y ≡ x = cc (sym (ap (λ b. cond b (Some y) (find test ys)) is) ∙ e) in ap test (sym same) ∙ is
+  by false is later = later (sym (ap (λ b. cond b (Some y) (find test ys)) is) ∙ e)
+
+both : (a b : Bool) → a && b ≡ true → (a ≡ true) × (b ≡ true)
+both true b e = (refl, e)
+both false b e = absurd (cc e)
+
+module _ (m : DynamicMessage) (fields_have : HaveEntryFields m.descriptor.pool.now) (values : HaveValues m.descriptor.pool.now) (lists : HaveLists m.descriptor.pool.now) (names : HaveNames m.descriptor.pool.now)
+    (decoded : Name → Text → Option Message) (inner : Inner) (rounds levels : ℕ) (shaped : IsShaped (Shaped levels) m.descriptor (content_of m)) where
+  abbrev pool : PoolType
+  pool = m.descriptor.pool.now
+
+  abbrev i : ℕ
+  i = m.descriptor.index
+
+  abbrev schema : Schema
+  schema = schema_of pool decoded
+
+  abbrev give : FieldType → Value → Given
+  give f v = given pool fields_have values decoded inner rounds (values_of pool f) v
+
+  abbrev pair : Entry → Pair
+  pair e = pair_of pool fields_have values decoded inner rounds e
+
+  abbrev fits : ℕ → Entry → Type 0
+  fits n e = EntryFits pool fields_have values decoded inner rounds n e
+
+  -- ---- what stands there suits
+
+  abbrev Suits : FieldType → Value → Type 0
+  Suits f v = (holds_floats pool f ≡ false) × FitsAs (Shaped levels) pool f (holds_map pool f) (holds_list pool f) v × (forms.is_set pool f (form_of v) ≡ views.is_set pool f (content_view v))
+
+  field_suits : (n : ℕ) (v : Value) (f : FieldType) → value_at (fields_of m) n ≡ Some v → known_field pool i n ≡ Some f → Suits f v
+  field_suits n v f at is =
+      let g = known m.descriptor n f is in
+      let whole = known_whole m.descriptor n f is in
+      let fit = subst (λ t. FitsAs (Shaped levels) pool t (holds_map pool t) (holds_list pool t) v) g.2 (shaped.fields g.0 g.1 v (ap (λ (t : FieldType). value_at (fields_of m) t.number) g.2 ∙ ap (value_at (fields_of m)) g.3 ∙ at)) in
+      (whole, fit, set_same pool (Shaped levels) f v whole (lists.unset i n f (inl is)) fit)
+
+  extension_suits : (n : ℕ) (v : Value) (f : FieldType) → value_at (extensions_of m) n ≡ Some v → known_field pool i n ≡ None → known_extension pool i n ≡ Some f → Suits f v
+  extension_suits n v f at none is =
+      let x = known_extension_is m.descriptor n f is in
+      let number : (extension_type x.0).number ≡ n = ap (λ (t : FieldType). t.number) x.2 ∙ x.3 in
+      let whole = extension_known_whole m.descriptor n f is in
+      let fit = subst (λ t. FitsAs (Shaped levels) pool t (holds_map pool t) (holds_list pool t) v) x.2 (shaped.extensions x.0 x.1 (ap (known_field pool i) number ∙ none) v (ap (value_at (extensions_of m)) number ∙ at)) in
+      (whole, fit, set_same pool (Shaped levels) f v whole (lists.unset i n f (inr is)) fit)
+
+  -- no extension stands beside a field
+  no_field_too : (n : ℕ) (v : Value) (f : FieldType) → value_at (extensions_of m) n ≡ Some v → known_field pool i n ≡ Some f → ⊥
+  no_field_too n v f at is =
+      let g = known m.descriptor n f is in
+      cc (sym (ap (λ (t : FieldType). value_at (extensions_of m) t.number) g.2 ∙ ap (value_at (extensions_of m)) g.3 ∙ at) ∙ shaped.apart g.0 g.1)
+
+  -- ---- fields
+
+  abbrev of_field : Option FieldType → Value → List Pair
+  of_field None v = []
+  of_field (Some f) v = cond (views.is_set pool f (content_view v)) ((tree.plain (label_of pool f), give f v) ∷ []) []
+
+  abbrev first : ℕ → Value → List Pair
+  first n v = of_field (known_field pool i n) v
+
+  abbrev entries : List (ℕ × Value) → List Entry
+  entries es = map (set_entry m) (filter_map (set_field pool i) es)
+
+  abbrev Found : List (ℕ × Value) → List (ℕ × Value) → Type 0
+  Found all es = AllByRecursion (λ (e : ℕ × Value). value_at all e.0 ≡ Some e.1) es
+
+  -- a field that is there is known
+  is_known : (n : ℕ) (v : Value) (f : FieldType) → value_at (fields_of m) n ≡ Some v → numbered_field pool i n ≡ Some f → known_field pool i n ≡ Some f
+  is_known n v f at is = ap (option_and_then (if_held pool)) is ∙ by (holds_floats pool f) refl where
+    by : (b : Bool) → holds_floats pool f ≡ b → cond b None (Some f) ≡ Some f
+    by false e = refl
+    by true e =
+        let none : known_field pool i n ≡ None = ap (option_and_then (if_held pool)) is ∙ ap (λ b. cond b None (Some f)) e in
+        absurd (cc (sym at ∙ shaped.unowned n (none_owned m.descriptor n none)))
+
+  field_entry : (n : ℕ) (v : Value) (rest : List Holding) → value_at (fields_of m) n ≡ Some v
+      → map pair (map (set_entry m) (cons_option (set_field pool i (n, v)) rest)) ≡ first n v ++ map pair (map (set_entry m) rest)
+  field_entry n v rest at = by (numbered_field pool i n) refl where
+    put : Option Holding → List Pair
+    put o = map pair (map (set_entry m) (cons_option o rest))
+
+    by : (o : Option FieldType) → numbered_field pool i n ≡ o → put (set_field pool i (n, v)) ≡ first n v ++ map pair (map (set_entry m) rest)
+    by None is =
+        ap (λ o. put (option_and_then (if_set pool v) o)) is
+        ∙ sym (ap (λ o. of_field (option_and_then (if_held pool) o) v ++ map pair (map (set_entry m) rest)) is)
+    by (Some f) is =
+        let there = is_known n v f at is in
+        let suits = field_suits n v f at there in
+        ap (λ o. put (option_and_then (if_set pool v) o)) is
+        ∙ ap (λ b. put (cond b (Some (f, v)) None)) suits.2
+        ∙ shown_so (views.is_set pool f (content_view v))
+        ∙ sym (ap (λ o. of_field o v ++ map pair (map (set_entry m) rest)) there) where
+          shown_so : (b : Bool) → put (cond b (Some (f, v)) None) ≡ cond b ((tree.plain (label_of pool f), give f v) ∷ []) [] ++ map pair (map (set_entry m) rest)
+          shown_so true = refl
+          shown_so false = refl
+
+  fields_said : (es : List (ℕ × Value)) → Found (fields_of m) es → map pair (entries es) ≡ each first es
+  fields_said [] all = refl
+  fields_said (e ∷ es) all = field_entry e.0 e.1 (filter_map (set_field pool i) es) all.0 ∙ ap (λ l. first e.0 e.1 ++ l) (fields_said es all.1)
+
+  fields_fit : (es : List (ℕ × Value)) → Found (fields_of m) es → AllByRecursion (fits levels) (entries es)
+  fields_fit [] all = tt
+  fields_fit (e ∷ es) all = by (numbered_field pool i e.0) refl (fields_fit es all.1) where
+    put : Option Holding → Type 0
+    put o = AllByRecursion (fits levels) (map (set_entry m) (cons_option o (filter_map (set_field pool i) es)))
+
+    by : (o : Option FieldType) → numbered_field pool i e.0 ≡ o → AllByRecursion (fits levels) (entries es) → put (set_field pool i e)
+    by None is rest = subst (λ o. put (option_and_then (if_set pool e.1) o)) (sym is) rest
+    by (Some f) is rest = subst (λ o. put (option_and_then (if_set pool e.1) o)) (sym is) (within (forms.is_set pool f (form_of e.1))) where
+      within : (b : Bool) → put (cond b (Some (f, e.1)) None)
+      within false = rest
+      within true = let suits = field_suits e.0 e.1 f all.0 (is_known e.0 e.1 f all.0 is) in ((refl, suits.0, suits.1), rest)
+
+  -- ---- extensions
+
+  abbrev of_extension : (f x : Option FieldType) → Value → List Pair
+  of_extension (Some f) x v = []
+  of_extension None None v = []
+  of_extension None (Some x) v = cond (views.is_set pool x (content_view v)) ((tree.extension (parts x.full_name), give x v) ∷ []) []
+
+  abbrev second : ℕ → Value → List Pair
+  second n v = of_extension (known_field pool i n) (known_extension pool i n) v
+
+  abbrev known_one : Holding → Option Entry
+  known_one h = known_entry m h.0.number h.1
+
+  abbrev others : List (ℕ × Value) → List Entry
+  others es = filter_map known_one (filter_map (set_extension pool i) es)
+
+  abbrev extends : ℕ → ExtensionType → Bool
+  extends n x = (x.extendee == i) && (x.field.number == n)
+
+  extension_entry : (n : ℕ) (v : Value) (rest : List Holding) → value_at (extensions_of m) n ≡ Some v
+      → map pair (filter_map known_one (cons_option (set_extension pool i (n, v)) rest)) ≡ second n v ++ map pair (filter_map known_one rest)
+  extension_entry n v rest at = by (known_field pool i n) refl (find (extends n) pool.extensions) refl where
+    put : Option Holding → List Pair
+    put o = map pair (filter_map known_one (cons_option o rest))
+
+    by : (o : Option FieldType) → known_field pool i n ≡ o → (x : Option ExtensionType) → find (extends n) pool.extensions ≡ x → put (set_extension pool i (n, v)) ≡ second n v ++ map pair (filter_map known_one rest)
+    by (Some f) there x is = absurd (no_field_too n v f at there)
+    by None none None is =
+        ap (λ o. put (option_and_then (if_set pool v) (option_map (λ (x : ExtensionType). x.field) o))) is
+        ∙ sym (ap (λ o. of_extension o (known_extension pool i n) v ++ map pair (filter_map known_one rest)) none
+        ∙ ap (λ o. of_extension None (option_and_then (λ (x : ExtensionType). if_held pool x.field) o) v ++ map pair (filter_map known_one rest)) is)
+    by None none (Some y) is =
+        ap (λ o. put (option_and_then (if_set pool v) (option_map (λ (x : ExtensionType). x.field) o))) is
+        ∙ within (holds_floats pool y.field) refl
+        ∙ sym (ap (λ o. of_extension o (known_extension pool i n) v ++ map pair (filter_map known_one rest)) none) where
+          number : y.field.number ≡ n
+          number = let two = both (y.extendee == i) (y.field.number == n) (passes (extends n) pool.extensions y is) in grind (arith, two.1)
+
+          known_as : known_extension pool i n ≡ if_held pool y.field
+          known_as = ap (option_and_then (λ (x : ExtensionType). if_held pool x.field)) is
+
+          told : (b : Bool) (o : Option FieldType) → known_extension pool i n ≡ o
+              → put (cond b (Some (y.field, v)) None) ≡ map pair (cons_option (cond b (option_map (λ f. extension pool f v) o) None) (filter_map known_one rest))
+          told false o e = refl
+          told true o e = ap (λ o. map pair (cons_option (option_map (λ f. extension pool f v) o) (filter_map known_one rest))) (ap (known_extension pool i) number ∙ e)
+
+          within : (b : Bool) → holds_floats pool y.field ≡ b → put (if_set pool v y.field) ≡ of_extension None (known_extension pool i n) v ++ map pair (filter_map known_one rest)
+          within true e =
+              let nothing : known_extension pool i n ≡ None = known_as ∙ ap (λ b. cond b None (Some y.field)) e in
+              told (forms.is_set pool y.field (form_of v)) None nothing ∙ drops (forms.is_set pool y.field (form_of v))
+              ∙ sym (ap (λ o. of_extension None o v ++ map pair (filter_map known_one rest)) nothing) where
+                drops : (b : Bool) → map pair (cons_option (cond b None None) (filter_map known_one rest)) ≡ map pair (filter_map known_one rest)
+                drops true = refl
+                drops false = refl
+          within false e =
+              let there : known_extension pool i n ≡ Some y.field = known_as ∙ ap (λ b. cond b None (Some y.field)) e in
+              let suits = extension_suits n v y.field at none there in
+              told (forms.is_set pool y.field (form_of v)) (Some y.field) there
+              ∙ ap (λ b. map pair (cons_option (cond b (Some (extension pool y.field v)) None) (filter_map known_one rest))) suits.2
+              ∙ shown_so (views.is_set pool y.field (content_view v))
+              ∙ sym (ap (λ o. of_extension None o v ++ map pair (filter_map known_one rest)) there) where
+                shown_so : (b : Bool) → map pair (cons_option (cond b (Some (extension pool y.field v)) None) (filter_map known_one rest))
+                    ≡ cond b ((tree.extension (parts y.field.full_name), give y.field v) ∷ []) [] ++ map pair (filter_map known_one rest)
+                shown_so true = refl
+                shown_so false = refl
+
+  extensions_said : (es : List (ℕ × Value)) → Found (extensions_of m) es → map pair (others es) ≡ each second es
+  extensions_said [] all = refl
+  extensions_said (e ∷ es) all = extension_entry e.0 e.1 (filter_map (set_extension pool i) es) all.0 ∙ ap (λ l. second e.0 e.1 ++ l) (extensions_said es all.1)
+
+  extensions_fit : (es : List (ℕ × Value)) → Found (extensions_of m) es → AllByRecursion (fits levels) (others es)
+  extensions_fit [] all = tt
+  extensions_fit (e ∷ es) all = by (known_field pool i e.0) refl (find (extends e.0) pool.extensions) refl (extensions_fit es all.1) where
+    put : Option Holding → Type 0
+    put o = AllByRecursion (fits levels) (filter_map known_one (cons_option o (filter_map (set_extension pool i) es)))
+
+    by : (o : Option FieldType) → known_field pool i e.0 ≡ o → (x : Option ExtensionType) → find (extends e.0) pool.extensions ≡ x → AllByRecursion (fits levels) (others es) → put (set_extension pool i e)
+    by (Some f) there x is rest = absurd (no_field_too e.0 e.1 f all.0 there)
+    by None none None is rest = subst (λ o. put (option_and_then (if_set pool e.1) (option_map (λ (x : ExtensionType). x.field) o))) (sym is) rest
+    by None none (Some y) is rest = subst (λ o. put (option_and_then (if_set pool e.1) (option_map (λ (x : ExtensionType). x.field) o))) (sym is) (within (forms.is_set pool y.field (form_of e.1))) where
+      number : y.field.number ≡ e.0
+      number = let two = both (y.extendee == i) (y.field.number == e.0) (passes (extends e.0) pool.extensions y is) in grind (arith, two.1)
+
+      behind : (o : Option FieldType) → known_extension pool i e.0 ≡ o → AllByRecursion (fits levels) (cons_option (option_map (λ f. extension pool f e.1) o) (others es))
+      behind None there = rest
+      behind (Some f) there = let suits = extension_suits e.0 e.1 f all.0 none there in ((refl, suits.0, suits.1), rest)
+
+      within : (b : Bool) → put (cond b (Some (y.field, e.1)) None)
+      within false = rest
+      within true = subst (λ n. AllByRecursion (fits levels) (cons_option (option_map (λ f. extension pool f e.1) (known_extension pool i n)) (others es))) (sym number) (behind (known_extension pool i e.0) refl)
+
+  -- ---- by numbers
+
+  -- what is printed under a number, by the field and the extension that have it
+  abbrev by_names : (f x : Option FieldType) → Option Field → Held → List Pair
+  by_names f x None h = []
+  by_names f x (Some g) (records ps) = []
+  by_names f x (Some g) (content c) =
+      (cond g.extension (tree.extension (parts (printed_name pool f x))) (tree.plain (printed_name pool f x)), printed_content own_form schema inner (λ z. option_and_then (λ k. name_in pool k z) (value_kind pool f x)) g.part.kind c) ∷ []
+
+  held_names : (n : ℕ) (o : Option Field) (h : Held) → printed_held own_form schema inner (names_of pool i) n o h ≡ by_names (known_field pool i n) (known_extension pool i n) o h
+  held_names n None (records ps) = refl
+  held_names n None (content c) = refl
+  held_names n (Some g) (records ps) = refl
+  held_names n (Some g) (content c) = refl
+
+  abbrev under_either : (f x : Option FieldType) → (a b : Option model.Content) → List Payload → List Pair
+  under_either f x a b ps = by_names f x (either_field pool i f x) (held_either pool f x a b ps)
+
+  fields_at : (n : ℕ) (f x : Option FieldType) (v : Option Value) (b : Option model.Content) (ps : List Payload)
+      → cond (is_declared (either_field pool i f x)) (under_either f x (option_map content_view v) b ps) [] ≡ shown (λ n v. of_field f v) v n
+  fields_at n (Some f) x None b ps = refl
+  fields_at n (Some f) x (Some v) b ps = by (views.is_set pool f (content_view v)) where
+    by : (s : Bool) → by_names (Some f) x (Some (field_of pool (oneof_at pool i f) false f)) (cond s (content (content_view v)) absent) ≡ cond s ((tree.plain (label_of pool f), give f v) ∷ []) []
+    by true = refl
+    by false = refl
+  fields_at n None (Some y) None b ps = refl
+  fields_at n None (Some y) (Some v) b ps = refl
+  fields_at n None None None b ps = refl
+  fields_at n None None (Some v) b ps = refl
+
+  extensions_at : (n : ℕ) (f x : Option FieldType) (v : Option Value) (a : Option model.Content) (ps : List Payload)
+      → cond (not (is_declared (either_field pool i f x))) (under_either f x a (option_map content_view v) ps) [] ≡ shown (λ n v. of_extension f x v) v n
+  extensions_at n (Some f) x None a ps = refl
+  extensions_at n (Some f) x (Some v) a ps = refl
+  extensions_at n None (Some y) None a ps = refl
+  extensions_at n None (Some y) (Some v) a ps = by (views.is_set pool y (content_view v)) where
+    by : (s : Bool) → by_names None (Some y) (Some (field_of pool None true y)) (cond s (content (content_view v)) absent) ≡ cond s ((tree.extension (parts y.full_name), give y v) ∷ []) []
+    by true = refl
+    by false = refl
+  extensions_at n None None None a ps = refl
+  extensions_at n None None (Some v) a ps = refl
+
+  abbrev printed_at : ℕ → List Pair
+  printed_at n = printed_held own_form schema inner (names_of pool i) n (field_at pool i n) (view m n)
+
+  seen_at : (n : ℕ) → printed_at n ≡ under_either (known_field pool i n) (known_extension pool i n) (option_map content_view (value_at (fields_of m) n)) (option_map content_view (value_at (extensions_of m) n)) (payloads n (unknown_of m))
+  seen_at n =
+      ap (λ (s : Message). printed_held own_form schema inner (names_of pool i) n (field_at pool i n) (s n)) (view_opened m)
+      ∙ held_names n (field_at pool i n) (view_of pool i (content_of m) n)
+      ∙ ap (λ a. under_either (known_field pool i n) (known_extension pool i n) a (value_at (contents_view (extensions_of m)) n) (payloads n (unknown_of m))) (value_at-view (fields_of m) n)
+      ∙ ap (λ b. under_either (known_field pool i n) (known_extension pool i n) (option_map content_view (value_at (fields_of m) n)) b (payloads n (unknown_of m))) (value_at-view (extensions_of m) n)
+
+  first_at : (n : ℕ) → cond (is_declared (field_at pool i n)) (printed_at n) [] ≡ under first (fields_of m) n
+  first_at n =
+      ap (λ l. cond (is_declared (field_at pool i n)) l []) (seen_at n)
+      ∙ fields_at n (known_field pool i n) (known_extension pool i n) (value_at (fields_of m) n) (option_map content_view (value_at (extensions_of m) n)) (payloads n (unknown_of m))
+      ∙ same_shown (value_at (fields_of m) n) where
+        same_shown : (v : Option Value) → shown (λ n v. of_field (known_field pool i n) v) v n ≡ shown first v n
+        same_shown None = refl
+        same_shown (Some v) = refl
+
+  second_at : (n : ℕ) → cond (not (is_declared (field_at pool i n))) (printed_at n) [] ≡ under second (extensions_of m) n
+  second_at n =
+      ap (λ l. cond (not (is_declared (field_at pool i n))) l []) (seen_at n)
+      ∙ extensions_at n (known_field pool i n) (known_extension pool i n) (value_at (extensions_of m) n) (option_map content_view (value_at (fields_of m) n)) (payloads n (unknown_of m))
+      ∙ same_shown (value_at (extensions_of m) n) where
+        same_shown : (v : Option Value) → shown (λ n v. of_extension (known_field pool i n) (known_extension pool i n) v) v n ≡ shown second v n
+        same_shown None = refl
+        same_shown (Some v) = refl
+
+  abbrev placed_at : ℕ → List Pair
+  placed_at k = flat_map (λ n. printed_held own_form schema inner (names_of pool k) n (field_at pool k n) (view m n)) (printing_order own_form (names_of pool k) (λ n. field_at pool k n))
+
+  found_fields : Found (fields_of m) (fields_of m)
+  found_fields = found_each 1 (2 ^ 29 - 1) (fields_of m) shaped.fields_rise
+
+  found_extensions : Found (extensions_of m) (extensions_of m)
+  found_extensions = found_each 1 (2 ^ 29 - 1) (extensions_of m) shaped.extensions_rise
+
+  pub all_printed : AllByRecursion (fits levels) (set_entries m) × AllByRecursion (fits levels) (extension_entries m)
+      × (pairs_in pool fields_have values decoded inner rounds m ≡ map pair (set_entries m) ++ map pair (extension_entries m))
+  all_printed =
+      let declared = λ (n : ℕ). is_declared (field_at pool i n) in (
+        fields_fit (fields_of m) found_fields,
+        extensions_fit (extensions_of m) found_extensions,
+        ap placed_at (placed pool.messages i m.descriptor.in_range (λ k less e. names i k m.descriptor.in_range less e))
+        ∙ flat_map-append printed_at (filter declared field_numbers) (filter (λ n. not (declared n)) field_numbers)
+        ∙ ap (λ l. l ++ flat_map printed_at (filter (λ n. not (declared n)) field_numbers))
+        (filtered declared printed_at field_numbers ∙ same_numbers (λ n. cond (declared n) (printed_at n) []) (under first (fields_of m)) (λ n le. first_at n)
+        ∙ all_numbers first (fields_of m) shaped.fields_rise ∙ sym (fields_said (fields_of m) found_fields))
+        ∙ ap (λ l. map pair (set_entries m) ++ l)
+        (filtered (λ n. not (declared n)) printed_at field_numbers ∙ same_numbers (λ n. cond (not (declared n)) (printed_at n) []) (under second (extensions_of m)) (λ n le. second_at n)
+        ∙ all_numbers second (extensions_of m) shaped.extensions_rise ∙ sym (extensions_said (extensions_of m) found_extensions)),
+      )

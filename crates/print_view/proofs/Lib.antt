@@ -1,0 +1,6 @@
+mod Counting
+mod Pieces
+mod Singles
+mod Values
+mod Entries
+pub mod Printed

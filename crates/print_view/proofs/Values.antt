@@ -1,0 +1,335 @@
+-- The text of values and messages is that of their trees.
+use Rattle.std.proofs.Common.{◌≡◌, ◌⊎◌, inl, inr, ℕ, ℤ, zero, suc, ◌+◌, ◌&&◌, Bool, true, false, true≢false, cond, not, if◌then◌else◌, List, [], ◌∷◌, ◌++◌, map, Option, Some, None, unwrap_or, codes, refl, sym, ap, ◌∙◌, subst, append-nil, append_assoc}
+use Rattle.std.specs.List.{AllByRecursion}
+use Rattle.protox_lex.specs.Class.{Text}
+use Rattle.reflect_tables.specs.Types.{PoolType, FieldType, KindType, type_at, type_of_field, no_field}
+use Rattle.reflect_tables.specs.Types as types
+use Rattle.reflect_tables.specs.declared.stored.StoredEntry.{StoredEntry}
+use Rattle.reflect_pool.specs.Kinds.{IsKind}
+use Rattle.reflect_pool.specs.Shapes.{is_entry, is_repeated, holds_list, holds_map}
+use Rattle.reflect_pool.specs.declared.kind.Kind.TheVariants as publics
+use Rattle.reflect_scalar.specs.Keys.{key_view}
+use Rattle.reflect_scalar.specs.Singles as held
+use Rattle.reflect_scalar.specs.declared.map_key.MapKey.{MapKey}
+use Rattle.reflect_scalar.specs.declared.map_key.MapKey.TheVariants as keys
+use Rattle.reflect_message.specs.Contents.{content_of}
+use Rattle.reflect_message.specs.KindTypes.{IsScalarType, IsMessageType}
+use Rattle.reflect_message.specs.Known.{is_float, entry_field, has_floats, holds_floats}
+use Rattle.reflect_message.specs.Lists.{list_items}
+use Rattle.reflect_message.specs.Maps.{map_entries}
+use Rattle.reflect_message.specs.Messages.{message_in}
+use Rattle.reflect_message.specs.Singles as singles
+use Rattle.reflect_message.specs.declared.message.DynamicMessage.{DynamicMessage}
+use Rattle.reflect_message.specs.declared.value.Value.{Value}
+use Rattle.reflect_print.specs.Entries.{Entry, field, extension, undeclared, set_entries, extension_entries}
+use Rattle.reflect_print.specs.MessageTexts.{before_value, any_behind, key_text, value_text, IsSingleText, IsValueText, single_text, message_text, list_text, map_text, IsListText, no_values, more_values, IsPairText, pair_text, IsMapText, no_pairs, more_pairs, IsBracedText, braced, IsItemsText, expanded, listed, IsRowText, no_entries, more_entries, IsEntryText, field_text, extension_text, record_text}
+use Rattle.reflect_print.specs.Named.{Named, named, value_kind, entry_value_kind, label_of}
+use Rattle.text_lines.specs.Pieces.{before_element}
+use Rattle.text_lines.specs.Pieces as pieces
+use Rattle.protobuf_model.specs.Types.{Name, nested}
+use Rattle.protobuf_model.specs.Values as model
+use Rattle.protobuf_model.specs.Values.{Content, Message, chain_of, entries_of}
+use Rattle.text_model.specs.Printed.{Inner, joined, parts, printed_content, printed_list, printed_entry, printed_entries, printed_fields, printed_single, value_in}
+use Rattle.text_model.specs.Rendered.{run}
+use Rattle.text_model.specs.Schemas.{Schema}
+use Rattle.text_model.specs.Tokens.{scalar_tokens, value_tokens, more_tokens, values_tokens, given_tokens, fields_tokens}
+use Rattle.text_model.specs.Tree as tree
+use Rattle.text_model.specs.Tree.{Given, Fields, Values, comma, curly}
+use Rattle.text_lex.specs.Token.{sign}
+use Rattle.message_view.specs.Singles.{single_view}
+use Rattle.message_view.specs.Sound.{HaveEntryFields}
+use Rattle.message_view.specs.Types.{name_at, kind_in, frame_of, entry_part, values_of}
+use Rattle.message_view.specs.Views.{content_view, view}
+use Rattle.message_view.proofs.Arranging.{Shaped}
+use Rattle.message_view.proofs.Entries.{Sort, plain, floating, message_type, sort_of}
+use Rattle.message_view.proofs.Seen.{single_seen, message_seen, list_seen, map_seen, pairs_view}
+use Rattle.message_view.proofs.Written.{FitsOne, FitsAs}
+use Rattle.text_view.specs.Names.{name_in}
+use Rattle.text_view.specs.Schemas.{schema_of}
+use Rattle.print_view.specs.Forms.{compact_form, own_form}
+use Rattle.print_view.specs.Parts.{HaveValues}
+use Rattle.print_view.proofs.Pieces.{Pair, one, row, list_tokens, run_append, word_said, name_said, bracket_said, joined_said, row_append, any_pairs, braced_said, no_line}
+use Rattle.print_view.proofs.Singles.{single_said, key_said}
+
+-- what is seen of a value is of one sort
+no_message : (v : Value) (c : Content) → content_view v ≡ c → ((m : Message) → c ≡ model.message m → ⊥) → message_in v ≡ None
+no_message v c is other = by (message_in v) refl where
+  by : (o : Option DynamicMessage) → message_in v ≡ o → o ≡ None
+  by None e = refl
+  by (Some m) e = absurd (other (view m) (sym is ∙ message_seen v m e))
+
+-- a key is no value of an enum
+no_enum : (k : MapKey) (n : ℤ) → key_view k ≡ held.enumerated n → ⊥
+no_enum (keys.Bool b) n e = cc e
+no_enum (keys.I32 z) n e = cc e
+no_enum (keys.I64 z) n e = cc e
+no_enum (keys.U32 m) n e = cc e
+no_enum (keys.U64 m) n e = cc e
+no_enum (keys.String t) n e = cc e
+
+module _ (pool : PoolType) (fields_of : HaveEntryFields pool) (values : HaveValues pool) (decoded : Name → Text → Option Message) (inner : Inner) (payloads : ℕ) where
+  abbrev pub schema : Schema
+  schema = schema_of pool decoded
+
+  -- what is given to a field whose values are of the type of this one
+  abbrev pub given : FieldType → Value → Given
+  given f v = printed_content own_form schema inner (name_in pool f.kind) (kind_in pool f.group f.kind) (content_view v)
+
+  -- what is printed of a message
+  abbrev pub pairs_in : DynamicMessage → List Pair
+  pairs_in m = printed_fields own_form schema inner (name_at pool m.descriptor.index) (view m)
+
+  abbrev pub tree_of : DynamicMessage → Fields
+  tree_of m = joined comma (pairs_in m)
+
+  abbrev in_braces : Fields → Text
+  in_braces fs = 123 ∷ (run (fields_tokens fs) ++ 125 ∷ [])
+
+  -- a text is that of a value in a list, and behind a name
+  abbrev Said : FieldType → Value → Text → Type 0
+  Said f v z = (z ≡ run (value_tokens (value_in (given f v)))) × (before_value false (message_in v) ++ z ≡ run (given_tokens (given f v)))
+
+  said_single : (f : FieldType) (v : Value) (s : held.Single) (z : Text) → singles.single v ≡ Some s → z ≡ run (scalar_tokens (printed_single (name_in pool f.kind) (single_view s))) → Said f v z
+  said_single f v s z is h =
+      let seen = single_seen v s is in
+      let same = ap (λ c. printed_content own_form schema inner (name_in pool f.kind) (kind_in pool f.group f.kind) c) seen in (
+        h ∙ sym (ap (λ g. run (value_tokens (value_in g))) same),
+        ap (λ o. before_value false o ++ z) (no_message v (model.single (single_view s)) seen (λ m e. cc e)) ∙ ap (λ l. 58 ∷ l) h ∙ sym (ap (λ g. run (given_tokens g)) same),
+      )
+
+  said_message : (f : FieldType) (v : Value) (m : DynamicMessage) (z : Text) → message_in v ≡ Some m → f.kind ≡ types.message m.descriptor.index → z ≡ in_braces (tree_of m) → Said f v z
+  said_message f v m z is kind h =
+      let same : given f v ≡ tree.one_message false curly (tree_of m) =
+      ap (λ c. printed_content own_form schema inner (name_in pool f.kind) (kind_in pool f.group f.kind) c) (message_seen v m is)
+      ∙ ap (λ k. printed_content own_form schema inner (name_in pool f.kind) (kind_in pool f.group k) (model.message (view m))) kind in (
+        h ∙ sym (braced_said (tree_of m)) ∙ sym (ap (λ g. run (value_tokens (value_in g))) same),
+        ap (λ o. before_value false o ++ z) is ∙ h ∙ sym (braced_said (tree_of m)) ∙ sym (ap (λ g. run (given_tokens g)) same),
+      )
+
+  -- a list and a map behind a name
+  abbrev Behind : FieldType → Value → Text → Type 0
+  Behind f v z = before_value false (message_in v) ++ z ≡ run (given_tokens (given f v))
+
+  behind_list : (f : FieldType) (v : Value) (c : Content) (vs : Values) (z : Text) → content_view v ≡ c → ((m : Message) → c ≡ model.message m → ⊥)
+      → printed_content own_form schema inner (name_in pool f.kind) (kind_in pool f.group f.kind) c ≡ tree.listed vs → z ≡ run (values_tokens vs) → Behind f v (91 ∷ (z ++ 93 ∷ []))
+  behind_list f v c vs z seen other is h =
+      ap (λ o. before_value false o ++ (91 ∷ (z ++ 93 ∷ []))) (no_message v c seen other)
+      ∙ ap (λ l. 58 ∷ 91 ∷ (l ++ 93 ∷ [])) h
+      ∙ ap (λ l. 58 ∷ 91 ∷ l) (sym (run_append (values_tokens vs) (sign 93 ∷ [])))
+      ∙ sym (ap (λ c. run (given_tokens (printed_content own_form schema inner (name_in pool f.kind) (kind_in pool f.group f.kind) c))) seen ∙ ap (λ g. run (given_tokens g)) is)
+
+  -- what may be printed of a message
+  abbrev pub FitsField : ℕ → PoolType → FieldType → Value → Type 0
+  FitsField levels p f v = (p ≡ pool) × (holds_floats pool f ≡ false) × FitsAs (Shaped levels) pool f (holds_map pool f) (holds_list pool f) v
+
+  abbrev pub EntryFits : ℕ → Entry → Type 0
+  EntryFits levels (field p f v) = FitsField levels p f v
+  EntryFits levels (extension p f v) = FitsField levels p f v
+  EntryFits levels (undeclared r) = ⊥
+
+  -- an entry under its name
+  abbrev pub pair_of : Entry → Pair
+  pair_of (field p f v) = (tree.plain (label_of pool f), given (values_of pool f) v)
+  pair_of (extension p f v) = (tree.extension (parts f.full_name), given (values_of pool f) v)
+  pair_of (undeclared r) = (tree.plain [], tree.listed tree.no_values)
+
+  -- what has to be shown of a message at each depth: what is printed of it are its entries
+  abbrev pub Printed : Type 0
+  Printed = (levels : ℕ) (m : DynamicMessage) → m.descriptor.pool.now ≡ pool → Shaped (suc levels) m
+      → AllByRecursion (EntryFits levels) (set_entries m) × AllByRecursion (EntryFits levels) (extension_entries m)
+      × (pairs_in m ≡ map pair_of (set_entries m) ++ map pair_of (extension_entries m))
+
+  -- the values of a map are those of its entries' type
+  map_values : (f : FieldType) → holds_map pool f ≡ true → value_kind (named pool f.kind) ≡ named pool (values_of pool f).kind
+  map_values f is = by f.kind refl where
+    entry_too : (t : KindType) → is_entry pool t && (is_repeated f.cardinality && not f.group) ≡ true → is_entry pool t ≡ true
+    entry_too t e = first (is_entry pool t) (is_repeated f.cardinality && not f.group) e where
+      first : (a b : Bool) → a && b ≡ true → a ≡ true
+      first true b e = refl
+      first false b e = absurd (cc e)
+
+    within : (i : ℕ) → f.kind ≡ types.message i → (o : Option StoredEntry) → (type_at pool i).entry ≡ o → value_kind (named pool (types.message i)) ≡ named pool (values_of pool f).kind
+    within i kind None none =
+        let entry = entry_too f.kind is in
+        absurd (true≢false (sym entry ∙ ap (is_entry pool) kind ∙ ap (λ o. elim o [ None ↦ false | Some x ↦ true ]) none))
+    within i kind (Some e) some =
+        ap (λ o. elim o [ None ↦ None | Some e ↦ named pool (type_of_field pool i e.value).kind ]) some
+        ∙ sym (ap (λ b. named pool (cond b (entry_part pool f 2) f).kind) is
+        ∙ ap (λ o. named pool (unwrap_or o no_field).kind) (ap (λ t. entry_field pool t 2) kind ∙ values i e some))
+
+    by : (t : KindType) → f.kind ≡ t → value_kind (named pool f.kind) ≡ named pool (values_of pool f).kind
+    by (types.message i) kind = ap (λ t. value_kind (named pool t)) kind ∙ within i kind (type_at pool i).entry refl
+    by t kind = absurd (true≢false (sym (entry_too f.kind is) ∙ ap (is_entry pool) kind))
+
+  one_of : (f : FieldType) → holds_map pool f ≡ false → values_of pool f ≡ f
+  one_of f is = ap (λ b. cond b (entry_part pool f 2) f) is
+
+  -- neither are floating-point numbers
+  not_float : (f : FieldType) → holds_floats pool f ≡ false → holds_map pool f ≡ false → is_float f.kind ≡ false
+  not_float f whole is = by (is_float f.kind) refl where
+    by : (b : Bool) → is_float f.kind ≡ b → b ≡ false
+    by false e = refl
+    by true e = absurd (true≢false (sym (ap (λ b. b || (holds_map pool f && has_floats pool f.kind)) e) ∙ whole))
+
+  values_there : (f : FieldType) → holds_map pool f ≡ true → (g : FieldType) × (entry_field pool f.kind 2 ≡ Some g) × (values_of pool f ≡ g)
+  values_there f is =
+      let there = fields_of f.kind (first (is_entry pool f.kind) (is_repeated f.cardinality && not f.group) is) in
+      (there.1, there.3, ap (λ b. cond b (entry_part pool f 2) f) is ∙ ap (λ o. unwrap_or o no_field) there.3) where
+        first : (a b : Bool) → a && b ≡ true → a ≡ true
+        first true b e = refl
+        first false b e = absurd (cc e)
+
+  values_not_float : (f : FieldType) → holds_floats pool f ≡ false → holds_map pool f ≡ true → is_float (values_of pool f).kind ≡ false
+  values_not_float f whole is =
+      let there = values_there f is in
+      ap (λ (g : FieldType). is_float g.kind) there.2
+      ∙ sym (ap (λ o. elim o [ None ↦ false | Some v ↦ is_float v.kind ]) there.1)
+      ∙ second (is_float f.kind) (has_floats pool f.kind) (sym (ap (λ b. is_float f.kind || (b && has_floats pool f.kind)) is) ∙ whole) where
+        second : (a b : Bool) → a || (true && b) ≡ false → b ≡ false
+        second true b e = absurd (cc e)
+        second false b e = e
+
+  each_value : (f : FieldType) (levels : ℕ) (is : holds_map pool f ≡ true) (es : List (MapKey × Value))
+      → AllByRecursion (λ (e : MapKey × Value). (values : FieldType) → entry_field pool f.kind 2 ≡ Some values → FitsOne (Shaped levels) pool values e.1) es
+      → AllByRecursion (λ (e : MapKey × Value). FitsOne (Shaped levels) pool (values_of pool f) e.1) es
+  each_value f levels is [] all = tt
+  each_value f levels is (e ∷ es) all =
+      let there = values_there f is in
+      (subst (λ g. FitsOne (Shaped levels) pool g e.1) (sym there.2) (all.0 there.0 there.1), each_value f levels is es all.1)
+
+  -- one value more of a list
+  more_said : (first : Bool) (v : tree.Value) (vs : Values) (y rest : Text) → y ≡ run (value_tokens v) → rest ≡ run (list_tokens false vs) → before_element false first ++ (y ++ rest) ≡ run (list_tokens first (tree.more_values v vs))
+  more_said true v vs y rest h k = ap (λ l. l ++ rest) h ∙ ap (λ l. run (value_tokens v) ++ l) k ∙ sym (run_append (value_tokens v) (more_tokens vs))
+  more_said false v vs y rest h k = ap (λ l. 44 ∷ l) (ap (λ l. l ++ rest) h ∙ ap (λ l. run (value_tokens v) ++ l) k ∙ sym (run_append (value_tokens v) (more_tokens vs)))
+
+  -- an entry of a map
+  entry_said : (f : FieldType) (v : Value) (k : tree.ScalarValue) (i : ℕ) (key value : Text) → key ≡ run (scalar_tokens k) → before_value false (message_in v) ++ value ≡ run (given_tokens (given f v))
+      → pieces.in_braces false i true (key_text false (i + 2) key ++ value_text false (i + 2) v value) ≡ run (value_tokens (printed_entry comma k (given f v)))
+  entry_said f v k i key value h said =
+      let p : Pair = (tree.plain (codes "key"), tree.one_scalar k) in
+      let q : Pair = (tree.plain (codes "value"), given f v) in
+      let first : codes "key" ++ 58 ∷ key ≡ one p = ap (λ l. codes "key" ++ 58 ∷ l) h ∙ ap (λ l. l ++ 58 ∷ run (scalar_tokens k)) (sym (word_said (codes "key"))) in
+      let second : codes "value" ++ (before_value false (message_in v) ++ value) ≡ one q = ap (λ l. codes "value" ++ l) said ∙ ap (λ l. l ++ run (given_tokens (given f v))) (sym (word_said (codes "value"))) in
+      ap (λ l. 123 ∷ ((l ++ 44 ∷ (codes "value" ++ (before_value false (message_in v) ++ value))) ++ 125 ∷ [])) first
+      ∙ ap (λ l. 123 ∷ ((one p ++ 44 ∷ l) ++ 125 ∷ [])) (second ∙ sym (append-nil (one q)))
+      ∙ sym (braced_said (joined comma (p ∷ q ∷ [])) ∙ ap (λ l. 123 ∷ (l ++ 125 ∷ [])) (joined_said (p ∷ q ∷ [])))
+
+  same_any : (any : Bool) (es : List Entry) → any_behind any es ≡ any_pairs any (map pair_of es)
+  same_any any [] = refl
+  same_any any (e ∷ es) = refl
+
+  -- what a message holds, one behind the other
+  rows_said : (m : DynamicMessage) (ds os : List Entry) (y rest : Text) → ds ≡ set_entries m → os ≡ extension_entries m → y ≡ row false (map pair_of ds) → rest ≡ row (any_behind false ds) (map pair_of os)
+      → pairs_in m ≡ map pair_of (set_entries m) ++ map pair_of (extension_entries m) → y ++ rest ≡ run (fields_tokens (tree_of m))
+  rows_said m ds os y rest declared others fields extensions all =
+      ap (λ l. l ++ rest) fields ∙ ap (λ l. row false (map pair_of ds) ++ l) (extensions ∙ ap (λ b. row b (map pair_of os)) (same_any false ds))
+      ∙ sym (row_append false (map pair_of ds) (map pair_of os))
+      ∙ ap (λ es. row false (map pair_of es ++ map pair_of os)) declared ∙ ap (λ es. row false (map pair_of (set_entries m) ++ map pair_of es)) others
+      ∙ ap (row false) (sym all) ∙ sym (joined_said (pairs_in m))
+
+  -- what a value is, by whether its field is a map, and whether it is a list
+  abbrev Whole : Bool → FieldType → Type 0
+  Whole true f = (holds_floats pool f ≡ false) × (holds_map pool f ≡ true)
+  Whole false f = is_float f.kind ≡ false
+
+  abbrev Shows : (map_too repeated : Bool) → FieldType → Value → Text → Type 0
+  Shows true repeated f v z = Behind (values_of pool f) v z
+  Shows false true f v z = Behind f v z
+  Shows false false f v z = Said f v z
+
+  -- what a field holds, behind its name
+  held_said : (f : FieldType) (v : Value) (z : Text) (b c : Bool) → holds_map pool f ≡ b → holds_floats pool f ≡ false
+      → ((b c : Bool) → holds_map pool f ≡ b → Whole b f → (levels : ℕ) → FitsAs (Shaped levels) pool f b c v → Shows b c f v z)
+      → (levels : ℕ) → FitsAs (Shaped levels) pool f b c v → Behind (values_of pool f) v z
+  held_said f v z true c is whole shows levels fits = shows true c is (whole, is) levels fits
+  held_said f v z false true is whole shows levels fits = subst (λ g. Behind g v z) (sym (one_of f is)) (shows false true is (not_float f whole is) levels fits)
+  held_said f v z false false is whole shows levels fits = subst (λ g. Behind g v z) (sym (one_of f is)) (shows false false is (not_float f whole is) levels fits).1
+
+  module _ (printed : Printed) where
+    mutual
+      value_said : {x i : ℕ} {kind : Named} {v : Value} {z : Text} → IsValueText compact_form payloads x i kind v z → (levels : ℕ) (f : FieldType) (b c : Bool) → kind ≡ named pool f.kind → Whole b f → FitsAs (Shaped levels) pool f b c v → Shows b c f v z
+      value_said {v = v} (single_text s is text) levels f true c kind whole fits = absurd (cc (sym (single_seen v s is) ∙ map_seen v fits.0 fits.1))
+      value_said {v = v} (single_text s is text) levels f false true kind whole fits = absurd (cc (sym (single_seen v s is) ∙ list_seen v fits.0 fits.1))
+      value_said {v = v} {z = z} (single_text s is text) levels f false false kind whole fits =
+          said_single f v s z is (single_said pool f.kind s z (subst (λ k. IsSingleText k s z) kind text))
+      value_said {v = v} (message_text m is text) levels f true c kind whole fits = absurd (cc (sym (message_seen v m is) ∙ map_seen v fits.0 fits.1))
+      value_said {v = v} (message_text m is text) levels f false true kind whole fits = absurd (cc (sym (message_seen v m is) ∙ list_seen v fits.0 fits.1))
+      value_said {v = v} {z = z} (message_text m is text) levels f false false kind whole fits = by (sort_of f.kind) (braced_text text levels) where
+        by : Sort f.kind → (m.descriptor.pool.now ≡ pool → Shaped levels m → z ≡ in_braces (tree_of m)) → Said f v z
+        by (floating e) deeper = absurd (true≢false (sym e ∙ whole))
+        by (plain type) deeper = let w = fits.plain type in absurd (cc (sym (single_seen v w.0 w.1) ∙ message_seen v m is))
+        by (message_type type) deeper =
+            let n = fits.nested type in
+            let same : n.0 ≡ m = ap (λ o. unwrap_or o m) (sym n.1 ∙ is) in
+            said_message f v m z is (n.2.1 ∙ ap (λ (m : DynamicMessage). types.message m.descriptor.index) same)
+            (deeper (sym (ap (λ (m : DynamicMessage). m.descriptor.pool.now) same) ∙ n.2.0) (subst (Shaped levels) same n.3))
+      value_said {v = v} (list_text vs y is text) levels f true c kind whole fits = absurd (cc (sym (list_seen v vs is) ∙ map_seen v fits.0 fits.1))
+      value_said {v = v} (list_text vs y is text) levels f false true kind whole fits =
+          let same : fits.0 ≡ vs = ap (λ o. unwrap_or o vs) (sym fits.1 ∙ is) in
+          behind_list f v (model.list (chain_of (map content_view vs))) (printed_list own_form schema inner (name_in pool f.kind) (kind_in pool f.group f.kind) (chain_of (map content_view vs))) y (list_seen v vs is) (λ m e. cc e) refl
+          (list_said text levels f kind whole (subst (AllByRecursion (FitsOne (Shaped levels) pool f)) same fits.2))
+      value_said {v = v} (list_text vs y is text) levels f false false kind whole fits = by (sort_of f.kind) where
+        by : Sort f.kind → Said f v (91 ∷ (y ++ 93 ∷ []))
+        by (floating e) = absurd (true≢false (sym e ∙ whole))
+        by (plain type) = let w = fits.plain type in absurd (cc (sym (single_seen v w.0 w.1) ∙ list_seen v vs is))
+        by (message_type type) = let n = fits.nested type in absurd (cc (sym (message_seen v n.0 n.1) ∙ list_seen v vs is))
+      value_said {v = v} (map_text es y is text) levels f true c kind whole fits =
+          let same : fits.0 ≡ es = ap (λ o. unwrap_or o es) (sym fits.1 ∙ is) in
+          let g = values_of pool f in
+          let every = subst (λ es. AllByRecursion (λ (e : MapKey × Value). (values : FieldType) → entry_field pool f.kind 2 ≡ Some values → FitsOne (Shaped levels) pool values e.1) es) same fits.2 in
+          behind_list g v (model.dictionary (entries_of (pairs_view es))) (printed_entries own_form schema inner (name_in pool g.kind) (kind_in pool g.group g.kind) (entries_of (pairs_view es))) y (map_seen v es is) (λ m e. cc e) refl
+          (map_said text levels g (ap value_kind kind ∙ map_values f whole.1) (values_not_float f whole.0 whole.1) (each_value f levels whole.1 es every))
+      value_said {v = v} (map_text es y is text) levels f false true kind whole fits = absurd (cc (sym (map_seen v es is) ∙ list_seen v fits.0 fits.1))
+      value_said {v = v} (map_text es y is text) levels f false false kind whole fits = by (sort_of f.kind) where
+        by : Sort f.kind → Said f v (91 ∷ (y ++ 93 ∷ []))
+        by (floating e) = absurd (true≢false (sym e ∙ whole))
+        by (plain type) = let w = fits.plain type in absurd (cc (sym (single_seen v w.0 w.1) ∙ map_seen v es is))
+        by (message_type type) = let n = fits.nested type in absurd (cc (sym (message_seen v n.0 n.1) ∙ map_seen v es is))
+
+      list_said : {x i : ℕ} {kind : Named} {first : Bool} {vs : List Value} {z : Text} → IsListText compact_form payloads x i kind first vs z → (levels : ℕ) (f : FieldType) → kind ≡ named pool f.kind → is_float f.kind ≡ false → AllByRecursion (FitsOne (Shaped levels) pool f) vs
+          → z ≡ run (list_tokens first (printed_list own_form schema inner (name_in pool f.kind) (kind_in pool f.group f.kind) (chain_of (map content_view vs))))
+      list_said {first = true} no_values levels f kind whole fits = refl
+      list_said {first = false} no_values levels f kind whole fits = refl
+      list_said {first = first} (more_values {v = v} {vs = vs} y rest text texts) levels f kind whole fits =
+          more_said first (value_in (given f v)) (printed_list own_form schema inner (name_in pool f.kind) (kind_in pool f.group f.kind) (chain_of (map content_view vs))) y rest (value_said text levels f false false kind whole fits.0).0 (list_said texts levels f kind whole fits.1)
+
+      pair_said : {x i : ℕ} {kind : Named} {e : MapKey × Value} {z : Text} → IsPairText compact_form payloads x i kind e z → (levels : ℕ) (f : FieldType) → kind ≡ named pool f.kind → is_float f.kind ≡ false → FitsOne (Shaped levels) pool f e.1
+          → z ≡ run (value_tokens (printed_entry comma (printed_single (name_in pool f.kind) (single_view (key_view e.0))) (given f e.1)))
+      pair_said {i = i} {e = e} (pair_text key value keyed text) levels f kind whole fits =
+          entry_said f e.1 (printed_single (name_in pool f.kind) (single_view (key_view e.0))) i key value (key_said pool f.kind (key_view e.0) key (no_enum e.0) keyed) (value_said text levels f false false kind whole fits).1
+
+      map_said : {x i : ℕ} {kind : Named} {first : Bool} {es : List (MapKey × Value)} {z : Text} → IsMapText compact_form payloads x i kind first es z → (levels : ℕ) (f : FieldType) → kind ≡ named pool f.kind → is_float f.kind ≡ false → AllByRecursion (λ (e : MapKey × Value). FitsOne (Shaped levels) pool f e.1) es
+          → z ≡ run (list_tokens first (printed_entries own_form schema inner (name_in pool f.kind) (kind_in pool f.group f.kind) (entries_of (pairs_view es))))
+      map_said {first = true} no_pairs levels f kind whole fits = refl
+      map_said {first = false} no_pairs levels f kind whole fits = refl
+      map_said {first = first} (more_pairs {e = e} {es = es} y rest text texts) levels f kind whole fits =
+          more_said first (printed_entry comma (printed_single (name_in pool f.kind) (single_view (key_view e.0))) (given f e.1)) (printed_entries own_form schema inner (name_in pool f.kind) (kind_in pool f.group f.kind) (entries_of (pairs_view es))) y rest (pair_said text levels f kind whole fits.0) (map_said texts levels f kind whole fits.1)
+
+      braced_text : {x i : ℕ} {m : DynamicMessage} {z : Text} → IsBracedText compact_form payloads x i m z → (levels : ℕ) → m.descriptor.pool.now ≡ pool → Shaped levels m → z ≡ in_braces (tree_of m)
+      braced_text {i = i} (braced any y text) levels there shaped =
+          ap (λ l. 123 ∷ (y ++ (l ++ 125 ∷ []))) (no_line any i) ∙ ap (λ l. 123 ∷ (l ++ 125 ∷ [])) (items_said text levels there shaped)
+
+      pub items_said : {x i : ℕ} {braces any : Bool} {m : DynamicMessage} {z : Text} → IsItemsText compact_form payloads x i braces m any z → (levels : ℕ) → m.descriptor.pool.now ≡ pool → Shaped levels m → z ≡ run (fields_tokens (tree_of m))
+      items_said (expanded url body y may holds text) levels there shaped = absurd (cc may.0)
+      items_said (listed ds os y rest either declared others first second) zero there shaped = absurd shaped
+      items_said {m = m} (listed ds os y rest either declared others first second) (suc levels) there shaped =
+          let all = printed levels m there shaped in
+          rows_said m ds os y rest declared others
+          (row_said first levels (subst (AllByRecursion (EntryFits levels)) (sym declared) all.0))
+          (row_said second levels (subst (AllByRecursion (EntryFits levels)) (sym others) all.1)) all.2
+
+      row_said : {x i : ℕ} {braces any : Bool} {es : List Entry} {z : Text} → IsRowText compact_form payloads x i braces any es z → (levels : ℕ) → AllByRecursion (EntryFits levels) es → z ≡ row any (map pair_of es)
+      row_said no_entries levels fits = refl
+      row_said {any = any} (more_entries {e = e} {es = es} y rest text texts) levels fits =
+          ap (λ l. (if any then 44 ∷ [] else []) ++ (l ++ rest)) (entry_text text levels fits.0)
+          ∙ ap (λ l. (if any then 44 ∷ [] else []) ++ (one (pair_of e) ++ l)) (row_said texts levels fits.1)
+
+      entry_text : {x i : ℕ} {e : Entry} {z : Text} → IsEntryText compact_form payloads x i e z → (levels : ℕ) → EntryFits levels e → z ≡ one (pair_of e)
+      entry_text (field_text {pool = p} {f = f} {v = v} y text) levels fits =
+          ap (λ p. label_of p f ++ (before_value false (message_in v) ++ y)) fits.0
+          ∙ ap (λ l. label_of pool f ++ l) (held_said f v y (holds_map pool f) (holds_list pool f) refl fits.1 (λ b c is whole levels. value_said text levels f b c (ap (λ p. named p f.kind) fits.0) whole) levels fits.2)
+          ∙ ap (λ l. l ++ run (given_tokens (given (values_of pool f) v))) (sym (name_said (label_of pool f)))
+      entry_text (extension_text {pool = p} {f = f} {v = v} y text) levels fits =
+          ap (λ l. (91 ∷ (f.full_name ++ 93 ∷ [])) ++ l) (held_said f v y (holds_map pool f) (holds_list pool f) refl fits.1 (λ b c is whole levels. value_said text levels f b c (ap (λ p. named p f.kind) fits.0) whole) levels fits.2)
+          ∙ ap (λ l. l ++ run (given_tokens (given (values_of pool f) v))) (sym (bracket_said f.full_name))
+      entry_text (record_text text) levels fits = absurd fits

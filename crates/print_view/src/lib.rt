@@ -1,0 +1,5 @@
+//! What is printed of messages, in the words of `text_model`: laws of what the printer of texts
+//! says. It has no code.
+#![tactic(auto)]
+
+pub mod laws;
