@@ -11,7 +11,7 @@ use Rattle.reflect_pool.specs.Shapes.{is_entry, is_repeated, holds_list, holds_m
 use Rattle.reflect_pool.specs.declared.message.MessageDescriptor.{MessageDescriptor}
 use Rattle.reflect_entries.specs.Entries.{value_at}
 use Rattle.reflect_scalar.specs.FieldTypes.{extension_type}
-use Rattle.reflect_access.specs.Walked.{Holding, if_set, set_field, set_extension, numbered_extension}
+use Rattle.reflect_contents.specs.Walked.{Holding, if_set, set_field, set_extension, numbered_extension}
 use Rattle.reflect_message.specs.Bytes as forms
 use Rattle.reflect_message.specs.Bytes.{form_of}
 use Rattle.reflect_message.specs.Contents.{Content, content_of}
