@@ -23,7 +23,7 @@ use Rattle.reflect_message.specs.Maps.{map_entries}
 use Rattle.reflect_message.specs.declared.message.DynamicMessage.{DynamicMessage}
 use Rattle.reflect_message.specs.declared.value.Value.{Value}
 use Rattle.reflect_scalar.specs.declared.map_key.MapKey.{MapKey}
-use Rattle.reflect_print.specs.Entries.{Entry, field, extension, undeclared, set_entry, set_entries, known_entry, extension_entries}
+use Rattle.print_parts.specs.Entries.{Entry, field, extension, undeclared, set_entry, set_entries, known_entry, extension_entries}
 use Rattle.reflect_print.specs.Named.{label_of}
 use Rattle.protobuf_model.specs.Types.{Name, Field}
 use Rattle.protobuf_model.specs.Values as model

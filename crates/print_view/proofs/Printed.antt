@@ -6,7 +6,7 @@ use Rattle.reflect_tables.specs.Types.{PoolType}
 use Rattle.reflect_pool.specs.declared.message.MessageDescriptor.{MessageDescriptor}
 use Rattle.reflect_message.specs.declared.message.DynamicMessage.{DynamicMessage}
 use Rattle.reflect_decode.specs.Spelled.{IsSpelled}
-use Rattle.reflect_print.specs.Entries.{set_entries, extension_entries}
+use Rattle.print_parts.specs.Entries.{set_entries, extension_entries}
 use Rattle.reflect_print.specs.MessageTexts.{IsMessageText}
 use Rattle.protobuf_model.specs.Types.{Name}
 use Rattle.protobuf_model.specs.Values.{Message}
