@@ -1,50 +1,46 @@
 -- What is printed of a message, number by number, and entry by entry.
-use Rattle.std.proofs.Common.{◌≡◌, ◌⊎◌, inl, inr, ◌<◌, ◌≤◌, ℕ, ℤ, zero, suc, ◌-◌, ◌^◌, ◌==◌, ◌&&◌, ◌||◌, Bool, true, false, true≢false, cond, not, List, [], ◌∷◌, ◌++◌, map, length, Option, Some, None, option_map, unwrap_or, refl, sym, ap, ◌∙◌, subst, arith}
+use Rattle.std.proofs.Common.{◌≡◌, inl, inr, ℕ, ◌-◌, ◌^◌, ◌==◌, ◌&&◌, ◌||◌, Bool, true, false, true≢false, cond, not, List, [], ◌∷◌, ◌++◌, map, Option, Some, None, option_map, refl, sym, ap, ◌∙◌, subst, arith}
 use Rattle.std.specs.List.{AllByRecursion, cons_option, find, filter, filter_map, flat_map}
 use Rattle.std.specs.Option.{option_and_then}
 use Rattle.std.proofs.lemmas.Grind.{flat_map-append}
 use Rattle.protox_lex.specs.Class.{Text}
-use Rattle.reflect_tables.specs.Types.{PoolType, FieldType, ExtensionType, KindType}
-use Rattle.reflect_pool.specs.FieldsLeft.{field_type}
+use Rattle.reflect_tables.specs.Types.{PoolType, FieldType, ExtensionType}
 use Rattle.reflect_wire.specs.Records.{Payload}
 use Rattle.reflect_pool.specs.Shapes.{is_entry, is_repeated, holds_list, holds_map}
-use Rattle.reflect_pool.specs.declared.message.MessageDescriptor.{MessageDescriptor}
 use Rattle.reflect_entries.specs.Entries.{value_at}
 use Rattle.reflect_scalar.specs.FieldTypes.{extension_type}
-use Rattle.reflect_contents.specs.Walked.{Holding, if_set, set_field, set_extension, numbered_extension}
+use Rattle.reflect_contents.specs.Walked.{Holding, if_set, set_field, set_extension}
 use Rattle.reflect_message.specs.Bytes as forms
 use Rattle.reflect_message.specs.Bytes.{form_of}
-use Rattle.reflect_message.specs.Contents.{Content, content_of}
+use Rattle.reflect_message.specs.Contents.{content_of}
 use Rattle.reflect_message.specs.Held.{fields_of, extensions_of, unknown_of}
-use Rattle.reflect_message.specs.KindTypes.{IsScalarType, IsMessageType}
 use Rattle.reflect_message.specs.Known.{is_float, has_floats, holds_floats, if_held, numbered_field, known_field, known_extension}
 use Rattle.reflect_message.specs.Lists.{list_items}
 use Rattle.reflect_message.specs.Maps.{map_entries}
 use Rattle.reflect_message.specs.declared.message.DynamicMessage.{DynamicMessage}
 use Rattle.reflect_message.specs.declared.value.Value.{Value}
 use Rattle.reflect_scalar.specs.declared.map_key.MapKey.{MapKey}
-use Rattle.print_parts.specs.Entries.{Entry, field, extension, undeclared, set_entry, set_entries, known_entry, extension_entries}
+use Rattle.print_parts.specs.Entries.{Entry, extension, set_entry, set_entries, known_entry, extension_entries}
 use Rattle.reflect_print.specs.Named.{label_of}
 use Rattle.protobuf_model.specs.Types.{Name, Field}
 use Rattle.protobuf_model.specs.Values as model
 use Rattle.protobuf_model.specs.Values.{Held, content, records, Message, absent}
 use Rattle.protobuf_model.specs.Meaning.{payloads}
 use Rattle.protobuf_model.specs.Bytes.{field_numbers, is_declared}
-use Rattle.text_model.specs.Printed.{Inner, parts, field_name, printed_content, printed_fields, printed_held, printing_order}
-use Rattle.text_model.specs.Schemas.{Names, Schema}
+use Rattle.text_model.specs.Printed.{Inner, parts, printed_content, printed_held, printing_order}
+use Rattle.text_model.specs.Schemas.{Schema}
 use Rattle.text_model.specs.Tree as tree
 use Rattle.text_model.specs.Tree.{Given}
-use Rattle.message_view.specs.Singles.{single_view}
 use Rattle.message_view.specs.Sound.{HaveNames, HaveEntryFields, HaveLists}
-use Rattle.message_view.specs.Types.{name_at, field_of, field_at, either_field, oneof_at, values_of, default_of}
+use Rattle.message_view.specs.Types.{field_of, field_at, either_field, oneof_at, values_of}
 use Rattle.message_view.specs.Views as views
 use Rattle.message_view.specs.Views.{held_in, held_either, content_view, contents_view, view, view_of}
 use Rattle.message_view.proofs.Accepting.{known_whole, extension_known_whole}
 use Rattle.message_view.proofs.Arranging.{IsShaped, Shaped}
 use Rattle.message_view.proofs.Entries.{Sort, plain, floating, message_type, sort_of}
-use Rattle.message_view.proofs.Fields.{held_is, known, known_extension_is, none_owned}
+use Rattle.message_view.proofs.Fields.{known, known_extension_is, none_owned}
 use Rattle.message_view.proofs.Forms.{single_form_seen, message_form_seen, list_form_seen, map_form_seen, forms_of}
-use Rattle.message_view.proofs.Ordering.{Rise, found_each}
+use Rattle.message_view.proofs.Ordering.{found_each}
 use Rattle.message_view.proofs.Seen.{single_seen, message_seen, list_seen, map_seen, pairs_view, value_at-view, view_opened}
 use Rattle.message_view.proofs.Written.{FitsOne, FitsAs, default_same}
 use Rattle.text_view.specs.Names.{name_in, names_of, printed_name, value_kind}
@@ -54,7 +50,7 @@ use Rattle.print_view.specs.Forms.{own_form}
 use Rattle.print_view.specs.Parts.{HaveValues}
 use Rattle.print_view.proofs.Counting.{same_numbers, filtered, shown, under, each, all_numbers}
 use Rattle.print_view.proofs.Pieces.{Pair}
-use Rattle.print_view.proofs.Values.{given, pairs_in, FitsField, EntryFits, pair_of}
+use Rattle.print_view.proofs.Values.{given, pairs_in, EntryFits, pair_of}
 
 -- ---- which fields are set
 
@@ -63,7 +59,7 @@ or_true true = refl
 or_true false = refl
 
 module _ (pool : PoolType) (inner : DynamicMessage → Type 0) where
-  Set : FieldType → Value → Type 0
+  abbrev Set : FieldType → Value → Type 0
   Set f v = forms.is_set pool f (form_of v) ≡ views.is_set pool f (content_view v)
 
   set_one : (f : FieldType) (v : Value) → is_float f.kind ≡ false → FitsOne inner pool f v → Set f v
@@ -382,7 +378,7 @@ module _ (m : DynamicMessage) (fields_have : HaveEntryFields m.descriptor.pool.n
       ap (λ l. cond (is_declared (field_at pool i n)) l []) (seen_at n)
       ∙ fields_at n (known_field pool i n) (known_extension pool i n) (value_at (fields_of m) n) (option_map content_view (value_at (extensions_of m) n)) (payloads n (unknown_of m))
       ∙ same_shown (value_at (fields_of m) n) where
-        same_shown : (v : Option Value) → shown (λ n v. of_field (known_field pool i n) v) v n ≡ shown first v n
+        same_shown : (v : Option Value) → shown (λ k v. of_field (known_field pool i n) v) v n ≡ shown first v n
         same_shown None = refl
         same_shown (Some v) = refl
 
@@ -391,7 +387,7 @@ module _ (m : DynamicMessage) (fields_have : HaveEntryFields m.descriptor.pool.n
       ap (λ l. cond (not (is_declared (field_at pool i n))) l []) (seen_at n)
       ∙ extensions_at n (known_field pool i n) (known_extension pool i n) (value_at (extensions_of m) n) (option_map content_view (value_at (fields_of m) n)) (payloads n (unknown_of m))
       ∙ same_shown (value_at (extensions_of m) n) where
-        same_shown : (v : Option Value) → shown (λ n v. of_extension (known_field pool i n) (known_extension pool i n) v) v n ≡ shown second v n
+        same_shown : (v : Option Value) → shown (λ k v. of_extension (known_field pool i n) (known_extension pool i n) v) v n ≡ shown second v n
         same_shown None = refl
         same_shown (Some v) = refl
 
@@ -411,11 +407,11 @@ module _ (m : DynamicMessage) (fields_have : HaveEntryFields m.descriptor.pool.n
         fields_fit (fields_of m) found_fields,
         extensions_fit (extensions_of m) found_extensions,
         ap placed_at (placed pool.messages i m.descriptor.in_range (λ k less e. names i k m.descriptor.in_range less e))
-        ∙ flat_map-append printed_at (filter declared field_numbers) (filter (λ n. not (declared n)) field_numbers)
-        ∙ ap (λ l. l ++ flat_map printed_at (filter (λ n. not (declared n)) field_numbers))
-        (filtered declared printed_at field_numbers ∙ same_numbers (λ n. cond (declared n) (printed_at n) []) (under first (fields_of m)) (λ n le. first_at n)
-        ∙ all_numbers first (fields_of m) shaped.fields_rise ∙ sym (fields_said (fields_of m) found_fields))
-        ∙ ap (λ l. map pair (set_entries m) ++ l)
-        (filtered (λ n. not (declared n)) printed_at field_numbers ∙ same_numbers (λ n. cond (not (declared n)) (printed_at n) []) (under second (extensions_of m)) (λ n le. second_at n)
-        ∙ all_numbers second (extensions_of m) shaped.extensions_rise ∙ sym (extensions_said (extensions_of m) found_extensions)),
+            ∙ flat_map-append printed_at (filter declared field_numbers) (filter (λ n. not (declared n)) field_numbers)
+            ∙ ap (λ l. l ++ flat_map printed_at (filter (λ n. not (declared n)) field_numbers))
+            (filtered declared printed_at field_numbers ∙ same_numbers (λ n. cond (declared n) (printed_at n) []) (under first (fields_of m)) (λ n le. first_at n)
+            ∙ all_numbers first (fields_of m) shaped.fields_rise ∙ sym (fields_said (fields_of m) found_fields))
+            ∙ ap (λ l. map pair (set_entries m) ++ l)
+            (filtered (λ n. not (declared n)) printed_at field_numbers ∙ same_numbers (λ n. cond (not (declared n)) (printed_at n) []) (under second (extensions_of m)) (λ n le. second_at n)
+            ∙ all_numbers second (extensions_of m) shaped.extensions_rise ∙ sym (extensions_said (extensions_of m) found_extensions)),
       )

@@ -1,13 +1,12 @@
 -- The pieces of a compact text.
 use Rattle.std.proofs.Common.{◌≡◌, ℕ, ◌==◌, Bool, true, false, cond, if◌then◌else◌, List, [], ◌∷◌, ◌++◌, refl, sym, ap, ◌∙◌, append-nil, append_assoc, arith}
-use Rattle.std.specs.List.{flat_map}
 use Rattle.std.proofs.lemmas.Grind.{flat_map-append}
 use Rattle.protox_lex.specs.Class.{Text}
 use Rattle.text_lex.specs.Token.{Token, ident, sign}
 use Rattle.text_lines.specs.Pieces.{bracketed, last_line}
 use Rattle.text_model.specs.Printed.{joined, parts}
 use Rattle.text_model.specs.Rendered.{run, token_text}
-use Rattle.text_model.specs.Tokens.{dotted, full_name_tokens, name_tokens, given_tokens, value_tokens, values_tokens, more_tokens, fields_tokens}
+use Rattle.text_model.specs.Tokens.{full_name_tokens, name_tokens, given_tokens, value_tokens, values_tokens, more_tokens, fields_tokens}
 use Rattle.text_model.specs.Tree.{FullName, FieldName, plain, extension, Given, Values, Fields, braced, curly, comma}
 
 pub run_append : (a b : List Token) → run (a ++ b) ≡ run a ++ run b

@@ -24,7 +24,7 @@ use Rattle.print_view.proofs.Values.{EntryFits, Printed, items_said, pair_of, pa
 
 module _ (decoded : Name → Text → Option Message) (inner : Inner) (rounds : ℕ) where
   -- what is printed of a message, by the pool that it is of
-  Each : ℕ → DynamicMessage → (pool : PoolType) → HaveEntryFields pool → HaveValues pool → Type 0
+  abbrev Each : ℕ → DynamicMessage → (pool : PoolType) → HaveEntryFields pool → HaveValues pool → Type 0
   Each levels m pool fields values =
       AllByRecursion (EntryFits pool fields values decoded inner rounds levels) (set_entries m)
       × AllByRecursion (EntryFits pool fields values decoded inner rounds levels) (extension_entries m)

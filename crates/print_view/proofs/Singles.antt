@@ -1,10 +1,8 @@
 -- The text of single values.
-use Rattle.std.proofs.Common.{◌≡◌, ◌⊎◌, inl, inr, ℕ, ℤ, pos, negsuc, suc, Bool, true, false, List, [], ◌∷◌, ◌++◌, Option, Some, None, option_map, codes, decimal, refl, sym, ap, ◌∙◌, append-nil, arith}
+use Rattle.std.proofs.Common.{◌≡◌, ℕ, ℤ, pos, negsuc, suc, true, false, ◌∷◌, Option, Some, None, option_map, codes, decimal, refl, sym, ap, ◌∙◌, append-nil, arith}
 use Rattle.std.specs.Fmt.{signed_decimal}
-use Rattle.std.specs.List.{find}
 use Rattle.std.specs.Ordering.{int_eq}
 use Rattle.protox_lex.specs.Class.{Text}
-use Rattle.protox_lex.specs.Escapes.{escaped}
 use Rattle.reflect_tables.specs.Finding.{IsFirst}
 use Rattle.reflect_tables.specs.Types.{PoolType, KindType, ValueType, enum_at}
 use Rattle.reflect_tables.specs.Types as types

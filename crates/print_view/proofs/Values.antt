@@ -1,32 +1,26 @@
 -- The text of values and messages is that of their trees.
-use Rattle.std.proofs.Common.{◌≡◌, ◌⊎◌, inl, inr, ℕ, ℤ, zero, suc, ◌+◌, ◌&&◌, Bool, true, false, true≢false, cond, not, if◌then◌else◌, List, [], ◌∷◌, ◌++◌, map, Option, Some, None, unwrap_or, codes, refl, sym, ap, ◌∙◌, subst, append-nil, append_assoc}
+use Rattle.std.proofs.Common.{◌≡◌, ℕ, ℤ, zero, suc, ◌+◌, ◌&&◌, ◌||◌, Bool, true, false, true≢false, cond, not, if◌then◌else◌, List, [], ◌∷◌, ◌++◌, map, Option, Some, None, unwrap_or, codes, refl, sym, ap, ◌∙◌, subst, append-nil}
 use Rattle.std.specs.List.{AllByRecursion}
 use Rattle.protox_lex.specs.Class.{Text}
 use Rattle.reflect_tables.specs.Types.{PoolType, FieldType, KindType, type_at, type_of_field, no_field}
 use Rattle.reflect_tables.specs.Types as types
 use Rattle.reflect_tables.specs.declared.stored.StoredEntry.{StoredEntry}
-use Rattle.reflect_pool.specs.Kinds.{IsKind}
 use Rattle.reflect_pool.specs.Shapes.{is_entry, is_repeated, holds_list, holds_map}
-use Rattle.reflect_pool.specs.declared.kind.Kind.TheVariants as publics
 use Rattle.reflect_scalar.specs.Keys.{key_view}
 use Rattle.reflect_scalar.specs.Singles as held
 use Rattle.reflect_scalar.specs.declared.map_key.MapKey.{MapKey}
 use Rattle.reflect_scalar.specs.declared.map_key.MapKey.TheVariants as keys
-use Rattle.reflect_message.specs.Contents.{content_of}
-use Rattle.reflect_message.specs.KindTypes.{IsScalarType, IsMessageType}
 use Rattle.reflect_message.specs.Known.{is_float, entry_field, has_floats, holds_floats}
-use Rattle.reflect_message.specs.Lists.{list_items}
-use Rattle.reflect_message.specs.Maps.{map_entries}
 use Rattle.reflect_message.specs.Messages.{message_in}
 use Rattle.reflect_message.specs.Singles as singles
 use Rattle.reflect_message.specs.declared.message.DynamicMessage.{DynamicMessage}
 use Rattle.reflect_message.specs.declared.value.Value.{Value}
 use Rattle.print_parts.specs.Entries.{Entry, field, extension, undeclared, set_entries, extension_entries}
 use Rattle.reflect_print.specs.MessageTexts.{before_value, any_behind, key_text, value_text, IsSingleText, IsValueText, single_text, message_text, list_text, map_text, IsListText, no_values, more_values, IsPairText, pair_text, IsMapText, no_pairs, more_pairs, IsBracedText, braced, IsItemsText, expanded, listed, IsRowText, no_entries, more_entries, IsEntryText, field_text, extension_text, record_text}
-use Rattle.reflect_print.specs.Named.{Named, named, value_kind, entry_value_kind, label_of}
+use Rattle.reflect_print.specs.Named.{Named, named, value_kind, label_of}
 use Rattle.text_lines.specs.Pieces.{before_element}
 use Rattle.text_lines.specs.Pieces as pieces
-use Rattle.protobuf_model.specs.Types.{Name, nested}
+use Rattle.protobuf_model.specs.Types.{Name}
 use Rattle.protobuf_model.specs.Values as model
 use Rattle.protobuf_model.specs.Values.{Content, Message, chain_of, entries_of}
 use Rattle.text_model.specs.Printed.{Inner, joined, parts, printed_content, printed_list, printed_entry, printed_entries, printed_fields, printed_single, value_in}
@@ -38,7 +32,7 @@ use Rattle.text_model.specs.Tree.{Given, Fields, Values, comma, curly}
 use Rattle.text_lex.specs.Token.{sign}
 use Rattle.message_view.specs.Singles.{single_view}
 use Rattle.message_view.specs.Sound.{HaveEntryFields}
-use Rattle.message_view.specs.Types.{name_at, kind_in, frame_of, entry_part, values_of}
+use Rattle.message_view.specs.Types.{name_at, kind_in, entry_part, values_of}
 use Rattle.message_view.specs.Views.{content_view, view}
 use Rattle.message_view.proofs.Arranging.{Shaped}
 use Rattle.message_view.proofs.Entries.{Sort, plain, floating, message_type, sort_of}
@@ -310,7 +304,7 @@ module _ (pool : PoolType) (fields_of : HaveEntryFields pool) (values : HaveValu
           ap (λ l. 123 ∷ (y ++ (l ++ 125 ∷ []))) (no_line any i) ∙ ap (λ l. 123 ∷ (l ++ 125 ∷ [])) (items_said text levels there shaped)
 
       pub items_said : {x i : ℕ} {braces any : Bool} {m : DynamicMessage} {z : Text} → IsItemsText compact_form payloads x i braces m any z → (levels : ℕ) → m.descriptor.pool.now ≡ pool → Shaped levels m → z ≡ run (fields_tokens (tree_of m))
-      items_said (expanded url body y may holds text) levels there shaped = absurd (cc may.0)
+      items_said (expanded url body y may stands text) levels there shaped = absurd (cc may.0)
       items_said (listed ds os y rest either declared others first second) zero there shaped = absurd shaped
       items_said {m = m} (listed ds os y rest either declared others first second) (suc levels) there shaped =
           let all = printed levels m there shaped in
