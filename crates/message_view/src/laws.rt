@@ -17,6 +17,7 @@ ghost use Rattle.reflect_scope.specs.declared.definition.Definition.{Definition}
 ghost use Rattle.reflect_scope.specs.declared.seen.Links.{Links};
 ghost use Rattle.reflect_tables.specs.ExtensionNumbers.{KeyType};
 ghost use Rattle.reflect_tables.specs.Types.{ArePooled, PoolType};
+ghost use Rattle.reflect_tables.specs.declared.stored.StoredMessage.{StoredMessage};
 ghost use Rattle.std.specs.BTreeMap.{BTreeMap};
 ghost use Rattle.std.specs.declared.alloc.Global.{Global};
 ghost use Rattle.reflect_pool.specs.declared.message.MessageDescriptor.{MessageDescriptor};
@@ -33,7 +34,8 @@ ghost use Rattle.message_view.specs.Views.{view};
 pub fn linked_pools_have_names()
     ensures { (pool : PoolType) (names : BTreeMap (String Global) Definition)
         (file_names : BTreeMap (String Global) ℕ) (places : BTreeMap KeyType ℕ) (links : List Links)
-        → IsLinked pool names file_names places links → ArePooled pool × HaveNames pool }
+        (messages : List StoredMessage)
+        → IsLinked pool names file_names places links messages → ArePooled pool × HaveNames pool }
 {}
 
 /// The type accepts bytes that `decode` answers, and they mean the message that it gives.

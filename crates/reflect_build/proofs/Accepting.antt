@@ -21,7 +21,7 @@ use Rattle.reflect_build.specs.Accepted.{AddsRecords, AreAdded, FaultlessBatch, 
 use Rattle.reflect_build.proofs.Pooled.{map-append}
 use Rattle.reflect_build.proofs.Refused.{types_with}
 
-goes_behind : {X Y : Type 0} (f : X → Y) (olds mores news : List X) (batch : List Y) → news ≡ olds ++ mores → map f mores ≡ batch → map f news ≡ map f olds ++ batch
+pub goes_behind : {X Y : Type 0} (f : X → Y) (olds mores news : List X) (batch : List Y) → news ≡ olds ++ mores → map f mores ≡ batch → map f news ≡ map f olds ++ batch
 goes_behind f olds mores news batch a b = ap (map f) a ∙ map-append f olds mores ∙ ap (λ l. map f olds ++ l) b
 
 pub added_behind : (old more new : Tables) (b : Batch) (fs : List FileDescriptorProto) (w : Linking) → Appended old more new

@@ -9,3 +9,4 @@ pub mod Refused
 pub mod Settled
 pub mod Stands
 pub mod Recorded
+pub mod Stored

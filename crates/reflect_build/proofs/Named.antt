@@ -19,14 +19,17 @@ use Rattle.reflect_tables.specs.Types.{PoolType}
 use Rattle.reflect_tables.specs.ExtensionNumbers.{KeyType, KeepsNumbers, key_cmp, numbers_of}
 use Rattle.reflect_pool.specs.Imports.{StandsAlone}
 use Rattle.reflect_pool.specs.Linked.{IsLinked, key_of}
+use Rattle.reflect_pool.specs.Stored.{AreStored}
 use Rattle.reflect_build.proofs.Imported.{links_back, links_cut}
 use Rattle.reflect_build.proofs.Numbered.{numbered_back, numbered_cut, places_kept}
 use Rattle.reflect_build.proofs.Indexed.{indexed_cut, indexed_back}
 use Rattle.reflect_build.proofs.Recorded.{known_cut, headers_cut, recorded_cut}
+use Rattle.reflect_build.proofs.Stored.{stored_cut}
 use Rattle.std.proofs.Math.Path.{fun_ext}
 use Rattle.std.proofs.Math.ListN.{length-map}
 use Rattle.reflect_names.proofs.Entries.{below_all}
-use Rattle.reflect_tables.specs.Views.{file_of, extension_of, pool_of}
+use Rattle.reflect_tables.specs.Views.{file_of, extension_of, message_of, pool_of}
+use Rattle.reflect_tables.specs.declared.stored.StoredMessage.{StoredMessage}
 use Rattle.reflect_tables.specs.declared.tables.Tables.{Tables}
 use Rattle.reflect_growth.specs.Cut.{cut_to}
 use Rattle.reflect_tables.specs.Names.{Sort, messages, enums, extensions, services, AreFound, AreInOrder, AreNamed, names_of, message_name, enum_name, extension_name, service_name, found, place_in}
@@ -111,12 +114,13 @@ FirstFiles mark m n = IsOrdered string_cmp m × (n.entries ≡ filter (λ e. nat
 abbrev pub FirstNumbers : ℕ → BTreeMap KeyType ℕ → BTreeMap KeyType ℕ → Type 0
 FirstNumbers count m n = IsOrdered key_cmp m × (n.entries ≡ filter (λ e. nat_lt e.1 count) m.entries)
 
-pub linked_cut : (p q : PoolType) (mark : ℕ) (m n : BTreeMap (String Global) Definition) (f g : BTreeMap (String Global) ℕ) (u v : BTreeMap KeyType ℕ) (ls ks : List Links) → q ≡ cut_to p mark → IsOrdered string_cmp m → n.entries ≡ below mark m.entries → FirstFiles mark f g
-    → FirstNumbers (length q.extensions) u v → ks ≡ take mark ls → IsLinked p m f u ls → StandsAlone (cut_to p mark) → IsLinked q n g v ks
-linked_cut p q mark m n f g u v ls ks e up entries first numbers links linked alone =
+pub linked_cut : (p q : PoolType) (mark : ℕ) (m n : BTreeMap (String Global) Definition) (f g : BTreeMap (String Global) ℕ) (u v : BTreeMap KeyType ℕ) (ls ks : List Links) (ms ns : List StoredMessage) → q ≡ cut_to p mark → IsOrdered string_cmp m → n.entries ≡ below mark m.entries → FirstFiles mark f g
+    → FirstNumbers (length q.extensions) u v → ks ≡ take mark ls → p.messages ≡ map message_of ms → ns ≡ filter (λ x. nat_lt x.file mark) ms
+    → IsLinked p m f u ls ms → StandsAlone (cut_to p mark) → IsLinked q n g v ks ns
+linked_cut p q mark m n f g u v ls ks ms ns e up entries first numbers links are left linked alone =
     let few = subst (λ (r : PoolType). FirstNumbers (length r.extensions) u v) e numbers in
     let indexed = indexed_cut mark (indexes_of f) (indexes_of g) p.files (text_kept (λ i. nat_lt i mark) f g first.0 first.1) linked.files in
-    subst (λ r. IsLinked r n g v ks) (sym e) (record {
+    subst (λ r. IsLinked r n g v ks ns) (sym e) (record {
       pooled = alone.pooled;
       named = named_cut p mark (known_of m) (known_of n) (known_below mark m n up entries) linked.named;
       below = subst (AllBelow (length (take mark p.files))) (sym entries) (below_cut mark (length p.files) (length (take mark p.files)) m.entries (take_long mark p.files) linked.below);
@@ -130,13 +134,14 @@ linked_cut p q mark m n f g u v ls ks e up entries first numbers links linked al
           ∙ known_cut mark p.records t);
       headers = headers_cut p mark linked.headers;
       entries = recorded_cut p mark (names_cut p mark) linked.entries;
+      stored = stored_cut p mark ms are linked.entries linked.stored ns left;
     })
 
 -- a refusal, behind which the names of the files that are there are left
-pub linked_same : (t : Tables) (q : PoolType) (m n : BTreeMap (String Global) Definition) (f g h : BTreeMap (String Global) ℕ) (u v w : BTreeMap KeyType ℕ) (ls mid ks : List Links) (mark : ℕ) → mark ≡ length t.files.items → q ≡ pool_of t → n.entries ≡ below mark m.entries
+pub linked_same : (t : Tables) (q : PoolType) (m n : BTreeMap (String Global) Definition) (f g h : BTreeMap (String Global) ℕ) (u v w : BTreeMap KeyType ℕ) (ls mid ks : List Links) (ms : List StoredMessage) (mark : ℕ) → mark ≡ length t.files.items → q ≡ pool_of t → n.entries ≡ below mark m.entries
     → KeepsIndexes mark (indexes_of f) (indexes_of g) → FirstFiles mark g h → KeepsNumbers (length t.extensions.items) (numbers_of u) (numbers_of v) → FirstNumbers (length q.extensions) v w
-    → take (length ls) mid ≡ ls → ks ≡ take mark mid → IsLinked (pool_of t) m f u ls → IsLinked q n h w ks
-linked_same t q m n f g h u v w ls mid ks mark start e entries keeps first kept numbers kept_links links linked =
+    → take (length ls) mid ≡ ls → ks ≡ take mark mid → ms ≡ t.messages.items → IsLinked (pool_of t) m f u ls t.messages.items → IsLinked q n h w ks ms
+linked_same t q m n f g h u v w ls mid ks ms mark start e entries keeps first kept numbers kept_links links stay linked =
     let long : length (pool_of t).extensions ≡ length t.extensions.items = length-map t.extensions.items extension_of in
     let few = subst (λ k. FirstNumbers k v w) (ap (λ (r : PoolType). length r.extensions) e) numbers in
     let count : length (pool_of t).files ≡ length t.files.items = length-map t.files.items file_of in
@@ -144,7 +149,7 @@ linked_same t q m n f g h u v w ls mid ks mark start e entries keeps first kept 
     let names : known_of n ≡ known_of m = ap {B = Known}
     (λ es. λ t. lookup (λ k. is_eq (slice_cmp nat_cmp t (string_bytes k))) es) same in
     let indexed = indexed_back mark (indexes_of f) (indexes_of g) (indexes_of h) (pool_of t).files (start ∙ sym count) keeps (text_kept (λ i. nat_lt i mark) g h first.0 first.1) linked.files in
-    subst (λ r. IsLinked r n h w ks) (sym e) (record {
+    subst (λ r. IsLinked r n h w ks ms) (sym e) (record {
       pooled = linked.pooled;
       named = subst (λ k. AreNamed k (names_of (pool_of t))) (sym names) linked.named;
       below = subst (AllBelow (length (pool_of t).files)) (sym same) linked.below;
@@ -156,4 +161,5 @@ linked_same t q m n f g h u v w ls mid ks mark start e entries keeps first kept 
       known = names ∙ linked.known;
       headers = linked.headers;
       entries = linked.entries;
+      stored = subst (AreStored (pool_of t).records) (sym stay) linked.stored;
     })

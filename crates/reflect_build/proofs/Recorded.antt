@@ -43,11 +43,11 @@ batch_on o i (f ∷ fs) gs =
     ∙ sym (append_assoc here rest (later (i + length (f ∷ fs))))
 
 -- those of all files of a pool
-abbrev all_of : List FileDescriptorProto → List Declaration
+abbrev pub all_of : List FileDescriptorProto → List Declaration
 all_of fs = batch_declarations nothing_before 0 fs
 
 -- those of files that come behind them
-abbrev further : List FileDescriptorProto → List FileDescriptorProto → List Declaration
+abbrev pub further : List FileDescriptorProto → List FileDescriptorProto → List Declaration
 further fs gs = batch_declarations (counts_of_files fs) (length fs) gs
 
 all_on : (fs gs : List FileDescriptorProto) → all_of (fs ++ gs) ≡ all_of fs ++ further fs gs
@@ -61,7 +61,7 @@ known_more fs gs =
     ap (known_behind nothing_known) (all_on fs gs)
     ∙ known_on nothing_known (all_of fs) (further fs gs)
 
-names_more : (s : Sort) (fs gs : List FileDescriptorProto) → with_names s [] (all_of (fs ++ gs))
+pub names_more : (s : Sort) (fs gs : List FileDescriptorProto) → with_names s [] (all_of (fs ++ gs))
     ≡ with_names s [] (all_of fs) ++ with_names s [] (further fs gs)
 names_more s fs gs =
     let front = with_names s [] (all_of fs) in
@@ -100,7 +100,7 @@ recorded_count p recorded s =
     ap length (recorded s) ∙ files_counted s [] nothing_before 0 p.records (none_counted s)
 
 -- the files of declarations
-abbrev AllIn : (ℕ → Type 0) → List Declaration → Type 0
+abbrev pub AllIn : (ℕ → Type 0) → List Declaration → Type 0
 AllIn F ds = AllByRecursion (λ d. F d.file) ds
 
 all_behind : (F : ℕ → Type 0) (xs ys : List Declaration) → AllIn F xs → AllIn F ys
@@ -131,7 +131,7 @@ take_short (suc m) [] = omega arith
 take_short (suc m) (x ∷ xs) = let rest = take_short m xs in omega (arith, rest)
 
 -- the first files are below the mark, and the others are not
-first_below : (mark : ℕ) (fs : List FileDescriptorProto)
+pub first_below : (mark : ℕ) (fs : List FileDescriptorProto)
     → AllIn (λ k. k < mark) (all_of (take mark fs))
 first_below mark fs =
     let short = take_short mark fs in
@@ -145,7 +145,7 @@ beyond (suc m) (x ∷ xs) zero le lt = absurd (omega (arith, le))
 beyond (suc m) (x ∷ xs) (suc k) le lt =
     let rest = beyond m xs k (omega (arith, le)) (omega (arith, lt)) in omega (arith, rest)
 
-others_not_below : (mark : ℕ) (fs : List FileDescriptorProto)
+pub others_not_below : (mark : ℕ) (fs : List FileDescriptorProto)
     → AllIn (λ k. mark ≤ k) (further (take mark fs) (drop mark fs))
 others_not_below mark fs =
     let front = take mark fs in
@@ -240,7 +240,7 @@ known_cut mark fs t =
     ap (λ (k : Known). kept_first mark (k t)) split ∙ kept t ∙ first t
 
 -- the names of a sort are of the files of their declarations
-names_in_files : (F : ℕ → Type 0) (s : Sort) (names : List FullName) (ds : List Declaration)
+pub names_in_files : (F : ℕ → Type 0) (s : Sort) (names : List FullName) (ds : List Declaration)
     → AllIn F ds → AllByRecursion (λ (n : FullName). F n.1) names
     → AllByRecursion (λ (n : FullName). F n.1) (with_names s names ds)
 names_in_files F s names [] all h = h

@@ -138,7 +138,7 @@ module _ {A V : Type 0} (w : Linking) (fs : List FileDescriptorProto) (Gives : V
 
 -- what the parts of a pool are linked with
 pub is_of : (tables : Tables) (names : BTreeMap (String Global) Definition) (file_names : BTreeMap (String Global) ℕ) (links : List Links) (numbers : BTreeMap KeyType ℕ) (before : Offsets) (first : ℕ) (p : PoolType)
-    → IsLinked (pool_of tables) names file_names numbers links → CountsOf (pool_of tables) before → first ≡ length tables.files.items → pool_of tables ≡ p
+    → IsLinked (pool_of tables) names file_names numbers links tables.messages.items → CountsOf (pool_of tables) before → first ≡ length tables.files.items → pool_of tables ≡ p
     → IsOf p (linking file_names names links tables numbers before first)
 is_of tables names file_names links numbers before first p linked counts start same =
     subst (λ q. IsOf q (linking file_names names links tables numbers before first)) same (record {
@@ -151,6 +151,7 @@ is_of tables names file_names links numbers before first p linked counts start s
       first = start ∙ sym (length-map tables.files.items file_of);
       known = linked.known;
       counts = counts_are (pool_of tables) before counts linked.entries;
+      stored = linked.stored;
     })
 
 -- a pool's faulty files are faulty with what it knows

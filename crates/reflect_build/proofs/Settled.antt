@@ -11,7 +11,11 @@ use Rattle.reflect_tables.specs.Views.{record_file}
 use Rattle.reflect_known.specs.GivenNames.{names_of_file}
 use Rattle.reflect_known.specs.KnownNames.{nothing_known, nothing_before}
 use Rattle.reflect_known.proofs.GivenNames.{known_told, names_told}
+use Rattle.reflect_growth.specs.Settled.{bare_of}
+use Rattle.reflect_tables.specs.declared.stored.StoredMessage.{StoredMessage}
 use Rattle.reflect_pool.specs.Linked.{IsLinked}
+use Rattle.reflect_pool.specs.Stored.{AreStored}
+use Rattle.reflect_build.proofs.Stored.{stored_settled}
 
 abbrev with_records : PoolType → List FileDescriptorProto → PoolType
 with_records p rs = record p { records = rs }
@@ -19,13 +23,15 @@ with_records p rs = record p { records = rs }
 pooled_with : (p : PoolType) (rs : List FileDescriptorProto) → ArePooled p → ArePooled (with_records p rs)
 pooled_with p rs h = record { declared = h.declared; messages = h.messages; children = h.children; listed = h.listed; enums = h.enums; extensions = h.extensions; services = h.services; few = h.few }
 
--- what holds of a linked pool speaks of the names that its records give, and of their headers
-pub linked_settled : (p q : PoolType) (names : BTreeMap (String Global) Definition) (file_names : BTreeMap (String Global) ℕ) (places : BTreeMap KeyType ℕ) (links : List Links)
-    → IsSettled p q → map names_of_file q.records ≡ map names_of_file p.records → p.files
-    ≡ map record_file q.records
-    → IsLinked p names file_names places links → IsLinked q names file_names places links
-linked_settled p q names file_names places links settled same headers h =
-    subst (λ r. IsLinked r names file_names places links) (sym settled) (record {
+-- what holds of a linked pool speaks of the names that its records give, of their headers, and of
+-- what they say beside options
+pub linked_settled : (p q : PoolType) (names : BTreeMap (String Global) Definition) (file_names : BTreeMap (String Global) ℕ) (places : BTreeMap KeyType ℕ) (links : List Links) (ms ns : List StoredMessage)
+    → IsSettled p q → map names_of_file q.records ≡ map names_of_file p.records
+    → map bare_of q.records ≡ map bare_of p.records → p.files ≡ map record_file q.records
+    → ns ≡ ms
+    → IsLinked p names file_names places links ms → IsLinked q names file_names places links ns
+linked_settled p q names file_names places links ms ns settled same bare headers stay h =
+    subst (λ r. IsLinked r names file_names places links ns) (sym settled) (record {
       pooled = pooled_with p q.records h.pooled;
       named = h.named;
       below = h.below;
@@ -36,4 +42,5 @@ linked_settled p q names file_names places links settled same headers h =
       known = h.known ∙ sym (known_told nothing_known nothing_before 0 q.records p.records same);
       headers = headers;
       entries = λ s. h.entries s ∙ sym (names_told s [] nothing_before 0 q.records p.records same);
+      stored = subst (AreStored q.records) (sym stay) (stored_settled p.records q.records ms bare h.stored);
     })

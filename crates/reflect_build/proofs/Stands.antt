@@ -30,6 +30,7 @@ use Rattle.reflect_index.proofs.Orders.{AreUpTo}
 use Rattle.reflect_index.proofs.Batched.{Stand, batch_stands, names_behind}
 use Rattle.reflect_tables.specs.ExtensionNumbers.{KeyType, numbers_of}
 use Rattle.reflect_pool.specs.Linked.{IsLinked, AreIndexed, AreNumbered, AreRecorded, key_of}
+use Rattle.reflect_pool.specs.Stored.{AreStored}
 use Rattle.reflect_build.specs.Accepted.{AddsRecords}
 use Rattle.reflect_build.specs.Refusals.{CountsOf}
 use Rattle.reflect_build.proofs.Recorded.{known_added, recorded_added, recorded_count}
@@ -102,16 +103,18 @@ all_go_on old new ds g extensions = named_as extension_name extension_of new.ext
 all_go_on old new ds g services = named_as service_name service_of new.services.items old.services.items _ g.services
 
 pub linked_more : (old new : Tables) (were are : BTreeMap (String Global) Definition) (had has : BTreeMap (String Global) ℕ) (marked marks : BTreeMap KeyType ℕ) (ls ks : List Links) (at : ℕ → Places) (o : Offsets) (first : ℕ) (fs : List FileDescriptorProto)
-    → IsLinked (pool_of old) were had marked ls → CountsOf (pool_of old) o → first ≡ length old.files.items
+    → IsLinked (pool_of old) were had marked ls old.messages.items → CountsOf (pool_of old) o → first ≡ length old.files.items
     → indexes_of has ≡ with_files (indexes_of had) first fs → files_faults at (indexes_of had) first fs ≡ []
     → known_of are ≡ known_behind (known_of were) (batch_declarations o first fs) → faults_along at (with_files (indexes_of had) first fs) (known_of were) (batch_declarations o first fs) ≡ []
     → KeepsFrom first (length fs) were.entries are.entries
     → ArePooled (pool_of new) → map file_of new.files.items ≡ map file_of old.files.items ++ map record_file fs → GoesOn old new (batch_declarations o first fs)
     → AreNumbered (numbers_of marks) (map key_of (pool_of new).extensions) → map link_view ks
     ≡ map link_view ls ++ map (links_to (indexes_of has)) fs
-    → AddsRecords (pool_of old) fs (pool_of new) → IsLinked (pool_of new) are has marks ks
+    → AddsRecords (pool_of old) fs (pool_of new)
+    → AreStored (pool_of new).records new.messages.items
+    → IsLinked (pool_of new) are has marks ks new.messages.items
 linked_more old new were are had has marked marks ls ks at o first fs linked counts start indexes
-    single is none keeps pooled files goes numbered links adds =
+    single is none keeps pooled files goes numbered links adds stored =
     let olds : length (pool_of old).files ≡ length old.files.items = length-map old.files.items file_of in
     let count : length (pool_of new).files ≡ length (pool_of old).files + length fs = ap length files ∙ length-append (map file_of old.files.items) (map record_file fs) ∙ ap (λ n. length (pool_of old).files + n) (length-map fs record_file) in
     let from : first ≡ length (pool_of old).files = start ∙ sym olds in
@@ -144,4 +147,5 @@ linked_more old new were are had has marked marks ls ks at o first fs linked cou
       entries =
           recorded_added (pool_of old) (pool_of new) fs o first adds same records linked.entries
           (all_go_on old new (batch_declarations o first fs) goes);
+      stored = stored;
     }

@@ -11,3 +11,4 @@ holds_of p = pool_of p.tables
 -- they fit together as those of a pool do
 abbrev pub AreParts : PoolParts → Type 0
 AreParts p = IsLinked (pool_of p.tables) p.names p.file_names p.extension_numbers p.links.items
+    p.tables.messages.items

@@ -33,6 +33,7 @@ use Rattle.reflect_passes.specs.NumberFaults.{NumberFaults, doubled}
 use Rattle.reflect_passes.specs.declared.linked_types.LinkedTypes.{LinkedTypes}
 use Rattle.reflect_pool.specs.Imports.{imported_places, names_of_files}
 use Rattle.reflect_pool.specs.Linked.{AreIndexed, key_of}
+use Rattle.reflect_pool.specs.Stored.{AreStored}
 
 -- how many of each sort there are
 pub record CountsOf (p : PoolType) (o : Offsets) : Type 0 where
@@ -131,8 +132,8 @@ Faulty w fs xs = (xs ≡ name_faults w.indexes w.known w.before w.first fs)
     × FaultyBatch (with_declared w fs) fs xs)
 
 -- what a pool is linked with: its entries, their names and those of its files, what its files
--- import, and the numbers of its extensions; what is known, and how much there is, is what the
--- records of its files give
+-- import, and the numbers of its extensions; what is known, what is stored of its messages, and how
+-- much there is, is what the records of its files give
 pub record IsOf (p : PoolType) (w : Linking) : Type 0 where
   pub tables : pool_of w.tables ≡ p
   pub named : AreNamed w.known (names_of p)
@@ -143,6 +144,7 @@ pub record IsOf (p : PoolType) (w : Linking) : Type 0 where
   pub first : w.first ≡ length p.files
   pub known : w.known ≡ known_of_files p.records
   pub counts : w.before ≡ counts_of_files p.records
+  pub stored : AreStored p.records w.tables.messages.items
 
 -- the files whose names are not known
 abbrev pub is_unknown : Indexes → FileDescriptorProto → Bool

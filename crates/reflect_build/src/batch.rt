@@ -16,6 +16,7 @@ ghost use Rattle.reflect_index.specs.DraftNames.{stored_message_name, stored_enu
 ghost use Rattle.reflect_passes.specs.Errors.{Refuses};
 ghost use Rattle.reflect_tables.specs.ExtensionNumbers.{KeepsNumbers, numbers_of};
 ghost use Rattle.reflect_pool.specs.Linked.{IsLinked, AreNumbered, key_of};
+ghost use Rattle.reflect_pool.specs.Stored.{AreStored};
 ghost use Rattle.reflect_build.specs.Refusals.{CountsOf, linking, FaultyBatch, Faulty};
 ghost use Rattle.reflect_build.specs.Accepted.{AddsRecords, FaultlessBatch, Faultless, AddsNames};
 
@@ -96,7 +97,9 @@ fn link_declared(
     requires pooled { ArePooled (pool_of tables.old) }
     requires numbered { AreNumbered (numbers_of extension_numbers.old)
         (map key_of (pool_of tables.old).extensions) }
+    requires stored { AreStored (pool_of tables.old).records tables.old.messages.items }
     ensures unchanged { OnErr result (pool_of tables.new ≡ pool_of tables.old) }
+    ensures same_messages { OnErr result (tables.new.messages.items ≡ tables.old.messages.items) }
     ensures grown { OnOk result (cut_to (pool_of tables.new) (length tables.old.files.items)
         ≡ pool_of tables.old) }
     ensures pooled { OnOk result (ArePooled (pool_of tables.new)) }
@@ -127,6 +130,8 @@ fn link_declared(
     ensures numbered { OnOk result
         (AreNumbered (numbers_of extension_numbers.new)
         (map key_of (pool_of tables.new).extensions)) }
+    ensures stored { OnOk result
+        (AreStored (pool_of tables.new).records tables.new.messages.items) }
     ensures accepted { OnOk result
         (FaultlessBatch (linking file_names.now names.now links.old.items tables.old
         extension_numbers.old before first) files.items (pool_of tables.new)) }
@@ -182,6 +187,7 @@ fn add(tables: &mut Tables, more: Tables) -> Result<(), VisitError>
     requires pooled { ArePooled (pool_of tables.old) }
     requires listed { AllByRecursion ListsMembers (map message_of more.messages.items) }
     ensures unchanged { OnErr result (pool_of tables.new ≡ pool_of tables.old) }
+    ensures same_messages { OnErr result (tables.new.messages.items ≡ tables.old.messages.items) }
     ensures grown { OnOk result (cut_to (pool_of tables.new) (length tables.old.files.items)
         ≡ pool_of tables.old) }
     ensures pooled { OnOk result (ArePooled (pool_of tables.new)) }
@@ -213,10 +219,11 @@ pub fn link(
     extension_numbers: &mut BTreeMap<(u32, u32), u32>,
 ) -> Result<(), DescriptorError>
     requires linked { IsLinked (pool_of tables.old) names.old file_names.old extension_numbers.old
-        links.old.items }
+        links.old.items tables.old.messages.items }
     requires before { CountsOf (pool_of tables.old) before }
     requires first { first ≡ length tables.old.files.items }
     ensures unchanged { OnErr result (pool_of tables.new ≡ pool_of tables.old) }
+    ensures same_messages { OnErr result (tables.new.messages.items ≡ tables.old.messages.items) }
     ensures kept { below first names.new.entries ≡ below first names.old.entries }
     ensures kept_files { KeepsIndexes first (indexes_of file_names.old)
         (indexes_of file_names.new) }
@@ -226,7 +233,7 @@ pub fn link(
     ensures kept_numbers { KeepsNumbers (length tables.old.extensions.items)
         (numbers_of extension_numbers.old) (numbers_of extension_numbers.new) }
     ensures linked { OnOk result (IsLinked (pool_of tables.new) names.new file_names.new
-        extension_numbers.new links.new.items) }
+        extension_numbers.new links.new.items tables.new.messages.items) }
     ensures added { OnOk result (AddsNames
         (linking file_names.old names.old links.old.items tables.old extension_numbers.old before
         first) files.items (pool_of tables.new)) }

@@ -3,13 +3,12 @@
 ghost use Rattle.std.specs.Prelude.{◌≡◌, map, nat_lt};
 ghost use Rattle.std.specs.List.{filter};
 ghost use Rattle.reflect_growth.specs.Cut.{cut_to};
-ghost use Rattle.reflect_tables.specs.Views.{message_of, enum_of, extension_of, service_of, pool_of};
+ghost use Rattle.reflect_tables.specs.Views.{enum_of, extension_of, service_of, pool_of};
 
 use reflect_tables::{StoredEnum, StoredExtension, StoredMessage, StoredService, Tables};
 
 fn cut_messages(items: &mut Vec<StoredMessage>, mark: u32)
-    ensures { map message_of items.new.items
-        ≡ filter (λ m. nat_lt m.file mark) (map message_of items.old.items) }
+    ensures { items.new.items ≡ filter (λ m. nat_lt m.file mark) items.old.items }
 {
     items.retain(|message| message.file < mark);
 }
@@ -37,7 +36,9 @@ fn cut_services(items: &mut Vec<StoredService>, mark: u32)
 
 /// Leaves the entries of so many files, and of what is declared in them. Takes no memory.
 pub fn cut(tables: &mut Tables, mark: u32)
-    ensures { pool_of tables.new ≡ cut_to (pool_of tables.old) mark }
+    ensures pool { pool_of tables.new ≡ cut_to (pool_of tables.old) mark }
+    ensures messages { tables.new.messages.items
+        ≡ filter (λ m. nat_lt m.file mark) tables.old.messages.items }
 {
     tables.files.truncate(mark as usize);
     cut_messages(&mut tables.messages, mark);

@@ -292,6 +292,7 @@ fn settle_edit(files: &mut Vec<StoredFile>, edit: Edit)
 /// to nothing that has options, or that names no location, is passed over. Takes no memory.
 pub fn settle_all(tables: &mut Tables, edits: Vec<Edit>)
     ensures settled { IsSettled (pool_of tables.old) (pool_of tables.new) }
+    ensures messages { tables.new.messages.items ≡ tables.old.messages.items }
     ensures names { map names_of_file (pool_of tables.new).records
         ≡ map names_of_file (pool_of tables.old).records }
     ensures bare { map bare_of (pool_of tables.new).records

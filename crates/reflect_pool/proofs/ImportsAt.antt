@@ -15,6 +15,7 @@ use Rattle.reflect_tables.specs.Types.{FileType, PoolType}
 use Rattle.reflect_tables.specs.declared.kind.Syntax.TheVariants.{Proto2}
 use Rattle.reflect_tables.proofs.Founds.{no_some}
 use Rattle.reflect_tables.specs.ExtensionNumbers.{KeyType}
+use Rattle.reflect_tables.specs.declared.stored.StoredMessage.{StoredMessage}
 use Rattle.reflect_pool.specs.Imports.{import_at, import_name, imported, imported_places, imported_publicly, ImportsAmong, name_at, names_of_files, place_named}
 use Rattle.reflect_pool.specs.Linked.{AreIndexed, IsLinked}
 use Rattle.reflect_pool.proofs.Grown.{all_through}
@@ -88,9 +89,10 @@ module _ (indexes : Indexes) (files : List FileType) (are : AreIndexed indexes (
 
 -- the links of a pool's files
 module _ (q pool : PoolType) (names : BTreeMap (String Global) Definition) (file_names : BTreeMap (String Global) ℕ) (places : BTreeMap KeyType ℕ) (links : List Links)
-    (same : q ≡ pool) (linked : IsLinked q names file_names places links) where
-  here : IsLinked pool names file_names places links
-  here = subst (λ p. IsLinked p names file_names places links) same linked
+    {messages : List StoredMessage} (same : q ≡ pool)
+    (linked : IsLinked q names file_names places links messages) where
+  here : IsLinked pool names file_names places links messages
+  here = subst (λ p. IsLinked p names file_names places links messages) same linked
 
   by_names : indexes_of file_names ≡ place_named pool
   by_names = fun_ext (at_first (indexes_of file_names) pool.files here.files)

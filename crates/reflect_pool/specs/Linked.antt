@@ -13,7 +13,9 @@ use Rattle.reflect_tables.specs.ExtensionNumbers.{KeyType, Numbers, numbers_of}
 use Rattle.reflect_walk.specs.Batches.{batch_declarations}
 use Rattle.reflect_known.specs.DeclaredNames.{with_names}
 use Rattle.reflect_known.specs.KnownNames.{nothing_before, known_of_files}
+use Rattle.reflect_tables.specs.declared.stored.StoredMessage.{StoredMessage}
 use Rattle.reflect_pool.specs.Imports.{ImportsAreThere, imported_places, names_of_files}
+use Rattle.reflect_pool.specs.Stored.{AreStored}
 
 -- a pool that holds nothing
 abbrev pub empty_pool : PoolType
@@ -49,11 +51,11 @@ AreRecorded p =
 -- what entries name is there, a full name stands for a place exactly where it is the one at this
 -- place, all names are of the pool's files, each file's name stands for the file, and each
 -- extension's message and number for the extension; what files import is there, and the links are
--- to it; the files are those of the records, and what is known, and the names of the entries, is
--- what the records give
+-- to it; the files are those of the records, and what is known, the names of the entries, and what
+-- is stored of the messages, is what the records give
 pub record IsLinked (p : PoolType) (names : BTreeMap (String Global) Definition)
     (file_names : BTreeMap (String Global) ℕ) (places : BTreeMap KeyType ℕ)
-    (links : List Links) : Type 0 where
+    (links : List Links) (messages : List StoredMessage) : Type 0 where
   pub pooled : ArePooled p
   pub named : AreNamed (known_of names) (names_of p)
   pub below : AllBelow (length p.files) names.entries
@@ -64,3 +66,4 @@ pub record IsLinked (p : PoolType) (names : BTreeMap (String Global) Definition)
   pub known : known_of names ≡ known_of_files p.records
   pub headers : p.files ≡ map record_file p.records
   pub entries : AreRecorded p
+  pub stored : AreStored p.records messages

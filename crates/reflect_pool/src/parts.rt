@@ -28,7 +28,7 @@ impl DescriptorPool {
     /// The pool of these parts, which have to fit together as those of a pool do. Takes no memory.
     pub fn from_parts(parts: PoolParts) -> DescriptorPool
         requires { IsLinked (pool_of parts.tables) parts.names parts.file_names
-            parts.extension_numbers parts.links.items }
+            parts.extension_numbers parts.links.items parts.tables.messages.items }
         ensures { result ≡ pool_of parts.tables }
     {
         let PoolParts {
@@ -53,7 +53,7 @@ impl DescriptorPool {
     pub fn into_parts(self) -> PoolParts
         ensures holds { pool_of result.tables ≡ self }
         ensures linked { IsLinked (pool_of result.tables) result.names result.file_names
-            result.extension_numbers result.links.items }
+            result.extension_numbers result.links.items result.tables.messages.items }
     {
         let DescriptorPool {
             tables,

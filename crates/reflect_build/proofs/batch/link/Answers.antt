@@ -18,11 +18,11 @@ use Rattle.reflect_index.proofs.Known.{none_left, none_right}
 use Rattle.reflect_build.proofs.Stands.{all_go_on, linked_more}
 use Rattle.reflect_build.proofs.batch.link.Goals as goal
 
-by : {A E P Q R S T U V W X Y : Type 0} (r : Result A E) → OnOk r P → OnOk r Q → OnOk r R → OnOk r S
-    → OnOk r T → OnOk r U → OnOk r V → OnOk r W → OnOk r X → (P → Q → R → S → T → U → V → W → X → Y)
-    → OnOk r Y
-by (Ok a) p q r s t u v w x f = f p q r s t u v w x
-by (Err e) p q r s t u v w x f = p
+by : {A E P Q R S T U V W X Y Z : Type 0} (r : Result A E) → OnOk r P → OnOk r Q → OnOk r R
+    → OnOk r S → OnOk r T → OnOk r U → OnOk r V → OnOk r W → OnOk r X → OnOk r Y
+    → (P → Q → R → S → T → U → V → W → X → Y → Z) → OnOk r Z
+by (Ok a) p q r s t u v w x y f = f p q r s t u v w x y
+by (Err e) p q r s t u v w x y f = p
 
 pub returns-clause-linked : goal.returns-clause-linked
 returns-clause-linked c =
@@ -39,14 +39,15 @@ returns-clause-linked c =
     let none = subst (λ l. name_faults indexes (known_of were) c.args.before c.args.first l ≡ []) same c.in_ok-declare_names.ensures.ok in
     let keeps = subst (λ l. KeepsFrom c.args.first (length l) were.entries are.entries) same c.in_ok-declare_names.ensures.keeps in
     by c.link_declared.result c.link_declared.ensures.pooled c.link_declared.ensures.files c.link_declared.ensures.messages c.link_declared.ensures.enums c.link_declared.ensures.extensions c.link_declared.ensures.services c.link_declared.ensures.numbered
-    c.link_declared.ensures.linked c.link_declared.ensures.records
-    (λ pooled files ms es xs ss numbered links adds. linked_more c.args.tables.now
+    c.link_declared.ensures.linked c.link_declared.ensures.records c.link_declared.ensures.stored
+    (λ pooled files ms es xs ss numbered links adds stored. linked_more c.args.tables.now
     c.link_declared.new.tables were are had has c.args.extension_numbers.now
     c.link_declared.new.extension_numbers c.args.links.now.items c.link_declared.new.links.items
     at c.args.before c.args.first fs
     c.requires.linked c.requires.before c.requires.first placed (none_left (files_faults at indexes c.args.first fs) _ none)
     named (none_right (files_faults at indexes c.args.first fs) _ none) keeps pooled files
-    (record { messages = ms; enums = es; extensions = xs; services = ss }) numbered links adds)
+    (record { messages = ms; enums = es; extensions = xs; services = ss }) numbered links adds
+    stored)
 
 pub returns-in_err-declare_names-clause-refused : goal.returns-in_err-declare_names-clause-refused
 returns-in_err-declare_names-clause-refused c =
@@ -74,8 +75,8 @@ returns-clause-added c =
     c.link_declared.ensures.messages c.link_declared.ensures.enums
     c.link_declared.ensures.extensions c.link_declared.ensures.services
     c.link_declared.ensures.numbered c.link_declared.ensures.linked
-    c.link_declared.ensures.records
-    (λ pooled files ms es xs ss numbered links adds. record {
+    c.link_declared.ensures.records c.link_declared.ensures.stored
+    (λ pooled files ms es xs ss numbered links adds stored. record {
       files = files;
       names = all_go_on c.args.tables.now c.link_declared.new.tables (batch_declarations c.args.before c.args.first fs) (record { messages = ms; enums = es; extensions = xs; services = ss });
     })

@@ -11,12 +11,14 @@ use Rattle.reflect_passes.specs.Errors.{Refuses}
 use Rattle.reflect_passes.specs.NumberFaults.{NumberFaults, doubled}
 use Rattle.reflect_passes.proofs.Listed.{places}
 use Rattle.reflect_build.specs.Refusals.{linking}
-use Rattle.reflect_build.proofs.Accepting.{added_behind, records_behind, records_written, faultless}
+use Rattle.reflect_build.proofs.Accepting.{added_behind, goes_behind, records_behind, records_written, faultless}
+use Rattle.reflect_build.proofs.Stored.{stored_more}
+use Rattle.reflect_index.specs.OfDeclarations.{AllDeclared, messages_in, stored_ranges}
 use Rattle.reflect_build.proofs.Refused.{mapped, before_mapped, types_with, types_of, means_of, refused_numbers, refused_extensions, refused_walk, refused_last}
 use Rattle.reflect_walk.specs.Batches.{batch_declarations}
 use Rattle.reflect_tables.specs.Names.{FullName, messages, enums, extensions, services}
 use Rattle.reflect_known.specs.DeclaredNames.{with_names}
-use Rattle.reflect_tables.specs.Views.{file_of, extension_of}
+use Rattle.reflect_tables.specs.Views.{file_of, record_of, extension_of, pool_of}
 use Rattle.reflect_index.specs.DraftNames.{stored_message_name, stored_enum_name, stored_extension_name, stored_service_name}
 use Rattle.reflect_build.proofs.Pooled.{map-append}
 use Rattle.reflect_build.proofs.batch.link_declared.Goals as goal
@@ -78,6 +80,30 @@ returns-clause-records c =
     on_mapped _ _ c.add.result c.map_err-4.result c.map_err-4.ensures.variant
     (λ a. records_behind c.args.tables.now c.in_ok-more.more c.add.new.tables
     c.rewritten.result.items c.args.files.items a records c.rewritten.ensures.names)
+    c.add.ensures.appended
+
+pub returns-clause-stored : goal.returns-clause-stored
+returns-clause-stored c =
+    let olds = c.args.tables.now.messages.items in
+    let fs = c.args.files.items in
+    let made = c.index_files.ensures in
+    let same : c.as_slice-4.result.now ≡ fs = search rules in
+    let batch = c.in_ok-batch.batch in
+    let ranges = mapped _ _ c.index_files.result c.map_err-2.result c.map_err-2.ensures.cases made.ranges batch c.in_ok-batch.was in
+    let entries = mapped _ _ c.index_files.result c.map_err-2.result c.map_err-2.ensures.cases made.entries batch c.in_ok-batch.was in
+    let records = mapped _ _ c.with_records.result c.map_err-3.result c.map_err-3.ensures.cases
+    c.with_records.ensures.records c.in_ok-more.more c.in_ok-more.was in
+    let more = mapped _ _ c.with_records.result c.map_err-3.result c.map_err-3.ensures.cases c.with_records.ensures.messages c.in_ok-more.more c.in_ok-more.was in
+    let declared = subst (λ l. AllDeclared (messages_in (batch_declarations c.args.before c.args.first l))
+    (map stored_ranges batch.messages.items)) same ranges in
+    on_mapped _ _ c.add.result c.map_err-4.result c.map_err-4.ensures.variant
+    (λ a. stored_more (pool_of c.args.tables.now).records fs c.rewritten.result.items
+    (pool_of c.add.new.tables).records c.in_ok-references.references.items c.args.before c.args.first
+    olds batch.messages.items c.add.new.tables.messages.items c.requires.stored declared
+    entries.entries c.rewritten.ensures.records
+    (goes_behind record_of c.args.tables.now.files.items c.in_ok-more.more.files.items
+    c.add.new.tables.files.items c.rewritten.result.items a.files records)
+    (a.messages ∙ ap (λ l. olds ++ l) more))
     c.add.ensures.appended
 
 pub returns-clause-numbered : goal.returns-clause-numbered

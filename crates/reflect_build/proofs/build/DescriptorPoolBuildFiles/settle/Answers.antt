@@ -12,5 +12,6 @@ from_parts-requires c =
     let headers = ap (λ (q : PoolType). q.files) (sym c.settle_all.ensures.settled)
     ∙ sym (map_map record_file record_of new.files.items) in
     linked_settled (pool_of p.tables) (pool_of new) p.names p.file_names p.extension_numbers
-    p.links.items c.settle_all.ensures.settled c.settle_all.ensures.names headers
+    p.links.items p.tables.messages.items new.messages.items c.settle_all.ensures.settled
+    c.settle_all.ensures.names c.settle_all.ensures.bare headers c.settle_all.ensures.messages
     c.take_parts-parts.ensures.fit

@@ -1,5 +1,5 @@
 -- A pool without files knows nothing, and nothing is declared in it.
-use Rattle.std.proofs.Common.{◌≡◌, [], map, Global, String, string_bytes, ap, sym, ◌∙◌, rules}
+use Rattle.std.proofs.Common.{◌≡◌, [], map, Global, String, string_bytes, ap, sym, subst, ◌∙◌, rules}
 use Rattle.std.specs.BTreeMap.{BTreeMap}
 use Rattle.std.specs.Cmp.Lexicographic.{slice_cmp}
 use Rattle.std.specs.Map.{lookup}
@@ -12,6 +12,7 @@ use Rattle.reflect_known.specs.KnownNames.{nothing_known, nothing_before, known_
 use Rattle.reflect_tables.specs.Names.{Sort, messages, enums, extensions, services, names_of, message_name, enum_name, extension_name, service_name}
 use Rattle.reflect_tables.specs.Views.{file_of, record_of, record_file, message_of, enum_of, extension_of, service_of, pool_of}
 use Rattle.reflect_tables.specs.declared.tables.Tables.{Tables}
+use Rattle.reflect_pool.specs.Stored.{AreStored}
 use Rattle.reflect_pool.proofs.pool.DescriptorPool.new.Goals as goal
 
 none_known : (names : BTreeMap (String Global) Definition) → names.entries ≡ [] → known_of names
@@ -45,4 +46,7 @@ invariant_of-result c =
       entries =
           λ s. none_named t made.messages made.enums made.extensions made.services s
           ∙ sym (ap (λ rs. with_names s [] (batch_declarations nothing_before 0 rs)) none);
+      stored =
+          subst (λ rs. AreStored rs t.messages.items) (sym none)
+          (subst (AreStored []) (sym made.messages) (record { ranges = tt; entries = tt }));
     }
