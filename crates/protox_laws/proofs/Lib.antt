@@ -1,0 +1,11 @@
+pub mod Declarations
+pub mod Fields
+pub mod Files
+pub mod Faults
+pub mod Layers
+pub mod Lists
+pub mod Locations
+pub mod Messages
+pub mod Options
+pub mod Orders
+pub mod Sources
