@@ -64,15 +64,19 @@ record SameItem (a b : EnumItem) : Type 0 where
 
 same_item : (a b : EnumItem) → enum_item_view a ≡ enum_item_view b → SameItem a b
 same_item (enum_items.Value v) (enum_items.Value w) e =
-    let value : enum_value_view v ≡ enum_value_view w = cc in
-    record { values = ap (λ x. x ∷ []) (same_value v w value); options = refl; ranges = refl; names = refl }
+    let seen : enum_value_view v ≡ enum_value_view w = cc in
+    let values = ap (λ x. x ∷ []) (same_value v w seen) in
+    search values
 same_item (enum_items.Option o) (enum_items.Option p) e =
-    let option : option_view o ≡ option_view p = cc in
-    record { values = refl; options = ap (λ x. x ∷ []) (same_statement o p option); ranges = refl; names = refl }
+    let seen : option_view o ≡ option_view p = cc in
+    let options = ap (λ x. x ∷ []) (same_statement o p seen) in
+    search options
 same_item (enum_items.Reserved r) (enum_items.Reserved s) e =
-    let reserved : reserved_view r ≡ reserved_view s = cc in
-    record { values = refl; options = refl; ranges = ap (map enum_range_of) (same_ranges r s reserved); names = same_names r s reserved }
-same_item (enum_items.Empty a) (enum_items.Empty b) e = record { values = refl; options = refl; ranges = refl; names = refl }
+    let seen : reserved_view r ≡ reserved_view s = cc in
+    let ranges = ap (map enum_range_of) (same_ranges r s seen) in
+    let names = same_names r s seen in
+    search (ranges, names)
+same_item (enum_items.Empty a) (enum_items.Empty b) e = search
 same_item a b e = absurd (cc)
 
 pub same_enum : (a b : Enum) → enum_view a ≡ enum_view b → enum_of a ≡ enum_of b

@@ -55,83 +55,34 @@ record SameItem (a b : FileItem) : Type 0 where
 same_item : (a b : FileItem) → file_item_view a ≡ file_item_view b → SameItem a b
 same_item (items.Import i) (items.Import j) e =
     let seen : import_view i ≡ import_view j = cc e in
-    record {
-      packages = λ before. refl;
-      imports = ap (λ v. v ∷ []) seen;
-      options = refl;
-      enums = refl;
-      services = refl;
-      extensions = refl;
-      types = refl;
-    }
+    let imports = ap (λ v. v ∷ []) seen in
+    search imports
 same_item (items.Package p) (items.Package q) e =
     let seen : package_view p ≡ package_view q = cc e in
-    record {
-      packages = λ before. ap (λ (v : tree.Package). Some (dotted v.name)) seen;
-      imports = refl;
-      options = refl;
-      enums = refl;
-      services = refl;
-      extensions = refl;
-      types = refl;
-    }
+    let packages = λ (before : Option Text). ap (λ (v : tree.Package). Some (dotted v.name)) seen in
+    search packages
 same_item (items.Option o) (items.Option p) e =
     let seen : option_view o ≡ option_view p = cc e in
-    record {
-      packages = λ before. refl;
-      imports = refl;
-      options = ap (λ x. x ∷ []) (same_statement o p seen);
-      enums = refl;
-      services = refl;
-      extensions = refl;
-      types = refl;
-    }
+    let options = ap (λ x. x ∷ []) (same_statement o p seen) in
+    search options
 same_item (items.Message m) (items.Message n) e =
     let seen : message_view m ≡ message_view n = cc e in
-    record {
-      packages = λ before. refl;
-      imports = refl;
-      options = refl;
-      enums = refl;
-      services = refl;
-      extensions = refl;
-      types = same_message_type m n seen;
-    }
+    let types = same_message_type m n seen in
+    search types
 same_item (items.Enum x) (items.Enum y) e =
     let seen : enum_view x ≡ enum_view y = cc e in
-    record {
-      packages = λ before. refl;
-      imports = refl;
-      options = refl;
-      enums = ap (λ v. v ∷ []) (same_enum x y seen);
-      services = refl;
-      extensions = refl;
-      types = refl;
-    }
+    let enums = ap (λ v. v ∷ []) (same_enum x y seen) in
+    search enums
 same_item (items.Service s) (items.Service t) e =
     let seen : service_view s ≡ service_view t = cc e in
-    record {
-      packages = λ before. refl;
-      imports = refl;
-      options = refl;
-      enums = refl;
-      services = ap (λ v. v ∷ []) (same_service s t seen);
-      extensions = refl;
-      types = refl;
-    }
+    let services = ap (λ v. v ∷ []) (same_service s t seen) in
+    search services
 same_item (items.Extend x) (items.Extend y) e =
     let seen : extend_view x ≡ extend_view y = cc e in
-    record {
-      packages = λ before. refl;
-      imports = refl;
-      options = refl;
-      enums = refl;
-      services = refl;
-      extensions = same_extensions x y seen;
-      types = same_extend_types x y seen;
-    }
-same_item (items.Empty a) (items.Empty b) e =
-    record { packages = λ before. refl; imports = refl; options = refl; enums = refl; services = refl; extensions = refl; types = refl }
+    let extensions = same_extensions x y seen in
+    let types = same_extend_types x y seen in
+    search (extensions, types)
+same_item (items.Empty a) (items.Empty b) e = search
 same_item a b e = absurd (cc e)
 
 -- ---- files

@@ -70,29 +70,23 @@ one_member x y e = sym (member_is x) ∙ e ∙ member_is y
 
 -- ---- chains
 
+-- a chain is made of one list
+module _ {A C : Type 0} (chain : List A → C) (apart : (x : A) (xs : List A) → chain [] ≡ chain (x ∷ xs) → ⊥)
+    (parted : (x y : A) (xs ys : List A) → chain (x ∷ xs) ≡ chain (y ∷ ys) → (x ≡ y) × (chain xs ≡ chain ys)) where
+  one_list : (xs ys : List A) → chain xs ≡ chain ys → xs ≡ ys
+  one_list [] [] e = refl
+  one_list [] (y ∷ ys) e = absurd (apart y ys e)
+  one_list (x ∷ xs) [] e = absurd (apart x xs (sym e))
+  one_list (x ∷ xs) (y ∷ ys) e =
+      let parts = parted x y xs ys e in
+      let others = one_list xs ys parts.1 in
+      λ i. parts.0 i ∷ others i
+
 pub same_items : (xs ys : List tree.Item) → items_of xs ≡ items_of ys → xs ≡ ys
-same_items [] [] e = refl
-same_items (x ∷ xs) (y ∷ ys) e =
-    let first : x ≡ y = cc in
-    let others : items_of xs ≡ items_of ys = cc in
-    let all = same_items xs ys others in
-    λ k. first k ∷ all k
-same_items xs ys e = absurd (cc)
+same_items = one_list items_of (λ x xs e. absurd (cc e)) (λ x y xs ys e. (cc e, cc e))
 
 pub same_members : (xs ys : List tree.Member) → members_of xs ≡ members_of ys → xs ≡ ys
-same_members [] [] e = refl
-same_members (x ∷ xs) (y ∷ ys) e =
-    let first : x ≡ y = cc in
-    let others : members_of xs ≡ members_of ys = cc in
-    let all = same_members xs ys others in
-    λ k. first k ∷ all k
-same_members xs ys e = absurd (cc)
+same_members = one_list members_of (λ x xs e. absurd (cc e)) (λ x y xs ys e. (cc e, cc e))
 
 pub same_added : (xs ys : List tree.AddedItem) → added_of xs ≡ added_of ys → xs ≡ ys
-same_added [] [] e = refl
-same_added (x ∷ xs) (y ∷ ys) e =
-    let first : x ≡ y = cc in
-    let others : added_of xs ≡ added_of ys = cc in
-    let all = same_added xs ys others in
-    λ k. first k ∷ all k
-same_added xs ys e = absurd (cc)
+same_added = one_list added_of (λ x xs e. absurd (cc e)) (λ x y xs ys e. (cc e, cc e))

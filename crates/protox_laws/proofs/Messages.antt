@@ -7,7 +7,6 @@ use Rattle.protox_declaration_records.specs.OptionRecords.{options_of}
 use Rattle.protox_field_records.specs.FieldName.{field_name_of}
 use Rattle.protox_field_records.specs.FieldRecords.{is_group}
 use Rattle.protox_field_records.specs.Layers.{AddedLayer, ItemLayer, KindLayer, MemberLayer}
-use Rattle.protox_field_records.specs.Places.{place_of}
 use Rattle.protox_laws.proofs.Declarations.{same_enum, same_names, same_ranges}
 use Rattle.protox_laws.proofs.Fields.{AreAlike, are_alike, same_entry, same_extend, same_extensions, same_field}
 use Rattle.protox_laws.proofs.Layers.{added_seen, item_seen, kind_seen, member_seen, one_added, one_item, one_kind, one_member, same_items, same_members}
@@ -91,10 +90,10 @@ same_message_type m n e =
 
 -- ---- oneofs
 
-own_alike : (s : Syntax) (place : Option ℤ) (f g : Field) → AreAlike f g → field_in s place f ≡ field_in s place g
-own_alike s place f g h =
+field_alike : (s : Syntax) (p q : Option ℤ) → p ≡ q → (f g : Field) → AreAlike f g → field_in s p f ≡ field_in s q g
+field_alike s p q place f g h =
     let made = same_field f g h in
-    λ i. record (made i) { oneof_index = place; proto3_optional = if tells_presence s (h.label i) then Some true else None }
+    λ i. record (made i) { oneof_index = place i; proto3_optional = if tells_presence s (h.label i) then Some true else None }
 
 record SameMember (a b : MemberLayer) : Type 0 where
   fields : (s : Syntax) (place : ℤ) → member_in s place a ≡ member_in s place b
@@ -105,11 +104,14 @@ same_member : (a b : MemberLayer) → member_seen a ≡ member_seen b → SameMe
 same_member (OneofItem-F.«OneofItem::Field» f) (OneofItem-F.«OneofItem::Field» g) e =
     let seen : field_view f ≡ field_view g = cc e in
     let h = are_alike f g seen in
-    record { fields = λ s place. ap (λ x. x ∷ []) (own_alike s (Some place) f g h); options = refl; types = same_field_types f g h }
+    let fields = λ (s : Syntax) (place : ℤ). ap (λ x. x ∷ []) (field_alike s (Some place) (Some place) refl f g h) in
+    let types = same_field_types f g h in
+    search (fields, types)
 same_member (OneofItem-F.«OneofItem::Option» o) (OneofItem-F.«OneofItem::Option» p) e =
     let seen : option_view o ≡ option_view p = cc e in
-    record { fields = λ s place. refl; options = ap (λ x. x ∷ []) (same_statement o p seen); types = refl }
-same_member (OneofItem-F.«OneofItem::Empty» a) (OneofItem-F.«OneofItem::Empty» b) e = record { fields = λ s place. refl; options = refl; types = refl }
+    let options = ap (λ x. x ∷ []) (same_statement o p seen) in
+    search options
+same_member (OneofItem-F.«OneofItem::Empty» a) (OneofItem-F.«OneofItem::Empty» b) e = search
 same_member a b e = absurd (cc e)
 
 member_tells : (x y : OneofItem) → member_view x ≡ member_view y → SameMember (out-OneofItem x) (out-OneofItem y)
@@ -158,141 +160,50 @@ same_alone : (s : Syntax) (f g : Field) → AreAlike f g → if_alone s f ≡ if
 same_alone s f g h = λ i. if tells_presence s (h.label i) then field_name_of ((h.name i).text) (is_group (h.kind i)) ∷ [] else []
 
 same_own : (s : Syntax) (place : ℤ) (f g : Field) → AreAlike f g → own_field s place f ≡ own_field s place g
-same_own s place f g h =
-    let made = same_field f g h in
-    λ i. record (made i) {
-      oneof_index = if tells_presence s (h.label i) then Some place else None;
-      proto3_optional = if tells_presence s (h.label i) then Some true else None;
-    }
+same_own s place f g h = field_alike s _ _ (λ i. if tells_presence s (h.label i) then Some place else None) f g h
 
 same_item : (a b : ItemLayer) → item_seen a ≡ item_seen b → SameItem a b
 same_item (MessageItem-F.«MessageItem::Field» f) (MessageItem-F.«MessageItem::Field» g) e =
     let seen : field_view f ≡ field_view g = cc e in
     let h = are_alike f g seen in
-    record {
-      fields = λ s next behind. ap (λ x. x ∷ []) (same_own s (place_of behind) f g h);
-      alone = λ s. same_alone s f g h;
-      oneofs = refl;
-      extensions = refl;
-      enums = refl;
-      options = refl;
-      ranges = refl;
-      names = refl;
-      numbers = refl;
-      types = same_field_types f g h;
-    }
+    let fields = λ (s : Syntax) (place : ℤ). ap (λ x. x ∷ []) (same_own s place f g h) in
+    let alone = λ (s : Syntax). same_alone s f g h in
+    let types = same_field_types f g h in
+    search (fields, alone, types)
 same_item (MessageItem-F.Oneof o) (MessageItem-F.Oneof p) e =
     let seen : oneof_view o ≡ oneof_view p = cc e in
     let h = oneof_tells o p seen in
-    record {
-      fields = λ s next behind. h.fields s (place_of next);
-      alone = λ s. refl;
-      oneofs = ap (λ x. x ∷ []) h.made;
-      extensions = refl;
-      enums = refl;
-      options = refl;
-      ranges = refl;
-      names = refl;
-      numbers = refl;
-      types = h.types;
-    }
+    let fields = h.fields in
+    let oneofs = ap (λ x. x ∷ []) h.made in
+    let types = h.types in
+    search (fields, oneofs, types)
 same_item (MessageItem-F.Message m) (MessageItem-F.Message n) e =
     let seen : message_view m ≡ message_view n = cc e in
-    record {
-      fields = λ s next behind. refl;
-      alone = λ s. refl;
-      oneofs = refl;
-      extensions = refl;
-      enums = refl;
-      options = refl;
-      ranges = refl;
-      names = refl;
-      numbers = refl;
-      types = same_message_type m n seen;
-    }
+    let types = same_message_type m n seen in
+    search types
 same_item (MessageItem-F.Enum x) (MessageItem-F.Enum y) e =
     let seen : enum_view x ≡ enum_view y = cc e in
-    record {
-      fields = λ s next behind. refl;
-      alone = λ s. refl;
-      oneofs = refl;
-      extensions = refl;
-      enums = ap (λ v. v ∷ []) (same_enum x y seen);
-      options = refl;
-      ranges = refl;
-      names = refl;
-      numbers = refl;
-      types = refl;
-    }
+    let enums = ap (λ v. v ∷ []) (same_enum x y seen) in
+    search enums
 same_item (MessageItem-F.Extend x) (MessageItem-F.Extend y) e =
     let seen : extend_view x ≡ extend_view y = cc e in
-    record {
-      fields = λ s next behind. refl;
-      alone = λ s. refl;
-      oneofs = refl;
-      extensions = same_extensions x y seen;
-      enums = refl;
-      options = refl;
-      ranges = refl;
-      names = refl;
-      numbers = refl;
-      types = same_extend_types x y seen;
-    }
+    let extensions = same_extensions x y seen in
+    let types = same_extend_types x y seen in
+    search (extensions, types)
 same_item (MessageItem-F.Extensions x) (MessageItem-F.Extensions y) e =
     let seen : extensions_view x ≡ extensions_view y = cc e in
-    record {
-      fields = λ s next behind. refl;
-      alone = λ s. refl;
-      oneofs = refl;
-      extensions = refl;
-      enums = refl;
-      options = refl;
-      ranges = refl;
-      names = refl;
-      numbers = same_numbers x y seen;
-      types = refl;
-    }
+    let numbers = same_numbers x y seen in
+    search numbers
 same_item (MessageItem-F.Reserved x) (MessageItem-F.Reserved y) e =
     let seen : reserved_view x ≡ reserved_view y = cc e in
-    record {
-      fields = λ s next behind. refl;
-      alone = λ s. refl;
-      oneofs = refl;
-      extensions = refl;
-      enums = refl;
-      options = refl;
-      ranges = ap (map reserved_range_of) (same_ranges x y seen);
-      names = same_names x y seen;
-      numbers = refl;
-      types = refl;
-    }
+    let ranges = ap (map reserved_range_of) (same_ranges x y seen) in
+    let names = same_names x y seen in
+    search (ranges, names)
 same_item (MessageItem-F.«MessageItem::Option» o) (MessageItem-F.«MessageItem::Option» p) e =
     let seen : option_view o ≡ option_view p = cc e in
-    record {
-      fields = λ s next behind. refl;
-      alone = λ s. refl;
-      oneofs = refl;
-      extensions = refl;
-      enums = refl;
-      options = ap (λ x. x ∷ []) (same_statement o p seen);
-      ranges = refl;
-      names = refl;
-      numbers = refl;
-      types = refl;
-    }
-same_item (MessageItem-F.«MessageItem::Empty» a) (MessageItem-F.«MessageItem::Empty» b) e =
-    record {
-      fields = λ s next behind. refl;
-      alone = λ s. refl;
-      oneofs = refl;
-      extensions = refl;
-      enums = refl;
-      options = refl;
-      ranges = refl;
-      names = refl;
-      numbers = refl;
-      types = refl;
-    }
+    let options = ap (λ x. x ∷ []) (same_statement o p seen) in
+    search options
+same_item (MessageItem-F.«MessageItem::Empty» a) (MessageItem-F.«MessageItem::Empty» b) e = search
 same_item a b e = absurd (cc e)
 
 item_tells : (x y : MessageItem) → item_view x ≡ item_view y → SameItem (out-MessageItem x) (out-MessageItem y)
