@@ -1,7 +1,7 @@
 //! Values put behind those of a list, and entries put into a map.
 
 ghost use Rattle.std.specs.Prelude.{◌≡◌, ◌≢◌, ℕ, ◌++◌, true, false, None, Some, IfOk, IfSome, OnOk, OnErr};
-ghost use Rattle.reflect_entries.specs.Entries.{Updates, value_at};
+ghost use Rattle.reflect_entries.specs.Entries.{IsAscending, Updates, value_at};
 ghost use Rattle.reflect_pool.specs.FieldsLeft.{field_type};
 ghost use Rattle.reflect_pool.specs.Shapes.{holds_list, holds_map};
 ghost use Rattle.reflect_scalar.specs.FieldTypes.{field_pool};
@@ -29,6 +29,7 @@ pub fn extend<'p, F: FieldDescriptorLike<'p>>(
     values: Vec<Value<'p>>,
 ) -> Result<(), AllocError>
     ensures others { (n : ℕ) → n ≢ (F.says field.now).number → Same content.old content.new n }
+    ensures ascending { IsAscending content.old → IsAscending content.new }
     ensures list { holds_list (F.pool field.now) (F.says field.now) ≡ true
         → OnOk result (Lengthens (value_at content.old (F.says field.now).number)
         (value_at content.new (F.says field.now).number) values.entry.items) }

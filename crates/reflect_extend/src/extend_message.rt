@@ -3,7 +3,7 @@ ghost use Rattle.reflect_pool.specs.FieldsLeft.{field_type};
 ghost use Rattle.reflect_pool.specs.Shapes.{holds_list, holds_map};
 ghost use Rattle.reflect_pool.specs.declared.message.MessageDescriptor.{MessageDescriptor};
 ghost use Rattle.reflect_scalar.specs.FieldTypes.{field_pool, extension_pool, extension_type};
-ghost use Rattle.reflect_entries.specs.Entries.{value_at};
+ghost use Rattle.reflect_entries.specs.Entries.{IsAscending, value_at};
 ghost use Rattle.reflect_message.specs.Declares.{Declares, Owns};
 ghost use Rattle.reflect_message.specs.Held.{fields_of, choices_of, extensions_of, unknown_of, Same};
 ghost use Rattle.reflect_message.specs.Lists.{Lengthens, KeepsList};
@@ -61,6 +61,8 @@ pub trait ExtendMessage<'p> {
         ensures others { (n : ℕ) → n ≢ (field_type field.now).number
             → sibling field.now (choices_of (message self.old)) ≢ Some n
             → Same (fields_of (message self.old)) (fields_of (message self.new)) n }
+        ensures ascending { IsAscending (fields_of (message self.old))
+            → IsAscending (fields_of (message self.new)) }
         ensures exclusive { Owns (message self.old).descriptor field.now
             → IsExclusive (message self.old) → OnOk result (IsExclusive (message self.new)) }
         ensures extensions { extensions_of (message self.new) ≡ extensions_of (message self.old) }
@@ -98,6 +100,8 @@ pub trait ExtendMessage<'p> {
             ≡ false → extensions_of (message self.new) ≡ extensions_of (message self.old) }
         ensures others { (n : ℕ) → n ≢ (extension_type extension.now).number
             → Same (extensions_of (message self.old)) (extensions_of (message self.new)) n }
+        ensures ascending { IsAscending (extensions_of (message self.old))
+            → IsAscending (extensions_of (message self.new)) }
         ensures exclusive { IsExclusive (message self.old) → IsExclusive (message self.new) }
         ensures fields { fields_of (message self.new) ≡ fields_of (message self.old) }
         ensures unknown { unknown_of (message self.new) ≡ unknown_of (message self.old) };
@@ -142,6 +146,7 @@ fn extend_parts<'p>(
     ensures others { (n : ℕ) → n ≢ (field_type field.now).number
         → sibling field.now parts.old.choices.members ≢ Some n
         → Same parts.old.fields parts.new.fields n }
+    ensures ascending { IsAscending parts.old.fields → IsAscending parts.new.fields }
     ensures list { holds_list (field_pool field.now) (field_type field.now) ≡ true
         → OnOk result (Lengthens (value_at parts.old.fields (field_type field.now).number)
         (value_at parts.new.fields (field_type field.now).number) values.entry.items) }

@@ -1,6 +1,6 @@
 -- What the fields of a text put into a message, one behind the other (protobuf.dev, "Text Format
 -- Language Specification", Semantics).
-use Rattle.std.specs.Prelude.{◌≡◌, ◌⊎◌, true, false, ℕ, List, [], ◌∷◌, ◌++◌, Some, All}
+use Rattle.std.specs.Prelude.{◌≡◌, ◌⊎◌, ◌<◌, ◌^◌, true, false, ℕ, length, List, [], ◌∷◌, ◌++◌, Some, All}
 use Rattle.protox_lex.specs.Class.{Text}
 use Rattle.protobuf_model.specs.Values.{Single, text, blob}
 use Rattle.reflect_pool.specs.FieldsLeft.{field_type}
@@ -21,7 +21,7 @@ use Rattle.text_model.specs.Tree.{FieldName, plain, extension, expansion, Scalar
 use Rattle.text_model.specs.Value.{written}
 use Rattle.reflect_format.specs.Kinds.{scalar_given, single_of}
 use Rattle.reflect_format.specs.Named.{NamesField, NamesExtension}
-use Rattle.reflect_format.specs.Steps.{Adds, Puts, SetsNumber, StaysExclusive, is_set}
+use Rattle.reflect_format.specs.Steps.{Adds, Puts, SetsNumber, StaysExclusive, StaysAscending, is_set}
 use Rattle.reflect_format.specs.Refusals.{Shares, HoldsMember}
 use Rattle.reflect_format.specs.Takes.{holds_many, target_pool, target_type}
 use Rattle.reflect_format.specs.declared.target.Target.{Target}
@@ -64,6 +64,7 @@ pub record PutsOne (t : Target) (v : held.Value) (old new : DynamicMessage) : Ty
   pub alone : IsAlone t old
   pub put : Puts t v old new
   pub exclusive : StaysExclusive t old new
+  pub ascending : StaysAscending old new
 
 -- values of a kind of one, or of any number
 abbrev pub OfKind : Type 1
@@ -84,6 +85,7 @@ abbrev pub Holds : Text → DynamicMessage → Filling
 Holds url body old new = IsAny old.descriptor
     × (between : DynamicMessage) × SetsNumber 1 (text url) old between
     × SetsNumber 2 (blob (message_bytes body)) between new
+    × (between.descriptor ≡ old.descriptor) × (length (message_bytes body) < 2 ^ 64)
 
 -- the URL of a type: a domain and the type's name
 abbrev pub url_of : (domain name : Text) → Text

@@ -1,7 +1,7 @@
 -- What putting a value, or values, does to a message, and what a refusal leaves of it.
 use Rattle.std.specs.Prelude.{◌≡◌, ◌≢◌, true, Bool, ℕ, List, Option, Some}
 use Rattle.protobuf_model.specs.Values.{Single}
-use Rattle.reflect_entries.specs.Entries.{value_at}
+use Rattle.reflect_entries.specs.Entries.{IsAscending, value_at}
 use Rattle.reflect_pool.specs.FieldsLeft.{field_type}
 use Rattle.reflect_pool.specs.Shapes.{holds_list, holds_map}
 use Rattle.reflect_pool.specs.declared.field.FieldDescriptor.{FieldDescriptor}
@@ -45,6 +45,14 @@ StaysExclusive (targets.Field f) old new =
     Owns old.descriptor f → IsExclusive old → IsExclusive new
 StaysExclusive (targets.Extension x) old new = IsExclusive old → IsExclusive new
 
+-- the numbers of what is held ascend
+abbrev pub Ascends : DynamicMessage → Type 0
+Ascends m = IsAscending (fields_of m) × IsAscending (extensions_of m)
+
+-- where they did so they still do
+abbrev pub StaysAscending : DynamicMessage → DynamicMessage → Type 0
+StaysAscending old new = Ascends old → Ascends new
+
 -- nothing else is changed, but that another member of the field's oneof may be unset
 abbrev pub ChangesOnly : Target → DynamicMessage → DynamicMessage → Type 0
 ChangesOnly (targets.Field f) old new =
@@ -62,7 +70,7 @@ Adds t vs old new = ChangesOnly t old new
     → Lengthens (held_by old t) (held_by new t) vs)
     × (holds_map (target_pool t) (target_type t) ≡ true
     → PutsEntries (held_by old t) (held_by new t) vs)
-    × StaysExclusive t old new
+    × StaysExclusive t old new × StaysAscending old new
 
 -- a list keeps its values, and of the entries that the values are the first are put into a map
 abbrev pub AddsPart : Target → List Value → DynamicMessage → DynamicMessage → Type 0
@@ -77,3 +85,4 @@ abbrev pub SetsNumber : ℕ → Single → DynamicMessage → DynamicMessage →
 SetsNumber n x old new =
     (f : FieldDescriptor) × (v : Value) × Declares old.descriptor f × ((field_type f).number ≡ n)
     × (single_of v ≡ Some x) × SetsField old new f v × StaysExclusive (targets.Field f) old new
+    × StaysAscending old new

@@ -7,7 +7,7 @@ ghost use Rattle.reflect_format.specs.Lacks.{FindsPlain, IsGroupCalled, LacksFie
 ghost use Rattle.reflect_format.specs.Named.{FindsGroup, NamesExtension, NamesField, NoExtensionNamed, NoFieldNamed};
 ghost use Rattle.reflect_format.specs.Reads.{IsCause};
 ghost use Rattle.reflect_format.specs.Refusals.{Holds, HoldsMember, IsTextName, RefusesExtension, RefusesField, Shares};
-ghost use Rattle.reflect_format.specs.Steps.{Adds, AddsPart, Puts, Stays, StaysExclusive, is_set};
+ghost use Rattle.reflect_format.specs.Steps.{Adds, AddsPart, Puts, Stays, StaysAscending, StaysExclusive, is_set};
 ghost use Rattle.reflect_format.specs.Takes.{Takes, holds_many, target_pool, target_type};
 
 use crate::fault::{float_field, unknown_extension, unknown_field};
@@ -145,6 +145,7 @@ impl<'p> Target<'p> {
         ensures type_stays { message.new.descriptor ≡ message.old.descriptor }
         ensures ok { OnOk result (Puts self.now value.entry message.old message.new) }
         ensures exclusive { OnOk result (StaysExclusive self.now message.old message.new) }
+        ensures ascending { OnOk result (StaysAscending message.old message.new) }
         ensures left { OnErr result (Stays message.old message.new) }
     {
         match self {

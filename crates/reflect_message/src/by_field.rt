@@ -4,7 +4,7 @@ ghost use Rattle.std.specs.Prelude.{◌≡◌, true, None, Some, IsTrue, IsSome,
 ghost use Rattle.std.specs.Option.{unwrap_or};
 ghost use Rattle.reflect_pool.specs.FieldsLeft.{field_type};
 ghost use Rattle.reflect_scalar.specs.FieldTypes.{field_pool};
-ghost use Rattle.reflect_entries.specs.Entries.{value_at};
+ghost use Rattle.reflect_entries.specs.Entries.{IsAscending, value_at};
 ghost use Rattle.reflect_message.specs.Declares.{Declares, Owns};
 ghost use Rattle.reflect_message.specs.Held.{fields_of, choices_of, extensions_of, unknown_of, UpdatesField};
 ghost use Rattle.reflect_message.specs.Oneofs.{IsExclusive, SetsField};
@@ -97,6 +97,7 @@ impl<'p> DynamicMessage<'p> {
         requires { Declares self.old.descriptor field.now }
         ensures type_stays { self.new.descriptor ≡ self.old.descriptor }
         ensures ok { OnOk result (SetsField self.old self.new field.now value.entry) }
+        ensures ascending { OnOk result (IsAscending (fields_of self.new)) }
         ensures exclusive { Owns self.old.descriptor field.now → IsExclusive self.old
             → IsExclusive self.new }
         ensures err { OnErr result (fields_of self.new ≡ fields_of self.old) }

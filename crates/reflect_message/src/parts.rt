@@ -141,6 +141,7 @@ impl<'p> Parts<'p> {
             ≡ Some value.entry) }
         ensures changes { OnOk result (Changes field.now self.old.choices.members self.old.fields
             self.new.fields) }
+        ensures ascending { OnOk result (IsAscending self.new.fields) }
         ensures chooses { OnOk result (Chooses field.now self.old.choices.members
             self.new.choices.members) }
         ensures err { OnErr result (self.new.fields ≡ self.old.fields) }

@@ -21,3 +21,6 @@ returns-clause-chosen c = λ m owns chosen.
     let start = room_exclusive m f before.choices.members noted before.fields owns made chosen in
     chosen_next m f owns noted after.choices.members before.fields after.fields start (cleared.chooses room.room)
     (unsets_changes f noted before.fields filled after.fields c.extend.ensures.others cleared.unsets)
+
+pub returns-clause-ascending : goal.returns-clause-ascending
+returns-clause-ascending c = λ up. c.clear_siblings.ensures.ascending (c.extend.ensures.ascending up)

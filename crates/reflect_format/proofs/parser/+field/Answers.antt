@@ -101,8 +101,13 @@ named_value-returns-in_ok-target-in-Extension-clause-stays t c = λ n colon same
     let w = string_bytes c.in-Extension.name in
     let named = subst (λ d. NamesExtension d w target) c.descriptor-descriptor.ensures c.in_ok-target-in-Extension.ensures.named in
     IfErr-weaker c.assignment-in-Extension.result _ _ (λ k h. begun_so _ _ k old new
-    (λ b. (b.0, b.1, b.2, extension_only (λ n. Begins n b.0 old new) n w (same ∙ ap name_view c.in-Extension.is)
-    (λ e is. (target, subst (λ w. NamesExtension old.descriptor w target) (sym is) named, b.3)))) h)
+    (λ b. (
+      b.0,
+      b.1,
+      b.2,
+      extension_only (λ n. Begins n b.0 old new) n w (same ∙ ap name_view c.in-Extension.is)
+          (λ e is. (target, subst (λ w. NamesExtension old.descriptor w target) (sym is) named, b.3)),
+    )) h)
     (c.assignment-in-Extension.ensures.stays colon)
 
 pub named_value-returns-in-Any-clause-stays : goal.named_value-returns-in-Any-clause-stays
@@ -111,8 +116,13 @@ named_value-returns-in-Any-clause-stays t c = λ n colon same.
     let new = c.expansion.new.message in
     let name = c.in-Any.name in
     IfErr-weaker c.expansion.result _ _ (λ k h. begun_so _ _ k old new
-    (λ b. (b.0, b.1, b.2, expansion_only (λ n. Begins n b.0 old new) n (string_bytes name.domain) (string_bytes name.message) (same ∙ ap name_view c.in-Any.is)
-    (λ d e is was. subst (λ x. HoldsUrl (url_of x (written e)) old new) (sym is) (subst (λ y. HoldsUrl (url_of (string_bytes name.domain) y) old new) (sym was) b.3)))) h)
+    (λ b. (
+      b.0,
+      b.1,
+      b.2,
+      expansion_only (λ n. Begins n b.0 old new) n (string_bytes name.domain) (string_bytes name.message) (same ∙ ap name_view c.in-Any.is)
+          (λ d e is was. subst (λ x. HoldsUrl (url_of x (written e)) old new) (sym is) (subst (λ y. HoldsUrl (url_of (string_bytes name.domain) y) old new) (sym was) b.3)),
+    )) h)
     (c.expansion.ensures.stays colon)
 
 pub assignment-returns-in_err-values-clause-stays : goal.assignment-returns-in_err-values-clause-stays
@@ -480,6 +490,7 @@ assignment-returns-clause-filled t c = λ colon.
             alone = c.in_ok-refuse_second.ensures.alone;
             put = c.in_ok-set.ensures.ok;
             exclusive = c.in_ok-set.ensures.exclusive;
+            ascending = c.in_ok-set.ensures.ascending;
           },
         ),
       ),

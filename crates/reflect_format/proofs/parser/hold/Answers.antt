@@ -1,5 +1,6 @@
-use Rattle.std.proofs.Common.{rules, ◌≡◌, ◌∷◌, ◌++◌, Option, Some, string_bytes, inl, refl, sym, ap, subst, ◌∙◌}
+use Rattle.std.proofs.Common.{rules, ◌≡◌, ◌<◌, ◌^◌, ◌∷◌, ◌++◌, length, Option, Some, string_bytes, inl, refl, sym, ap, subst, ◌∙◌}
 use Rattle.protobuf_model.specs.Values.{Single, text, blob}
+use Rattle.reflect_entries.specs.Entries.{IsAscending}
 use Rattle.reflect_message.specs.Declares.{Declares}
 use Rattle.reflect_any.specs.Any.{IsAny}
 use Rattle.reflect_format.proofs.Stepping.{untouched, kept, unfinished}
@@ -30,7 +31,7 @@ returns-in_err-set_field-2-clause-stays c =
     unfinished _ m c.set_field-2.new.self r.result r.ensures.1 (
       subst IsAny c.descriptor.ensures c.in-Some.ensures.any,
       c.set_field.new.self,
-      (url, _, subst (λ d. Declares d url) c.descriptor.ensures c.in-Some.ensures.type_url.0, c.in-Some.ensures.type_url.1, ap (λ t. let it : Option Single = Some (text t) in it) named, c.in_ok-set_field.ensures.ok, c.set_field.ensures.exclusive),
+      (url, _, subst (λ d. Declares d url) c.descriptor.ensures c.in-Some.ensures.type_url.0, c.in-Some.ensures.type_url.1, ap (λ t. let it : Option Single = Some (text t) in it) named, c.in_ok-set_field.ensures.ok, c.set_field.ensures.exclusive, λ up. (c.in_ok-set_field.ensures.ascending, subst IsAscending (sym c.set_field.ensures.extensions) up.1)),
       (c.in_err-set_field-2.ensures.err, c.set_field-2.ensures.extensions, c.set_field-2.ensures.unknown),
     )
 
@@ -41,9 +42,12 @@ returns-clause-held c =
     let url = c.in-Some.fields.type_url in
     let value = c.in-Some.fields.value in
     let same = c.descriptor.ensures ∙ sym c.set_field.ensures.type_stays in
+    let short : length c.in-Ok.bytes.items < 2 ^ 64 = search rules in
     let named : string_bytes c.in_ok-type_url.type_url ≡ string_bytes c.args.name.now.domain ++ 47 ∷ string_bytes c.args.name.now.message = search rules in (
       subst IsAny c.descriptor.ensures c.in-Some.ensures.any,
       mid,
-      (url, _, subst (λ d. Declares d url) c.descriptor.ensures c.in-Some.ensures.type_url.0, c.in-Some.ensures.type_url.1, ap (λ t. let it : Option Single = Some (text t) in it) named, c.in_ok-set_field.ensures.ok, c.set_field.ensures.exclusive),
-      (value, _, subst (λ d. Declares d value) same c.in-Some.ensures.value.0, c.in-Some.ensures.value.1, ap (λ b. let it : Option Single = Some (blob b) in it) c.in-Ok.ensures.ok, c.in_ok-set_field-2.ensures.ok, c.set_field-2.ensures.exclusive),
+      (url, _, subst (λ d. Declares d url) c.descriptor.ensures c.in-Some.ensures.type_url.0, c.in-Some.ensures.type_url.1, ap (λ t. let it : Option Single = Some (text t) in it) named, c.in_ok-set_field.ensures.ok, c.set_field.ensures.exclusive, λ up. (c.in_ok-set_field.ensures.ascending, subst IsAscending (sym c.set_field.ensures.extensions) up.1)),
+      (value, _, subst (λ d. Declares d value) same c.in-Some.ensures.value.0, c.in-Some.ensures.value.1, ap (λ b. let it : Option Single = Some (blob b) in it) c.in-Ok.ensures.ok, c.in_ok-set_field-2.ensures.ok, c.set_field-2.ensures.exclusive, λ up. (c.in_ok-set_field-2.ensures.ascending, subst IsAscending (sym c.set_field-2.ensures.extensions) up.1)),
+      c.set_field.ensures.type_stays,
+      subst (λ l. length l < 2 ^ 64) c.in-Ok.ensures.ok short,
     )

@@ -1,4 +1,5 @@
 use Rattle.std.proofs.Common.{rules, ◌≡◌, ap, refl, subst, sym, ◌∙◌}
+use Rattle.reflect_entries.specs.Entries.{IsAscending}
 use Rattle.reflect_message.specs.Held.{choices_of, extensions_of, fields_of}
 use Rattle.reflect_message.specs.Oneofs.{IsExclusive}
 use Rattle.reflect_scalar.specs.FieldTypes.{extension_type}
@@ -28,3 +29,13 @@ returns-clause-exclusive c =
     let has : fields_of new ≡ fields_of old = search rules in
     let type : new.descriptor ≡ old.descriptor = search rules in
     put_back old new (choices_of old) (choices_of old) (fields_of old) (fields_of old) refl refl is has type
+
+pub returns-in_err-parts-clause-ascending : goal.returns-in_err-parts-clause-ascending
+returns-in_err-parts-clause-ascending c = subst (λ m. IsAscending (extensions_of m)) (sym c.in_err-parts.ensures.err)
+
+pub returns-clause-ascending : goal.returns-clause-ascending
+returns-clause-ascending c = λ up.
+    let put = c.extend-outcome in
+    let had : c.deref_mut.result.now.extensions ≡ extensions_of c.args.self.now = search rules in
+    let has : extensions_of c.put_block.new.self ≡ put.new.content = search rules in
+    subst IsAscending (sym has) (put.ensures.ascending (subst IsAscending (sym had) up))

@@ -1,4 +1,5 @@
-use Rattle.std.proofs.Common.{rules, ◌≡◌, ap, ◌∙◌}
+use Rattle.std.proofs.Common.{rules, ◌≡◌, ap, sym, subst, ◌∙◌}
+use Rattle.reflect_entries.specs.Entries.{IsAscending}
 use Rattle.reflect_pool.specs.FieldsLeft.{field_type}
 use Rattle.reflect_message.specs.Held.{choices_of, fields_of}
 use Rattle.reflect_message.specs.Lists.{KeepsList}
@@ -29,3 +30,13 @@ returns-clause-exclusive c = λ owns.
     let type : new.descriptor ≡ old.descriptor = search rules in
     stays_exclusive old new before.choices.members after.choices.members before.fields after.fields was had is has type c.extend_parts-outcome.result
     (c.extend_parts-outcome.ensures.chosen old.descriptor owns)
+
+pub returns-in_err-parts-clause-ascending : goal.returns-in_err-parts-clause-ascending
+returns-in_err-parts-clause-ascending c = subst (λ m. IsAscending (fields_of m)) (sym c.in_err-parts.ensures.err)
+
+pub returns-clause-ascending : goal.returns-clause-ascending
+returns-clause-ascending c = λ up.
+    let put = c.extend_parts-outcome in
+    let had : c.deref_mut.result.now.fields ≡ fields_of c.args.self.now = search rules in
+    let has : fields_of c.put_block.new.self ≡ put.new.parts.fields = search rules in
+    subst IsAscending (sym has) (put.ensures.ascending (subst IsAscending (sym had) up))

@@ -1,10 +1,11 @@
 use Rattle.std.proofs.Common.{◌≡◌, true, List, Result, Ok, Err, OnOk, OnErr, sym, subst}
+use Rattle.reflect_entries.specs.Entries.{IsAscending}
 use Rattle.reflect_pool.specs.Shapes.{holds_list, holds_map}
 use Rattle.reflect_message.specs.Lists.{Lengthens, KeepsList}
 use Rattle.reflect_message.specs.declared.message.DynamicMessage.{DynamicMessage}
 use Rattle.reflect_message.specs.declared.value.Value.{Value}
 use Rattle.reflect_extend.specs.Puts.{PutsEntries, PutsSome}
-use Rattle.reflect_format.specs.Steps.{Adds, AddsPart, ChangesOnly, StaysExclusive, held_by}
+use Rattle.reflect_format.specs.Steps.{Adds, AddsPart, ChangesOnly, StaysAscending, StaysExclusive, held_by}
 use Rattle.reflect_format.specs.Takes.{target_pool, target_type}
 use Rattle.reflect_format.specs.declared.target.Target.{Target}
 use Rattle.reflect_format.specs.declared.target.Target.TheVariants as targets
@@ -13,9 +14,9 @@ use Rattle.reflect_format.proofs.target.Target.add.Goals as goal
 -- what is added, from what holds of lists and of maps
 module _ {T E : Type 0} (t : Target) (vs : List Value) (old new : DynamicMessage) (only : ChangesOnly t old new) where
   adds : (r : Result T E) → (holds_list (target_pool t) (target_type t) ≡ true → OnOk r (Lengthens (held_by old t) (held_by new t) vs))
-      → (holds_map (target_pool t) (target_type t) ≡ true → OnOk r (PutsEntries (held_by old t) (held_by new t) vs)) → OnOk r (StaysExclusive t old new) → OnOk r (Adds t vs old new)
-  adds (Ok x) list map exclusive = (only, list, map, exclusive)
-  adds (Err e) list map exclusive = tt
+      → (holds_map (target_pool t) (target_type t) ≡ true → OnOk r (PutsEntries (held_by old t) (held_by new t) vs)) → OnOk r (StaysExclusive t old new) → StaysAscending old new → OnOk r (Adds t vs old new)
+  adds (Ok x) list map exclusive ascending = (only, list, map, exclusive, ascending)
+  adds (Err e) list map exclusive ascending = tt
 
   adds_part : (r : Result T E) → (holds_list (target_pool t) (target_type t) ≡ true → OnErr r (KeepsList (held_by old t) (held_by new t)))
       → (holds_map (target_pool t) (target_type t) ≡ true → OnErr r (PutsSome (held_by old t) (held_by new t) vs)) → OnErr r (AddsPart t vs old new)
@@ -36,7 +37,8 @@ returns-in-Field-clause-ok c =
     let t : Target = targets.Field c.in-Field.field in
     let said = c.extend_field.ensures in
     subst (λ u. OnOk c.extend_field.result (Adds u c.args.values.items c.args.message.now c.extend_field.new.self)) (sym c.in-Field.is)
-    (adds t c.args.values.items c.args.message.now c.extend_field.new.self (said.others, said.extensions, said.unknown) c.extend_field.result said.list said.map (under _ _ _ c.extend_field.result said.exclusive))
+    (adds t c.args.values.items c.args.message.now c.extend_field.new.self (said.others, said.extensions, said.unknown) c.extend_field.result said.list said.map (under _ _ _ c.extend_field.result said.exclusive)
+    (λ old. (said.ascending old.0, subst IsAscending (sym said.extensions) old.1)))
 
 pub returns-in-Field-clause-left : goal.returns-in-Field-clause-left
 returns-in-Field-clause-left c =
@@ -50,7 +52,8 @@ returns-in-Extension-clause-ok c =
     let t : Target = targets.Extension c.in-Extension.extension in
     let said = c.extend_extension.ensures in
     subst (λ u. OnOk c.extend_extension.result (Adds u c.args.values.items c.args.message.now c.extend_extension.new.self)) (sym c.in-Extension.is)
-    (adds t c.args.values.items c.args.message.now c.extend_extension.new.self (said.others, said.fields, said.unknown) c.extend_extension.result said.list said.map (always _ c.extend_extension.result said.exclusive))
+    (adds t c.args.values.items c.args.message.now c.extend_extension.new.self (said.others, said.fields, said.unknown) c.extend_extension.result said.list said.map (always _ c.extend_extension.result said.exclusive)
+    (λ old. (subst IsAscending (sym said.fields) old.0, said.ascending old.1)))
 
 pub returns-in-Extension-clause-left : goal.returns-in-Extension-clause-left
 returns-in-Extension-clause-left c =

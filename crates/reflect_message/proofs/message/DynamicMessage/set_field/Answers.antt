@@ -1,4 +1,5 @@
-use Rattle.std.proofs.Common.{rules, ◌≡◌}
+use Rattle.std.proofs.Common.{rules, ◌≡◌, OnOk, sym, subst}
+use Rattle.reflect_entries.specs.Entries.{IsAscending}
 use Rattle.reflect_message.specs.Held.{fields_of, choices_of, extensions_of, unknown_of}
 use Rattle.reflect_message.proofs.Setting.{field_set, exclusive_set}
 use Rattle.reflect_message.proofs.message.DynamicMessage.set_field.Goals as goal
@@ -31,3 +32,9 @@ returns-clause-exclusive c =
     let has : fields_of new ≡ after.fields = search rules in
     let type : new.descriptor ≡ old.descriptor = search rules in
     exclusive_set old new c.args.field.now before.choices.members after.choices.members before.fields after.fields was had is has c.set_field-outcome.result set.changes set.chooses set.err set.room type
+
+pub returns-clause-ascending : goal.returns-clause-ascending
+returns-clause-ascending c =
+    let put = c.set_field-outcome in
+    let has : fields_of c.put_block.new.self ≡ put.new.self.fields = search rules in
+    subst (λ l. OnOk put.result (IsAscending l)) (sym has) put.ensures.ascending
