@@ -39,7 +39,7 @@ use Rattle.message_view.proofs.Oneofs.{payloads_same}
 use Rattle.message_view.proofs.Seen.{single_seen, map_seen, pairs_view}
 
 -- the form of a kind's values
-abbrev form_at : Scalar → ℕ
+abbrev pub form_at : Scalar → ℕ
 form_at kinds.bool = 0
 form_at kinds.int32 = 1
 form_at kinds.sint32 = 1

@@ -115,7 +115,7 @@ default_same pool f w type =
     let d = some_default pool f type in
     ap (λ o. elim o [ None ↦ false | Some d ↦ same_single w d ]) d.1 ∙ same_value w d.0 ∙ ap (same (single_view w)) (sym (default_is pool f d.0 d.1))
 
-or_true : (b : Bool) → (b || true) ≡ true
+pub or_true : (b : Bool) → (b || true) ≡ true
 or_true true = refl
 or_true false = refl
 

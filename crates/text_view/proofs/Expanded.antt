@@ -38,7 +38,7 @@ use Rattle.text_view.proofs.Scalars.{content_is}
 use Rattle.text_view.proofs.Set.{held_one}
 
 -- a kind of no floating-point numbers
-abbrev IsWhole : KindType → Type 0
+abbrev pub IsWhole : KindType → Type 0
 IsWhole t = (IsFloat t → ⊥) × ((p : PoolType) → HasFloats p t → ⊥)
 
 module _ (old new : DynamicMessage) (apart : AreApart old.descriptor.pool.now) (n : ℕ) (x : Single) (kind : KindType) (whole : IsWhole kind)
@@ -66,7 +66,7 @@ module _ (old new : DynamicMessage) (apart : AreApart old.descriptor.pool.now) (
   found : numbered_field pool d.index n ≡ Some (field_type f)
   found = ap (numbered_field pool d.index) (sym sets.3) ∙ field_found pool d.index (field_type f).number f.index first ∙ ap Some place
 
-  its_lone : IsLone pool d.index kind (Some (field_type f))
+  pub its_lone : IsLone pool d.index kind (Some (field_type f))
   its_lone = subst (IsLone pool d.index kind) found lone
 
   pub number_owns : Owns d f

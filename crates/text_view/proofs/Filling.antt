@@ -16,13 +16,12 @@ use Rattle.reflect_format.specs.Filled.{AreValues, Fills, IsMade, IsScalar, IsVa
 use Rattle.reflect_format.specs.Unfit.{AreUnfitValues, CannotMake, IsUnfitValue, NoMessage, Unfit}
 use Rattle.reflect_format.specs.Kinds.{scalar_given}
 use Rattle.text_model.specs.Schemas.{Schema, shape_of}
-use Rattle.text_model.specs.Tree.{ScalarValue, Value, scalar, braced, Values, no_values, more_values, Given, one_scalar, one_message, listed, Fields, no_fields, more_fields, FieldName, plain, extension, expansion}
+use Rattle.text_model.specs.Tree.{ScalarValue, Value, scalar, braced, Values, no_values, more_values, Given, one_scalar, one_message, listed, Fields, no_fields, more_fields}
 use Rattle.text_model.specs.Value.{Wanted, message_content, scalar_content, value, value_content, values_contents}
 use Rattle.text_model.proofs.Merging.{same_message}
 use Rattle.message_view.specs.Types.{name_at}
 use Rattle.message_view.specs.Views.{content_view, view}
 use Rattle.message_view.proofs.Seen.{message_seen}
-use Rattle.text_view.specs.Expansions.{EachExpansion, EachInGiven, EachInValue, EachInValues, IfExpansion, IsUnexpanded}
 use Rattle.text_view.specs.Holds.{HoldsKinds}
 use Rattle.text_view.specs.Ruled.{IsRuled}
 use Rattle.text_view.specs.Schemas.{schema_of, shape_at}
@@ -32,19 +31,13 @@ use Rattle.text_view.proofs.Puts.{message_is}
 use Rattle.text_view.proofs.Refusing.{GivenUnfit, refused_at}
 use Rattle.text_view.proofs.Scalars.{content_is}
 use Rattle.text_view.proofs.Shapes.{shape_is}
-use Rattle.text_view.proofs.Steady.{HoldBody, KeepExclusive}
 use Rattle.text_view.proofs.Stepping.{GivenKnown, IsGood, step_at}
 
 good_scalar : (k : Kind) (s : ScalarValue) (x : held.Value) → IsScalar k s x → IsGood k x
 good_scalar (publics.Message d) s x h = absurd (cc h.1)
 good_scalar k s x h = (s, h)
 
-if_expansion : (name : FieldName) (P Q : Type 0) → (P → Q) → IfExpansion name P → IfExpansion name Q
-if_expansion (expansion domain name) P Q f h = f h
-if_expansion (plain name) P Q f h = tt
-if_expansion (extension name) P Q f h = tt
-
-module _ (decoded : Name → Text → Option Message) (keeps : KeepExclusive) (Q : Given → Type 0) (held_as : (g : Given) → Q g → HoldBody g) (pool : PoolType) (ruled : IsRuled pool) where
+module _ (decoded : Name → Text → Option Message) (pool : PoolType) (ruled : IsRuled pool) where
   abbrev w : Schema
   w = schema_of pool decoded
 
@@ -86,16 +79,16 @@ module _ (decoded : Name → Text → Option Message) (keeps : KeepExclusive) (Q
       (ap (option_map (λ c. c ∷ [])) h.0 ∙ ap (λ us. Some (map content_view us)) (sym is), subst (AllByRecursion (IsGood k)) (sym is) (h.1, tt))
 
   mutual
-    pub fields_known : (fs : Fields) → EachExpansion Q fs → FieldsKnown fs
-    fields_known no_fields each old new at exclusive kinds e = (
+    pub fields_known : (fs : Fields) → FieldsKnown fs
+    fields_known no_fields old new at exclusive kinds e = (
       ap (λ m. Some (view m)) (sym e),
       ap (λ (m : DynamicMessage). m.descriptor) e,
       subst IsExclusive (sym e) exclusive,
       subst HoldsKinds (sym e) kinds,
     )
-    fields_known (more_fields name g sep fs) each old new at exclusive kinds (next, same, names, rest) =
-        let one = step_at decoded keeps old next same exclusive kinds name g (if_expansion name (Q g) (HoldBody g) (held_as g) each.0) names pool at ruled (given_known g each.1) in
-        let more = fields_known fs each.2 next new (ap (λ (c : MessageDescriptor). c.pool.now) same ∙ at) one.1 one.2 rest in (
+    fields_known (more_fields name g sep fs) old new at exclusive kinds (next, same, names, rest) =
+        let one = step_at decoded old next same exclusive kinds name g names pool at ruled (given_known g) in
+        let more = fields_known fs next new (ap (λ (c : MessageDescriptor). c.pool.now) same ∙ at) one.1 one.2 rest in (
           ap (option_and_then (value w (shape_at pool old.descriptor.index) fs)) one.0
               ∙ ap (λ (c : MessageDescriptor). value w (shape_at pool c.index) fs (view next)) (sym same) ∙ more.0,
           more.1 ∙ same,
@@ -103,33 +96,33 @@ module _ (decoded : Name → Text → Option Message) (keeps : KeepExclusive) (Q
           more.3,
         )
 
-    given_known : (g : Given) → EachInGiven Q g → GivenKnown decoded pool g
-    given_known (one_scalar s) each = record {
+    given_known : (g : Given) → GivenKnown decoded pool g
+    given_known (one_scalar s) = record {
       one = λ k a wants x h. scalar_known k a wants s x h;
       all = λ k a wants vs h. alone_known (scalar_content a s) k h.0 (scalar_known k a wants s h.0 h.1) vs h.2;
       body = λ d m at h. absurd h.3;
     }
-    given_known (one_message c b fs) each = record {
-      one = λ k a wants x h. message_known fs (fields_known fs each) k a wants x h;
-      all = λ k a wants vs h. alone_known (message_content a (λ s. value w s fs nothing)) k h.0 (message_known fs (fields_known fs each) k a wants h.0 h.1) vs h.2;
-      body = λ d m at h. ap (λ s. value w s fs nothing) (shape_at_place d at) ∙ (made_known fs (fields_known fs each) d m at h).0;
+    given_known (one_message c b fs) = record {
+      one = λ k a wants x h. message_known fs (fields_known fs) k a wants x h;
+      all = λ k a wants vs h. alone_known (message_content a (λ s. value w s fs nothing)) k h.0 (message_known fs (fields_known fs) k a wants h.0 h.1) vs h.2;
+      body = λ d m at h. ap (λ s. value w s fs nothing) (shape_at_place d at) ∙ (made_known fs (fields_known fs) d m at h).0;
     }
-    given_known (listed vs) each = record {
+    given_known (listed vs) = record {
       one = λ k a wants x h. absurd h;
-      all = λ k a wants xs h. values_known vs each k a wants xs h;
+      all = λ k a wants xs h. values_known vs k a wants xs h;
       body = λ d m at h. absurd h.3;
     }
 
-    value_known : (v : Value) → EachInValue Q v → (k : Kind) (a : Wanted) → Wants pool w k a → (x : held.Value) → IsValue v k x → (value_content w a v ≡ Some (content_view x)) × IsGood k x
-    value_known (scalar s) each k a wants x h = scalar_known k a wants s x h
-    value_known (braced b fs) each k a wants x h = message_known fs (fields_known fs each) k a wants x h
+    value_known : (v : Value) → (k : Kind) (a : Wanted) → Wants pool w k a → (x : held.Value) → IsValue v k x → (value_content w a v ≡ Some (content_view x)) × IsGood k x
+    value_known (scalar s) k a wants x h = scalar_known k a wants s x h
+    value_known (braced b fs) k a wants x h = message_known fs (fields_known fs) k a wants x h
 
-    values_known : (vs : Values) → EachInValues Q vs → (k : Kind) (a : Wanted) → Wants pool w k a → (xs : List held.Value) → AreValues vs k xs
+    values_known : (vs : Values) → (k : Kind) (a : Wanted) → Wants pool w k a → (xs : List held.Value) → AreValues vs k xs
         → (values_contents w a vs ≡ Some (map content_view xs)) × AllByRecursion (IsGood k) xs
-    values_known no_values each k a wants xs h = (ap (λ us. Some (map content_view us)) (sym h), subst (AllByRecursion (IsGood k)) (sym h) tt)
-    values_known (more_values v vs) each k a wants xs (x, others, is, one, more) =
-        let first = value_known v each.0 k a wants x one in
-        let rest = values_known vs each.1 k a wants others more in (
+    values_known no_values k a wants xs h = (ap (λ us. Some (map content_view us)) (sym h), subst (AllByRecursion (IsGood k)) (sym h) tt)
+    values_known (more_values v vs) k a wants xs (x, others, is, one, more) =
+        let first = value_known v k a wants x one in
+        let rest = values_known vs k a wants others more in (
           ap (option_and_then (λ c. option_map (λ cs. c ∷ cs) (values_contents w a vs))) first.0
               ∙ ap (option_map (λ cs. content_view x ∷ cs)) rest.0
               ∙ ap (λ us. Some (map content_view us)) (sym is),
@@ -157,58 +150,70 @@ module _ (decoded : Name → Text → Option Message) (keeps : KeepExclusive) (Q
     by k at bad = refl
 
   mutual
-    pub fields_unfit : (fs : Fields) → EachExpansion Q fs → FieldsUnfit fs
-    fields_unfit no_fields each m at exclusive kinds h = absurd h
-    fields_unfit (more_fields name g sep fs) each m at exclusive kinds (inl h) =
-        ap (option_and_then (value w (shape_at pool m.descriptor.index) fs)) (refused_at decoded m kinds name g h pool at ruled (given_unfit g each.1))
-    fields_unfit (more_fields name g sep fs) each m at exclusive kinds (inr (next, (same, names), bad)) =
-        let one = step_at decoded keeps m next same exclusive kinds name g (if_expansion name (Q g) (HoldBody g) (held_as g) each.0) names pool at ruled (given_known g each.1) in
+    pub fields_unfit : (fs : Fields) → FieldsUnfit fs
+    fields_unfit no_fields m at exclusive kinds h = absurd h
+    fields_unfit (more_fields name g sep fs) m at exclusive kinds (inl h) =
+        ap (option_and_then (value w (shape_at pool m.descriptor.index) fs)) (refused_at decoded m kinds name g h pool at ruled (given_unfit g))
+    fields_unfit (more_fields name g sep fs) m at exclusive kinds (inr (next, (same, names), bad)) =
+        let one = step_at decoded m next same exclusive kinds name g names pool at ruled (given_known g) in
         ap (option_and_then (value w (shape_at pool m.descriptor.index) fs)) one.0
         ∙ ap (λ (c : MessageDescriptor). value w (shape_at pool c.index) fs (view next)) (sym same)
-        ∙ fields_unfit fs each.2 next (ap (λ (c : MessageDescriptor). c.pool.now) same ∙ at) one.1 one.2 bad
+        ∙ fields_unfit fs next (ap (λ (c : MessageDescriptor). c.pool.now) same ∙ at) one.1 one.2 bad
 
-    given_unfit : (g : Given) → EachInGiven Q g → GivenUnfit decoded pool g
-    given_unfit (one_scalar s) each = record {
+    given_unfit : (g : Given) → GivenUnfit decoded pool g
+    given_unfit (one_scalar s) = record {
       one = λ k a wants h. scalar_unfit k a wants s h;
       all = λ k a wants h. ap (option_map (λ c. c ∷ [])) (scalar_unfit k a wants s h);
       body = λ d at h. refl;
     }
-    given_unfit (one_message c b fs) each = record {
-      one = λ k a wants h. message_unfit fs (fields_unfit fs each) k a wants h;
-      all = λ k a wants h. ap (option_map (λ c. c ∷ [])) (message_unfit fs (fields_unfit fs each) k a wants h);
-      body = λ d at h. ap (λ s. value w s fs nothing) (shape_at_place d at) ∙ unmade fs (fields_unfit fs each) d at h;
+    given_unfit (one_message c b fs) = record {
+      one = λ k a wants h. message_unfit fs (fields_unfit fs) k a wants h;
+      all = λ k a wants h. ap (option_map (λ c. c ∷ [])) (message_unfit fs (fields_unfit fs) k a wants h);
+      body = λ d at h. ap (λ s. value w s fs nothing) (shape_at_place d at) ∙ unmade fs (fields_unfit fs) d at h;
     }
-    given_unfit (listed vs) each = record {
+    given_unfit (listed vs) = record {
       one = λ k a wants h. refl;
-      all = λ k a wants h. values_unfit vs each k a wants h;
+      all = λ k a wants h. values_unfit vs k a wants h;
       body = λ d at h. refl;
     }
 
-    value_unfit : (v : Value) → EachInValue Q v → (k : Kind) (a : Wanted) → Wants pool w k a → IsUnfitValue v k → value_content w a v ≡ None
-    value_unfit (scalar s) each k a wants h = scalar_unfit k a wants s h
-    value_unfit (braced b fs) each k a wants h = message_unfit fs (fields_unfit fs each) k a wants h
+    value_unfit : (v : Value) → (k : Kind) (a : Wanted) → Wants pool w k a → IsUnfitValue v k → value_content w a v ≡ None
+    value_unfit (scalar s) k a wants h = scalar_unfit k a wants s h
+    value_unfit (braced b fs) k a wants h = message_unfit fs (fields_unfit fs) k a wants h
 
-    values_unfit : (vs : Values) → EachInValues Q vs → (k : Kind) (a : Wanted) → Wants pool w k a → AreUnfitValues vs k → values_contents w a vs ≡ None
-    values_unfit no_values each k a wants h = absurd h
-    values_unfit (more_values v vs) each k a wants (inl h) = ap (option_and_then (λ c. option_map (λ cs. c ∷ cs) (values_contents w a vs))) (value_unfit v each.0 k a wants h)
-    values_unfit (more_values v vs) each k a wants (inr h) =
-        let rest = values_unfit vs each.1 k a wants h in
+    values_unfit : (vs : Values) → (k : Kind) (a : Wanted) → Wants pool w k a → AreUnfitValues vs k → values_contents w a vs ≡ None
+    values_unfit no_values k a wants h = absurd h
+    values_unfit (more_values v vs) k a wants (inl h) = ap (option_and_then (λ c. option_map (λ cs. c ∷ cs) (values_contents w a vs))) (value_unfit v k a wants h)
+    values_unfit (more_values v vs) k a wants (inr h) =
+        let rest = values_unfit vs k a wants h in
         none_then (value_content w a v) (λ c. option_map (λ cs. c ∷ cs) (values_contents w a vs)) (λ c. ap (option_map (λ cs. c ∷ cs)) rest)
 
--- ---- whole texts without expansions, by the type of the message
+-- ---- whole texts, by the type of the message
 
-module _ (keeps : KeepExclusive) (decoded : Name → Text → Option Message) (old : DynamicMessage) (ruled : IsRuled old.descriptor.pool.now) (exclusive : IsExclusive old) (kinds : HoldsKinds old) (fs : Fields) (plain_text : IsUnexpanded fs) where
-  abbrev given : Option Message
-  given = value (schema_of old.descriptor.pool.now decoded) (shape_at old.descriptor.pool.now old.descriptor.index) fs (view old)
+abbrev given : (Name → Text → Option Message) → DynamicMessage → Fields → Option Message
+given decoded old fs = value (schema_of old.descriptor.pool.now decoded) (shape_at old.descriptor.pool.now old.descriptor.index) fs (view old)
 
-  pub filled : (new : DynamicMessage) → Fills fs old new → given ≡ Some (view new)
-  filled new h = (fields_known decoded keeps (λ g. ⊥) (λ g h. absurd h) old.descriptor.pool.now ruled fs plain_text old new refl exclusive kinds h).0
+pub filled : (decoded : Name → Text → Option Message) (old new : DynamicMessage) → IsRuled old.descriptor.pool.now → IsExclusive old → HoldsKinds old → (fs : Fields) → Fills fs old new
+    → given decoded old fs ≡ Some (view new)
+filled decoded old new ruled exclusive kinds fs h =
+    (fields_known decoded old.descriptor.pool.now ruled fs old new refl exclusive kinds h).0
 
-  pub unfilled : Unfit fs old → given ≡ None
-  unfilled h = fields_unfit decoded keeps (λ g. ⊥) (λ g h. absurd h) old.descriptor.pool.now ruled fs plain_text old refl exclusive kinds h
+pub unfilled : (decoded : Name → Text → Option Message) (old : DynamicMessage) → IsRuled old.descriptor.pool.now → IsExclusive old → HoldsKinds old → (fs : Fields) → Unfit fs old
+    → given decoded old fs ≡ None
+unfilled decoded old ruled exclusive kinds fs h =
+    fields_unfit decoded old.descriptor.pool.now ruled fs old refl exclusive kinds h
 
-  pub apart : (new : DynamicMessage) → Fills fs old new → Unfit fs old → ⊥
-  apart new h u = cc (sym (filled new h) ∙ unfilled u)
+abbrev no_bytes : Name → Text → Option Message
+no_bytes t bytes = None
 
-  pub one_way : (a b : DynamicMessage) → Fills fs old a → Fills fs old b → view a ≡ view b
-  one_way a b h k = same_message (view a) (view b) (sym (filled a h) ∙ filled b k)
+pub apart : (old new : DynamicMessage) → IsRuled old.descriptor.pool.now → IsExclusive old → HoldsKinds old → (fs : Fields) → Fills fs old new → Unfit fs old → ⊥
+apart old new ruled exclusive kinds fs h u =
+    cc (sym (filled no_bytes old new ruled exclusive kinds fs h) ∙ unfilled no_bytes old ruled exclusive kinds fs u)
+
+pub one_way : (old a b : DynamicMessage) → IsRuled old.descriptor.pool.now → IsExclusive old → HoldsKinds old → (fs : Fields) → Fills fs old a → Fills fs old b → view a ≡ view b
+one_way old a b ruled exclusive kinds fs h k =
+    same_message (view a) (view b) (sym (filled no_bytes old a ruled exclusive kinds fs h) ∙ filled no_bytes old b ruled exclusive kinds fs k)
+
+pub stays_so : (old new : DynamicMessage) → IsRuled old.descriptor.pool.now → IsExclusive old → HoldsKinds old → (fs : Fields) → Fills fs old new → IsExclusive new × HoldsKinds new
+stays_so old new ruled exclusive kinds fs h =
+    let all = fields_known no_bytes old.descriptor.pool.now ruled fs old new refl exclusive kinds h in (all.2, all.3)

@@ -26,6 +26,7 @@ use Rattle.text_model.specs.Scalars.{identifier_in, integer_in, is_false, is_tru
 use Rattle.text_model.specs.Tree.{integer, floating, identifier, ScalarValue, signed, strings}
 use Rattle.text_scalars.specs.Number.{nameless}
 use Rattle.message_view.specs.Singles.{scalar_of}
+use Rattle.message_view.proofs.Entries.{form_at}
 use Rattle.message_view.proofs.Keys.{form_of, key_single}
 use Rattle.text_view.specs.Holds.{HasForm, IsOfKind}
 use Rattle.text_view.proofs.Puts.{message_is}
@@ -125,23 +126,6 @@ suited_form kinds.string (model.text t) h = tt
 suited_form kinds.bytes (model.blob b) h = tt
 suited_form kinds.enumeration (model.enumerated z) h = tt
 suited_form k x h = absurd h
-
--- the form of a kind's values, by its number
-abbrev pub form_at : Scalar → ℕ
-form_at kinds.bool = 0
-form_at kinds.int32 = 1
-form_at kinds.sint32 = 1
-form_at kinds.sfixed32 = 1
-form_at kinds.int64 = 2
-form_at kinds.sint64 = 2
-form_at kinds.sfixed64 = 2
-form_at kinds.uint32 = 3
-form_at kinds.fixed32 = 3
-form_at kinds.uint64 = 4
-form_at kinds.fixed64 = 4
-form_at kinds.string = 5
-form_at kinds.bytes = 6
-form_at kinds.enumeration = 7
 
 pub form_is : (k : Scalar) (x : Single) → HasForm k x → form_of x ≡ form_at k
 form_is kinds.int32 (model.int32 z) h = refl

@@ -88,6 +88,10 @@ abbrev pub IsPooled : PoolType → Kind → Type 0
 IsPooled pool (publics.Message d) = d.pool.now ≡ pool
 IsPooled pool _ = Unit {0}
 
+pub kind_pooled : (pool : PoolType) (k : Kind) (t : KindType) → IsKind pool k t → IsPooled pool k
+kind_pooled pool (publics.Message d) t is = is.0
+kind_pooled pool k t is = tt
+
 -- what the model wants is what the kind is
 pub record Wants (pool : PoolType) (w : Schema) (k : Kind) (a : Wanted) : Type 0 where
   pub told : (s : ScalarValue) → scalar_content a s ≡ option_map single (scalar_given k s)
@@ -106,15 +110,11 @@ module _ (pool : PoolType) (names : HaveNames pool) (decoded : Name → Text →
   kind_braced (publics.Enum e) t is fs = ap (λ t. message_content (wanted_in w (number_in pool t) (kind_in pool group t)) (λ s. value w s fs nothing)) is.1
   kind_braced k t is fs = ap (λ t. message_content (wanted_in w (number_in pool t) (kind_in pool group t)) (λ s. value w s fs nothing)) is
 
-  kind_pooled : (k : Kind) (t : KindType) → IsKind pool k t → IsPooled pool k
-  kind_pooled (publics.Message d) t is = is.0
-  kind_pooled k t is = tt
-
   pub kind_wants : (k : Kind) (t : KindType) → IsKind pool k t → is_float t ≡ false → Wants pool w k (wanted_in w (number_in pool t) (kind_in pool group t))
   kind_wants k t is whole = record {
     told = λ s. told w pool group s k t is whole;
     braced = kind_braced k t is;
-    pooled = kind_pooled k t is;
+    pooled = kind_pooled pool k t is;
   }
 
 -- ---- maps

@@ -35,7 +35,7 @@ use Rattle.text_view.proofs.Owned.{OwnsTarget}
 use Rattle.text_view.proofs.Puts.{is_number, number_is}
 
 -- under a number stands what stood there, or nothing
-abbrev StaysOrGoes : List (ℕ × Value) → List (ℕ × Value) → ℕ → Type 0
+abbrev pub StaysOrGoes : List (ℕ × Value) → List (ℕ × Value) → ℕ → Type 0
 StaysOrGoes old new n = (value_at new n ≡ value_at old n) ⊎ (value_at new n ≡ None)
 
 -- under other numbers than the target's it does

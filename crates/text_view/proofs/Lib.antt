@@ -21,8 +21,13 @@ pub mod Maps
 pub mod Given
 pub mod Steady
 pub mod Expanded
+pub mod Many
 pub mod Stepping
 pub mod Refusing
 pub mod Filling
 pub mod Told
+pub mod Shaped
+pub mod MapShapes
+pub mod Bodies
+pub mod Made
 mod Example

@@ -29,7 +29,7 @@ use Rattle.text_model.specs.Value.{add_all, assign, entry_of}
 use Rattle.message_view.specs.Singles.{scalar_of}
 use Rattle.message_view.specs.Types.{entry_part, field_at, key_of, part_of}
 use Rattle.message_view.specs.Views.{held_in, content_view, view}
-use Rattle.message_view.proofs.Entries.{part_is}
+use Rattle.message_view.proofs.Entries.{form_at, part_is}
 use Rattle.message_view.proofs.Keys.{form_of, key_single, entry_put}
 use Rattle.message_view.proofs.Seen.{map_seen, message_seen, pairs_view}
 use Rattle.text_view.specs.Apart.{AreApart}
@@ -38,7 +38,7 @@ use Rattle.text_view.specs.Ruled.{IsRuled}
 use Rattle.text_view.specs.Values.{IsMessageOf}
 use Rattle.text_view.proofs.Adds.{changed}
 use Rattle.text_view.proofs.Entries.{key_numbered, value_numbered, values}
-use Rattle.text_view.proofs.Forms.{form_at, form_is}
+use Rattle.text_view.proofs.Forms.{form_is}
 use Rattle.text_view.proofs.Gives.{entry_given}
 use Rattle.text_view.proofs.Kept.{IsFree, map_kind}
 use Rattle.text_view.proofs.Owned.{OwnsTarget, pool_is, under_target}

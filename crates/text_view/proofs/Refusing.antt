@@ -30,7 +30,7 @@ use Rattle.text_view.proofs.Given.{IsMany, Wants, all_contents, field_many, fiel
 use Rattle.text_view.proofs.Named.{extensions_found, fields_found, none_found, none_found_extension}
 use Rattle.text_view.proofs.Once.{one_of, refused}
 use Rattle.text_view.proofs.Owned.{OwnsTarget, named_target, pool_is, target_there}
-use Rattle.text_view.proofs.Stepping.{second}
+use Rattle.text_view.proofs.Many.{second}
 use Rattle.text_view.proofs.Wanted.{type_found, type_missing}
 
 -- what is known of what is given and suits no kind: it has no contents

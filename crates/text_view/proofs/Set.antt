@@ -1,17 +1,11 @@
 -- Which fields are set, in the program's words and in the model's.
-use Rattle.std.proofs.Common.{◌≡◌, ◌||◌, not, Bool, true, false, true≢false, cond, Option, Some, None, option_map, unwrap_or, Ordering, Less, Equal, Greater, refl, sym, ap, ◌∙◌, subst, ℤ}
-use Rattle.std.specs.Bool.{beq}
-use Rattle.std.specs.Ordering.{int_cmp, int_eq, is_eq}
-use Rattle.protobuf_model.specs.Keys.{below_int}
-use Rattle.protobuf_model.specs.Scalars.{same, same_int, same_bool}
+use Rattle.std.proofs.Common.{◌≡◌, ◌||◌, not, Bool, true, false, true≢false, cond, Option, Some, None, option_map, unwrap_or, refl, sym, ap, ◌∙◌, subst}
+use Rattle.protobuf_model.specs.Scalars.{same}
 use Rattle.protobuf_model.specs.Values.{Single, Content, single, content, absent}
 use Rattle.reflect_tables.specs.Types.{PoolType, FieldType, KindType}
 use Rattle.reflect_pool.specs.Shapes.{holds_list, holds_map}
-use Rattle.reflect_scalar.specs.Defaults.{same_single}
 use Rattle.reflect_scalar.specs.Singles as scalars
-use Rattle.reflect_message.specs.Bytes.{is_default}
 use Rattle.reflect_message.specs.Bytes as bytes
-use Rattle.reflect_message.specs.KindTypes.{IsScalarType}
 use Rattle.reflect_message.specs.Known.{is_float}
 use Rattle.reflect_message.specs.Present.{is_held}
 use Rattle.reflect_message.specs.Singles as singles
@@ -22,46 +16,12 @@ use Rattle.message_view.specs.Singles.{single_view}
 use Rattle.message_view.specs.Types.{default_of}
 use Rattle.message_view.specs.Views.{held_in, content_view}
 use Rattle.message_view.specs.Views as views
-use Rattle.message_view.proofs.Entries.{Sort, plain, floating, message_type, sort_of, some_default, default_is}
+use Rattle.message_view.proofs.Entries.{Sort, plain, floating, message_type, sort_of}
 use Rattle.message_view.proofs.Forms.{single_form_seen, message_form_seen}
-use Rattle.message_view.proofs.Keys.{Says, int_says}
 use Rattle.message_view.proofs.Seen.{single_seen, message_seen}
+use Rattle.message_view.proofs.Written.{default_same, or_true}
 use Rattle.text_view.specs.Holds.{IsOfKind, IsHeldAs, HoldsAs}
 use Rattle.text_view.proofs.Scalars.{one_value}
-
--- two values are the same by one test exactly if they are by the other
-same_truth : (a b : Bool) → beq a b ≡ same_bool a b
-same_truth true true = refl
-same_truth true false = refl
-same_truth false true = refl
-same_truth false false = refl
-
-same_number : (y z : ℤ) → int_eq y z ≡ same_int y z
-same_number y z = by (int_cmp y z) (int_says y z) where
-  by : (o : Ordering) → Says o (same_int y z) (below_int y z) → is_eq o ≡ same_int y z
-  by Less t = sym t.0
-  by Equal t = sym t
-  by Greater t = sym t.0
-
-same_value : (v w : scalars.Single) → same_single v w ≡ same (single_view v) (single_view w)
-same_value (scalars.truth a) (scalars.truth b) = same_truth a b
-same_value (scalars.int32 a) (scalars.int32 b) = same_number a b
-same_value (scalars.int64 a) (scalars.int64 b) = same_number a b
-same_value (scalars.enumerated a) (scalars.enumerated b) = same_number a b
-same_value (scalars.uint32 a) (scalars.uint32 b) = refl
-same_value (scalars.uint64 a) (scalars.uint64 b) = refl
-same_value (scalars.text a) (scalars.text b) = refl
-same_value (scalars.blob a) (scalars.blob b) = refl
-same_value v w = refl
-
-default_same : (pool : PoolType) (f : FieldType) (w : scalars.Single) → IsScalarType f.kind → is_default pool f (Some w) ≡ same (single_view w) (default_of pool f)
-default_same pool f w type =
-    let d = some_default pool f type in
-    ap (λ o. elim o [ None ↦ false | Some d ↦ same_single w d ]) d.1 ∙ same_value w d.0 ∙ ap (same (single_view w)) (sym (default_is pool f d.0 d.1))
-
-or_true : (b : Bool) → (b || true) ≡ true
-or_true true = refl
-or_true false = refl
 
 -- a single value, without where it lies in memory
 pub singled : (v : Value) (x : Single) → single_of v ≡ Some x → (w : scalars.Single) × (singles.single v ≡ Some w) × (single_view w ≡ x)

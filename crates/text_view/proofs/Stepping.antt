@@ -1,16 +1,15 @@
 -- What is given under one name fills a message as the model says.
-use Rattle.std.proofs.Common.{◌≡◌, ◌⊎◌, inl, inr, ◌^◌, ◌||◌, ◌&&◌, not, ℕ, nat_lt, Bool, true, false, true≢false, cond, List, ◌∷◌, ◌++◌, map, length, Option, Some, None, option_and_then, refl, sym, ap, ◌∙◌, subst, arith}
+use Rattle.std.proofs.Common.{◌≡◌, ◌⊎◌, inl, inr, ◌^◌, ℕ, nat_lt, Bool, true, false, cond, List, ◌∷◌, ◌++◌, map, length, Option, Some, None, option_and_then, refl, sym, ap, ◌∙◌, subst, arith}
 use Rattle.std.specs.List.{AllByRecursion}
 use Rattle.std.specs.Prelude.{IfSome}
 use Rattle.protox_lex.specs.Class.{Text}
 use Rattle.protobuf_model.specs.Bytes.{bytes_of}
 use Rattle.protobuf_model.specs.Types.{Name, keyed}
 use Rattle.protobuf_model.specs.Values.{Message, text, blob}
-use Rattle.reflect_tables.specs.Types.{PoolType, FieldType, KindType}
+use Rattle.reflect_tables.specs.Types.{PoolType, KindType}
 use Rattle.reflect_tables.specs.Types as types
-use Rattle.reflect_pool.specs.FieldsLeft.{field_type}
 use Rattle.reflect_pool.specs.Kinds.{IsKind}
-use Rattle.reflect_pool.specs.Shapes.{holds_list, holds_map, is_entry, is_repeated}
+use Rattle.reflect_pool.specs.Shapes.{holds_list, holds_map}
 use Rattle.reflect_pool.specs.declared.kind.Kind.{Kind}
 use Rattle.reflect_pool.specs.declared.kind.Kind.TheVariants as publics
 use Rattle.reflect_pool.specs.declared.message.MessageDescriptor.{MessageDescriptor}
@@ -25,7 +24,6 @@ use Rattle.reflect_format.specs.Filled.{AreGiven, Assigns, Expands, FillsBody, I
 use Rattle.reflect_format.specs.Steps.{Adds, Puts, held_by}
 use Rattle.reflect_format.specs.Takes.{holds_many, target_pool, target_type}
 use Rattle.reflect_format.specs.declared.target.Target.{Target}
-use Rattle.reflect_format.specs.declared.target.Target.TheVariants as targets
 use Rattle.text_model.specs.Schemas.{Schema, Shape}
 use Rattle.text_model.specs.Tree.{FullName, FieldName, plain, extension, expansion, Given, ScalarValue}
 use Rattle.text_model.specs.Value.{Wanted, add_all, body_value, expanded, field_value, hold, named_value, set_one, with_field, written}
@@ -33,7 +31,6 @@ use Rattle.message_view.specs.Types.{entry_part, field_at, key_of, name_at, part
 use Rattle.message_view.specs.Views.{content_view, view}
 use Rattle.message_view.proofs.Entries.{entry_of_map}
 use Rattle.text_view.specs.Apart.{AreApart}
-use Rattle.text_view.specs.Expansions.{IfExpansion}
 use Rattle.text_view.specs.Holds.{HoldsKinds, IsHeldAs, IsOfKind}
 use Rattle.text_view.specs.Ruled.{IsRuled}
 use Rattle.text_view.specs.Schemas.{schema_of, shape_at}
@@ -44,14 +41,15 @@ use Rattle.text_view.proofs.Any.{any_told}
 use Rattle.text_view.proofs.Expanded.{any_held, number_kinds, number_owns}
 use Rattle.text_view.proofs.Forms.{message_kind, scalar_kind}
 use Rattle.text_view.proofs.Given.{IsMany, Wants, all_contents, entry_kind, field_many, field_one, one_content, target_part, target_wants, the_entry, value_no_float, wanted}
-use Rattle.text_view.proofs.Kept.{IsFree, add_leaves, kinds_kept, list_kind, list_of_kind, map_of_kind, put_leaves, same_kinds}
+use Rattle.text_view.proofs.Kept.{add_leaves, kinds_kept, list_kind, list_of_kind, map_of_kind, put_leaves, same_kinds}
 use Rattle.text_view.proofs.Maps.{map_added}
 use Rattle.text_view.proofs.Named.{extensions_found, fields_found}
 use Rattle.text_view.proofs.Once.{held_kind, one_of, put_once}
 use Rattle.text_view.proofs.Owned.{OwnsTarget, named_target, pool_is, target_there, target_whole}
-use Rattle.text_view.proofs.Rivals.{member_one}
 use Rattle.text_view.proofs.Set.{held_one}
-use Rattle.text_view.proofs.Steady.{HoldBody, KeepExclusive}
+use Rattle.text_view.proofs.Bodies.{body_written}
+use Rattle.text_view.proofs.Many.{many_free, map_repeats, put_here, second}
+use Rattle.text_view.proofs.Steady.{stays}
 use Rattle.text_view.proofs.Wanted.{type_found}
 
 -- a value of a kind as texts give it: a message of its type, or a single value
@@ -76,29 +74,6 @@ pub record GivenKnown (decoded : Name → Text → Option Message) (pool : PoolT
   pub body : (d : MessageDescriptor) (m : DynamicMessage) → d.pool.now ≡ pool → Makes d (FillsBody g) m
       → body_value (schema_of pool decoded) (name_at pool d.index) g ≡ Some (view m)
 
-put_here : (t : Target) (v : held.Value) (old new : DynamicMessage) → Puts t v old new → held_by new t ≡ Some v
-put_here (targets.Field f) v old new puts = puts.here
-put_here (targets.Extension x) v old new puts = puts.extension.here
-
-pub second : (a b : Bool) → (a || b) ≡ true → b ≡ false → a ≡ true
-second true b e f = refl
-second false b e f = absurd (true≢false (sym e ∙ f))
-
-map_repeats : (pool : PoolType) (f : FieldType) → holds_map pool f ≡ true → is_repeated f.cardinality ≡ true
-map_repeats pool f e = by (is_entry pool f.kind) (is_repeated f.cardinality) e where
-  by : (a b : Bool) → (a && (b && not f.group)) ≡ true → b ≡ true
-  by true true h = refl
-  by true false h = absurd (true≢false (sym h))
-  by false b h = absurd (true≢false (sym h))
-
--- a target of many values is in no oneof
-pub many_free : (d : MessageDescriptor) → IsRuled d.pool.now → (t : Target) → OwnsTarget d t → is_repeated (target_type t).cardinality ≡ true → IsFree t
-many_free d ruled (targets.Extension x) owns repeats = tt
-many_free d ruled (targets.Field f) owns repeats = by (field_type f).oneof refl where
-  by : (o : Option ℕ) → (field_type f).oneof ≡ o → (field_type f).oneof ≡ None
-  by None e = e
-  by (Some k) e = absurd (true≢false (sym repeats ∙ member_one d ruled.proper f owns k e))
-
 -- entries that are put into a map
 pub map_all : (old new : DynamicMessage) → IsRuled old.descriptor.pool.now → HoldsKinds old → new.descriptor ≡ old.descriptor → (t : Target) → OwnsTarget old.descriptor t → holds_map old.descriptor.pool.now (target_type t) ≡ true
     → (c : MessageDescriptor) → c.pool.now ≡ old.descriptor.pool.now → (target_type t).kind ≡ types.message c.index → (vs : List held.Value) → AllByRecursion (IsMessageOf c) vs → Adds t vs old new
@@ -122,7 +97,7 @@ map_all old new ruled kinds same t owns is_map c at kind vs entries adds =
       added.1,
     )
 
-module _ (decoded : Name → Text → Option Message) (keeps : KeepExclusive) (old next : DynamicMessage) (same : next.descriptor ≡ old.descriptor) (exclusive : IsExclusive old) (kinds : HoldsKinds old)
+module _ (decoded : Name → Text → Option Message) (old next : DynamicMessage) (same : next.descriptor ≡ old.descriptor) (exclusive : IsExclusive old) (kinds : HoldsKinds old)
     (ruled : IsRuled old.descriptor.pool.now) (g : Given) (known : GivenKnown decoded old.descriptor.pool.now g) where
   abbrev d : MessageDescriptor
   d = old.descriptor
@@ -152,7 +127,7 @@ module _ (decoded : Name → Text → Option Message) (keeps : KeepExclusive) (o
         field_one w s g (view old) (target_type t).number (target_field d t) (target_label d t ∙ label_one pool (target_type t) none.0 none.1)
             ∙ ap (option_and_then (set_one s.fields (target_type t).number (target_field d t).part (view old))) of.0
             ∙ put_once old next ruled.apart ruled.proper exclusive kinds t owns v (good_one k v of.1) same puts,
-        keeps.once t v old next owns puts exclusive,
+        stays t old next owns puts.exclusive exclusive,
         same_kinds old next same (kinds_kept d t old next owns (put_leaves t v old next puts.put) here kinds),
       )
 
@@ -169,7 +144,7 @@ module _ (decoded : Name → Text → Option Message) (keeps : KeepExclusive) (o
         field_many w s g (view old) (target_type t).number (target_field d t) (subst IsMany (sym (target_label d t ∙ label_many pool (target_type t) is_list)) tt)
             ∙ ap (option_and_then (add_all s.fields (target_type t).number (target_field d t).part (target_field d t).label (view old))) of.0
             ∙ list_all old next ruled.apart same t owns is_list alone vs before.0 before.1 adds,
-        keeps.more t vs old next owns adds exclusive,
+        stays t old next owns adds.3 exclusive,
         same_kinds old next same (kinds_kept d t old next owns (add_leaves t old next alone adds.0) (list_kind pool (target_type t) two.1 is_list (held_by next t) (before.0 ++ vs) after) kinds),
       )
 
@@ -184,7 +159,7 @@ module _ (decoded : Name → Text → Option Message) (keeps : KeepExclusive) (o
         field_many w s g (view old) f.number (target_field d t) (subst IsMany (sym (target_label d t ∙ label_keyed pool f is_map)) tt)
             ∙ ap (option_and_then (add_all s.fields f.number (target_field d t).part (target_field d t).label (view old))) of.0
             ∙ added.0,
-        keeps.more t vs old next owns adds exclusive,
+        stays t old next owns adds.3 exclusive,
         same_kinds old next same (kinds_kept d t old next owns (add_leaves t old next (many_free old.descriptor ruled t owns (map_repeats pool f is_map)) adds.0) added.1 kinds),
       )
 
@@ -206,17 +181,16 @@ module _ (decoded : Name → Text → Option Message) (keeps : KeepExclusive) (o
           list_step t owns (subst (λ p. holds_list p (target_type t) ≡ true) pool_now is_list) k kind vs given adds
 
   -- an expansion
-  expanded_step : (domain name : FullName) → HoldBody g → Expands (written domain) (written name) (FillsBody g) old next → Stepped (expanded w s domain name (view old) (λ t. body_value w t g))
-  expanded_step domain name holds (c, body, at, finds, makes, (any, between, first, later)) =
+  expanded_step : (domain name : FullName) → Expands (written domain) (written name) (FillsBody g) old next → Stepped (expanded w s domain name (view old) (λ t. body_value w t g))
+  expanded_step domain name (c, body, at, finds, makes, (any, between, first, later, typed, short_body)) =
       let url = written domain ++ 47 ∷ written name in
-      let typed = holds.between url body old next (any, between, first, later) in
-      let bytes = holds.written c body makes in
+      let bytes = body_written g c body (subst IsRuled (sym at) ruled) makes in
       let read = known.body c body at makes in
-      let form : bytes_of (types_of pool) (name_at pool c.index) (view body) ≡ message_bytes body = sym (bytes.0 ∙ ap (λ p. bytes_of (types_of p) (name_at p c.index) (view body)) at) in
-      let few : nat_lt (length (message_bytes body)) (2 ^ 64) ≡ true = grind (arith, bytes.1) in
+      let form : bytes_of (types_of pool) (name_at pool c.index) (view body) ≡ message_bytes body = sym (bytes ∙ ap (λ p. bytes_of (types_of p) (name_at p c.index) (view body)) at) in
+      let few : nat_lt (length (message_bytes body)) (2 ^ 64) ≡ true = grind (arith, short_body) in
       let short : nat_lt (length (bytes_of (types_of pool) (name_at pool c.index) (view body))) (2 ^ 64) ≡ true = ap (λ (bs : List ℕ). nat_lt (length bs) (2 ^ 64)) form ∙ few in
       let first_owns = number_owns old between ruled.apart 1 (text url) types.string ((λ h. h), λ p h. h) first any.1 in
-      let stays = keeps.number 1 (text url) old between first first_owns exclusive in
+      let between_exclusive = first.6 first_owns exclusive in
       let kept = number_kinds old between ruled.apart 1 (text url) types.string ((λ h. h), λ p h. h) first any.1 tt (λ h. h) kinds typed in
       let its_apart = subst (λ (c : MessageDescriptor). AreApart c.pool.now) (sym typed) ruled.apart in
       let its_lone = subst (λ (c : MessageDescriptor). IsLone c.pool.now c.index types.bytes (numbered_field c.pool.now c.index 2)) (sym typed) any.2 in
@@ -226,8 +200,8 @@ module _ (decoded : Name → Text → Option Message) (keeps : KeepExclusive) (o
             ∙ ap (option_and_then (λ b. cond (nat_lt (length (bytes_of (types_of pool) (name_at pool c.index) b)) (2 ^ 64)) (hold s url (bytes_of (types_of pool) (name_at pool c.index) b) (view old)) None)) read
             ∙ ap (λ b. cond b (hold s url (bytes_of (types_of pool) (name_at pool c.index) (view body)) (view old)) None) short
             ∙ ap (λ bs. hold s url bs (view old)) form
-            ∙ any_held old between next ruled.apart exclusive stays typed same any url (message_bytes body) first later,
-        keeps.number 2 (blob (message_bytes body)) between next later second_owns stays,
+            ∙ any_held old between next ruled.apart exclusive between_exclusive typed same any url (message_bytes body) first later,
+        later.6 second_owns between_exclusive,
         number_kinds between next its_apart 2 (blob (message_bytes body)) types.bytes ((λ h. h), λ p h. h) later its_lone tt (λ h. h) kept (same ∙ sym typed),
       )
 
@@ -240,15 +214,15 @@ module _ (decoded : Name → Text → Option Message) (keeps : KeepExclusive) (o
     step.2,
   )
 
-  pub name_step : (name : FieldName) → IfExpansion name (HoldBody g) → Names name (IsGiven g) (AreGiven g) (FillsBody g) old next
+  pub name_step : (name : FieldName) → Names name (IsGiven g) (AreGiven g) (FillsBody g) old next
       → Stepped (named_value w s name (view old) (field_value w s g (view old)) (λ t. body_value w t g))
-  name_step (plain v) holds (t, named, assigns) =
+  name_step (plain v) (t, named, assigns) =
       let owns = named_target d ruled.apart v t (inl named) in
       found_step (s.names.field v) t owns (fields_found d v t named) (target_step t owns assigns)
-  name_step (extension v) holds (t, named, assigns) =
+  name_step (extension v) (t, named, assigns) =
       let owns = named_target d ruled.apart (written v) t (inr named) in
       found_step (s.names.extension (written v)) t owns (extensions_found d (written v) t named) (target_step t owns assigns)
-  name_step (expansion domain v) holds h = expanded_step domain v holds h
+  name_step (expansion domain v) h = expanded_step domain v h
 
 -- so it is of the pool that the message's type stands in
 abbrev pub StepAt : (Name → Text → Option Message) → DynamicMessage → DynamicMessage → FieldName → Given → PoolType → Type 0
@@ -257,8 +231,8 @@ StepAt decoded old next name g pool =
     (field_value (schema_of pool decoded) (shape_at pool old.descriptor.index) g (view old)) (λ t. body_value (schema_of pool decoded) t g) ≡ Some (view next))
     × IsExclusive next × HoldsKinds next
 
-pub step_at : (decoded : Name → Text → Option Message) → KeepExclusive → (old next : DynamicMessage) → next.descriptor ≡ old.descriptor → IsExclusive old → HoldsKinds old → (name : FieldName) (g : Given) → IfExpansion name (HoldBody g)
+pub step_at : (decoded : Name → Text → Option Message) → (old next : DynamicMessage) → next.descriptor ≡ old.descriptor → IsExclusive old → HoldsKinds old → (name : FieldName) (g : Given)
     → Names name (IsGiven g) (AreGiven g) (FillsBody g) old next → (pool : PoolType) → old.descriptor.pool.now ≡ pool → IsRuled pool → GivenKnown decoded pool g → StepAt decoded old next name g pool
-step_at decoded keeps old next same exclusive kinds name g holds names q at =
+step_at decoded old next same exclusive kinds name g names q at =
     subst (λ (p : PoolType). IsRuled p → GivenKnown decoded p g → StepAt decoded old next name g p) at
-    (λ ruled known. name_step decoded keeps old next same exclusive kinds ruled g known name holds names)
+    (λ ruled known. name_step decoded old next same exclusive kinds ruled g known name names)

@@ -5,4 +5,3 @@ pub mod Targets
 pub mod Values
 pub mod Holds
 pub mod Ruled
-pub mod Expansions

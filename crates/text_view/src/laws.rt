@@ -9,6 +9,7 @@ ghost use Rattle.reflect_pool.specs.Kinds.{IsKind};
 ghost use Rattle.reflect_pool.specs.declared.kind.Kind.{Kind};
 ghost use Rattle.reflect_tables.specs.Types.{FieldType, KindType, PoolType};
 ghost use Rattle.reflect_tables.specs.Types as types;
+ghost use Rattle.reflect_message.specs.Bytes.{message_bytes};
 ghost use Rattle.reflect_message.specs.Contents as contents;
 ghost use Rattle.reflect_message.specs.Contents.{content_of};
 ghost use Rattle.reflect_message.specs.Known.{holds_floats, is_float};
@@ -18,18 +19,21 @@ ghost use Rattle.reflect_message.specs.Oneofs.{IsExclusive};
 ghost use Rattle.reflect_message.specs.declared.message.DynamicMessage.{DynamicMessage};
 ghost use Rattle.reflect_pool.specs.FindsNames.{FindsMessage};
 ghost use Rattle.reflect_pool.specs.Shapes.{holds_list, holds_map};
-ghost use Rattle.reflect_format.specs.Filled.{HasRival, IsScalar, PutsOne};
+ghost use Rattle.reflect_format.specs.Filled.{Fills, HasRival, IsScalar, Makes, PutsOne};
 ghost use Rattle.reflect_format.specs.Kinds.{scalar_given};
 ghost use Rattle.reflect_format.specs.Named.{NamesExtension, NamesField, NoExtensionNamed, NoFieldNamed};
 ghost use Rattle.reflect_format.specs.Steps.{held_by, is_set, Adds, Puts, SetsNumber};
 ghost use Rattle.reflect_format.specs.Takes.{holds_many, target_pool, target_type};
+ghost use Rattle.reflect_format.specs.Unfit.{CannotMake, Unfit};
 ghost use Rattle.reflect_format.specs.declared.target.Target.{Target};
+ghost use Rattle.protobuf_model.specs.Bytes.{bytes_of};
 ghost use Rattle.protobuf_model.specs.Types.{Name};
 ghost use Rattle.protobuf_model.specs.Values.{blob, nothing, text, Content, Message};
 ghost use Rattle.message_view.specs.Sound.{HaveNames};
 ghost use Rattle.message_view.specs.Types.{entry_part, field_at, key_of, kind_in, name_at, part_of, types_of};
 ghost use Rattle.message_view.specs.Views.{content_view, view};
 ghost use Rattle.text_model.specs.Schemas.{entry_shape, shape_of, Names, Schema};
+ghost use Rattle.text_model.specs.Texts.{Gives, IsText};
 ghost use Rattle.text_model.specs.Tree.{Fields, ScalarValue};
 ghost use Rattle.text_model.specs.Value.{add_all, assign, hold, scalar_content, set_one, settled, value, wanted_in, wanted_of};
 ghost use Rattle.text_view.specs.Apart.{AreApart};
@@ -252,4 +256,64 @@ pub fn what_an_any_gets_is_held()
         → SetsNumber 1 (text url) old between → SetsNumber 2 (blob bytes) between new
         → hold (shape_at old.descriptor.pool.now old.descriptor.index) url bytes (view old)
         ≡ Some (view new) }
+{}
+
+/// The fields of a text that fill a message give, in the model, what is then seen of it.
+pub fn texts_give_what_they_fill()
+    ensures { (decoded : Name → Text → Option Message) (old new : DynamicMessage)
+        → IsRuled old.descriptor.pool.now → IsExclusive old → HoldsKinds old
+        → (fs : Fields) → Fills fs old new
+        → value (schema_of old.descriptor.pool.now decoded)
+        (shape_at old.descriptor.pool.now old.descriptor.index) fs (view old)
+        ≡ Some (view new) }
+{}
+
+/// Those that a message does not take give nothing.
+pub fn unfit_texts_give_nothing()
+    ensures { (decoded : Name → Text → Option Message) (old : DynamicMessage)
+        → IsRuled old.descriptor.pool.now → IsExclusive old → HoldsKinds old
+        → (fs : Fields) → Unfit fs old
+        → value (schema_of old.descriptor.pool.now decoded)
+        (shape_at old.descriptor.pool.now old.descriptor.index) fs (view old)
+        ≡ None }
+{}
+
+/// So no text fills a message that does not take it.
+pub fn no_unfit_text_fills()
+    ensures { (old new : DynamicMessage) → IsRuled old.descriptor.pool.now → IsExclusive old
+        → HoldsKinds old → (fs : Fields) → Fills fs old new → Unfit fs old → ⊥ }
+{}
+
+/// And it fills a message in one way.
+pub fn texts_fill_in_one_way()
+    ensures { (old a b : DynamicMessage) → IsRuled old.descriptor.pool.now → IsExclusive old
+        → HoldsKinds old → (fs : Fields) → Fills fs old a → Fills fs old b
+        → view a ≡ view b }
+{}
+
+/// A message that a text fills again is exclusive, and holds values of the kinds of its fields.
+pub fn filled_messages_stay_so()
+    ensures { (old new : DynamicMessage) → IsRuled old.descriptor.pool.now → IsExclusive old
+        → HoldsKinds old → (fs : Fields) → Fills fs old new
+        → IsExclusive new × HoldsKinds new }
+{}
+
+/// What a text makes of a type is the message that the text gives, and is written in the one form
+/// of it.
+pub fn texts_make_the_message_that_they_give()
+    ensures { (d : MessageDescriptor) → IsRuled d.pool.now
+        → (decoded : Name → Text → Option Message) (z : Text) (fs : Fields) → IsText z fs
+        → (m : DynamicMessage) → Makes d (Fills fs) m
+        → Gives (schema_of d.pool.now decoded) (name_at d.pool.now d.index) z (view m)
+        × (message_bytes m
+        ≡ bytes_of (types_of d.pool.now) (name_at d.pool.now d.index) (view m)) }
+{}
+
+/// A text that the type does not take, however it is spelled, gives no message.
+pub fn texts_that_make_none_give_none()
+    ensures { (d : MessageDescriptor) → IsRuled d.pool.now
+        → (decoded : Name → Text → Option Message) (z : Text)
+        → ((fs : Fields) → IsText z fs → CannotMake d (Unfit fs))
+        → (m : Message)
+        → Gives (schema_of d.pool.now decoded) (name_at d.pool.now d.index) z m → ⊥ }
 {}
