@@ -4,3 +4,4 @@ mod Singles
 mod Values
 mod Entries
 pub mod Printed
+mod Back

@@ -1,17 +1,28 @@
 //! Laws of what is printed of messages, each the contract of a function that does nothing.
-ghost use Rattle.std.specs.Prelude.{◌≡◌, ℕ, List, Option};
+ghost use Rattle.std.specs.Prelude.{◌≡◌, ◌≤◌, ℕ, List, Option};
 ghost use Rattle.protox_lex.specs.Class.{Text};
 ghost use Rattle.reflect_pool.specs.declared.message.MessageDescriptor.{MessageDescriptor};
+ghost use Rattle.reflect_wire.specs.Written.{AreBytes};
+ghost use Rattle.reflect_message.specs.Bytes.{message_bytes};
 ghost use Rattle.reflect_message.specs.declared.message.DynamicMessage.{DynamicMessage};
 ghost use Rattle.reflect_decode.specs.Spelled.{IsSpelled};
+ghost use Rattle.reflect_format.specs.Filled.{Fills, Makes};
+ghost use Rattle.reflect_format.specs.Unfit.{CannotMake, Unfit};
 ghost use Rattle.reflect_print.specs.MessageTexts.{IsMessageText};
 ghost use Rattle.protobuf_model.specs.Types.{Name};
 ghost use Rattle.protobuf_model.specs.Values.{Message};
+ghost use Rattle.text_model.specs.Identifiers.{HaveIdentifiers};
+ghost use Rattle.text_model.specs.Plain.{IsPlain};
 ghost use Rattle.text_model.specs.Printed.{printed};
 ghost use Rattle.text_model.specs.Rendered.{compact};
+ghost use Rattle.text_model.specs.Schemas.{HaveNames};
+ghost use Rattle.text_model.specs.Texts.{IsText};
+ghost use Rattle.text_model.specs.Tokens.{open_braces};
+ghost use Rattle.text_model.specs.Tree.{Fields};
 ghost use Rattle.message_view.specs.Sound.{IsSound};
-ghost use Rattle.message_view.specs.Types.{name_at};
+ghost use Rattle.message_view.specs.Types.{name_at, types_of};
 ghost use Rattle.message_view.specs.Views.{view};
+ghost use Rattle.text_view.specs.Ruled.{IsRuled};
 ghost use Rattle.text_view.specs.Schemas.{schema_of};
 ghost use Rattle.print_view.specs.Forms.{compact_form, own_form};
 ghost use Rattle.print_view.specs.Parts.{HaveValues};
@@ -23,4 +34,34 @@ pub fn decoded_messages_are_printed_as_their_trees()
         → (decoded : Name → Text → Option Message) (z : Text) → IsMessageText compact_form m z
         → z ≡ compact (printed own_form (schema_of d.pool.now decoded) (name_at d.pool.now d.index)
         (view m)) }
+{}
+
+/// What is printed of a decoded message whose records all have fields makes, as a text of its type,
+/// messages that are written in the same bytes, if no more than 100 braces are open in it at once.
+pub fn printed_messages_are_read_back()
+    ensures { (decoded : Name → Text → Option Message) (d : MessageDescriptor)
+        → IsRuled d.pool.now → HaveValues d.pool.now
+        → HaveNames (schema_of d.pool.now decoded) → HaveIdentifiers (schema_of d.pool.now decoded)
+        → (bytes : List ℕ) → AreBytes bytes
+        → (m : DynamicMessage) → m.descriptor ≡ d → IsSpelled d bytes m
+        → IsPlain (types_of d.pool.now) (name_at d.pool.now d.index) (view m)
+        → open_braces (printed own_form (schema_of d.pool.now decoded)
+        (name_at d.pool.now d.index) (view m)) ≤ 100
+        → (z : Text) → IsMessageText compact_form m z
+        → (fs : Fields) → IsText z fs → (n : DynamicMessage) → Makes d (Fills fs) n
+        → message_bytes n ≡ message_bytes m }
+{}
+
+/// And it is not refused as a text that the type does not take.
+pub fn printed_messages_are_taken()
+    ensures { (decoded : Name → Text → Option Message) (d : MessageDescriptor)
+        → IsRuled d.pool.now → HaveValues d.pool.now
+        → HaveNames (schema_of d.pool.now decoded) → HaveIdentifiers (schema_of d.pool.now decoded)
+        → (bytes : List ℕ) → AreBytes bytes
+        → (m : DynamicMessage) → m.descriptor ≡ d → IsSpelled d bytes m
+        → IsPlain (types_of d.pool.now) (name_at d.pool.now d.index) (view m)
+        → open_braces (printed own_form (schema_of d.pool.now decoded)
+        (name_at d.pool.now d.index) (view m)) ≤ 100
+        → (z : Text) → IsMessageText compact_form m z
+        → ((fs : Fields) → IsText z fs → CannotMake d (Unfit fs)) → ⊥ }
 {}

@@ -1,0 +1,61 @@
+-- What is printed of a decoded message is read back as it.
+use Rattle.std.proofs.Common.{◌≡◌, ◌≤◌, ℕ, List, Option, refl, sym, ap, ◌∙◌, subst}
+use Rattle.protox_lex.specs.Class.{Text}
+use Rattle.protobuf_model.specs.Bytes.{bytes_of}
+use Rattle.protobuf_model.specs.Coded.{SuitsType}
+use Rattle.protobuf_model.specs.Types.{Name}
+use Rattle.protobuf_model.specs.Values.{Message, nothing}
+use Rattle.reflect_wire.specs.Written.{AreBytes}
+use Rattle.reflect_pool.specs.declared.message.MessageDescriptor.{MessageDescriptor}
+use Rattle.reflect_message.specs.Bytes.{message_bytes}
+use Rattle.reflect_message.specs.declared.message.DynamicMessage.{DynamicMessage}
+use Rattle.reflect_decode.specs.Spelled.{IsSpelled}
+use Rattle.reflect_format.specs.Filled.{Fills, Makes}
+use Rattle.reflect_format.specs.Unfit.{CannotMake, Unfit}
+use Rattle.reflect_print.specs.MessageTexts.{IsMessageText}
+use Rattle.text_model.specs.Identifiers.{HaveIdentifiers}
+use Rattle.text_model.specs.Plain.{IsPlain}
+use Rattle.text_model.specs.Printed.{printed}
+use Rattle.text_model.specs.Schemas.{HaveNames, Schema}
+use Rattle.text_model.specs.Texts.{Gives, IsText}
+use Rattle.text_model.specs.Tokens.{open_braces}
+use Rattle.text_model.specs.Tree.{Fields}
+use Rattle.text_model.proofs.Back.{printed_text_back}
+use Rattle.text_model.proofs.Merging.{one_message}
+use Rattle.message_view.specs.Types.{name_at, types_of}
+use Rattle.message_view.specs.Views.{view}
+use Rattle.message_view.proofs.Decoded.{decoded_suits}
+use Rattle.message_view.proofs.Recoded.{decoded_written}
+use Rattle.text_view.specs.Ruled.{IsRuled}
+use Rattle.text_view.specs.Schemas.{schema_of}
+use Rattle.text_view.proofs.Made.{made_given, none_given}
+use Rattle.print_view.specs.Forms.{compact_form, own_form}
+use Rattle.print_view.specs.Parts.{HaveValues}
+use Rattle.print_view.proofs.Printed.{decoded_printed}
+
+module _ (decoded : Name → Text → Option Message) (d : MessageDescriptor) (ruled : IsRuled d.pool.now) (values : HaveValues d.pool.now)
+    (names : HaveNames (schema_of d.pool.now decoded)) (identifiers : HaveIdentifiers (schema_of d.pool.now decoded))
+    (bytes : List ℕ) (are : AreBytes bytes) (m : DynamicMessage) (type : m.descriptor ≡ d) (spelled : IsSpelled d bytes m) where
+  abbrev w : Schema
+  w = schema_of d.pool.now decoded
+
+  abbrev t : Name
+  t = name_at d.pool.now d.index
+
+  module _ (plain : IsPlain (types_of d.pool.now) t (view m)) (shallow : open_braces (printed own_form w t (view m)) ≤ 100) (z : Text) (text : IsMessageText compact_form m z) where
+    -- the text gives what is seen of the message
+    gives : Gives w t z (view m)
+    gives = subst (λ z. Gives w t z (view m)) (sym (decoded_printed d ruled.sound values bytes m type spelled decoded z text))
+        (printed_text_back own_form (record { set = refl; unexpanded = refl }) w names identifiers t (view m) (decoded_suits d ruled.sound bytes are m type spelled) plain shallow)
+
+    -- so what it makes is written as the message is
+    pub same_written : (fs : Fields) → IsText z fs → (n : DynamicMessage) → Makes d (Fills fs) n → message_bytes n ≡ message_bytes m
+    same_written fs spells n makes =
+        let made = made_given d ruled decoded z fs spells n makes in
+        made.1
+        ∙ ap (bytes_of (types_of d.pool.now) t) (one_message w t nothing z (view n) (view m) made.0 gives)
+        ∙ sym (decoded_written d ruled.sound bytes m type spelled)
+
+    -- and it is not refused as one that the type does not take
+    pub is_taken : ((fs : Fields) → IsText z fs → CannotMake d (Unfit fs)) → ⊥
+    is_taken none = none_given d ruled decoded z none (view m) gives
