@@ -56,7 +56,7 @@ use Rattle.linked_view.proofs.References.{referred_to}
 use Rattle.linked_view.proofs.Sound.{parts_sound}
 
 -- what is kept of each declared message
-kept_at : (ms : List MessageParts) (rs : List RangesType) (j : ℕ) (m : MessageParts)
+pub kept_at : (ms : List MessageParts) (rs : List RangesType) (j : ℕ) (m : MessageParts)
     → AllDeclared ms rs → slice_get ms j ≡ Some m → (r : RangesType) × (slice_get rs j ≡ Some r)
 kept_at [] rs j m h e = absurd (cc e)
 kept_at (x ∷ ms) [] j m h e = absurd h

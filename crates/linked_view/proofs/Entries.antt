@@ -128,36 +128,62 @@ module _ (old new : PoolType) (ns : List FileDescriptorProto) (w : Linking) (is 
       (files_none old new ns w is has names batch kept) batch.means.links batch.means.linked
       batch.means.right.sees batch.means.right.right
 
-  message_along : (meanings : Meanings) (f : FileContent) (d : Declaration) (m : view.MessageFacts)
+  -- a message of the linked files, as it was before
+  pub message_source : (meanings : Meanings) (f : FileContent) (d : Declaration)
+      (m : view.MessageFacts)
+      → Contains (all_linked meanings more) f → Contains (declarations f) d → d.body ≡ of_message m
+      → (c : FileContent) × (x : Declaration) × Contains more c × Contains (declarations c) x
+      × (x.body ≡ of_message m) × (x.name ≡ d.name)
+  message_source meanings f d m i j e =
+      let c = contains_map_cases (λ (x : FileContent). linked (meanings x) x) more f i in
+      let namings : Reference → Target = λ r. dotted (meanings c.0 r) in
+      let x = contains_map_cases (renamed namings) (declarations c.0) d
+      (subst (λ l. Contains l d) (declarations_renamed namings c.0)
+      (subst (λ (y : FileContent). Contains (declarations y) d) (sym c.2) j)) in (
+        c.0,
+        x.0,
+        c.1,
+        x.1,
+        message_stays namings x.0.name x.0.body m (ap (λ (y : Declaration). y.body) x.2 ∙ e),
+        ap (λ (y : Declaration). y.name) x.2,
+      )
+
+  pub message_along : (meanings : Meanings) (f : FileContent) (d : Declaration)
+      (m : view.MessageFacts)
       → Contains (all_linked meanings more) f → Contains (declarations f) d → d.body ≡ of_message m
       → IsAlong ds d.name m
   message_along meanings f d m i j e =
-      let c = contains_map_cases (λ (x : FileContent). linked (meanings x) x) more f i in
-      let g = contains_map_cases file_view ns c.0 c.1 in
+      let s = message_source meanings f d m i j e in
+      let g = contains_map_cases file_view ns s.0 s.2 in
       let k = contains_get ns g.0 g.1 in
-      let namings : Reference → Target = λ r. dotted (meanings c.0 r) in
-      let d0 = contains_map_cases (renamed namings) (declarations c.0) d
-      (subst (λ l. Contains l d) (declarations_renamed namings c.0)
-      (subst (λ (x : FileContent). Contains (declarations x) d) (sym c.2) j)) in
-      let body : d0.0.body ≡ of_message m = message_stays namings d0.0.name d0.0.body m
-      (ap (λ (x : Declaration). x.body) d0.2 ∙ e) in
       let q = file_batch w.before w.first ns k.0 g.0 k.1 in
       let inner = inner_declarations q.0 (w.first + k.0) g.0 in
-      let x = contains_map_cases seen inner (told_of d0.0)
-      (subst (λ l. Contains l (told_of d0.0)) (sym (file_seen q.0 (w.first + k.0) g.0))
-      (contains_map told_of (declarations (file_view g.0)) d0.0
-      (subst (λ (y : FileContent). Contains (declarations y) d0.0) (sym g.2) d0.1))) in
-      let own = message_seen x.0.body m (ap (λ (y : Seen). y.1) x.2 ∙ ap Some body) in
+      let x = contains_map_cases seen inner (told_of s.1)
+      (subst (λ l. Contains l (told_of s.1)) (sym (file_seen q.0 (w.first + k.0) g.0))
+      (contains_map told_of (declarations (file_view g.0)) s.1
+      (subst (λ (y : FileContent). Contains (declarations y) s.1) (sym g.2) s.3))) in
+      let own = message_seen x.0.body m (ap (λ (y : Seen). y.1) x.2 ∙ ap Some s.4) in
       record {
         own = x.0;
         parts = own.0;
         there = q.1 x.0 (contains_there (file_declaration [] (w.first + k.0) g.0) inner x.0 x.1);
         body = own.1;
-        name = ap (λ (y : Seen). y.0) x.2 ∙ ap (λ (y : Declaration). y.name) d0.2;
+        name = ap (λ (y : Seen). y.0) x.2 ∙ s.5;
         facts = own.2;
       }
 
-  are_found : AreFound (found messages all_known) (names_of new messages)
+  -- it is known by its name, for its index
+  pub knows_along : (n : Text) (m : view.MessageFacts) → (along : IsAlong ds n m)
+      → all_known along.own.name ≡ Some (definition_of along.own)
+  knows_along n m along =
+      let x = along.own in
+      ap (λ (k : Known). k x.name) known_all_files
+      ∙ message_index all named_files x along.parts
+      (subst (λ l. Contains l x) (sym (batch_all old ns w is has))
+      (Contains-append_right (batch_declarations nothing_before 0 old.records) ds x along.there))
+      along.body
+
+  pub are_found : AreFound (found messages all_known) (names_of new messages)
   are_found = subst (λ k. AreFound (found messages k) (names_of new messages))
       (known_new old new ns w is has names batch kept) (index.named.found messages)
 
@@ -195,12 +221,7 @@ module _ (old new : PoolType) (ns : List FileDescriptorProto) (w : Linking) (is 
       along.there) in
       let entry : says_entry along.parts.options ≡ true = entry_from along.parts.options
       (subst (λ (y : view.MessageFacts). SaysEntry y.options) (sym along.facts) says) in
-      let knows : all_known x.name ≡ Some (definition_of x) =
-      ap (λ (k : Known). k x.name) known_all_files
-      ∙ message_index all named_files x along.parts
-      (subst (λ l. Contains l x) (sym (batch_all old ns w is has))
-      (Contains-append_right (batch_declarations nothing_before 0 old.records) ds x along.there))
-      along.body in
+      let knows = knows_along n m along in
       let is_message : (definition_of x).kind ≡ kind.Message x.index =
       ap (λ b. (definition_of (record x { body = b })).kind) along.body in
       let is_entry : (linked_says batch.types).is_entry x.index ≡ true = own_told.is_entry ∙ entry in

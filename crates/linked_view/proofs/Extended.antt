@@ -64,7 +64,7 @@ both_true true true e = (refl, refl)
 both_true true false e = absurd (cc e)
 both_true false b e = absurd (cc e)
 
-dotted_is : (full : Text) (o : Option Text) → is_dotted full o ≡ true → o ≡ Some (46 ∷ full)
+pub dotted_is : (full : Text) (o : Option Text) → is_dotted full o ≡ true → o ≡ Some (46 ∷ full)
 dotted_is full None e = absurd (cc e)
 dotted_is full (Some t) e = ap Some (bytes_same t (46 ∷ full) e)
 

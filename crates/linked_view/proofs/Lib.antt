@@ -27,6 +27,7 @@ pub mod NamedFiles
 pub mod Numbers
 pub mod Once
 pub mod Paired
+pub mod Parted
 pub mod Places
 pub mod Ranged
 pub mod References
@@ -42,6 +43,8 @@ pub mod Suited
 pub mod Sound
 pub mod Taken
 pub mod Telling
+pub mod Together
+pub mod Unused
 pub mod Used
 pub mod Valued
 pub mod Values

@@ -1,7 +1,8 @@
 -- The numbers of accepted extensions are kept for extensions by the messages that they extend.
-use Rattle.std.proofs.Common.{◌≡◌, ◌∙◌, ◌+◌, ℕ, List, [], ◌∷◌, ◌++◌, Option, Some, None, map, length, ap, sym, subst, refl}
-use Rattle.std.specs.List.{Contains}
+use Rattle.std.proofs.Common.{◌≡◌, ◌∙◌, ◌+◌, ℕ, List, [], ◌∷◌, ◌++◌, Option, Some, None, map, length, slice_get, ap, sym, subst, refl}
+use Rattle.std.specs.List.{AllZip, Contains, flat_map}
 use Rattle.std.proofs.lemmas.List.{map-append}
+use Rattle.std.proofs.lemmas.List.Concat.{flat_map-append}
 use Rattle.descriptor_records.specs.Content.{Text, FileContent, file_view}
 use Rattle.descriptor_records.specs.declared.file.FileDescriptorProto.{FileDescriptorProto}
 use Rattle.reflect_scope.specs.declared.definition.Definition.{Definition}
@@ -14,7 +15,7 @@ use Rattle.reflect_passes.specs.NameFaults.{name_faults}
 use Rattle.reflect_tables.specs.Types.{PoolType}
 use Rattle.reflect_tables.specs.declared.tables.Tables.{Tables}
 use Rattle.reflect_walk.specs.Batches.{batch_declarations}
-use Rattle.reflect_build.specs.Accepted.{FaultlessBatch, Faultless}
+use Rattle.reflect_build.specs.Accepted.{FaultlessBatch, FaultlessFiles}
 use Rattle.reflect_build.specs.Refusals.{Linking, with_declared, IsOf, new_files}
 use Rattle.linked_messages.specs.Kept.{IsKept}
 use Rattle.schema_view.specs.Declarations.{Body, of_message, of_field, of_oneof, of_enum, of_value, of_service, of_method, of_extension, Declaration, declarations}
@@ -33,44 +34,52 @@ use Rattle.linked_view.proofs.Settling.{all_good, batch_holds}
 use Rattle.std.specs.Prelude.{ℤ}
 use Rattle.std.proofs.lemmas.List.Sorted.{Contains-permutation, IsPermutation-sym}
 use Rattle.std.proofs.lemmas.List.Elements.{All-contains}
-use Rattle.std.proofs.Common.{append_assoc, zero-add}
+use Rattle.std.proofs.Common.{zero-add}
 use Rattle.descriptor_records.specs.Content.{extension_range_view}
 use Rattle.descriptor_records.specs.Content as content
-use Rattle.reflect_index.specs.OfDeclarations.{RangesType, AreDeclared, AllDeclared, message_in, messages_in, stored_ranges}
+use Rattle.reflect_index.specs.OfDeclarations.{message_in, messages_in}
 use Rattle.reflect_known.specs.KnownNames.{nothing_before, known_of_files}
 use Rattle.reflect_passes.specs.Linked.{message_at, linked_says}
 use Rattle.reflect_tables.specs.Ranges as pool
-use Rattle.reflect_pool.specs.Linked.{empty_pool}
-use Rattle.reflect_tables.specs.Views.{message_of, ranges_of}
+use Rattle.reflect_pool.specs.Stored.{HasRanges, MessageRanges, declared_ranges, ranges_in}
+use Rattle.reflect_tables.specs.Views.{ranges_of}
 use Rattle.reflect_tables.specs.declared.stored.StoredMessage.{StoredMessage}
 use Rattle.reflect_walk.specs.Declarations as walk
 use Rattle.reflect_walk.specs.Tree.{MessageParts}
 use Rattle.schema_view.specs.Declarations as view
 use Rattle.schema_view.specs.Lawful.{Keeps, KeepsNumber}
 use Rattle.schema_view.specs.Rules.{IsIn, HasBounds}
-use Rattle.linked_messages.proofs.Declared.{declared_at}
-use Rattle.linked_view.specs.Ranged.{TellsRanges, KeepNumbers}
+use Rattle.reflect_build.proofs.Stored.{all_declared, zip_both}
+use Rattle.linked_view.specs.Ranged.{KeepNumbers}
 use Rattle.linked_view.specs.Ruled.{IsExtensionNumber}
 use Rattle.linked_view.proofs.Accepted.{files_none}
 use Rattle.linked_view.proofs.Along.{range_in, in_range}
 use Rattle.linked_view.proofs.Behind.{all_named, batch_on, first_is, known_is}
 use Rattle.linked_view.proofs.Defaulted.{at_both}
+use Rattle.linked_view.proofs.Extended.{zip_at}
 use Rattle.linked_view.proofs.Indexed.{IsMessageAt, message_known}
 use Rattle.linked_view.proofs.Named.{in_all}
 use Rattle.linked_view.proofs.Reserved.{kept_seen}
 
-messages_both : (a b : List walk.Declaration) → messages_in (a ++ b) ≡ messages_in a ++ messages_in b
-messages_both [] b = refl
-messages_both (d ∷ a) b =
-    ap (λ ms. message_in d.body ++ ms) (messages_both a b)
-    ∙ sym (append_assoc (message_in d.body) (messages_in a) (messages_in b))
+-- the ranges among declarations are those of the messages
+one_ranged : (d : walk.Declaration) (b : walk.Body) (ds : List walk.Declaration)
+    → flat_map ranges_in ds ≡ map declared_ranges (messages_in ds)
+    → ranges_in (record d { body = b }) ++ flat_map ranges_in ds
+    ≡ map declared_ranges (message_in b ++ messages_in ds)
+one_ranged d (walk.of_message m) ds rest = ap (λ l. declared_ranges m ∷ l) rest
+one_ranged d (walk.of_file f) ds rest = rest
+one_ranged d (walk.of_field f) ds rest = rest
+one_ranged d (walk.of_oneof o) ds rest = rest
+one_ranged d (walk.of_enum k) ds rest = rest
+one_ranged d (walk.of_enum_value v) ds rest = rest
+one_ranged d (walk.of_service s) ds rest = rest
+one_ranged d (walk.of_method m) ds rest = rest
+one_ranged d (walk.of_extension x) ds rest = rest
 
-declared_both : (a b : List MessageParts) (x y : List RangesType) → AllDeclared a x
-    → AllDeclared b y → AllDeclared (a ++ b) (x ++ y)
-declared_both [] b [] y h k = k
-declared_both [] b (r ∷ x) y h k = absurd h
-declared_both (m ∷ a) b [] y h k = absurd h
-declared_both (m ∷ a) b (r ∷ x) y h k = (h.0, declared_both a b x y h.1 k)
+all_ranged : (ds : List walk.Declaration) → flat_map ranges_in ds
+    ≡ map declared_ranges (messages_in ds)
+all_ranged [] = refl
+all_ranged (d ∷ ds) = one_ranged d d.body ds (all_ranged ds)
 
 -- the declarations of a pool's records, and behind them those of new files
 pub batch_all : (old : PoolType) (ns : List FileDescriptorProto) (w : Linking) → IsOf old w
@@ -86,8 +95,7 @@ batch_all old ns w is has =
 
 module _ (old new : PoolType) (ns : List FileDescriptorProto) (w : Linking) (is : IsOf old w)
     (has : IsWellNamed old) (names : name_faults w.indexes w.known w.before w.first ns ≡ [])
-    (batch : FaultlessBatch (with_declared w ns) ns new) (kept : IsKept new)
-    (tells : TellsRanges old.records w.tables) where
+    (batch : FaultlessBatch (with_declared w ns) ns new) (kept : IsKept new) where
   abbrev given : List FileContent
   given = map file_view old.records
 
@@ -113,24 +121,34 @@ module _ (old new : PoolType) (ns : List FileDescriptorProto) (w : Linking) (is 
       (files_none old new ns w is has names batch kept) batch.means.links batch.means.linked
       batch.means.right.sees batch.means.right.right
 
-  -- what is kept of all messages is what is declared
-  all_ranges : AllDeclared (messages_in (batch_declarations nothing_before 0 all))
-      (map stored_ranges stored)
-  all_ranges =
+  -- the ranges that are stored of all messages are those that are declared
+  all_stored : AllZip HasRanges (flat_map ranges_in (batch_declarations nothing_before 0 all)) stored
+  all_stored =
       let front = batch_declarations nothing_before 0 old.records in
       let back = batch_declarations w.before w.first ns in
-      let older = subst (λ (s : Tables). AllDeclared (messages_in front)
-      (map stored_ranges s.messages.items)) (sym batch.declared.old) tells in
-      subst (λ ds. AllDeclared (messages_in ds) (map stored_ranges stored)) (sym (batch_all old ns w is has))
-      (subst (λ ms. AllDeclared ms (map stored_ranges stored)) (sym (messages_both front back))
-      (subst (AllDeclared (messages_in front ++ messages_in back))
-      (sym (map-append stored_ranges batch.types.old.now.messages.items
-      batch.types.new.now.messages.items))
-      (declared_both (messages_in front) (messages_in back) _ _ older batch.declared.ranges)))
+      let olds = batch.types.old.now.messages.items in
+      let news = batch.types.new.now.messages.items in
+      let older = subst (λ (s : Tables). AllZip HasRanges (flat_map ranges_in front) s.messages.items)
+      (sym batch.declared.old) is.stored.ranges in
+      subst (λ ds. AllZip HasRanges (flat_map ranges_in ds) stored) (sym (batch_all old ns w is has))
+      (subst (λ rs. AllZip HasRanges rs stored) (sym (flat_map-append ranges_in front back))
+      (zip_both HasRanges (flat_map ranges_in front) (flat_map ranges_in back) olds news older
+      (all_declared back news batch.declared.ranges)))
+
+  stored_at : (i : ℕ) (own : MessageParts) (s : StoredMessage)
+      → slice_get (messages_in (batch_declarations nothing_before 0 all)) i ≡ Some own
+      → slice_get stored i ≡ Some s → HasRanges (declared_ranges own) s
+  stored_at i own s place at =
+      let ds = batch_declarations nothing_before 0 all in
+      let r = zip_at HasRanges (flat_map ranges_in ds) stored i (declared_ranges own) all_stored
+      (ap (λ (l : List MessageRanges). slice_get l i) (all_ranged ds)
+      ∙ get_map declared_ranges (messages_in ds) i own place) in
+      let same : r.0 ≡ s = cc (sym r.1 ∙ at) in
+      subst (HasRanges (declared_ranges own)) same r.2
 
   -- the ranges of a message, as they are kept and as its record has them
   ranges_keep : (full : Text) (n : ℤ) (i : ℕ) (m : IsMessageAt all named_files full i)
-      (s : StoredMessage) → AreDeclared m.own (stored_ranges s) → (r : pool.Range)
+      (s : StoredMessage) → HasRanges (declared_ranges m.own) s → (r : pool.Range)
       → Contains (ranges_of s.extension_numbers) r → pool.IsIn n r
       → pool.IsRangeOf (ranges_of s.reserved_numbers) n None
       → Keeps (outlines (map file_view all)) full n
@@ -180,10 +198,8 @@ module _ (old new : PoolType) (ns : List FileDescriptorProto) (w : Linking) (is 
         by (Some s) e =
             let m = message_known all named_files full d i
             (ap (λ (k : Known). k full) (sym known_all_files) ∙ knows) same in
-            let declared = declared_at (messages_in (batch_declarations nothing_before 0 all))
-            (map stored_ranges stored) i m.own (stored_ranges s) all_ranges m.place
-            (get_map stored_ranges stored i s (at_both batch.types.old.now.messages.items
-            batch.types.new.now.messages.items i s e)) in
+            let declared = stored_at i m.own s m.place (at_both batch.types.old.now.messages.items
+            batch.types.new.now.messages.items i s e) in
             ranges_keep full n i m s declared r
             (subst (λ l. Contains l r) (ap extensions_by e) inside) within
             (subst (λ l. pool.IsRangeOf l n None) (ap reserved_by e) none)
@@ -218,23 +234,15 @@ module _ (old new : PoolType) (ns : List FileDescriptorProto) (w : Linking) (is 
       (subst (λ x. Contains (declarations (linked (meanings all all_known are named
       batch.means.right.sees x) x)) d) (sym f.2) j)))
 
-pub numbers_are : (old new : PoolType) (w : Linking) (fs : List FileDescriptorProto)
-    → IsWellNamed old → IsKept new → IsOf old w → TellsRanges old.records w.tables
-    → Faultless w (new_files w.indexes fs) new
-    → (l : AreLawfulAlone (map file_view old.records) (map file_view (new_files w.indexes fs))
+pub numbers_are : (old new : PoolType) (fs : List FileDescriptorProto) → IsWellNamed old
+    → IsKept new → FaultlessFiles old fs new
+    → (w : Linking) × IsOf old w
+    × (l : AreLawfulAlone (map file_view old.records) (map file_view (new_files w.indexes fs))
     (map file_view new.records))
     × KeepNumbers (map file_view old.records) (map file_view (new_files w.indexes fs)) l.meanings
-numbers_are old new w fs has kept is tells (names, batch) = (
+numbers_are old new fs has kept (w, is, (names, batch)) = (
+  w,
+  is,
   lawful_alone old new (new_files w.indexes fs) w is has names batch kept,
-  numbers_keep old new (new_files w.indexes fs) w is has names batch kept tells,
+  numbers_keep old new (new_files w.indexes fs) w is has names batch kept,
 )
-
-none_stored : (ms : List StoredMessage) → map message_of ms ≡ []
-    → AllDeclared [] (map stored_ranges ms)
-none_stored [] e = tt
-none_stored (m ∷ ms) e = absurd (cc e)
-
--- a pool without files has no types, and so no ranges
-pub empty_ranges : (w : Linking) → IsOf empty_pool w → TellsRanges [] w.tables
-empty_ranges w is =
-    none_stored w.tables.messages.items (ap (λ (p : PoolType). p.messages) is.tables)

@@ -15,6 +15,7 @@ use Rattle.reflect_passes.specs.NameFaults.{name_faults}
 use Rattle.reflect_tables.specs.Names.{FullName, AreFound, found, message_name, names_of, messages}
 use Rattle.reflect_tables.specs.Types.{PoolType, ExtensionType}
 use Rattle.reflect_tables.specs.Views.{message_of, extension_of}
+use Rattle.reflect_build.proofs.Stored.{zip_both}
 use Rattle.reflect_build.specs.Accepted.{FaultlessBatch, FaultlessFiles}
 use Rattle.reflect_build.specs.Refusals.{Linking, with_declared, IsOf, new_files}
 use Rattle.linked_messages.specs.Kept.{IsKept}
@@ -32,13 +33,6 @@ pub get_before : {X : Type 0} (xs ys : List X) (i : ℕ) (x : X) → slice_get x
 get_before [] ys i x e = absurd (cc e)
 get_before (z ∷ xs) ys zero x e = e
 get_before (z ∷ xs) ys (suc i) x e = get_before xs ys i x e
-
-zip_both : {X Y : Type 0} (R : X → Y → Type 0) (us vs : List X) (xs ys : List Y) → AllZip R us xs
-    → AllZip R vs ys → AllZip R (us ++ vs) (xs ++ ys)
-zip_both R [] vs [] ys h k = k
-zip_both R [] vs (x ∷ xs) ys h k = absurd h
-zip_both R (u ∷ us) vs [] ys h k = absurd h
-zip_both R (u ∷ us) vs (x ∷ xs) ys h k = (h.0, zip_both R us vs xs ys h.1 k)
 
 zip_more : (names more : List FullName) (ks : List WrittenKey) (xs : List ExtensionType)
     → AllZip (HasWritten names) ks xs → AllZip (HasWritten (names ++ more)) ks xs

@@ -170,7 +170,7 @@ module _ (names : List FullName) (known : Known) (are : AreFound (found messages
         cc (sym e' ∙ yes))
 
   module _ (v : View) (known_by : v.known ≡ known) (at : Places) (path : List ℤ) (scope : Text) where
-    test_same : (o : Option (String Global)) → IsResolved v filter.FieldType scope o
+    pub test_same : (o : Option (String Global)) → IsResolved v filter.FieldType scope o
         → is_dotted full (type_by v scope o)
         ≡ is_entry_at says i (message_of (kind_by v filter.FieldType scope o))
     test_same None r = refl

@@ -1,6 +1,7 @@
--- How files use the types of maps' entries that they declare.
-use Rattle.std.specs.Prelude.{◌≡◌, List, Contains}
-use Rattle.descriptor_records.specs.Content.{FileContent}
+-- How files use the types of maps' entries that they declare, and what a pool has of these.
+use Rattle.std.specs.Prelude.{◌≡◌, List, true, is_some, map, Contains}
+use Rattle.descriptor_records.specs.Content.{FileContent, file_view}
+use Rattle.reflect_tables.specs.Types.{MessageType, PoolType}
 use Rattle.schema_view.specs.Declarations.{MessageFacts, of_message, Declaration, declarations}
 use Rattle.schema_view.specs.Lawful.{IsOneMap}
 use Rattle.schema_view.specs.Rules.{SaysEntry}
@@ -10,3 +11,11 @@ abbrev pub HaveOneUse : List FileContent → Type 0
 HaveOneUse fs = (f : FileContent) (d : Declaration) (m : MessageFacts)
     → Contains fs f → Contains (declarations f) d → d.body ≡ of_message m → SaysEntry m.options
     → IsOneMap fs d.name
+
+-- a message of the records that says that it is the type of a map's entries has the parts of one
+-- among the pool's types
+abbrev pub TellsEntries : PoolType → Type 0
+TellsEntries p = (f : FileContent) (d : Declaration) (m : MessageFacts)
+    → Contains (map file_view p.records) f → Contains (declarations f) d → d.body ≡ of_message m
+    → SaysEntry m.options
+    → (t : MessageType) × Contains p.messages t × (t.full_name ≡ d.name) × (is_some t.entry ≡ true)

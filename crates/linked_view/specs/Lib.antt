@@ -1,4 +1,5 @@
 pub mod Alone
+pub mod Built
 pub mod Complete
 pub mod Entries
 pub mod Enums

@@ -1,9 +1,9 @@
 //! The laws of the passes over a batch, each the contract of a function that does nothing.
-ghost use Rattle.std.specs.Prelude.{◌≡◌, ◌≤◌, ◌↔◌, ℕ, ℤ, Bool, List, [], map, slice_get, Some};
+ghost use Rattle.std.specs.Prelude.{◌≡◌, ◌≤◌, ◌∷◌, ◌↔◌, ℕ, ℤ, Bool, List, [], map, slice_get, Some};
 ghost use Rattle.descriptor_records.specs.Content.{Text, FileContent, enum_view, file_view};
 ghost use Rattle.descriptor_records.specs.declared.enums.EnumDescriptorProto.{EnumDescriptorProto};
 ghost use Rattle.descriptor_records.specs.declared.file.FileDescriptorProto.{FileDescriptorProto};
-ghost use Rattle.reflect_build.specs.Accepted.{Faultless, FaultlessFiles};
+ghost use Rattle.reflect_build.specs.Accepted.{FaultlessFiles};
 ghost use Rattle.reflect_build.specs.Refusals.{FaultyReferences, IsOf, Linking, new_files, with_declared};
 ghost use Rattle.reflect_known.specs.KnownNames.{known_of_files};
 ghost use Rattle.reflect_names.specs.Faults.{Fault};
@@ -37,10 +37,11 @@ ghost use Rattle.schema_view.specs.Outlines.{Outline, outline_of};
 ghost use Rattle.schema_view.specs.References.{Want};
 ghost use Rattle.schema_view.specs.Rules.{HasFirst};
 ghost use Rattle.linked_view.specs.Enums.{IsNumbered};
-ghost use Rattle.linked_view.specs.Entries.{HaveOneUse};
+ghost use Rattle.linked_view.specs.Entries.{HaveOneUse, TellsEntries};
 ghost use Rattle.linked_view.specs.Extended.{IsIndexed, TellsExtensions};
 ghost use Rattle.linked_messages.specs.Kept.{IsKept};
 ghost use Rattle.linked_view.specs.Alone.{AreLawfulAlone, AreSettledAlone, IsWellNamed, IsRecorded};
+ghost use Rattle.linked_view.specs.Built.{IsBuilt};
 ghost use Rattle.linked_view.specs.Complete.{IsComplete};
 ghost use Rattle.linked_view.specs.Known.{AreKnown};
 ghost use Rattle.linked_view.specs.AtHand.{AreMetBy};
@@ -50,7 +51,7 @@ ghost use Rattle.linked_view.specs.Referred.{AreMeant, AreSeenBy};
 ghost use Rattle.linked_view.specs.Resolved.{filter_of, SeesThose};
 ghost use Rattle.linked_view.specs.Ruled.{IsTyped, Each, AreRuled};
 ghost use Rattle.linked_view.specs.Whole.{IsLabelled, IsFitting, AreSound};
-ghost use Rattle.linked_view.specs.Ranged.{KeepNumbers, TellsRanges};
+ghost use Rattle.linked_view.specs.Ranged.{KeepNumbers};
 ghost use Rattle.linked_view.specs.Valued.{SuitEnums, TellsValues};
 ghost use Rattle.linked_view.specs.NamedFiles.{HaveNoFault, AreFiles};
 
@@ -234,16 +235,13 @@ pub fn accepted_defaults_are_values()
         × SuitEnums (map file_view old.records) (map file_view (new_files w.indexes files)) l.meanings }
 {}
 
-/// Behind types whose ranges are those that a pool's records declare, each extension of accepted
-/// files has a number that the message that it extends keeps for extensions, and for nothing else.
-/// So it is behind a pool without files; of another, no contract says yet what ranges its types
-/// have.
+/// Where files are accepted, each extension of theirs has a number that the message that it extends
+/// keeps for extensions, and for nothing else.
 pub fn accepted_numbers_are_kept()
-    ensures empty { (w : Linking) → IsOf empty_pool w → TellsRanges [] w.tables }
-    ensures kept { (old new : PoolType) (w : Linking) (files : List FileDescriptorProto)
-        → IsWellNamed old → IsKept new → IsOf old w → TellsRanges old.records w.tables
-        → Faultless w (new_files w.indexes files) new
-        → (l : AreLawfulAlone (map file_view old.records) (map file_view (new_files w.indexes files))
+    ensures { (old new : PoolType) (files : List FileDescriptorProto) → IsWellNamed old
+        → IsKept new → FaultlessFiles old files new
+        → (w : Linking) × IsOf old w
+        × (l : AreLawfulAlone (map file_view old.records) (map file_view (new_files w.indexes files))
         (map file_view new.records))
         × KeepNumbers (map file_view old.records) (map file_view (new_files w.indexes files)) l.meanings }
 {}
@@ -257,4 +255,36 @@ pub fn accepted_entries_have_one_use()
         × (l : AreLawfulAlone (map file_view old.records) (map file_view (new_files w.indexes files))
         (map file_view new.records))
         × HaveOneUse (all_linked l.meanings (map file_view (new_files w.indexes files))) }
+{}
+
+/// A pool without files tells of the types of maps' entries that its records declare, and so it stays
+/// where files are accepted.
+pub fn pools_tell_of_entries()
+    ensures empty { TellsEntries empty_pool }
+    ensures kept { (old new : PoolType) (files : List FileDescriptorProto) → IsWellNamed old
+        → IsIndexed new → IsKept new → TellsEntries old
+        → FaultlessFiles old files new → TellsEntries new }
+{}
+
+/// Behind a pool that batches built, accepted files are added: they are lawful behind the pool's own,
+/// and the pool's new records are its own and behind them these, linked.
+pub fn accepted_files_are_added()
+    ensures { (earlier : List (List FileContent)) (old new : PoolType)
+        (files : List FileDescriptorProto) → IsBuilt earlier old → IsIndexed new → IsKept new
+        → FaultlessFiles old files new
+        → (w : Linking) × IsOf old w
+        × Adds (map file_view old.records) (map file_view (new_files w.indexes files))
+        (map file_view new.records) }
+{}
+
+/// A pool without files is built of no batch, and where files are accepted of one more, of those that
+/// the pool has not yet: what is asked of the new pool beside this its type keeps, as
+/// `pools_are_recorded`, `pools_are_indexed` and `pools_are_linked` say.
+pub fn pools_are_built()
+    ensures empty { IsBuilt [] empty_pool }
+    ensures kept { (earlier : List (List FileContent)) (old new : PoolType)
+        (files : List FileDescriptorProto) → IsBuilt earlier old → IsRecorded new → IsIndexed new
+        → IsKept new → FaultlessFiles old files new
+        → (w : Linking) × IsOf old w
+        × IsBuilt (map file_view (new_files w.indexes files) ∷ earlier) new }
 {}
