@@ -4,8 +4,8 @@
 use reflect_schema::{ReadFault, SourceFiles};
 use serde_json::Value;
 use std::alloc::{AllocError, Global};
-use std::io::{Read, Write};
 use std::io;
+use std::io::{Read, Write};
 use test_json::members::{bytes, items, text};
 
 /// The bytes of a member: those of its `text`, or without one those that it has as `hex`.

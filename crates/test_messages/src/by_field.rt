@@ -6,7 +6,9 @@ use reflect_message::DynamicMessage;
 use serde_json::Value as Json;
 use std::alloc::{AllocError, Global};
 use test_json::members::text;
-use test_values::{change, list_of, value_of, write_outcome, write_taken, write_truth, write_value};
+use test_values::{
+    change, list_of, value_of, write_outcome, write_taken, write_truth, write_value,
+};
 
 /// Makes a call of the field of a number by the field's descriptor.
 pub fn answer_by_field(

@@ -9,11 +9,11 @@ mod sources;
 mod tokens;
 mod wire;
 
-use test_json::Told;
 pub use parts::{tell_int, tell_lines};
 pub use sources::{tell_parsed, tell_source_refusal};
 use std::alloc::{AllocError, Global};
 use std::fmt::Debug;
+use test_json::Told;
 pub use tokens::{tell_text_tokens, tell_tokens};
 pub use wire::{tell_records, tell_set};
 
