@@ -4,3 +4,4 @@ pub mod Nested
 pub mod Told
 pub mod Kept
 pub mod Bare
+pub mod More

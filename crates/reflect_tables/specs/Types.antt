@@ -3,6 +3,7 @@
 use Rattle.std.specs.Prelude.{◌≡◌, ◌==◌, ◌+◌, ◌^◌, ℕ, ℤ, ◌<◌, List, [], ◌∷◌, length, Bool, false, cond, Option, None, Some, slice_index_or}
 use Rattle.std.specs.List.{All, AllByRecursion}
 use Rattle.descriptor_records.specs.declared.file.FileDescriptorProto.{FileDescriptorProto}
+use Rattle.reflect_tables.specs.Ranges.{Range}
 use Rattle.reflect_tables.specs.declared.kind.Cardinality.{Cardinality}
 use Rattle.reflect_tables.specs.declared.kind.Cardinality.TheVariants.{Optional}
 use Rattle.reflect_tables.specs.declared.kind.Syntax.{Syntax}
@@ -69,6 +70,7 @@ pub record ChildPlaces : Type 0 where
   pub enums : List ℕ
   pub extensions : List ℕ
 
+-- the ranges are those whose numbers a message keeps for extensions
 pub record MessageType : Type 0 where
   pub path : List ℤ
   pub name : List ℕ
@@ -79,6 +81,7 @@ pub record MessageType : Type 0 where
   pub oneofs : List OneofType
   pub children : ChildPlaces
   pub entry : Option StoredEntry
+  pub extension_ranges : List Range
 
 pub record ValueType : Type 0 where
   pub path : List ℤ
@@ -280,6 +283,7 @@ no_type = record {
   oneofs = [];
   children = no_children;
   entry = None;
+  extension_ranges = [];
 }
 
 abbrev pub no_field : FieldType

@@ -109,6 +109,7 @@ message_of m = record {
   oneofs = map oneof_of m.oneofs.items;
   children = children_of m.children;
   entry = m.entry;
+  extension_ranges = ranges_of m.extension_numbers;
 }
 
 abbrev pub value_of : StoredValue → ValueType
