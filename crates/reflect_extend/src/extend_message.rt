@@ -1,4 +1,4 @@
-ghost use Rattle.std.specs.Prelude.{◌≡◌, ◌≢◌, ℕ, true, false, Some, OnOk, OnErr};
+ghost use Rattle.std.specs.Prelude.{◌≡◌, ◌≢◌, ◌||◌, ℕ, true, false, Some, OnOk, OnErr};
 ghost use Rattle.reflect_pool.specs.FieldsLeft.{field_type};
 ghost use Rattle.reflect_pool.specs.Shapes.{holds_list, holds_map};
 ghost use Rattle.reflect_pool.specs.declared.message.MessageDescriptor.{MessageDescriptor};
@@ -9,6 +9,7 @@ ghost use Rattle.reflect_message.specs.Held.{fields_of, choices_of, extensions_o
 ghost use Rattle.reflect_message.specs.Lists.{Lengthens, KeepsList};
 ghost use Rattle.reflect_message.specs.Oneofs.{AreChosen, IsExclusive, sibling};
 ghost use Rattle.reflect_extend.specs.Puts.{PutsEntries, PutsSome};
+ghost use Rattle.reflect_extend.specs.Siblings.{LacksSibling};
 
 use crate::extend::extend;
 use reflect_message::{DynamicMessage, MessageParts, Parts, Value};
@@ -61,6 +62,10 @@ pub trait ExtendMessage<'p> {
         ensures others { (n : ℕ) → n ≢ (field_type field.now).number
             → sibling field.now (choices_of (message self.old)) ≢ Some n
             → Same (fields_of (message self.old)) (fields_of (message self.new)) n }
+        ensures unset { (holds_list (field_pool field.now) (field_type field.now)
+            || holds_map (field_pool field.now) (field_type field.now)) ≡ true
+            → OnOk result (LacksSibling field.now (choices_of (message self.old))
+            (fields_of (message self.new))) }
         ensures ascending { IsAscending (fields_of (message self.old))
             → IsAscending (fields_of (message self.new)) }
         ensures exclusive { Owns (message self.old).descriptor field.now
@@ -146,6 +151,9 @@ fn extend_parts<'p>(
     ensures others { (n : ℕ) → n ≢ (field_type field.now).number
         → sibling field.now parts.old.choices.members ≢ Some n
         → Same parts.old.fields parts.new.fields n }
+    ensures unset { (holds_list (field_pool field.now) (field_type field.now)
+        || holds_map (field_pool field.now) (field_type field.now)) ≡ true
+        → OnOk result (LacksSibling field.now parts.old.choices.members parts.new.fields) }
     ensures ascending { IsAscending parts.old.fields → IsAscending parts.new.fields }
     ensures list { holds_list (field_pool field.now) (field_type field.now) ≡ true
         → OnOk result (Lengthens (value_at parts.old.fields (field_type field.now).number)

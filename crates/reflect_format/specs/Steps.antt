@@ -15,7 +15,8 @@ use Rattle.reflect_message.specs.declared.message.DynamicMessage.{DynamicMessage
 use Rattle.reflect_message.specs.declared.value.Value.{Value}
 use Rattle.reflect_format.specs.Kinds.{single_of}
 use Rattle.reflect_extend.specs.Puts.{PutsEntries, PutsSome}
-use Rattle.reflect_format.specs.Takes.{target_pool, target_type}
+use Rattle.reflect_extend.specs.Siblings.{LacksSibling}
+use Rattle.reflect_format.specs.Takes.{holds_many, target_pool, target_type}
 use Rattle.reflect_format.specs.declared.target.Target.{Target}
 use Rattle.reflect_format.specs.declared.target.Target.TheVariants as targets
 
@@ -63,7 +64,13 @@ ChangesOnly (targets.Extension x) old new =
     ((n : ℕ) → n ≢ (extension_type x).number → Same (extensions_of old) (extensions_of new) n)
     × (fields_of new ≡ fields_of old) × (unknown_of new ≡ unknown_of old)
 
--- values are put behind those of a list, or the entries that they are into a map
+-- the other member of the field's oneof that was noted holds nothing; an extension is in no oneof
+abbrev pub Frees : Target → DynamicMessage → DynamicMessage → Type 0
+Frees (targets.Field f) old new = LacksSibling f (choices_of old) (fields_of new)
+Frees (targets.Extension x) old new = Unit {0}
+
+-- values are put behind those of a list, or the entries that they are into a map, and the other
+-- member of its oneof is unset
 abbrev pub Adds : Target → List Value → DynamicMessage → DynamicMessage → Type 0
 Adds t vs old new = ChangesOnly t old new
     × (holds_list (target_pool t) (target_type t) ≡ true
@@ -71,6 +78,7 @@ Adds t vs old new = ChangesOnly t old new
     × (holds_map (target_pool t) (target_type t) ≡ true
     → PutsEntries (held_by old t) (held_by new t) vs)
     × StaysExclusive t old new × StaysAscending old new
+    × (holds_many t ≡ true → Frees t old new)
 
 -- a list keeps its values, and of the entries that the values are the first are put into a map
 abbrev pub AddsPart : Target → List Value → DynamicMessage → DynamicMessage → Type 0

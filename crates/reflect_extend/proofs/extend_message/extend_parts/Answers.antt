@@ -1,6 +1,6 @@
-use Rattle.std.proofs.Common.{refl}
+use Rattle.std.proofs.Common.{refl, ◌∙◌}
 use Rattle.reflect_pool.specs.FieldsLeft.{field_type}
-use Rattle.reflect_message.proofs.Choosing.{chosen_next, makes_room, room_exclusive, unsets_changes}
+use Rattle.reflect_message.proofs.Choosing.{chosen_next, makes_room, room_exclusive, room_keeps, unsets_changes}
 use Rattle.reflect_extend.proofs.Putting.{puts_none_at}
 use Rattle.reflect_extend.proofs.extend_message.extend_parts.Goals as goal
 
@@ -24,3 +24,12 @@ returns-clause-chosen c = λ m owns chosen.
 
 pub returns-clause-ascending : goal.returns-clause-ascending
 returns-clause-ascending c = λ up. c.clear_siblings.ensures.ascending (c.extend.ensures.ascending up)
+
+pub returns-clause-unset : goal.returns-clause-unset
+returns-clause-unset c = λ many n is.
+    let f = c.args.field.now in
+    let before = c.args.parts.now.choices.members in
+    let noted = c.make_room.new.self.members in
+    let room = c.in_ok-make_room.ensures in
+    let made = makes_room f before noted room.first room.stays room.others in
+    c.clear_siblings.ensures.unsets.unset n (room_keeps f before noted made ∙ is)
