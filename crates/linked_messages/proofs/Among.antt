@@ -1,5 +1,5 @@
 -- What stands in a list.
-use Rattle.std.proofs.Common.{◌≡◌, ◌⊎◌, inl, inr, ℕ, zero, suc, Bool, true, false, cond, List, [], ◌∷◌, ◌++◌, map, Some, refl, sym, ap, ◌∙◌, subst, slice_get}
+use Rattle.std.proofs.Common.{◌≡◌, ◌⊎◌, inl, inr, ◌<◌, ℕ, zero, suc, Bool, true, false, cond, List, [], ◌∷◌, ◌++◌, map, length, Some, refl, sym, ap, ◌∙◌, subst, arith, slice_get, slice_index_or}
 use Rattle.std.specs.List.{AllByRecursion, AllZip, filter, find}
 
 -- x is an element of the list
@@ -81,3 +81,42 @@ pub of_place : {X : Type 0} (x : X) (xs : List X) (i : ℕ) → slice_get xs i �
 of_place x [] i e = absurd (cc e)
 of_place x (y ∷ xs) zero e = inl (cc e)
 of_place x (y ∷ xs) (suc i) e = inr (of_place x xs i e)
+
+-- and an element stands at a place
+pub place_of : {X : Type 0} (x : X) (xs : List X) → Among x xs → (i : ℕ) × (slice_get xs i ≡ Some x)
+place_of x [] h = absurd h
+place_of x (y ∷ xs) (inl e) = (0, ap Some e)
+place_of x (y ∷ xs) (inr h) = let found = place_of x xs h in (suc found.0, found.1)
+
+pub get_at : {X : Type 0} (xs : List X) (i : ℕ) (d : X) → i < length xs
+    → slice_get xs i ≡ Some (slice_index_or xs i d)
+get_at [] i d lt = absurd (omega (arith, lt))
+get_at (x ∷ xs) zero d lt = refl
+get_at (x ∷ xs) (suc i) d lt = get_at xs i d (omega (arith, lt))
+
+pub index_is : {X : Type 0} (xs : List X) (i : ℕ) (x d : X) → slice_get xs i ≡ Some x
+    → slice_index_or xs i d ≡ x
+index_is [] i x d e = absurd (cc e)
+index_is (y ∷ xs) zero x d e = cc e
+index_is (y ∷ xs) (suc i) x d e = index_is xs i x d e
+
+pub get_map : {X Y : Type 0} (g : X → Y) (xs : List X) (k : ℕ) (x : X) → slice_get xs k ≡ Some x
+    → slice_get (map g xs) k ≡ Some (g x)
+get_map g [] k x e = absurd (cc e)
+get_map g (y ∷ xs) zero x e = let same : y ≡ x = cc e in ap (λ z. Some (g z)) same
+get_map g (y ∷ xs) (suc k) x e = get_map g xs k x e
+
+pub got_map : {X Y : Type 0} (g : X → Y) (xs : List X) (k : ℕ) (y : Y)
+    → slice_get (map g xs) k ≡ Some y → (x : X) × (slice_get xs k ≡ Some x) × (g x ≡ y)
+got_map g [] k y e = absurd (cc e)
+got_map g (x ∷ xs) zero y e = (x, refl, cc e)
+got_map g (x ∷ xs) (suc k) y e = got_map g xs k y e
+
+-- of a pairing the parts stand at one place
+pub zip_place : {X Y : Type 0} (R : X → Y → Type 0) (xs : List X) (ys : List Y) (i : ℕ) (y : Y)
+    → AllZip R xs ys → slice_get ys i ≡ Some y → (x : X) × (slice_get xs i ≡ Some x) × R x y
+zip_place R xs [] i y h at = absurd (cc at)
+zip_place R [] (z ∷ ys) i y h at = absurd h
+zip_place R (x ∷ xs) (z ∷ ys) zero y h at = let same : z ≡ y = cc at in
+    (x, refl, subst (R x) same h.0)
+zip_place R (x ∷ xs) (z ∷ ys) (suc i) y h at = zip_place R xs ys i y h.1 at

@@ -24,7 +24,7 @@ use Rattle.reflect_pool.specs.Parts.{no_value, type_of_value}
 use Rattle.reflect_scalar.specs.Defaults.{narrow, narrow_unsigned, named_in, declared_in, kind_default}
 use Rattle.reflect_scalar.specs.Singles.{Single, truth, int32, int64, uint32, uint64, text, blob, enumerated}
 use Rattle.protobuf_model.specs.Scalars.{Suits}
-use Rattle.linked_messages.specs.Kept.{HasNumbers, HaveNumbers}
+use Rattle.message_view.specs.Sound.{HasNumbers, HaveNumbers}
 use Rattle.reflect_message.specs.KindTypes.{IsScalarType}
 use Rattle.message_view.specs.Singles.{scalar_of, single_view}
 use Rattle.linked_messages.proofs.Among.{of_all, of_find}

@@ -1,11 +1,12 @@
 -- A batch that brings a message with a map and a packed list, and the type of the map's entries:
 -- the pool that it becomes is sound, whatever is stored of them besides.
-use Rattle.std.proofs.Common.{◌≡◌, ◌⊎◌, inl, inr, ◌==◌, ℕ, zero, suc, pos, true, [], ◌∷◌, map, Some, is_some, refl, sym, ap, ◌∙◌, subst, slice_get, arith}
+use Rattle.std.proofs.Common.{◌≡◌, ◌⊎◌, inl, inr, ◌<◌, ◌==◌, ℕ, zero, suc, pos, true, cond, List, [], ◌∷◌, map, length, Some, is_some, refl, sym, ap, ◌∙◌, subst, slice_get, slice_index_or, arith}
 use Rattle.std.specs.List.{find}
 use Rattle.reflect_tables.specs.Types.{PoolType, FieldType, MessageType, no_field, no_type}
 use Rattle.reflect_tables.specs.Types as types
 use Rattle.reflect_tables.specs.Views.{message_of, enum_of, extension_of}
 use Rattle.reflect_tables.specs.declared.kind.Cardinality.TheVariants.{Repeated}
+use Rattle.reflect_tables.specs.declared.stored.StoredEntry.{StoredEntry}
 use Rattle.reflect_tables.specs.declared.stored.StoredMessage.{StoredMessage}
 use Rattle.reflect_pool.specs.Linked.{empty_pool}
 use Rattle.reflect_index.specs.declared.batch.Batch.{Batch}
@@ -13,12 +14,13 @@ use Rattle.reflect_message.specs.KindTypes.{IsScalarType}
 use Rattle.reflect_decode.specs.Refused.{IsKeyKind}
 use Rattle.reflect_scalar.specs.Defaults.{default_in}
 use Rattle.reflect_scalar.specs.Singles.{int32, int64}
-use Rattle.message_view.specs.Sound.{IsSound}
+use Rattle.message_view.specs.Sound.{IsFieldNumber, IsSound}
 use Rattle.linked_messages.specs.Kept.{IsKept}
-use Rattle.linked_messages.proofs.Among.{Among}
+use Rattle.linked_messages.proofs.Among.{Among, get_map}
 use Rattle.linked_messages.proofs.Defaults.{HasOne}
-use Rattle.linked_messages.proofs.Fields.{IsList, HasParts, get_map}
-use Rattle.linked_messages.proofs.Sound.{BringsWell, grown_sound}
+use Rattle.linked_messages.proofs.Fields.{IsList, HasParts}
+use Rattle.linked_messages.proofs.Ruled.{HasPart}
+use Rattle.linked_messages.proofs.Sound.{FieldsWell, BringsWell, grown_sound}
 use Rattle.linked_messages.proofs.Stays.{empty_sound}
 
 -- message M { map<int32, int64> sums = 1; repeated int32 marks = 2; }
@@ -79,6 +81,54 @@ has_default t (inr same) f h =
     (λ scalar. (int64 (pos 0), refl, record { sfits = omega arith }))
     (subst (λ (t : MessageType). Among f t.fields) same h)
 
+-- two fields have the numbers 1 and 2, and none is kept for extensions
+module _ (t : MessageType) (a b : FieldType) (one : a.number ≡ 1) (two : b.number ≡ 2) where
+  abbrev both : List FieldType
+  both = a ∷ b ∷ []
+
+  abbrev place_of : ℕ → ℕ
+  place_of n = cond (n == 1) 0 1
+
+  numbered : (j : ℕ) → j < length both → IsFieldNumber (slice_index_or both j no_field).number
+  numbered zero lt = subst IsFieldNumber (sym one) (omega arith, omega arith)
+  numbered (suc zero) lt = subst IsFieldNumber (sym two) (omega arith, omega arith)
+  numbered (suc (suc j)) lt = absurd (omega (arith, lt))
+
+  found_back : (j : ℕ) → j < length both → place_of (slice_index_or both j no_field).number ≡ j
+  found_back zero lt = ap place_of one
+  found_back (suc zero) lt = ap place_of two
+  found_back (suc (suc j)) lt = absurd (omega (arith, lt))
+
+  fields_well : FieldsWell (record t { fields = both; extension_ranges = [] })
+  fields_well = record {
+    numbered = λ j lt. record {
+      is = numbered j lt;
+      free = λ k d less. absurd (omega (arith, less));
+    };
+    apart = λ j k lt less e. sym (found_back j lt) ∙ ap place_of e ∙ found_back k less;
+  }
+
+well : (t : MessageType) → (t ≡ the_message) ⊎ (t ≡ the_entry) → FieldsWell t
+well t (inl same) =
+    subst FieldsWell (sym same) (fields_well the_message the_sums the_marks refl refl)
+well t (inr same) = subst FieldsWell (sym same) (fields_well the_entry the_key the_value refl refl)
+
+abbrev HasPlaces : StoredEntry → List FieldType → Type 0
+HasPlaces e fs = HasPart fs 1 e.key × HasPart fs 2 e.value
+
+places_of : (t : MessageType) (e : StoredEntry) → (t ≡ the_message) ⊎ (t ≡ the_entry)
+    → t.entry ≡ Some e → HasPlaces e t.fields
+places_of t e (inl same) is =
+    absurd (cc (sym (ap (λ (t : MessageType). t.entry) same) ∙ is))
+places_of t e (inr same) is =
+    let place : record { key = 0; value = 1 } ≡ e =
+    cc (sym (ap (λ (t : MessageType). t.entry) same) ∙ is) in
+    subst (λ (t : MessageType). HasPlaces e t.fields) (sym same)
+    (subst (λ e. HasPlaces e (the_key ∷ the_value ∷ [])) place (
+      record { at = record { there = omega arith; number = refl }; one = refl },
+      record { at = record { there = omega arith; number = refl }; one = refl },
+    ))
+
 -- the batch has these types and no enums or extensions, and says of the second that it is a map's
 -- entry; and what each pool has by its type the pool has
 module _ (b : Batch) (stored : map message_of b.messages.items ≡ the_message ∷ the_entry ∷ [])
@@ -131,9 +181,11 @@ module _ (b : Batch) (stored : map message_of b.messages.items ≡ the_message �
     keys = λ k m f at e found. key_of m f (which k m at) e found;
     lists = λ k m f at h. is_list (message_of m) (which k m at) f h;
     defaults = λ k m f at h scalar. has_default (message_of m) (which k m at) f h scalar;
+    places = λ k m e at is. places_of (message_of m) e (which k m at) is;
+    fields = λ k m at. well (message_of m) (which k m at);
     extensions = λ x h. absurd (subst (Among x) extensions h);
   }
 
   the_pool_is_sound : IsSound the_pool
   the_pool_is_sound = grown_sound empty_pool the_pool b (sym stored) (sym enums) (sym extensions)
-      empty_sound brings kept.pooled kept.names
+      empty_sound brings kept.pooled kept.names kept.extensions kept.numbers

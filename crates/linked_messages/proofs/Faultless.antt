@@ -1,5 +1,5 @@
 -- What holds of each declaration in which no pass finds a fault.
-use Rattle.std.proofs.Common.{◌≡◌, inl, inr, ℕ, ℤ, pos, negsuc, Bool, true, false, not, cond, ◌&&◌, List, [], ◌∷◌, ◌++◌, Option, None, Some, String, string_bytes, refl, sym, ◌∙◌, subst, arith}
+use Rattle.std.proofs.Common.{◌≡◌, inl, inr, ℕ, ℤ, pos, negsuc, Bool, true, false, not, cond, ◌&&◌, List, [], ◌∷◌, ◌++◌, map, Option, None, Some, String, string_bytes, refl, sym, ap, ◌∙◌, subst, arith}
 use Rattle.std.specs.declared.alloc.Global.{Global}
 use Rattle.descriptor_records.specs.declared.field.FieldDescriptorProto.{FieldDescriptorProto}
 use Rattle.reflect_scope.specs.declared.definition.DefinitionKind.{DefinitionKind}
@@ -9,33 +9,62 @@ use Rattle.reflect_scope.specs.Means.{Meaning, means, not_found, wrong_kind, sha
 use Rattle.reflect_walk.specs.Tree.{MessageParts}
 use Rattle.reflect_walk.specs.MapEntries.{says_entry}
 use Rattle.reflect_walk.specs.Declarations.{Declaration, of_message, of_field}
-use Rattle.reflect_names.specs.Faults.{Fault, Place as Spot}
+use Rattle.reflect_names.specs.Faults.{Fault, Place as Spot, duplicate_number}
 use Rattle.reflect_names.specs.Names.{Places}
 use Rattle.reflect_names.specs.References.{View, meaning_of, kind_meant, suits, unmet, mismatch, type_name_faults, type_faults, label_faults, reference_faults_at}
 use Rattle.reflect_names.specs.ReferencePass.{reference_faults_along}
 use Rattle.reflect_rules.specs.MapEntries.{is_key_type, has_entry_shape}
+use Rattle.reflect_rules.specs.Repeats.{repeat_faults}
 use Rattle.reflect_rules.specs.RulePass.{FaultsAlong}
 use Rattle.reflect_rules.specs.Rules.{Values, FaultsOf, entry_faults, is_one_map}
 use Rattle.reflect_rules.specs.Walks.{Facts, Place, place_behind}
+use Rattle.reflect_references.specs.Meanings.{rest_behind}
+use Rattle.reflect_index.specs.Along.{AtHand, Met, along, met, before_files, hand_behind}
 use Rattle.linked_messages.proofs.Among.{Among}
 
-none_both : {X : Type 0} (a b : List X) → a ++ b ≡ [] → (a ≡ []) × (b ≡ [])
+pub none_both : {X : Type 0} (a b : List X) → a ++ b ≡ [] → (a ≡ []) × (b ≡ [])
 none_both [] b e = (refl, e)
 none_both (x ∷ a) b e = absurd (cc e)
 
--- the rules find nothing wrong with any of them
+-- the rules find nothing wrong with any of them, where the references at hand are those of the walk
+pub rules_met : (g : Facts) (values : Values) (at : ℕ → Places) (h : AtHand) (p : Place)
+    (ds : List Declaration) (xs : List Fault) → FaultsAlong g values at p ds xs → xs ≡ []
+    → p.rest ≡ h.rest → (m : Met) → Among m (along h ds) → (q : Place) × (q.rest ≡ m.hand.rest)
+    × FaultsOf g values q (at m.declaration.file) m.declaration []
+rules_met g values at h p [] xs ruled none same m k = absurd k
+rules_met g values at h p (e ∷ ds) xs (ys, zs, here, rest, is) none same m (inl first) =
+    subst (λ (m : Met). (q : Place) × (q.rest ≡ m.hand.rest)
+    × FaultsOf g values q (at m.declaration.file) m.declaration []) first (
+      p,
+      same,
+      subst (FaultsOf g values p (at e.file) e) (none_both ys zs (sym is ∙ none)).0 here,
+    )
+rules_met g values at h p (e ∷ ds) xs (ys, zs, here, rest, is) none same m (inr later) =
+    rules_met g values at (hand_behind h e) (place_behind p e) ds zs rest
+    (none_both ys zs (sym is ∙ none)).1 (ap (rest_behind e) same) m later
+
+-- each is met along the walk
+is_met : (h : AtHand) (ds : List Declaration) (d : Declaration) → Among d ds → (m : Met)
+    × Among m (along h ds) × (m.declaration ≡ d)
+is_met h [] d k = absurd k
+is_met h (e ∷ ds) d (inl same) = (met h e, inl refl, same)
+is_met h (e ∷ ds) d (inr later) = let found = is_met (hand_behind h e) ds d later in
+    (found.0, inr found.1, found.2)
+
+-- and what is met is one of them
+pub of_along : (h : AtHand) (ds : List Declaration) (m : Met) → Among m (along h ds)
+    → Among m.declaration ds
+of_along h [] m k = absurd k
+of_along h (d ∷ ds) m (inl same) = inl (ap (λ (x : Met). x.declaration) same)
+of_along h (d ∷ ds) m (inr later) = inr (of_along (hand_behind h d) ds m later)
+
 pub rules_at : (g : Facts) (values : Values) (at : ℕ → Places) (p : Place) (ds : List Declaration)
     (xs : List Fault) → FaultsAlong g values at p ds xs → xs ≡ [] → (d : Declaration) → Among d ds
     → (q : Place) × FaultsOf g values q (at d.file) d []
-rules_at g values at p [] xs h none d k = absurd k
-rules_at g values at p (e ∷ ds) xs (ys, zs, here, rest, is) none d (inl same) =
-    let parts = none_both ys zs (sym is ∙ none) in (
-      p,
-      subst (λ (x : Declaration). FaultsOf g values p (at x.file) x []) same
-          (subst (FaultsOf g values p (at e.file) e) parts.0 here),
-    )
-rules_at g values at p (e ∷ ds) xs (ys, zs, here, rest, is) none d (inr later) =
-    rules_at g values at (place_behind p e) ds zs rest (none_both ys zs (sym is ∙ none)).1 d later
+rules_at g values at p ds xs ruled none d k =
+    let m = is_met (before_files p.rest) ds d k in
+    let rule = rules_met g values at (before_files p.rest) p ds xs ruled none refl m.0 m.1 in
+    (rule.0, subst (λ (x : Declaration). FaultsOf g values rule.0 (at x.file) x []) m.2 rule.2)
 
 shaped : (says shape used : Bool) (x : Fault) → says ≡ true
     → cond (says && not (shape && used)) (x ∷ []) [] ≡ [] → shape ≡ true
@@ -53,6 +82,16 @@ entry_shape g values q at d own h is says =
     shaped (says_entry own.options) (has_entry_shape own.field) (is_one_map (g.uses d.index)) _ says
     (none_both (entry_faults at d.path d.name (g.uses d.index) own) _ (sym here)).0
 
+-- the numbers of its fields repeat none
+pub repeats_none : (g : Facts) (values : Values) (q : Place) (at : Places) (d : Declaration)
+    (own : MessageParts) → FaultsOf g values q at d [] → d.body ≡ of_message own
+    → repeat_faults duplicate_number (pos 2) (pos 3) d.path at
+    (map (λ (f : FieldDescriptorProto). f.number) own.field) ≡ []
+repeats_none g values q at d own h is =
+    let here : FaultsOf g values q at (record d { body = of_message own }) [] =
+    subst (λ b. FaultsOf g values q at (record d { body = b }) []) is h in
+    (none_both (entry_faults at d.path d.name (g.uses d.index) own) _ (sym here)).1
+
 -- no reference of any of them is at fault
 pub references_at : (at : ℕ → Places) (views : ℕ → View) (ds : List Declaration)
     → reference_faults_along at views ds ≡ [] → (d : Declaration) → Among d ds
@@ -67,17 +106,19 @@ references_at at views (e ∷ ds) none d (inr later) =
     (none_both (reference_faults_at (at e.file) (views e.file) e)
     (reference_faults_along at views ds) none).1 d later
 
-unfaulted : (b : Bool) (x : Fault) → cond b [] (x ∷ []) ≡ [] → b ≡ true
+pub unfaulted : (b : Bool) (x : Fault) → cond b [] (x ∷ []) ≡ [] → b ≡ true
 unfaulted true x e = refl
 unfaulted false x e = absurd (cc e)
 
-met : (at : Places) (path : List ℤ) (number : Option ℤ) (m : Meaning) (name : List ℕ) (place : Spot)
+is_meant : (at : Places) (path : List ℤ) (number : Option ℤ) (m : Meaning) (name : List ℕ)
+    (place : Spot)
     → unmet m name place ++ mismatch at path number (kind_meant m) ≡ [] → (k : DefinitionKind)
     × (suits number k ≡ true)
-met at path number (means full d) name place none = (d.kind, unfaulted (suits number d.kind) _ none)
-met at path number not_found name place none = absurd (cc none)
-met at path number wrong_kind name place none = absurd (cc none)
-met at path number (shadowed full) name place none = absurd (cc none)
+is_meant at path number (means full d) name place none =
+    (d.kind, unfaulted (suits number d.kind) _ none)
+is_meant at path number not_found name place none = absurd (cc none)
+is_meant at path number wrong_kind name place none = absurd (cc none)
+is_meant at path number (shadowed full) name place none = absurd (cc none)
 
 -- a field whose type has a name has a type that may have one
 pub named_suits : (at : Places) (v : View) (d : Declaration) (r : FieldDescriptorProto)
@@ -91,7 +132,7 @@ named_suits at v d r name none is named =
     let whole : type_name_faults at v d.path d.name (record r { type_name = Some name }) ≡ [] =
     subst (λ o. type_name_faults at v d.path d.name (record r { type_name = o }) ≡ []) named
     types.1 in
-    met at d.path r.field_type (meaning_of v filter.FieldType d.name (string_bytes name))
+    is_meant at d.path r.field_type (meaning_of v filter.FieldType d.name (string_bytes name))
     (string_bytes name) _ whole
 
 -- the type of a key may have none

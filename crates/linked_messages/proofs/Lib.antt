@@ -1,7 +1,13 @@
 pub mod Among
+pub mod Following
 pub mod Declared
 pub mod Defaults
 pub mod Faultless
+pub mod Numbers
+pub mod Apart
+pub mod Parts
+pub mod Ranges
+pub mod Ruled
 pub mod Fields
 pub mod Grown
 pub mod Sound

@@ -1,11 +1,17 @@
 -- A sound pool stays sound as the entries of a batch without faults stand behind its own.
-use Rattle.std.proofs.Common.{◌≡◌, ◌⊎◌, inl, inr, ◌<◌, ◌++◌, ℕ, Bool, true, false, cond, ◌&&◌, ◌==◌, List, [], map, length, Option, None, Some, is_some, refl, sym, ap, ◌∙◌, subst, slice_get}
+use Rattle.std.proofs.Common.{◌≡◌, ◌⊎◌, inl, inr, ◌<◌, ◌≤◌, ◌-◌, ◌++◌, ℕ, pos, Bool, true, false, cond, ◌&&◌, ◌==◌, List, [], map, length, Option, None, Some, is_some, refl, sym, ap, ◌∙◌, subst, arith, length-append, slice_get, slice_index_or}
+use Rattle.std.proofs.Math.ListN.{get_or-append}
+use Rattle.std.proofs.Math.Seq.{get_or-append_right}
+use Rattle.std.proofs.lemmas.Bool.{cases_lt}
+use Rattle.std.proofs.lemmas.List.Elements.{All-contains}
 use Rattle.std.proofs.lemmas.List.Folds.{find-append}
 use Rattle.std.specs.List.{find}
 use Rattle.std.specs.Option.{option_and_then, option_or}
-use Rattle.reflect_tables.specs.Types.{PoolType, FieldType, KindType, MessageType, ExtensionType, IsWithin, ExtensionWithin, ArePooled, counts_of, type_at}
+use Rattle.reflect_tables.specs.Types.{PoolType, FieldType, KindType, MessageType, ExtensionType, IsWithin, ExtensionWithin, ArePooled, counts_of, no_field, type_at, extension_at}
 use Rattle.reflect_tables.specs.Types as types
 use Rattle.reflect_tables.specs.Views.{message_of, enum_of, extension_of}
+use Rattle.reflect_tables.specs.Ranges.{IsIn, IsRangeOf}
+use Rattle.reflect_tables.specs.declared.stored.StoredEntry.{StoredEntry}
 use Rattle.reflect_tables.specs.declared.stored.StoredMessage.{StoredMessage}
 use Rattle.reflect_pool.specs.Shapes.{is_repeated, is_entry}
 use Rattle.reflect_fields.specs.Fields as fields
@@ -20,14 +26,16 @@ use Rattle.protobuf_model.specs.Values as model
 use Rattle.reflect_decode.specs.Refused.{IsKeyKind, IsKeyValue}
 use Rattle.message_view.specs.Singles.{scalar_of, single_view}
 use Rattle.message_laws.specs.MapKeys.{HaveMapKeys}
-use Rattle.message_view.specs.Sound.{HaveNames, HaveEntryFields, HaveEntryDefaults, HasField, HaveLists, IsSound}
+use Rattle.message_view.specs.Sound.{HaveNames, HaveEntryFields, IsPartAt, HaveEntryParts, HaveEntryDefaults, HasField, HaveLists, HaveNumbers, IsFieldNumber, IsNotKept, IsSound}
 use Rattle.message_view.specs.Types.{kind_in}
 use Rattle.message_view.proofs.Entries.{key_scalar}
 use Rattle.message_view.proofs.Fields.{held_is}
-use Rattle.linked_messages.proofs.Among.{Among, of_all, of_find}
+use Rattle.linked_messages.proofs.Among.{Among, of_all, of_find, of_place, get_at}
 use Rattle.linked_messages.proofs.Defaults.{HasOne, IsOfKind}
 use Rattle.linked_messages.proofs.Fields.{IsList, HasParts}
-use Rattle.linked_messages.proofs.Grown.{IsNew, field_within, which_type, entry_stays, part_stays, floats_stay, default_stays}
+use Rattle.linked_messages.proofs.Ruled.{HasPart, IsNumbered, IsKeptIn}
+use Rattle.linked_messages.specs.Kept.{ExtensionsAreApart}
+use Rattle.linked_messages.proofs.Grown.{IsNew, type_stays, field_within, which_type, entry_stays, part_stays, floats_stay, default_stays}
 
 -- what a value of a key's kind is
 key_value : (k : KindType) (v : Single) → IsKeyKind k → IsOfKind k v → IsKeyValue (Some v)
@@ -56,6 +64,14 @@ packs_same : (p q : PoolType) (group : Bool) (k : KindType)
 packs_same p q group (types.message i) = refl
 packs_same p q group k = refl
 
+-- the numbers of a type's fields are numbers of fields that it does not keep, each of one field
+pub record FieldsWell (t : MessageType) : Type 0 where
+  pub numbered : (j : ℕ) → j < length t.fields
+      → IsNumbered t.extension_ranges (slice_index_or t.fields j no_field)
+  pub apart : (j k : ℕ) → j < length t.fields → k < length t.fields
+      → (slice_index_or t.fields j no_field).number
+      ≡ (slice_index_or t.fields k no_field).number → j ≡ k
+
 -- what the messages and extensions of a batch have in the pool that they become part of
 pub record BringsWell (pool : PoolType) (b : Batch) : Type 0 where
   pub parts : (k : ℕ) (m : StoredMessage) → slice_get b.messages.items k ≡ Some m
@@ -67,8 +83,13 @@ pub record BringsWell (pool : PoolType) (b : Batch) : Type 0 where
       → Among f (message_of m).fields → IsList f
   pub defaults : (k : ℕ) (m : StoredMessage) (f : FieldType) → slice_get b.messages.items k ≡ Some m
       → Among f (message_of m).fields → IsScalarType f.kind → HasOne f.kind (default_in pool f)
+  pub places : (k : ℕ) (m : StoredMessage) (e : StoredEntry) → slice_get b.messages.items k ≡ Some m
+      → m.entry ≡ Some e → HasPart (message_of m).fields 1 e.key
+      × HasPart (message_of m).fields 2 e.value
+  pub fields : (k : ℕ) (m : StoredMessage) → slice_get b.messages.items k ≡ Some m
+      → FieldsWell (message_of m)
   pub extensions : (x : ExtensionType) → Among x (map extension_of b.extensions.items)
-      → IsList x.field
+      → IsList x.field × IsKeptIn (type_at pool x.extendee).extension_ranges x
 
 -- so a list of the pool has no presence, and is packed where values of its kind can be
 record ListsWell (pool : PoolType) (f : FieldType) : Type 0 where
@@ -249,7 +270,7 @@ module _ (old new : PoolType) (b : Batch)
     by None is (Some x) also =
         let held = kept x (all ∙ ap (λ o. option_or o (find test more)) is ∙ also) in
         subst (ListsWell new) held.1
-        (listed new x.field (brings.extensions x (of_find test x more also).0))
+        (listed new x.field (brings.extensions x (of_find test x more also).0).0)
     by None is None also =
         absurd (cc (sym (ap (option_and_then (λ (x : ExtensionType). if_held new x.field))
         (all ∙ ap (λ o. option_or o (find test more)) is ∙ also)) ∙ known))
@@ -263,14 +284,119 @@ module _ (old new : PoolType) (b : Batch)
     either i n f (inl known) = field_listed i n f known
     either i n f (inr known) = extension_listed i n f known
 
-  pub grown_sound : ArePooled new → HaveNames new → IsSound new
-  grown_sound pooled names =
+  -- ---- numbers
+
+  module _ (i : ℕ) where
+    fields_well : FieldsWell (type_at new i)
+    fields_well = by (which_type old new b messages enums i) where
+      by : (i < length old.messages) ⊎ (IsNew b (type_at new i) ⊎ (type_at new i ≡ types.no_type))
+          → FieldsWell (type_at new i)
+      by (inl lt) = subst FieldsWell (sym (type_stays old new b messages enums i lt)) (record {
+        numbered = λ j less. record {
+          is = sound.numbers.fields i j less;
+          free = sound.apart.free i j less;
+        };
+        apart = sound.apart.fields i;
+      })
+      by (inr (inl (k, m, at, type))) = subst FieldsWell (sym type) (brings.fields k m at)
+      by (inr (inr none)) = subst FieldsWell (sym none) (record {
+        numbered = λ j less. absurd (omega (arith, less));
+        apart = λ j l lt less e. absurd (omega (arith, lt));
+      })
+
+    places_of : (t : MessageType) → type_at new i ≡ t → (n place : ℕ) → HasPart t.fields n place
+        → IsPartAt new i n place
+    places_of t type n place h =
+        let part = subst (λ (t : MessageType). HasPart t.fields n place) (sym type) h in
+        record { there = part.at.there; number = part.at.number; one = part.one }
+
+    was_part : (n place : ℕ) → IsPartAt old i n place → HasPart (type_at old i).fields n place
+    was_part n place h =
+        record { at = record { there = h.there; number = h.number }; one = h.one }
+
+  parts : HaveEntryParts new
+  parts i e is = by (which_type old new b messages enums i) where
+    by : (i < length old.messages) ⊎ (IsNew b (type_at new i) ⊎ (type_at new i ≡ types.no_type))
+        → IsPartAt new i 1 e.key × IsPartAt new i 2 e.value
+    by (inl lt) =
+        let type = type_stays old new b messages enums i lt in
+        let both = sound.parts i e (sym (ap (λ (t : MessageType). t.entry) type) ∙ is) in (
+          places_of i (type_at old i) type 1 e.key (was_part i 1 e.key both.0),
+          places_of i (type_at old i) type 2 e.value (was_part i 2 e.value both.1),
+        )
+    by (inr (inl (k, m, at, type))) =
+        let both = brings.places k m e at (sym (ap (λ (t : MessageType). t.entry) type) ∙ is) in (
+          places_of i (message_of m) type 1 e.key both.0,
+          places_of i (message_of m) type 2 e.value both.1,
+        )
+    by (inr (inr none)) = absurd (cc (sym (ap (λ (t : MessageType). t.entry) none) ∙ is))
+
+  -- an extension of the old pool is as it was, and so is the message that it extends
+  was_kept : (x : ExtensionType) (k : ℕ) → k < length old.extensions → extension_at old k ≡ x
+      → IsFieldNumber x.field.number × (IsNotKept new x.extendee x.field.number → ⊥)
+  was_kept x k lt is = subst (λ (x : ExtensionType). IsFieldNumber x.field.number
+      × (IsNotKept new x.extendee x.field.number → ⊥)) is (
+        sound.numbers.extensions k lt,
+        λ none. sound.apart.kept k lt
+            (subst (λ (t : MessageType). IsRangeOf t.extension_ranges
+            (pos (extension_at old k).field.number) None)
+            (type_stays old new b messages enums (extension_at old k).extendee
+            (of_all (ExtensionWithin (counts_of old)) (extension_at old k) old.extensions
+            sound.pooled.extensions
+            (of_place (extension_at old k) old.extensions k
+            (get_at old.extensions k types.no_extension lt))).extendee) none),
+      )
+
+  brings_kept : (x : ExtensionType) → Among x (map extension_of b.extensions.items)
+      → IsFieldNumber x.field.number × (IsNotKept new x.extendee x.field.number → ⊥)
+  brings_kept x h = let kept = (brings.extensions x h).1 in (
+    kept.is,
+    λ none. All-contains (λ q. IsIn (pos x.field.number) q → ⊥)
+        (type_at new x.extendee).extension_ranges kept.range none kept.kept.0 kept.kept.1,
+  )
+
+  extension_kept : (k : ℕ) → k < length new.extensions
+      → IsFieldNumber (extension_at new k).field.number
+      × (IsNotKept new (extension_at new k).extendee (extension_at new k).field.number → ⊥)
+  extension_kept k lt = by (cases_lt k (length old.extensions)) where
+    more : List ExtensionType
+    more = map extension_of b.extensions.items
+
+    by : (k < length old.extensions) ⊎ (length old.extensions ≤ k)
+        → IsFieldNumber (extension_at new k).field.number
+        × (IsNotKept new (extension_at new k).extendee (extension_at new k).field.number → ⊥)
+    by (inl less) = was_kept (extension_at new k) k less
+        (sym (ap (λ l. slice_index_or l k types.no_extension) extensions
+        ∙ get_or-append old.extensions more types.no_extension k less))
+    by (inr le) =
+        let count = ap (λ (l : List ExtensionType). length l) extensions
+        ∙ length-append old.extensions more in
+        brings_kept (extension_at new k)
+        (of_place (extension_at new k) more (k - length old.extensions)
+        (get_at more (k - length old.extensions) types.no_extension (omega (arith, lt, le, count))
+        ∙ ap Some (sym (ap (λ l. slice_index_or l k types.no_extension) extensions
+        ∙ get_or-append_right old.extensions more k types.no_extension le))))
+
+  pub grown_sound : ArePooled new → HaveNames new → ExtensionsAreApart new → HaveNumbers new → IsSound new
+  grown_sound pooled names one values =
       record {
         pooled = pooled;
         names = names;
         keys = keys;
         entries = entries;
+        parts = parts;
         defaults =
             defaults;
         lists = lists;
+        values = values;
+        numbers = record {
+          fields = λ i j lt. ((fields_well i).numbered j lt).is;
+          extensions = λ k lt. (extension_kept k lt).0;
+        };
+        apart = record {
+          fields = λ i j k lt less e. (fields_well i).apart j k lt less e;
+          extensions = one;
+          kept = λ k lt none. (extension_kept k lt).1 none;
+          free = λ i j lt. ((fields_well i).numbered j lt).free;
+        };
       }

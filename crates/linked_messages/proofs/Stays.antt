@@ -1,11 +1,11 @@
 -- The empty pool is sound, and so is a sound one whose options are settled.
-use Rattle.std.proofs.Common.{inl, inr, List, sym, subst, arith}
+use Rattle.std.proofs.Common.{inl, inr, ℕ, List, sym, subst, arith}
 use Rattle.descriptor_records.specs.declared.file.FileDescriptorProto.{FileDescriptorProto}
 use Rattle.reflect_tables.specs.Types.{PoolType, IsSettled}
 use Rattle.reflect_tables.specs.Types as types
 use Rattle.reflect_pool.specs.Linked.{empty_pool}
 use Rattle.message_laws.specs.MapKeys.{HaveMapKeys}
-use Rattle.message_view.specs.Sound.{HaveEntryFields, HaveEntryDefaults, HasField, IsSound}
+use Rattle.message_view.specs.Sound.{HaveEntryFields, IsPartAt, HaveEntryDefaults, HasField, IsSound}
 
 empty_keys : HaveMapKeys empty_pool
 empty_keys (types.message i) f is found = absurd (cc is)
@@ -45,13 +45,29 @@ empty_sound = record {
   names = λ i k lt less e. absurd (omega (arith, lt));
   keys = empty_keys;
   entries = empty_entries;
+  parts = λ i e is. absurd (cc is);
   defaults = empty_defaults;
   lists = record {
     unset = λ i n f has. absurd (no_fields i n f has);
     packed =
         λ i n f has. absurd (no_fields i n f has);
   };
+  values = tt;
+  numbers = record {
+    fields = λ i j lt. absurd (omega (arith, lt));
+    extensions = λ k lt. absurd (omega (arith, lt));
+  };
+  apart = record {
+    fields = λ i j k lt less e. absurd (omega (arith, lt));
+    extensions = λ j k lt less to e. absurd (omega (arith, lt));
+    kept = λ k lt none. absurd (omega (arith, lt));
+    free = λ i j lt. absurd (omega (arith, lt));
+  };
 }
+
+same_part : (old : PoolType) (records : List FileDescriptorProto) (i n place : ℕ)
+    → IsPartAt old i n place → IsPartAt (record old { records = records }) i n place
+same_part old records i n place h = record { there = h.there; number = h.number; one = h.one }
 
 -- records of files say nothing of messages
 with_records : (old : PoolType) (records : List FileDescriptorProto) → IsSound old
@@ -70,8 +86,18 @@ with_records old records h = record {
   names = h.names;
   keys = h.keys;
   entries = h.entries;
+  parts = λ i e is. (let both = h.parts i e is in
+      (same_part old records i 1 e.key both.0, same_part old records i 2 e.value both.1));
   defaults = h.defaults;
   lists = record { unset = h.lists.unset; packed = h.lists.packed };
+  values = h.values;
+  numbers = record { fields = h.numbers.fields; extensions = h.numbers.extensions };
+  apart = record {
+    fields = h.apart.fields;
+    extensions = h.apart.extensions;
+    kept = h.apart.kept;
+    free = h.apart.free;
+  };
 }
 
 pub settled_sound : (old new : PoolType) → IsSettled old new → IsSound old → IsSound new

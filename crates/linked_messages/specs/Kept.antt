@@ -1,20 +1,19 @@
 -- What each pool has by its type alone.
-use Rattle.std.specs.Prelude.{FitsSigned}
-use Rattle.std.specs.Int.{w32}
-use Rattle.std.specs.List.{AllByRecursion}
-use Rattle.message_view.specs.Sound.{HaveNames}
-use Rattle.reflect_tables.specs.Types.{PoolType, EnumType, ValueType, ArePooled}
+use Rattle.std.specs.Prelude.{◌≡◌, ◌<◌, ℕ, length}
+use Rattle.message_view.specs.Sound.{HaveNames, HaveNumbers}
+use Rattle.reflect_tables.specs.Types.{PoolType, ArePooled, extension_at}
 
--- the numbers of an enum's values are numbers of 32 bits
-abbrev pub HasNumbers : EnumType → Type 0
-HasNumbers e = AllByRecursion (λ (v : ValueType). FitsSigned w32 v.number) e.values
+-- no two extensions of one message have one number
+abbrev pub ExtensionsAreApart : PoolType → Type 0
+ExtensionsAreApart pool =
+    (j k : ℕ) → j < length pool.extensions → k < length pool.extensions
+    → (extension_at pool j).extendee ≡ (extension_at pool k).extendee
+    → (extension_at pool j).field.number ≡ (extension_at pool k).field.number → j ≡ k
 
-abbrev pub HaveNumbers : PoolType → Type 0
-HaveNumbers pool = AllByRecursion HasNumbers pool.enums
-
--- what entries name is there, no two messages have one name, and the numbers of enum values are
--- such numbers
+-- what entries name is there, no two messages have one name, nor two extensions of one message one
+-- number, and the numbers of enum values are numbers of 32 bits
 pub record IsKept (pool : PoolType) : Type 0 where
   pub pooled : ArePooled pool
   pub names : HaveNames pool
   pub numbers : HaveNumbers pool
+  pub extensions : ExtensionsAreApart pool

@@ -14,7 +14,7 @@ use Rattle.protobuf_model.specs.Types as kinds
 use Rattle.protobuf_model.specs.Scalars.{Suits}
 use Rattle.reflect_decode.specs.Refused.{IsKeyKind, IsKeyValue}
 use Rattle.message_laws.specs.MapKeys.{HaveMapKeys}
-use Rattle.message_view.specs.Sound.{HaveNames, HaveEntryFields, HaveEntryDefaults, IsSound}
+use Rattle.message_view.specs.Sound.{HaveNames, HaveEntryFields, IsPartAt, HaveEntryParts, HaveEntryDefaults, IsSound}
 
 within_prop : (c : Counts) (k : KindType) → IsProp (IsWithin c k)
 within_prop c (types.message i) = hlevel props
@@ -116,6 +116,12 @@ found_prop set o p (x, y, e, f) (a, b, g, h) =
 entries_prop : (p : PoolType) → IsProp (HaveEntryFields p)
 entries_prop p = hlevel (found_prop option_set, props)
 
+part_prop : (p : PoolType) (i n place : ℕ) → IsProp (IsPartAt p i n place)
+part_prop p i n place = hlevel props
+
+entry_parts_prop : (p : PoolType) → IsProp (HaveEntryParts p)
+entry_parts_prop p = hlevel (part_prop, props)
+
 suits_prop : (k : Scalar) (v : Single) → IsProp (Suits k v)
 suits_prop kinds.int32 (model.int32 z) = hlevel props
 suits_prop kinds.int64 (model.int64 z) = hlevel props
@@ -137,4 +143,12 @@ defaults_prop : (p : PoolType) → IsProp (HaveEntryDefaults p)
 defaults_prop p = hlevel (suits_prop, props)
 
 pub IsSound-prop : (p : PoolType) → IsProp (IsSound p)
-IsSound-prop p = hlevel (pooled_prop, names_prop, keys_prop, entries_prop, defaults_prop, props)
+IsSound-prop p = hlevel (
+  pooled_prop,
+  names_prop,
+  keys_prop,
+  entries_prop,
+  entry_parts_prop,
+  defaults_prop,
+  props,
+)

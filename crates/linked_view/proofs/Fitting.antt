@@ -17,7 +17,7 @@ use Rattle.reflect_tables.specs.Views.{enum_of, value_of}
 use Rattle.reflect_tables.specs.declared.stored.StoredEnum.{StoredEnum}
 use Rattle.reflect_build.specs.Accepted.{FaultlessBatch}
 use Rattle.reflect_build.specs.Refusals.{Linking}
-use Rattle.linked_messages.specs.Kept.{HasNumbers, HaveNumbers}
+use Rattle.message_view.specs.Sound.{HasNumbers, HaveNumbers}
 use Rattle.schema_view.specs.Declarations as view
 use Rattle.schema_view.proofs.Lists.{contains_here, contains_there, contains_cases, contains_none, contains_map, contains_map_cases}
 use Rattle.linked_view.specs.Ruled.{Each}

@@ -1,10 +1,11 @@
 -- A pool that is sound: a message with a number, a packed list and a map.
-use Rattle.std.proofs.Common.{◌≡◌, inl, inr, ◌<◌, ℕ, pos, zero, suc, ◌==◌, true, false, [], ◌∷◌, Option, Some, None, refl, sym, ap, ◌∙◌, subst, arith}
+use Rattle.std.proofs.Common.{◌≡◌, inl, inr, ◌<◌, ℕ, pos, zero, suc, cond, length, ◌==◌, true, false, [], ◌∷◌, Option, Some, None, refl, sym, ap, ◌∙◌, subst, arith}
 use Rattle.std.specs.List.{AllByRecursion}
 use Rattle.std.specs.Option.{option_and_then}
 use Rattle.std.specs.Prelude.{slice_index_or}
-use Rattle.reflect_tables.specs.Types.{PoolType, FieldType, MessageType, ChildrenWithin, MessageWithin, ArePooled, counts_of, no_children, no_field, no_type, type_at}
+use Rattle.reflect_tables.specs.Types.{PoolType, FieldType, MessageType, ChildrenWithin, MessageWithin, ArePooled, counts_of, no_children, no_field, no_type, type_at, type_of_field}
 use Rattle.reflect_tables.specs.Types as types
+use Rattle.reflect_tables.specs.declared.stored.StoredEntry.{StoredEntry}
 use Rattle.reflect_tables.specs.declared.kind.Cardinality.TheVariants.{Repeated}
 use Rattle.reflect_tables.specs.declared.kind.Syntax.TheVariants.{Proto3}
 use Rattle.reflect_pool.specs.Shapes.{is_repeated}
@@ -17,7 +18,7 @@ use Rattle.protobuf_model.specs.Values as model
 use Rattle.protobuf_model.specs.Scalars.{Suits}
 use Rattle.protobuf_model.specs.Bytes.{is_packable}
 use Rattle.message_view.specs.Singles.{scalar_of}
-use Rattle.message_view.specs.Sound.{HaveNames, HaveEntryFields, HaveEntryDefaults, HasField, IsSound}
+use Rattle.message_view.specs.Sound.{HaveNames, HaveEntryFields, HaveEntryParts, IsPartAt, HaveEntryDefaults, HasField, IsFieldNumber, IsNotKept, IsSound}
 use Rattle.message_view.specs.Types.{kind_in, default_of, types_of}
 use Rattle.message_view.proofs.Admitting.{found_holds}
 use Rattle.message_view.proofs.Fields.{held_is}
@@ -142,12 +143,65 @@ of_field i n f (inl e) = by (numbered_field the_pool i n) refl where
   by None is = absurd (cc (sym (ap (option_and_then (if_held the_pool)) is) ∙ e))
   by (Some h) is = subst IsPlainList (held_is the_pool h f (sym (ap (option_and_then (if_held the_pool)) is) ∙ e)).1 (found_holds IsPlainList (λ (f : FieldType). f.number == n) (type_at the_pool i).fields h (plain_lists i) is)
 
+-- the entries of the map tell where their key and their value stand
+places : HaveEntryParts the_pool
+places zero e is = absurd (cc is)
+places (suc zero) e is =
+    let same : record { key = 0; value = 1 } ≡ e = cc is in
+    subst (λ (e : StoredEntry). IsPartAt the_pool 1 1 e.key × IsPartAt the_pool 1 2 e.value) same (
+      record { there = omega arith; number = refl; one = refl },
+      record { there = omega arith; number = refl; one = refl },
+    )
+places (suc (suc i)) e is = absurd (cc is)
+
+numbers : (i j : ℕ) → j < length (type_at the_pool i).fields
+    → IsFieldNumber (type_of_field the_pool i j).number
+numbers zero zero lt = (omega arith, omega arith)
+numbers zero (suc zero) lt = (omega arith, omega arith)
+numbers zero (suc (suc zero)) lt = (omega arith, omega arith)
+numbers zero (suc (suc (suc j))) lt = absurd (omega (arith, lt))
+numbers (suc zero) zero lt = (omega arith, omega arith)
+numbers (suc zero) (suc zero) lt = (omega arith, omega arith)
+numbers (suc zero) (suc (suc j)) lt = absurd (omega (arith, lt))
+numbers (suc (suc i)) j lt = absurd (omega (arith, lt))
+
+-- a number tells where its field stands
+abbrev place_of : ℕ → ℕ → ℕ
+place_of zero n = cond (n == 1) 0 (cond (n == 4) 1 2)
+place_of (suc i) n = cond (n == 1) 0 1
+
+found_back : (i j : ℕ) → j < length (type_at the_pool i).fields
+    → place_of i (type_of_field the_pool i j).number ≡ j
+found_back zero zero lt = refl
+found_back zero (suc zero) lt = refl
+found_back zero (suc (suc zero)) lt = refl
+found_back zero (suc (suc (suc j))) lt = absurd (omega (arith, lt))
+found_back (suc zero) zero lt = refl
+found_back (suc zero) (suc zero) lt = refl
+found_back (suc zero) (suc (suc j)) lt = absurd (omega (arith, lt))
+found_back (suc (suc i)) j lt = absurd (omega (arith, lt))
+
+-- no number is kept for extensions
+none_kept : (i n : ℕ) → IsNotKept the_pool i n
+none_kept zero n k d lt = absurd (omega (arith, lt))
+none_kept (suc zero) n k d lt = absurd (omega (arith, lt))
+none_kept (suc (suc i)) n k d lt = absurd (omega (arith, lt))
+
 sound : IsSound the_pool
 sound = record {
   pooled = pooled;
   names = names;
   keys = map_keys;
   entries = entry_parts;
+  parts = places;
   defaults = entry_defaults;
   lists = record { unset = λ i n f has. (of_field i n f has).0; packed = λ i n f has. (of_field i n f has).1 };
+  values = tt;
+  numbers = record { fields = numbers; extensions = λ k lt. absurd (omega (arith, lt)) };
+  apart = record {
+    fields = λ i j k lt less e. sym (found_back i j lt) ∙ ap (place_of i) e ∙ found_back i k less;
+    extensions = λ j k lt less to e. absurd (omega (arith, lt));
+    kept = λ k lt none. absurd (omega (arith, lt));
+    free = λ i j lt. none_kept i (type_of_field the_pool i j).number;
+  };
 }

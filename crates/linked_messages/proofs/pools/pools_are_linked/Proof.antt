@@ -1,5 +1,5 @@
 -- Whoever lends a pool owns its parts, and with each part goes what the part's type says of it.
-use Rattle.std.proofs.Common.{List, [], ◌∷◌, map, suc, refl, subst, w32, arith}
+use Rattle.std.proofs.Common.{◌≡◌, ◌∙◌, ◌<◌, ℕ, List, [], ◌∷◌, Some, map, length, suc, refl, sym, ap, subst, w32, arith}
 use Rattle.std.specs.List.{AllByRecursion}
 use Rattle.std.specs.Prelude.{FitsSigned}
 use Rattle.std.proofs.raw_atomic.Walks.{proved}
@@ -26,13 +26,17 @@ use Rattle.reflect_tables.specs.contracts.stored.StoredValue as value
 use Rattle.reflect_tables.specs.contracts.tables.Tables as tables
 use Rattle.reflect_tables.specs.declared.stored.StoredEnum.{StoredEnum}
 use Rattle.reflect_tables.specs.declared.stored.StoredValue.{StoredValue}
-use Rattle.reflect_tables.specs.Types.{PoolType, ValueType}
+use Rattle.reflect_tables.specs.ExtensionNumbers.{Numbers, numbers_of}
+use Rattle.reflect_tables.specs.Types.{PoolType, ValueType, extension_at, no_extension}
 use Rattle.reflect_scope.specs.Known.{known_of}
 use Rattle.reflect_tables.specs.Views.{enum_of, value_of, pool_of}
 use Rattle.message_view.proofs.Sound.{distinct}
+use Rattle.reflect_pool.specs.Linked.{AreNumbered, key_of}
+use Rattle.linked_messages.proofs.Among.{get_at, get_map}
 use Rattle.reflect_pool.specs.contracts.pool.DescriptorPool as pool
 use Rattle.reflect_pool.specs.contracts.pool.DescriptorPool.TheInside as inside
-use Rattle.linked_messages.specs.Kept.{HasNumbers, IsKept}
+use Rattle.message_view.specs.Sound.{HasNumbers}
+use Rattle.linked_messages.specs.Kept.{ExtensionsAreApart, IsKept}
 use Rattle.linked_messages.specs.contracts.pools.pools_are_linked as f
 use Rattle.linked_messages.proofs.pools.pools_are_linked.Statement.{statement}
 use Rattle.linked_messages.proofs.pools.pools_are_linked.Code as code
@@ -100,6 +104,17 @@ enum_fits (e ∷ es) h = (
       (λ i d lt. h (suc i) d (omega (arith, lt))),
 )
 
+-- a message and a number stand for one place among extensions
+apart : (p : PoolType) (numbers : Numbers) → AreNumbered numbers (map key_of p.extensions)
+    → ExtensionsAreApart p
+apart p numbers h j k lt less to number =
+    let at = λ (i : ℕ) (less : i < length p.extensions).
+    (h (key_of (extension_at p i)) i).1 (get_map key_of p.extensions i (extension_at p i)
+    (get_at p.extensions i no_extension less)) in
+    let same : key_of (extension_at p j) ≡ key_of (extension_at p k) =
+    λ i. (to i, number i) in
+    let one : Some j ≡ Some k = sym (at j lt) ∙ ap numbers same ∙ at k less in cc one
+
 kept : (p : PoolType) → pool_known.Fact p → IsKept p
 kept p (a, (view, linked), known) =
     subst IsKept view (record {
@@ -108,6 +123,7 @@ kept p (a, (view, linked), known) =
           distinct (pool_of a.tables) (known_of a.names) linked.named;
       numbers =
           enum_fits a.tables.enums.items known.0.1.1.0;
+      extensions = apart (pool_of a.tables) (numbers_of a.extension_numbers) linked.numbers;
     })
 
 abbrev stayed : Stays f.ended.signature.params f.ended.kept
