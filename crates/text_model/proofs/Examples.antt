@@ -16,7 +16,7 @@ use Rattle.protobuf_model.specs.Types.{Name, Scalar, Kind, nested, sized, Label,
 use Rattle.protobuf_model.specs.Types as kinds
 use Rattle.protobuf_model.specs.Bytes.{count_from, field_numbers, is_declared, bytes_of, numbered, payloads_under}
 use Rattle.text_model.specs.Tree.{expansion, no_separator, comma, FieldName, plain, integer, floating, identifier, ScalarValue, signed, strings, curly, scalar, no_values, more_values, Given, one_scalar, one_message, listed, Fields, no_fields, more_fields}
-use Rattle.text_model.specs.Schemas.{Schema, shape_of, AreNames, Names}
+use Rattle.text_model.specs.Schemas.{Schema, shape_of, AreNames, IsEntryType, Names}
 use Rattle.text_model.specs.Scalars.{scalar_in}
 use Rattle.text_model.specs.Tokens.{open_braces}
 use Rattle.text_model.specs.Value.{hold, is_set, assign, value}
@@ -26,7 +26,7 @@ use Rattle.text_model.specs.Forms.{Form, between}
 use Rattle.text_model.specs.Rendered.{compact, pretty, text_of}
 use Rattle.text_model.proofs.Numbers.{first_few, of_those, over_both, any_there}
 use Rattle.text_model.proofs.Orders.{in_numbers}
-use Rattle.text_model.proofs.Printing.{no_rival}
+use Rattle.text_model.proofs.Rivals.{no_rival}
 
 -- the names M and N
 abbrev type_m : Name
@@ -34,6 +34,10 @@ type_m = codes "M"
 
 abbrev type_n : Name
 type_n = codes "N"
+
+-- that of the entries of M's map
+abbrev type_entry : Name
+type_entry = codes "M.MEntry"
 
 abbrev number : Bool → Option ℕ → Option Field
 number presence oneof = Some (record { part = record { kind = kinds.scalar kinds.int32; presence = presence; default = int32 (pos 0) }; label = one; oneof = oneof; extension = false })
@@ -58,12 +62,16 @@ texts = Some (record {
 -- message M { int32 foo = 1; N nested = 3; repeated int32 xs = 4; map<int32, string> m = 5; oneof o { int32 a = 6; int32 b = 7; } } message N { int32 bar = 2; }
 -- message Any { string type_url = 1; bytes value = 2; }
 abbrev types : Types
-types t n = cond (bytes_eq t type_m) (cond (n == 1) (number false None) (cond (n == 3) sub (cond (n == 4) numbers (cond (n == 5) texts (cond (n == 6) (number true (Some 0)) (cond (n == 7) (number true (Some 0)) None)))))) (cond (bytes_eq t type_n) (cond (n == 2) (number false None) None) (cond (n == 1) (holds kinds.string (text [])) (cond (n == 2) (holds kinds.bytes (blob [])) None)))
+types t n = cond (bytes_eq t type_m) (cond (n == 1) (number false None) (cond (n == 3) sub (cond (n == 4) numbers (cond (n == 5) texts (cond (n == 6) (number true (Some 0)) (cond (n == 7) (number true (Some 0)) None))))))
+    (cond (bytes_eq t type_n) (cond (n == 2) (number false None) None)
+    (cond (bytes_eq t type_entry) (cond (n == 1) (number false None) (cond (n == 2) (holds kinds.string (text [])) None))
+    (cond (n == 1) (holds kinds.string (text [])) (cond (n == 2) (holds kinds.bytes (blob [])) None))))
 
 abbrev found : Name → Text → Option ℕ
 found t w = cond (bytes_eq t type_m)
     (cond (bytes_eq w (codes "foo")) (Some 1) (cond (bytes_eq w (codes "nested")) (Some 3) (cond (bytes_eq w (codes "xs")) (Some 4) (cond (bytes_eq w (codes "m")) (Some 5) (cond (bytes_eq w (codes "a")) (Some 6) (cond (bytes_eq w (codes "b")) (Some 7) None))))))
-    (cond (bytes_eq w (codes "bar")) (Some 2) None)
+    (cond (bytes_eq t type_entry) (cond (bytes_eq w (codes "key")) (Some 1) (cond (bytes_eq w (codes "value")) (Some 2) None))
+    (cond (bytes_eq w (codes "bar")) (Some 2) None))
 
 abbrev called : Name → ℕ → Text
 called t n = cond (bytes_eq t type_m) (cond (n == 1) (codes "foo") (cond (n == 3) (codes "nested") (cond (n == 4) (codes "xs") (codes "m")))) (codes "bar")
@@ -75,7 +83,7 @@ n_message = λ n. cond (n == 2) (content (single (int32 (pos 66)))) absent
 abbrev schema : Schema
 schema = record {
   types = types;
-  names = λ t. record { field = found t; extension = λ w. None; name = called t; declared = []; enum_number = λ n w. None; enum_name = λ n z. None };
+  names = λ t. record { field = found t; extension = λ w. None; name = called t; declared = []; enum_number = λ n w. None; enum_name = λ n z. None; entry = λ n. type_entry };
   message = λ w. cond (bytes_eq w type_n) (Some type_n) None;
   is_any = λ t. bytes_eq t (codes "Any");
   decoded = λ t bytes. cond (bytes_eq bytes (16 ∷ 66 ∷ [])) (Some n_message) None;
@@ -320,6 +328,7 @@ n_names = record {
   declared = 2 ∷ [];
   enum_number = λ n w. None;
   enum_name = λ n z. None;
+  entry = λ n. [];
 }
 
 abbrev is_extension : Option Field → Bool
@@ -362,4 +371,17 @@ n_spelled : AreIdentifiers n_type n_names
 n_spelled = record {
   fields = λ n f h. ap (λ b. cond b (is_full_name (parts (codes "bar"))) (is_identifier (codes "bar"))) (its_field n f h).0;
   enums = λ n z w h. absurd (no_name w h);
+}
+
+-- and the type of the entries of M's map is one
+map_entry : IsEntryType schema type_entry (record { kind = kinds.int32; presence = false; default = int32 (pos 0) })
+    (record { kind = kinds.scalar kinds.string; presence = false; default = text [] }) (λ z. None)
+map_entry = record {
+  key_named = refl;
+  value_named = refl;
+  holds_key = (None, false, refl);
+  holds_value = (None, false, refl);
+  apart = refl;
+  no_enum = λ e. cc;
+  enums = λ z v h. absurd (no_name v h);
 }

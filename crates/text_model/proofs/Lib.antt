@@ -6,6 +6,7 @@ pub mod Utf8
 pub mod Singles
 pub mod Orders
 pub mod Contents
+pub mod Rivals
 pub mod Printing
 pub mod Numbers
 mod Examples

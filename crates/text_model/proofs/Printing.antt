@@ -1,23 +1,23 @@
 -- What a message is printed as gives the message.
 use Rattle.std.proofs.Common.{not, ◌≡◌, ◌⊎◌, inl, inr, ℕ, zero, suc, ◌==◌, ◌||◌, ◌&&◌, Bool, true, false, cond, List, [], ◌∷◌, ◌++◌, Option, None, Some, option_and_then, refl, sym, ap, ◌∙◌, subst}
-use Rattle.std.specs.List.{flat_map, list_any}
+use Rattle.std.specs.List.{flat_map}
 use Rattle.std.proofs.lemmas.Bool.Decides.{eqb_tells}
 use Rattle.std.proofs.lemmas.Bool.{or_from}
 use mathlib.Core.Path.{fun_ext}
 use Rattle.protox_lex.specs.Class.{Text}
 use Rattle.reflect_wire.specs.Records.{Payload}
 use Rattle.protobuf_model.specs.Values.{Content, Held, content, records, Message, absent, nothing}
-use Rattle.protobuf_model.specs.Types.{Name, Field, oneof_of, rival}
+use Rattle.protobuf_model.specs.Types.{Name, Key, keyed, Field, rival}
 use Rattle.protobuf_model.specs.Typed.{IsHeldOf, IsTypedBy, IsTyped}
-use Rattle.protobuf_model.specs.Bytes.{field_numbers}
 use Rattle.text_model.specs.Tree.{FieldName, plain, extension, Given, Separator, Fields}
 use Rattle.text_model.specs.Forms.{Form, between, IsOwn}
-use Rattle.text_model.specs.Schemas.{Schema, Shape, shape_of, Finds, AreNames, HaveNames, Names}
-use Rattle.text_model.specs.Value.{is_set, has_rival, assign, written, with_field, named_value, value, body_value, field_value}
+use Rattle.text_model.specs.Schemas.{Schema, Shape, shape_of, Finds, AreNames, IsEntryType, HaveNames, Names}
+use Rattle.text_model.specs.Value.{assign, written, with_field, named_value, value, body_value, field_value}
 use Rattle.text_model.specs.Printed.{Inner, in_any, or_fields, lacks_presence, default_given, unset, joined, parts, field_name, printing_order, printed_content, printed_held, printed_fields, printed_by, printed_within, printed}
 use Rattle.text_model.specs.Plain.{IsPlainHeld, IsPlain}
 use Rattle.text_model.proofs.Orders.{has, AreApart, true_false, order_has, order_apart}
 use Rattle.text_model.proofs.Contents.{field_back}
+use Rattle.text_model.proofs.Rivals.{no_rival}
 
 -- the value of fields, whatever stands between them
 abbrev pub entries_value : Schema → Shape → List (FieldName × Given) → Message → Option Message
@@ -85,21 +85,6 @@ part_on n ns m x y apart p here there = record {
   ];
 }
 
-any_not : (test : ℕ → Bool) (ns : List ℕ) → ((q : ℕ) → test q ≡ false) → list_any test ns ≡ false
-any_not test [] h = refl
-any_not test (n ∷ ns) h = or_from (test n) (list_any test ns) (h n) (any_not test ns h)
-
--- no other member of the field's oneof is set
-pub no_rival : (type : ℕ → Option Field) (n : ℕ) (x : Message) → ((q : ℕ) → rival type n q ≡ true → x q ≡ absent) → has_rival type n x ≡ false
-no_rival type n x h = by (oneof_of (type n)) where
-  each : (q : ℕ) (b : Bool) → rival type n q ≡ b → (rival type n q && is_set (x q)) ≡ false
-  each q true e = ap (λ b. b && is_set (x q)) e ∙ ap is_set (h q e)
-  each q false e = ap (λ b. b && is_set (x q)) e
-
-  by : (o : Option ℕ) → elim o [ None ↦ false | Some k ↦ list_any (λ q. rival type n q && is_set (x q)) field_numbers ] ≡ false
-  by None = refl
-  by (Some k) = any_not (λ q. rival type n q && is_set (x q)) field_numbers (λ q. each q (rival type n q) refl)
-
 cond_off : (b c : Bool) (o : Option Fields) → b ≡ false → cond (b && c) o None ≡ None
 cond_off true c o e = cc
 cond_off false c o e = refl
@@ -113,7 +98,8 @@ none_unset form names n None own = refl
 none_unset form names n (Some f) own =
     ap (λ b. cond (b && (not f.extension && lacks_presence f.part f.label)) ((field_name names n f, default_given (names.enum_name n) f.part f.label) ∷ []) []) own.set
 
-module _ (form : Form) (own : IsOwn form) (w : Schema) (inner : Inner) (t : Name) (names : AreNames (w.types t) (w.names t)) (typed : Name → Message → Type 0) (levels : ℕ)
+module _ (form : Form) (own : IsOwn form) (w : Schema) (inner : Inner) (t : Name) (names : AreNames (w.types t) (w.names t))
+    (entries : (n : ℕ) (f : Field) (key : Key) → w.types t n ≡ Some f → f.label ≡ keyed key → IsEntryType w ((w.names t).entry n) key f.part ((w.names t).enum_name n)) (typed : Name → Message → Type 0) (levels : ℕ)
     (back : (u : Name) (m : Message) → typed u m → IsPlain w.types u m → value w (shape_of w u) (printed_by form w inner u m) nothing ≡ Some m)
     (m : Message) (h : IsTypedBy typed levels (w.types t) m) (b : IsPlain w.types t m) where
   abbrev type : ℕ → Option Field
@@ -152,7 +138,7 @@ module _ (form : Form) (own : IsOwn form) (w : Schema) (inner : Inner) (t : Name
       let others : (q : ℕ) → rival type n q ≡ true → x q ≡ absent = λ q r. part_of (n ∷ ns) x q p (elim (h.exclusive n q r) [ inl a ↦ absurd (set_absent c (sym i ∙ a)) | inr a ↦ a ]) in
       ap (option_and_then (entries_value w (shape_of w t) (flat_map under ns)))
       (found w (shape_of w t) n f x (field_value w (shape_of w t) (printed_content form w inner ((w.names t).enum_name n) f.part.kind c) x) (λ u. body_value w u (printed_content form w inner ((w.names t).enum_name n) f.part.kind c)) (names.fields n f e) e
-      ∙ field_back form w inner typed back (shape_of w t) n (names.enums n) f.part f.label f.oneof f.extension x c suits plain_one here (no_rival type n x others))
+      ∙ field_back form w inner typed back (shape_of w t) n (names.enums n) f.part f.label (λ key is. entries n f key e is) f.oneof f.extension x c suits plain_one here (no_rival type n x others))
       ∙ goes (assign type n (content c) x) (part_on n ns m x (assign type n (content c) x) apart p (assigned_here ∙ sym i) (λ q d. assigned_there q d (rival type n q) refl others)) where
         assigned_here : assign type n (content c) x n ≡ content c
         assigned_here = elim (eqb_tells n n) [ inl k ↦ ap (λ b. cond b (content c) (cond (rival type n n) absent (x n))) k.0 | inr k ↦ absurd (k.1 refl) ]
@@ -179,8 +165,8 @@ module _ (form : Form) (own : IsOwn form) (w : Schema) (inner : Inner) (t : Name
 
 -- of so many levels
 printed_by_back : (levels : ℕ) (form : Form) → IsOwn form → (w : Schema) (inner : Inner) → HaveNames w → (t : Name) (m : Message) → IsTyped levels w.types t m → IsPlain w.types t m → value w (shape_of w t) (printed_by form w inner t m) nothing ≡ Some m
-printed_by_back zero form own w inner names t m h b = message_back form own w inner t (names t) (λ u m. ⊥) zero (λ u m h b. absurd h) m h b
-printed_by_back (suc levels) form own w inner names t m h b = message_back form own w inner t (names t) (IsTyped levels w.types) (suc levels) (printed_by_back levels form own w inner names) m h b
+printed_by_back zero form own w inner names t m h b = message_back form own w inner t (names.each t) (names.entries t) (λ u m. ⊥) zero (λ u m h b. absurd h) m h b
+printed_by_back (suc levels) form own w inner names t m h b = message_back form own w inner t (names.each t) (names.entries t) (IsTyped levels w.types) (suc levels) (printed_by_back levels form own w inner names) m h b
 
 pub printed_back : (form : Form) → IsOwn form → (w : Schema) → HaveNames w → (t : Name) (m : Message) → IsTyped 100 w.types t m → IsPlain w.types t m → value w (shape_of w t) (printed form w t m) nothing ≡ Some m
 printed_back form own w names t m h b = printed_by_back 100 form own w (λ u b. Some (printed_within 99 form w u b)) names t m h b

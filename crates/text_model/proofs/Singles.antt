@@ -97,3 +97,15 @@ single_back number name kinds.string (text s) f b h = string_back kinds.string s
 single_back number name kinds.bytes (blob s) f b h = string_back kinds.bytes s (blob s) b refl
 single_back number name kinds.enumeration (enumerated z) f b h = named_back number name z f h
 single_back number name k v f b h = absurd h
+
+-- a value that is no enum's has one text, whatever the names are
+unnamed : (name : ℤ → Option Text) (k : Scalar) (v : Single) → (k ≡ kinds.enumeration → ⊥) → Suits k v → printed_single name v ≡ printed_single (λ z. None) v
+unnamed name kinds.enumeration (enumerated z) none h = absurd (none refl)
+unnamed name k (enumerated z) none h = absurd h
+unnamed name k v none h = refl
+
+none_found : (number : Text → Option ℤ) → AreFound number (λ z. None)
+none_found number z w e = cc
+
+pub unnamed_back : (number : Text → Option ℤ) (name : ℤ → Option Text) (k : Scalar) (v : Single) → (k ≡ kinds.enumeration → ⊥) → AreBytes v → Suits k v → scalar_in number k (printed_single name v) ≡ Some v
+unnamed_back number name k v none b h = ap (scalar_in number k) (unnamed name k v none h) ∙ single_back number (λ z. None) k v (none_found number) b h

@@ -1,13 +1,12 @@
 -- What a text needs of message types beside their fields: the names of fields, of extensions and of
 -- enums' values.
-use Rattle.std.specs.Prelude.{◌≡◌, ◌↔◌, ℕ, ℤ, zero, suc, ◌==◌, cond, Bool, false, List, [], ◌∷◌, Option, None, Some, codes}
+use Rattle.std.specs.Prelude.{◌≡◌, ◌↔◌, ℕ, ℤ, ◌==◌, cond, Bool, false, List, [], ◌∷◌, Option, Some, codes}
 use Rattle.std.specs.List.{filter}
-use Rattle.std.specs.Str.{bytes_eq}
 use Rattle.protox_lex.specs.Class.{Text}
 use Rattle.protobuf_model.specs.Values.{Message}
 use Rattle.protobuf_model.specs.Coded.{Mean}
 use Rattle.protobuf_model.specs.Bytes.{is_declared}
-use Rattle.protobuf_model.specs.Types.{Name, Part, Key, one, scalar, Field, Types}
+use Rattle.protobuf_model.specs.Types.{Name, enumeration, scalar, Part, Key, one, keyed, Field, rival, Types}
 
 -- how texts name what a message type has
 pub record Names : Type 0 where
@@ -23,6 +22,8 @@ pub record Names : Type 0 where
   -- number is printed as
   pub enum_number : ℕ → Text → Option ℤ
   pub enum_name : ℕ → ℤ → Option Text
+  -- of a map: the type of its entries
+  pub entry : ℕ → Name
 
 pub record Schema : Type 0 where
   pub types : Types
@@ -44,44 +45,6 @@ pub record Shape : Type 0 where
 abbrev pub shape_of : Schema → Name → Shape
 shape_of w t = record { fields = w.types t; names = w.names t; is_any = w.is_any t }
 
--- an entry of a map is a message of the key under 1 and the value under 2
-abbrev pub key_field : Key → Field
-key_field key = record {
-  part = record { kind = scalar key.kind; presence = key.presence; default = key.default };
-  label = one;
-  oneof = None;
-  extension = false;
-}
-
-abbrev pub value_field : Part → Field
-value_field part = record { part = part; label = one; oneof = None; extension = false }
-
-abbrev pub entry_fields : Key → Part → ℕ → Option Field
-entry_fields key part zero = None
-entry_fields key part (suc zero) = Some (key_field key)
-entry_fields key part (suc (suc zero)) = Some (value_field part)
-entry_fields key part (suc (suc (suc n))) = None
-
--- by the names `key` and `value`; an enum is the value's
-abbrev pub entry_names : (Text → Option ℤ) → (ℤ → Option Text) → Names
-entry_names number name = record {
-  field = λ w. cond (bytes_eq w (codes "key")) (Some 1)
-      (cond (bytes_eq w (codes "value")) (Some 2) None);
-  extension = λ w. None;
-  declared = 1 ∷ 2 ∷ [];
-  name = λ n. cond (n == 1) (codes "key") (codes "value");
-  enum_number = λ n. number;
-  enum_name = λ n. name;
-}
-
-abbrev pub entry_shape : Names → ℕ → Key → Part → Shape
-entry_shape names n key part =
-    record {
-      fields = entry_fields key part;
-      names = entry_names (names.enum_number n) (names.enum_name n);
-      is_any = false;
-    }
-
 -- the name finds the field or the extension again
 abbrev pub Finds : Names → ℕ → Field → Type 0
 Finds names n f =
@@ -95,8 +58,35 @@ pub record AreNames (type : ℕ → Option Field) (names : Names) : Type 0 where
   pub declared : (n : ℕ)
       → filter (λ q. q == n) names.declared ≡ cond (is_declared (type n)) (n ∷ []) []
 
-abbrev pub HaveNames : Schema → Type 0
-HaveNames w = (t : Name) → AreNames (w.types t) (w.names t)
+abbrev pub key_part : Key → Part
+key_part key =
+    record { kind = scalar key.kind; presence = key.presence; default = key.default }
+
+-- one value, and such a one
+abbrev pub HoldsOne : Part → Option Field → Type 0
+HoldsOne part o =
+    (oneof : Option ℕ) × (extension : Bool)
+    × (o ≡ Some (record { part = part; label = one; oneof = oneof; extension = extension }))
+
+-- the type of the entries of a map has the key under 1 and the value under 2, each by its name, and
+-- not both in one oneof; a key is of no enum, and that of the values finds the names that are
+-- printed in the map
+pub record IsEntryType (w : Schema) (t : Name) (key : Key) (part : Part)
+    (enum_name : ℤ → Option Text) : Type 0 where
+  pub key_named : (w.names t).field (codes "key") ≡ Some 1
+  pub value_named : (w.names t).field (codes "value") ≡ Some 2
+  pub holds_key : HoldsOne (key_part key) (w.types t 1)
+  pub holds_value : HoldsOne part (w.types t 2)
+  pub apart : rival (w.types t) 2 1 ≡ false
+  pub no_enum : key.kind ≡ enumeration → ⊥
+  pub enums : (z : ℤ) (v : Text) → enum_name z ≡ Some v → (w.names t).enum_number 2 v ≡ Some z
+
+-- each type has such names, and the entries of each of its maps have such a type
+pub record HaveNames (w : Schema) : Type 0 where
+  pub each : (t : Name) → AreNames (w.types t) (w.names t)
+  pub entries : (t : Name) (n : ℕ) (f : Field) (key : Key)
+      → w.types t n ≡ Some f → f.label ≡ keyed key
+      → IsEntryType w ((w.names t).entry n) key f.part ((w.names t).enum_name n)
 
 -- bytes are decoded exactly as what they mean
 abbrev pub Decodes : Schema → Type 0

@@ -9,7 +9,7 @@ use Rattle.protobuf_model.specs.Types as kinds
 use Rattle.protobuf_model.specs.Meaning.{settle, items, if_any, pairs, if_some, put_all}
 use Rattle.protobuf_model.specs.Bytes.{field_numbers, bytes_of}
 use Rattle.text_model.specs.Tree.{FullName, FieldName, plain, extension, expansion, ScalarValue, Value, scalar, braced, Values, no_values, more_values, Given, one_scalar, one_message, listed, Fields, no_fields, more_fields}
-use Rattle.text_model.specs.Schemas.{Names, Schema, Shape, shape_of, entry_shape}
+use Rattle.text_model.specs.Schemas.{Names, Schema, Shape, shape_of}
 use Rattle.text_model.specs.Scalars.{scalar_in}
 
 -- what a value is read as: a scalar, with the numbers of an enum's names, or a message
@@ -23,7 +23,7 @@ wanted_in w enum (nested frame u) = of_message (shape_of w u)
 
 -- of the values of a field: a map's are its entries
 abbrev pub wanted_of : Schema → Names → ℕ → Part → Label → Wanted
-wanted_of w names n part (keyed key) = of_message (entry_shape names n key part)
+wanted_of w names n part (keyed key) = of_message (shape_of w (names.entry n))
 wanted_of w names n part _ = wanted_in w (names.enum_number n) part.kind
 
 abbrev pub scalar_content : Wanted → ScalarValue → Option Content
