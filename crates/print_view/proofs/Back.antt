@@ -13,10 +13,9 @@ use Rattle.reflect_decode.specs.Spelled.{IsSpelled}
 use Rattle.reflect_format.specs.Filled.{Fills, Makes}
 use Rattle.reflect_format.specs.Unfit.{CannotMake, Unfit}
 use Rattle.reflect_print.specs.MessageTexts.{IsMessageText}
-use Rattle.text_model.specs.Identifiers.{HaveIdentifiers}
 use Rattle.text_model.specs.Plain.{IsPlain}
 use Rattle.text_model.specs.Printed.{printed}
-use Rattle.text_model.specs.Schemas.{HaveNames, Schema}
+use Rattle.text_model.specs.Schemas.{Schema}
 use Rattle.text_model.specs.Texts.{Gives, IsText}
 use Rattle.text_model.specs.Tokens.{open_braces}
 use Rattle.text_model.specs.Tree.{Fields}
@@ -26,15 +25,16 @@ use Rattle.message_view.specs.Types.{name_at, types_of}
 use Rattle.message_view.specs.Views.{view}
 use Rattle.message_view.proofs.Decoded.{decoded_suits}
 use Rattle.message_view.proofs.Recoded.{decoded_written}
-use Rattle.text_view.specs.Ruled.{IsRuled}
+use Rattle.message_view.specs.Sound.{IsSound}
 use Rattle.text_view.specs.Schemas.{schema_of}
+use Rattle.text_view.specs.SourceNames.{HasSourceNames}
+use Rattle.text_view.proofs.HaveNames.{have_identifiers, have_names}
 use Rattle.text_view.proofs.Made.{made_given, none_given}
 use Rattle.print_view.specs.Forms.{compact_form, own_form}
-use Rattle.print_view.specs.Parts.{HaveValues}
 use Rattle.print_view.proofs.Printed.{decoded_printed}
 
-module _ (decoded : Name → Text → Option Message) (d : MessageDescriptor) (ruled : IsRuled d.pool.now) (values : HaveValues d.pool.now)
-    (names : HaveNames (schema_of d.pool.now decoded)) (identifiers : HaveIdentifiers (schema_of d.pool.now decoded))
+module _ (decoded : Name → Text → Option Message) (d : MessageDescriptor) (sound : IsSound d.pool.now)
+    (named : HasSourceNames d.pool.now)
     (bytes : List ℕ) (are : AreBytes bytes) (m : DynamicMessage) (type : m.descriptor ≡ d) (spelled : IsSpelled d bytes m) where
   abbrev w : Schema
   w = schema_of d.pool.now decoded
@@ -45,17 +45,17 @@ module _ (decoded : Name → Text → Option Message) (d : MessageDescriptor) (r
   module _ (plain : IsPlain (types_of d.pool.now) t (view m)) (shallow : open_braces (printed own_form w t (view m)) ≤ 100) (z : Text) (text : IsMessageText compact_form m z) where
     -- the text gives what is seen of the message
     gives : Gives w t z (view m)
-    gives = subst (λ z. Gives w t z (view m)) (sym (decoded_printed d ruled.sound values bytes m type spelled decoded z text))
-        (printed_text_back own_form (record { set = refl; unexpanded = refl }) w names identifiers t (view m) (decoded_suits d ruled.sound bytes are m type spelled) plain shallow)
+    gives = subst (λ z. Gives w t z (view m)) (sym (decoded_printed d sound bytes m type spelled decoded z text))
+        (printed_text_back own_form (record { set = refl; unexpanded = refl }) w (have_names d.pool.now sound named decoded) (have_identifiers d.pool.now sound named decoded) t (view m) (decoded_suits d sound bytes are m type spelled) plain shallow)
 
     -- so what it makes is written as the message is
     pub same_written : (fs : Fields) → IsText z fs → (n : DynamicMessage) → Makes d (Fills fs) n → message_bytes n ≡ message_bytes m
     same_written fs spells n makes =
-        let made = made_given d ruled decoded z fs spells n makes in
+        let made = made_given d sound decoded z fs spells n makes in
         made.1
         ∙ ap (bytes_of (types_of d.pool.now) t) (one_message w t nothing z (view n) (view m) made.0 gives)
-        ∙ sym (decoded_written d ruled.sound bytes m type spelled)
+        ∙ sym (decoded_written d sound bytes m type spelled)
 
     -- and it is not refused as one that the type does not take
     pub is_taken : ((fs : Fields) → IsText z fs → CannotMake d (Unfit fs)) → ⊥
-    is_taken none = none_given d ruled decoded z none (view m) gives
+    is_taken none = none_given d sound decoded z none (view m) gives

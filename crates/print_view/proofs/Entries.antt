@@ -46,8 +46,9 @@ use Rattle.message_view.proofs.Written.{FitsOne, FitsAs, default_same}
 use Rattle.text_view.specs.Names.{name_in, names_of, printed_name, value_kind}
 use Rattle.text_view.specs.Schemas.{schema_of}
 use Rattle.text_view.proofs.Shapes.{placed}
+use Rattle.text_view.proofs.Set.{list_repeats, list_set, map_repeats, map_set}
 use Rattle.print_view.specs.Forms.{own_form}
-use Rattle.print_view.specs.Parts.{HaveValues}
+use Rattle.print_view.proofs.Parts.{HaveValues}
 use Rattle.print_view.proofs.Counting.{same_numbers, filtered, shown, under, each, all_numbers}
 use Rattle.print_view.proofs.Pieces.{Pair}
 use Rattle.print_view.proofs.Values.{given, pairs_in, EntryFits, pair_of}
@@ -73,37 +74,12 @@ module _ (pool : PoolType) (inner : DynamicMessage → Type 0) where
         let m = fits.nested type in
         ap (forms.is_set pool f) (message_form_seen v m.0 m.1) ∙ or_true f.presence ∙ sym (ap (views.is_set pool f) (message_seen v m.0 m.1))
 
-  set_list : (f : FieldType) (v : Value) (vs : List Value) → f.presence ≡ false → list_items v ≡ Some vs → Set f v
-  set_list f v vs unset is = ap (forms.is_set pool f) (list_form_seen v vs is) ∙ by vs ∙ sym (ap (views.is_set pool f) (list_seen v vs is)) where
-    by : (vs : List Value) → forms.is_set pool f (forms.list_form (map form_of vs)) ≡ views.is_set pool f (model.list (model.chain_of (map content_view vs)))
-    by [] = ap (λ b. b || false) unset
-    by (u ∷ us) = or_true f.presence
-
-  set_map : (f : FieldType) (v : Value) (es : List (MapKey × Value)) → f.presence ≡ false → map_entries v ≡ Some es → Set f v
-  set_map f v es unset is = ap (forms.is_set pool f) (map_form_seen v es is) ∙ by es ∙ sym (ap (views.is_set pool f) (map_seen v es is)) where
-    by : (es : List (MapKey × Value)) → forms.is_set pool f (forms.map_form (forms_of es)) ≡ views.is_set pool f (model.dictionary (model.entries_of (pairs_view es)))
-    by [] = ap (λ b. b || false) unset
-    by (e ∷ es) = or_true f.presence
-
-  repeats_if_map : (f : FieldType) → holds_map pool f ≡ true → is_repeated f.cardinality ≡ true
-  repeats_if_map f is = by (is_entry pool f.kind) (is_repeated f.cardinality) (not f.group) is where
-    by : (a b c : Bool) → a && (b && c) ≡ true → b ≡ true
-    by true true c e = refl
-    by true false c e = absurd (cc e)
-    by false b c e = absurd (cc e)
-
-  repeats_if_list : (f : FieldType) → holds_list pool f ≡ true → is_repeated f.cardinality ≡ true
-  repeats_if_list f is = by (is_repeated f.cardinality) (not (holds_map pool f)) is where
-    by : (a b : Bool) → a && b ≡ true → a ≡ true
-    by true b e = refl
-    by false b e = absurd (cc e)
-
   -- a field is set by the program's test exactly if it is by the model's
   set_same : (f : FieldType) (v : Value) → holds_floats pool f ≡ false → (is_repeated f.cardinality ≡ true → f.presence ≡ false) → FitsAs inner pool f (holds_map pool f) (holds_list pool f) v → Set f v
   set_same f v whole repeats fits = by (holds_map pool f) refl (holds_list pool f) refl fits where
     by : (b : Bool) → holds_map pool f ≡ b → (c : Bool) → holds_list pool f ≡ c → FitsAs inner pool f b c v → Set f v
-    by true e c k h = set_map f v h.0 (repeats (repeats_if_map f e)) h.1
-    by false e true k h = set_list f v h.0 (repeats (repeats_if_list f k)) h.1
+    by true e c k h = map_set pool f v h.0 (repeats (map_repeats pool f e)) h.1
+    by false e true k h = list_set pool f v h.0 (repeats (list_repeats pool f k)) h.1
     by false e false k h = set_one f v (one (is_float f.kind) refl) h where
       one : (x : Bool) → is_float f.kind ≡ x → is_float f.kind ≡ false
       one false is = is

@@ -1,3 +1,4 @@
+pub mod Parts
 mod Counting
 mod Pieces
 mod Singles

@@ -18,7 +18,7 @@ use Rattle.message_view.specs.Views.{view}
 use Rattle.message_view.proofs.Recoded.{decoded_shaped}
 use Rattle.text_view.specs.Schemas.{schema_of}
 use Rattle.print_view.specs.Forms.{compact_form, own_form}
-use Rattle.print_view.specs.Parts.{HaveValues}
+use Rattle.print_view.proofs.Parts.{HaveValues, have_values}
 use Rattle.print_view.proofs.Entries.{all_printed}
 use Rattle.print_view.proofs.Values.{EntryFits, Printed, items_said, pair_of, pairs_in}
 
@@ -35,10 +35,11 @@ module _ (decoded : Name → Text → Option Message) (inner : Inner) (rounds : 
       subst (λ p. (f : HaveEntryFields p) (v : HaveValues p) → HaveLists p → HaveNames p → Each levels m p f v) there
       (λ f v l n. all_printed m f v l n decoded inner rounds levels shaped) fields values lists names
 
-pub decoded_printed : (d : MessageDescriptor) → IsSound d.pool.now → HaveValues d.pool.now → (bytes : List ℕ) (m : DynamicMessage) → m.descriptor ≡ d → IsSpelled d bytes m
+pub decoded_printed : (d : MessageDescriptor) → IsSound d.pool.now → (bytes : List ℕ) (m : DynamicMessage) → m.descriptor ≡ d → IsSpelled d bytes m
     → (decoded : Name → Text → Option Message) (z : Text) → IsMessageText compact_form m z → z ≡ compact (printed own_form (schema_of d.pool.now decoded) (name_at d.pool.now d.index) (view m))
-decoded_printed d sound values bytes m type spelled decoded z (any, text) =
+decoded_printed d sound bytes m type spelled decoded z (any, text) =
     let pool = d.pool.now in
+    let values = have_values pool sound in
     let w = schema_of pool decoded in
     let inner : Inner = λ t m. Some (printed_within 99 own_form w t m) in
     items_said pool sound.entries values decoded inner 100 (each_printed decoded inner 100 pool sound.entries values sound.lists sound.names) text 101 (ap (λ (d : MessageDescriptor). d.pool.now) type) (decoded_shaped d bytes m type spelled)

@@ -41,7 +41,7 @@ use Rattle.message_view.proofs.Written.{FitsOne, FitsAs}
 use Rattle.text_view.specs.Names.{name_in}
 use Rattle.text_view.specs.Schemas.{schema_of}
 use Rattle.print_view.specs.Forms.{compact_form, own_form}
-use Rattle.print_view.specs.Parts.{HaveValues}
+use Rattle.print_view.proofs.Parts.{HaveValues}
 use Rattle.print_view.proofs.Pieces.{Pair, one, row, list_tokens, run_append, word_said, name_said, bracket_said, joined_said, row_append, any_pairs, braced_said, no_line}
 use Rattle.print_view.proofs.Singles.{single_said, key_said}
 

@@ -11,37 +11,34 @@ ghost use Rattle.reflect_format.specs.Unfit.{CannotMake, Unfit};
 ghost use Rattle.reflect_print.specs.MessageTexts.{IsMessageText};
 ghost use Rattle.protobuf_model.specs.Types.{Name};
 ghost use Rattle.protobuf_model.specs.Values.{Message};
-ghost use Rattle.text_model.specs.Identifiers.{HaveIdentifiers};
 ghost use Rattle.text_model.specs.Plain.{IsPlain};
 ghost use Rattle.text_model.specs.Printed.{printed};
 ghost use Rattle.text_model.specs.Rendered.{compact};
-ghost use Rattle.text_model.specs.Schemas.{HaveNames};
 ghost use Rattle.text_model.specs.Texts.{IsText};
 ghost use Rattle.text_model.specs.Tokens.{open_braces};
 ghost use Rattle.text_model.specs.Tree.{Fields};
 ghost use Rattle.message_view.specs.Sound.{IsSound};
 ghost use Rattle.message_view.specs.Types.{name_at, types_of};
 ghost use Rattle.message_view.specs.Views.{view};
-ghost use Rattle.text_view.specs.Ruled.{IsRuled};
 ghost use Rattle.text_view.specs.Schemas.{schema_of};
+ghost use Rattle.text_view.specs.SourceNames.{HasSourceNames};
 ghost use Rattle.print_view.specs.Forms.{compact_form, own_form};
-ghost use Rattle.print_view.specs.Parts.{HaveValues};
 
 /// The compact text of a decoded message is that of the tree which the model prints.
 pub fn decoded_messages_are_printed_as_their_trees()
-    ensures { (d : MessageDescriptor) → IsSound d.pool.now → HaveValues d.pool.now
+    ensures { (d : MessageDescriptor) → IsSound d.pool.now
         → (bytes : List ℕ) (m : DynamicMessage) → m.descriptor ≡ d → IsSpelled d bytes m
         → (decoded : Name → Text → Option Message) (z : Text) → IsMessageText compact_form m z
         → z ≡ compact (printed own_form (schema_of d.pool.now decoded) (name_at d.pool.now d.index)
         (view m)) }
 {}
 
-/// What is printed of a decoded message whose records all have fields makes, as a text of its type,
-/// messages that are written in the same bytes, if no more than 100 braces are open in it at once.
+/// Where names are spelled as in sources, what is printed of a decoded message whose records all
+/// have fields makes, as a text of its type, messages that are written in the same bytes, if no more
+/// than 100 braces are open in it at once.
 pub fn printed_messages_are_read_back()
     ensures { (decoded : Name → Text → Option Message) (d : MessageDescriptor)
-        → IsRuled d.pool.now → HaveValues d.pool.now
-        → HaveNames (schema_of d.pool.now decoded) → HaveIdentifiers (schema_of d.pool.now decoded)
+        → IsSound d.pool.now → HasSourceNames d.pool.now
         → (bytes : List ℕ) → AreBytes bytes
         → (m : DynamicMessage) → m.descriptor ≡ d → IsSpelled d bytes m
         → IsPlain (types_of d.pool.now) (name_at d.pool.now d.index) (view m)
@@ -55,8 +52,7 @@ pub fn printed_messages_are_read_back()
 /// And it is not refused as a text that the type does not take.
 pub fn printed_messages_are_taken()
     ensures { (decoded : Name → Text → Option Message) (d : MessageDescriptor)
-        → IsRuled d.pool.now → HaveValues d.pool.now
-        → HaveNames (schema_of d.pool.now decoded) → HaveIdentifiers (schema_of d.pool.now decoded)
+        → IsSound d.pool.now → HasSourceNames d.pool.now
         → (bytes : List ℕ) → AreBytes bytes
         → (m : DynamicMessage) → m.descriptor ≡ d → IsSpelled d bytes m
         → IsPlain (types_of d.pool.now) (name_at d.pool.now d.index) (view m)

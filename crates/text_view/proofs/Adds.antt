@@ -1,62 +1,37 @@
 -- What adding values to a list does to what is seen of a message.
-use Rattle.std.proofs.Common.{◌≡◌, ◌≢◌, ◌⊎◌, ℕ, ◌==◌, ◌&&◌, not, Bool, true, false, true≢false, cond, List, [], ◌∷◌, ◌++◌, map, Option, Some, None, option_map, unwrap_or, refl, sym, ap, ◌∙◌, subst}
+use Rattle.std.proofs.Common.{◌≡◌, ◌⊎◌, ℕ, ◌&&◌, not, Bool, true, false, cond, List, [], ◌∷◌, ◌++◌, map, Option, Some, None, option_map, unwrap_or, refl, sym, ap, ◌∙◌, subst}
 use Rattle.std.specs.Prelude.{IfSome, length, ◌<◌}
 use mathlib.Core.Path.{fun_ext}
-use Rattle.std.specs.Option.{option_and_then}
-use Rattle.protobuf_model.specs.Types.{Field, one, many, keyed, oneof_of, same_oneof, rival}
-use Rattle.protobuf_model.specs.Values.{Content, list, Held, absent, chain_of}
-use Rattle.protobuf_model.specs.Meaning.{if_any, items, payloads}
+use Rattle.protobuf_model.specs.Types.{Field, one, many, keyed, oneof_of}
+use Rattle.protobuf_model.specs.Values.{Content, list, Held, chain_of}
+use Rattle.protobuf_model.specs.Meaning.{if_any, items}
 use Rattle.protobuf_model.proofs.Pieces.{listed}
 use Rattle.protox_lex.specs.Class.{Text}
 use Rattle.reflect_tables.specs.Types.{PoolType, FieldType}
-use Rattle.reflect_entries.specs.Entries.{value_at}
-use Rattle.reflect_entries.specs.Members.{first_number}
-use Rattle.reflect_pool.specs.Parts.{members_of}
 use Rattle.reflect_pool.specs.Shapes.{holds_list, holds_map, is_repeated}
 use Rattle.reflect_pool.specs.declared.message.MessageDescriptor.{MessageDescriptor}
-use Rattle.reflect_message.specs.Held.{fields_of, choices_of, extensions_of, unknown_of}
-use Rattle.reflect_message.specs.Known.{known_field, known_extension}
+use Rattle.reflect_message.specs.Held.{fields_of, choices_of}
 use Rattle.reflect_message.specs.Lists.{items_held}
 use Rattle.reflect_message.specs.declared.message.DynamicMessage.{DynamicMessage}
 use Rattle.reflect_message.specs.declared.value.Value.{Value}
 use Rattle.reflect_format.specs.Named.{NamesField, NamesExtension}
-use Rattle.reflect_format.specs.Steps.{Adds, ChangesOnly, held_by}
+use Rattle.reflect_message.specs.Oneofs.{IsExclusive}
+use Rattle.reflect_format.specs.Steps.{Adds, Frees, held_by}
 use Rattle.reflect_format.specs.Takes.{target_pool, target_type}
 use Rattle.reflect_format.specs.declared.target.Target.{Target}
 use Rattle.reflect_format.specs.declared.target.Target.TheVariants as targets
 use Rattle.text_model.specs.Value.{add_all, assign}
-use Rattle.message_view.specs.Sound.{HaveNames}
+use Rattle.message_view.specs.Sound.{HaveNames, AreApart}
 use Rattle.message_view.specs.Types.{entry_part, field_at, key_of, label_of, name_at, types_of}
-use Rattle.message_view.specs.Views.{held_in, held_either, content_view, view}
+use Rattle.message_view.specs.Views.{held_in, content_view, view}
 use Rattle.message_view.proofs.Seen.{list_seen}
 use Rattle.message_view.proofs.Sound.{named}
-use Rattle.text_view.specs.Apart.{AreApart}
 use Rattle.text_view.specs.Targets.{target_field}
-use Rattle.text_view.proofs.Apart.{field_there, extension_there}
-use Rattle.text_view.proofs.Kept.{IsFree, no_sibling}
+use Rattle.text_view.proofs.Apart.{extension_there, no_field_there}
+use Rattle.text_view.proofs.Called.{both}
+use Rattle.text_view.proofs.Kept.{added_changes, gone, many_list, others_stay}
 use Rattle.text_view.proofs.Owned.{OwnsTarget, named_target, pool_is, under_target}
-use Rattle.text_view.proofs.Puts.{shown, seen_at, is_number, number_is}
-
-never : (b : Bool) → (b && false) ≡ false
-never true = refl
-never false = refl
-
--- what is changed under one number alone, which is in no oneof
-module _ (old new : DynamicMessage) (type : ℕ → Option Field) (n : ℕ) (h : Held) (alone : oneof_of (type n) ≡ None)
-    (here : view new n ≡ h) (elsewhere : (q : ℕ) → q ≢ n → view new q ≡ view old q) where
-  no_rival : (q : ℕ) → rival type n q ≡ false
-  no_rival q = ap (λ o. not (q == n) && same_oneof o (oneof_of (type q))) alone ∙ never (not (q == n))
-
-  assigned_at : (q : ℕ) → view new q ≡ assign type n h (view old) q
-  assigned_at q = by (q == n) refl where
-    by : (a : Bool) → (q == n) ≡ a → view new q ≡ cond (q == n) h (cond (rival type n q) absent (view old q))
-    by true is = ap (view new) (is_number q n is) ∙ here ∙ sym (ap (λ a. cond a h (cond (rival type n q) absent (view old q))) is)
-    by false is =
-        elsewhere q (λ e. true≢false (sym (number_is q n e) ∙ is))
-        ∙ sym (ap (λ a. cond a h (cond (rival type n q) absent (view old q))) is ∙ ap (λ b. cond b absent (view old q)) (no_rival q))
-
-  assigned : view new ≡ assign type n h (view old)
-  assigned = fun_ext assigned_at
+use Rattle.text_view.proofs.Puts.{extension_changed, field_changed}
 
 -- a list that is held, by its values
 list_held : (pool : PoolType) (f : FieldType) (o : Option Value) (ws : List Value) → items_held o ≡ Some ws → held_in pool f (option_map content_view o) ≡ if_any (map content_view ws)
@@ -82,7 +57,7 @@ lengthened pool f o p before vs e g =
     ∙ ap (λ cs. if_any (cs ++ map content_view vs)) (sym (items_of_list (map content_view before)))
     ∙ ap (λ h. if_any (items h ++ map content_view vs)) (sym (list_held pool f o before e))
 
-module _ (old new : DynamicMessage) (apart : AreApart old.descriptor.pool.now) (same : new.descriptor ≡ old.descriptor) where
+module _ (old new : DynamicMessage) (apart : AreApart old.descriptor.pool.now) (same : new.descriptor ≡ old.descriptor) (exclusive : IsExclusive old) where
   abbrev d : MessageDescriptor
   d = old.descriptor
 
@@ -92,52 +67,26 @@ module _ (old new : DynamicMessage) (apart : AreApart old.descriptor.pool.now) (
   abbrev type : ℕ → Option Field
   type = field_at old.descriptor.pool.now old.descriptor.index
 
-  new_at : (q : ℕ) → view new q ≡ shown d new q
-  new_at q = seen_at new q ∙ ap (λ e. shown e new q) same
-
-  -- a target in no oneof
-  alone : (t : Target) → OwnsTarget d t → IsFree t → oneof_of (type (target_type t).number) ≡ None
-  alone (targets.Field f) owns free = ap oneof_of (field_there d apart f owns) ∙ ap (option_and_then (λ k. first_number (members_of pool d.index k))) free
-  alone (targets.Extension x) owns free = ap oneof_of (extension_there d apart x owns)
-
-  elsewhere : (t : Target) → IsFree t → ChangesOnly t old new → (q : ℕ) → q ≢ (target_type t).number → view new q ≡ view old q
-  elsewhere (targets.Field f) free only q other =
-      let g = known_field pool d.index q in
-      let y = known_extension pool d.index q in
-      new_at q
-      ∙ ap (λ o. held_either pool g y (option_map content_view o) (option_map content_view (value_at (extensions_of new) q)) (payloads q (unknown_of new))) (only.0 q other (λ e. cc (sym (no_sibling f (choices_of old) free) ∙ e)))
-      ∙ ap (λ es. held_either pool g y (option_map content_view (value_at (fields_of old) q)) (option_map content_view (value_at es q)) (payloads q (unknown_of new))) only.1
-      ∙ ap (λ rs. held_either pool g y (option_map content_view (value_at (fields_of old) q)) (option_map content_view (value_at (extensions_of old) q)) (payloads q rs)) only.2
-      ∙ sym (seen_at old q)
-  elsewhere (targets.Extension x) free only q other =
-      let g = known_field pool d.index q in
-      let y = known_extension pool d.index q in
-      new_at q
-      ∙ ap (λ es. held_either pool g y (option_map content_view (value_at es q)) (option_map content_view (value_at (extensions_of new) q)) (payloads q (unknown_of new))) only.1
-      ∙ ap (λ o. held_either pool g y (option_map content_view (value_at (fields_of old) q)) (option_map content_view o) (payloads q (unknown_of new))) (only.0 q other)
-      ∙ ap (λ rs. held_either pool g y (option_map content_view (value_at (fields_of old) q)) (option_map content_view (value_at (extensions_of old) q)) (payloads q rs)) only.2
-      ∙ sym (seen_at old q)
-
-  -- what is changed in such a target alone
-  pub changed : (t : Target) → OwnsTarget d t → IsFree t → ChangesOnly t old new → (h : Held)
+  -- what is changed by values that are added to a target
+  pub changed : (t : Target) (vs : List Value) → OwnsTarget d t → Frees t old new → Adds t vs old new → (h : Held)
       → held_in pool (target_type t) (option_map content_view (held_by new t)) ≡ h → view new ≡ assign type (target_type t).number h (view old)
-  changed t owns free only h here =
-      assigned old new type (target_type t).number h (alone t owns free) (under_target d apart t owns new same ∙ here) (elsewhere t free only)
+  changed (targets.Field f) vs owns frees adds h stands =
+      let changes = added_changes f old new adds.0 frees in
+      field_changed old new same f owns (gone d f (choices_of old) (fields_of old) (fields_of new) exclusive changes)
+      (others_stay d f (choices_of old) (fields_of old) (fields_of new) exclusive changes) adds.0.1 adds.0.2 h stands type (λ n. refl)
+  changed (targets.Extension x) vs owns frees adds h stands =
+      extension_changed old new same x owns adds.0.0 adds.0.1 adds.0.2 h stands type (ap oneof_of (extension_there d apart x owns)) (no_field_there d apart x owns)
 
-  pub list_added : (t : Target) → OwnsTarget d t → holds_list pool (target_type t) ≡ true → IsFree t → (vs before : List Value) → items_held (held_by old t) ≡ Some before → Adds t vs old new
+  pub list_added : (t : Target) → OwnsTarget d t → holds_list pool (target_type t) ≡ true → (vs before : List Value) → items_held (held_by old t) ≡ Some before → Adds t vs old new
       → view new ≡ assign type (target_type t).number (if_any (items (view old (target_type t).number) ++ map content_view vs)) (view old)
-  list_added t owns is_list free vs before held adds =
+  list_added t owns is_list vs before held adds =
       let its_list = subst (λ p. holds_list p (target_type t) ≡ true) (sym (pool_is d apart t owns)) is_list in
       let after = subst (λ o. IfSome o (λ b. items_held (held_by new t) ≡ Some (b ++ vs))) held (adds.1 its_list) in
-      changed t owns free adds.0 (if_any (items (view old (target_type t).number) ++ map content_view vs))
+      changed t vs owns (adds.5 (many_list t its_list)) adds (if_any (items (view old (target_type t).number) ++ map content_view vs))
       (lengthened pool (target_type t) (held_by old t) (held_by new t) before vs held after
       ∙ ap (λ h. if_any (items h ++ map content_view vs)) (sym (under_target d apart t owns old refl)))
 
-both : (a b : Bool) → a && b ≡ true → (a ≡ true) × (b ≡ true)
-both true b e = (refl, e)
-both false b e = absurd (cc e)
-
-not_so : (b : Bool) → not b ≡ true → b ≡ false
+pub not_so : (b : Bool) → not b ≡ true → b ≡ false
 not_so true e = absurd (cc e)
 not_so false e = refl
 
@@ -169,28 +118,24 @@ target_label d (targets.Field f) = refl
 target_label d (targets.Extension x) = refl
 
 -- what is added to a list
-pub list_all : (old new : DynamicMessage) → AreApart old.descriptor.pool.now → new.descriptor ≡ old.descriptor → (t : Target) → OwnsTarget old.descriptor t → holds_list old.descriptor.pool.now (target_type t) ≡ true
-    → IsFree t → (vs before : List Value) → items_held (held_by old t) ≡ Some before → Adds t vs old new
+pub list_all : (old new : DynamicMessage) → AreApart old.descriptor.pool.now → new.descriptor ≡ old.descriptor → IsExclusive old → (t : Target) → OwnsTarget old.descriptor t → holds_list old.descriptor.pool.now (target_type t) ≡ true
+    → (vs before : List Value) → items_held (held_by old t) ≡ Some before → Adds t vs old new
     → add_all (field_at old.descriptor.pool.now old.descriptor.index) (target_type t).number (target_field old.descriptor t).part (target_field old.descriptor t).label (view old) (map content_view vs) ≡ Some (view new)
-list_all old new apart same t owns is_list free vs before held adds =
+list_all old new apart same exclusive t owns is_list vs before held adds =
     ap (λ l. add_all (field_at old.descriptor.pool.now old.descriptor.index) (target_type t).number (target_field old.descriptor t).part l (view old) (map content_view vs))
     (target_label old.descriptor t ∙ label_many old.descriptor.pool.now (target_type t) is_list)
-    ∙ ap Some (sym (list_added old new apart same t owns is_list free vs before held adds))
+    ∙ ap Some (sym (list_added old new apart same exclusive t owns is_list vs before held adds))
 
 -- the types of a pool by its places
 pub types_are : (pool : PoolType) → HaveNames pool → (d : MessageDescriptor) → d.pool.now ≡ pool → types_of pool (name_at pool d.index) ≡ field_at pool d.index
 types_are pool names d at = fun_ext (λ n. named pool names d.index n (subst (λ (p : PoolType). d.index < length p.messages) at d.in_range))
 
-is_free : (t : Target) → (target_type t).oneof ≡ None → IsFree t
-is_free (targets.Field f) e = e
-is_free (targets.Extension x) e = tt
-
 pub added : (old new : DynamicMessage) → AreApart old.descriptor.pool.now → HaveNames old.descriptor.pool.now → (w : Text) (t : Target)
-    → NamesField old.descriptor w t ⊎ NamesExtension old.descriptor w t → holds_list (target_pool t) (target_type t) ≡ true → (target_type t).oneof ≡ None
+    → NamesField old.descriptor w t ⊎ NamesExtension old.descriptor w t → holds_list (target_pool t) (target_type t) ≡ true → IsExclusive old
     → (vs before : List Value) → items_held (held_by old t) ≡ Some before → new.descriptor ≡ old.descriptor → Adds t vs old new
     → add_all (types_of old.descriptor.pool.now (name_at old.descriptor.pool.now old.descriptor.index)) (target_type t).number (target_field old.descriptor t).part (target_field old.descriptor t).label (view old) (map content_view vs)
     ≡ Some (view new)
-added old new apart names w t h is_list free vs before held same adds =
+added old new apart names w t h is_list exclusive vs before held same adds =
     let owns = named_target old.descriptor apart w t h in
     ap (λ type. add_all type (target_type t).number (target_field old.descriptor t).part (target_field old.descriptor t).label (view old) (map content_view vs)) (types_are old.descriptor.pool.now names old.descriptor refl)
-    ∙ list_all old new apart same t owns (subst (λ p. holds_list p (target_type t) ≡ true) (pool_is old.descriptor apart t owns) is_list) (is_free t free) vs before held adds
+    ∙ list_all old new apart same exclusive t owns (subst (λ p. holds_list p (target_type t) ≡ true) (pool_is old.descriptor apart t owns) is_list) vs before held adds

@@ -1,6 +1,7 @@
 -- Where numbers are apart, what a text names has the records of its number.
-use Rattle.std.proofs.Common.{◌≡◌, inl, inr, ℕ, ◌<◌, ◌≤◌, suc, zero, ◌&&◌, not, Bool, true, false, true≢false, List, [], ◌∷◌, Some, None, refl, sym, ap, ◌∙◌, arith}
+use Rattle.std.proofs.Common.{◌≡◌, inl, inr, ℕ, ◌<◌, ◌≤◌, ◌==◌, suc, zero, ◌&&◌, not, Bool, true, false, true≢false, List, [], ◌∷◌, Option, Some, None, refl, sym, ap, ◌∙◌, subst, arith}
 use Rattle.std.specs.Prelude.{slice_index_or, length}
+use Rattle.std.specs.List.{find}
 use Rattle.std.specs.Option.{option_and_then}
 use Rattle.protox_lex.specs.Class.{Text}
 use Rattle.reflect_tables.specs.Types.{PoolType, FieldType, ExtensionType, KindType, type_at, type_of_field, no_field, no_extension, extension_at}
@@ -14,18 +15,30 @@ use Rattle.reflect_pool.specs.declared.message.MessageDescriptor.{MessageDescrip
 use Rattle.reflect_scalar.specs.FieldTypes.{field_pool, extension_type}
 use Rattle.reflect_scalar.specs.Floats.{IsFloat, HoldsFloats}
 use Rattle.reflect_message.specs.Declares.{Owns, OwnsExtension}
-use Rattle.reflect_message.specs.Known.{if_held, known_field, known_extension}
+use Rattle.reflect_scalar.proofs.First.{Tells, find_place, find_some}
+use Rattle.reflect_message.specs.Known.{if_held, known_field, known_extension, numbered_field}
 use Rattle.reflect_format.specs.Named.{NamesField, NamesExtension}
 use Rattle.reflect_format.specs.declared.target.Target.TheVariants as targets
 use Rattle.message_view.specs.Types.{either_field, field_at}
 use Rattle.message_view.proofs.Fields.{owned, extension_owned}
-use Rattle.text_view.specs.Apart.{AreApart}
+use Rattle.message_view.specs.Sound.{AreApart, IsNotKept}
 use Rattle.text_view.specs.Targets.{target_field}
+use Rattle.text_view.proofs.Floats.{has_number}
 
 pub any_default : {X : Type 0} (xs : List X) (k : ℕ) (d e : X) → k < length xs → slice_index_or xs k d ≡ slice_index_or xs k e
 any_default [] k d e lt = absurd (omega (arith, lt))
 any_default (x ∷ xs) zero d e lt = refl
 any_default (x ∷ xs) (suc k) d e lt = any_default xs k d e (omega (arith, lt))
+
+-- what one element alone has is found there
+pub only_one : {X : Type 0} (P : X → Type 0) (test : X → Bool) → Tells P test → (xs : List X) (d : X) (k : ℕ) → k < length xs → P (slice_index_or xs k d)
+    → ((j : ℕ) → j < length xs → P (slice_index_or xs j d) → j ≡ k) → find test xs ≡ Some (slice_index_or xs k d)
+only_one P test tells xs d k lt has only = find_some P test tells xs d k (lt, ((λ c. subst P (any_default xs k d c lt) has), before)) where
+  before : (j : ℕ) (c : _) → 0 ≤ j → j < k → P (slice_index_or xs j c) → ⊥
+  before j c low below h =
+      let in_list : j < length xs = omega (arith, lt, below) in
+      let same : j ≡ k = only j in_list (subst P (any_default xs j c d in_list) h) in
+      omega (arith, below, same)
 
 no_float : (k : KindType) (i : ℕ) → k ≡ types.message i → IsFloat k → ⊥
 no_float types.double i e h = cc e
@@ -84,13 +97,29 @@ module _ (m : MessageDescriptor) (apart : AreApart m.pool.now) where
   pub named_extension_owns : (w : Text) (x : ExtensionDescriptor) → NamesExtension m w (targets.Extension x) → OwnsExtension m x
   named_extension_owns w x h = (h.0.0, extension_first x h.0.0.0 h.0.0.1 h.0.1.0, h.1)
 
+  -- the number of an extension is kept for it, and so is that of no field
+  between : (k : ℕ) → k < length m.pool.now.extensions → numbered_field m.pool.now (extension_at m.pool.now k).extendee (extension_at m.pool.now k).field.number ≡ None
+  between k lt = by (numbered_field m.pool.now i n) refl where
+    i : ℕ
+    i = (extension_at m.pool.now k).extendee
+
+    n : ℕ
+    n = (extension_at m.pool.now k).field.number
+
+    by : (o : Option FieldType) → numbered_field m.pool.now i n ≡ o → numbered_field m.pool.now i n ≡ None
+    by None e = e
+    by (Some f) e =
+        let place = find_place (λ (g : FieldType). g.number ≡ n) (λ g. g.number == n) (has_number n) (type_at m.pool.now i).fields f e in
+        let same : (type_of_field m.pool.now i place.0).number ≡ n = place.1.1.0 no_field in
+        absurd (apart.kept k lt (subst (IsNotKept m.pool.now i) same (apart.free i place.0 place.1.0)))
+
   -- no field has the number of an extension
   pub no_field_there : (x : ExtensionDescriptor) → OwnsExtension m x → known_field m.pool.now m.index (extension_type x).number ≡ None
   no_field_there x h =
       let of : (extension_at m.pool.now x.index).extendee ≡ m.index = ap (λ p. (extension_at p x.index).extendee) (sym h.0.0) ∙ h.0.1 in
       let at : (extension_at m.pool.now x.index).field.number ≡ (extension_type x).number = ap (λ p. (extension_at p x.index).field.number) (sym h.0.0) in
       ap (λ n. known_field m.pool.now m.index n) (sym at) ∙ ap (λ i. known_field m.pool.now i (extension_at m.pool.now x.index).field.number) (sym of)
-      ∙ ap (option_and_then (if_held m.pool.now)) (apart.between x.index h.1.0)
+      ∙ ap (option_and_then (if_held m.pool.now)) (between x.index h.1.0)
 
   pub field_there : (f : FieldDescriptor) → Owns m f → field_at m.pool.now m.index (field_type f).number ≡ Some (target_field m (targets.Field f))
   field_there f h = ap (λ o. either_field m.pool.now m.index o (known_extension m.pool.now m.index (field_type f).number)) (owned m f h)

@@ -41,18 +41,17 @@ use Rattle.message_view.proofs.Entries.{entry_of_map}
 use Rattle.message_view.proofs.Fields.{owned, extension_owned}
 use Rattle.message_view.proofs.Sound.{named}
 use Rattle.message_view.proofs.Written.{FitsOne}
-use Rattle.text_view.specs.Ruled.{IsRuled}
+use Rattle.message_view.specs.Sound.{IsSound}
 use Rattle.text_view.proofs.Adds.{list_of_many}
 use Rattle.text_view.proofs.Apart.{no_field_there}
 use Rattle.text_view.proofs.Expanded.{IsWhole, its_lone, number_owns}
 use Rattle.text_view.proofs.Given.{IsPooled, entry_kind, kind_pooled}
-use Rattle.text_view.proofs.Kept.{add_leaves, put_leaves}
+use Rattle.text_view.proofs.Kept.{add_leaves, many_list, many_map, put_leaves}
 use Rattle.text_view.proofs.MapShapes.{AllValues, entries_fit, map_after}
-use Rattle.text_view.proofs.Once.{one_of}
+use Rattle.text_view.proofs.Once.{one_of, put_here, second}
 use Rattle.text_view.proofs.Owned.{OwnsTarget, named_target, pool_is, target_whole}
 use Rattle.text_view.proofs.Set.{singled}
 use Rattle.text_view.proofs.Shaped.{Fits, IsFit, IsShapely, blank_shapely, fit_all, fit_one, fits_single, list_after, list_before, shape_kept, shaped, target_number}
-use Rattle.text_view.proofs.Many.{many_free, map_repeats, put_here, second}
 
 -- a message of so many levels at most below it, by what it holds and as one more level sees it
 abbrev Both : ℕ → DynamicMessage → Type 0
@@ -80,42 +79,42 @@ pub record GivenShaped (pool : PoolType) (l : ℕ) (g : Given) : Type 0 where
   pub all : (k : Kind) (vs : List held.Value) → IsPooled pool k → AreGiven g k vs → AllByRecursion (IsFit (Both l) k) vs
 
 -- a string or bytes that are put under a number
-number_shape : (inner : DynamicMessage → Type 0) (old new : DynamicMessage) (ruled : IsRuled old.descriptor.pool.now) (n : ℕ) (x : Single) (kind : KindType) → IsWhole kind → (IsMessageType kind → ⊥) → SetsNumber n x old new
+number_shape : (inner : DynamicMessage → Type 0) (old new : DynamicMessage) (sound : IsSound old.descriptor.pool.now) (n : ℕ) (x : Single) (kind : KindType) → IsWhole kind → (IsMessageType kind → ⊥) → SetsNumber n x old new
     → IsLone old.descriptor.pool.now old.descriptor.index kind (numbered_field old.descriptor.pool.now old.descriptor.index n)
     → IsShapely inner old.descriptor.pool.now old.descriptor.index (content_of old) → IsShapely inner old.descriptor.pool.now old.descriptor.index (content_of new)
-number_shape inner old new ruled n x kind whole no_message sets lone h =
+number_shape inner old new sound n x kind whole no_message sets lone h =
     let d = old.descriptor in
     let pool = d.pool.now in
     let f = sets.0 in
     let t : Target = targets.Field sets.0 in
-    let owns = number_owns old new ruled.apart n x kind whole sets lone in
-    let alone = its_lone old new ruled.apart n x kind whole sets lone in
+    let owns = number_owns old new sound.apart n x kind whole sets lone in
+    let alone = its_lone old new sound.apart n x kind whole sets lone in
     let order = sets.7 (ascends inner pool d.index old h) in
     let one : FitsOne inner pool (field_type f) sets.1 = record {
       plain = λ type. let w = singled sets.1 x sets.4 in (w.0, w.1);
       nested = λ type. absurd (no_message (subst IsMessageType alone.0 type));
     } in
     let here = fits_single inner pool (field_type f) sets.1 alone.1.1 alone.1.0 one in
-    shape_kept inner d ruled.apart t owns (target_number d ruled.proper t owns) old new (put_leaves t sets.1 old new sets.5) sets.5.unknown order.0 order.1
+    shape_kept inner d sound.apart t owns (target_number d sound.numbers t owns) old new (put_leaves t sets.1 old new sets.5) sets.5.unknown order.0 order.1
     (λ v at. subst (Fits inner pool (field_type f)) (ap (λ o. unwrap_or o v) (sym sets.5.here ∙ at)) here) h
 
 -- the values of the entries that are put into a map
-entry_values : (pool : PoolType) (c : MessageDescriptor) → c.pool.now ≡ pool → (f : FieldType) → f.kind ≡ types.message c.index → IsRuled pool → holds_map pool f ≡ true → holds_floats pool f ≡ false → (l : ℕ) (vs : List held.Value)
+entry_values : (pool : PoolType) (c : MessageDescriptor) → c.pool.now ≡ pool → (f : FieldType) → f.kind ≡ types.message c.index → IsSound pool → holds_map pool f ≡ true → holds_floats pool f ≡ false → (l : ℕ) (vs : List held.Value)
     → AllByRecursion (IsFit (Both l) (publics.Message c)) vs → (before after : List (MapKey × held.Value)) → AllValues (Shaped l) pool f.kind before → PutsAll before after vs → AllValues (Shaped l) pool f.kind after
-entry_values pool c at f kind ruled is_map whole l vs all = subst (λ (p : PoolType). IsRuled p → holds_map p f ≡ true → holds_floats p f ≡ false
-    → (before after : List (MapKey × held.Value)) → AllValues (Shaped l) p f.kind before → PutsAll before after vs → AllValues (Shaped l) p f.kind after) at (base vs all) ruled is_map whole where
+entry_values pool c at f kind sound is_map whole l vs all = subst (λ (p : PoolType). IsSound p → holds_map p f ≡ true → holds_floats p f ≡ false
+    → (before after : List (MapKey × held.Value)) → AllValues (Shaped l) p f.kind before → PutsAll before after vs → AllValues (Shaped l) p f.kind after) at (base vs all) sound is_map whole where
       made : (vs : List held.Value) → AllByRecursion (IsFit (Both l) (publics.Message c)) vs → AllByRecursion (λ v. (m : DynamicMessage) × (v ≡ held_values.Message m) × (m.descriptor ≡ c) × IsShapely (Shaped l) c.pool.now c.index (content_of m)) vs
       made [] h = tt
       made (v ∷ vs) h =
           ((h.0.0, h.0.1, h.0.2, subst (λ (d : MessageDescriptor). IsShapely (Shaped l) d.pool.now d.index (content_of h.0.0)) h.0.2 h.0.3.1), made vs h.1)
 
-      base : (vs : List held.Value) → AllByRecursion (IsFit (Both l) (publics.Message c)) vs → IsRuled c.pool.now → holds_map c.pool.now f ≡ true → holds_floats c.pool.now f ≡ false
+      base : (vs : List held.Value) → AllByRecursion (IsFit (Both l) (publics.Message c)) vs → IsSound c.pool.now → holds_map c.pool.now f ≡ true → holds_floats c.pool.now f ≡ false
           → (before after : List (MapKey × held.Value)) → AllValues (Shaped l) c.pool.now f.kind before → PutsAll before after vs → AllValues (Shaped l) c.pool.now f.kind after
-      base [] h ruled is_map whole before after values puts = subst (AllValues (Shaped l) c.pool.now f.kind) (sym puts) values
-      base (v ∷ vs) h ruled is_map whole before after values puts =
-          entries_fit (Shaped l) (blank_level l h.0.0 h.0.3.0) c f kind ruled is_map whole (v ∷ vs) (made (v ∷ vs) h) before after values puts
+      base [] h sound is_map whole before after values puts = subst (AllValues (Shaped l) c.pool.now f.kind) (sym puts) values
+      base (v ∷ vs) h sound is_map whole before after values puts =
+          entries_fit (Shaped l) (blank_level l h.0.0 h.0.3.0) c f kind sound is_map whole (v ∷ vs) (made (v ∷ vs) h) before after values puts
 
-module _ (old next : DynamicMessage) (same : next.descriptor ≡ old.descriptor) (ruled : IsRuled old.descriptor.pool.now) (l : ℕ) (g : Given) (known : GivenShaped old.descriptor.pool.now l g)
+module _ (old next : DynamicMessage) (same : next.descriptor ≡ old.descriptor) (sound : IsSound old.descriptor.pool.now) (l : ℕ) (g : Given) (known : GivenShaped old.descriptor.pool.now l g)
     (shape : IsShapely (Shaped l) old.descriptor.pool.now old.descriptor.index (content_of old)) where
   abbrev d : MessageDescriptor
   d = old.descriptor
@@ -130,15 +129,15 @@ module _ (old next : DynamicMessage) (same : next.descriptor ≡ old.descriptor)
   stood : (t : Target) → OwnsTarget d t → (v : held.Value) → held_by old t ≡ Some v → Fits (Shaped l) pool (target_type t) v
   stood (targets.Field f) owns v at = shape.field (field_type f).number (field_type f) (owned d f owns) v at
   stood (targets.Extension x) owns v at =
-      shape.extension (extension_type x).number (extension_type x) (no_field_there d ruled.apart x owns) (extension_owned d x owns) v at
+      shape.extension (extension_type x).number (extension_type x) (no_field_there d sound.apart x owns) (extension_owned d x owns) v at
 
   one_shape : (t : Target) → OwnsTarget d t → (k : Kind) → IsKind pool k (target_type t).kind → (v : held.Value) → IsGiven g k v → PutsOne t v old next → After
   one_shape t owns k kind v given puts =
-      let none = one_of d ruled.apart t owns puts.one in
+      let none = one_of d sound.apart t owns puts.one in
       let order = puts.ascending (ascends (Shaped l) pool d.index old shape) in
       let one = fit_one (Shaped l) pool k (target_type t) v kind (first_fit l k v (known.one k v (kind_pooled pool k (target_type t).kind kind) given)) in
       let here = fits_single (Shaped l) pool (target_type t) v none.0 none.1 one in
-      shape_kept (Shaped l) d ruled.apart t owns (target_number d ruled.proper t owns) old next (put_leaves t v old next puts.put) (unknown t puts.put) order.0 order.1
+      shape_kept (Shaped l) d sound.apart t owns (target_number d sound.numbers t owns) old next (put_leaves t v old next puts.put) (unknown t puts.put) order.0 order.1
       (λ u at. subst (Fits (Shaped l) pool (target_type t)) (ap (λ o. unwrap_or o u) (sym (put_here t v old next puts.put) ∙ at)) here) shape where
         unknown : (t : Target) → Puts t v old next → unknown_of next ≡ unknown_of old
         unknown (targets.Field f) p = p.unknown
@@ -153,10 +152,10 @@ module _ (old next : DynamicMessage) (same : next.descriptor ≡ old.descriptor)
       let two = list_of_many pool (target_type t) is_list in
       let order = adds.4 (ascends (Shaped l) pool d.index old shape) in
       let all = fit_all (Shaped l) pool k (target_type t) vs kind (first_fits l k vs (known.all k vs (kind_pooled pool k (target_type t).kind kind) given)) in
-      let its_list = subst (λ p. holds_list p (target_type t) ≡ true) (sym (pool_is d ruled.apart t owns)) is_list in
+      let its_list = subst (λ p. holds_list p (target_type t) ≡ true) (sym (pool_is d sound.apart t owns)) is_list in
       let before = list_before (Shaped l) pool (target_type t) two.1 is_list (held_by old t) (stood t owns) in
       let after = subst (λ o. IfSome o (λ b. items_held (held_by next t) ≡ Some (b ++ vs))) before.1 (adds.1 its_list) in
-      shape_kept (Shaped l) d ruled.apart t owns (target_number d ruled.proper t owns) old next (add_leaves t old next (many_free d ruled t owns two.0) adds.0) (added_unknown t vs adds) order.0 order.1
+      shape_kept (Shaped l) d sound.apart t owns (target_number d sound.numbers t owns) old next (add_leaves t old next adds.0 (adds.5 (many_list t its_list))) (added_unknown t vs adds) order.0 order.1
       (list_after (Shaped l) pool (target_type t) two.1 is_list (held_by old t) (held_by next t) before.0 vs (stood t owns) before.1 after all) shape
 
   map_shape : (t : Target) → OwnsTarget d t → holds_map pool (target_type t) ≡ true → (k : Kind) → IsKind pool k (target_type t).kind → (vs : List held.Value) → AreGiven g k vs → Adds t vs old next → After
@@ -165,15 +164,15 @@ module _ (old next : DynamicMessage) (same : next.descriptor ≡ old.descriptor)
       let order = adds.4 (ascends (Shaped l) pool d.index old shape) in
       let e = entry_kind pool k f.kind kind (entry_of_map pool f is_map) in
       let all = subst (λ k. AllByRecursion (IsFit (Both l) k) vs) e.1 (known.all k vs (kind_pooled pool k f.kind kind) given) in
-      let its_map = subst (λ p. holds_map p f ≡ true) (sym (pool_is d ruled.apart t owns)) is_map in
-      shape_kept (Shaped l) d ruled.apart t owns (target_number d ruled.proper t owns) old next (add_leaves t old next (many_free d ruled t owns (map_repeats pool f is_map)) adds.0) (added_unknown t vs adds) order.0 order.1
+      let its_map = subst (λ p. holds_map p f ≡ true) (sym (pool_is d sound.apart t owns)) is_map in
+      shape_kept (Shaped l) d sound.apart t owns (target_number d sound.numbers t owns) old next (add_leaves t old next adds.0 (adds.5 (many_map t its_map))) (added_unknown t vs adds) order.0 order.1
       (map_after (Shaped l) pool f is_map (held_by old t) (held_by next t) vs (stood t owns) (adds.2 its_map)
-      (entry_values pool e.0 e.2 f e.3 ruled is_map (target_whole d ruled.apart t owns) l vs all)) shape
+      (entry_values pool e.0 e.2 f e.3 sound is_map (target_whole d sound.apart t owns) l vs all)) shape
 
   target_shape : (t : Target) → OwnsTarget d t → Assigns t (IsGiven g) (AreGiven g) old next → After
   target_shape t owns (k, is, choice) = by choice where
     pool_now : target_pool t ≡ pool
-    pool_now = pool_is d ruled.apart t owns
+    pool_now = pool_is d sound.apart t owns
 
     kind : IsKind pool k (target_type t).kind
     kind = subst (λ p. IsKind p k (target_type t).kind) pool_now is
@@ -189,22 +188,22 @@ module _ (old next : DynamicMessage) (same : next.descriptor ≡ old.descriptor)
 
   held_shape : (url : Text) (body : DynamicMessage) → Holds url body old next → After
   held_shape url body (any, between, first, later, typed, short) =
-      let one = number_shape (Shaped l) old between ruled 1 (text url) types.string ((λ h. h), λ p h. h) (λ h. h) first any.1 shape in
+      let one = number_shape (Shaped l) old between sound 1 (text url) types.string ((λ h. h), λ p h. h) (λ h. h) first any.1 shape in
       let its_shape = subst (λ (c : MessageDescriptor). IsShapely (Shaped l) c.pool.now c.index (content_of between)) (sym typed) one in
-      let its_ruled = subst (λ (c : MessageDescriptor). IsRuled c.pool.now) (sym typed) ruled in
+      let its_sound = subst (λ (c : MessageDescriptor). IsSound c.pool.now) (sym typed) sound in
       let lone = subst (λ (c : MessageDescriptor). IsLone c.pool.now c.index types.bytes (numbered_field c.pool.now c.index 2)) (sym typed) any.2 in
       subst (λ (c : MessageDescriptor). IsShapely (Shaped l) c.pool.now c.index (content_of next)) typed
-      (number_shape (Shaped l) between next its_ruled 2 (blob (message_bytes body)) types.bytes ((λ h. h), λ p h. h) (λ h. h) later lone its_shape)
+      (number_shape (Shaped l) between next its_sound 2 (blob (message_bytes body)) types.bytes ((λ h. h), λ p h. h) (λ h. h) later lone its_shape)
 
   pub name_shape : (name : FieldName) → Names name (IsGiven g) (AreGiven g) (FillsBody g) old next → After
-  name_shape (plain v) (t, name, assigns) = target_shape t (named_target d ruled.apart v t (inl name)) assigns
-  name_shape (extension v) (t, name, assigns) = target_shape t (named_target d ruled.apart (written v) t (inr name)) assigns
+  name_shape (plain v) (t, name, assigns) = target_shape t (named_target d sound.apart v t (inl name)) assigns
+  name_shape (extension v) (t, name, assigns) = target_shape t (named_target d sound.apart (written v) t (inr name)) assigns
   name_shape (expansion domain v) h = held_shape _ h.1 h.5
 
 shape_at : (old next : DynamicMessage) → next.descriptor ≡ old.descriptor → (l : ℕ) (name : FieldName) (g : Given) → Names name (IsGiven g) (AreGiven g) (FillsBody g) old next
-    → (q : PoolType) → old.descriptor.pool.now ≡ q → IsRuled q → GivenShaped q l g → IsShapely (Shaped l) q old.descriptor.index (content_of old) → IsShapely (Shaped l) q old.descriptor.index (content_of next)
-shape_at old next same l name g names q at = subst (λ (p : PoolType). IsRuled p → GivenShaped p l g → IsShapely (Shaped l) p old.descriptor.index (content_of old) → IsShapely (Shaped l) p old.descriptor.index (content_of next)) at
-    (λ ruled known shape. name_shape old next same ruled l g known shape name names)
+    → (q : PoolType) → old.descriptor.pool.now ≡ q → IsSound q → GivenShaped q l g → IsShapely (Shaped l) q old.descriptor.index (content_of old) → IsShapely (Shaped l) q old.descriptor.index (content_of next)
+shape_at old next same l name g names q at = subst (λ (p : PoolType). IsSound p → GivenShaped p l g → IsShapely (Shaped l) p old.descriptor.index (content_of old) → IsShapely (Shaped l) p old.descriptor.index (content_of next)) at
+    (λ sound known shape. name_shape old next same sound l g known shape name names)
 
 -- the type of a message stays
 fills_type : (fs : Fields) (old new : DynamicMessage) → Fills fs old new → new.descriptor ≡ old.descriptor
@@ -217,7 +216,7 @@ max_left a b l le = omega (arith, le)
 max_right : (a b l : ℕ) → max a b ≤ l → b ≤ l
 max_right a b l le = omega (arith, le)
 
-module _ (q : PoolType) (ruled : IsRuled q) where
+module _ (q : PoolType) (sound : IsSound q) where
   abbrev FieldsShaped : Fields → Type 0
   FieldsShaped fs =
       (l : ℕ) → open_braces fs ≤ l → (old new : DynamicMessage) → old.descriptor.pool.now ≡ q → IsShapely (Shaped l) q old.descriptor.index (content_of old) → Fills fs old new
@@ -252,7 +251,7 @@ module _ (q : PoolType) (ruled : IsRuled q) where
     pub fields_shape : (fs : Fields) → FieldsShaped fs
     fields_shape no_fields l le old new at shape e = subst (λ m. IsShapely (Shaped l) q old.descriptor.index (content_of m)) (sym e) shape
     fields_shape (more_fields name g sep fs) l le old new at shape (next, same, names, rest) =
-        let one = shape_at old next same l name g names q at ruled (given_shape g l (max_left (given_braces g) (open_braces fs) l le)) shape in
+        let one = shape_at old next same l name g names q at sound (given_shape g l (max_left (given_braces g) (open_braces fs) l le)) shape in
         let its = subst (λ (c : MessageDescriptor). IsShapely (Shaped l) q c.index (content_of next)) (sym same) one in
         subst (λ (c : MessageDescriptor). IsShapely (Shaped l) q c.index (content_of new)) same
         (fields_shape fs l (max_right (given_braces g) (open_braces fs) l le) next new (ap (λ (c : MessageDescriptor). c.pool.now) same ∙ at) its rest)
@@ -286,10 +285,10 @@ module _ (q : PoolType) (ruled : IsRuled q) where
   made_written fs d m at makes =
       let l = open_braces fs in
       let made = made_shape fs (fields_shape fs) d m at makes l (omega arith) in
-      shaped_bytes q ruled.sound.keys ruled.sound.entries ruled.sound.lists (types_of q) (named q ruled.sound.names) (suc l) m (ap (λ (c : MessageDescriptor). c.pool.now) made.0 ∙ at) (shaped (Shaped l) m.descriptor (content_of m) made.1)
+      shaped_bytes q sound.keys sound.entries sound.lists (types_of q) (named q sound.names) (suc l) m (ap (λ (c : MessageDescriptor). c.pool.now) made.0 ∙ at) (shaped (Shaped l) m.descriptor (content_of m) made.1)
       ∙ ap (λ (c : MessageDescriptor). bytes_of (types_of q) (name_at q c.index) (view m)) made.0
 
-pub body_written : (g : Given) (d : MessageDescriptor) (m : DynamicMessage) → IsRuled d.pool.now → Makes d (FillsBody g) m → message_bytes m ≡ bytes_of (types_of d.pool.now) (name_at d.pool.now d.index) (view m)
-body_written (one_message c b fs) d m ruled makes = made_written d.pool.now ruled fs d m refl makes
-body_written (one_scalar s) d m ruled makes = absurd makes.3
-body_written (listed vs) d m ruled makes = absurd makes.3
+pub body_written : (g : Given) (d : MessageDescriptor) (m : DynamicMessage) → IsSound d.pool.now → Makes d (FillsBody g) m → message_bytes m ≡ bytes_of (types_of d.pool.now) (name_at d.pool.now d.index) (view m)
+body_written (one_message c b fs) d m sound makes = made_written d.pool.now sound fs d m refl makes
+body_written (one_scalar s) d m sound makes = absurd makes.3
+body_written (listed vs) d m sound makes = absurd makes.3

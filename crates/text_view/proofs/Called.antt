@@ -46,7 +46,7 @@ module _ {X : Type 0} (P : X → Type 0) (test : X → Bool) (t : Tells P test) 
       at f rest zero d lt h = true≢false (sym (t.passes x h) ∙ f)
       at f rest (suc k) d lt h = rest k d (omega (arith, lt)) h
 
-both : (a b : Bool) → a && b ≡ true → (a ≡ true) × (b ≡ true)
+pub both : (a b : Bool) → a && b ≡ true → (a ≡ true) × (b ≡ true)
 both true b e = (refl, e)
 both false b e = absurd (cc e)
 

@@ -25,7 +25,7 @@ use Rattle.text_model.specs.Value.{assign, hold, settled, with_field}
 use Rattle.message_view.specs.Singles.{scalar_of}
 use Rattle.message_view.specs.Types.{field_at, part_of}
 use Rattle.message_view.specs.Views.{view}
-use Rattle.text_view.specs.Apart.{AreApart}
+use Rattle.message_view.specs.Sound.{AreApart}
 use Rattle.text_view.specs.Holds.{HasForm, HoldsKinds, IsHeldAs}
 use Rattle.text_view.specs.Schemas.{shape_at}
 use Rattle.text_view.specs.Targets.{target_field}

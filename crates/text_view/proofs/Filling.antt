@@ -23,7 +23,7 @@ use Rattle.message_view.specs.Types.{name_at}
 use Rattle.message_view.specs.Views.{content_view, view}
 use Rattle.message_view.proofs.Seen.{message_seen}
 use Rattle.text_view.specs.Holds.{HoldsKinds}
-use Rattle.text_view.specs.Ruled.{IsRuled}
+use Rattle.message_view.specs.Sound.{IsSound}
 use Rattle.text_view.specs.Schemas.{schema_of, shape_at}
 use Rattle.text_view.proofs.Given.{IsPooled, Wants, message_told, none_then}
 use Rattle.text_view.proofs.Kept.{blank_exclusive, blank_kinds, blank_view}
@@ -37,13 +37,13 @@ good_scalar : (k : Kind) (s : ScalarValue) (x : held.Value) → IsScalar k s x �
 good_scalar (publics.Message d) s x h = absurd (cc h.1)
 good_scalar k s x h = (s, h)
 
-module _ (decoded : Name → Text → Option Message) (pool : PoolType) (ruled : IsRuled pool) where
+module _ (decoded : Name → Text → Option Message) (pool : PoolType) (sound : IsSound pool) where
   abbrev w : Schema
   w = schema_of pool decoded
 
   -- the type of a name is that at its place
   shape_at_place : (d : MessageDescriptor) → d.pool.now ≡ pool → shape_of w (name_at pool d.index) ≡ shape_at pool d.index
-  shape_at_place d at = shape_is pool ruled.sound.names decoded d.index (subst (λ (p : PoolType). d.index < length p.messages) at d.in_range)
+  shape_at_place d at = shape_is pool sound.names decoded d.index (subst (λ (p : PoolType). d.index < length p.messages) at d.in_range)
 
   -- fields fill a message as the model says
   abbrev FieldsKnown : Fields → Type 0
@@ -87,7 +87,7 @@ module _ (decoded : Name → Text → Option Message) (pool : PoolType) (ruled :
       subst HoldsKinds (sym e) kinds,
     )
     fields_known (more_fields name g sep fs) old new at exclusive kinds (next, same, names, rest) =
-        let one = step_at decoded old next same exclusive kinds name g names pool at ruled (given_known g) in
+        let one = step_at decoded old next same exclusive kinds name g names pool at sound (given_known g) in
         let more = fields_known fs next new (ap (λ (c : MessageDescriptor). c.pool.now) same ∙ at) one.1 one.2 rest in (
           ap (option_and_then (value w (shape_at pool old.descriptor.index) fs)) one.0
               ∙ ap (λ (c : MessageDescriptor). value w (shape_at pool c.index) fs (view next)) (sym same) ∙ more.0,
@@ -153,9 +153,9 @@ module _ (decoded : Name → Text → Option Message) (pool : PoolType) (ruled :
     pub fields_unfit : (fs : Fields) → FieldsUnfit fs
     fields_unfit no_fields m at exclusive kinds h = absurd h
     fields_unfit (more_fields name g sep fs) m at exclusive kinds (inl h) =
-        ap (option_and_then (value w (shape_at pool m.descriptor.index) fs)) (refused_at decoded m kinds name g h pool at ruled (given_unfit g))
+        ap (option_and_then (value w (shape_at pool m.descriptor.index) fs)) (refused_at decoded m kinds name g h pool at sound (given_unfit g))
     fields_unfit (more_fields name g sep fs) m at exclusive kinds (inr (next, (same, names), bad)) =
-        let one = step_at decoded m next same exclusive kinds name g names pool at ruled (given_known g) in
+        let one = step_at decoded m next same exclusive kinds name g names pool at sound (given_known g) in
         ap (option_and_then (value w (shape_at pool m.descriptor.index) fs)) one.0
         ∙ ap (λ (c : MessageDescriptor). value w (shape_at pool c.index) fs (view next)) (sym same)
         ∙ fields_unfit fs next (ap (λ (c : MessageDescriptor). c.pool.now) same ∙ at) one.1 one.2 bad
@@ -193,27 +193,27 @@ module _ (decoded : Name → Text → Option Message) (pool : PoolType) (ruled :
 abbrev given : (Name → Text → Option Message) → DynamicMessage → Fields → Option Message
 given decoded old fs = value (schema_of old.descriptor.pool.now decoded) (shape_at old.descriptor.pool.now old.descriptor.index) fs (view old)
 
-pub filled : (decoded : Name → Text → Option Message) (old new : DynamicMessage) → IsRuled old.descriptor.pool.now → IsExclusive old → HoldsKinds old → (fs : Fields) → Fills fs old new
+pub filled : (decoded : Name → Text → Option Message) (old new : DynamicMessage) → IsSound old.descriptor.pool.now → IsExclusive old → HoldsKinds old → (fs : Fields) → Fills fs old new
     → given decoded old fs ≡ Some (view new)
-filled decoded old new ruled exclusive kinds fs h =
-    (fields_known decoded old.descriptor.pool.now ruled fs old new refl exclusive kinds h).0
+filled decoded old new sound exclusive kinds fs h =
+    (fields_known decoded old.descriptor.pool.now sound fs old new refl exclusive kinds h).0
 
-pub unfilled : (decoded : Name → Text → Option Message) (old : DynamicMessage) → IsRuled old.descriptor.pool.now → IsExclusive old → HoldsKinds old → (fs : Fields) → Unfit fs old
+pub unfilled : (decoded : Name → Text → Option Message) (old : DynamicMessage) → IsSound old.descriptor.pool.now → IsExclusive old → HoldsKinds old → (fs : Fields) → Unfit fs old
     → given decoded old fs ≡ None
-unfilled decoded old ruled exclusive kinds fs h =
-    fields_unfit decoded old.descriptor.pool.now ruled fs old refl exclusive kinds h
+unfilled decoded old sound exclusive kinds fs h =
+    fields_unfit decoded old.descriptor.pool.now sound fs old refl exclusive kinds h
 
 abbrev no_bytes : Name → Text → Option Message
 no_bytes t bytes = None
 
-pub apart : (old new : DynamicMessage) → IsRuled old.descriptor.pool.now → IsExclusive old → HoldsKinds old → (fs : Fields) → Fills fs old new → Unfit fs old → ⊥
-apart old new ruled exclusive kinds fs h u =
-    cc (sym (filled no_bytes old new ruled exclusive kinds fs h) ∙ unfilled no_bytes old ruled exclusive kinds fs u)
+pub apart : (old new : DynamicMessage) → IsSound old.descriptor.pool.now → IsExclusive old → HoldsKinds old → (fs : Fields) → Fills fs old new → Unfit fs old → ⊥
+apart old new sound exclusive kinds fs h u =
+    cc (sym (filled no_bytes old new sound exclusive kinds fs h) ∙ unfilled no_bytes old sound exclusive kinds fs u)
 
-pub one_way : (old a b : DynamicMessage) → IsRuled old.descriptor.pool.now → IsExclusive old → HoldsKinds old → (fs : Fields) → Fills fs old a → Fills fs old b → view a ≡ view b
-one_way old a b ruled exclusive kinds fs h k =
-    same_message (view a) (view b) (sym (filled no_bytes old a ruled exclusive kinds fs h) ∙ filled no_bytes old b ruled exclusive kinds fs k)
+pub one_way : (old a b : DynamicMessage) → IsSound old.descriptor.pool.now → IsExclusive old → HoldsKinds old → (fs : Fields) → Fills fs old a → Fills fs old b → view a ≡ view b
+one_way old a b sound exclusive kinds fs h k =
+    same_message (view a) (view b) (sym (filled no_bytes old a sound exclusive kinds fs h) ∙ filled no_bytes old b sound exclusive kinds fs k)
 
-pub stays_so : (old new : DynamicMessage) → IsRuled old.descriptor.pool.now → IsExclusive old → HoldsKinds old → (fs : Fields) → Fills fs old new → IsExclusive new × HoldsKinds new
-stays_so old new ruled exclusive kinds fs h =
-    let all = fields_known no_bytes old.descriptor.pool.now ruled fs old new refl exclusive kinds h in (all.2, all.3)
+pub stays_so : (old new : DynamicMessage) → IsSound old.descriptor.pool.now → IsExclusive old → HoldsKinds old → (fs : Fields) → Fills fs old new → IsExclusive new × HoldsKinds new
+stays_so old new sound exclusive kinds fs h =
+    let all = fields_known no_bytes old.descriptor.pool.now sound fs old new refl exclusive kinds h in (all.2, all.3)

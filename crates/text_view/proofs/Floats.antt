@@ -13,15 +13,15 @@ kind_float types.double e = tt
 kind_float types.float e = tt
 kind_float k e = absurd (cc e)
 
-numbered : (n : ℕ) → Tells (λ (f : FieldType). f.number ≡ n) (λ f. f.number == n)
-numbered n = record { says = λ f e. grind (arith, e); passes = λ f e. grind (arith, e) }
+pub has_number : (n : ℕ) → Tells (λ (f : FieldType). f.number ≡ n) (λ f. f.number == n)
+has_number n = record { says = λ f e. grind (arith, e); passes = λ f e. grind (arith, e) }
 
 told_floats : (pool : PoolType) (k : KindType) → has_floats pool k ≡ true → HasFloats pool k
 told_floats pool (types.message i) e = by (numbered_field pool i 2) refl e where
   by : (o : Option FieldType) → numbered_field pool i 2 ≡ o → elim o [ None ↦ false | Some v ↦ is_float v.kind ] ≡ true → HasFloats pool (types.message i)
   by None is f = absurd (cc f)
   by (Some v) is f =
-      let place = find_place (λ (g : FieldType). g.number ≡ 2) (λ g. g.number == 2) (numbered 2) (type_at pool i).fields v is in
+      let place = find_place (λ (g : FieldType). g.number ≡ 2) (λ g. g.number == 2) (has_number 2) (type_at pool i).fields v is in
       let same : Some v ≡ Some (type_of_field pool i place.0) = sym is ∙ place.2 no_field in
       (place.0, place.1, kind_float (type_of_field pool i place.0).kind (sym (ap (λ o. elim o [ None ↦ false | Some v ↦ is_float v.kind ]) same) ∙ f))
 told_floats pool k e = absurd (cc e)

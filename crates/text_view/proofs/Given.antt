@@ -1,5 +1,5 @@
 -- What is given to a field, as contents of the model, and what a field wants of it.
-use Rattle.std.proofs.Common.{◌≡◌, ℕ, Bool, true, false, cond, List, [], ◌∷◌, Option, Some, None, option_map, option_and_then, refl, sym, ap, ◌∙◌, subst, ◌<◌, length, is_some}
+use Rattle.std.proofs.Common.{◌≡◌, ℕ, Bool, true, false, List, [], ◌∷◌, Option, Some, None, option_map, option_and_then, refl, sym, ap, ◌∙◌, subst, ◌<◌, length, is_some}
 use Rattle.protox_lex.specs.Class.{Text}
 use Rattle.protobuf_model.specs.Types.{Name, Field, Label, one, many, keyed}
 use Rattle.protobuf_model.specs.Values.{Content, single, message, Message, nothing}
@@ -16,24 +16,22 @@ use Rattle.reflect_format.specs.Kinds.{scalar_given}
 use Rattle.reflect_format.specs.Takes.{target_type}
 use Rattle.reflect_format.specs.declared.target.Target.{Target}
 use Rattle.reflect_format.specs.declared.target.Target.TheVariants as targets
-use Rattle.text_model.specs.Schemas.{Names, Schema, Shape, entry_shape}
+use Rattle.text_model.specs.Schemas.{Schema, Shape, shape_of}
 use Rattle.text_model.specs.Tree.{ScalarValue, Given, one_scalar, one_message, listed, Fields}
 use Rattle.text_model.specs.Value.{Wanted, of_message, add_all, add_one, field_value, message_content, scalar_content, set_one, value, values_contents, wanted_in, wanted_of}
-use Rattle.message_view.specs.Sound.{HaveNames}
-use Rattle.message_view.specs.Types.{entry_part, key_of, kind_in, part_of, values_of}
+use Rattle.message_view.specs.Sound.{HaveNames, IsSound}
+use Rattle.message_view.specs.Types.{kind_in, name_at, part_of, values_of}
 use Rattle.message_view.proofs.Accepting.{not_float}
-use Rattle.message_view.proofs.Entries.{entry_of_map, no_float_values, part_is}
-use Rattle.text_view.specs.Names.{names_of, number_in}
-use Rattle.text_view.specs.Ruled.{IsRuled}
+use Rattle.message_view.proofs.Entries.{entry_of_map, no_float_values}
+use Rattle.text_view.specs.Names.{names_of, number_in, kind_name}
 use Rattle.text_view.specs.Schemas.{schema_of, shape_at}
 use Rattle.text_view.specs.Targets.{target_field}
 use Rattle.text_view.proofs.Adds.{label_keyed, target_label}
-use Rattle.text_view.proofs.Alike.{AreAlike, value_alike}
-use Rattle.text_view.proofs.Entries.{key_numbered, keys, shapes_alike, value_numbered, values}
+use Rattle.text_view.proofs.Entries.{value_numbered, values}
 use Rattle.text_view.proofs.Owned.{OwnsTarget, target_whole}
 use Rattle.text_view.proofs.Scalars.{told}
 use Rattle.text_view.proofs.Shapes.{shape_is}
-use Rattle.text_view.proofs.Wanted.{enum_under, wanted_target}
+use Rattle.text_view.proofs.Wanted.{entry_under, wanted_target}
 
 -- one value, which a list is not, and any number of them
 abbrev pub one_content : Schema → Wanted → Given → Option Content
@@ -130,46 +128,25 @@ entry_there None h = absurd (cc h)
 entry_there (Some e) h = (e, refl)
 
 -- the parts of the entries of a map
-module _ (d : MessageDescriptor) (f : FieldType) (kind : f.kind ≡ types.message d.index) (ruled : IsRuled d.pool.now) (is_map : holds_map d.pool.now f ≡ true) (whole : holds_floats d.pool.now f ≡ false) where
+module _ (d : MessageDescriptor) (f : FieldType) (kind : f.kind ≡ types.message d.index) (sound : IsSound d.pool.now) (is_map : holds_map d.pool.now f ≡ true) (whole : holds_floats d.pool.now f ≡ false) where
   pub the_entry : (e : StoredEntry) × ((type_at d.pool.now d.index).entry ≡ Some e)
   the_entry = entry_there (type_at d.pool.now d.index).entry (ap (is_entry d.pool.now) (sym kind) ∙ entry_of_map d.pool.now f is_map)
 
-  pub value_there : entry_field d.pool.now f.kind 2 ≡ Some (values d ruled the_entry.0 the_entry.1)
-  value_there = ap (λ k. entry_field d.pool.now k 2) kind ∙ value_numbered d ruled the_entry.0 the_entry.1
+  pub value_there : entry_field d.pool.now f.kind 2 ≡ Some (values d sound the_entry.0 the_entry.1)
+  value_there = ap (λ k. entry_field d.pool.now k 2) kind ∙ value_numbered d sound the_entry.0 the_entry.1
 
-  pub value_no_float : is_float (values d ruled the_entry.0 the_entry.1).kind ≡ false
-  value_no_float = no_float_values d.pool.now f (values d ruled the_entry.0 the_entry.1) whole is_map value_there
+  pub value_no_float : is_float (values d sound the_entry.0 the_entry.1).kind ≡ false
+  value_no_float = no_float_values d.pool.now f (values d sound the_entry.0 the_entry.1) whole is_map value_there
 
-  key_is_there : entry_part d.pool.now f 1 ≡ keys d ruled the_entry.0 the_entry.1
-  key_is_there = part_is d.pool.now f 1 (keys d ruled the_entry.0 the_entry.1) (ap (λ k. entry_field d.pool.now k 1) kind ∙ key_numbered d ruled the_entry.0 the_entry.1)
-
-  value_is_there : entry_part d.pool.now f 2 ≡ values d ruled the_entry.0 the_entry.1
-  value_is_there = part_is d.pool.now f 2 (values d ruled the_entry.0 the_entry.1) value_there
-
-  -- an entry is wanted as the type of entries has it
-  pub entry_alike : (w : Schema) (names : Names) (n : ℕ) → names.enum_number n ≡ number_in d.pool.now (entry_part d.pool.now f 2).kind
-      → AreAlike w (entry_shape names n (key_of d.pool.now (entry_part d.pool.now f 1)) (part_of d.pool.now (entry_part d.pool.now f 2))) (shape_at d.pool.now d.index)
-  entry_alike w names n enum =
-      subst (λ g. AreAlike w (entry_shape names n (key_of d.pool.now g) (part_of d.pool.now (entry_part d.pool.now f 2))) (shape_at d.pool.now d.index)) (sym key_is_there)
-      (subst (λ g. AreAlike w (entry_shape names n (key_of d.pool.now (keys d ruled the_entry.0 the_entry.1)) (part_of d.pool.now g)) (shape_at d.pool.now d.index)) (sym value_is_there)
-      (shapes_alike d ruled the_entry.0 the_entry.1 value_no_float w names n (enum ∙ ap (λ (g : FieldType). number_in d.pool.now g.kind) value_is_there)))
-
-  entry_base : (decoded : Name → Text → Option Message) (names : Names) (n : ℕ) → names.enum_number n ≡ number_in d.pool.now (entry_part d.pool.now f 2).kind
-      → Wants d.pool.now (schema_of d.pool.now decoded) (publics.Message d) (of_message (entry_shape names n (key_of d.pool.now (entry_part d.pool.now f 1)) (part_of d.pool.now (entry_part d.pool.now f 2))))
-  entry_base decoded names n enum = record {
-    told = λ s. refl;
-    braced = λ fs. ap (option_map message)
-        (value_alike (schema_of d.pool.now decoded) (entry_shape names n (key_of d.pool.now (entry_part d.pool.now f 1)) (part_of d.pool.now (entry_part d.pool.now f 2))) (shape_at d.pool.now d.index)
-        (entry_alike (schema_of d.pool.now decoded) names n enum) fs nothing);
-    pooled = refl;
-  }
-
-entry_wants : (pool : PoolType) (d : MessageDescriptor) → d.pool.now ≡ pool → (f : FieldType) → f.kind ≡ types.message d.index → IsRuled pool → holds_map pool f ≡ true → holds_floats pool f ≡ false
-    → (decoded : Name → Text → Option Message) (names : Names) (n : ℕ) → names.enum_number n ≡ number_in pool (entry_part pool f 2).kind
-    → Wants pool (schema_of pool decoded) (publics.Message d) (of_message (entry_shape names n (key_of pool (entry_part pool f 1)) (part_of pool (entry_part pool f 2))))
-entry_wants pool d at f kind = subst (λ (p : PoolType). IsRuled p → holds_map p f ≡ true → holds_floats p f ≡ false → (decoded : Name → Text → Option Message) (names : Names) (n : ℕ)
-    → names.enum_number n ≡ number_in p (entry_part p f 2).kind → Wants p (schema_of p decoded) (publics.Message d) (of_message (entry_shape names n (key_of p (entry_part p f 1)) (part_of p (entry_part p f 2)))))
-    at (λ ruled is_map whole decoded names n enum. entry_base d f kind ruled is_map whole decoded names n enum)
+-- messages of a type are wanted by its name
+type_wants : (pool : PoolType) → HaveNames pool → (decoded : Name → Text → Option Message) (d : MessageDescriptor) → d.pool.now ≡ pool
+    → Wants pool (schema_of pool decoded) (publics.Message d) (of_message (shape_of (schema_of pool decoded) (name_at pool d.index)))
+type_wants pool names decoded d at = record {
+  told = λ s. refl;
+  braced = λ fs. ap (λ s. option_map message (value (schema_of pool decoded) s fs nothing))
+      (shape_is pool names decoded d.index (subst (λ (p : PoolType). d.index < length p.messages) at d.in_range));
+  pooled = at;
+}
 
 -- ---- targets
 
@@ -178,7 +155,7 @@ target_part d (targets.Field f) = refl
 target_part d (targets.Extension x) = refl
 
 -- what a target wants is what its kind is
-module _ (d : MessageDescriptor) (ruled : IsRuled d.pool.now) (decoded : Name → Text → Option Message) (t : Target) (owns : OwnsTarget d t) where
+module _ (d : MessageDescriptor) (sound : IsSound d.pool.now) (decoded : Name → Text → Option Message) (t : Target) (owns : OwnsTarget d t) where
   abbrev its_pool : PoolType
   its_pool = d.pool.now
 
@@ -191,20 +168,19 @@ module _ (d : MessageDescriptor) (ruled : IsRuled d.pool.now) (decoded : Name �
   abbrev pub wanted : Wanted
   wanted = wanted_of (schema_of d.pool.now decoded) (names_of d.pool.now d.index) (target_type t).number (target_field d t).part (target_field d t).label
 
-  map_wanted : holds_map its_pool f ≡ true → wanted ≡ of_message (entry_shape (names_of its_pool d.index) f.number (key_of its_pool (entry_part its_pool f 1)) (part_of its_pool (entry_part its_pool f 2)))
-  map_wanted is_map =
+  -- entries of a map are wanted by the name of their type
+  pub map_wanted : (c : MessageDescriptor) → f.kind ≡ types.message c.index → holds_map its_pool f ≡ true → wanted ≡ of_message (shape_of its_schema (name_at its_pool c.index))
+  map_wanted c kind is_map =
       ap (λ l. wanted_of its_schema (names_of its_pool d.index) f.number (target_field d t).part l) (target_label d t ∙ label_keyed its_pool f is_map)
-      ∙ ap (λ p. of_message (entry_shape (names_of its_pool d.index) f.number (key_of its_pool (entry_part its_pool f 1)) p))
-      (target_part d t ∙ ap (λ b. part_of its_pool (cond b (entry_part its_pool f 2) f)) is_map)
+      ∙ ap (λ u. of_message (shape_of its_schema u)) (entry_under d sound.apart t owns ∙ ap (kind_name its_pool) kind)
 
   pub target_wants : (k : Kind) → IsKind its_pool k f.kind → Wants its_pool its_schema k wanted
   target_wants k is = by (holds_map its_pool f) refl where
     by : (b : Bool) → holds_map its_pool f ≡ b → Wants its_pool its_schema k wanted
     by false no_map =
-        subst (Wants its_pool its_schema k) (sym (wanted_target d ruled.apart its_schema t owns no_map))
-        (kind_wants its_pool ruled.sound.names decoded f.group k f.kind is (not_float its_pool f (target_whole d ruled.apart t owns)))
+        subst (Wants its_pool its_schema k) (sym (wanted_target d sound.apart its_schema t owns no_map))
+        (kind_wants its_pool sound.names decoded f.group k f.kind is (not_float its_pool f (target_whole d sound.apart t owns)))
     by true is_map =
         let e = entry_kind its_pool k f.kind is (entry_of_map its_pool f is_map) in
-        subst (λ k. Wants its_pool its_schema k wanted) (sym e.1) (subst (Wants its_pool its_schema (publics.Message e.0)) (sym (map_wanted is_map))
-        (entry_wants its_pool e.0 e.2 f e.3 ruled is_map (target_whole d ruled.apart t owns) decoded (names_of its_pool d.index) f.number
-        (enum_under d ruled.apart t owns ∙ ap (λ b. number_in its_pool (cond b (entry_part its_pool f 2) f).kind) is_map)))
+        subst (λ k. Wants its_pool its_schema k wanted) (sym e.1) (subst (Wants its_pool its_schema (publics.Message e.0)) (sym (map_wanted e.0 e.3 is_map))
+        (type_wants its_pool sound.names decoded e.0 e.2))

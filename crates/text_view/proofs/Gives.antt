@@ -33,7 +33,7 @@ use Rattle.message_view.proofs.Entries.{Sort, plain, floating, message_type, sor
 use Rattle.message_view.proofs.Keys.{key_single}
 use Rattle.message_view.proofs.Seen.{message_seen}
 use Rattle.text_view.specs.Holds.{AreHeldAs, HasForm}
-use Rattle.text_view.specs.Ruled.{IsRuled}
+use Rattle.message_view.specs.Sound.{IsSound}
 use Rattle.text_view.proofs.Entries.{entry_is, key_kind, key_known, key_numbered, key_part, key_type, scalar_whole, value_known, value_part, values}
 use Rattle.text_view.proofs.Forms.{key_is, suited_form}
 use Rattle.text_view.proofs.Kept.{blank_view}
@@ -60,7 +60,7 @@ default_single pool f v type h =
     let w = some_default pool f type in
     one_value v ∙ ap (option_map single_view) (h.0 type ∙ w.1) ∙ ap Some (sym (default_is pool f w.0 w.1))
 
-module _ (d : MessageDescriptor) (ruled : IsRuled d.pool.now) (e : StoredEntry) (is : (type_at d.pool.now d.index).entry ≡ Some e) (whole : is_float (values d ruled e is).kind ≡ false) where
+module _ (d : MessageDescriptor) (sound : IsSound d.pool.now) (e : StoredEntry) (is : (type_at d.pool.now d.index).entry ≡ Some e) (whole : is_float (values d sound e is).kind ≡ false) where
   abbrev pool : PoolType
   pool = d.pool.now
 
@@ -80,40 +80,40 @@ module _ (d : MessageDescriptor) (ruled : IsRuled d.pool.now) (e : StoredEntry) 
     under_key : view m 1 ≡ held_in pool key_type_of (option_map content_view (value_at (fields_of m) 1))
     under_key =
         seen_at m 1 ∙ ap (λ c. shown c m 1) same
-        ∙ ap (λ o. held_either pool o (known_extension pool d.index 1) (option_map content_view (value_at (fields_of m) 1)) (option_map content_view (value_at (extensions_of m) 1)) (payloads 1 (unknown_of m))) (key_known d ruled e is)
+        ∙ ap (λ o. held_either pool o (known_extension pool d.index 1) (option_map content_view (value_at (fields_of m) 1)) (option_map content_view (value_at (extensions_of m) 1)) (payloads 1 (unknown_of m))) (key_known d sound e is)
 
     under_value : view m 2 ≡ held_in pool value_type_of (option_map content_view (value_at (fields_of m) 2))
     under_value =
         seen_at m 2 ∙ ap (λ c. shown c m 2) same
-        ∙ ap (λ o. held_either pool o (known_extension pool d.index 2) (option_map content_view (value_at (fields_of m) 2)) (option_map content_view (value_at (extensions_of m) 2)) (payloads 2 (unknown_of m))) (value_known d ruled e is whole)
+        ∙ ap (λ o. held_either pool o (known_extension pool d.index 2) (option_map content_view (value_at (fields_of m) 2)) (option_map content_view (value_at (extensions_of m) 2)) (payloads 2 (unknown_of m))) (value_known d sound e is whole)
 
     key_held : OfKindIfHeld key_type_of.kind (value_at (fields_of m) 1)
     key_held =
-        let none = no_many pool key_type_of (key_part d ruled e is).one in
-        one_held pool key_type_of none.0 none.1 (value_at (fields_of m) 1) (kinds.fields 1 key_type_of (key_known d ruled e is))
+        let none = no_many pool key_type_of (key_part d sound e is).one in
+        one_held pool key_type_of none.0 none.1 (value_at (fields_of m) 1) (kinds.fields 1 key_type_of (key_known d sound e is))
 
     value_held : OfKindIfHeld value_type_of.kind (value_at (fields_of m) 2)
     value_held =
-        let none = no_many pool value_type_of (value_part d ruled e is).one in
-        one_held pool value_type_of none.0 none.1 (value_at (fields_of m) 2) (kinds.fields 2 value_type_of (value_known d ruled e is whole))
+        let none = no_many pool value_type_of (value_part d sound e is).one in
+        one_held pool value_type_of none.0 none.1 (value_at (fields_of m) 2) (kinds.fields 2 value_type_of (value_known d sound e is whole))
 
     abbrev IsKeyOf : Value → MapKey → Type 0
     IsKeyOf v k = (key_of_value v ≡ Some k) × (key_single k ≡ reading.key_of the_key (view m 1)) × HasForm (scalar_of key_type_of.kind) (key_single k)
 
     -- the key
     key_given : (v : Value) → gives.IsPart pool key_type_of (value_at (fields_of m) 1) v → (k : MapKey) × IsKeyOf v k
-    key_given v h = by (taken pool key_type_of (scalar_whole key_type_of.kind (key_type d ruled e is)) (key_part d ruled e is).one (value_at (fields_of m) 1) key_held v h) where
+    key_given v h = by (taken pool key_type_of (scalar_whole key_type_of.kind (key_type d sound e is)) (key_part d sound e is).one (value_at (fields_of m) 1) key_held v h) where
       by : IsTaken pool key_type_of (value_at (fields_of m) 1) v → (k : MapKey) × IsKeyOf v k
       by (inl (u, there, same_value, held)) =
           let kind = subst (OfKindIfHeld key_type_of.kind) there key_held in
-          let x = kind.1 (key_type d ruled e is) in
-          let k = key_is key_type_of.kind (key_kind d ruled e is) v x.0 (ap single_of same_value ∙ x.1) x.2 in
+          let x = kind.1 (key_type d sound e is) in
+          let k = key_is key_type_of.kind (key_kind d sound e is) v x.0 (ap single_of same_value ∙ x.1) x.2 in
           let seen : view m 1 ≡ content (single x.0) = under_key ∙ held ∙ ap content (content_is u x.0 x.1) in
           (k.0, (k.1, k.2 ∙ sym (ap (reading.key_of the_key) seen), subst (HasForm (scalar_of key_type_of.kind)) (sym k.2) x.2))
       by (inr (default, held)) =
           let x = default_of pool key_type_of in
-          let form = suited_form (scalar_of key_type_of.kind) x (ruled.sound.defaults (types.message d.index) 1 key_type_of (entry_is d ruled e is) (key_numbered d ruled e is) (key_type d ruled e is)) in
-          let k = key_is key_type_of.kind (key_kind d ruled e is) v x (default_single pool key_type_of v (key_type d ruled e is) default) form in
+          let form = suited_form (scalar_of key_type_of.kind) x (sound.defaults (types.message d.index) 1 key_type_of (entry_is d sound e is) (key_numbered d sound e is) (key_type d sound e is)) in
+          let k = key_is key_type_of.kind (key_kind d sound e is) v x (default_single pool key_type_of v (key_type d sound e is) default) form in
           (k.0, (k.1, k.2 ∙ sym (ap (reading.key_of the_key) (under_key ∙ held)), subst (HasForm (scalar_of key_type_of.kind)) (sym k.2) form))
 
     -- the value
@@ -130,7 +130,7 @@ module _ (d : MessageDescriptor) (ruled : IsRuled d.pool.now) (e : StoredEntry) 
           ∙ sym (ap (reading.default_of the_part) (kind_message pool value_type_of.group value_type_of.kind n.0.descriptor.index n.2.0.1))
 
     value_given : (v : Value) → gives.IsPart pool value_type_of (value_at (fields_of m) 2) v → content_view v ≡ value_of the_part (view m 2)
-    value_given v h = by (taken pool value_type_of whole (value_part d ruled e is).one (value_at (fields_of m) 2) value_held v h) where
+    value_given v h = by (taken pool value_type_of whole (value_part d sound e is).one (value_at (fields_of m) 2) value_held v h) where
       by : IsTaken pool value_type_of (value_at (fields_of m) 2) v → content_view v ≡ value_of the_part (view m 2)
       by (inl (u, there, same_value, held)) = ap content_view same_value ∙ sym (ap (value_of the_part) (under_value ∙ held))
       by (inr (default, held)) = default_content v default ∙ sym (ap (value_of the_part) (under_value ∙ held))
@@ -143,10 +143,10 @@ module _ (d : MessageDescriptor) (ruled : IsRuled d.pool.now) (e : StoredEntry) 
 
     pair_given : (given : Option Entry) → GivesPair pool key_type_of value_type_of (fields_of m) given → GivesThis given
     pair_given given (key, value, of_key, of_value, is_given) =
-        let k = key_given key (subst (λ n. gives.IsPart pool key_type_of (value_at (fields_of m) n) key) (key_part d ruled e is).number of_key) in
+        let k = key_given key (subst (λ n. gives.IsPart pool key_type_of (value_at (fields_of m) n) key) (key_part d sound e is).number of_key) in
         let left : left_under key_type_of.number (fields_of m) value_type_of.number ≡ value_at (fields_of m) 2 =
-        ap (λ n. left_under key_type_of.number (fields_of m) n) (value_part d ruled e is).number
-        ∙ ap (λ n. left_under n (fields_of m) 2) (key_part d ruled e is).number in
+        ap (λ n. left_under key_type_of.number (fields_of m) n) (value_part d sound e is).number
+        ∙ ap (λ n. left_under n (fields_of m) 2) (key_part d sound e is).number in
         let v = value_given value (subst (λ o. gives.IsPart pool value_type_of o value) left of_value) in (
           k.0,
           value,

@@ -1,11 +1,8 @@
 -- Messages that hold values of the kinds of their fields still do, with a value more.
-use Rattle.std.proofs.Common.{◌≡◌, ◌≢◌, ◌⊎◌, inl, inr, ℕ, ◌==◌, Bool, true, false, true≢false, List, [], Option, Some, None, unwrap_or, refl, sym, ap, ◌∙◌, subst}
-use Rattle.std.specs.Option.{option_and_then}
+use Rattle.std.proofs.Common.{◌≡◌, ◌≢◌, ◌⊎◌, inl, inr, ℕ, ◌==◌, ◌||◌, Bool, true, false, true≢false, List, [], Option, Some, None, unwrap_or, is_some, refl, sym, ap, ◌∙◌, subst}
 use Rattle.reflect_tables.specs.Types.{PoolType, FieldType}
 use Rattle.reflect_entries.specs.Entries.{value_at}
-use Rattle.reflect_entries.specs.Members.{first_number, other_than}
 use Rattle.reflect_pool.specs.FieldsLeft.{field_type}
-use Rattle.reflect_pool.specs.Parts.{members_of}
 use Rattle.reflect_pool.specs.Shapes.{holds_list, holds_map}
 use Rattle.reflect_pool.specs.declared.field.FieldDescriptor.{FieldDescriptor}
 use Rattle.reflect_pool.specs.declared.message.MessageDescriptor.{MessageDescriptor}
@@ -16,11 +13,12 @@ use Rattle.reflect_message.specs.Held.{fields_of, choices_of, extensions_of}
 use Rattle.reflect_message.specs.Known.{known_field, known_extension}
 use Rattle.reflect_message.specs.Lists.{items_held}
 use Rattle.reflect_message.specs.Maps.{entries_held}
-use Rattle.reflect_message.specs.Oneofs.{IsExclusive, AreChosen, sibling}
+use Rattle.reflect_message.specs.Oneofs.{IsExclusive, IsSibling, AreChosen, Changes, sibling}
+use Rattle.reflect_message.proofs.Choosing.{is_or_not, sibling_is, sibling_of}
 use Rattle.reflect_message.specs.declared.message.DynamicMessage.{DynamicMessage}
 use Rattle.reflect_message.specs.declared.value.Value.{Value}
-use Rattle.reflect_format.specs.Steps.{ChangesOnly, Puts, held_by}
-use Rattle.reflect_format.specs.Takes.{target_type}
+use Rattle.reflect_format.specs.Steps.{ChangesOnly, Frees, Puts, held_by}
+use Rattle.reflect_format.specs.Takes.{holds_many, target_pool, target_type}
 use Rattle.reflect_format.specs.declared.target.Target.{Target}
 use Rattle.reflect_format.specs.declared.target.Target.TheVariants as targets
 use Rattle.message_view.specs.Singles.{scalar_of}
@@ -31,6 +29,7 @@ use Rattle.message_view.proofs.Seen.{view_opened}
 use mathlib.Core.Path.{fun_ext}
 use Rattle.protobuf_model.specs.Values as model
 use Rattle.text_view.specs.Holds.{AreHeldAs, HaveKeys, HoldsAs, HoldsKinds, IsHeldAs}
+use Rattle.message_view.proofs.Written.{or_true}
 use Rattle.text_view.proofs.Owned.{OwnsTarget}
 use Rattle.text_view.proofs.Puts.{is_number, number_is}
 
@@ -45,30 +44,53 @@ LeavesOthers (targets.Field f) old new =
 LeavesOthers (targets.Extension x) old new =
     ((n : ℕ) → n ≢ (extension_type x).number → StaysOrGoes (extensions_of old) (extensions_of new) n) × (fields_of new ≡ fields_of old)
 
--- a member of a oneof, which other targets of many values are not
-abbrev pub IsFree : Target → Type 0
-IsFree (targets.Field f) = (field_type f).oneof ≡ None
-IsFree (targets.Extension x) = Unit {0}
+-- lists and maps hold many values
+pub many_list : (t : Target) → holds_list (target_pool t) (target_type t) ≡ true → holds_many t ≡ true
+many_list t e = ap (λ b. b || holds_map (target_pool t) (target_type t)) e
+
+pub many_map : (t : Target) → holds_map (target_pool t) (target_type t) ≡ true → holds_many t ≡ true
+many_map t e = ap (λ b. holds_list (target_pool t) (target_type t) || b) e ∙ or_true (holds_list (target_pool t) (target_type t))
+
+-- a field's values are changed, and other members of its oneof unset
+pub added_changes : (f : FieldDescriptor) (old new : DynamicMessage) → ChangesOnly (targets.Field f) old new → Frees (targets.Field f) old new → Changes f (choices_of old) (fields_of old) (fields_of new)
+added_changes f old new only frees = record { unset = frees; others = only.0 }
+
+module _ (m : MessageDescriptor) (f : FieldDescriptor) (choices : List (ℕ × ℕ)) (before after : List (ℕ × Value)) (chosen : AreChosen m choices before) (changes : Changes f choices before after) where
+  -- other members hold nothing, since the one that was noted is unset, and no other held anything
+  pub gone : (q : ℕ) → IsSibling m f q → value_at after q ≡ None
+  gone q s = by (is_or_not (sibling f choices) q) where
+    unheld : sibling f choices ≢ Some q → (o : Option Value) → value_at before q ≡ o → value_at before q ≡ None
+    unheld not None e = e
+    unheld not (Some v) e =
+        let noted = chosen.noted s.1 s.2 s.0 s.6 (ap is_some (ap (value_at before) s.3 ∙ e)) in
+        absurd (not (sibling_of f choices q s.0 s.5 (noted ∙ ap Some s.3) s.4))
+
+    by : (sibling f choices ≡ Some q) ⊎ (sibling f choices ≢ Some q) → value_at after q ≡ None
+    by (inl is) = changes.unset q is
+    by (inr not) = changes.others q s.4 not ∙ unheld not (value_at before q) refl
+
+  -- under numbers that are not those of other members nothing changes
+  pub others_stay : (q : ℕ) → q ≢ (field_type f).number → (IsSibling m f q → ⊥) → value_at after q ≡ value_at before q
+  others_stay q other apart = changes.others q other kept where
+    kept : sibling f choices ≢ Some q
+    kept e =
+        let is = sibling_is f choices q e in
+        let member = chosen.member is.0 q is.2 in
+        apart (is.0, member.0, member.1, member.2, other, is.1, member.3)
+
+leaves_others : (f : FieldDescriptor) (choices : List (ℕ × ℕ)) (before after : List (ℕ × Value)) → Changes f choices before after → (n : ℕ) → n ≢ (field_type f).number → StaysOrGoes before after n
+leaves_others f choices before after changes n other = by (is_or_not (sibling f choices) n) where
+  by : (sibling f choices ≡ Some n) ⊎ (sibling f choices ≢ Some n) → StaysOrGoes before after n
+  by (inl is) = inr (changes.unset n is)
+  by (inr not) = inl (changes.others n other not)
 
 pub put_leaves : (t : Target) (v : Value) (old new : DynamicMessage) → Puts t v old new → LeavesOthers t old new
-put_leaves (targets.Field f) v old new puts = (others, puts.extensions) where
-  others : (n : ℕ) → n ≢ (field_type f).number → StaysOrGoes (fields_of old) (fields_of new) n
-  others n other = by (sibling f (choices_of old)) refl where
-    by : (o : Option ℕ) → sibling f (choices_of old) ≡ o → StaysOrGoes (fields_of old) (fields_of new) n
-    by None is = inl (puts.changes.others n other (λ e. cc (sym is ∙ e)))
-    by (Some s) is = with (s == n) refl where
-      with : (b : Bool) → (s == n) ≡ b → StaysOrGoes (fields_of old) (fields_of new) n
-      with true e = inr (puts.changes.unset n (is ∙ ap Some (is_number s n e)))
-      with false e = inl (puts.changes.others n other (λ k. true≢false (sym (number_is s n (ap (λ o. unwrap_or o s) (sym is ∙ k))) ∙ e)))
+put_leaves (targets.Field f) v old new puts = (leaves_others f (choices_of old) (fields_of old) (fields_of new) puts.changes, puts.extensions)
 put_leaves (targets.Extension x) v old new puts = ((λ n other. inl (puts.extension.others n other)), puts.fields)
 
-pub no_sibling : (f : FieldDescriptor) (choices : List (ℕ × ℕ)) → (field_type f).oneof ≡ None → sibling f choices ≡ None
-no_sibling f choices free =
-    ap (λ o. option_and_then (λ first. other_than (field_type f).number (value_at choices first)) (option_and_then (λ k. first_number (members_of f.message.pool.now f.message.index k)) o)) free
-
-pub add_leaves : (t : Target) (old new : DynamicMessage) → IsFree t → ChangesOnly t old new → LeavesOthers t old new
-add_leaves (targets.Field f) old new free only = ((λ n other. inl (only.0 n other (λ e. cc (sym (no_sibling f (choices_of old) free) ∙ e)))), only.1)
-add_leaves (targets.Extension x) old new free only = ((λ n other. inl (only.0 n other)), only.1)
+pub add_leaves : (t : Target) (old new : DynamicMessage) → ChangesOnly t old new → Frees t old new → LeavesOthers t old new
+add_leaves (targets.Field f) old new only frees = (leaves_others f (choices_of old) (fields_of old) (fields_of new) (added_changes f old new only frees), only.1)
+add_leaves (targets.Extension x) old new only frees = ((λ n other. inl (only.0 n other)), only.1)
 
 left : (pool : PoolType) (f : FieldType) (old new : List (ℕ × Value)) (n : ℕ) → StaysOrGoes old new n → IsHeldAs pool f (value_at old n) → IsHeldAs pool f (value_at new n)
 left pool f old new n (inl e) h = subst (IsHeldAs pool f) (sym e) h

@@ -14,14 +14,12 @@ pub mod Kept
 pub mod Adds
 pub mod Shapes
 pub mod Forms
-pub mod Alike
 pub mod Entries
 pub mod Gives
 pub mod Maps
 pub mod Given
 pub mod Steady
 pub mod Expanded
-pub mod Many
 pub mod Stepping
 pub mod Refusing
 pub mod Filling
@@ -30,4 +28,8 @@ pub mod Shaped
 pub mod MapShapes
 pub mod Bodies
 pub mod Made
-mod Example
+pub mod Places
+pub mod Numbered
+pub mod EntryTypes
+pub mod HaveNames
+pub mod SoundTypes

@@ -29,7 +29,7 @@ use Rattle.reflect_message.specs.declared.value.Value.{Value}
 use Rattle.reflect_message.specs.declared.value.Value.TheVariants as held
 use Rattle.message_view.proofs.Entries.{some_default}
 use Rattle.message_view.proofs.Written.{FitsOne, FitsAs}
-use Rattle.text_view.specs.Ruled.{IsRuled}
+use Rattle.message_view.specs.Sound.{IsSound}
 use Rattle.text_view.proofs.Entries.{key_part, value_known, value_part, values}
 use Rattle.text_view.proofs.Given.{the_entry, value_no_float, value_there}
 use Rattle.text_view.proofs.Puts.{message_is}
@@ -65,21 +65,21 @@ value_of_pair : (o : Option MapKey) (value : Value) (k : MapKey) (v : Value) →
 value_of_pair None value k v e = absurd (cc e)
 value_of_pair (Some j) value k v e = ap (λ (p : Option Entry). elim p [ None ↦ value | Some q ↦ q.1 ]) e
 
-module _ (inner : DynamicMessage → Type 0) (blank_inner : (m : DynamicMessage) → content_of m ≡ nothing → inner m) (d : MessageDescriptor) (ruled : IsRuled d.pool.now) (e : StoredEntry)
-    (is : (type_at d.pool.now d.index).entry ≡ Some e) (whole : is_float (values d ruled e is).kind ≡ false) where
+module _ (inner : DynamicMessage → Type 0) (blank_inner : (m : DynamicMessage) → content_of m ≡ nothing → inner m) (d : MessageDescriptor) (sound : IsSound d.pool.now) (e : StoredEntry)
+    (is : (type_at d.pool.now d.index).entry ≡ Some e) (whole : is_float (values d sound e is).kind ≡ false) where
   abbrev its_value : FieldType
   its_value = type_of_field d.pool.now d.index e.value
 
   pair_fits : (m : DynamicMessage) → IsShapely inner d.pool.now d.index (content_of m) → (given : Option Entry) → GivesPair d.pool.now (type_of_field d.pool.now d.index e.key) its_value (fields_of m) given
       → (k : MapKey) (v : Value) → given ≡ Some (k, v) → FitsOne inner d.pool.now its_value v
   pair_fits m shape given (key, value, of_key, of_value, is_given) k v same =
-      let part = value_part d ruled e is in
+      let part = value_part d sound e is in
       let none = no_many d.pool.now its_value part.one in
       let left : left_under (type_of_field d.pool.now d.index e.key).number (fields_of m) its_value.number ≡ value_at (fields_of m) 2 =
-      ap (λ n. left_under (type_of_field d.pool.now d.index e.key).number (fields_of m) n) part.number ∙ ap (λ n. left_under n (fields_of m) 2) (key_part d ruled e is).number in
+      ap (λ n. left_under (type_of_field d.pool.now d.index e.key).number (fields_of m) n) part.number ∙ ap (λ n. left_under n (fields_of m) 2) (key_part d sound e is).number in
       subst (FitsOne inner d.pool.now its_value) (value_of_pair (key_of_value key) value k v (sym is_given ∙ same))
       (part_fits inner blank_inner d.pool.now its_value part.one (value_at (fields_of m) 2)
-      (λ u at. single_fits inner d.pool.now its_value u none.0 none.1 (shape.field 2 its_value (value_known d ruled e is whole) u at))
+      (λ u at. single_fits inner d.pool.now its_value u none.0 none.1 (shape.field 2 its_value (value_known d sound e is whole) u at))
       value (subst (λ o. gives.IsPart d.pool.now its_value o value) left of_value))
 
   -- an entry that texts make
@@ -135,12 +135,12 @@ module _ (inner : DynamicMessage → Type 0) (pool : PoolType) (f : FieldType) (
       subst (λ b. FitsAs inner pool f b (holds_list pool f) v) (sym is_map) (put.0, ap entries_held (sym is) ∙ put.1, step old.0 put.0 old.2 put.2)
 
 -- entries that texts make are put into a map
-pub entries_fit : (inner : DynamicMessage → Type 0) → ((m : DynamicMessage) → content_of m ≡ nothing → inner m) → (d : MessageDescriptor) (f : FieldType) → f.kind ≡ types.message d.index → (ruled : IsRuled d.pool.now) (is_map : holds_map d.pool.now f ≡ true)
+pub entries_fit : (inner : DynamicMessage → Type 0) → ((m : DynamicMessage) → content_of m ≡ nothing → inner m) → (d : MessageDescriptor) (f : FieldType) → f.kind ≡ types.message d.index → (sound : IsSound d.pool.now) (is_map : holds_map d.pool.now f ≡ true)
     → holds_floats d.pool.now f ≡ false → (vs : List Value) → AllByRecursion (λ v. (m : DynamicMessage) × (v ≡ held.Message m) × (m.descriptor ≡ d) × IsShapely inner d.pool.now d.index (content_of m)) vs
     → (before after : List (MapKey × Value)) → AllValues inner d.pool.now f.kind before → PutsAll before after vs → AllValues inner d.pool.now f.kind after
-entries_fit inner blank_inner d f kind ruled is_map whole vs made before after all puts =
-    let e = the_entry d f kind ruled is_map whole in
-    let there = value_there d f kind ruled is_map whole in
-    told_values inner d.pool.now f.kind (values d ruled e.0 e.1) there after
-    (all_fit inner blank_inner d ruled e.0 e.1 (value_no_float d f kind ruled is_map whole) before after vs
-    (values_told inner d.pool.now f.kind (values d ruled e.0 e.1) there before all) made puts)
+entries_fit inner blank_inner d f kind sound is_map whole vs made before after all puts =
+    let e = the_entry d f kind sound is_map whole in
+    let there = value_there d f kind sound is_map whole in
+    told_values inner d.pool.now f.kind (values d sound e.0 e.1) there after
+    (all_fit inner blank_inner d sound e.0 e.1 (value_no_float d f kind sound is_map whole) before after vs
+    (values_told inner d.pool.now f.kind (values d sound e.0 e.1) there before all) made puts)

@@ -32,15 +32,15 @@ use Rattle.message_view.specs.Views.{held_in, content_view, view}
 use Rattle.message_view.proofs.Entries.{form_at, part_is}
 use Rattle.message_view.proofs.Keys.{form_of, key_single, entry_put}
 use Rattle.message_view.proofs.Seen.{map_seen, message_seen, pairs_view}
-use Rattle.text_view.specs.Apart.{AreApart}
+use Rattle.message_view.specs.Sound.{AreApart, IsSound}
 use Rattle.text_view.specs.Holds.{AreHeldAs, HasForm, HaveKeys, IsHeldAs}
-use Rattle.text_view.specs.Ruled.{IsRuled}
 use Rattle.text_view.specs.Values.{IsMessageOf}
 use Rattle.text_view.proofs.Adds.{changed}
 use Rattle.text_view.proofs.Entries.{key_numbered, value_numbered, values}
 use Rattle.text_view.proofs.Forms.{form_is}
 use Rattle.text_view.proofs.Gives.{entry_given}
-use Rattle.text_view.proofs.Kept.{IsFree, map_kind}
+use Rattle.text_view.proofs.Kept.{many_map, map_kind}
+use Rattle.reflect_message.specs.Oneofs.{IsExclusive}
 use Rattle.text_view.proofs.Owned.{OwnsTarget, pool_is, under_target}
 use Rattle.text_view.proofs.Puts.{message_is}
 
@@ -74,7 +74,7 @@ keys_stay s (e ∷ es) k v all one = by (keys_stay s es k v all.1 one) (ghosts.c
   by later Equal = (all.0, all.1)
   by later Greater = (all.0, later)
 
-module _ (d : MessageDescriptor) (ruled : IsRuled d.pool.now) (e : StoredEntry) (is : (type_at d.pool.now d.index).entry ≡ Some e) (whole : is_float (values d ruled e is).kind ≡ false) where
+module _ (d : MessageDescriptor) (sound : IsSound d.pool.now) (e : StoredEntry) (is : (type_at d.pool.now d.index).entry ≡ Some e) (whole : is_float (values d sound e is).kind ≡ false) where
   abbrev the_key : Key
   the_key = key_of d.pool.now (type_of_field d.pool.now d.index e.key)
 
@@ -89,7 +89,7 @@ module _ (d : MessageDescriptor) (ruled : IsRuled d.pool.now) (e : StoredEntry) 
   one_put before between v formed (m, is_message, same, kinds) given gives put_so =
       let at = ap message_in is_message ∙ message_is m in
       let seen : content_view v ≡ message (view m) = message_seen v m at in
-      let p = entry_given d ruled e is whole m same (subst (λ (c : MessageDescriptor). AreHeldAs c.pool.now c.index (fields_of m) (extensions_of m)) same kinds) given (subst (λ o. GivesIn o given) at gives) in
+      let p = entry_given d sound e is whole m same (subst (λ (c : MessageDescriptor). AreHeldAs c.pool.now c.index (fields_of m) (extensions_of m)) same kinds) given (subst (λ o. GivesIn o given) at gives) in
       let now : between ≡ insert_entry ghosts.cmp before p.0 p.1 = put_so ∙ ap (with_given before) p.2 in
       let one = ap (entry_of the_key the_part) seen ∙ p.3 in (
         ap (λ (x : Single × Content). put x.0 x.1 (pairs_view before)) one
@@ -116,24 +116,24 @@ MapAdded old new t vs =
     × IsHeldAs old.descriptor.pool.now (target_type t) (held_by new t)
 
 module _ (old new : DynamicMessage) (apart : AreApart old.descriptor.pool.now) (same : new.descriptor ≡ old.descriptor) (t : Target) (owns : OwnsTarget old.descriptor t)
-    (is_map : holds_map old.descriptor.pool.now (target_type t) ≡ true) (free : IsFree t) where
+    (is_map : holds_map old.descriptor.pool.now (target_type t) ≡ true) (exclusive : IsExclusive old) where
   abbrev pool : PoolType
   pool = old.descriptor.pool.now
 
   abbrev f : FieldType
   f = target_type t
 
-  pub map_added : (d : MessageDescriptor) → d.pool.now ≡ old.descriptor.pool.now → f.kind ≡ types.message d.index → (ruled : IsRuled d.pool.now) (e : StoredEntry) (is : (type_at d.pool.now d.index).entry ≡ Some e)
-      → is_float (values d ruled e is).kind ≡ false → (vs : List Value) → AllByRecursion (IsMessageOf d) vs
+  pub map_added : (d : MessageDescriptor) → d.pool.now ≡ old.descriptor.pool.now → f.kind ≡ types.message d.index → (sound : IsSound d.pool.now) (e : StoredEntry) (is : (type_at d.pool.now d.index).entry ≡ Some e)
+      → is_float (values d sound e is).kind ≡ false → (vs : List Value) → AllByRecursion (IsMessageOf d) vs
       → (before : List (MapKey × Value)) → entries_held (held_by old t) ≡ Some before → HaveKeys (scalar_of (entry_part pool f 1).kind) before → Adds t vs old new → MapAdded old new t vs
-  map_added d at kind ruled e is whole vs entries before held formed adds =
+  map_added d at kind sound e is whole vs entries before held formed adds =
       let key_there : entry_part pool f 1 ≡ type_of_field d.pool.now d.index e.key =
-      part_is pool f 1 (type_of_field d.pool.now d.index e.key) (ap (λ k. entry_field pool k 1) kind ∙ ap (λ p. entry_field p (types.message d.index) 1) (sym at) ∙ key_numbered d ruled e is) in
+      part_is pool f 1 (type_of_field d.pool.now d.index e.key) (ap (λ k. entry_field pool k 1) kind ∙ ap (λ p. entry_field p (types.message d.index) 1) (sym at) ∙ key_numbered d sound e is) in
       let value_there : entry_part pool f 2 ≡ type_of_field d.pool.now d.index e.value =
-      part_is pool f 2 (type_of_field d.pool.now d.index e.value) (ap (λ k. entry_field pool k 2) kind ∙ ap (λ p. entry_field p (types.message d.index) 2) (sym at) ∙ value_numbered d ruled e is) in
+      part_is pool f 2 (type_of_field d.pool.now d.index e.value) (ap (λ k. entry_field pool k 2) kind ∙ ap (λ p. entry_field p (types.message d.index) 2) (sym at) ∙ value_numbered d sound e is) in
       let its_map = subst (λ p. holds_map p f ≡ true) (sym (pool_is old.descriptor apart t owns)) is_map in
       let puts = subst (λ o. MatchOption o (held_by new t ≡ held_by old t) (λ b. (a : List (MapKey × Value)) × (entries_held (held_by new t) ≡ Some a) × PutsAll b a vs)) held (adds.2 its_map) in
-      let all = all_put d ruled e is whole before puts.0 vs (subst (λ (g : FieldType). HaveKeys (scalar_of g.kind) before) key_there formed) entries puts.2 in
+      let all = all_put d sound e is whole before puts.0 vs (subst (λ (g : FieldType). HaveKeys (scalar_of g.kind) before) key_there formed) entries puts.2 in
       let key : key_of pool (entry_part pool f 1) ≡ key_of d.pool.now (type_of_field d.pool.now d.index e.key) = ap (key_of pool) key_there ∙ ap (λ p. key_of p (type_of_field d.pool.now d.index e.key)) (sym at) in
       let part : part_of pool (entry_part pool f 2) ≡ part_of d.pool.now (type_of_field d.pool.now d.index e.value) = ap (part_of pool) value_there ∙ ap (λ p. part_of p (type_of_field d.pool.now d.index e.value)) (sym at) in
       let stood : pairs (view old f.number) ≡ pairs_view before = ap pairs (under_target old.descriptor apart t owns old refl ∙ map_held pool f (held_by old t) before held) ∙ pairs_back (pairs_view before) in (
@@ -141,6 +141,6 @@ module _ (old new : DynamicMessage) (apart : AreApart old.descriptor.pool.now) (
             ∙ ap (λ k. Some (assign (field_at pool old.descriptor.index) f.number (if_some (put_all (pairs_view before) (map (entry_of k (part_of pool (entry_part pool f 2))) (map content_view vs)))) (view old))) key
             ∙ ap (λ p. Some (assign (field_at pool old.descriptor.index) f.number (if_some (put_all (pairs_view before) (map (entry_of (key_of d.pool.now (type_of_field d.pool.now d.index e.key)) p) (map content_view vs)))) (view old))) part
             ∙ ap (λ l. Some (assign (field_at pool old.descriptor.index) f.number (if_some l) (view old))) all.0
-            ∙ ap Some (sym (changed old new apart same t owns free adds.0 (if_some (pairs_view puts.0)) (map_held pool f (held_by new t) puts.0 puts.1))),
+            ∙ ap Some (sym (changed old new apart same exclusive t vs owns (adds.5 (many_map t its_map)) adds (if_some (pairs_view puts.0)) (map_held pool f (held_by new t) puts.0 puts.1))),
         map_kind pool f is_map (held_by new t) puts.0 puts.1 (subst (λ (g : FieldType). HaveKeys (scalar_of g.kind) puts.0) (sym key_there) all.1),
       )

@@ -7,10 +7,9 @@ use Rattle.reflect_format.specs.Named.{NamesExtension, NamesField, NoExtensionNa
 use Rattle.reflect_format.specs.Takes.{target_type}
 use Rattle.reflect_format.specs.declared.target.Target.{Target}
 use Rattle.reflect_format.specs.declared.target.Target.TheVariants as targets
-use Rattle.message_view.specs.Sound.{HaveNames}
+use Rattle.message_view.specs.Sound.{HaveNames, AreApart}
 use Rattle.message_view.specs.Types.{name_at, types_of}
 use Rattle.message_view.proofs.Sound.{named}
-use Rattle.text_view.specs.Apart.{AreApart}
 use Rattle.text_view.specs.Names.{field_called, extension_called, names_of}
 use Rattle.text_view.specs.Targets.{target_field}
 use Rattle.text_view.proofs.Apart.{named_owns, named_extension_owns, field_there, extension_there}

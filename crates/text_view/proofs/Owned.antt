@@ -18,7 +18,7 @@ use Rattle.reflect_format.specs.declared.target.Target.TheVariants as targets
 use Rattle.message_view.specs.Types.{field_at}
 use Rattle.message_view.specs.Views.{held_in, held_either, content_view, view}
 use Rattle.message_view.proofs.Fields.{owned, extension_owned, owned_whole, extension_whole}
-use Rattle.text_view.specs.Apart.{AreApart}
+use Rattle.message_view.specs.Sound.{AreApart}
 use Rattle.text_view.specs.Targets.{target_field}
 use Rattle.text_view.proofs.Apart.{named_owns, named_extension_owns, field_there, extension_there, no_field_there}
 use Rattle.text_view.proofs.Puts.{shown, seen_at}

@@ -23,7 +23,7 @@ use Rattle.message_view.specs.Views.{held_in, held_either, content_view, content
 use Rattle.message_view.proofs.Fields.{owned, extension_owned}
 use Rattle.message_view.proofs.Oneofs.{sibling_is_rival, rival_is_sibling}
 use Rattle.message_view.proofs.Seen.{value_at-view, view_opened, message_seen}
-use Rattle.message_view.specs.Sound.{HaveNames}
+use Rattle.message_view.specs.Sound.{HaveNames, AreApart}
 use Rattle.message_view.proofs.Sound.{named}
 use Rattle.protox_lex.specs.Class.{Text}
 use Rattle.reflect_pool.specs.Shapes.{holds_list, holds_map}
@@ -34,7 +34,6 @@ use Rattle.reflect_format.specs.Steps.{Puts}
 use Rattle.reflect_format.specs.Takes.{holds_many, target_type}
 use Rattle.reflect_format.specs.declared.target.Target.{Target}
 use Rattle.reflect_format.specs.declared.target.Target.TheVariants as targets
-use Rattle.text_view.specs.Apart.{AreApart}
 use Rattle.text_view.specs.Targets.{target_field}
 use Rattle.text_view.specs.Values.{IsOne}
 use Rattle.text_view.proofs.Apart.{named_owns, named_extension_owns, extension_there, no_field_there}
@@ -73,8 +72,12 @@ held_settled pool f v (inr (m, is)) =
     let seen : content_view v ≡ message (view m) = ap content_view is ∙ message_seen (held.Message m) m (message_is m) in
     ap (λ c. held_in pool f (Some c)) seen ∙ sym (ap (settled (part_of pool f)) seen)
 
-module _ (old new : DynamicMessage) (same : new.descriptor ≡ old.descriptor) (f : FieldDescriptor) (v : Value)
-    (owns : Owns old.descriptor f) (exclusive : IsExclusive old) (sets : SetsField old new f v) (one : IsOne v)
+-- what is changed by a field that holds something else, where other members of its oneof are unset
+module _ (old new : DynamicMessage) (same : new.descriptor ≡ old.descriptor) (f : FieldDescriptor) (owns : Owns old.descriptor f)
+    (gone : (q : ℕ) → IsSibling old.descriptor f q → value_at (fields_of new) q ≡ None)
+    (others : (q : ℕ) → q ≢ (field_type f).number → (IsSibling old.descriptor f q → ⊥) → value_at (fields_of new) q ≡ value_at (fields_of old) q)
+    (extended : extensions_of new ≡ extensions_of old) (unknown : unknown_of new ≡ unknown_of old)
+    (h : Held) (stands : held_in old.descriptor.pool.now (field_type f) (option_map content_view (value_at (fields_of new) (field_type f).number)) ≡ h)
     (type : ℕ → Option Field) (told : (n : ℕ) → type n ≡ field_at old.descriptor.pool.now old.descriptor.index n) where
   abbrev n : ℕ
   n = (field_type f).number
@@ -85,12 +88,11 @@ module _ (old new : DynamicMessage) (same : new.descriptor ≡ old.descriptor) (
   new_at : (q : ℕ) → view new q ≡ shown old.descriptor new q
   new_at q = seen_at new q ∙ ap (λ d. shown d new q) same
 
-  here : view new n ≡ settled (part_of pool (field_type f)) (content_view v)
+  here : view new n ≡ h
   here =
       new_at n
       ∙ ap (λ o. held_either pool o (known_extension pool old.descriptor.index n) (option_map content_view (value_at (fields_of new) n)) (option_map content_view (value_at (extensions_of new) n)) (payloads n (unknown_of new))) (owned old.descriptor f owns)
-      ∙ ap (λ o. held_in pool (field_type f) (option_map content_view o)) sets.here
-      ∙ held_settled pool (field_type f) v one
+      ∙ stands
 
   under_rival : (q : ℕ) → IsSibling old.descriptor f q → view new q ≡ absent
   under_rival q s =
@@ -98,36 +100,47 @@ module _ (old new : DynamicMessage) (same : new.descriptor ≡ old.descriptor) (
       let known : known_field pool old.descriptor.index q ≡ Some (field_type g) = ap (known_field pool old.descriptor.index) (sym s.3) ∙ owned old.descriptor g s.2 in
       new_at q
       ∙ ap (λ o. held_either pool o (known_extension pool old.descriptor.index q) (option_map content_view (value_at (fields_of new) q)) (option_map content_view (value_at (extensions_of new) q)) (payloads q (unknown_of new))) known
-      ∙ ap (λ o. held_in pool (field_type g) (option_map content_view o)) (sets.siblings owns exclusive q s)
+      ∙ ap (λ o. held_in pool (field_type g) (option_map content_view o)) (gone q s)
 
   elsewhere : (q : ℕ) → q ≢ n → (IsSibling old.descriptor f q → ⊥) → view new q ≡ view old q
   elsewhere q apart alone =
       let x = known_field pool old.descriptor.index q in
       let y = known_extension pool old.descriptor.index q in
       new_at q
-      ∙ ap (λ o. held_either pool x y (option_map content_view o) (option_map content_view (value_at (extensions_of new) q)) (payloads q (unknown_of new))) (sets.others owns exclusive q apart alone)
-      ∙ ap (λ es. held_either pool x y (option_map content_view (value_at (fields_of old) q)) (option_map content_view (value_at es q)) (payloads q (unknown_of new))) sets.extensions
-      ∙ ap (λ rs. held_either pool x y (option_map content_view (value_at (fields_of old) q)) (option_map content_view (value_at (extensions_of old) q)) (payloads q rs)) sets.unknown
+      ∙ ap (λ o. held_either pool x y (option_map content_view o) (option_map content_view (value_at (extensions_of new) q)) (payloads q (unknown_of new))) (others q apart alone)
+      ∙ ap (λ es. held_either pool x y (option_map content_view (value_at (fields_of old) q)) (option_map content_view (value_at es q)) (payloads q (unknown_of new))) extended
+      ∙ ap (λ rs. held_either pool x y (option_map content_view (value_at (fields_of old) q)) (option_map content_view (value_at (extensions_of old) q)) (payloads q rs)) unknown
       ∙ sym (seen_at old q)
 
-  at_number : (q : ℕ) → view new q ≡ assign type n (settled (part_of pool (field_type f)) (content_view v)) (view old) q
+  at_number : (q : ℕ) → view new q ≡ assign type n h (view old) q
   at_number q = by (q == n) refl (rival type n q) refl where
-    by : (a : Bool) → (q == n) ≡ a → (b : Bool) → rival type n q ≡ b → view new q ≡ cond (q == n) (settled (part_of pool (field_type f)) (content_view v)) (cond (rival type n q) absent (view old q))
+    by : (a : Bool) → (q == n) ≡ a → (b : Bool) → rival type n q ≡ b → view new q ≡ cond (q == n) h (cond (rival type n q) absent (view old q))
     by true is b r =
-        ap (view new) (is_number q (field_type f).number is) ∙ here ∙ sym (ap (λ a. cond a (settled (part_of pool (field_type f)) (content_view v)) (cond (rival type n q) absent (view old q))) is)
+        ap (view new) (is_number q (field_type f).number is) ∙ here ∙ sym (ap (λ a. cond a h (cond (rival type n q) absent (view old q))) is)
     by false is true r =
         under_rival q (rival_is_sibling old.descriptor type told f owns q r)
-        ∙ sym (ap (λ a. cond a (settled (part_of pool (field_type f)) (content_view v)) (cond (rival type n q) absent (view old q))) is ∙ ap (λ b. cond b absent (view old q)) r)
+        ∙ sym (ap (λ a. cond a h (cond (rival type n q) absent (view old q))) is ∙ ap (λ b. cond b absent (view old q)) r)
     by false is false r =
         elsewhere q (λ e. true≢false (sym (number_is q (field_type f).number e) ∙ is))
         (λ s. true≢false (sym (sibling_is_rival old.descriptor type told f owns q s) ∙ r))
-        ∙ sym (ap (λ a. cond a (settled (part_of pool (field_type f)) (content_view v)) (cond (rival type n q) absent (view old q))) is ∙ ap (λ b. cond b absent (view old q)) r)
+        ∙ sym (ap (λ a. cond a h (cond (rival type n q) absent (view old q))) is ∙ ap (λ b. cond b absent (view old q)) r)
 
-  pub field_put : view new ≡ assign type n (settled (part_of pool (field_type f)) (content_view v)) (view old)
-  field_put = fun_ext at_number
+  pub field_changed : view new ≡ assign type n h (view old)
+  field_changed = fun_ext at_number
 
-module _ (old new : DynamicMessage) (x : ExtensionDescriptor) (v : Value)
-    (owns : OwnsExtension old.descriptor x) (sets : UpdatesExtension old new (extension_type x).number (Some v)) (one : IsOne v)
+pub field_put : (old new : DynamicMessage) → new.descriptor ≡ old.descriptor → (f : FieldDescriptor) (v : Value) → Owns old.descriptor f → IsExclusive old → SetsField old new f v → IsOne v
+    → (type : ℕ → Option Field) → ((n : ℕ) → type n ≡ field_at old.descriptor.pool.now old.descriptor.index n)
+    → view new ≡ assign type (field_type f).number (settled (part_of old.descriptor.pool.now (field_type f)) (content_view v)) (view old)
+field_put old new same f v owns exclusive sets one =
+    field_changed old new same f owns (sets.siblings owns exclusive) (sets.others owns exclusive) sets.extensions sets.unknown
+    (settled (part_of old.descriptor.pool.now (field_type f)) (content_view v))
+    (ap (λ o. held_in old.descriptor.pool.now (field_type f) (option_map content_view o)) sets.here ∙ held_settled old.descriptor.pool.now (field_type f) v one)
+
+-- so by an extension, which is in no oneof
+module _ (old new : DynamicMessage) (same : new.descriptor ≡ old.descriptor) (x : ExtensionDescriptor) (owns : OwnsExtension old.descriptor x)
+    (others : (q : ℕ) → q ≢ (extension_type x).number → value_at (extensions_of new) q ≡ value_at (extensions_of old) q)
+    (fields : fields_of new ≡ fields_of old) (unknown : unknown_of new ≡ unknown_of old)
+    (h : Held) (stands : held_in old.descriptor.pool.now (extension_type x) (option_map content_view (value_at (extensions_of new) (extension_type x).number)) ≡ h)
     (type : ℕ → Option Field) (alone : oneof_of (type (extension_type x).number) ≡ None)
     (free : known_field old.descriptor.pool.now old.descriptor.index (extension_type x).number ≡ None) where
   abbrev its_number : ℕ
@@ -137,24 +150,23 @@ module _ (old new : DynamicMessage) (x : ExtensionDescriptor) (v : Value)
   its_pool = old.descriptor.pool.now
 
   extended_at : (q : ℕ) → view new q ≡ shown old.descriptor new q
-  extended_at q = seen_at new q ∙ ap (λ d. shown d new q) sets.same_type
+  extended_at q = seen_at new q ∙ ap (λ d. shown d new q) same
 
-  extension_here : view new its_number ≡ settled (part_of its_pool (extension_type x)) (content_view v)
+  extension_here : view new its_number ≡ h
   extension_here =
       extended_at its_number
       ∙ ap (λ o. held_either its_pool o (known_extension its_pool old.descriptor.index its_number) (option_map content_view (value_at (fields_of new) its_number)) (option_map content_view (value_at (extensions_of new) its_number)) (payloads its_number (unknown_of new))) free
       ∙ ap (λ o. held_either its_pool None o (option_map content_view (value_at (fields_of new) its_number)) (option_map content_view (value_at (extensions_of new) its_number)) (payloads its_number (unknown_of new))) (extension_owned old.descriptor x owns)
-      ∙ ap (λ o. held_in its_pool (extension_type x) (option_map content_view o)) sets.extension.here
-      ∙ held_settled its_pool (extension_type x) v one
+      ∙ stands
 
   extension_elsewhere : (q : ℕ) → q ≢ its_number → view new q ≡ view old q
   extension_elsewhere q apart =
       let f = known_field its_pool old.descriptor.index q in
       let y = known_extension its_pool old.descriptor.index q in
       extended_at q
-      ∙ ap (λ es. held_either its_pool f y (option_map content_view (value_at es q)) (option_map content_view (value_at (extensions_of new) q)) (payloads q (unknown_of new))) sets.fields
-      ∙ ap (λ o. held_either its_pool f y (option_map content_view (value_at (fields_of old) q)) (option_map content_view o) (payloads q (unknown_of new))) (sets.extension.others q apart)
-      ∙ ap (λ rs. held_either its_pool f y (option_map content_view (value_at (fields_of old) q)) (option_map content_view (value_at (extensions_of old) q)) (payloads q rs)) sets.unknown
+      ∙ ap (λ es. held_either its_pool f y (option_map content_view (value_at es q)) (option_map content_view (value_at (extensions_of new) q)) (payloads q (unknown_of new))) fields
+      ∙ ap (λ o. held_either its_pool f y (option_map content_view (value_at (fields_of old) q)) (option_map content_view o) (payloads q (unknown_of new))) (others q apart)
+      ∙ ap (λ rs. held_either its_pool f y (option_map content_view (value_at (fields_of old) q)) (option_map content_view (value_at (extensions_of old) q)) (payloads q rs)) unknown
       ∙ sym (seen_at old q)
 
   -- an extension is in no oneof
@@ -164,18 +176,26 @@ module _ (old new : DynamicMessage) (x : ExtensionDescriptor) (v : Value)
     never true = refl
     never false = refl
 
-  extension_at_number : (q : ℕ) → view new q ≡ assign type its_number (settled (part_of its_pool (extension_type x)) (content_view v)) (view old) q
+  extension_at_number : (q : ℕ) → view new q ≡ assign type its_number h (view old) q
   extension_at_number q = by (q == its_number) refl where
-    by : (a : Bool) → (q == its_number) ≡ a → view new q ≡ cond (q == its_number) (settled (part_of its_pool (extension_type x)) (content_view v)) (cond (rival type its_number q) absent (view old q))
+    by : (a : Bool) → (q == its_number) ≡ a → view new q ≡ cond (q == its_number) h (cond (rival type its_number q) absent (view old q))
     by true is =
         ap (view new) (is_number q (extension_type x).number is) ∙ extension_here
-        ∙ sym (ap (λ a. cond a (settled (part_of its_pool (extension_type x)) (content_view v)) (cond (rival type its_number q) absent (view old q))) is)
+        ∙ sym (ap (λ a. cond a h (cond (rival type its_number q) absent (view old q))) is)
     by false is =
         extension_elsewhere q (λ e. true≢false (sym (number_is q (extension_type x).number e) ∙ is))
-        ∙ sym (ap (λ a. cond a (settled (part_of its_pool (extension_type x)) (content_view v)) (cond (rival type its_number q) absent (view old q))) is ∙ ap (λ b. cond b absent (view old q)) (no_rival q))
+        ∙ sym (ap (λ a. cond a h (cond (rival type its_number q) absent (view old q))) is ∙ ap (λ b. cond b absent (view old q)) (no_rival q))
 
-  pub extension_put : view new ≡ assign type its_number (settled (part_of its_pool (extension_type x)) (content_view v)) (view old)
-  extension_put = fun_ext extension_at_number
+  pub extension_changed : view new ≡ assign type its_number h (view old)
+  extension_changed = fun_ext extension_at_number
+
+pub extension_put : (old new : DynamicMessage) (x : ExtensionDescriptor) (v : Value) → OwnsExtension old.descriptor x → UpdatesExtension old new (extension_type x).number (Some v) → IsOne v
+    → (type : ℕ → Option Field) → oneof_of (type (extension_type x).number) ≡ None → known_field old.descriptor.pool.now old.descriptor.index (extension_type x).number ≡ None
+    → view new ≡ assign type (extension_type x).number (settled (part_of old.descriptor.pool.now (extension_type x)) (content_view v)) (view old)
+extension_put old new x v owns sets one =
+    extension_changed old new sets.same_type x owns sets.extension.others sets.fields sets.unknown
+    (settled (part_of old.descriptor.pool.now (extension_type x)) (content_view v))
+    (ap (λ o. held_in old.descriptor.pool.now (extension_type x) (option_map content_view o)) sets.extension.here ∙ held_settled old.descriptor.pool.now (extension_type x) v one)
 
 -- a field of one value has the values that it has
 pub one_part : (pool : PoolType) (f : FieldType) → holds_map pool f ≡ false → part_of pool (values_of pool f) ≡ part_of pool f

@@ -21,16 +21,15 @@ use Rattle.text_model.specs.Value.{Wanted, add_all, body_value, expanded, field_
 use Rattle.message_view.specs.Types.{name_at, types_of}
 use Rattle.message_view.specs.Views.{view}
 use Rattle.text_view.specs.Holds.{HoldsKinds}
-use Rattle.text_view.specs.Ruled.{IsRuled}
+use Rattle.message_view.specs.Sound.{IsSound}
 use Rattle.text_view.specs.Schemas.{schema_of, shape_at}
 use Rattle.text_view.specs.Targets.{target_field}
 use Rattle.text_view.proofs.Adds.{label_keyed, label_many, label_one, target_label}
 use Rattle.text_view.proofs.Any.{told_any}
 use Rattle.text_view.proofs.Given.{IsMany, Wants, all_contents, field_many, field_one, none_then, one_content, target_wants, wanted}
 use Rattle.text_view.proofs.Named.{extensions_found, fields_found, none_found, none_found_extension}
-use Rattle.text_view.proofs.Once.{one_of, refused}
+use Rattle.text_view.proofs.Once.{one_of, refused, second}
 use Rattle.text_view.proofs.Owned.{OwnsTarget, named_target, pool_is, target_there}
-use Rattle.text_view.proofs.Many.{second}
 use Rattle.text_view.proofs.Wanted.{type_found, type_missing}
 
 -- what is known of what is given and suits no kind: it has no contents
@@ -43,7 +42,7 @@ either_none : (b : Bool) → ◌≡◌ {A = Option Message} (cond b None None) N
 either_none true = refl
 either_none false = refl
 
-module _ (decoded : Name → Text → Option Message) (m : DynamicMessage) (kinds : HoldsKinds m) (ruled : IsRuled m.descriptor.pool.now) (g : Given) (unfit : GivenUnfit decoded m.descriptor.pool.now g) where
+module _ (decoded : Name → Text → Option Message) (m : DynamicMessage) (kinds : HoldsKinds m) (sound : IsSound m.descriptor.pool.now) (g : Given) (unfit : GivenUnfit decoded m.descriptor.pool.now g) where
   abbrev d : MessageDescriptor
   d = m.descriptor
 
@@ -63,7 +62,7 @@ module _ (decoded : Name → Text → Option Message) (m : DynamicMessage) (kind
   many_label : (t : Target) → OwnsTarget d t → holds_many t ≡ true → IsMany (target_field d t).label
   many_label t owns many = by (holds_map pool (target_type t)) refl where
     its_pool : target_pool t ≡ pool
-    its_pool = pool_is d ruled.apart t owns
+    its_pool = pool_is d sound.apart t owns
 
     by : (b : Bool) → holds_map pool (target_type t) ≡ b → IsMany (target_field d t).label
     by true is_map = subst IsMany (sym (target_label d t ∙ label_keyed pool (target_type t) is_map)) tt
@@ -74,23 +73,23 @@ module _ (decoded : Name → Text → Option Message) (m : DynamicMessage) (kind
   many_refused : (t : Target) → OwnsTarget d t → holds_many t ≡ true → (k : Kind) → IsKind pool k (target_type t).kind → AreUnfitGiven g k → given_to t ≡ None
   many_refused t owns many k kind bad =
       field_many w s g (view m) (target_type t).number (target_field d t) (many_label t owns many)
-      ∙ ap (option_and_then (add_all s.fields (target_type t).number (target_field d t).part (target_field d t).label (view m))) (unfit.all k (wanted d ruled decoded t owns) (target_wants d ruled decoded t owns k kind) bad)
+      ∙ ap (option_and_then (add_all s.fields (target_type t).number (target_field d t).part (target_field d t).label (view m))) (unfit.all k (wanted d sound decoded t owns) (target_wants d sound decoded t owns k kind) bad)
 
   one_refused : (t : Target) → OwnsTarget d t → holds_many t ≡ false → (k : Kind) → IsKind pool k (target_type t).kind → IsUnfitGiven g k ⊎ ((steps.is_set m t ≡ true) ⊎ HasRival t m) → given_to t ≡ None
   one_refused t owns one k kind bad =
-      let none = one_of d ruled.apart t owns one in
+      let none = one_of d sound.apart t owns one in
       field_one w s g (view m) (target_type t).number (target_field d t) (target_label d t ∙ label_one pool (target_type t) none.0 none.1) ∙ by bad where
         a : Wanted
-        a = wanted d ruled decoded t owns
+        a = wanted d sound decoded t owns
 
         by : IsUnfitGiven g k ⊎ ((steps.is_set m t ≡ true) ⊎ HasRival t m) → option_and_then (set_one s.fields (target_type t).number (target_field d t).part (view m)) (one_content w a g) ≡ None
-        by (inl h) = ap (option_and_then (set_one s.fields (target_type t).number (target_field d t).part (view m))) (unfit.one k a (target_wants d ruled decoded t owns k kind) h)
-        by (inr h) = none_then (one_content w a g) (set_one s.fields (target_type t).number (target_field d t).part (view m)) (λ c. refused m ruled.apart ruled.proper kinds t owns one h c)
+        by (inl h) = ap (option_and_then (set_one s.fields (target_type t).number (target_field d t).part (view m))) (unfit.one k a (target_wants d sound decoded t owns k kind) h)
+        by (inr h) = none_then (one_content w a g) (set_one s.fields (target_type t).number (target_field d t).part (view m)) (λ c. refused m sound kinds t owns one h c)
 
   target_refused : (t : Target) → OwnsTarget d t → Rejects t (IsUnfitGiven g) (AreUnfitGiven g) m → given_to t ≡ None
   target_refused t owns (k, is, choice) = by choice where
     kind : IsKind pool k (target_type t).kind
-    kind = subst (λ p. IsKind p k (target_type t).kind) (pool_is d ruled.apart t owns) is
+    kind = subst (λ p. IsKind p k (target_type t).kind) (pool_is d sound.apart t owns) is
 
     by : ((holds_many t ≡ true) × AreUnfitGiven g k) ⊎ ((holds_many t ≡ false) × (IsUnfitGiven g k ⊎ ((steps.is_set m t ≡ true) ⊎ HasRival t m))) → given_to t ≡ None
     by (inl (many, bad)) = many_refused t owns many k kind bad
@@ -99,7 +98,7 @@ module _ (decoded : Name → Text → Option Message) (m : DynamicMessage) (kind
   found_refused : (o : Option ℕ) (t : Target) → OwnsTarget d t → o ≡ Some (target_type t).number → given_to t ≡ None → with_field s o (field_value w s g (view m)) ≡ None
   found_refused o t owns found none =
       ap (λ o. with_field s o (field_value w s g (view m))) found
-      ∙ ap (option_and_then (field_value w s g (view m) (target_type t).number)) (target_there d ruled.apart t owns) ∙ none
+      ∙ ap (option_and_then (field_value w s g (view m) (target_type t).number)) (target_there d sound.apart t owns) ∙ none
 
   expansion_refused : (domain name : FullName) → RejectsExpansion (written name) (IsUnfitBody g) m → expanded w s domain name (view m) (λ t. body_value w t g) ≡ None
   expansion_refused domain name h = by h where
@@ -123,20 +122,20 @@ module _ (decoded : Name → Text → Option Message) (m : DynamicMessage) (kind
       → named_value w s name (view m) (field_value w s g (view m)) (λ t. body_value w t g) ≡ None
   name_refused (plain v) (inl none) = ap (λ o. with_field s o (field_value w s g (view m))) (none_found d v none)
   name_refused (plain v) (inr (t, named, rejects)) =
-      let owns = named_target d ruled.apart v t (inl named) in
+      let owns = named_target d sound.apart v t (inl named) in
       found_refused (s.names.field v) t owns (fields_found d v t named) (target_refused t owns rejects)
   name_refused (extension v) (inl none) = ap (λ o. with_field s o (field_value w s g (view m))) (none_found_extension d (written v) none)
   name_refused (extension v) (inr (t, named, rejects)) =
-      let owns = named_target d ruled.apart (written v) t (inr named) in
+      let owns = named_target d sound.apart (written v) t (inr named) in
       found_refused (s.names.extension (written v)) t owns (extensions_found d (written v) t named) (target_refused t owns rejects)
   name_refused (expansion domain v) h = expansion_refused domain v h
 
 pub refused_at : (decoded : Name → Text → Option Message) (m : DynamicMessage) → HoldsKinds m → (name : FieldName) (g : Given)
-    → RejectsNamed name (IsUnfitGiven g) (AreUnfitGiven g) (IsUnfitBody g) m → (pool : PoolType) → m.descriptor.pool.now ≡ pool → IsRuled pool → GivenUnfit decoded pool g
+    → RejectsNamed name (IsUnfitGiven g) (AreUnfitGiven g) (IsUnfitBody g) m → (pool : PoolType) → m.descriptor.pool.now ≡ pool → IsSound pool → GivenUnfit decoded pool g
     → named_value (schema_of pool decoded) (shape_at pool m.descriptor.index) name (view m)
     (field_value (schema_of pool decoded) (shape_at pool m.descriptor.index) g (view m)) (λ t. body_value (schema_of pool decoded) t g) ≡ None
 refused_at decoded m kinds name g rejects q at =
-    subst (λ (p : PoolType). IsRuled p → GivenUnfit decoded p g
+    subst (λ (p : PoolType). IsSound p → GivenUnfit decoded p g
     → named_value (schema_of p decoded) (shape_at p m.descriptor.index) name (view m)
     (field_value (schema_of p decoded) (shape_at p m.descriptor.index) g (view m)) (λ t. body_value (schema_of p decoded) t g) ≡ None) at
-    (λ ruled unfit. name_refused decoded m kinds ruled g unfit name rejects)
+    (λ sound unfit. name_refused decoded m kinds sound g unfit name rejects)

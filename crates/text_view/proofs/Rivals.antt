@@ -32,12 +32,11 @@ use Rattle.message_view.specs.Views.{content_view, view}
 use Rattle.message_view.proofs.Accepting.{not_float}
 use Rattle.message_view.proofs.Fields.{owned, owned_whole}
 use Rattle.message_view.proofs.Oneofs.{oneof_told, rival_is_sibling}
-use Rattle.text_view.specs.Apart.{AreApart}
+use Rattle.message_view.specs.Sound.{AreApart, IsSound}
 use Rattle.text_view.specs.Holds.{HoldsKinds}
-use Rattle.text_view.specs.Ruled.{AreProperFields}
 use Rattle.text_view.proofs.Owned.{under_target}
 use Rattle.text_view.proofs.Puts.{is_number, number_is}
-use Rattle.text_view.proofs.Set.{one_held, set_same, unset_absent}
+use Rattle.text_view.proofs.Set.{any_set, unset_absent}
 
 member_is : (k : ℕ) (f : FieldType) → is_member k f ≡ true → f.oneof ≡ Some k
 member_is k f e = by f.oneof e where
@@ -132,13 +131,7 @@ any_number test q low high is = any_at test q 1 (2 ^ 29 - 1) (omega (arith, low)
 pub place_of : (d : MessageDescriptor) (g : FieldDescriptor) → Owns d g → type_of_field d.pool.now d.index g.index ≡ field_type g
 place_of d g h = ap (λ j. type_of_field d.pool.now j g.index) (sym h.0.0) ∙ ap (λ p. type_of_field p g.message.index g.index) (sym h.0.1)
 
--- a member of a oneof holds one value
-pub member_one : (d : MessageDescriptor) → AreProperFields d.pool.now → (g : FieldDescriptor) → Owns d g → (k : ℕ) → (field_type g).oneof ≡ Some k → is_repeated (field_type g).cardinality ≡ false
-member_one d proper g h k e =
-    let at = place_of d g h in
-    ap (λ (t : FieldType). is_repeated t.cardinality) (sym at) ∙ proper.members d.index g.index k h.1.0 (ap (λ (t : FieldType). t.oneof) at ∙ e)
-
-module _ (m : DynamicMessage) (apart : AreApart m.descriptor.pool.now) (numbered : AreProperFields m.descriptor.pool.now) (kinds : HoldsKinds m) where
+module _ (m : DynamicMessage) (sound : IsSound m.descriptor.pool.now) (kinds : HoldsKinds m) where
   abbrev pool : PoolType
   pool = m.descriptor.pool.now
 
@@ -185,22 +178,22 @@ module _ (m : DynamicMessage) (apart : AreApart m.descriptor.pool.now) (numbered
         held = subst (λ t. HoldsFloats pool t → ⊥) (sym (place_of m.descriptor g h)) (subst (λ p. HoldsFloats p (field_type g) → ⊥) h.0.1 h.2);
       })
 
-  -- whether a field of one value is set is seen
-  seen_set : (g : FieldDescriptor) → Owns m.descriptor g → is_repeated (field_type g).cardinality ≡ false
+  -- whether a field is set is seen
+  seen_set : (g : FieldDescriptor) → Owns m.descriptor g
       → is_held (field_pool g) (field_type g) (value_at (fields_of m) (field_type g).number) ≡ is_set (view m (field_type g).number)
-  seen_set g h one =
-      let none = no_many pool (field_type g) one in
+  seen_set g h =
       let held = value_at (fields_of m) (field_type g).number in
       ap (λ p. is_held p (field_type g) held) h.0.1
-      ∙ set_same pool (field_type g) (not_float pool (field_type g) (owned_whole m.descriptor g h)) held
-      (one_held pool (field_type g) none.0 none.1 held (kinds.fields (field_type g).number (field_type g) (owned m.descriptor g h)))
-      ∙ sym (ap is_set (under_target m.descriptor apart (targets.Field g) h m refl))
+      ∙ any_set pool (field_type g) (not_float pool (field_type g) (owned_whole m.descriptor g h))
+      (sound.lists.unset i (field_type g).number (field_type g) (inl (owned m.descriptor g h))) held
+      (kinds.fields (field_type g).number (field_type g) (owned m.descriptor g h))
+      ∙ sym (ap is_set (under_target m.descriptor sound.apart (targets.Field g) h m refl))
 
-  unset_seen : (g : FieldDescriptor) → Owns m.descriptor g → is_repeated (field_type g).cardinality ≡ false
+  unset_seen : (g : FieldDescriptor) → Owns m.descriptor g
       → is_held (field_pool g) (field_type g) (value_at (fields_of m) (field_type g).number) ≡ false → view m (field_type g).number ≡ absent
-  unset_seen g h one e =
-      let under = under_target m.descriptor apart (targets.Field g) h m refl in
-      under ∙ unset_absent pool (field_type g) (option_map content_view (value_at (fields_of m) (field_type g).number)) (sym (ap is_set under) ∙ sym (seen_set g h one) ∙ e)
+  unset_seen g h e =
+      let under = under_target m.descriptor sound.apart (targets.Field g) h m refl in
+      under ∙ unset_absent pool (field_type g) (option_map content_view (value_at (fields_of m) (field_type g).number)) (sym (ap is_set under) ∙ sym (seen_set g h) ∙ e)
 
   module _ (f : FieldDescriptor) (owns : Owns m.descriptor f) where
     abbrev n : ℕ
@@ -222,7 +215,7 @@ module _ (m : DynamicMessage) (apart : AreApart m.descriptor.pool.now) (numbered
       its = some_of (field_type g).oneof sibling.0 (sym (oneof_here g sibling.2) ∙ sibling.6)
 
       shared : (field_type g).oneof ≡ Some mine.0
-      shared = its.1 ∙ ap Some (one_oneof pool apart i its.0 mine.0 sibling.0 its.2 mine.2)
+      shared = its.1 ∙ ap Some (one_oneof pool sound.apart i its.0 mine.0 sibling.0 its.2 mine.2)
 
       among : IsAmong mine.0 fields (type_of_field pool i g.index)
       among = member_there mine.0 fields g.index sibling.2.1.0 (ap (λ (t : FieldType). t.oneof) (place_of m.descriptor g sibling.2) ∙ shared)
@@ -238,7 +231,7 @@ module _ (m : DynamicMessage) (apart : AreApart m.descriptor.pool.now) (numbered
           let its_own = meant_owns q h.0 h.1 in
           let number = meant_number q h.0 h.1 in
           let same : field_type h.0 ≡ field_type g = same_field h.0 g its_own sibling.2 (number ∙ sym sibling.3) in
-          ap (view m) (sym number) ∙ unset_seen h.0 its_own (member_one m.descriptor numbered h.0 its_own mine.0 (ap (λ (t : FieldType). t.oneof) same ∙ shared)) (sym h.2)
+          ap (view m) (sym number) ∙ unset_seen h.0 its_own (sym h.2)
 
     -- where another member is set that is seen, or that the field is itself
     pub rival_seen : HasRival (targets.Field f) m → (is_set (view m n) || has_rival (field_at pool i) n (view m)) ≡ true
@@ -279,11 +272,11 @@ module _ (m : DynamicMessage) (apart : AreApart m.descriptor.pool.now) (numbered
           let its_own = meant_owns x.number g h.1 in
           let number = meant_number x.number g h.1 in
           let place : g.index ≡ stands.0 =
-          apart.fields i g.index stands.0 its_own.1.0 stands.1
+          sound.apart.fields i g.index stands.0 its_own.1.0 stands.1
           (ap (λ (t : FieldType). t.number) (place_of m.descriptor g its_own) ∙ number ∙ ap (λ (t : FieldType). t.number) (sym stands.2)) in
           let same : field_type g ≡ x = sym (place_of m.descriptor g its_own) ∙ ap (type_of_field pool i) place ∙ stands.2 in
           let in_one : (field_type g).oneof ≡ Some o.index = ap (λ (t : FieldType). t.oneof) same ∙ stands.3 in
-          let small = numbered.numbers i stands.0 stands.1 in
-          seen x.number (ap (λ k. is_set (view m k)) (sym number) ∙ sym (h.2 ∙ seen_set g its_own (member_one m.descriptor numbered g its_own o.index in_one)))
+          let small = sound.numbers.fields i stands.0 stands.1 in
+          seen x.number (ap (λ k. is_set (view m k)) (sym number) ∙ sym (h.2 ∙ seen_set g its_own))
           (subst (λ (t : FieldType). 0 < t.number) stands.2 small.0) (subst (λ (t : FieldType). t.number < 2 ^ 29) stands.2 small.1)
           (ap (λ k. oneof_of (field_at pool i k)) (sym number) ∙ oneof_in g its_own in_one) (x.number == n) refl

@@ -34,8 +34,7 @@ use Rattle.message_view.proofs.Arranging.{IsShaped}
 use Rattle.message_view.proofs.Fields.{known, owned, extension_owned}
 use Rattle.message_view.proofs.Ordering.{rises}
 use Rattle.message_view.proofs.Written.{FitsOne, FitsAs}
-use Rattle.text_view.specs.Apart.{AreApart}
-use Rattle.text_view.specs.Ruled.{AreProperFields, IsFieldNumber}
+use Rattle.message_view.specs.Sound.{AreApart, HaveFieldNumbers, IsFieldNumber}
 use Rattle.text_view.proofs.Apart.{no_field_there}
 use Rattle.text_view.proofs.Kept.{LeavesOthers, StaysOrGoes}
 use Rattle.text_view.proofs.Owned.{OwnsTarget}
@@ -87,8 +86,8 @@ blank_shapely inner pool i c empty = subst (IsShapely inner pool i) (sym empty) 
 })
 
 -- the number of a target is one that fields may have
-pub target_number : (d : MessageDescriptor) → AreProperFields d.pool.now → (t : Target) → OwnsTarget d t → IsFieldNumber (target_type t).number
-target_number d proper (targets.Field f) owns = subst (λ (g : FieldType). IsFieldNumber g.number) (place_of d f owns) (proper.numbers d.index f.index owns.1.0)
+pub target_number : (d : MessageDescriptor) → HaveFieldNumbers d.pool.now → (t : Target) → OwnsTarget d t → IsFieldNumber (target_type t).number
+target_number d proper (targets.Field f) owns = subst (λ (g : FieldType). IsFieldNumber g.number) (place_of d f owns) (proper.fields d.index f.index owns.1.0)
 target_number d proper (targets.Extension x) owns = subst (λ p. IsFieldNumber (extension_at p x.index).field.number) (sym owns.0.0) (proper.extensions x.index owns.1.0)
 
 -- under one number more stands a value

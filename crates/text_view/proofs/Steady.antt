@@ -1,5 +1,4 @@
 -- What steps of filling a message carry along.
-use Rattle.reflect_message.specs.Declares.{Owns}
 use Rattle.reflect_message.specs.Oneofs.{IsExclusive}
 use Rattle.reflect_message.specs.declared.message.DynamicMessage.{DynamicMessage}
 use Rattle.reflect_format.specs.Steps.{StaysExclusive}

@@ -1,13 +1,13 @@
 -- The steps of texts by the names of their targets.
-use Rattle.std.proofs.Common.{◌≡◌, ◌⊎◌, ℕ, true, false, List, map, Some, None, subst}
+use Rattle.std.proofs.Common.{◌≡◌, ◌⊎◌, ◌<◌, ◌∙◌, true, false, List, map, length, Option, Some, None, ap, subst}
 use Rattle.std.specs.List.{AllByRecursion}
 use Rattle.protox_lex.specs.Class.{Text}
+use Rattle.protobuf_model.specs.Types.{Name}
 use Rattle.protobuf_model.specs.Values.{Content, Message}
-use Rattle.reflect_tables.specs.Types.{FieldType}
+use Rattle.reflect_tables.specs.Types.{PoolType}
 use Rattle.reflect_tables.specs.Types as types
 use Rattle.reflect_pool.specs.Shapes.{holds_map}
 use Rattle.reflect_pool.specs.declared.message.MessageDescriptor.{MessageDescriptor}
-use Rattle.reflect_message.specs.Known.{holds_floats}
 use Rattle.reflect_message.specs.Oneofs.{IsExclusive}
 use Rattle.reflect_message.specs.declared.message.DynamicMessage.{DynamicMessage}
 use Rattle.reflect_message.specs.declared.value.Value.{Value}
@@ -16,45 +16,44 @@ use Rattle.reflect_format.specs.Named.{NamesField, NamesExtension}
 use Rattle.reflect_format.specs.Steps.{Adds, is_set}
 use Rattle.reflect_format.specs.Takes.{holds_many, target_pool, target_type}
 use Rattle.reflect_format.specs.declared.target.Target.{Target}
-use Rattle.text_model.specs.Schemas.{Names, Schema, entry_shape}
-use Rattle.text_model.specs.Tree.{Fields}
-use Rattle.text_model.specs.Value.{add_all, set_one, value}
-use Rattle.message_view.specs.Types.{entry_part, field_at, key_of, part_of}
+use Rattle.text_model.specs.Value.{add_all, of_message, set_one, wanted_of}
+use Rattle.message_view.specs.Types.{field_at}
 use Rattle.message_view.specs.Views.{content_view, view}
 use Rattle.text_view.specs.Holds.{HoldsKinds}
-use Rattle.text_view.specs.Names.{number_in}
-use Rattle.text_view.specs.Ruled.{IsRuled}
-use Rattle.text_view.specs.Schemas.{shape_at}
+use Rattle.text_view.specs.Names.{names_of}
+use Rattle.message_view.specs.Sound.{IsSound}
+use Rattle.text_view.specs.Schemas.{schema_of, shape_at}
 use Rattle.text_view.specs.Targets.{target_field}
 use Rattle.text_view.specs.Values.{IsMessageOf, IsOne}
-use Rattle.text_view.proofs.Alike.{value_alike}
-use Rattle.text_view.proofs.Given.{entry_alike}
+use Rattle.text_view.proofs.Given.{map_wanted}
+use Rattle.text_view.proofs.Shapes.{shape_is}
 use Rattle.text_view.proofs.Once.{put_once, refused}
 use Rattle.text_view.proofs.Owned.{named_target, pool_is}
 use Rattle.text_view.proofs.Stepping.{map_all}
 
-pub put_alone : (old new : DynamicMessage) → IsRuled old.descriptor.pool.now → (w : Text) (t : Target) → NamesField old.descriptor w t ⊎ NamesExtension old.descriptor w t
+pub put_alone : (old new : DynamicMessage) → IsSound old.descriptor.pool.now → (w : Text) (t : Target) → NamesField old.descriptor w t ⊎ NamesExtension old.descriptor w t
     → (v : Value) → IsOne v → IsExclusive old → HoldsKinds old → new.descriptor ≡ old.descriptor → PutsOne t v old new
     → set_one (field_at old.descriptor.pool.now old.descriptor.index) (target_type t).number (target_field old.descriptor t).part (view old) (content_view v) ≡ Some (view new)
-put_alone old new ruled w t named v one exclusive kinds same puts =
-    put_once old new ruled.apart ruled.proper exclusive kinds t (named_target old.descriptor ruled.apart w t named) v one same puts
+put_alone old new sound w t named v one exclusive kinds same puts =
+    put_once old new sound exclusive kinds t (named_target old.descriptor sound.apart w t named) v one same puts
 
-pub no_second : (m : DynamicMessage) → IsRuled m.descriptor.pool.now → (w : Text) (t : Target) → NamesField m.descriptor w t ⊎ NamesExtension m.descriptor w t
+pub no_second : (m : DynamicMessage) → IsSound m.descriptor.pool.now → (w : Text) (t : Target) → NamesField m.descriptor w t ⊎ NamesExtension m.descriptor w t
     → holds_many t ≡ false → HoldsKinds m → (is_set m t ≡ true) ⊎ HasRival t m → (c : Content)
     → set_one (field_at m.descriptor.pool.now m.descriptor.index) (target_type t).number (target_field m.descriptor t).part (view m) c ≡ None
-no_second m ruled w t named one kinds h c = refused m ruled.apart ruled.proper kinds t (named_target m.descriptor ruled.apart w t named) one h c
+no_second m sound w t named one kinds h c = refused m sound kinds t (named_target m.descriptor sound.apart w t named) one h c
 
-pub entries_read : (d : MessageDescriptor) → IsRuled d.pool.now → (f : FieldType) → f.kind ≡ types.message d.index → holds_map d.pool.now f ≡ true → holds_floats d.pool.now f ≡ false
-    → (w : Schema) (names : Names) (n : ℕ) → names.enum_number n ≡ number_in d.pool.now (entry_part d.pool.now f 2).kind → (fs : Fields) (m : Message)
-    → value w (entry_shape names n (key_of d.pool.now (entry_part d.pool.now f 1)) (part_of d.pool.now (entry_part d.pool.now f 2))) fs m ≡ value w (shape_at d.pool.now d.index) fs m
-entries_read d ruled f kind is_map whole w names n enum fs m =
-    value_alike w (entry_shape names n (key_of d.pool.now (entry_part d.pool.now f 1)) (part_of d.pool.now (entry_part d.pool.now f 2))) (shape_at d.pool.now d.index)
-    (entry_alike d f kind ruled is_map whole w names n enum) fs m
+pub entries_read : (m : MessageDescriptor) → IsSound m.pool.now → (decoded : Name → Text → Option Message) (w : Text) (t : Target) → NamesField m w t ⊎ NamesExtension m w t
+    → holds_map (target_pool t) (target_type t) ≡ true → (d : MessageDescriptor) → d.pool.now ≡ m.pool.now → (target_type t).kind ≡ types.message d.index
+    → wanted_of (schema_of m.pool.now decoded) (names_of m.pool.now m.index) (target_type t).number (target_field m t).part (target_field m t).label ≡ of_message (shape_at m.pool.now d.index)
+entries_read m sound decoded w t named is_map d at kind =
+    let owns = named_target m sound.apart w t named in
+    map_wanted m sound decoded t owns d kind (subst (λ p. holds_map p (target_type t) ≡ true) (pool_is m sound.apart t owns) is_map)
+    ∙ ap of_message (shape_is m.pool.now sound.names decoded d.index (subst (λ (p : PoolType). d.index < length p.messages) at d.in_range))
 
-pub map_put : (old new : DynamicMessage) → IsRuled old.descriptor.pool.now → (w : Text) (t : Target) → NamesField old.descriptor w t ⊎ NamesExtension old.descriptor w t
-    → holds_map (target_pool t) (target_type t) ≡ true → HoldsKinds old → (d : MessageDescriptor) → d.pool.now ≡ old.descriptor.pool.now → (target_type t).kind ≡ types.message d.index
+pub map_put : (old new : DynamicMessage) → IsSound old.descriptor.pool.now → (w : Text) (t : Target) → NamesField old.descriptor w t ⊎ NamesExtension old.descriptor w t
+    → holds_map (target_pool t) (target_type t) ≡ true → IsExclusive old → HoldsKinds old → (d : MessageDescriptor) → d.pool.now ≡ old.descriptor.pool.now → (target_type t).kind ≡ types.message d.index
     → (vs : List Value) → AllByRecursion (IsMessageOf d) vs → new.descriptor ≡ old.descriptor → Adds t vs old new
     → add_all (field_at old.descriptor.pool.now old.descriptor.index) (target_type t).number (target_field old.descriptor t).part (target_field old.descriptor t).label (view old) (map content_view vs) ≡ Some (view new)
-map_put old new ruled w t named is_map kinds d at kind vs entries same adds =
-    let owns = named_target old.descriptor ruled.apart w t named in
-    (map_all old new ruled kinds same t owns (subst (λ p. holds_map p (target_type t) ≡ true) (pool_is old.descriptor ruled.apart t owns) is_map) d at kind vs entries adds).0
+map_put old new sound w t named is_map exclusive kinds d at kind vs entries same adds =
+    let owns = named_target old.descriptor sound.apart w t named in
+    (map_all old new sound exclusive kinds same t owns (subst (λ p. holds_map p (target_type t) ≡ true) (pool_is old.descriptor sound.apart t owns) is_map) d at kind vs entries adds).0

@@ -31,8 +31,8 @@ use Rattle.reflect_format.specs.declared.target.Target.TheVariants as targets
 use Rattle.message_view.specs.Types.{entry_part, key_of, kind_in, label_of, name_at, part_of, values_of}
 use Rattle.message_view.specs.Views.{content_view}
 use Rattle.message_view.proofs.Fields.{owned, extension_owned}
-use Rattle.text_view.specs.Apart.{AreApart}
-use Rattle.text_view.specs.Names.{kind_at, names_of, number_in, value_kind}
+use Rattle.message_view.specs.Sound.{AreApart}
+use Rattle.text_view.specs.Names.{entry_name, kind_at, names_of, number_in, kind_name, value_kind}
 use Rattle.text_view.specs.Schemas.{type_called}
 use Rattle.text_view.specs.Targets.{target_field}
 use Rattle.text_view.proofs.Apart.{named_owns, no_field_there}
@@ -71,6 +71,13 @@ module _ (d : MessageDescriptor) (apart : AreApart d.pool.now) where
 
   pub enum_under : (t : Target) → OwnsTarget d t → (names_of d.pool.now d.index).enum_number (target_type t).number ≡ number_in d.pool.now (values_of d.pool.now (target_type t)).kind
   enum_under t owns = ap (λ o. λ v. option_and_then (λ k. number_in d.pool.now k v) o) (kind_under t owns)
+
+  -- of which type the entries of a target are, by its number
+  pub entry_under : (t : Target) → OwnsTarget d t → (names_of d.pool.now d.index).entry (target_type t).number ≡ kind_name d.pool.now (target_type t).kind
+  entry_under (targets.Field f) owns = ap (λ o. entry_name d.pool.now o (known_extension d.pool.now d.index (field_type f).number)) (owned d f owns)
+  entry_under (targets.Extension x) owns =
+      ap (λ o. entry_name d.pool.now o (known_extension d.pool.now d.index (extension_type x).number)) (no_field_there d apart x owns)
+      ∙ ap (entry_name d.pool.now None) (extension_owned d x owns)
 
   -- what a target wants that is no map
   pub wanted_target : (w : Schema) (t : Target) → OwnsTarget d t → holds_map d.pool.now (target_type t) ≡ false

@@ -1,7 +1,6 @@
 pub mod Names
 pub mod Schemas
-pub mod Apart
 pub mod Targets
 pub mod Values
 pub mod Holds
-pub mod Ruled
+pub mod SourceNames

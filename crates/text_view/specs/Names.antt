@@ -10,8 +10,9 @@ use Rattle.reflect_tables.specs.Types.{PoolType, FieldType, KindType, type_at, e
 use Rattle.reflect_tables.specs.Types as types
 use Rattle.reflect_message.specs.Known.{holds_floats, if_held, known_field, known_extension}
 use Rattle.reflect_print.specs.Named.{label_of}
+use Rattle.protobuf_model.specs.Types.{Name}
 use Rattle.text_model.specs.Schemas.{Names}
-use Rattle.message_view.specs.Types.{values_of}
+use Rattle.message_view.specs.Types.{name_at, values_of}
 
 -- the first field of the type at a place that has the name
 abbrev pub first_called : PoolType → ℕ → Text → Option FieldType
@@ -72,6 +73,16 @@ value_kind pool None None = None
 abbrev pub kind_at : PoolType → ℕ → ℕ → Option KindType
 kind_at pool i n = value_kind pool (known_field pool i n) (known_extension pool i n)
 
+-- the type that the kind of a field or else of an extension is: of a map that of its entries
+abbrev pub kind_name : PoolType → KindType → Name
+kind_name pool (types.message i) = name_at pool i
+kind_name pool _ = []
+
+abbrev pub entry_name : PoolType → (field extension : Option FieldType) → Name
+entry_name pool (Some f) x = kind_name pool f.kind
+entry_name pool None (Some x) = kind_name pool x.kind
+entry_name pool None None = []
+
 -- the names that the type at a place has
 abbrev pub names_of : PoolType → ℕ → Names
 names_of pool i = record {
@@ -82,4 +93,5 @@ names_of pool i = record {
       (filter (λ f. not (holds_floats pool f)) (type_at pool i).fields);
   enum_number = λ n w. option_and_then (λ k. number_in pool k w) (kind_at pool i n);
   enum_name = λ n z. option_and_then (λ k. name_in pool k z) (kind_at pool i n);
+  entry = λ n. entry_name pool (known_field pool i n) (known_extension pool i n);
 }

@@ -7,12 +7,12 @@ ghost use Rattle.reflect_pool.specs.declared.message.MessageDescriptor.{MessageD
 ghost use Rattle.reflect_any.specs.Any.{IsAny};
 ghost use Rattle.reflect_pool.specs.Kinds.{IsKind};
 ghost use Rattle.reflect_pool.specs.declared.kind.Kind.{Kind};
-ghost use Rattle.reflect_tables.specs.Types.{FieldType, KindType, PoolType};
+ghost use Rattle.reflect_tables.specs.Types.{KindType, PoolType};
 ghost use Rattle.reflect_tables.specs.Types as types;
 ghost use Rattle.reflect_message.specs.Bytes.{message_bytes};
 ghost use Rattle.reflect_message.specs.Contents as contents;
 ghost use Rattle.reflect_message.specs.Contents.{content_of};
-ghost use Rattle.reflect_message.specs.Known.{holds_floats, is_float};
+ghost use Rattle.reflect_message.specs.Known.{is_float};
 ghost use Rattle.reflect_message.specs.declared.value.Value.{Value};
 ghost use Rattle.reflect_message.specs.Lists.{items_held};
 ghost use Rattle.reflect_message.specs.Oneofs.{IsExclusive};
@@ -29,17 +29,15 @@ ghost use Rattle.reflect_format.specs.declared.target.Target.{Target};
 ghost use Rattle.protobuf_model.specs.Bytes.{bytes_of};
 ghost use Rattle.protobuf_model.specs.Types.{Name};
 ghost use Rattle.protobuf_model.specs.Values.{blob, nothing, text, Content, Message};
-ghost use Rattle.message_view.specs.Sound.{HaveNames};
-ghost use Rattle.message_view.specs.Types.{entry_part, field_at, key_of, kind_in, name_at, part_of, types_of};
+ghost use Rattle.message_view.specs.Sound.{HaveNames, AreApart, IsSound};
+ghost use Rattle.message_view.specs.Types.{field_at, kind_in, name_at, types_of};
 ghost use Rattle.message_view.specs.Views.{content_view, view};
-ghost use Rattle.text_model.specs.Schemas.{entry_shape, shape_of, Names, Schema};
+ghost use Rattle.text_model.specs.Schemas.{shape_of, Schema};
 ghost use Rattle.text_model.specs.Texts.{Gives, IsText};
 ghost use Rattle.text_model.specs.Tree.{Fields, ScalarValue};
-ghost use Rattle.text_model.specs.Value.{add_all, assign, hold, scalar_content, set_one, settled, value, wanted_in, wanted_of};
-ghost use Rattle.text_view.specs.Apart.{AreApart};
+ghost use Rattle.text_model.specs.Value.{add_all, assign, hold, of_message, scalar_content, set_one, settled, value, wanted_in, wanted_of};
 ghost use Rattle.text_view.specs.Holds.{HoldsKinds};
 ghost use Rattle.text_view.specs.Names.{names_of, number_in};
-ghost use Rattle.text_view.specs.Ruled.{IsRuled};
 ghost use Rattle.text_view.specs.Schemas.{is_any_at, schema_of, shape_at, type_called};
 ghost use Rattle.text_view.specs.Targets.{target_field};
 ghost use Rattle.text_view.specs.Values.{IsMessageOf, IsOne};
@@ -159,12 +157,13 @@ pub fn what_is_put_is_assigned()
         (settled (target_field old.descriptor t).part (content_view v)) (view old) }
 {}
 
-/// Values that are added to a list, which is in no oneof, stand behind those that it has.
+/// Values that are added to a list stand behind those that it has, and other members of its oneof
+/// are unset.
 pub fn what_is_added_to_a_list_stands_behind()
     ensures { (old new : DynamicMessage) → AreApart old.descriptor.pool.now
         → HaveNames old.descriptor.pool.now → (w : Text) (t : Target)
         → NamesField old.descriptor w t ⊎ NamesExtension old.descriptor w t
-        → holds_list (target_pool t) (target_type t) ≡ true → (target_type t).oneof ≡ None
+        → holds_list (target_pool t) (target_type t) ≡ true → IsExclusive old
         → (vs before : List Value) → items_held (held_by old t) ≡ Some before
         → new.descriptor ≡ old.descriptor → Adds t vs old new
         → add_all
@@ -202,7 +201,7 @@ pub fn nothing_is_seen_where_nothing_is_set()
 /// A value that is put where neither its target nor another member of the oneof is set is set, in
 /// what is seen of the message.
 pub fn what_is_put_alone_is_set()
-    ensures { (old new : DynamicMessage) → IsRuled old.descriptor.pool.now → (w : Text) (t : Target)
+    ensures { (old new : DynamicMessage) → IsSound old.descriptor.pool.now → (w : Text) (t : Target)
         → NamesField old.descriptor w t ⊎ NamesExtension old.descriptor w t
         → (v : Value) → IsOne v → IsExclusive old → HoldsKinds old
         → new.descriptor ≡ old.descriptor → PutsOne t v old new
@@ -213,7 +212,7 @@ pub fn what_is_put_alone_is_set()
 
 /// Where the target is set, or another member of its oneof, no value is.
 pub fn no_second_value_is_set()
-    ensures { (m : DynamicMessage) → IsRuled m.descriptor.pool.now → (w : Text) (t : Target)
+    ensures { (m : DynamicMessage) → IsSound m.descriptor.pool.now → (w : Text) (t : Target)
         → NamesField m.descriptor w t ⊎ NamesExtension m.descriptor w t
         → holds_many t ≡ false → HoldsKinds m → (is_set m t ≡ true) ⊎ HasRival t m → (c : Content)
         → set_one (field_at m.descriptor.pool.now m.descriptor.index) (target_type t).number
@@ -223,21 +222,22 @@ pub fn no_second_value_is_set()
 
 /// The entries of a map are read as messages of their type.
 pub fn entries_are_read_as_messages_of_their_type()
-    ensures { (d : MessageDescriptor) → IsRuled d.pool.now → (f : FieldType)
-        → f.kind ≡ types.message d.index → holds_map d.pool.now f ≡ true
-        → holds_floats d.pool.now f ≡ false → (w : Schema) (names : Names) (n : ℕ)
-        → names.enum_number n ≡ number_in d.pool.now (entry_part d.pool.now f 2).kind
-        → (fs : Fields) (m : Message)
-        → value w (entry_shape names n (key_of d.pool.now (entry_part d.pool.now f 1))
-        (part_of d.pool.now (entry_part d.pool.now f 2))) fs m
-        ≡ value w (shape_at d.pool.now d.index) fs m }
+    ensures { (m : MessageDescriptor) → IsSound m.pool.now
+        → (decoded : Name → Text → Option Message) (w : Text) (t : Target)
+        → NamesField m w t ⊎ NamesExtension m w t
+        → holds_map (target_pool t) (target_type t) ≡ true
+        → (d : MessageDescriptor) → d.pool.now ≡ m.pool.now
+        → (target_type t).kind ≡ types.message d.index
+        → wanted_of (schema_of m.pool.now decoded) (names_of m.pool.now m.index)
+        (target_type t).number (target_field m t).part (target_field m t).label
+        ≡ of_message (shape_at m.pool.now d.index) }
 {}
 
 /// Messages that are put into a map, of its type of entries, are put as the entries that they are.
 pub fn what_is_put_into_a_map_is_added()
-    ensures { (old new : DynamicMessage) → IsRuled old.descriptor.pool.now → (w : Text) (t : Target)
+    ensures { (old new : DynamicMessage) → IsSound old.descriptor.pool.now → (w : Text) (t : Target)
         → NamesField old.descriptor w t ⊎ NamesExtension old.descriptor w t
-        → holds_map (target_pool t) (target_type t) ≡ true → HoldsKinds old
+        → holds_map (target_pool t) (target_type t) ≡ true → IsExclusive old → HoldsKinds old
         → (d : MessageDescriptor) → d.pool.now ≡ old.descriptor.pool.now
         → (target_type t).kind ≡ types.message d.index
         → (vs : List Value) → AllByRecursion (IsMessageOf d) vs
@@ -261,7 +261,7 @@ pub fn what_an_any_gets_is_held()
 /// The fields of a text that fill a message give, in the model, what is then seen of it.
 pub fn texts_give_what_they_fill()
     ensures { (decoded : Name → Text → Option Message) (old new : DynamicMessage)
-        → IsRuled old.descriptor.pool.now → IsExclusive old → HoldsKinds old
+        → IsSound old.descriptor.pool.now → IsExclusive old → HoldsKinds old
         → (fs : Fields) → Fills fs old new
         → value (schema_of old.descriptor.pool.now decoded)
         (shape_at old.descriptor.pool.now old.descriptor.index) fs (view old)
@@ -271,7 +271,7 @@ pub fn texts_give_what_they_fill()
 /// Those that a message does not take give nothing.
 pub fn unfit_texts_give_nothing()
     ensures { (decoded : Name → Text → Option Message) (old : DynamicMessage)
-        → IsRuled old.descriptor.pool.now → IsExclusive old → HoldsKinds old
+        → IsSound old.descriptor.pool.now → IsExclusive old → HoldsKinds old
         → (fs : Fields) → Unfit fs old
         → value (schema_of old.descriptor.pool.now decoded)
         (shape_at old.descriptor.pool.now old.descriptor.index) fs (view old)
@@ -280,20 +280,20 @@ pub fn unfit_texts_give_nothing()
 
 /// So no text fills a message that does not take it.
 pub fn no_unfit_text_fills()
-    ensures { (old new : DynamicMessage) → IsRuled old.descriptor.pool.now → IsExclusive old
+    ensures { (old new : DynamicMessage) → IsSound old.descriptor.pool.now → IsExclusive old
         → HoldsKinds old → (fs : Fields) → Fills fs old new → Unfit fs old → ⊥ }
 {}
 
 /// And it fills a message in one way.
 pub fn texts_fill_in_one_way()
-    ensures { (old a b : DynamicMessage) → IsRuled old.descriptor.pool.now → IsExclusive old
+    ensures { (old a b : DynamicMessage) → IsSound old.descriptor.pool.now → IsExclusive old
         → HoldsKinds old → (fs : Fields) → Fills fs old a → Fills fs old b
         → view a ≡ view b }
 {}
 
 /// A message that a text fills again is exclusive, and holds values of the kinds of its fields.
 pub fn filled_messages_stay_so()
-    ensures { (old new : DynamicMessage) → IsRuled old.descriptor.pool.now → IsExclusive old
+    ensures { (old new : DynamicMessage) → IsSound old.descriptor.pool.now → IsExclusive old
         → HoldsKinds old → (fs : Fields) → Fills fs old new
         → IsExclusive new × HoldsKinds new }
 {}
@@ -301,7 +301,7 @@ pub fn filled_messages_stay_so()
 /// What a text makes of a type is the message that the text gives, and is written in the one form
 /// of it.
 pub fn texts_make_the_message_that_they_give()
-    ensures { (d : MessageDescriptor) → IsRuled d.pool.now
+    ensures { (d : MessageDescriptor) → IsSound d.pool.now
         → (decoded : Name → Text → Option Message) (z : Text) (fs : Fields) → IsText z fs
         → (m : DynamicMessage) → Makes d (Fills fs) m
         → Gives (schema_of d.pool.now decoded) (name_at d.pool.now d.index) z (view m)
@@ -311,7 +311,7 @@ pub fn texts_make_the_message_that_they_give()
 
 /// A text that the type does not take, however it is spelled, gives no message.
 pub fn texts_that_make_none_give_none()
-    ensures { (d : MessageDescriptor) → IsRuled d.pool.now
+    ensures { (d : MessageDescriptor) → IsSound d.pool.now
         → (decoded : Name → Text → Option Message) (z : Text)
         → ((fs : Fields) → IsText z fs → CannotMake d (Unfit fs))
         → (m : Message)
