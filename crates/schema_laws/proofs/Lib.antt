@@ -1,1 +1,2 @@
 pub mod Recoding
+pub mod Encoding

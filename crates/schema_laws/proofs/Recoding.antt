@@ -55,7 +55,7 @@ as_recoded p name bytes out (m, read, written) = (
 pub recodes : (p : PoolType) → IsSound p → (name bytes out : List ℕ) → AreBytes bytes → Recoded p name bytes out → IsRecoded (types_of p) (without_dot name) bytes out
 recodes p sound name bytes out b h = recodes_named p name h.1.0 sound h.1.1.0 h.1.1.1 bytes out b (as_recoded p name bytes out h).1
 
-defaults : (p : PoolType) → IsSound p → HaveDefaults (types_of p)
+pub defaults : (p : PoolType) → IsSound p → HaveDefaults (types_of p)
 defaults p sound = have_defaults p sound.keys sound.defaults
 
 -- what a type writes again of bytes means what they do

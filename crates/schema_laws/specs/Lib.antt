@@ -1,1 +1,2 @@
 pub mod Schemas
+pub mod Reprints
