@@ -6,3 +6,5 @@ pub mod Kinds
 pub mod Meaning
 pub mod Singles
 pub mod Written
+pub mod Cases
+pub mod KeyRows

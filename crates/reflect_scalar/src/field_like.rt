@@ -1,6 +1,6 @@
 //! What fields and extensions have in common.
 
-ghost use Rattle.std.specs.Prelude.{◌≡◌, ◌↔◌, IsTrue};
+ghost use Rattle.std.specs.Prelude.{◌≡◌, ◌↔◌, ℕ, IfSome, IsTrue, None, Option, option_map};
 ghost use Rattle.reflect_tables.specs.Types.{FieldType, PoolType};
 ghost use Rattle.reflect_pool.specs.Defaults.{IsDefault};
 ghost use Rattle.reflect_pool.specs.Kinds.{IsKind};
@@ -16,6 +16,9 @@ pub trait FieldDescriptorLike<'p> {
 
     /// What the pool holds of it.
     ghost says: { Self → FieldType };
+
+    /// The place of its type, and that of the oneof in it that it is a member of.
+    ghost oneof: { Self → Option (ℕ × ℕ) };
 
     /// The number that stands in the keys of its records.
     fn number(&self) -> u32
@@ -50,16 +53,20 @@ pub trait FieldDescriptorLike<'p> {
         ensures { IsDefault (pool self.now) (says self.now) result };
 
     /// The oneof that it is a member of. An extension is in none.
-    fn containing_oneof(&self) -> Option<OneofDescriptor<'p>>;
+    fn containing_oneof(&self) -> Option<OneofDescriptor<'p>>
+        ensures pool { IfSome result (λ o. o.message.pool.now ≡ pool self.now) }
+        ensures place { option_map (λ o. (o.message.index, o.index)) result ≡ oneof self.now };
 }
 
 impl<'p> FieldDescriptorLike<'p> for FieldDescriptor<'p> {
     ghost use Rattle.reflect_pool.specs.FieldsLeft.{field_type};
-    ghost use Rattle.reflect_scalar.specs.FieldTypes.{field_pool};
+    ghost use Rattle.reflect_scalar.specs.FieldTypes.{field_oneof, field_pool};
 
     ghost pool = { field_pool };
 
     ghost says = { field_type };
+
+    ghost oneof = { field_oneof };
 
     fn number(&self) -> u32 {
         FieldDescriptor::number(self)
@@ -104,6 +111,8 @@ impl<'p> FieldDescriptorLike<'p> for ExtensionDescriptor<'p> {
     ghost pool = { extension_pool };
 
     ghost says = { extension_type };
+
+    ghost oneof = { λ x. None };
 
     fn number(&self) -> u32 {
         ExtensionDescriptor::number(self)
@@ -150,11 +159,13 @@ pub enum AnyField<'p> {
 }
 
 impl<'p> FieldDescriptorLike<'p> for AnyField<'p> {
-    ghost use Rattle.reflect_scalar.specs.FieldTypes.{either_pool, either_type};
+    ghost use Rattle.reflect_scalar.specs.FieldTypes.{either_oneof, either_pool, either_type};
 
     ghost pool = { either_pool };
 
     ghost says = { either_type };
+
+    ghost oneof = { either_oneof };
 
     fn number(&self) -> u32 {
         match self {
