@@ -1,6 +1,6 @@
 -- Which fields belong to a message's type.
 use Rattle.std.specs.Prelude.{◌≡◌, ◌≢◌, ◌⊎◌, ℕ, Some}
-use Rattle.reflect_tables.specs.Types.{extension_at}
+use Rattle.reflect_tables.specs.Types.{PoolType, type_at, extension_at}
 use Rattle.reflect_pool.specs.FieldsLeft.{field_type}
 use Rattle.reflect_pool.specs.Finds.{FindsField, FindsAny}
 use Rattle.reflect_pool.specs.declared.message.MessageDescriptor.{MessageDescriptor}
@@ -38,3 +38,19 @@ NoField m n = (f : FieldDescriptor) → Owns m f → (field_type f).number ≢ n
 abbrev pub IsDeclared : MessageDescriptor → ℕ → Type 0
 IsDeclared m n = ((f : FieldDescriptor) × Owns m f × ((field_type f).number ≡ n))
     ⊎ ((x : ExtensionDescriptor) × OwnsExtension m x × ((extension_type x).number ≡ n))
+
+-- a type of a pool is that of the descriptor, as descriptors are compared: by place and full name
+abbrev pub IsOneType : PoolType → ℕ → MessageDescriptor → Type 0
+IsOneType pool i m = (i ≡ m.index)
+    × ((type_at pool i).full_name ≡ (type_at m.pool.now m.index).full_name)
+
+-- the field is one of the type, and one that messages hold
+abbrev pub IsHeldField : MessageDescriptor → FieldDescriptor → Type 0
+IsHeldField m f = IsOneType (field_pool f) f.message.index m
+    × (HoldsFloats (field_pool f) (field_type f) → ⊥)
+
+-- the same of an extension
+abbrev pub IsHeldExtension : MessageDescriptor → ExtensionDescriptor → Type 0
+IsHeldExtension m x =
+    IsOneType (extension_pool x) (extension_at x.pool.now x.index).extendee m
+    × (HoldsFloats (extension_pool x) (extension_type x) → ⊥)

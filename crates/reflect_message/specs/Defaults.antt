@@ -2,7 +2,11 @@
 use Rattle.std.specs.Prelude.{◌≡◌, true, false, [], None, Some}
 use Rattle.reflect_tables.specs.Types.{PoolType, FieldType}
 use Rattle.reflect_pool.specs.Shapes.{holds_list, holds_map}
+use Rattle.reflect_pool.specs.declared.kind.Kind.{Kind}
+use Rattle.reflect_pool.specs.declared.kind.Kind.TheVariants as kinds
 use Rattle.reflect_scalar.specs.Defaults.{default_in}
+use Rattle.reflect_scalar.specs.Kinds as scalars
+use Rattle.reflect_message.specs.Contents.{content_of, nothing}
 use Rattle.reflect_message.specs.Lists.{list_items}
 use Rattle.reflect_message.specs.Maps.{map_entries}
 use Rattle.reflect_message.specs.Messages.{IsStart, message_in}
@@ -24,3 +28,9 @@ IsDefault pool f v =
     (holds_list pool f ≡ true → list_items v ≡ Some [])
     × (holds_map pool f ≡ true → map_entries v ≡ Some [])
     × (holds_list pool f ≡ false → holds_map pool f ≡ false → IsDefaultOne pool f v)
+
+-- the value is the default of a kind: of a message one of the type in which nothing is set
+abbrev pub IsKindDefault : Kind → Value → Type 0
+IsKindDefault (kinds.Message d) v = (m : DynamicMessage) × (message_in v ≡ Some m)
+    × (m.descriptor ≡ d) × (content_of m ≡ nothing)
+IsKindDefault kind v = scalars.IsDefault kind (single v)

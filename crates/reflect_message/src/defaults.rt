@@ -6,7 +6,7 @@ ghost use Rattle.reflect_scalar.specs.Defaults.{default_in};
 ghost use Rattle.reflect_scalar.specs.FieldTypes.{extension_pool, extension_type, field_pool};
 ghost use Rattle.reflect_scalar.specs.Singles.{scalar_view};
 ghost use Rattle.reflect_message.specs.Bytes.{form_of, is_default, is_set};
-ghost use Rattle.reflect_message.specs.Defaults.{IsDefault};
+ghost use Rattle.reflect_message.specs.Defaults.{IsDefault, IsKindDefault};
 ghost use Rattle.reflect_message.specs.Messages.{IsStart, message_in};
 ghost use Rattle.reflect_message.specs.KindTypes.{IsScalarType, IsMessageType};
 ghost use Rattle.reflect_message.specs.Singles.{single};
@@ -100,7 +100,9 @@ impl<'p> Value<'p> {
     /// its first value. Takes no memory.
     ///
     /// Messages hold no floating-point numbers; of these kinds it is the bits of zero.
-    pub fn default_value(alloc: Global, kind: &Kind<'p>) -> Value<'p> {
+    pub fn default_value(alloc: Global, kind: &Kind<'p>) -> Value<'p>
+        ensures { IsKindDefault kind.now result }
+    {
         if let Kind::Message(descriptor) = kind {
             return Value::Message(DynamicMessage::new(alloc, *descriptor));
         }

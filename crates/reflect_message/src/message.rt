@@ -1,9 +1,10 @@
-ghost use Rattle.std.specs.Prelude.{◌≡◌, [], IfOk, IfSome, IfNone};
+ghost use Rattle.std.specs.Prelude.{◌≡◌, ◌↔◌, [], IfOk, IfSome, IfNone, IsTrue};
 ghost use Rattle.std.specs.Option.{option_copied, option_copied_mut};
 ghost use Rattle.reflect_entries.specs.Entries.{value_at};
 ghost use Rattle.reflect_entries.specs.Undeclared.{undeclared};
 ghost use Rattle.reflect_message.specs.Contents.{content_of, nothing};
 ghost use Rattle.reflect_message.specs.Copies.{AreCopies};
+ghost use Rattle.reflect_message.specs.Declares.{IsHeldField, IsHeldExtension};
 ghost use Rattle.reflect_message.specs.Held.{fields_of, choices_of, extensions_of, unknown_of};
 ghost use Rattle.reflect_message.specs.Oneofs.{IsExclusive};
 ghost use Rattle.reflect_message.specs.Trees.{held_tree};
@@ -76,12 +77,16 @@ impl<'p> DynamicMessage<'p> {
 
     /// The field is one of the message's type, and one that messages hold: no floating-point
     /// number, and no map of such.
-    pub fn declares(&self, field: &FieldDescriptor<'p>) -> bool {
+    pub fn declares(&self, field: &FieldDescriptor<'p>) -> bool
+        ensures { IsTrue result ↔ IsHeldField self.now.descriptor field.now }
+    {
         field.parent_message().is_same(&self.descriptor) && !holds_floats(field)
     }
 
     /// The extension is one of the message's type, and one that messages hold, as for fields.
-    pub fn declares_extension(&self, extension: &ExtensionDescriptor<'p>) -> bool {
+    pub fn declares_extension(&self, extension: &ExtensionDescriptor<'p>) -> bool
+        ensures { IsTrue result ↔ IsHeldExtension self.now.descriptor extension.now }
+    {
         extension.containing_message().is_same(&self.descriptor) && !holds_floats(extension)
     }
 
