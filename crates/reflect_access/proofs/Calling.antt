@@ -13,6 +13,7 @@ use Rattle.reflect_scalar.specs.Floats.{HoldsFloats}
 use Rattle.reflect_message.specs.Declares.{Declares, Owns}
 use Rattle.reflect_message.specs.declared.value.Value.{Value}
 use Rattle.reflect_access.specs.Called.{Asked, HasNumber, HasName, IsMeant, NoneMeant}
+use Rattle.reflect_access.specs.Fits.{IsValidFor}
 use Rattle.reflect_access.specs.Refused.{HandsBack, RefusesSet}
 use Rattle.reflect_access.specs.declared.set_field_error.SetFieldError.{SetFieldError}
 use Rattle.reflect_access.specs.declared.set_field_error.SetFieldError.TheVariants as errors
@@ -27,7 +28,7 @@ pub hands_back : (P : Asked) (m : MessageDescriptor) (f : FieldDescriptor) (v : 
     → (r : Result (Unit {0}) SetFieldError) → IfErr r (HandsBack f v) → IfErr r (RefusesSet P m v)
 hands_back P m f v meant (Ok x) h = tt
 hands_back P m f v meant (Err errors.NotFound) h = absurd h
-hands_back P m f v meant (Err (errors.InvalidType g w)) h = (subst (IsMeant P m) (sym h.0) meant, h.1)
+hands_back P m f v meant (Err (errors.InvalidType g w)) h = (subst (IsMeant P m) (sym h.0) meant, h.1, subst (λ x. IsValidFor (field_pool x) (field_type x) v → ⊥) (sym h.0) h.2)
 hands_back P m f v meant (Err errors.Memory) h = tt
 
 -- a field of the type is declared in it

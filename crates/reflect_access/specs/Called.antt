@@ -1,5 +1,6 @@
 -- The field that a call by number or by name means: the first of the type that has it, if messages
 -- hold it.
+use Rattle.std.specs.Borrow.{MutBor}
 use Rattle.std.specs.Prelude.{◌≡◌, ◌⊎◌, ℕ, Bool, false, List, Option, None, Some}
 use Rattle.reflect_entries.specs.Entries.{value_at}
 use Rattle.reflect_tables.specs.Types.{FieldType}
@@ -12,7 +13,7 @@ use Rattle.reflect_scalar.specs.Floats.{HoldsFloats}
 use Rattle.reflect_message.specs.Held.{fields_of, extensions_of, unknown_of, UpdatesField}
 use Rattle.reflect_message.specs.Oneofs.{SetsField}
 use Rattle.reflect_message.specs.Present.{held_if_set, is_held}
-use Rattle.reflect_message.specs.Shown.{Shows}
+use Rattle.reflect_message.specs.Shown.{IsHeldOrDefault, Shows}
 use Rattle.reflect_message.specs.declared.field_ref.FieldRef.{FieldRef}
 use Rattle.reflect_message.specs.declared.message.DynamicMessage.{DynamicMessage}
 use Rattle.reflect_message.specs.declared.value.Value.{Value}
@@ -56,6 +57,11 @@ abbrev pub Lends : Asked → DynamicMessage → Option FieldRef → Type 0
 Lends P m r =
     IfMeant P m.descriptor (λ f. HasOne (Shows (field_pool f) (field_type f) (under m f)) r)
     (r ≡ None)
+
+-- so it is of what is lent to be changed
+abbrev pub LendsMut : Asked → DynamicMessage → Option (MutBor Value) → Type 0
+LendsMut P m r = IfMeant P m.descriptor
+    (λ f. HasOne (λ v. IsHeldOrDefault (field_pool f) (field_type f) (under m f) v.now) r) (r ≡ None)
 
 -- the field is set as by its descriptor, or nothing is changed where there is no field
 abbrev pub SetsMeant : Asked → DynamicMessage → DynamicMessage → Value → Type 0

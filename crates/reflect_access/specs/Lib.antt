@@ -1,2 +1,4 @@
 pub mod Called
+pub mod Fits
 pub mod Refused
+pub mod Unset

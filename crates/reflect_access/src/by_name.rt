@@ -1,7 +1,7 @@
 //! Fields by their names.
 
 ghost use Rattle.std.specs.Prelude.{◌≡◌, IfErr, IfNone, IfOk, IfSome, OnErr, OnOk};
-ghost use Rattle.reflect_access.specs.Called.{HasName, IsMeant, Lends, NoneMeant, SetsMeant, StaysWhole, TakesMeant, TellsMeant, UnsetsMeant};
+ghost use Rattle.reflect_access.specs.Called.{HasName, IsMeant, Lends, LendsMut, NoneMeant, SetsMeant, StaysWhole, TakesMeant, TellsMeant, UnsetsMeant};
 ghost use Rattle.reflect_access.specs.Refused.{RefusesSet};
 
 use crate::set_field_error::{SetFieldError, TrySetField};
@@ -47,7 +47,8 @@ pub trait FieldsByName<'p> {
 
     /// What the field of the name holds, to be changed, as `get_field_mut` gives it; `None` where
     /// there is no such field.
-    fn get_field_by_name_mut(&mut self, name: &str) -> Result<Option<&mut Value<'p>>, AllocError>;
+    fn get_field_by_name_mut(&mut self, name: &str) -> Result<Option<&mut Value<'p>>, AllocError>
+        ensures { IfOk result (LendsMut (HasName name.now) (message self.old)) };
 
     /// Sets the field of the name to a value that suits it; without such a field nothing happens. A
     /// refusal leaves the message.

@@ -4,7 +4,7 @@ ghost use Rattle.std.specs.Prelude.{◌≡◌, IfErr, IfOk, IsSome, IsTrue, OnEr
 ghost use Rattle.reflect_entries.specs.Entries.{value_at};
 ghost use Rattle.reflect_message.specs.Held.{fields_of};
 ghost use Rattle.reflect_message.specs.Oneofs.{IsExclusive};
-ghost use Rattle.reflect_access.specs.Called.{HasNumber, Lends, SetsMeant, StaysWhole, TakesMeant, TellsMeant, UnsetsMeant};
+ghost use Rattle.reflect_access.specs.Called.{HasNumber, Lends, LendsMut, SetsMeant, StaysWhole, TakesMeant, TellsMeant, UnsetsMeant};
 ghost use Rattle.reflect_access.specs.Refused.{RefusesSet};
 
 use crate::set_field_error::{SetFieldError, TrySetField};
@@ -29,10 +29,8 @@ pub trait FieldsByNumber<'p> {
 
     /// What the field of the number holds, to be changed, as `get_field_mut` gives it; `None` where
     /// there is no such field.
-    fn get_field_by_number_mut(
-        &mut self,
-        number: u32,
-    ) -> Result<Option<&mut Value<'p>>, AllocError>;
+    fn get_field_by_number_mut(&mut self, number: u32) -> Result<Option<&mut Value<'p>>, AllocError>
+        ensures { IfOk result (LendsMut (HasNumber number) (message self.old)) };
 
     /// Sets the field of the number to a value that suits it; without such a field nothing happens.
     /// A refusal leaves the message.

@@ -1,9 +1,12 @@
 //! Fields set to values that need not suit them.
 
 ghost use Rattle.std.specs.Prelude.{◌≡◌, IfErr, OnErr, OnOk};
+ghost use Rattle.reflect_pool.specs.FieldsLeft.{field_type};
+ghost use Rattle.reflect_scalar.specs.FieldTypes.{field_pool};
 ghost use Rattle.reflect_message.specs.Declares.{Declares, Owns};
 ghost use Rattle.reflect_message.specs.Oneofs.{IsExclusive, SetsField};
 ghost use Rattle.reflect_access.specs.Called.{StaysWhole};
+ghost use Rattle.reflect_access.specs.Fits.{IsValidFor};
 ghost use Rattle.reflect_access.specs.Refused.{HandsBack};
 
 use crate::validity::is_valid_for;
@@ -70,6 +73,8 @@ pub trait TrySetField<'p> {
     ) -> Result<(), SetFieldError<'p>>
         requires { Declares (message self.old).descriptor field.now }
         ensures type_stays { (message self.new).descriptor ≡ (message self.old).descriptor }
+        ensures suits { OnOk result (IsValidFor (field_pool field.now) (field_type field.now)
+            value.entry) }
         ensures ok { OnOk result (SetsField (message self.old) (message self.new) field.now
             value.entry) }
         ensures exclusive { Owns (message self.old).descriptor field.now

@@ -1,5 +1,14 @@
 //! Values that are asked whether they suit fields, and whether they are their defaults.
 
+ghost use Rattle.std.specs.Bool.{Decides};
+ghost use Rattle.std.specs.Prelude.{◌≡◌};
+ghost use Rattle.reflect_tables.specs.Types.{KindType, PoolType};
+ghost use Rattle.reflect_pool.specs.FieldsLeft.{field_type};
+ghost use Rattle.reflect_pool.specs.Kinds.{IsKind};
+ghost use Rattle.reflect_scalar.specs.FieldTypes.{extension_pool, extension_type, field_pool};
+ghost use Rattle.reflect_access.specs.Fits.{fit_of, IsValidFor};
+ghost use Rattle.reflect_access.specs.Unset.{IsKindDefault, SaysNothing};
+
 use crate::validity::{Strictness, is_valid_for, value_suits};
 use reflect_contents::MessageWalks;
 use reflect_message::{ScalarValue, Value, is_default_scalar};
@@ -8,27 +17,46 @@ use reflect_scalar::{AnyField, FieldDescriptorLike, Scalar};
 
 /// A value that is asked about fields.
 pub trait ValueTests<'p> {
+    ghost use Rattle.reflect_message.specs.declared.value.Value.{Value};
+    ghost use Rattle.reflect_access.specs.declared.validity.Strictness.TheVariants.{Surface};
+
+    /// The value that it is.
+    ghost value: { Self → Value };
+
     /// The value suits a field that holds one value of the kind: a message is of its type.
-    fn is_valid(&self, kind: &Kind<'p>) -> bool;
+    fn is_valid(&self, kind: &Kind<'p>) -> bool
+        ensures { (pool : PoolType) (k : KindType) → IsKind pool kind.now k
+            → result ≡ (fit_of (value self.now)).one Surface pool k };
 
     /// The value suits the field, its label included.
-    fn is_valid_for_field(&self, field: &FieldDescriptor<'p>) -> bool;
+    fn is_valid_for_field(&self, field: &FieldDescriptor<'p>) -> bool
+        ensures { Decides result
+            (IsValidFor (field_pool field.now) (field_type field.now) (value self.now)) };
 
     /// The value suits the extension, its label included.
-    fn is_valid_for_extension(&self, extension: &ExtensionDescriptor<'p>) -> bool;
+    fn is_valid_for_extension(&self, extension: &ExtensionDescriptor<'p>) -> bool
+        ensures { Decides result (IsValidFor (extension_pool extension.now)
+            (extension_type extension.now) (value self.now)) };
 
     /// The value is the default of a field that holds one value of the kind.
-    fn is_default(&self, kind: &Kind<'p>) -> bool;
+    fn is_default(&self, kind: &Kind<'p>) -> bool
+        ensures { Decides result (IsKindDefault kind.now (value self.now)) };
 
     /// The value is the default of the field. An empty list, map or message is that of each field
     /// that may hold it.
-    fn is_default_for_field(&self, field: &FieldDescriptor<'p>) -> bool;
+    fn is_default_for_field(&self, field: &FieldDescriptor<'p>) -> bool
+        ensures { Decides result
+            (SaysNothing (field_pool field.now) (field_type field.now) (value self.now)) };
 
     /// The value is the default of the extension.
-    fn is_default_for_extension(&self, extension: &ExtensionDescriptor<'p>) -> bool;
+    fn is_default_for_extension(&self, extension: &ExtensionDescriptor<'p>) -> bool
+        ensures { Decides result (SaysNothing (extension_pool extension.now)
+            (extension_type extension.now) (value self.now)) };
 }
 
 impl<'p> ValueTests<'p> for Value<'p> {
+    ghost value = { λ v. v };
+
     fn is_valid(&self, kind: &Kind<'p>) -> bool {
         value_suits(self, kind, Strictness::Surface)
     }
@@ -61,7 +89,9 @@ impl<'p> ValueTests<'p> for Value<'p> {
 }
 
 /// The value is the default of a field or an extension.
-fn is_default_of<'p, F: FieldDescriptorLike<'p>>(value: &Value<'p>, field: &F) -> bool {
+fn is_default_of<'p, F: FieldDescriptorLike<'p>>(value: &Value<'p>, field: &F) -> bool
+    ensures { Decides result (SaysNothing (F.pool field.now) (F.says field.now) value.now) }
+{
     match value {
         Value::Message(message) => message.is_empty(),
         Value::List(values) => values.is_empty(),

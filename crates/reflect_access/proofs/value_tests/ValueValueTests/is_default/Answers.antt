@@ -1,0 +1,19 @@
+use Rattle.std.proofs.Common.{rules, ◌≡◌, Some, subst, sym}
+use Rattle.reflect_contents.specs.Walked.{HoldsNothing}
+use Rattle.reflect_message.specs.Messages.{message_in}
+use Rattle.reflect_message.specs.declared.value.Value.{the_lemmas}
+use Rattle.reflect_access.specs.Unset.{IsKindDefault}
+use Rattle.reflect_access.proofs.value_tests.ValueValueTests.is_default.Goals as goal
+
+pub returns-in-Message-Message : goal.returns-in-Message-Message
+returns-in-Message-Message c =
+    let v = c.args.self.now in
+    let m = c.in-Message-Message.message in
+    let there : message_in v ≡ Some m = search (rules, the_lemmas) in
+    let kind = c.in-Message-Message.is-1 in (
+      λ yes. subst (λ k. IsKindDefault k v) (sym kind) (m, there, c.is_empty.ensures.0 yes),
+      λ h.
+          let held = subst (λ k. IsKindDefault k v) kind h in
+          let same : held.0 ≡ m = cc (held.1, there) in
+          c.is_empty.ensures.1 (subst HoldsNothing same held.2),
+    )
