@@ -1,5 +1,5 @@
 -- Values that suit kinds and fields, one by one.
-use Rattle.std.proofs.Common.{◌≡◌, ℕ, ◌+◌, ◌<◌, ◌≤◌, ◌&&◌, Bool, true, false, List, [], ◌∷◌, length, map, take, get_or, Option, None, Some, option_map, refl, sym, ap, ◌∙◌, string_bytes}
+use Rattle.std.proofs.Common.{◌≡◌, ℕ, ◌+◌, ◌<◌, ◌&&◌, Bool, true, false, List, [], ◌∷◌, length, map, take, get_or, Option, None, Some, refl, sym, ap, ◌∙◌, string_bytes}
 use Rattle.std.proofs.lemmas.List.Folds.{list_all-map, list_all_at, list_all_more}
 use Rattle.std.specs.List.{list_all, zip}
 use Rattle.reflect_tables.specs.Types.{PoolType, FieldType, KindType}
@@ -7,7 +7,6 @@ use Rattle.reflect_pool.specs.Kinds.{IsKind}
 use Rattle.reflect_pool.specs.declared.kind.Kind.{Kind}
 use Rattle.reflect_pool.specs.declared.kind.Kind.TheVariants as kinds
 use Rattle.reflect_scalar.proofs.Defaulted.{kind_is}
-use Rattle.reflect_scalar.specs.Keys.{key_view}
 use Rattle.reflect_scalar.specs.Kinds.{kind_type, suits}
 use Rattle.reflect_scalar.specs.Singles.{Single, truth, int32, int64, uint32, uint64, text, blob, enumerated}
 use Rattle.reflect_scalar.specs.declared.map_key.MapKey.{MapKey}
@@ -20,7 +19,7 @@ use Rattle.reflect_message.specs.declared.parts.Held.TheOpen.{Value-F}
 use Rattle.reflect_message.specs.declared.parts.Held.TheViews.{out-Value}
 use Rattle.reflect_message.specs.declared.parts.Parts.{Parts}
 use Rattle.reflect_message.specs.declared.value.Value.{Value}
-use Rattle.reflect_access.specs.Fits.{Fit, all_fit, entries_fit, entry_fits, fit_of, fits_of, held_step, is_one, message_step, parts_step, under_fits, value_step}
+use Rattle.reflect_access.specs.Fits.{Fit, all_fit, entries_fit, entry_fits, fit_of, held_step, is_one, message_step, parts_step, under_fits, value_step}
 use Rattle.reflect_access.specs.declared.validity.Strictness.{Strictness}
 
 suits_is : (kind : Kind) (v : Single) → suits kind v ≡ is_one (kind_type kind) v

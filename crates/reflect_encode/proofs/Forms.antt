@@ -10,12 +10,12 @@ use Rattle.reflect_wire.specs.Records.{Payload, key_of}
 use Rattle.reflect_scalar.specs.Written.{plain_bytes}
 use Rattle.reflect_scalar.specs.Kinds.{kind_type, wire_type}
 use Rattle.reflect_scalar.specs.Singles.{Single, truth, int32, int64, uint32, uint64, text, blob, enumerated}
-use Rattle.reflect_message.specs.Bytes.{Form, record_in, bare_in, row_in, form_of, value_step, message_step, held_step, parts_step}
+use Rattle.reflect_message.specs.Bytes.{Form, record_in, bare_in, row_in, form_of, framed, message_bytes, value_step, message_step, held_step, parts_step}
 use Rattle.reflect_encode.specs.Puts.{form, bare_bytes, single_bytes, row_bytes}
 use Rattle.reflect_message.specs.Singles.{single}
 use Rattle.reflect_message.specs.declared.message.DynamicMessage.{DynamicMessage}
 use Rattle.reflect_message.specs.declared.parts.Held.{Held}
-use Rattle.reflect_message.specs.declared.parts.Held.TheFolds.{map-Value, fold-Held, fold-Value, fold-DynamicMessage, fold-Parts, fold_out-Value}
+use Rattle.reflect_message.specs.declared.parts.Held.TheFolds.{map-Value, fold-Held, fold-Value, fold-DynamicMessage, fold-Parts, fold-roll-Value, fold_out-DynamicMessage, fold_out-Value}
 use Rattle.reflect_message.specs.declared.parts.Held.TheOpen.{Value-F}
 use Rattle.reflect_message.specs.declared.parts.Held.TheViews.{out-Value, roll-Value, roll-out-Value}
 use Rattle.reflect_message.specs.declared.parts.Parts.{Parts}
@@ -135,3 +135,10 @@ one_single v f other = ap (λ w. w.one f) (fold_out-Value (PoolType → ℕ → 
   by (Value-F.Message m) e = absurd (other m (sym (roll-out-Value v) ∙ ap roll-Value e))
   by (Value-F.List vs) e = refl
   by (Value-F.Map es) e = refl
+
+-- a message is written by its records
+pub message_formed : (v : Value) (m : DynamicMessage) (f : FieldType) → v ≡ values.Message m → (form_of v).one f ≡ framed f (message_bytes m)
+unfolding roll-Value roll
+message_formed v m f is =
+    ap (λ (v : Value). (form_of v).one f) is ∙ ap (λ w. w.one f) (fold-roll-Value (PoolType → ℕ → List ℕ) Form (List ℕ) (PoolType → ℕ → List ℕ) held_step value_step message_step parts_step (Value-F.Message m))
+    ∙ ap (framed f) (fold_out-DynamicMessage (PoolType → ℕ → List ℕ) Form (List ℕ) (PoolType → ℕ → List ℕ) held_step value_step message_step parts_step m)

@@ -1,3 +1,4 @@
 pub mod Before
 pub mod Forms
 pub mod Putting
+pub mod Measuring

@@ -1,4 +1,4 @@
-ghost use Rattle.std.specs.Prelude.{◌≡◌, ◌++◌, IfOk, IfErr, OnOk, OnErr};
+ghost use Rattle.std.specs.Prelude.{◌≡◌, ◌<◌, ◌^◌, ◌++◌, length, IfOk, IfErr, OnOk, OnErr, SomeIff};
 ghost use Rattle.reflect_wire.specs.declared.wire_error.WireError.TheVariants.{Memory};
 ghost use Rattle.reflect_codec.specs.Held.{held};
 ghost use Rattle.reflect_message.specs.Bytes.{message_bytes};
@@ -17,7 +17,9 @@ pub trait EncodeMessage {
     ghost message: { Self → DynamicMessage };
 
     /// How many bytes `encode` adds, `None` past `usize::MAX`. Takes no memory.
-    fn encoded_len(&self) -> Option<usize>;
+    fn encoded_len(&self) -> Option<usize>
+        ensures { let n = length (message_bytes (message self.now)) in SomeIff result
+            (n < 2 ^ 64) n };
 
     /// Adds the message's wire bytes to `out`: declared fields by ascending number, then extensions
     /// and other records by ascending number. What does not suit its field is left out.

@@ -1,4 +1,4 @@
-use Rattle.std.proofs.Common.{rules, ◌≡◌, ◌⊎◌, ℕ, List, [], ◌∷◌, map, length, None, Some, option_map, true, false, ◌&&◌, refl, sym, ap, ◌∙◌, subst, arith, take}
+use Rattle.std.proofs.Common.{rules, ◌≡◌, ℕ, List, ◌∷◌, map, length, None, Some, option_map, true, false, ◌&&◌, refl, sym, ap, ◌∙◌, subst, arith}
 use Rattle.std.specs.List.{list_all, zip}
 use Rattle.std.proofs.lemmas.List.{length-map, take_all}
 use Rattle.reflect_pool.specs.FieldsLeft.{field_type}

@@ -1,5 +1,5 @@
 -- What was looked at suits; so all suits exactly where what is left does.
-use Rattle.std.proofs.Common.{◌≡◌, ℕ, length, map, take, true}
+use Rattle.std.proofs.Common.{◌≡◌, length, map, take, true}
 use Rattle.std.specs.List.{list_all, zip}
 use Rattle.reflect_tables.specs.Types.{PoolType, KindType}
 use Rattle.reflect_pool.specs.Kinds.{IsKind}
