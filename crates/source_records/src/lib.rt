@@ -1,0 +1,2 @@
+//! What names have in the records of sources. It has no code.
+#![tactic(auto)]
