@@ -38,19 +38,19 @@ member_seen o = member_step (map-OneofItem ExtendItem FieldKind MessageItem Oneo
     tree.AddedItem tree.Kind tree.Item tree.Member tree.Extend tree.Field tree.Group tree.Message tree.Oneof
     added_view kind_view item_view member_view extend_view field_view group_view message_view oneof_view o)
 
-added_is : (i : ExtendItem) → added_view i ≡ added_seen (out-ExtendItem i)
+pub added_is : (i : ExtendItem) → added_view i ≡ added_seen (out-ExtendItem i)
 added_is i = fold_out-ExtendItem tree.AddedItem tree.Kind tree.Item tree.Member tree.Extend tree.Field tree.Group tree.Message tree.Oneof
     added_step kind_step item_step member_step extend_step field_step group_step message_step oneof_step i
 
-kind_is : (k : FieldKind) → kind_view k ≡ kind_seen (out-FieldKind k)
+pub kind_is : (k : FieldKind) → kind_view k ≡ kind_seen (out-FieldKind k)
 kind_is k = fold_out-FieldKind tree.AddedItem tree.Kind tree.Item tree.Member tree.Extend tree.Field tree.Group tree.Message tree.Oneof
     added_step kind_step item_step member_step extend_step field_step group_step message_step oneof_step k
 
-item_is : (i : MessageItem) → item_view i ≡ item_seen (out-MessageItem i)
+pub item_is : (i : MessageItem) → item_view i ≡ item_seen (out-MessageItem i)
 item_is i = fold_out-MessageItem tree.AddedItem tree.Kind tree.Item tree.Member tree.Extend tree.Field tree.Group tree.Message tree.Oneof
     added_step kind_step item_step member_step extend_step field_step group_step message_step oneof_step i
 
-member_is : (i : OneofItem) → member_view i ≡ member_seen (out-OneofItem i)
+pub member_is : (i : OneofItem) → member_view i ≡ member_seen (out-OneofItem i)
 member_is i = fold_out-OneofItem tree.AddedItem tree.Kind tree.Item tree.Member tree.Extend tree.Field tree.Group tree.Message tree.Oneof
     added_step kind_step item_step member_step extend_step field_step group_step message_step oneof_step i
 

@@ -1,0 +1,13 @@
+pub mod DeclaredTypes
+pub mod FileRules
+pub mod Giving
+pub mod Lists
+pub mod MessageRules
+pub mod NameRules
+pub mod NamedFields
+pub mod NamedTypes
+pub mod NamedValues
+pub mod ServiceRules
+pub mod Sources
+pub mod Texts
+pub mod Words

@@ -1,0 +1,21 @@
+//! What holds of each source, as contracts of functions that do nothing.
+ghost use Rattle.descriptor_records.specs.Content.{file_view};
+ghost use Rattle.descriptor_records.specs.declared.file.FileDescriptorProto.{FileDescriptorProto};
+ghost use Rattle.protox_file.specs.Sources.{Spells};
+ghost use Rattle.protox_lex.specs.Class.{Text};
+ghost use Rattle.protox_parse.specs.Answers.{IsAnswered};
+ghost use Rattle.protox_tree.specs.FileTree.{File};
+ghost use Rattle.source_laws.specs.TreeNames.{HasIdentifiers};
+ghost use Rattle.source_records.specs.SourceNames.{IsSourceFile};
+ghost use Rattle.std.specs.Prelude.{Ok};
+
+/// Each declaration of the tree that a text spells has an identifier for a name.
+pub fn trees_of_sources_have_identifiers()
+    ensures { (z : Text) (tree : File) → Spells z tree → HasIdentifiers tree }
+{}
+
+/// The record of a source has names as sources spell them.
+pub fn records_of_sources_have_source_names()
+    ensures { (name z : Text) (made : FileDescriptorProto) → IsAnswered name z (Ok made)
+        → IsSourceFile (file_view made) }
+{}
