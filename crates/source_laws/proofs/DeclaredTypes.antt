@@ -1,4 +1,4 @@
--- The types that are declared in messages have identifiers for names, and their records stand there.
+-- The types that messages declare have identifiers for names, and their records stand there.
 use Rattle.std.proofs.Common.{◌≡◌, ◌∙◌, ◌++◌, ◌⊎◌, true, List, [], ◌∷◌, Some, inl, inr, flat_map, string_bytes, refl, ap, subst, sym}
 use Rattle.std.specs.List.{AllByRecursion}
 use Rattle.descriptor_records.specs.Content.{message, MessageContents, no_messages, more_messages}
@@ -33,7 +33,8 @@ IsNamedType (of_map name m) = IsNoGroup (ty_view m.key) × IsNoGroup (ty_view m.
 abbrev pub AreNamedTypes : List Declared → Type 0
 AreNamedTypes ts = AllByRecursion IsNamedType ts
 
-kind_types : (name : Text) → is_identifier name ≡ true → (k : KindLayer) → IsNamedKind (kind_seen k) → AreNamedTypes (types_of_kind name k)
+kind_types : (name : Text) → is_identifier name ≡ true → (k : KindLayer) → IsNamedKind (kind_seen k)
+    → AreNamedTypes (types_of_kind name k)
 kind_types name named (FieldKind-F.Normal t) h = tt
 kind_types name named (FieldKind-F.Group g) h = ((named, group_items g h), tt)
 kind_types name named (FieldKind-F.Map m) h = (h, tt)
@@ -41,7 +42,8 @@ kind_types name named (FieldKind-F.Map m) h = (h, tt)
 field_types : (f : Field) → IsNamedField (field_view f) → AreNamedTypes (types_of_field f)
 field_types f h =
     let names = field_names f h in
-    kind_types (string_bytes f.name.value) names.name (out-FieldKind f.kind) (kind_level f.kind names.kind)
+    kind_types (string_bytes f.name.value) names.name (out-FieldKind f.kind)
+    (kind_level f.kind names.kind)
 
 member_types : (o : MemberLayer) → IsNamedMember (member_seen o) → AreNamedTypes (types_of_member o)
 member_types (OneofItem-F.«OneofItem::Field» f) h = field_types f h
@@ -52,20 +54,26 @@ added_types (ExtendItem-F.«ExtendItem::Field» f) h = field_types f h
 added_types o h = tt
 
 pub extend_types : (e : Extend) → IsNamedExtend (extend_view e) → AreNamedTypes (types_of_extend e)
-extend_types e h = all_made HasNamedAdded IsNamedType types_of_added_item (λ i. added_types (out-ExtendItem i)) e.items.items (extend_added e h)
+extend_types e h =
+    all_made HasNamedAdded IsNamedType types_of_added_item (λ i. added_types (out-ExtendItem i))
+    e.items.items (extend_added e h)
 
 pub message_type : (m : Message) → IsNamedMessage (message_view m) → IsNamedType (type_of_message m)
 message_type m h = let names = message_names m h in (names.name, names.items)
 
 item_types : (o : ItemLayer) → IsNamedItem (item_seen o) → AreNamedTypes (types_in o)
 item_types (MessageItem-F.«MessageItem::Field» f) h = field_types f h
-item_types (MessageItem-F.Oneof o) h = all_made HasNamedMember IsNamedType types_of_member_item (λ i. member_types (out-OneofItem i)) o.items.items (oneof_members o h)
+item_types (MessageItem-F.Oneof o) h =
+    all_made HasNamedMember IsNamedType types_of_member_item (λ i. member_types (out-OneofItem i))
+    o.items.items (oneof_members o h)
 item_types (MessageItem-F.Message m) h = (message_type m h, tt)
 item_types (MessageItem-F.Extend e) h = extend_types e h
 item_types o h = tt
 
-pub items_types : (is : List MessageItem) → Each HasNamedItem is → AreNamedTypes (flat_map types_at is)
-items_types is h = all_made HasNamedItem IsNamedType types_at (λ i. item_types (out-MessageItem i)) is h
+pub items_types : (is : List MessageItem) → Each HasNamedItem is
+    → AreNamedTypes (flat_map types_at is)
+items_types is h =
+    all_made HasNamedItem IsNamedType types_at (λ i. item_types (out-MessageItem i)) is h
 
 -- ---- their records
 
@@ -87,14 +95,21 @@ has_right (of_items given items ∷ ts) us name h = inr (has_right ts us name h)
 has_right (of_map given m ∷ ts) us name h = has_right ts us name h
 
 -- it has a record among theirs
-pub declares : (s : Syntax) (ts : List Declared) (ms : MessageContents) → AreTypes s ts ms → (name : Text) → Has ts name → Declares ms name
+pub declares : (s : Syntax) (ts : List Declared) (ms : MessageContents) → AreTypes s ts ms
+    → (name : Text) → Has ts name → Declares ms name
 declares s [] ms all name h = absurd h
 declares s (t ∷ ts) no_messages all name h = absurd all
-declares s (of_items given items ∷ ts) (more_messages (message called fields extensions nested enums ranges oneofs options reserved names) ms) all name (inl e) =
+declares s (of_items given items ∷ ts)
+    (more_messages (message called fields extensions nested enums ranges oneofs options reserved
+    names) ms) all name (inl e) =
     inl (all.0.0.named ∙ ap Some e)
-declares s (of_items given items ∷ ts) (more_messages (message called fields extensions nested enums ranges oneofs options reserved names) ms) all name (inr h) =
+declares s (of_items given items ∷ ts)
+    (more_messages (message called fields extensions nested enums ranges oneofs options reserved
+    names) ms) all name (inr h) =
     inr (declares s ts ms all.1 name h)
-declares s (of_map given m ∷ ts) (more_messages (message called fields extensions nested enums ranges oneofs options reserved names) ms) all name h =
+declares s (of_map given m ∷ ts)
+    (more_messages (message called fields extensions nested enums ranges oneofs options reserved
+    names) ms) all name h =
     inr (declares s ts ms all.1 name h)
 
 -- of a group the type is among them
@@ -103,10 +118,17 @@ IsThere There name (normal ty) = Unit {0}
 IsThere There name (group g) = There name
 IsThere There name (map_kind m) = Unit {0}
 
-kind_there : (There : Text → Type 0) (name : Text) (k : KindLayer) → ((called : Text) → Has (types_of_kind name k) called → There called) → IsThere There name (kind_seen k)
+kind_there : (There : Text → Type 0) (name : Text) (k : KindLayer)
+    → ((called : Text) → Has (types_of_kind name k) called → There called)
+    → IsThere There name (kind_seen k)
 kind_there There name (FieldKind-F.Normal t) h = tt
 kind_there There name (FieldKind-F.Group g) h = h name (inl refl)
 kind_there There name (FieldKind-F.Map m) h = tt
 
-pub field_there : (There : Text → Type 0) (f : Field) → ((called : Text) → Has (types_of_field f) called → There called) → IsThere There (string_bytes f.name.value) (kind_view f.kind)
-field_there There f h = subst (IsThere There (string_bytes f.name.value)) (sym (kind_is f.kind)) (kind_there There (string_bytes f.name.value) (out-FieldKind f.kind) h)
+pub field_there : (There : Text → Type 0) (f : Field)
+    → ((called : Text) → Has (types_of_field f) called → There called)
+    → IsThere There (string_bytes f.name.value) (kind_view f.kind)
+field_there There f h =
+    let name = string_bytes f.name.value in
+    subst (IsThere There name) (sym (kind_is f.kind))
+    (kind_there There name (out-FieldKind f.kind) h)

@@ -14,7 +14,7 @@ use Rattle.protox_tokens.specs.Stream.{source}
 use Rattle.protox_tree.specs.FileTree.{File}
 use Rattle.protox_tree.specs.Tree.{joined, words_span}
 use Rattle.protox_tree.specs.declared.types.Syntax.{Syntax}
-use Rattle.source_laws.proofs.Giving.{Gives, gives-any, gives-bind, gives-choose, gives-loop, gives-map, gives-none, gives-pure, gives-when}
+use Rattle.source_laws.proofs.Giving.{Gives, gives-after, gives-any, gives-bind, gives-choose, gives-loop, gives-map, gives-none, gives-pure, gives-when}
 use Rattle.source_laws.proofs.MessageRules.{gives-block, gives-extend, gives-message}
 use Rattle.source_laws.proofs.NameRules.{gives-enum, gives-full}
 use Rattle.source_laws.proofs.ServiceRules.{gives-service}
@@ -29,8 +29,9 @@ gives-known at None = gives-none (λ ts. unknown_syntax at)
 
 gives-syntax_behind : (p : Span) → Gives IsAny (syntax_behind p)
 unfolding syntax_behind
-gives-syntax_behind p = gives-bind (gives-any (Local-expect _)) (λ e a. gives-bind (gives-any Local-strings) (λ v b.
-    gives-bind (gives-known (words_span v) (language (joined v))) (λ x c. gives-bind (gives-any (Local-expect _)) (λ q d. gives-pure _ tt))))
+gives-syntax_behind p = gives-after (Local-expect _) (λ e. gives-after Local-strings (λ v.
+    gives-bind (gives-known (words_span v) (language (joined v))) (λ x c.
+    gives-after (Local-expect _) (λ q. gives-pure _ tt))))
 
 gives-syntax_if : (o : Option Span) → Gives IsAny (syntax_if o)
 gives-syntax_if None = gives-pure _ tt
@@ -38,11 +39,11 @@ gives-syntax_if (Some p) = gives-map _ (gives-syntax_behind p) (λ x any. tt)
 
 gives-unless_edition : (o : Option Span) → Gives IsAny (unless_edition o)
 gives-unless_edition (Some at) = gives-none (λ ts. unknown_syntax at)
-gives-unless_edition None = gives-bind (gives-any (Local-eat _)) (λ o any. gives-syntax_if o)
+gives-unless_edition None = gives-after (Local-eat _) gives-syntax_if
 
 gives-syntax : Gives IsAny syntax
 unfolding syntax
-gives-syntax = gives-bind (gives-any (Local-eat _)) (λ o any. gives-unless_edition o)
+gives-syntax = gives-after (Local-eat _) gives-unless_edition
 
 -- ---- statements
 
@@ -52,21 +53,21 @@ gives-public_if None = gives-pure _ tt
 
 gives-weak_if : (o : Option Span) → Gives IsAny (weak_if o)
 gives-weak_if (Some p) = gives-pure _ tt
-gives-weak_if None = gives-bind (gives-any (Local-eat _)) (λ o any. gives-public_if o)
+gives-weak_if None = gives-after (Local-eat _) gives-public_if
 
 gives-import_kind : Gives IsAny import_kind
 unfolding import_kind
-gives-import_kind = gives-bind (gives-any (Local-eat _)) (λ o any. gives-weak_if o)
+gives-import_kind = gives-after (Local-eat _) gives-weak_if
 
 gives-import : Gives IsAny an_import
 unfolding an_import
-gives-import = gives-bind (gives-any (Local-expect _)) (λ p a. gives-bind gives-import_kind (λ k b.
-    gives-bind (gives-any Local-strings) (λ v c. gives-bind (gives-any (Local-expect _)) (λ q d. gives-pure _ tt))))
+gives-import = gives-after (Local-expect _) (λ p. gives-bind gives-import_kind (λ k b.
+    gives-after Local-strings (λ v. gives-after (Local-expect _) (λ q. gives-pure _ tt))))
 
 gives-package : Gives (λ p. IsSome_of IsNamed p.name) a_package
 unfolding a_package
-gives-package = gives-bind (gives-any (Local-expect _)) (λ p a. gives-bind gives-full (λ n h.
-    gives-bind (gives-any (Local-expect _)) (λ q b. gives-pure _ h)))
+gives-package = gives-after (Local-expect _) (λ p. gives-bind gives-full (λ n h.
+    gives-after (Local-expect _) (λ q. gives-pure _ h)))
 
 gives-item_unless : (o : Option Span) → Gives IsNamedStatement (file_item_unless o)
 gives-item_unless (Some p) = gives-pure _ tt
@@ -77,11 +78,12 @@ gives-item_unless None =
     (gives-choose _ (gives-map _ gives-enum (λ x h. h))
     (gives-choose _ (gives-map _ gives-service (λ x h. h))
     (gives-choose _ (gives-map _ (gives-extend (block 31) (gives-block 31)) (λ x h. h))
-    (gives-choose _ (gives-map _ (gives-any Local-option) (λ x any. tt)) (gives-none (refusal source a_file_item))))))))
+    (gives-choose _ (gives-map _ (gives-any Local-option) (λ x any. tt))
+    (gives-none (refusal source a_file_item))))))))
 
 gives-item : Gives IsNamedStatement file_item
 unfolding file_item
-gives-item = gives-bind (gives-any (Local-eat _)) (λ o any. gives-item_unless o)
+gives-item = gives-after (Local-eat _) gives-item_unless
 
 gives-items : Gives (Each IsNamedStatement) file_items
 unfolding file_items

@@ -14,7 +14,7 @@ use Rattle.protox_tokens.specs.Marks.{Each}
 use Rattle.protox_tokens.specs.Parser.{Parser}
 use Rattle.protox_tokens.specs.Refusal.{too_deep}
 use Rattle.protox_tree.specs.Nest.{AddedItem, Item, Member, added_of, items_of, members_of}
-use Rattle.source_laws.proofs.Giving.{Gives, gives-any, gives-bind, gives-choose, gives-map, gives-none, gives-pure, gives-until, gives-word}
+use Rattle.source_laws.proofs.Giving.{Gives, gives-after, gives-any, gives-bind, gives-choose, gives-map, gives-none, gives-pure, gives-until, gives-word}
 use Rattle.source_laws.proofs.NameRules.{gives-enum, gives-type}
 use Rattle.source_laws.specs.TreeNames.{AreNamedAdded, AreNamedItems, AreNamedMembers, IsNamedAdded, IsNamedExtend, IsNamedField, IsNamedItem, IsNamedMember, IsNamedMessage, IsNamedOneof}
 
@@ -36,9 +36,10 @@ added_named (f ∷ fs) h = (h.0, added_named fs h.1)
 
 gives-plain : (p : Span) (l : Labelled) → Gives IsNamedField (plain_field p l)
 unfolding plain_field
-gives-plain p l = gives-bind gives-type (λ k kind. gives-bind gives-word (λ w named. gives-bind (gives-any (Local-expect _)) (λ e a.
-    gives-bind (gives-any Local-int) (λ n b. gives-bind (gives-any Local-options) (λ os c.
-    gives-bind (gives-any (Local-expect _)) (λ q d. gives-pure _ (named, kind)))))))
+gives-plain p l = gives-bind gives-type (λ k kind. gives-bind gives-word (λ w named.
+    gives-after (Local-expect _) (λ e.
+    gives-after Local-int (λ n. gives-after Local-options (λ os.
+    gives-after (Local-expect _) (λ q. gives-pure _ (named, kind)))))))
 
 abbrev IsNamedBlock : Block → Type 0
 IsNamedBlock b = Each IsNamedItem b.0
@@ -46,32 +47,34 @@ IsNamedBlock b = Each IsNamedItem b.0
 module _ (inner : Parser Block) (inside : Gives IsNamedBlock inner) where
   gives-group : (p : Span) (l : Labelled) (w : Span) → Gives IsNamedField (group_with inner p l w)
   unfolding group_with
-  gives-group p l w = gives-bind gives-word (λ n named. gives-bind (gives-any (Local-expect _)) (λ e a.
-      gives-bind (gives-any Local-int) (λ i c. gives-bind (gives-any Local-options) (λ os d.
+  gives-group p l w = gives-bind gives-word (λ n named. gives-after (Local-expect _) (λ e.
+      gives-after Local-int (λ i. gives-after Local-options (λ os.
       gives-bind inside (λ b hs. gives-pure _ (named, items_named b.0 hs))))))
 
-  gives-group_if : (p : Span) (l : Labelled) (o : Option Span) → Gives IsNamedField (group_if inner p l o)
+  gives-group_if : (p : Span) (l : Labelled) (o : Option Span)
+      → Gives IsNamedField (group_if inner p l o)
   gives-group_if p l (Some w) = gives-group p l w
   gives-group_if p l None = gives-plain p l
 
   gives-field : Gives IsNamedField (field_with inner)
   unfolding field_with
-  gives-field = gives-bind (gives-any Local-here) (λ p a. gives-bind (gives-any Local-label) (λ l b.
-      gives-bind (gives-any (Local-eat (ident (codes "group")))) (λ o c. gives-group_if p l o)))
+  gives-field = gives-after Local-here (λ p. gives-after Local-label (λ l.
+      gives-after (Local-eat (ident (codes "group"))) (λ o. gives-group_if p l o)))
 
   pub gives-message : Gives IsNamedMessage (message_with inner)
   unfolding message_with
-  gives-message = gives-bind (gives-any (Local-expect _)) (λ p a. gives-bind gives-word (λ w named.
+  gives-message = gives-after (Local-expect _) (λ p. gives-bind gives-word (λ w named.
       gives-bind inside (λ b hs. gives-pure _ (named, items_named b.0 hs))))
 
   gives-member_unless : (o : Option Span) → Gives IsNamedMember (member_unless inner o)
   gives-member_unless (Some p) = gives-pure _ tt
   gives-member_unless None =
-      gives-choose _ (gives-map _ (gives-any Local-option) (λ x any. tt)) (gives-map _ gives-field (λ f h. h))
+      gives-choose _ (gives-map _ (gives-any Local-option) (λ x any. tt))
+      (gives-map _ gives-field (λ f h. h))
 
   gives-member : Gives IsNamedMember (member_with inner)
   unfolding member_with
-  gives-member = gives-bind (gives-any (Local-eat _)) (λ o any. gives-member_unless o)
+  gives-member = gives-after (Local-eat _) gives-member_unless
 
   gives-members : Gives (Each IsNamedMember) (members_with inner)
   unfolding members_with
@@ -79,9 +82,9 @@ module _ (inner : Parser Block) (inside : Gives IsNamedBlock inner) where
 
   gives-oneof : Gives IsNamedOneof (oneof_with inner)
   unfolding oneof_with
-  gives-oneof = gives-bind (gives-any (Local-expect _)) (λ p a. gives-bind gives-word (λ w named.
-      gives-bind (gives-any (Local-expect _)) (λ b c. gives-bind gives-members (λ ms hs.
-      gives-bind (gives-any (Local-expect _)) (λ q d. gives-pure _ (named, members_named ms hs))))))
+  gives-oneof = gives-after (Local-expect _) (λ p. gives-bind gives-word (λ w named.
+      gives-after (Local-expect _) (λ b. gives-bind gives-members (λ ms hs.
+      gives-after (Local-expect _) (λ q. gives-pure _ (named, members_named ms hs))))))
 
   gives-added_unless : (o : Option Span) → Gives IsNamedAdded (added_unless inner o)
   gives-added_unless (Some p) = gives-pure _ tt
@@ -89,7 +92,7 @@ module _ (inner : Parser Block) (inside : Gives IsNamedBlock inner) where
 
   gives-added : Gives IsNamedAdded (added_with inner)
   unfolding added_with
-  gives-added = gives-bind (gives-any (Local-eat _)) (λ o any. gives-added_unless o)
+  gives-added = gives-after (Local-eat _) gives-added_unless
 
   gives-all_added : Gives (Each IsNamedAdded) (all_added_with inner)
   unfolding all_added_with
@@ -97,9 +100,9 @@ module _ (inner : Parser Block) (inside : Gives IsNamedBlock inner) where
 
   pub gives-extend : Gives IsNamedExtend (extend_with inner)
   unfolding extend_with
-  gives-extend = gives-bind (gives-any (Local-expect _)) (λ p a. gives-bind (gives-any Local-type_name) (λ t b.
-      gives-bind (gives-any (Local-expect _)) (λ e c. gives-bind gives-all_added (λ fs hs.
-      gives-bind (gives-any (Local-expect _)) (λ q d. gives-pure _ (added_named fs hs))))))
+  gives-extend = gives-after (Local-expect _) (λ p. gives-after Local-type_name (λ t.
+      gives-after (Local-expect _) (λ e. gives-bind gives-all_added (λ fs hs.
+      gives-after (Local-expect _) (λ q. gives-pure _ (added_named fs hs))))))
 
   gives-item_unless : (o : Option Span) → Gives IsNamedItem (item_unless inner o)
   gives-item_unless (Some p) = gives-pure _ tt
@@ -110,11 +113,12 @@ module _ (inner : Parser Block) (inside : Gives IsNamedBlock inner) where
       (gives-choose _ (gives-map _ (gives-any Local-extensions) (λ x any. tt))
       (gives-choose _ (gives-map _ (gives-any Local-reserved) (λ x any. tt))
       (gives-choose _ (gives-map _ (gives-any Local-option) (λ x any. tt))
-      (gives-choose _ (gives-map _ gives-oneof (λ x h. h)) (gives-map _ gives-field (λ x h. h))))))))
+      (gives-choose _ (gives-map _ gives-oneof (λ x h. h))
+      (gives-map _ gives-field (λ x h. h))))))))
 
   gives-item : Gives IsNamedItem (item_with inner)
   unfolding item_with
-  gives-item = gives-bind (gives-any (Local-eat _)) (λ o any. gives-item_unless o)
+  gives-item = gives-after (Local-eat _) gives-item_unless
 
   gives-items : Gives (Each IsNamedItem) (items_with inner)
   unfolding items_with
@@ -122,10 +126,11 @@ module _ (inner : Parser Block) (inside : Gives IsNamedBlock inner) where
 
   gives-inside : Gives IsNamedBlock (inside_with inner)
   unfolding inside_with
-  gives-inside = gives-bind gives-items (λ is hs. gives-bind (gives-any (Local-expect _)) (λ q any. gives-pure _ hs))
+  gives-inside =
+      gives-bind gives-items (λ is hs. gives-after (Local-expect _) (λ q. gives-pure _ hs))
 
 pub gives-block : (levels : ℕ) → Gives IsNamedBlock (block levels)
 unfolding block
-gives-block zero = gives-bind (gives-any (Local-expect _)) (λ brace any. gives-none (λ ts. too_deep brace))
-gives-block (suc levels) = gives-bind (gives-any (Local-expect _)) (λ brace any.
+gives-block zero = gives-after (Local-expect _) (λ brace. gives-none (λ ts. too_deep brace))
+gives-block (suc levels) = gives-after (Local-expect _) (λ brace.
     gives-bind (gives-inside (block levels) (gives-block levels)) (λ x hs. gives-pure _ hs))

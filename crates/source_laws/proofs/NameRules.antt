@@ -18,14 +18,15 @@ use Rattle.protox_tokens.specs.Marks.{Each, IsSome_of}
 use Rattle.protox_tree.specs.Nest.{MapType}
 use Rattle.protox_tree.specs.Scalar.{scalar_of}
 use Rattle.protox_tree.specs.Tree.{Word}
-use Rattle.source_laws.proofs.Giving.{Gives, gives-any, gives-behind, gives-bind, gives-choose, gives-map, gives-pure, gives-until, gives-word}
+use Rattle.source_laws.proofs.Giving.{Gives, gives-after, gives-any, gives-behind, gives-bind, gives-choose, gives-map, gives-pure, gives-until, gives-word}
 use Rattle.source_laws.specs.TreeNames.{IsNamed, IsNamedEnum, IsNamedKind, IsNamedValue, IsNoGroup}
 
 -- ---- names
 
 gives-parts : (w : Word) → IsNamed w → Gives (IsSome_of IsNamed) (parts_after w)
 unfolding parts_after
-gives-parts w h = gives-bind (gives-behind (sign s.Dot) gives-word) (λ ws hs. gives-pure (w ∷ ws) (h, hs))
+gives-parts w h =
+    gives-bind (gives-behind (sign s.Dot) gives-word) (λ ws hs. gives-pure (w ∷ ws) (h, hs))
 
 pub gives-full : Gives (IsSome_of IsNamed) full_ident
 unfolding full_ident
@@ -36,7 +37,8 @@ gives-full = gives-bind gives-word gives-parts
 abbrev IsOfNoGroup : Option FieldType → Type 0
 IsOfNoGroup o = o ≡ Some types.Group → ⊥
 
-one_of : (b : Bool) (x y : Option FieldType) → IsOfNoGroup x → IsOfNoGroup y → IsOfNoGroup (if b then x else y)
+one_of : (b : Bool) (x y : Option FieldType) → IsOfNoGroup x → IsOfNoGroup y
+    → IsOfNoGroup (if b then x else y)
 one_of true x y h k = h
 one_of false x y h k = k
 
@@ -69,15 +71,15 @@ gives-ty_after (Some dot) w = gives-map _ (gives-any (Local-parts w)) (λ parts 
 
 gives-ty : Gives IsNoGroup ty
 unfolding ty
-gives-ty = gives-bind (gives-any (Local-eat _)) (λ o any. gives-bind (gives-any Local-word) (λ w all. gives-ty_after o w))
+gives-ty = gives-after (Local-eat _) (λ o. gives-after Local-word (λ w. gives-ty_after o w))
 
 abbrev IsOfTypes : MapType → Type 0
 IsOfTypes m = IsNoGroup m.key × IsNoGroup m.value
 
 gives-map_type : (p : Span) → Gives IsOfTypes (map_type p)
 unfolding map_type
-gives-map_type p = gives-bind gives-ty (λ key k. gives-bind (gives-any (Local-expect _)) (λ c any.
-    gives-bind gives-ty (λ value v. gives-bind (gives-any (Local-expect _)) (λ q all. gives-pure _ (k, v)))))
+gives-map_type p = gives-bind gives-ty (λ key k. gives-after (Local-expect _) (λ c.
+    gives-bind gives-ty (λ value v. gives-after (Local-expect _) (λ q. gives-pure _ (k, v)))))
 
 gives-map_by : (w : Word) (o : Option Span) → Gives IsNamedKind (map_by w o)
 gives-map_by w (Some bracket) = gives-map _ (gives-map_type w.span) (λ m h. h)
@@ -85,7 +87,7 @@ gives-map_by w None = gives-map _ (gives-any (Local-parts w)) (λ parts any e. c
 
 gives-map_or_name : Gives IsNamedKind map_or_name
 unfolding map_or_name
-gives-map_or_name = gives-bind (gives-any Local-word) (λ w any. gives-bind (gives-any (Local-eat _)) (λ o all. gives-map_by w o))
+gives-map_or_name = gives-after Local-word (λ w. gives-after (Local-eat _) (λ o. gives-map_by w o))
 
 pub gives-type : Gives IsNamedKind field_type
 unfolding field_type
@@ -95,18 +97,20 @@ gives-type = gives-choose _ gives-map_or_name (gives-map _ gives-ty (λ t h. h))
 
 gives-value : Gives (λ v. IsNamed v.name) an_enum_value
 unfolding an_enum_value
-gives-value = gives-bind gives-word (λ w h. gives-bind (gives-any (Local-expect _)) (λ e a. gives-bind (gives-any Local-int) (λ n b.
-    gives-bind (gives-any Local-options) (λ os c. gives-bind (gives-any (Local-expect _)) (λ q d. gives-pure _ h)))))
+gives-value =
+    gives-bind gives-word (λ w h. gives-after (Local-expect _) (λ e. gives-after Local-int (λ n.
+    gives-after Local-options (λ os. gives-after (Local-expect _) (λ q. gives-pure _ h)))))
 
 gives-enum_unless : (o : Option Span) → Gives IsNamedValue (enum_item_unless o)
 gives-enum_unless (Some p) = gives-pure _ tt
 gives-enum_unless None =
     gives-choose _ (gives-map _ (gives-any Local-option) (λ x any. tt))
-    (gives-choose _ (gives-map _ (gives-any Local-reserved) (λ x any. tt)) (gives-map _ gives-value (λ v h. h)))
+    (gives-choose _ (gives-map _ (gives-any Local-reserved) (λ x any. tt))
+    (gives-map _ gives-value (λ v h. h)))
 
 gives-enum_item : Gives IsNamedValue enum_item
 unfolding enum_item
-gives-enum_item = gives-bind (gives-any (Local-eat _)) (λ o any. gives-enum_unless o)
+gives-enum_item = gives-after (Local-eat _) gives-enum_unless
 
 gives-enum_items : Gives (Each IsNamedValue) enum_items
 unfolding enum_items
@@ -114,5 +118,6 @@ gives-enum_items = gives-until (sign s.RightBrace) gives-enum_item
 
 pub gives-enum : Gives IsNamedEnum enumeration
 unfolding enumeration
-gives-enum = gives-bind (gives-any (Local-expect _)) (λ p a. gives-bind gives-word (λ w h. gives-bind (gives-any (Local-expect _)) (λ b c.
-    gives-bind gives-enum_items (λ is hs. gives-bind (gives-any (Local-expect _)) (λ q d. gives-pure _ (h, hs))))))
+gives-enum = gives-after (Local-expect _) (λ p. gives-bind gives-word (λ w h.
+    gives-after (Local-expect _) (λ b. gives-bind gives-enum_items (λ is hs.
+    gives-after (Local-expect _) (λ q. gives-pure _ (h, hs))))))

@@ -1,5 +1,6 @@
--- The records of fields, extensions and values have identifiers for names, and groups the types that they declare.
-use Rattle.std.proofs.Common.{◌≡◌, ◌∙◌, ◌+◌, ℕ, ℤ, true, List, [], ◌∷◌, length, Option, Some, flat_map, map, string_bytes, refl, ap, sym}
+-- The records of fields, extensions and values have identifiers for names, and those of groups the
+-- types that they declare.
+use Rattle.std.proofs.Common.{◌≡◌, ◌∙◌, ◌+◌, ◌++◌, ℕ, ℤ, true, List, [], ◌∷◌, length, Option, Some, flat_map, map, string_bytes, refl, ap, sym}
 use Rattle.std.specs.List.{AllByRecursion}
 use Rattle.descriptor_records.specs.Content.{EnumValueContent, FieldContent, MessageContents}
 use Rattle.descriptor_records.specs.FieldNumbers.{type_number}
@@ -44,11 +45,13 @@ number_group : (t : FieldType) → type_number t ≡ type_number types.Group →
 number_group types.Group e = refl
 number_group t e = absurd (cc e)
 
-pub no_group_number : (ty : Ty) → IsNoGroup ty → scalar_number ty ≡ Some (type_number types.Group) → ⊥
+pub no_group_number : (ty : Ty) → IsNoGroup ty → scalar_number ty ≡ Some (type_number types.Group)
+    → ⊥
 no_group_number (scalar t span) h e = h (ap Some (number_group t (cc e)))
 no_group_number (named name) h e = cc e
 
-field_spelled : (name : Text) (k : tree.Kind) → is_identifier name ≡ true → IsSpelled (Some (field_name_of name (is_group k)))
+field_spelled : (name : Text) (k : tree.Kind) → is_identifier name ≡ true
+    → IsSpelled (Some (field_name_of name (is_group k)))
 field_spelled name (normal ty) h = h
 field_spelled name (group g) h = lower_identifier name h
 field_spelled name (map_kind m) h = h
@@ -60,9 +63,13 @@ module _ (nested : MessageContents) where
     typed : f.field_type ≡ type_of k
     type : f.type_name ≡ type_name_of name k
 
-  group_field : (name : Text) (k : tree.Kind) (f : FieldContent) → IsOfKind name k f → is_identifier name ≡ true → IsNamedKind k → IsThere (Declares nested) name k → IsGroup f → IsGroupField nested f
-  group_field name (normal ty) f is spelled h there e = absurd (no_group_number ty h (sym is.typed ∙ e))
-  group_field name (group g) f is spelled h there e = record { type = name; typed = is.type; spelled = spelled; there = there; lower = is.called }
+  group_field : (name : Text) (k : tree.Kind) (f : FieldContent) → IsOfKind name k f
+      → is_identifier name ≡ true → IsNamedKind k → IsThere (Declares nested) name k → IsGroup f
+      → IsGroupField nested f
+  group_field name (normal ty) f is spelled h there e =
+      absurd (no_group_number ty h (sym is.typed ∙ e))
+  group_field name (group g) f is spelled h there e =
+      record { type = name; typed = is.type; spelled = spelled; there = there; lower = is.called }
   group_field name (map_kind m) f is spelled h there e = absurd (cc (sym is.typed ∙ e))
 
   -- it has an identifier for a name, and its type is declared in the message if it is a group
@@ -73,77 +80,113 @@ module _ (nested : MessageContents) where
   abbrev AreThere : List Declared → Type 0
   AreThere ts = (name : Text) → Has ts name → Declares nested name
 
+  there_first : (ts us : List Declared) → AreThere (ts ++ us) → AreThere ts
+  there_first ts us there name has = there name (has_left ts us name has)
+
+  there_later : (ts us : List Declared) → AreThere (ts ++ us) → AreThere us
+  there_later ts us there name has = there name (has_right ts us name has)
+
   module _ (s : Syntax) where
-    in_oneof : (oneof : Option ℤ) (f : Field) → IsNamedField (field_view f) → AreThere (types_of_field f) → HasItsNames (field_in s oneof f)
+    in_oneof : (oneof : Option ℤ) (f : Field) → IsNamedField (field_view f)
+        → AreThere (types_of_field f) → HasItsNames (field_in s oneof f)
     in_oneof oneof f h there =
         let names = field_names f h in
         let name = string_bytes f.name.value in
         let k = kind_view f.kind in (
           field_spelled name k names.name,
-          group_field name k (field_in s oneof f) (record { called = refl; typed = refl; type = refl }) names.name names.kind (field_there (Declares nested) f there),
+          group_field name k (field_in s oneof f)
+              (record { called = refl; typed = refl; type = refl }) names.name names.kind
+              (field_there (Declares nested) f there),
         )
 
-    in_member : (place : ℤ) (o : MemberLayer) → IsNamedMember (member_seen o) → AreThere (types_of_member o) → AllByRecursion HasItsNames (member_in s place o)
-    in_member place (OneofItem-F.«OneofItem::Field» f) h there = (in_oneof (Some place) f h there, tt)
+    in_member : (place : ℤ) (o : MemberLayer) → IsNamedMember (member_seen o)
+        → AreThere (types_of_member o) → AllByRecursion HasItsNames (member_in s place o)
+    in_member place (OneofItem-F.«OneofItem::Field» f) h there =
+        (in_oneof (Some place) f h there, tt)
     in_member place o h there = tt
 
-    in_members : (place : ℤ) (is : List OneofItem) → Each HasNamedMember is → AreThere (flat_map types_of_member_item is) → AllByRecursion HasItsNames (flat_map (member_at s place) is)
+    in_members : (place : ℤ) (is : List OneofItem) → Each HasNamedMember is
+        → AreThere (flat_map types_of_member_item is)
+        → AllByRecursion HasItsNames (flat_map (member_at s place) is)
     in_members place [] h there = tt
     in_members place (i ∷ is) h there =
         all_append HasItsNames (member_at s place i) (flat_map (member_at s place) is)
-        (in_member place (out-OneofItem i) h.0 (λ name has. there name (has_left (types_of_member_item i) (flat_map types_of_member_item is) name has)))
-        (in_members place is h.1 (λ name has. there name (has_right (types_of_member_item i) (flat_map types_of_member_item is) name has)))
+        (in_member place (out-OneofItem i) h.0
+        (there_first (types_of_member_item i) (flat_map types_of_member_item is) there))
+        (in_members place is h.1
+        (there_later (types_of_member_item i) (flat_map types_of_member_item is) there))
 
-    in_item : (next behind : ℕ) (o : ItemLayer) → IsNamedItem (item_seen o) → AreThere (types_in o) → AllByRecursion HasItsNames (fields_in s next behind o)
+    in_item : (next behind : ℕ) (o : ItemLayer) → IsNamedItem (item_seen o) → AreThere (types_in o)
+        → AllByRecursion HasItsNames (fields_in s next behind o)
     in_item next behind (MessageItem-F.«MessageItem::Field» f) h there = (in_oneof _ f h there, tt)
-    in_item next behind (MessageItem-F.Oneof o) h there = in_members (place_of next) o.items.items (oneof_members o h) there
+    in_item next behind (MessageItem-F.Oneof o) h there =
+        in_members (place_of next) o.items.items (oneof_members o h) there
     in_item next behind o h there = tt
 
-    pub in_items : (next behind : ℕ) (is : List MessageItem) → Each HasNamedItem is → AreThere (flat_map types_at is) → AllByRecursion HasItsNames (fields_from s next behind is)
+    pub in_items : (next behind : ℕ) (is : List MessageItem) → Each HasNamedItem is
+        → AreThere (flat_map types_at is)
+        → AllByRecursion HasItsNames (fields_from s next behind is)
     in_items next behind [] h there = tt
     in_items next behind (i ∷ is) h there =
-        all_append HasItsNames (fields_at s next behind i) (fields_from s (next + length (oneof_at i)) (behind + length (alone_at s i)) is)
-        (in_item next behind (out-MessageItem i) h.0 (λ name has. there name (has_left (types_at i) (flat_map types_at is) name has)))
-        (in_items (next + length (oneof_at i)) (behind + length (alone_at s i)) is h.1 (λ name has. there name (has_right (types_at i) (flat_map types_at is) name has)))
+        all_append HasItsNames (fields_at s next behind i)
+        (fields_from s (next + length (oneof_at i)) (behind + length (alone_at s i)) is)
+        (in_item next behind (out-MessageItem i) h.0
+        (there_first (types_at i) (flat_map types_at is) there))
+        (in_items (next + length (oneof_at i)) (behind + length (alone_at s i)) is h.1
+        (there_later (types_at i) (flat_map types_at is) there))
 
 -- ---- extensions
 
 abbrev pub HasName : FieldContent → Type 0
 HasName f = IsSpelled f.name
 
-added_spelled : (t : TypeName) (o : AddedLayer) → IsNamedAdded (added_seen o) → AreSpelled (extension_in t o)
-added_spelled t (ExtendItem-F.«ExtendItem::Field» f) h = let names = field_names f h in (field_spelled (string_bytes f.name.value) (kind_view f.kind) names.name, tt)
+added_spelled : (t : TypeName) (o : AddedLayer) → IsNamedAdded (added_seen o)
+    → AreSpelled (extension_in t o)
+added_spelled t (ExtendItem-F.«ExtendItem::Field» f) h =
+    (field_spelled (string_bytes f.name.value) (kind_view f.kind) (field_names f h).name, tt)
 added_spelled t o h = tt
 
-pub extend_spelled : (e : Extend) → IsNamedExtend (extend_view e) → AreSpelled (flat_map (extension_at e.extendee) e.items.items)
-extend_spelled e h = all_made HasNamedAdded HasName (extension_at e.extendee) (λ i. added_spelled e.extendee (out-ExtendItem i)) e.items.items (extend_added e h)
+pub extend_spelled : (e : Extend) → IsNamedExtend (extend_view e)
+    → AreSpelled (flat_map (extension_at e.extendee) e.items.items)
+extend_spelled e h =
+    all_made HasNamedAdded HasName (extension_at e.extendee)
+    (λ i. added_spelled e.extendee (out-ExtendItem i)) e.items.items (extend_added e h)
 
 item_extensions : (o : ItemLayer) → IsNamedItem (item_seen o) → AreSpelled (extensions_in o)
 item_extensions (MessageItem-F.Extend e) h = extend_spelled e h
 item_extensions o h = tt
 
-pub items_extensions : (is : List MessageItem) → Each HasNamedItem is → AreSpelled (flat_map extensions_at is)
-items_extensions is h = all_made HasNamedItem HasName extensions_at (λ i. item_extensions (out-MessageItem i)) is h
+pub items_extensions : (is : List MessageItem) → Each HasNamedItem is
+    → AreSpelled (flat_map extensions_at is)
+items_extensions is h =
+    all_made HasNamedItem HasName extensions_at (λ i. item_extensions (out-MessageItem i)) is h
 
 -- ---- enums
 
 abbrev HasValueName : EnumValueContent → Type 0
 HasValueName v = IsSpelled v.name
 
-value_spelled : (i : EnumItem) → IsNamedValue (enum_item_view i) → AllByRecursion HasValueName (value_at i)
+value_spelled : (i : EnumItem) → IsNamedValue (enum_item_view i)
+    → AllByRecursion HasValueName (value_at i)
 value_spelled (enum_items.Value v) h = (h, tt)
 value_spelled i h = tt
 
-values_spelled : (is : List EnumItem) → Each IsNamedValue (map enum_item_view is) → AllByRecursion HasValueName (flat_map value_at is)
+values_spelled : (is : List EnumItem) → Each IsNamedValue (map enum_item_view is)
+    → AllByRecursion HasValueName (flat_map value_at is)
 values_spelled [] h = tt
-values_spelled (i ∷ is) h = all_append HasValueName (value_at i) (flat_map value_at is) (value_spelled i h.0) (values_spelled is h.1)
+values_spelled (i ∷ is) h =
+    all_append HasValueName (value_at i) (flat_map value_at is) (value_spelled i h.0)
+    (values_spelled is h.1)
 
 pub enum_spelled : (e : Enum) → IsNamedEnum (enum_view e) → HasSpelledValues (enum_of e)
 enum_spelled e h = values_spelled e.items.items h.1
 
-item_enums : (o : ItemLayer) → IsNamedItem (item_seen o) → AllByRecursion HasSpelledValues (enum_in o)
+item_enums : (o : ItemLayer) → IsNamedItem (item_seen o)
+    → AllByRecursion HasSpelledValues (enum_in o)
 item_enums (MessageItem-F.Enum e) h = (enum_spelled e h, tt)
 item_enums o h = tt
 
-pub items_enums : (is : List MessageItem) → Each HasNamedItem is → AllByRecursion HasSpelledValues (flat_map enum_at is)
-items_enums is h = all_made HasNamedItem HasSpelledValues enum_at (λ i. item_enums (out-MessageItem i)) is h
+pub items_enums : (is : List MessageItem) → Each HasNamedItem is
+    → AllByRecursion HasSpelledValues (flat_map enum_at is)
+items_enums is h =
+    all_made HasNamedItem HasSpelledValues enum_at (λ i. item_enums (out-MessageItem i)) is h

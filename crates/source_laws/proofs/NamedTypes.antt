@@ -24,7 +24,8 @@ use Rattle.text_model.specs.Identifiers.{is_identifier}
 
 -- ---- the entries of maps
 
-entry_part : (name : Text) (number : ℤ) (ty : Ty) → IsNoGroup (ty_view ty) → IsPart name number (entry_field name number ty)
+entry_part : (name : Text) (number : ℤ) (ty : Ty) → IsNoGroup (ty_view ty)
+    → IsPart name number (entry_field name number ty)
 entry_part name number ty h = record {
   named = refl;
   numbered = refl;
@@ -33,19 +34,26 @@ entry_part name number ty h = record {
   alone = refl;
 }
 
-entry_own : (name : Text) (m : Map) → IsNamedType (of_map name m) → HasOwnNames (Some (entry_name_of name)) (entry_fields m) [] no_messages [] (Some entry_options)
+entry_own : (name : Text) (m : Map) → IsNamedType (of_map name m)
+    → HasOwnNames (Some (entry_name_of name)) (entry_fields m) [] no_messages []
+    (Some entry_options)
 entry_own name m h = record {
   named = inr refl;
   fields_are = (refl, (refl, tt));
   extensions_are = tt;
   values = tt;
-  groups = ((λ e. absurd (no_group_number (ty_view m.key) h.0 e)), ((λ e. absurd (no_group_number (ty_view m.value) h.1 e)), tt));
-  parts = λ e. (entry_part (codes "key") (pos 1) m.key h.0, entry_part (codes "value") (pos 2) m.value h.1);
+  groups = (
+    (λ e. absurd (no_group_number (ty_view m.key) h.0 e)),
+    ((λ e. absurd (no_group_number (ty_view m.value) h.1 e)), tt),
+  );
+  parts = λ e.
+      (entry_part (codes "key") (pos 1) m.key h.0, entry_part (codes "value") (pos 2) m.value h.1);
   none_extended = λ e. refl;
   none_nested = λ e. refl;
 }
 
-entry_names : (name : Text) (m : Map) → IsNamedType (of_map name m) → IsSourceMessage (entry_of name m)
+entry_names : (name : Text) (m : Map) → IsNamedType (of_map name m)
+    → IsSourceMessage (entry_of name m)
 entry_names name m h = (entry_own name m h, tt)
 
 -- ---- messages and groups
@@ -55,37 +63,50 @@ no_entry : (os : List OptionContent) → IsEntry (options_of os) → ⊥
 no_entry [] h = h
 no_entry (o ∷ os) h = cc h
 
-own_names : (s : Syntax) (name : Text) (items : List MessageItem) (given : Option Text) (fields extensions : List FieldContent) (nested : MessageContents)
-    (enums : List EnumContent) (ranges : List ExtensionRangeContent) (oneofs : List OneofContent) (options : Option OptionsContent)
-    (reserved : List ReservedRange) (names : List Text) → is_identifier name ≡ true → Each HasNamedItem items
-    → IsOwn s name items given fields extensions nested enums ranges oneofs options reserved names → AreTypes s (flat_map types_at items) nested
+own_names : (s : Syntax) (name : Text) (items : List MessageItem) (given : Option Text)
+    (fields extensions : List FieldContent) (nested : MessageContents) (enums : List EnumContent)
+    (ranges : List ExtensionRangeContent) (oneofs : List OneofContent)
+    (options : Option OptionsContent) (reserved : List ReservedRange) (names : List Text)
+    → is_identifier name ≡ true → Each HasNamedItem items
+    → IsOwn s name items given fields extensions nested enums ranges oneofs options reserved names
+    → AreTypes s (flat_map types_at items) nested
     → HasOwnNames given fields extensions nested enums options
-own_names s name items given fields extensions nested enums ranges oneofs options reserved names spelled h own inside =
-    let written = in_items nested s 0 (length (flat_map oneof_at items)) items h (declares s (flat_map types_at items) nested inside) in
+own_names s name items given fields extensions nested enums ranges oneofs options reserved names
+    spelled h own inside =
+    let there = declares s (flat_map types_at items) nested inside in
+    let written = in_items nested s 0 (length (flat_map oneof_at items)) items h there in
     let all = subst (AllByRecursion (HasItsNames nested)) (sym own.fields_are) written in
-    let wrong : IsEntry options → ⊥ = λ e. no_entry (flat_map option_at items) (subst IsEntry own.options_are e) in
+    let wrong : IsEntry options → ⊥ =
+    λ e. no_entry (flat_map option_at items) (subst IsEntry own.options_are e) in
     record {
       named = inl (subst IsSpelled (sym own.named) spelled);
       fields_are = all_so (HasItsNames nested) HasName (λ f both. both.0) fields all;
       extensions_are = subst AreSpelled (sym own.extensions_are) (items_extensions items h);
       values = subst (AllByRecursion HasSpelledValues) (sym own.enums_are) (items_enums items h);
-      groups = all_so (HasItsNames nested) (λ f. IsGroup f → IsGroupField nested f) (λ f both. both.1) fields all;
+      groups = all_so (HasItsNames nested) (λ f. IsGroup f → IsGroupField nested f)
+          (λ f both. both.1) fields all;
       parts = λ e. absurd (wrong e);
       none_extended = λ e. absurd (wrong e);
       none_nested = λ e. absurd (wrong e);
     }
 
 mutual
-  type_names : (s : Syntax) (t : Declared) (m : MessageContent) → IsNamedType t → IsType s t m → IsSourceMessage m
-  type_names s (of_items name items) (message given fields extensions nested enums ranges oneofs options reserved names) h is = (
-    own_names s name items given fields extensions nested enums ranges oneofs options reserved names h.0 h.1 is.0 is.1,
-    types_names s (flat_map types_at items) nested (items_types items h.1) is.1,
-  )
-  type_names s (of_map name m) (message given fields extensions nested enums ranges oneofs options reserved names) h is =
+  type_names : (s : Syntax) (t : Declared) (m : MessageContent) → IsNamedType t → IsType s t m
+      → IsSourceMessage m
+  type_names s (of_items name items)
+      (message given fields extensions nested enums ranges oneofs options reserved names) h is = (
+        own_names s name items given fields extensions nested enums ranges oneofs options reserved
+            names h.0 h.1 is.0 is.1,
+        types_names s (flat_map types_at items) nested (items_types items h.1) is.1,
+      )
+  type_names s (of_map name m)
+      (message given fields extensions nested enums ranges oneofs options reserved names) h is =
       subst IsSourceMessage (sym is) (entry_names name m h)
 
-  pub types_names : (s : Syntax) (ts : List Declared) (ms : MessageContents) → AreNamedTypes ts → AreTypes s ts ms → AreSourceMessages ms
+  pub types_names : (s : Syntax) (ts : List Declared) (ms : MessageContents) → AreNamedTypes ts
+      → AreTypes s ts ms → AreSourceMessages ms
   types_names s [] no_messages h are = tt
   types_names s [] (more_messages m ms) h are = absurd are
   types_names s (t ∷ ts) no_messages h are = absurd are
-  types_names s (t ∷ ts) (more_messages m ms) h are = (type_names s t m h.0 are.0, types_names s ts ms h.1 are.1)
+  types_names s (t ∷ ts) (more_messages m ms) h are =
+      (type_names s t m h.0 are.0, types_names s ts ms h.1 are.1)

@@ -29,15 +29,18 @@ HasNamedMember i = IsNamedMember (member_seen (out-OneofItem i))
 abbrev pub HasNamedAdded : ExtendItem → Type 0
 HasNamedAdded i = IsNamedAdded (added_seen (out-ExtendItem i))
 
-each_item : (is : List MessageItem) → AreNamedItems (items_of (map item_view is)) → Each HasNamedItem is
+each_item : (is : List MessageItem) → AreNamedItems (items_of (map item_view is))
+    → Each HasNamedItem is
 each_item [] h = tt
 each_item (i ∷ is) h = (subst IsNamedItem (item_is i) h.0, each_item is h.1)
 
-each_member : (is : List OneofItem) → AreNamedMembers (members_of (map member_view is)) → Each HasNamedMember is
+each_member : (is : List OneofItem) → AreNamedMembers (members_of (map member_view is))
+    → Each HasNamedMember is
 each_member [] h = tt
 each_member (i ∷ is) h = (subst IsNamedMember (member_is i) h.0, each_member is h.1)
 
-each_added : (is : List ExtendItem) → AreNamedAdded (added_of (map added_view is)) → Each HasNamedAdded is
+each_added : (is : List ExtendItem) → AreNamedAdded (added_of (map added_view is))
+    → Each HasNamedAdded is
 each_added [] h = tt
 each_added (i ∷ is) h = (subst IsNamedAdded (added_is i) h.0, each_added is h.1)
 
@@ -49,9 +52,11 @@ pub record HasNames (f : Field) : Type 0 where
   pub kind : IsNamedKind (kind_view f.kind)
 
 pub field_names : (f : Field) → IsNamedField (field_view f) → HasNames f
-field_names f h = let parts = subst IsNamedField (field_is f) h in record { name = parts.0; kind = parts.1 }
+field_names f h =
+    let parts = subst IsNamedField (field_is f) h in record { name = parts.0; kind = parts.1 }
 
-pub kind_level : (k : FieldKind) → IsNamedKind (kind_view k) → IsNamedKind (kind_seen (out-FieldKind k))
+pub kind_level : (k : FieldKind) → IsNamedKind (kind_view k)
+    → IsNamedKind (kind_seen (out-FieldKind k))
 kind_level k h = subst IsNamedKind (kind_is k) h
 
 pub group_items : (g : Group) → IsNamedGroup (group_view g) → Each HasNamedItem g.items.items
@@ -69,4 +74,6 @@ pub record HasNamedItems (m : Message) : Type 0 where
   pub items : Each HasNamedItem m.items.items
 
 pub message_names : (m : Message) → IsNamedMessage (message_view m) → HasNamedItems m
-message_names m h = let parts = subst IsNamedMessage (message_is m) h in record { name = parts.0; items = each_item m.items.items parts.1 }
+message_names m h =
+    let parts = subst IsNamedMessage (message_is m) h in
+    record { name = parts.0; items = each_item m.items.items parts.1 }

@@ -28,17 +28,21 @@ use Rattle.source_records.specs.SourceNames.{AreSpelled, HasSpelledValues, IsPac
 abbrev HasNamedStatement : FileItem → Type 0
 HasNamedStatement i = IsNamedStatement (file_item_view i)
 
-each_statement : (is : List FileItem) → Each IsNamedStatement (map file_item_view is) → Each HasNamedStatement is
+each_statement : (is : List FileItem) → Each IsNamedStatement (map file_item_view is)
+    → Each HasNamedStatement is
 each_statement [] h = tt
 each_statement (i ∷ is) h = (h.0, each_statement is h.1)
 
-package_named : (before : Option Text) → IsPackage before → (i : FileItem) → HasNamedStatement i → IsPackage (package_after before i)
+package_named : (before : Option Text) → IsPackage before → (i : FileItem) → HasNamedStatement i
+    → IsPackage (package_after before i)
 package_named before named (items.Package p) h = dotted_name (full_view p.name) h
 package_named before named i h = named
 
-packages_named : (before : Option Text) → IsPackage before → (is : List FileItem) → Each HasNamedStatement is → IsPackage (fold package_after before is)
+packages_named : (before : Option Text) → IsPackage before → (is : List FileItem)
+    → Each HasNamedStatement is → IsPackage (fold package_after before is)
 packages_named before named [] h = named
-packages_named before named (i ∷ is) h = packages_named (package_after before i) (package_named before named i h.0) is h.1
+packages_named before named (i ∷ is) h =
+    packages_named (package_after before i) (package_named before named i h.0) is h.1
 
 statement_types : (i : FileItem) → HasNamedStatement i → AreNamedTypes (types_at i)
 statement_types (items.Message m) h = (message_type m h, tt)
@@ -55,20 +59,32 @@ statement_extensions i h = tt
 
 -- ---- files
 
-file_names : (name : Text) (f : File) (made : FileContent) → HasIdentifiers (file_view f) → IsFile name f made → IsSourceFile made
+file_names : (name : Text) (f : File) (made : FileContent) → HasIdentifiers (file_view f)
+    → IsFile name f made → IsSourceFile made
 file_names name f made h is =
-    let each = each_statement f.items.items h in
+    let all = f.items.items in
+    let each = each_statement all h in
+    let types = all_made HasNamedStatement IsNamedType types_at statement_types all each in
+    let enums = all_made HasNamedStatement HasSpelledValues enum_at statement_enums all each in
+    let added = all_made HasNamedStatement HasName extensions_at statement_extensions all each in
     record {
-      packaged = subst (λ (m : FileContent). IsPackage m.package_name) (sym is.is) (packages_named None tt f.items.items each);
-      messages = types_names (syntax_of (file_view f).syntax) (flat_map types_at f.items.items) (messages_of made.message_type)
-          (all_made HasNamedStatement IsNamedType types_at statement_types f.items.items each) is.types_are;
+      packaged = subst (λ (m : FileContent). IsPackage m.package_name) (sym is.is)
+          (packages_named None tt all each);
+      messages = types_names (syntax_of (file_view f).syntax) (flat_map types_at all)
+          (messages_of made.message_type) types is.types_are;
       enums = subst (λ (m : FileContent). AllByRecursion HasSpelledValues m.enum_type) (sym is.is)
-          (all_made HasNamedStatement HasSpelledValues enum_at statement_enums f.items.items each);
-      extensions = subst (λ (m : FileContent). AreSpelled m.extension) (sym is.is)
-          (all_made HasNamedStatement HasName extensions_at statement_extensions f.items.items each);
+          enums;
+      extensions = subst (λ (m : FileContent). AreSpelled m.extension) (sym is.is) added;
     }
 
-pub source_names : (name z : Text) (made : FileDescriptorProto) → IsAnswered name z (Ok made) → IsSourceFile (records.file_view made)
+pub source_names : (name z : Text) (made : FileDescriptorProto) → IsAnswered name z (Ok made)
+    → IsSourceFile (records.file_view made)
 source_names name z made h =
-    let bare = file_names name h.0 h.3.bare (spelled_named z (file_view h.0) h.1) h.3.bare_is in
-    subst IsSourceFile (sym h.3.is) (record { packaged = bare.packaged; messages = bare.messages; enums = bare.enums; extensions = bare.extensions })
+    let named = spelled_named z (file_view h.0) h.1 in
+    let bare = file_names name h.0 h.3.bare named h.3.bare_is in
+    subst IsSourceFile (sym h.3.is) (record {
+      packaged = bare.packaged;
+      messages = bare.messages;
+      enums = bare.enums;
+      extensions = bare.extensions;
+    })
