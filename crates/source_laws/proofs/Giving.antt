@@ -78,8 +78,7 @@ record IsTaken {A : Type 0} (m : Mode) (f : Token → Span → Option A) (ts r :
   value : value_of f (look m here) ≡ Some a
 
 one_taken : {A : Type 0} (m : Mode) (e : Expected) (f : Token → Span → Option A) (ts r : Stream)
-    (a : A)
-    → one m e f ts ≡ Ok (a, r) → IsTaken m f ts r a
+    (a : A) → one m e f ts ≡ Ok (a, r) → IsTaken m f ts r a
 one_taken m e f [] r a h = absurd (cc h)
 one_taken {A = A} m e f (l ∷ ts) r a h = by (value_of f (look m l)) refl h where
   by : (o : Option A) → value_of f (look m l) ≡ o → taken m e o (l ∷ ts) ≡ Ok (a, r)

@@ -87,9 +87,9 @@ module _ (nested : MessageContents) where
   there_later ts us there name has = there name (has_right ts us name has)
 
   module _ (s : Syntax) where
-    in_oneof : (oneof : Option ℤ) (f : Field) → IsNamedField (field_view f)
+    field_named : (oneof : Option ℤ) (f : Field) → IsNamedField (field_view f)
         → AreThere (types_of_field f) → HasItsNames (field_in s oneof f)
-    in_oneof oneof f h there =
+    field_named oneof f h there =
         let names = field_names f h in
         let name = string_bytes f.name.value in
         let k = kind_view f.kind in (
@@ -99,40 +99,40 @@ module _ (nested : MessageContents) where
               (field_there (Declares nested) f there),
         )
 
-    in_member : (place : ℤ) (o : MemberLayer) → IsNamedMember (member_seen o)
+    member_named : (place : ℤ) (o : MemberLayer) → IsNamedMember (member_seen o)
         → AreThere (types_of_member o) → AllByRecursion HasItsNames (member_in s place o)
-    in_member place (OneofItem-F.«OneofItem::Field» f) h there =
-        (in_oneof (Some place) f h there, tt)
-    in_member place o h there = tt
+    member_named place (OneofItem-F.«OneofItem::Field» f) h there =
+        (field_named (Some place) f h there, tt)
+    member_named place o h there = tt
 
-    in_members : (place : ℤ) (is : List OneofItem) → Each HasNamedMember is
+    members_named : (place : ℤ) (is : List OneofItem) → Each HasNamedMember is
         → AreThere (flat_map types_of_member_item is)
         → AllByRecursion HasItsNames (flat_map (member_at s place) is)
-    in_members place [] h there = tt
-    in_members place (i ∷ is) h there =
+    members_named place [] h there = tt
+    members_named place (i ∷ is) h there =
         all_append HasItsNames (member_at s place i) (flat_map (member_at s place) is)
-        (in_member place (out-OneofItem i) h.0
+        (member_named place (out-OneofItem i) h.0
         (there_first (types_of_member_item i) (flat_map types_of_member_item is) there))
-        (in_members place is h.1
+        (members_named place is h.1
         (there_later (types_of_member_item i) (flat_map types_of_member_item is) there))
 
-    in_item : (next behind : ℕ) (o : ItemLayer) → IsNamedItem (item_seen o) → AreThere (types_in o)
+    item_named : (next behind : ℕ) (o : ItemLayer) → IsNamedItem (item_seen o) → AreThere (types_in o)
         → AllByRecursion HasItsNames (fields_in s next behind o)
-    in_item next behind (MessageItem-F.«MessageItem::Field» f) h there = (in_oneof _ f h there, tt)
-    in_item next behind (MessageItem-F.Oneof o) h there =
-        in_members (place_of next) o.items.items (oneof_members o h) there
-    in_item next behind o h there = tt
+    item_named next behind (MessageItem-F.«MessageItem::Field» f) h there = (field_named _ f h there, tt)
+    item_named next behind (MessageItem-F.Oneof o) h there =
+        members_named (place_of next) o.items.items (oneof_members o h) there
+    item_named next behind o h there = tt
 
-    pub in_items : (next behind : ℕ) (is : List MessageItem) → Each HasNamedItem is
+    pub items_named : (next behind : ℕ) (is : List MessageItem) → Each HasNamedItem is
         → AreThere (flat_map types_at is)
         → AllByRecursion HasItsNames (fields_from s next behind is)
-    in_items next behind [] h there = tt
-    in_items next behind (i ∷ is) h there =
+    items_named next behind [] h there = tt
+    items_named next behind (i ∷ is) h there =
         all_append HasItsNames (fields_at s next behind i)
         (fields_from s (next + length (oneof_at i)) (behind + length (alone_at s i)) is)
-        (in_item next behind (out-MessageItem i) h.0
+        (item_named next behind (out-MessageItem i) h.0
         (there_first (types_at i) (flat_map types_at is) there))
-        (in_items (next + length (oneof_at i)) (behind + length (alone_at s i)) is h.1
+        (items_named (next + length (oneof_at i)) (behind + length (alone_at s i)) is h.1
         (there_later (types_at i) (flat_map types_at is) there))
 
 -- ---- extensions

@@ -16,7 +16,7 @@ use Rattle.protox_tree.specs.declared.types.Syntax.{Syntax}
 use Rattle.protox_tree.specs.declared.types.Ty.{Ty}
 use Rattle.source_laws.proofs.DeclaredTypes.{AreNamedTypes, IsNamedType, declares, items_types}
 use Rattle.source_laws.proofs.Lists.{all_so}
-use Rattle.source_laws.proofs.NamedFields.{HasItsNames, HasName, in_items, items_enums, items_extensions, no_group_number}
+use Rattle.source_laws.proofs.NamedFields.{HasItsNames, HasName, items_named, items_enums, items_extensions, no_group_number}
 use Rattle.source_laws.specs.TreeNames.{IsNoGroup}
 use Rattle.source_laws.proofs.NamedValues.{HasNamedItem}
 use Rattle.source_records.specs.SourceNames.{AreSourceMessages, AreSpelled, HasOwnNames, HasSpelledValues, IsEntry, IsGroup, IsGroupField, IsPart, IsSourceMessage, IsSpelled}
@@ -74,7 +74,7 @@ own_names : (s : Syntax) (name : Text) (items : List MessageItem) (given : Optio
 own_names s name items given fields extensions nested enums ranges oneofs options reserved names
     spelled h own inside =
     let there = declares s (flat_map types_at items) nested inside in
-    let written = in_items nested s 0 (length (flat_map oneof_at items)) items h there in
+    let written = items_named nested s 0 (length (flat_map oneof_at items)) items h there in
     let all = subst (AllByRecursion (HasItsNames nested)) (sym own.fields_are) written in
     let wrong : IsEntry options → ⊥ =
     λ e. no_entry (flat_map option_at items) (subst IsEntry own.options_are e) in
