@@ -9,3 +9,4 @@ pub mod Messages
 pub mod Options
 pub mod Orders
 pub mod Sources
+pub mod WorkedSources

@@ -1,1 +1,2 @@
 pub mod SameFaults
+pub mod WorkedSources

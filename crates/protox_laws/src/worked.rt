@@ -1,0 +1,29 @@
+//! The grammar and the rules at work, each the contract of a function that does nothing: what
+//! sources come to, by their texts, as the language specification has it.
+//!
+//! What a text spells is defined by rules that read one token after another, as the code does.
+//! These sources pin, apart from that, what they read.
+
+ghost use Rattle.protox_file.specs.Sources.{RefusedBy, Spells};
+ghost use Rattle.protox_laws.specs.WorkedSources.{at_fault, braces, in_option, messages, read, refused};
+ghost use Rattle.protox_parse.specs.Answers.{AreAtFault};
+ghost use Rattle.protox_tree.specs.FileTree.{File};
+ghost use Rattle.std.specs.List.{AllByRecursion};
+
+/// Worked sources spell these trees, and messages and braces in one another some, as deep as they
+/// may nest.
+pub fn worked_sources_are_read()
+    ensures trees { AllByRecursion (λ e. Spells e.0 e.1) read }
+    ensures levels { (tree : File) × Spells (messages 31) tree }
+    ensures braces { (tree : File) × Spells (in_option (braces 100)) tree }
+{}
+
+/// Other ones spell none, and these are their first faults.
+pub fn worked_sources_are_refused()
+    ensures { AllByRecursion (λ e. RefusedBy e.0 e.1) refused }
+{}
+
+/// Others spell trees that break a rule, and these are all their faults: one source for each rule.
+pub fn worked_sources_are_at_fault()
+    ensures { AllByRecursion (λ e. AreAtFault e.0 e.1) at_fault }
+{}
