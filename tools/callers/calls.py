@@ -28,6 +28,7 @@ with matzupol.Schema() as schema:
     refused(matzupol.UnknownTypeError, schema.decode, "p.Q", b"")
     refused(matzupol.WireError, schema.decode, "p.M", b"\x08\x96")
     assert str(refused(matzupol.TextError, schema.encode, "p.M", "foo: 1 foo: 2")) == "'foo' is already set"
+    refused(TypeError, schema.decode, "p.M", 7)
     other = matzupol.Schema()
     other.add_set(schema.set())
     assert other.set() == schema.set()

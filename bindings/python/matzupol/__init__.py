@@ -94,7 +94,8 @@ _calls = _library()
 
 
 def _bytes(text):
-    return text.encode() if isinstance(text, str) else bytes(text)
+    # a number would make so many zero bytes of itself
+    return text.encode() if isinstance(text, str) else bytes(memoryview(text))
 
 
 def _lent(*texts):
