@@ -10,3 +10,4 @@ pub mod Options
 pub mod Orders
 pub mod Sources
 pub mod WorkedSources
+pub mod Sizes

@@ -1,2 +1,3 @@
 pub mod SameFaults
+pub mod Sizes
 pub mod WorkedSources

@@ -6,6 +6,7 @@ ghost use Rattle.descriptor_records.specs.Content as records;
 ghost use Rattle.descriptor_records.specs.Content.{FileContent, LocationContent};
 ghost use Rattle.descriptor_records.specs.declared.file.FileDescriptorProto.{FileDescriptorProto};
 ghost use Rattle.protox_laws.specs.SameFaults.{IsSameFault, ReadSame, TellSame};
+ghost use Rattle.protox_laws.specs.Sizes.{IsNoSize};
 ghost use Rattle.protox_lex.specs.Class.{Text};
 ghost use Rattle.protox_lex.specs.Lines.{feeds_of};
 ghost use Rattle.protox_locate.specs.Files.{AreLocations};
@@ -18,7 +19,7 @@ ghost use Rattle.protox_tree.specs.FileTree as tree;
 ghost use Rattle.protox_tree.specs.FileView.{file_view};
 ghost use Rattle.protox_tree.specs.declared.error.ParseErrorKind.{ParseErrorKind};
 ghost use Rattle.protox_tree.specs.declared.file.File as trees;
-ghost use Rattle.std.specs.List.{AllZip};
+ghost use Rattle.std.specs.List.{AllByRecursion, AllZip};
 ghost use Rattle.std.specs.Prelude.{◌≡◌, Err, List, Ok};
 
 /// Trees that differ in their memory alone have the same records under a name, and one.
@@ -66,4 +67,11 @@ pub fn refusals_tell_the_same()
         → IsRefusalOf name z (Refused s) → TellSame r s }
     ensures printed { (r s : Refusal) → TellSame r s → (told (Refused r) ≡ told (Refused s))
         × (told_at (Refused r) ≡ told_at (Refused s)) }
+{}
+
+/// A source that is answered as `parse` answers those of less than 2^31 bytes is not told as too
+/// large.
+pub fn no_smaller_source_is_too_large()
+    ensures { (name z : Text) (r : Refusal) → IsAnswered name z (Err (Refused r))
+        → AllByRecursion IsNoSize r.faults.items }
 {}
