@@ -1,4 +1,5 @@
-ghost use Rattle.std.specs.Prelude.{◌≡◌, OnErr, IfOk, IfErr, IfSome};
+ghost use Rattle.std.specs.Prelude.{◌≡◌, OnErr, IfOk, IfErr, IfSome, map};
+ghost use Rattle.reflect_growth.specs.Settled.{bare_of};
 ghost use Rattle.reflect_tables.specs.Types.{PoolType, IsSettled};
 ghost use Rattle.reflect_names.specs.Faults.{place_of};
 ghost use Rattle.reflect_names.specs.Spans.{span_among};
@@ -23,12 +24,14 @@ pub trait ResolveOptions {
     /// "Custom Options").
     ///
     /// The error is the first fault that was met. After a refusal the pool is as it was; else
-    /// nothing but records changes.
+    /// nothing changes but the options in records and the paths of their locations.
     fn resolve_options(&mut self, alloc: Global, first: u32) -> Result<(), OptionError>
         ensures unchanged { OnErr result (holds self.new ≡ holds self.old) }
         ensures place { IfErr result (λ e. IfSome (option_place e)
             (StandsFrom (holds self.old).records first)) }
-        ensures settled { IsSettled (holds self.old) (holds self.new) };
+        ensures settled { IsSettled (holds self.old) (holds self.new) }
+        ensures bare { map bare_of (holds self.new).records
+            ≡ map bare_of (holds self.old).records };
 }
 
 impl ResolveOptions for DescriptorPool {

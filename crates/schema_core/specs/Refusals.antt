@@ -9,6 +9,7 @@ use Rattle.reflect_tables.specs.Finding.{IsFirst}
 use Rattle.reflect_tables.specs.Types.{PoolType, IsSettled}
 use Rattle.descriptor_records.specs.declared.file.FileDescriptorProto.{FileDescriptorProto}
 use Rattle.reflect_passes.specs.Errors.{Refuses}
+use Rattle.reflect_growth.specs.Settled.{bare_of}
 use Rattle.reflect_pool.specs.Dots.{without_dot}
 use Rattle.reflect_build.specs.Refusals.{FaultyFiles}
 use Rattle.reflect_wire.specs.declared.wire_error.WireError.{WireError}
@@ -89,9 +90,11 @@ abbrev pub FilesFit : PoolType → List FileDescriptorProto → PoolType → Typ
 FilesFit p files new = (typed : List FileDescriptorProto) × TypedFiles files typed
     × RecordsLinked p typed new
 
--- files are added to a pool, and what settles their options changes records alone
+-- files are added to a pool, and what settles their options changes records alone, and in these
+-- nothing but options and the paths of their locations
 abbrev pub FilesLinked : PoolType → List FileDescriptorProto → PoolType → Type 0
 FilesLinked p files new = (linked : PoolType) × FilesFit p files linked × IsSettled linked new
+    × (map bare_of new.records ≡ map bare_of linked.records)
 
 -- of files: they do not fit together; or they do and options of one of them, where the fault
 -- stands, do not suit their types

@@ -1,5 +1,6 @@
-use Rattle.std.proofs.Common.{IfErr, IfSome, subst, rules, of_calls}
+use Rattle.std.proofs.Common.{◌≡◌, IfErr, IfSome, map, subst, rules, of_calls}
 use Rattle.std.proofs.lemmas.Result.{err_from_is_err_and}
+use Rattle.reflect_growth.specs.Settled.{bare_of}
 use Rattle.reflect_tables.specs.Types.{IsSettled}
 use Rattle.linked_messages.proofs.Accepted.{accepted_sound}
 use Rattle.linked_messages.proofs.Stays.{settled_sound}
@@ -28,7 +29,8 @@ pub returns-clause-linked : goal.returns-clause-linked
 returns-clause-linked c =
     let fit : FilesFit c.args.self.now.pool c.args.files.items c.build_files.new.self = (c.copy_typed_options.new.files.items, c.copy_typed_options.ensures, (c.in_ok-build_files.ensures.added, c.in_ok-build_files.ensures.accepted)) in
     let settled : IsSettled c.build_files.new.self c.if-is_err.self.pool = elim c.if-is_err.branch [ then-is_err w ↦ search (rules, of_calls) | else-is_err w ↦ search (rules, of_calls) ] in
-    (c.build_files.new.self, fit, settled)
+    let bare : map bare_of c.if-is_err.self.pool.records ≡ map bare_of c.build_files.new.self.records = elim c.if-is_err.branch [ then-is_err w ↦ search (rules, of_calls) | else-is_err w ↦ search (rules, of_calls) ] in
+    (c.build_files.new.self, fit, settled, bare)
 
 pub invariant_of-self-else-is_err : goal.invariant_of-self-else-is_err
 invariant_of-self-else-is_err c =
