@@ -2,10 +2,12 @@
 -- Lexical Elements, Group Field, Map Field).
 use Rattle.std.specs.Prelude.{◌≡◌, ◌⊎◌, ℤ, pos, List, [], ◌∷◌, true, map, Option, None, Some, codes}
 use Rattle.std.specs.Char.{to_ascii_lowercase}
-use Rattle.std.specs.List.{AllByRecursion}
+use Rattle.std.specs.List.{AllByRecursion, list_all}
 use Rattle.descriptor_records.specs.Content.{Text, FieldContent, OptionsContent, EnumContent, EnumValueContent, MessageContent, message, MessageContents, no_messages, more_messages, messages_of, FileContent}
 use Rattle.descriptor_records.specs.FieldNumbers.{type_number}
 use Rattle.descriptor_records.specs.declared.field.FieldType.TheVariants as types
+use Rattle.protox_lex.specs.Class.{is_in}
+use Rattle.protox_lex.specs.declared.class.Class.TheVariants as class
 use Rattle.text_model.specs.Identifiers.{is_identifier, is_full_name}
 use Rattle.text_model.specs.Printed.{parts}
 
@@ -15,6 +17,11 @@ use Rattle.text_model.specs.Printed.{parts}
 abbrev pub IsSpelled : Option Text → Type 0
 IsSpelled None = ⊥
 IsSpelled (Some name) = is_identifier name ≡ true
+
+-- a name is there, of letters, digits and `_`
+abbrev pub IsWord : Option Text → Type 0
+IsWord None = ⊥
+IsWord (Some name) = list_all (is_in class.Word) name ≡ true
 
 -- a package is called by identifiers with dots between them, if there is one
 abbrev pub IsPackage : Option Text → Type 0
@@ -73,11 +80,11 @@ IsEntry (Some options) = options.map_entry ≡ Some true
 -- ---- messages and files
 
 -- What a message has beside the types in it. The type of a map's entries is named after its field, by
--- what need be no identifier, and nothing is declared in it.
+-- what may begin with a digit, and nothing is declared in it.
 pub record HasOwnNames (name : Option Text) (fields extensions : List FieldContent)
     (nested : MessageContents) (enums : List EnumContent) (options : Option OptionsContent) : Type 0
   where
-    pub named : IsSpelled name ⊎ IsEntry options
+    pub named : IsSpelled name ⊎ (IsEntry options × IsWord name)
     pub fields_are : AreSpelled fields
     pub extensions_are : AreSpelled extensions
     pub values : AllByRecursion HasSpelledValues enums

@@ -1,0 +1,33 @@
+//! Laws of pools whose names are as sources give them, each the contract of a function that does
+//! nothing: a pool has such names that files with such names were linked into, whose options were
+//! settled, and from which refused files were cut again: this gives back the pool that was there
+//! before.
+ghost use Rattle.std.specs.Prelude.{List};
+ghost use Rattle.std.specs.List.{AllByRecursion};
+ghost use Rattle.descriptor_records.specs.Content.{file_view};
+ghost use Rattle.descriptor_records.specs.declared.file.FileDescriptorProto.{FileDescriptorProto};
+ghost use Rattle.reflect_build.specs.Accepted.{FaultlessFiles};
+ghost use Rattle.reflect_pool.specs.Linked.{empty_pool};
+ghost use Rattle.reflect_tables.specs.Types.{IsSettled, PoolType};
+ghost use Rattle.message_view.specs.Sound.{IsSound};
+ghost use Rattle.source_records.specs.SourceNames.{IsSourceFile};
+ghost use Rattle.linked_names.specs.SourcePools.{IsSourcePool};
+
+/// Names of a pool without files are as sources give them.
+pub fn the_empty_pool_has_source_names()
+    ensures { IsSourcePool empty_pool }
+{}
+
+/// Where no pass finds a fault in files whose names are as sources give them, the pool that they are
+/// added to keeps names so.
+pub fn accepted_sources_keep_source_names()
+    ensures { (old new : PoolType) (files : List FileDescriptorProto)
+        → IsSound old → FaultlessFiles old files new
+        → AllByRecursion (λ (f : FileDescriptorProto). IsSourceFile (file_view f)) files
+        → IsSourcePool old → IsSourcePool new }
+{}
+
+/// So it does where options are settled, which changes the records of files alone.
+pub fn settled_pools_keep_source_names()
+    ensures { (old new : PoolType) → IsSettled old new → IsSourcePool old → IsSourcePool new }
+{}
