@@ -46,7 +46,7 @@ use Rattle.linked_names.proofs.Dots.{outer_join}
 use Rattle.linked_names.proofs.Known.{some_known, given_known, given_new, from_given, file_given, gives_name, in_gives, along_free, weight, given_weight}
 use Rattle.linked_names.proofs.Lists.{index_none, get_in, mapped, later_is, which, IsLater}
 
-texts_same : (o : Option (String Global)) → views.text_of o ≡ text_of o
+pub texts_same : (o : Option (String Global)) → views.text_of o ≡ text_of o
 texts_same None = refl
 texts_same (Some s) = refl
 
@@ -318,7 +318,7 @@ module _ (old new : PoolType) (ns : List FileDescriptorProto) (w : Linking) (is 
           | inr (inl later) ↦ new_package later.place later.own later.at
             (sym (texts_same later.own.package)
             ∙ ap (λ (t : FileType). t.package_name) (sym later.is) ∙ same) some
-          | inr (inr none) ↦ some (sym same ∙ ap (λ (t : FileType). t.package_name) none)
+          | inr (inr none) ↦ some (sym same ∙ ap (λ (t : FileType). t.package_name) none.1)
         ]
 
     -- so no type has a name in that of a field

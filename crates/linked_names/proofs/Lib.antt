@@ -1,1 +1,9 @@
 mod Dots
+mod Lists
+mod Sourced
+mod Known
+mod Apart
+mod Batch
+mod Groups
+mod Stored
+mod Entries

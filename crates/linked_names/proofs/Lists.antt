@@ -1,5 +1,5 @@
 -- What stands at a place of a list that goes on behind another.
-use Rattle.std.proofs.Common.{◌≡◌, ◌⊎◌, inl, inr, ◌<◌, ◌≤◌, ◌+◌, ◌-◌, ◌++◌, ℕ, zero, suc, List, [], ◌∷◌, map, length, Option, None, Some, slice_get, slice_index_or, refl, sym, ap, ◌∙◌, subst, arith}
+use Rattle.std.proofs.Common.{◌≡◌, ◌⊎◌, inl, inr, ◌<◌, ◌≤◌, ◌+◌, ◌-◌, ◌++◌, ℕ, zero, suc, List, [], ◌∷◌, map, length, length-append, Option, None, Some, slice_get, slice_index_or, refl, sym, ap, ◌∙◌, subst, arith}
 use Rattle.std.proofs.lemmas.Bool.{cases_lt}
 use Rattle.std.proofs.Math.ListN.{get_or-append}
 use Rattle.std.proofs.Math.Seq.{get_or-append_right, get_or-append-add}
@@ -34,7 +34,8 @@ pub record IsLater {X Y : Type 0} (g : X → Y) (xs : List Y) (ys : List X) (i :
 pub which : {X Y : Type 0} (g : X → Y) (xs zs : List Y) (ys : List X) (i : ℕ) (d : Y)
     → zs ≡ xs ++ map g ys
     → ((i < length xs) × (slice_index_or zs i d ≡ slice_index_or xs i d))
-    ⊎ (IsLater g xs ys i (slice_index_or zs i d) ⊎ (slice_index_or zs i d ≡ d))
+    ⊎ (IsLater g xs ys i (slice_index_or zs i d)
+    ⊎ ((length zs ≤ i) × (slice_index_or zs i d ≡ d)))
 which {X} {Y} g xs zs ys i d whole = by (cases_lt i (length xs)) where
   at : (i : ℕ) → slice_index_or zs i d ≡ slice_index_or (xs ++ map g ys) i d
   at i = ap (λ (l : List Y). slice_index_or l i d) whole
@@ -49,11 +50,13 @@ which {X} {Y} g xs zs ys i d whole = by (cases_lt i (length xs)) where
 
   by : (i < length xs) ⊎ (length xs ≤ i)
       → ((i < length xs) × (slice_index_or zs i d ≡ slice_index_or xs i d))
-      ⊎ (IsLater g xs ys i (slice_index_or zs i d) ⊎ (slice_index_or zs i d ≡ d))
+      ⊎ (IsLater g xs ys i (slice_index_or zs i d)
+      ⊎ ((length zs ≤ i) × (slice_index_or zs i d ≡ d)))
   by (inl lt) = inl (lt, at i ∙ get_or-append xs (map g ys) d i lt)
   by (inr le) =
       let k = i - length xs in
       let behind = at i ∙ get_or-append_right xs (map g ys) i d le in
+      let count = ap (λ (l : List Y). length l) whole ∙ length-append xs (map g ys) in
       inr (elim (found ys k) [
         | inl (x, there) ↦ inl (record {
           place = k;
@@ -62,7 +65,10 @@ which {X} {Y} g xs zs ys i d whole = by (cases_lt i (length xs)) where
           at = there;
           is = behind ∙ index_is (map g ys) k (g x) d (get_map g ys k x there);
         })
-        | inr none ↦ inr (behind ∙ index_none (map g ys) k d none)
+        | inr none ↦ inr (
+          omega (arith, le, none, count),
+          behind ∙ index_none (map g ys) k d none,
+        )
       ])
 
 -- and back
