@@ -40,7 +40,7 @@ use Rattle.linked_view.proofs.Faults.{none_both}
 use Rattle.linked_view.proofs.Given.{Giving, known_by, Free, free_to}
 use Rattle.linked_view.proofs.Named.{given, known_is_given}
 use Rattle.linked_view.proofs.Walked.{seen_body}
-use Rattle.linked_names.specs.SourcePools.{scope_of, IsScoped}
+use Rattle.linked_names.specs.SourcePools.{scope_in, scope_of, IsScoped}
 use Rattle.linked_names.proofs.Apart.{IsApart, batch_apart}
 use Rattle.linked_names.proofs.Dots.{outer_join}
 use Rattle.linked_names.proofs.Known.{some_known, given_known, given_new, from_given, file_given, gives_name, in_gives, along_free, weight, given_weight}
@@ -335,10 +335,7 @@ module _ (old new : PoolType) (ns : List FileDescriptorProto) (w : Linking) (is 
           its : IsScoped new (type_at new i)
           its = scoped i type.there
 
-          by : (o : Option ℕ) → elim o [
-            | None ↦ (file_type_at new (type_at new i).file).package_name
-            | Some p ↦ (type_at new p).full_name
-          ] ≡ d.name → ⊥
+          by : (o : Option ℕ) → scope_in new o (type_at new i).file ≡ d.name → ⊥
           by None same = field_no_package (type_at new i).file same some
           by (Some p) same = elim (cases_lt p (length new.messages)) [
             | inl lt ↦ field_no_type d r h body p (type_at new p).file

@@ -7,3 +7,6 @@ mod Batch
 mod Groups
 mod Stored
 mod Entries
+mod Kept
+mod Accepted
+mod Stays

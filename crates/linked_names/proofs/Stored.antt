@@ -46,7 +46,7 @@ use Rattle.linked_messages.proofs.Declared.{FieldDeclared, field_declared, Exten
 use Rattle.linked_messages.proofs.Defaults.{IsHeld}
 use Rattle.linked_messages.proofs.Faultless.{of_along}
 use Rattle.linked_view.proofs.Accepted.{kept_at}
-use Rattle.linked_names.specs.SourcePools.{scope_of, IsScoped}
+use Rattle.linked_names.specs.SourcePools.{scope_in, scope_of, IsScoped}
 use Rattle.linked_names.proofs.Apart.{IsApart, Apart, field_text, value_text}
 use Rattle.linked_names.proofs.Batch.{ds, known, b, are_apart, message_known, field_known, message_at, same_message, type_named, types_are, texts_same, first_is}
 use Rattle.linked_names.proofs.Groups.{group_meant}
@@ -302,10 +302,7 @@ module _ (old new : PoolType) (ns : List FileDescriptorProto) (w : Linking) (is 
         ∙ ap (λ (p : PoolType). p.files ++ map record_file ns) is.tables
 
     scope_named : (o : Option ℕ) (n : ℕ) (s : Text) → IsScopeOf ns w.first all o n s
-        → elim o [
-          | None ↦ (file_type_at new n).package_name
-          | Some p ↦ (type_at new p).full_name
-        ] ≡ s
+        → scope_in new o n ≡ s
     scope_named None n s (f, same) =
         let place : n ≡ length old.files + f.place =
         f.index ∙ ap (λ k. k + f.place) (first_is old new ns w is pooled names batch) in
@@ -326,10 +323,7 @@ module _ (old new : PoolType) (ns : List FileDescriptorProto) (w : Linking) (is 
         let h = headed k m at in
         let src = message_sourced h.declaration h.own h.here h.body in
         let scope : scope_of new (message_of m) ≡ src.scope =
-        (λ i. elim (h.parent i) [
-          | None ↦ (file_type_at new (h.file i)).package_name
-          | Some p ↦ (type_at new p).full_name
-        ]) ∙ scope_named h.declaration.parent h.declaration.file src.scope src.scoped in
+        (λ i. scope_in new (h.parent i) (h.file i)) ∙ scope_named h.declaration.parent h.declaration.file src.scope src.scoped in
         record {
           full = h.full_name ∙ src.called
               ∙ (λ i. join (sym scope i) (sym h.name i));

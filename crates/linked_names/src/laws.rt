@@ -10,12 +10,20 @@ ghost use Rattle.reflect_build.specs.Accepted.{FaultlessFiles};
 ghost use Rattle.reflect_pool.specs.Linked.{empty_pool};
 ghost use Rattle.reflect_tables.specs.Types.{IsSettled, PoolType};
 ghost use Rattle.message_view.specs.Sound.{IsSound};
+ghost use Rattle.text_view.specs.SourceNames.{HaveOwnNames};
 ghost use Rattle.source_records.specs.SourceNames.{IsSourceFile};
 ghost use Rattle.linked_names.specs.SourcePools.{IsSourcePool};
 
 /// Names of a pool without files are as sources give them.
 pub fn the_empty_pool_has_source_names()
     ensures { IsSourcePool empty_pool }
+{}
+
+/// Where no pass finds a fault in files, the names of a pool's fields, of its enums' values and of its
+/// extensions stay apart, whatever gives them.
+pub fn accepted_files_keep_names_apart()
+    ensures { (old new : PoolType) (files : List FileDescriptorProto)
+        → IsSound old → FaultlessFiles old files new → HaveOwnNames old → HaveOwnNames new }
 {}
 
 /// Where no pass finds a fault in files whose names are as sources give them, the pool that they are
