@@ -1,31 +1,28 @@
 -- A batch that is accepted keeps a pool's names apart, and as sources give them.
-use Rattle.std.proofs.Common.{◌≡◌, [], ◌⊎◌, inl, inr, ◌<◌, ◌≤◌, ◌++◌, ℕ, true, List, map, filter, length, Option, None, Some, slice_get, slice_index_or, refl, sym, ap, ◌∙◌, subst, arith}
+use Rattle.std.proofs.Common.{◌≡◌, [], ◌⊎◌, inl, inr, ◌<◌, ◌≤◌, ◌++◌, ℕ, true, List, map, length, Option, Some, slice_index_or, sym, ap, ◌∙◌, subst, arith}
 use Rattle.std.specs.List.{AllByRecursion}
 use Rattle.descriptor_records.specs.Content.{file_view}
 use Rattle.descriptor_records.specs.declared.file.FileDescriptorProto.{FileDescriptorProto}
 use Rattle.reflect_walk.specs.Declarations.{Declaration}
 use Rattle.reflect_passes.specs.NameFaults.{name_faults}
-use Rattle.reflect_tables.specs.Names.{FullName, extension_name, extensions, found, names_of}
-use Rattle.reflect_tables.specs.Types.{PoolType, FieldType, MessageType, EnumType, ExtensionType, ValueType, ArePooled, no_type, no_enum, no_extension, type_at, type_of_field, enum_at, extension_at}
+use Rattle.reflect_tables.specs.Names.{extension_name, extensions, found}
+use Rattle.reflect_tables.specs.Types.{PoolType, FieldType, MessageType, EnumType, ExtensionType, ArePooled, no_type, no_enum, no_extension, type_at, type_of_field, enum_at, extension_at}
 use Rattle.reflect_tables.specs.Views.{message_of, enum_of, extension_of, record_file}
-use Rattle.reflect_tables.specs.declared.stored.StoredEnum.{StoredEnum}
 use Rattle.reflect_tables.specs.declared.stored.StoredEntry.{StoredEntry}
-use Rattle.reflect_tables.specs.declared.stored.StoredMessage.{StoredMessage}
-use Rattle.reflect_tables.specs.declared.stored.StoredExtension.{StoredExtension}
 use Rattle.reflect_index.specs.declared.batch.Batch.{Batch}
-use Rattle.reflect_pool.specs.Parts.{no_value, type_of_value}
+use Rattle.reflect_pool.specs.Parts.{no_value}
 use Rattle.reflect_build.specs.Accepted.{FaultlessBatch, FaultlessFiles}
 use Rattle.reflect_build.specs.Refusals.{Linking, with_declared, IsOf, is_unknown, new_files}
 use Rattle.text_model.specs.Identifiers.{is_identifier, is_full_name}
 use Rattle.text_model.specs.Printed.{parts}
 use Rattle.message_view.specs.Sound.{IsSound}
-use Rattle.text_view.specs.SourceNames.{HaveOwnNames, IsGroupField, HasPartNames, HasSourceNames}
+use Rattle.text_view.specs.SourceNames.{HaveOwnNames, IsGroupField, HasPartNames}
 use Rattle.source_records.specs.SourceNames.{IsSourceFile}
 use Rattle.linked_messages.proofs.Among.{Among, of_all, all_of, of_filter, of_place, in_map, get_at, get_map}
 use Rattle.linked_names.specs.SourcePools.{IsScoped, IsSourcePool}
 use Rattle.linked_names.proofs.Batch.{ds, known, types_are, extensions_are, extensions_found}
 use Rattle.linked_names.proofs.Entries.{entry_named}
-use Rattle.linked_names.proofs.Kept.{field_same, there_same, scope_stays, group_stays, parts_stay}
+use Rattle.linked_names.proofs.Kept.{field_same, scope_stays, group_stays, parts_stay}
 use Rattle.linked_names.proofs.Lists.{which, IsLater}
 use Rattle.linked_names.proofs.Sourced.{IsSourced, batch_sourced}
 use Rattle.linked_names.proofs.Stored.{names_apart, enum_of_batch, values_apart, new_scoped, field_spelled, group_spelled, value_spelled, extension_spelled}
@@ -90,7 +87,7 @@ module _ (old new : PoolType) (ns : List FileDescriptorProto) (w : Linking) (is 
         (subst (λ (t : MessageType). k < length t.fields) type less)
         (sym (at j) ∙ same ∙ at k))
     | inr (inl later) ↦ names_apart old new ns w is pooled names batch i later.place later.own
-      later.at later.is j k lt less same
+        later.at later.is j k lt less same
     | inr (inr none) ↦ absurd (no_field_there i j none.1 lt)
   ]
 
@@ -98,8 +95,8 @@ module _ (old new : PoolType) (ns : List FileDescriptorProto) (w : Linking) (is 
   enum_apart own i = elim (which_enum i) [
     | inl (here, same) ↦ subst AreApartIn (sym same) (own.values i)
     | inr (inl later) ↦ subst AreApartIn (sym later.is)
-      (values_apart old new ns w is pooled names batch later.own
-      (enum_of_batch old new ns w is pooled names batch later.place later.own later.at))
+        (values_apart old new ns w is pooled names batch later.own
+        (enum_of_batch old new ns w is pooled names batch later.place later.own later.at))
     | inr (inr none) ↦ subst AreApartIn (sym none.1) (λ j k lt less e. absurd (omega (arith, lt)))
   ]
 
@@ -132,9 +129,9 @@ module _ (old new : PoolType) (ns : List FileDescriptorProto) (w : Linking) (is 
     scoped : (i : ℕ) → i < length new.messages → IsScoped new (type_at new i)
     scoped i lt = elim (which_type i) [
       | inl (here, same) ↦ scope_stays old new b (map record_file ns) pooled files_are messages_are
-        enums_are i here (pool.scoped i here)
+          enums_are i here (pool.scoped i here)
       | inr (inl later) ↦ subst (IsScoped new) (sym later.is)
-        (new_scoped old new ns w is pooled names batch sourced later.place later.own later.at)
+          (new_scoped old new ns w is pooled names batch sourced later.place later.own later.at)
       | inr (inr none) ↦ (let le = none.0 in absurd (omega (arith, le, lt)))
     ]
 
@@ -142,10 +139,11 @@ module _ (old new : PoolType) (ns : List FileDescriptorProto) (w : Linking) (is 
         → is_identifier (type_of_field new i j).name ≡ true
     fields i j lt = elim (which_type i) [
       | inl (here, type) ↦ ap (λ (f : FieldType). is_identifier f.name)
-        (field_same old new b (map record_file ns) pooled files_are messages_are enums_are i here j)
-        ∙ pool.names.fields i j (subst (λ (t : MessageType). j < length t.fields) type lt)
+          (field_same old new b (map record_file ns) pooled files_are messages_are enums_are i here
+          j)
+          ∙ pool.names.fields i j (subst (λ (t : MessageType). j < length t.fields) type lt)
       | inr (inl later) ↦ field_spelled old new ns w is pooled names batch sourced i later.place
-        later.own later.at later.is j lt
+          later.own later.at later.is j lt
       | inr (inr none) ↦ absurd (no_field_there i j none.1 lt)
     ]
 
@@ -157,8 +155,8 @@ module _ (old new : PoolType) (ns : List FileDescriptorProto) (w : Linking) (is 
     values i = elim (which_enum i) [
       | inl (here, same) ↦ subst AreSpelledIn (sym same) (pool.names.values i)
       | inr (inl later) ↦ subst AreSpelledIn (sym later.is)
-        (value_spelled old new ns w is pooled names batch sourced later.own
-        (enum_of_batch old new ns w is pooled names batch later.place later.own later.at))
+          (value_spelled old new ns w is pooled names batch sourced later.own
+          (enum_of_batch old new ns w is pooled names batch later.place later.own later.at))
       | inr (inr none) ↦ subst AreSpelledIn (sym none.1) (λ j lt. absurd (omega (arith, lt)))
     ]
 
@@ -168,13 +166,14 @@ module _ (old new : PoolType) (ns : List FileDescriptorProto) (w : Linking) (is 
         elim (which extension_of old.extensions new.extensions b.extensions.items k no_extension
         (extensions_are old new ns w is pooled names batch)) [
           | inl (here, same) ↦
-            ap (λ (x : ExtensionType). is_full_name (parts x.field.full_name)) same
-            ∙ pool.names.extensions k here
+              ap (λ (x : ExtensionType). is_full_name (parts x.field.full_name)) same
+              ∙ pool.names.extensions k here
           | inr (inl later) ↦
-            ap (λ (x : ExtensionType). is_full_name (parts x.field.full_name)) later.is
-            ∙ extension_spelled old new ns w is pooled names batch sourced (extension_of later.own)
-            (in_map extension_of later.own b.extensions.items
-            (of_place later.own b.extensions.items later.place later.at))
+              ap (λ (x : ExtensionType). is_full_name (parts x.field.full_name)) later.is
+              ∙ extension_spelled old new ns w is pooled names batch sourced
+              (extension_of later.own)
+              (in_map extension_of later.own b.extensions.items
+              (of_place later.own b.extensions.items later.place later.at))
           | inr (inr none) ↦ (let le = none.0 in absurd (omega (arith, le, lt)))
         ]
 
@@ -183,24 +182,25 @@ module _ (old new : PoolType) (ns : List FileDescriptorProto) (w : Linking) (is 
     groups i j lt group = elim (which_type i) [
       | inl (here, type) ↦ (
           let less = subst (λ (t : MessageType). j < length t.fields) type lt in
-          group_stays old new b (map record_file ns) pooled files_are messages_are enums_are i here j
+          group_stays old new b (map record_file ns) pooled files_are messages_are enums_are i here
+          j
           less (pool.names.groups i j less (sym (ap (λ (f : FieldType). f.group)
           (field_same old new b (map record_file ns) pooled files_are messages_are enums_are i here
           j)) ∙ group)))
       | inr (inl later) ↦ group_spelled old new ns w is pooled names batch sourced i later.place
-        later.own later.at later.is scoped j lt group
+          later.own later.at later.is scoped j lt group
       | inr (inr none) ↦ absurd (no_field_there i j none.1 lt)
     ]
 
     entries : (i : ℕ) (e : StoredEntry) → (type_at new i).entry ≡ Some e → HasPartNames new i e
     entries i e has = elim (which_type i) [
       | inl (here, type) ↦ parts_stay old new b (map record_file ns) pooled files_are messages_are
-        enums_are i here e
-        (pool.names.entries i e (sym (ap (λ (t : MessageType). t.entry) type) ∙ has))
+          enums_are i here e
+          (pool.names.entries i e (sym (ap (λ (t : MessageType). t.entry) type) ∙ has))
       | inr (inl later) ↦ entry_named old new ns w is pooled names batch sourced i later.place
-        later.own later.at later.is e has
+          later.own later.at later.is e has
       | inr (inr none) ↦
-        absurd (cc (sym (ap (λ (t : MessageType). t.entry) none.1) ∙ has))
+          absurd (cc (sym (ap (λ (t : MessageType). t.entry) none.1) ∙ has))
     ]
 
     pub source_pool : IsSourcePool new

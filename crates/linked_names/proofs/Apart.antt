@@ -1,5 +1,5 @@
 -- Where no name is given twice, no two fields of a message have one, nor two values of an enum.
-use Rattle.std.proofs.Common.{◌≡◌, ◌∙◌, ◌+◌, ◌≤◌, ◌<◌, ◌⊎◌, inl, inr, ◌++◌, ℕ, zero, suc, ℤ, pos, Bool, true, not, cond, List, [], ◌∷◌, map, Option, None, Some, is_some, sum_by, slice_get, refl, sym, ap, subst, arith}
+use Rattle.std.proofs.Common.{◌≡◌, ◌∙◌, ◌+◌, ◌≤◌, ◌<◌, ◌⊎◌, inl, inr, ◌++◌, ℕ, zero, suc, ℤ, pos, true, not, cond, List, [], ◌∷◌, Option, None, Some, is_some, sum_by, slice_get, refl, sym, ap, subst, arith}
 use Rattle.std.proofs.lemmas.Bool.{cases_lt}
 use Rattle.std.proofs.lemmas.List.Sums.{sum_by-cons, sum_by-append}
 use Rattle.std.specs.List.{AllByRecursion}
@@ -7,23 +7,21 @@ use Rattle.descriptor_records.specs.Content.{Text}
 use Rattle.descriptor_records.specs.declared.enums.EnumDescriptorProto.{EnumDescriptorProto}
 use Rattle.descriptor_records.specs.declared.enums.EnumValueDescriptorProto.{EnumValueDescriptorProto}
 use Rattle.descriptor_records.specs.declared.field.FieldDescriptorProto.{FieldDescriptorProto}
-use Rattle.descriptor_records.specs.declared.field.OneofDescriptorProto.{OneofDescriptorProto}
 use Rattle.descriptor_records.specs.declared.file.FileDescriptorProto.{FileDescriptorProto}
-use Rattle.descriptor_records.specs.declared.service.MethodDescriptorProto.{MethodDescriptorProto}
 use Rattle.descriptor_records.specs.declared.service.ServiceDescriptorProto.{ServiceDescriptorProto}
 use Rattle.reflect_scope.specs.Means.{join}
 use Rattle.reflect_walk.specs.Batches.{batch_declarations}
-use Rattle.reflect_walk.specs.Declarations.{Declaration, Body, of_file, of_message, of_field, of_oneof, of_enum, of_enum_value, of_service, of_method, of_extension, each, entry, field_declaration, enum_value_declaration, one_field, one_oneof, one_value, one_enum, one_method, one_service, one_extension, past_message, past_tree, past_trees, past_file, trees_of, tree_declarations, trees_declarations, file_declaration, file_declarations}
-use Rattle.reflect_walk.specs.Tree.{text_of, MessageParts, Message, message, Messages, no_messages, more_messages}
+use Rattle.reflect_walk.specs.Declarations.{Declaration, of_message, of_enum, each, entry, field_declaration, enum_value_declaration, one_field, one_oneof, one_value, one_enum, one_method, one_service, one_extension, past_message, past_tree, past_trees, past_file, trees_of, tree_declarations, trees_declarations, file_declaration, file_declarations}
+use Rattle.reflect_walk.specs.Tree.{text_of, Message, message, Messages, no_messages, more_messages}
 use Rattle.reflect_walk.specs.declared.visit_parts.Offsets.{Offsets}
 use Rattle.reflect_known.specs.KnownNames.{definition_of}
 use Rattle.reflect_pool.proofs.Grown.{all_behind}
 use Rattle.linked_messages.proofs.Among.{Among, in_first, in_second, of_all}
-use Rattle.linked_view.proofs.Completes.{gives, IsCompleteBody}
+use Rattle.linked_view.proofs.Completes.{IsCompleteBody}
 use Rattle.linked_view.proofs.Counts.{one_if, bytes_refl}
 use Rattle.linked_view.proofs.Given.{other_in, other_at, others}
 use Rattle.linked_view.proofs.Walked.{seen_body}
-use Rattle.linked_names.proofs.Known.{Gives, gives_name, weight}
+use Rattle.linked_names.proofs.Known.{gives_name, weight}
 
 -- no two of them are called alike
 abbrev pub Apart : {A : Type 0} → (A → Text) → List A → Type 0
@@ -249,7 +247,8 @@ module _ (ds : List Declaration)
       let all = spread_behind (file_declaration [] i f) (inner ++ (enums ++ last)) h in (
         tt,
         join_apart inner (enums ++ last)
-            (trees_apart [] (pos 4) n i None 0 o (trees_of f) (spread_first inner (enums ++ last) all))
+            (trees_apart [] (pos 4) n i None 0 o (trees_of f)
+            (spread_first inner (enums ++ last) all))
             (join_apart enums last
             (enums_apart [] (pos 5) n i None past.enums 0 f.enum_type.items
             (spread_first enums last (spread_second inner (enums ++ last) all)))

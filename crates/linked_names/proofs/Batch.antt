@@ -1,5 +1,5 @@
 -- What is known behind files in which no pass finds a fault, and which types stand where.
-use Rattle.std.proofs.Common.{◌≡◌, ◌⊎◌, inl, inr, ◌<◌, ◌≤◌, ◌+◌, ◌-◌, ◌++◌, ℕ, zero, suc, Bool, true, false, List, [], ◌∷◌, map, length, Option, None, Some, is_some, sum_by, String, Global, slice_get, slice_index_or, refl, sym, ap, ◌∙◌, subst, arith}
+use Rattle.std.proofs.Common.{◌≡◌, inl, inr, ◌<◌, ◌≤◌, ◌+◌, ◌++◌, ℕ, zero, suc, true, false, List, [], ◌∷◌, map, length, Option, None, Some, is_some, String, Global, slice_get, slice_index_or, refl, sym, ap, ◌∙◌, subst, arith}
 use Rattle.std.proofs.lemmas.Bool.{cases_lt}
 use Rattle.std.proofs.lemmas.List.{map-append, append-nil, length-map}
 use Rattle.std.specs.List.{AllByRecursion}
@@ -8,11 +8,10 @@ use Rattle.descriptor_records.specs.declared.field.FieldDescriptorProto.{FieldDe
 use Rattle.descriptor_records.specs.declared.file.FileDescriptorProto.{FileDescriptorProto}
 use Rattle.reflect_scope.specs.declared.definition.Definition.{Definition}
 use Rattle.reflect_scope.specs.declared.definition.DefinitionKind.TheVariants as kind
-use Rattle.reflect_scope.specs.FileIndexes.{Indexes}
 use Rattle.reflect_scope.specs.Known.{Known, is_package}
 use Rattle.reflect_scope.specs.Means.{join, has_dot, outer}
-use Rattle.reflect_walk.specs.Batches.{batch_declarations, past_files}
-use Rattle.reflect_walk.specs.Declarations.{Declaration, Body, of_file, of_message, of_field, file_declaration, file_declarations, past_file}
+use Rattle.reflect_walk.specs.Batches.{batch_declarations}
+use Rattle.reflect_walk.specs.Declarations.{Declaration, of_message, of_field, file_declaration, file_declarations, past_file}
 use Rattle.reflect_walk.specs.Tree.{text_of, MessageParts}
 use Rattle.reflect_walk.specs.declared.visit_parts.Offsets.{Offsets}
 use Rattle.reflect_known.specs.DeclaredNames.{with_names}
@@ -23,11 +22,10 @@ use Rattle.reflect_names.specs.NamePass.{faults_along}
 use Rattle.reflect_index.specs.DraftNames.{stored_message_name, stored_extension_name}
 use Rattle.reflect_index.specs.declared.batch.Batch.{Batch}
 use Rattle.reflect_index.proofs.Batched.{Stand, batch_stands, names_behind}
-use Rattle.reflect_index.proofs.Known.{offset}
 use Rattle.reflect_index.proofs.Orders.{AreUpTo}
 use Rattle.reflect_passes.specs.NameFaults.{name_faults}
-use Rattle.reflect_tables.specs.Names.{Sort, FullName, AreFound, found, place_in, place_of, with_file, names_of, message_name, extension_name, messages, extensions}
-use Rattle.reflect_tables.specs.Types.{PoolType, MessageType, ExtensionType, FileType, ArePooled, MessageWithin, ExtensionWithin, counts_of, no_type, no_extension, type_at, extension_at}
+use Rattle.reflect_tables.specs.Names.{Sort, FullName, AreFound, found, place_in, names_of, message_name, extension_name, messages, extensions}
+use Rattle.reflect_tables.specs.Types.{PoolType, MessageType, FileType, ArePooled, MessageWithin, ExtensionWithin, counts_of, no_type, type_at}
 use Rattle.reflect_tables.specs.Views.{file_of, record_of, record_file, message_of, extension_of, pool_of}
 use Rattle.reflect_tables.specs.Views as views
 use Rattle.reflect_tables.specs.declared.stored.StoredFile.{StoredFile}
@@ -35,7 +33,7 @@ use Rattle.reflect_link.specs.FileTypes.{no_file, file_type_at}
 use Rattle.reflect_build.specs.Accepted.{FaultlessBatch}
 use Rattle.reflect_build.specs.Refusals.{Linking, with_declared, IsOf}
 use Rattle.linked_messages.proofs.Among.{Among, of_all, in_second, get_at, get_map, got_map, index_is}
-use Rattle.linked_view.proofs.Completes.{gives, IsCompleteBody}
+use Rattle.linked_view.proofs.Completes.{IsCompleteBody}
 use Rattle.linked_view.proofs.Faults.{none_both}
 use Rattle.linked_view.proofs.Given.{Giving, known_by, Free, free_to}
 use Rattle.linked_view.proofs.Named.{given, known_is_given}
@@ -43,8 +41,8 @@ use Rattle.linked_view.proofs.Walked.{seen_body}
 use Rattle.linked_names.specs.SourcePools.{scope_in, scope_of, IsScoped}
 use Rattle.linked_names.proofs.Apart.{IsApart, batch_apart}
 use Rattle.linked_names.proofs.Dots.{outer_join}
-use Rattle.linked_names.proofs.Known.{some_known, given_known, given_new, from_given, file_given, gives_name, in_gives, along_free, weight, given_weight}
-use Rattle.linked_names.proofs.Lists.{index_none, get_in, mapped, later_is, which, IsLater}
+use Rattle.linked_names.proofs.Known.{some_known, given_known, given_new, from_given, file_given, gives_name, in_gives, along_free, given_weight}
+use Rattle.linked_names.proofs.Lists.{index_none, get_in, mapped, which}
 
 pub texts_same : (o : Option (String Global)) → views.text_of o ≡ text_of o
 texts_same None = refl
@@ -73,7 +71,8 @@ up_to name P n step [] all = tt
 up_to name P n step (y ∷ ys) all = (step y all.0, up_to name P n step ys all.1)
 
 -- a definition of a message or of an extension has a place among those
-message_place : (o : Option Definition) (n i : ℕ) → o ≡ Some (record { file = n; kind = kind.Message i })
+message_place : (o : Option Definition) (n i : ℕ)
+    → o ≡ Some (record { file = n; kind = kind.Message i })
     → place_in messages o ≡ Some (i, n)
 message_place o n i e = ap (place_in messages) e
 
@@ -316,8 +315,8 @@ module _ (old new : PoolType) (ns : List FileDescriptorProto) (w : Linking) (is 
               old_package n x.0 x.1 (sym (texts_same x.0.record.package)
               ∙ ap (λ (t : FileType). t.package_name) (x.2 ∙ sym at) ∙ same) some)
           | inr (inl later) ↦ new_package later.place later.own later.at
-            (sym (texts_same later.own.package)
-            ∙ ap (λ (t : FileType). t.package_name) (sym later.is) ∙ same) some
+              (sym (texts_same later.own.package)
+              ∙ ap (λ (t : FileType). t.package_name) (sym later.is) ∙ same) some
           | inr (inr none) ↦ some (sym same ∙ ap (λ (t : FileType). t.package_name) none.1)
         ]
 
@@ -339,7 +338,7 @@ module _ (old new : PoolType) (ns : List FileDescriptorProto) (w : Linking) (is 
           by None same = field_no_package (type_at new i).file same some
           by (Some p) same = elim (cases_lt p (length new.messages)) [
             | inl lt ↦ field_no_type d r h body p (type_at new p).file
-              (named_type p lt ∙ ap (λ s. Some (s, (type_at new p).file)) same)
+                (named_type p lt ∙ ap (λ s. Some (s, (type_at new p).file)) same)
             | inr le ↦ some (sym same
-              ∙ ap (λ (t : MessageType). t.full_name) (index_none new.messages p no_type le))
+                ∙ ap (λ (t : MessageType). t.full_name) (index_none new.messages p no_type le))
           ]

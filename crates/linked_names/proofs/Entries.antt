@@ -1,6 +1,5 @@
 -- The parts of maps' entries, by their records.
-use Rattle.std.proofs.Common.{◌≡◌, ◌⊎◌, inl, inr, ◌<◌, ◌+◌, ◌&&◌, ◌==◌, not, ℕ, zero, suc, ℤ, pos, Bool, true, false, cond, List, [], ◌∷◌, map, filter, length, Option, None, Some, unwrap_or, option_map, String, Global, string_bytes, codes, slice_get, slice_index_or, refl, sym, ap, ◌∙◌, subst, arith}
-use Rattle.std.specs.List.{find}
+use Rattle.std.proofs.Common.{◌≡◌, ◌⊎◌, inl, inr, ◌<◌, ◌&&◌, ◌==◌, not, ℕ, zero, suc, ℤ, pos, Bool, true, false, List, [], ◌∷◌, map, length, Option, None, Some, unwrap_or, option_map, String, Global, string_bytes, codes, slice_get, refl, sym, ap, ◌∙◌, subst, arith}
 use Rattle.std.specs.Option.{option_and_then}
 use Rattle.descriptor_records.specs.Content.{Text, FieldContent, text_view, field_view, options_view}
 use Rattle.descriptor_records.specs.FieldNumbers.{type_number}
@@ -8,15 +7,14 @@ use Rattle.descriptor_records.specs.declared.field.FieldDescriptorProto.{FieldDe
 use Rattle.descriptor_records.specs.declared.field.FieldType.TheVariants as numbers
 use Rattle.descriptor_records.specs.declared.file.FileDescriptorProto.{FileDescriptorProto}
 use Rattle.descriptor_records.specs.declared.options.Options.{Options}
-use Rattle.reflect_walk.specs.Declarations.{Declaration, of_message}
+use Rattle.reflect_walk.specs.Declarations.{Declaration}
 use Rattle.reflect_walk.specs.MapEntries.{says_entry, is_true}
-use Rattle.reflect_walk.specs.Tree.{text_of}
 use Rattle.reflect_fields.specs.Fields.{natural}
 use Rattle.reflect_fields.specs.FieldDefaults.{IsDefault, IsWritten}
 use Rattle.reflect_passes.specs.NameFaults.{name_faults}
 use Rattle.reflect_index.specs.Entry.{KeepsEntry}
 use Rattle.reflect_index.specs.OfDeclarations.{messages_in, stored_ranges}
-use Rattle.reflect_tables.specs.Types.{PoolType, FieldType, KindType, DefaultType, MessageType, ExtensionType, ArePooled, no_field, type_at, type_of_field}
+use Rattle.reflect_tables.specs.Types.{PoolType, FieldType, KindType, DefaultType, MessageType, ArePooled, no_field, type_at, type_of_field}
 use Rattle.reflect_tables.specs.Views.{message_of}
 use Rattle.reflect_tables.specs.declared.stored.StoredEntry.{StoredEntry}
 use Rattle.reflect_tables.specs.declared.stored.StoredMessage.{StoredMessage}
@@ -29,7 +27,7 @@ use Rattle.protobuf_model.specs.Types.{oneof_of, same_oneof, rival}
 use Rattle.message_view.specs.Types.{either_field, field_at, oneof_at}
 use Rattle.message_view.proofs.Fields.{held_is}
 use Rattle.text_view.specs.SourceNames.{HasPartNames}
-use Rattle.source_records.specs.SourceNames.{IsGroup, IsPart, AreParts, IsEntry}
+use Rattle.source_records.specs.SourceNames.{IsPart, AreParts, IsEntry}
 use Rattle.linked_messages.proofs.Among.{Among, of_all, of_find, of_place, place_of, index_is, get_map}
 use Rattle.linked_messages.proofs.Declared.{declared_at}
 use Rattle.linked_messages.proofs.Parts.{HasNumberAt, has_places}
@@ -153,7 +151,8 @@ module _ (old new : PoolType) (ns : List FileDescriptorProto) (w : Linking) (is 
       outer.declared.field
 
   plain_part : (name : Text) (n : ℤ) (j : ℕ) (lt : Here j)
-      → IsPart name n (field_view (declared old new ns w is pooled names batch i k m at type j lt).own)
+      → IsPart name n
+      (field_view (declared old new ns w is pooled names batch i k m at type j lt).own)
       → IsPlainPart name (type_of_field new i j)
   plain_part name n j lt part =
       let d = declared old new ns w is pooled names batch i k m at type j lt in

@@ -1,20 +1,19 @@
 -- What the name of a group's type means: the message that its own message declares.
-use Rattle.std.proofs.Common.{◌≡◌, ◌⊎◌, inl, inr, ◌<◌, ◌≤◌, ◌+◌, ◌++◌, ℕ, ℤ, pos, Bool, true, false, cond, List, [], ◌∷◌, map, length, length-append, Option, None, Some, is_some, String, Global, string_bytes, slice_get, refl, sym, ap, ◌∙◌, subst, arith}
+use Rattle.std.proofs.Common.{◌≡◌, inl, inr, ◌<◌, ◌+◌, ◌++◌, ℕ, ℤ, pos, Bool, true, false, List, [], ◌∷◌, map, length, length-append, Option, None, Some, String, Global, string_bytes, refl, sym, ap, ◌∙◌, subst, arith}
 use Rattle.std.proofs.lemmas.List.{length-map}
 use Rattle.descriptor_records.specs.Content.{Text, text_view, field_view}
 use Rattle.descriptor_records.specs.declared.field.FieldDescriptorProto.{FieldDescriptorProto}
 use Rattle.descriptor_records.specs.declared.file.FileDescriptorProto.{FileDescriptorProto}
 use Rattle.reflect_scope.specs.FileIndexes.{link_view}
 use Rattle.reflect_scope.specs.Known.{Known}
-use Rattle.reflect_scope.specs.Means.{Meaning, means, join, has_dot, outer, scopes, is_wanted, is_seen, standing, marks, undotted, resolve}
+use Rattle.reflect_scope.specs.Means.{means, join, has_dot, outer, scopes, is_wanted, standing, marks, undotted, resolve}
 use Rattle.reflect_scope.specs.declared.definition.Definition.{Definition}
 use Rattle.reflect_scope.specs.declared.definition.DefinitionKind.{DefinitionKind}
 use Rattle.reflect_scope.specs.declared.definition.DefinitionKind.TheVariants as kind
-use Rattle.reflect_scope.specs.declared.definition.ResolveNameFilter.{ResolveNameFilter}
 use Rattle.reflect_scope.specs.declared.definition.ResolveNameFilter.TheVariants as filter
 use Rattle.reflect_scope.proofs.Steps.{undotted_found, undotted_more, resolve_undotted}
 use Rattle.reflect_walk.specs.Declarations.{Declaration, of_field}
-use Rattle.reflect_walk.specs.Tree.{text_of, MessageParts}
+use Rattle.reflect_walk.specs.Tree.{text_of}
 use Rattle.reflect_names.specs.Faults.{batch_places}
 use Rattle.reflect_names.specs.ImportedFiles.{links_to}
 use Rattle.reflect_names.specs.Names.{Places}
@@ -23,7 +22,7 @@ use Rattle.reflect_names.specs.ReferencePass.{views_of, targets_along, reference
 use Rattle.reflect_names.specs.ReferenceSteps.{target_of}
 use Rattle.reflect_references.specs.Meanings.{meaning}
 use Rattle.reflect_passes.specs.NameFaults.{name_faults}
-use Rattle.reflect_index.specs.Along.{AtHand, Met, along, met, before_files, hand_behind}
+use Rattle.reflect_index.specs.Along.{AtHand, Met, along, before_files, hand_behind}
 use Rattle.reflect_tables.specs.Names.{place_in, place_of, with_file, names_of, messages}
 use Rattle.reflect_tables.specs.Types.{PoolType, ArePooled, type_at}
 use Rattle.reflect_pool.specs.Imports.{imported_places}
@@ -158,11 +157,11 @@ module _ (old new : PoolType) (ns : List FileDescriptorProto) (w : Linking) (is 
       (reference_faults_along spots views xs) none in
       elim k [
         | inl same ↦ subst IsMet same
-          (record { more = targets_along views xs; targets = e; none = parts.0 })
+            (record { more = targets_along views xs; targets = e; none = parts.0 })
         | inr later ↦ all_met (hand_behind h d) xs parts.1
-          (left_behind (names_of new messages) knows
-          (messages_found old new ns w is pooled names batch) sees spots h.rest d d.body
-          (targets_along views xs) parts.0 e) m later
+            (left_behind (names_of new messages) knows
+            (messages_found old new ns w is pooled names batch) sees spots h.rest d d.body
+            (targets_along views xs) parts.0 e) m later
       ]
 
   pub met_all : (m : Met) → Among m (along (before_files batch.references) all) → IsMet m
@@ -204,7 +203,10 @@ module _ (old new : PoolType) (ns : List FileDescriptorProto) (w : Linking) (is 
           ≡ []) (s : String Global) → r.type_name ≡ Some s → string_bytes s ≡ g.type
           → resolve knows (sees d.file) filter.FieldType d.name g.type
           ≡ means (join f.outer.name g.type)
-          (record { file = g.nested.declaration.file; kind = kind.Message g.nested.declaration.index })
+          (record {
+            file = g.nested.declaration.file;
+            kind = kind.Message g.nested.declaration.index;
+          })
       group_means none s named same =
           let x = g.nested.declaration in
           let plain = spelled_text r.name f.spelled in

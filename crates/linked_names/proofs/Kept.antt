@@ -1,17 +1,16 @@
 -- The names of a pool's own types stay as the entries of a batch stand behind them.
-use Rattle.std.proofs.Common.{◌≡◌, ◌<◌, ◌&&◌, ◌==◌, ◌++◌, not, ℕ, Bool, true, false, cond, List, map, filter, length, Option, None, Some, slice_index_or, refl, sym, ap, ◌∙◌, subst}
+use Rattle.std.proofs.Common.{◌≡◌, ◌<◌, ◌&&◌, ◌==◌, ◌++◌, not, ℕ, true, cond, List, map, filter, length, Option, None, Some, slice_index_or, refl, sym, ap, ◌∙◌, subst}
 use Rattle.std.proofs.Math.ListN.{get_or-append}
 use Rattle.std.specs.List.{find}
 use Rattle.std.specs.Option.{option_and_then}
 use Rattle.reflect_scope.specs.Means.{join}
 use Rattle.reflect_tables.specs.Types.{PoolType, FieldType, FileType, MessageType, IsAmong, IsWithin, MessageWithin, ArePooled, counts_of, is_member, no_field, no_type, type_at, type_of_field}
-use Rattle.reflect_tables.specs.Types as types
 use Rattle.reflect_tables.specs.Views.{message_of, enum_of}
 use Rattle.reflect_tables.specs.declared.stored.StoredEntry.{StoredEntry}
 use Rattle.reflect_index.specs.declared.batch.Batch.{Batch}
 use Rattle.reflect_entries.specs.Members.{first_number}
-use Rattle.reflect_message.specs.Known.{holds_floats, if_held, known_field, numbered_field}
-use Rattle.reflect_link.specs.FileTypes.{no_file, file_type_at}
+use Rattle.reflect_message.specs.Known.{if_held, known_field, numbered_field}
+use Rattle.reflect_link.specs.FileTypes.{no_file}
 use Rattle.std.specs.Char.{to_ascii_lowercase}
 use Rattle.text_model.specs.Identifiers.{is_identifier}
 use Rattle.protobuf_model.specs.Types.{oneof_of, same_oneof}

@@ -1,5 +1,5 @@
 -- What names are known for behind declarations in which no fault of names is found.
-use Rattle.std.proofs.Common.{◌≡◌, ◌∙◌, ◌+◌, ◌≤◌, ◌⊎◌, inl, inr, ◌++◌, ℕ, Bool, true, false, cond, List, [], ◌∷◌, Option, Some, None, is_some, bytes_eq, sum_by, ap, sym, subst, refl, arith}
+use Rattle.std.proofs.Common.{◌≡◌, ◌∙◌, ◌⊎◌, inl, inr, ℕ, Bool, true, false, cond, List, [], ◌∷◌, Option, Some, None, is_some, bytes_eq, sum_by, ap, sym, subst, refl, arith}
 use Rattle.std.specs.List.{AllByRecursion}
 use Rattle.std.proofs.lemmas.List.Sums.{sum_by-cons, sum_by-append}
 use Rattle.descriptor_records.specs.Content.{Text}
@@ -10,7 +10,7 @@ use Rattle.reflect_scope.specs.Known.{Known, declared, is_taken, is_package}
 use Rattle.reflect_scope.specs.Means.{scopes}
 use Rattle.reflect_scope.proofs.Scopes.{scopes_more}
 use Rattle.reflect_walk.specs.Tree.{text_of}
-use Rattle.reflect_walk.specs.Declarations.{Declaration, Body, of_file}
+use Rattle.reflect_walk.specs.Declarations.{Declaration, of_file}
 use Rattle.reflect_known.specs.KnownNames.{definition_of, package_of, known_after}
 use Rattle.reflect_names.specs.Names.{Places, faults_at}
 use Rattle.reflect_names.specs.NamePass.{faults_along}
@@ -96,7 +96,8 @@ first_known known n d free = elim (free_cases known n d free) [
 ]
 
 pub given_known : (known : Known) (gs : List Giving) (g : Giving) → Free known gs → Among g gs
-    → (e : Definition) × (known_by known gs g.0 ≡ Some e) × (is_package e.kind ≡ is_package g.1.kind)
+    → (e : Definition) × (known_by known gs g.0 ≡ Some e)
+    × (is_package e.kind ≡ is_package g.1.kind)
     × (is_package g.1.kind ≡ false → e ≡ g.1)
 given_known known [] g free h = absurd h
 given_known known (x ∷ gs) g free (inl same) =
@@ -122,7 +123,7 @@ given_new known (x ∷ gs) g free (inl same) plain =
     elim (free_cases known x.0 x.1 free.0) [
       | inl none ↦ ap (λ (y : Giving). known y.0) (sym same) ∙ none
       | inr (e, some, old, new) ↦ absurd (cc (sym new
-        ∙ ap (λ (y : Giving). is_package y.1.kind) same ∙ plain))
+          ∙ ap (λ (y : Giving). is_package y.1.kind) same ∙ plain))
     ]
 given_new known (x ∷ gs) g free (inr h) plain =
     was_unknown known x.0 x.1 g.0 (given_new (declared known x.0 x.1) gs g free.1 h plain)

@@ -10,3 +10,4 @@ mod Entries
 mod Kept
 mod Accepted
 mod Stays
+mod Example

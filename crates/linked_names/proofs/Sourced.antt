@@ -1,5 +1,5 @@
 -- What the records of sources say of each declaration of a batch.
-use Rattle.std.proofs.Common.{◌≡◌, ◌⊎◌, inl, inr, ◌+◌, ◌++◌, ℕ, zero, suc, ℤ, pos, true, false, List, [], ◌∷◌, map, Option, None, Some, option_map, String, Global, slice_get, refl, sym, ap, subst, arith}
+use Rattle.std.proofs.Common.{◌≡◌, ◌⊎◌, inl, inr, ◌+◌, ◌++◌, ℕ, suc, ℤ, pos, true, false, List, [], ◌∷◌, map, Option, None, Some, option_map, String, Global, slice_get, refl, ap, subst, arith}
 use Rattle.std.specs.Char.{to_ascii_lowercase}
 use Rattle.std.specs.List.{AllByRecursion}
 use Rattle.descriptor_records.specs.Content.{Text, text_view, field_view, enum_view, enum_value_view, options_view, message_view, file_view}
@@ -14,7 +14,7 @@ use Rattle.descriptor_records.specs.declared.service.MethodDescriptorProto.{Meth
 use Rattle.descriptor_records.specs.declared.service.ServiceDescriptorProto.{ServiceDescriptorProto}
 use Rattle.reflect_scope.specs.Means.{join, has_dot}
 use Rattle.reflect_walk.specs.Batches.{batch_declarations}
-use Rattle.reflect_walk.specs.Declarations.{Declaration, Body, of_file, of_message, of_field, of_oneof, of_enum, of_enum_value, of_service, of_method, of_extension, each, entry, message_declaration, one_field, one_oneof, one_value, one_enum, one_method, one_service, one_extension, past_message, past_tree, past_trees, past_file, trees_of, tree_declarations, trees_declarations, file_declarations, file_declaration}
+use Rattle.reflect_walk.specs.Declarations.{Declaration, of_message, of_field, of_enum, of_extension, each, entry, message_declaration, one_field, one_oneof, one_value, one_enum, one_method, one_service, one_extension, past_message, past_tree, past_trees, past_file, trees_of, tree_declarations, trees_declarations, file_declarations}
 use Rattle.reflect_walk.specs.Tree.{text_of, MessageParts, Message, message, Messages, no_messages, more_messages, messages_of, tree_of}
 use Rattle.reflect_walk.specs.declared.visit_parts.Offsets.{Offsets}
 use Rattle.reflect_pool.proofs.Grown.{all_behind}
@@ -227,7 +227,8 @@ module _ (files : List FileDescriptorProto) (first : ℕ) (ds : List Declaration
   -- ---- messages
 
   -- the fields of a message
-  module _ (m : Declaration) (own : MessageParts) (here : Among m ds) (body : m.body ≡ of_message own)
+  module _ (m : Declaration) (own : MessageParts) (here : Among m ds)
+      (body : m.body ≡ of_message own)
       (placed : IsFileAt m.file) where
     fields_sourced : (path : List ℤ) (k : ℕ) (fs : List FieldDescriptorProto)
         → AreSpelled (map field_view fs)

@@ -1,5 +1,5 @@
 -- A pool without files has names as sources give them, and so it stays where options are settled.
-use Rattle.std.proofs.Common.{ℕ, List, sym, subst, arith}
+use Rattle.std.proofs.Common.{ℕ, List, sym, subst}
 use Rattle.descriptor_records.specs.declared.file.FileDescriptorProto.{FileDescriptorProto}
 use Rattle.reflect_tables.specs.Types.{PoolType, FieldType, IsSettled}
 use Rattle.reflect_tables.specs.declared.stored.StoredEntry.{StoredEntry}

@@ -1,8 +1,8 @@
 -- What the types of a batch say of names, by their declarations.
-use Rattle.std.proofs.Common.{◌≡◌, ◌⊎◌, inl, inr, ◌<◌, ◌+◌, ◌++◌, ℕ, zero, suc, ℤ, pos, Bool, true, false, cond, List, [], ◌∷◌, map, length, Option, None, Some, is_some, String, Global, string_bytes, slice_get, slice_index_or, refl, sym, ap, ◌∙◌, subst, arith}
+use Rattle.std.proofs.Common.{◌≡◌, inl, inr, ◌<◌, ◌+◌, ◌++◌, ℕ, zero, suc, ℤ, Bool, true, false, cond, List, [], ◌∷◌, map, length, Option, None, Some, String, Global, slice_get, slice_index_or, refl, sym, ap, ◌∙◌, subst}
 use Rattle.std.proofs.lemmas.Bool.Decides.{Decides-int_eq}
 use Rattle.std.specs.Char.{to_ascii_lowercase}
-use Rattle.descriptor_records.specs.Content.{Text, text_view, field_view, enum_view, enum_value_view}
+use Rattle.descriptor_records.specs.Content.{Text, enum_view, enum_value_view}
 use Rattle.descriptor_records.specs.FieldNumbers.{type_number}
 use Rattle.descriptor_records.specs.declared.enums.EnumDescriptorProto.{EnumDescriptorProto}
 use Rattle.descriptor_records.specs.declared.enums.EnumValueDescriptorProto.{EnumValueDescriptorProto}
@@ -14,7 +14,7 @@ use Rattle.reflect_scope.specs.Means.{join, has_dot}
 use Rattle.reflect_scope.specs.declared.definition.Definition.{Definition}
 use Rattle.reflect_scope.specs.declared.definition.DefinitionKind.{DefinitionKind}
 use Rattle.reflect_scope.specs.declared.definition.DefinitionKind.TheVariants as kind
-use Rattle.reflect_walk.specs.Declarations.{Declaration, Body, of_message, of_field, of_enum, of_extension}
+use Rattle.reflect_walk.specs.Declarations.{Declaration, Body, of_message, of_field, of_enum}
 use Rattle.reflect_walk.specs.Tree.{text_of, MessageParts}
 use Rattle.reflect_names.specs.declared.resolve_visitor.Reference.{Reference}
 use Rattle.reflect_references.specs.Meanings.{meaning}
@@ -22,15 +22,13 @@ use Rattle.reflect_fields.specs.Fields.{is_number}
 use Rattle.reflect_passes.specs.NameFaults.{name_faults}
 use Rattle.reflect_index.specs.Along.{AtHand, Met, along, met, before_files, hand_behind, all_of, is_message}
 use Rattle.reflect_index.specs.BatchEntries.{IsBatchOf}
-use Rattle.reflect_index.specs.Entries.{Head, IsHeadOf, HasKind, IsMeant, declared_head, written_name}
+use Rattle.reflect_index.specs.Entries.{Head, IsHeadOf, HasKind, IsMeant, written_name}
 use Rattle.reflect_index.specs.Grown.{message_head}
 use Rattle.reflect_index.specs.OfDeclarations.{NamedNumber, message_in, messages_in, enum_in, enums_in, stored_ranges, stored_value, stored_values, declared_value, declared_values}
 use Rattle.reflect_index.specs.declared.batch.Batch.{Batch}
-use Rattle.reflect_tables.specs.Names.{FullName}
 use Rattle.reflect_tables.specs.Types.{PoolType, FieldType, KindType, MessageType, ValueType, EnumType, ExtensionType, FileType, ArePooled, no_field, no_type, type_at, type_of_field}
 use Rattle.reflect_tables.specs.Types as types
 use Rattle.reflect_tables.specs.Views.{message_of, enum_of, value_of, extension_of, record_file}
-use Rattle.reflect_tables.specs.Views as entries
 use Rattle.reflect_tables.specs.declared.stored.StoredEnum.{StoredEnum}
 use Rattle.reflect_tables.specs.declared.stored.StoredMessage.{StoredMessage}
 use Rattle.reflect_pool.specs.Parts.{no_value}
@@ -40,9 +38,9 @@ use Rattle.reflect_build.specs.Refusals.{Linking, with_declared, IsOf}
 use Rattle.text_model.specs.Identifiers.{is_identifier, is_full_name}
 use Rattle.text_model.specs.Printed.{parts}
 use Rattle.text_view.specs.SourceNames as pools
-use Rattle.source_records.specs.SourceNames.{IsSpelled, IsGroup, HasSpelledValues}
-use Rattle.linked_messages.proofs.Among.{Among, of_all, of_place, get_at, get_map, got_map, index_is, zip_place}
-use Rattle.linked_messages.proofs.Declared.{FieldDeclared, field_declared, ExtensionDeclared, extension_declared, InMessage, in_message, stands_in_batch}
+use Rattle.source_records.specs.SourceNames.{IsSpelled, HasSpelledValues}
+use Rattle.linked_messages.proofs.Among.{Among, of_all, of_place, get_at, get_map, got_map, zip_place}
+use Rattle.linked_messages.proofs.Declared.{FieldDeclared, field_declared, extension_declared, InMessage, in_message, stands_in_batch}
 use Rattle.linked_messages.proofs.Defaults.{IsHeld}
 use Rattle.linked_messages.proofs.Faultless.{of_along}
 use Rattle.linked_view.proofs.Accepted.{kept_at}
@@ -51,7 +49,7 @@ use Rattle.linked_names.proofs.Apart.{IsApart, Apart, field_text, value_text}
 use Rattle.linked_names.proofs.Batch.{ds, known, b, are_apart, message_known, field_known, message_at, same_message, type_named, types_are, texts_same, first_is}
 use Rattle.linked_names.proofs.Groups.{group_meant}
 use Rattle.linked_names.proofs.Lists.{later_is}
-use Rattle.linked_names.proofs.Sourced.{IsSourced, IsSourcedMessage, IsSourcedField, IsFileAt, IsMessageAt, IsScopeOf, IsGrouped, spelled_text, named_text}
+use Rattle.linked_names.proofs.Sourced.{IsSourced, IsSourcedMessage, IsSourcedField, IsScopeOf, spelled_text, named_text}
 
 -- ---- declarations by their places
 
@@ -323,7 +321,8 @@ module _ (old new : PoolType) (ns : List FileDescriptorProto) (w : Linking) (is 
         let h = headed k m at in
         let src = message_sourced h.declaration h.own h.here h.body in
         let scope : scope_of new (message_of m) ≡ src.scope =
-        (λ i. scope_in new (h.parent i) (h.file i)) ∙ scope_named h.declaration.parent h.declaration.file src.scope src.scoped in
+        (λ i. scope_in new (h.parent i) (h.file i))
+        ∙ scope_named h.declaration.parent h.declaration.file src.scope src.scoped in
         record {
           full = h.full_name ∙ src.called
               ∙ (λ i. join (sym scope i) (sym h.name i));

@@ -19,15 +19,15 @@ pub fn the_empty_pool_has_source_names()
     ensures { IsSourcePool empty_pool }
 {}
 
-/// Where no pass finds a fault in files, the names of a pool's fields, of its enums' values and of its
-/// extensions stay apart, whatever gives them.
+/// Where no pass finds a fault in files, the names of a pool's fields, of its enums' values and of
+/// its extensions stay apart, whatever gives them.
 pub fn accepted_files_keep_names_apart()
     ensures { (old new : PoolType) (files : List FileDescriptorProto)
         → IsSound old → FaultlessFiles old files new → HaveOwnNames old → HaveOwnNames new }
 {}
 
-/// Where no pass finds a fault in files whose names are as sources give them, the pool that they are
-/// added to keeps names so.
+/// Where no pass finds a fault in files whose names are as sources give them, the pool that they
+/// are added to keeps names so.
 pub fn accepted_sources_keep_source_names()
     ensures { (old new : PoolType) (files : List FileDescriptorProto)
         → IsSound old → FaultlessFiles old files new
