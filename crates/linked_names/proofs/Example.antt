@@ -1,5 +1,5 @@
--- Files may have such names: here a message with a group and a map, whose entries' type begins with a
--- digit.
+-- Files may have such names: here a message with a group and a map, the name of whose entries' type
+-- begins with a digit.
 use Rattle.std.proofs.Common.{◌≡◌, inl, inr, ℤ, pos, Bool, true, List, [], ◌∷◌, Option, None, Some, codes, refl}
 use Rattle.descriptor_records.specs.Content.{Text, OptionsContent, FieldContent, MessageContent, message, no_messages, more_messages, FileContent}
 use Rattle.source_records.specs.SourceNames.{IsSourceMessage, IsSourceFile}

@@ -28,7 +28,8 @@ use Rattle.text_model.specs.Identifiers.{is_identifier}
 
 abbrev pub IsNamedType : Declared → Type 0
 IsNamedType (of_items name items) = (is_identifier name ≡ true) × Each HasNamedItem items
-IsNamedType (of_map name m) = IsNoGroup (ty_view m.key) × IsNoGroup (ty_view m.value)
+IsNamedType (of_map name m) = (is_identifier name ≡ true)
+    × (IsNoGroup (ty_view m.key) × IsNoGroup (ty_view m.value))
 
 abbrev pub AreNamedTypes : List Declared → Type 0
 AreNamedTypes ts = AllByRecursion IsNamedType ts
@@ -37,7 +38,7 @@ kind_types : (name : Text) → is_identifier name ≡ true → (k : KindLayer) �
     → AreNamedTypes (types_of_kind name k)
 kind_types name named (FieldKind-F.Normal t) h = tt
 kind_types name named (FieldKind-F.Group g) h = ((named, group_items g h), tt)
-kind_types name named (FieldKind-F.Map m) h = (h, tt)
+kind_types name named (FieldKind-F.Map m) h = ((named, h), tt)
 
 field_types : (f : Field) → IsNamedField (field_view f) → AreNamedTypes (types_of_field f)
 field_types f h =

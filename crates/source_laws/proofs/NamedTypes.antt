@@ -17,6 +17,7 @@ use Rattle.protox_tree.specs.declared.types.Ty.{Ty}
 use Rattle.source_laws.proofs.DeclaredTypes.{AreNamedTypes, IsNamedType, declares, items_types}
 use Rattle.source_laws.proofs.Lists.{all_so}
 use Rattle.source_laws.proofs.NamedFields.{HasItsNames, HasName, items_named, items_enums, items_extensions, no_group_number}
+use Rattle.source_laws.proofs.Texts.{entry_words}
 use Rattle.source_laws.specs.TreeNames.{IsNoGroup}
 use Rattle.source_laws.proofs.NamedValues.{HasNamedItem}
 use Rattle.source_records.specs.SourceNames.{AreSourceMessages, AreSpelled, HasOwnNames, HasSpelledValues, IsEntry, IsGroup, IsGroupField, IsPart, IsSourceMessage, IsSpelled}
@@ -38,16 +39,18 @@ entry_own : (name : Text) (m : Map) → IsNamedType (of_map name m)
     → HasOwnNames (Some (entry_name_of name)) (entry_fields m) [] no_messages []
     (Some entry_options)
 entry_own name m h = record {
-  named = inr refl;
+  named = inr (refl, entry_words name h.0);
   fields_are = (refl, (refl, tt));
   extensions_are = tt;
   values = tt;
   groups = (
-    (λ e. absurd (no_group_number (ty_view m.key) h.0 e)),
-    ((λ e. absurd (no_group_number (ty_view m.value) h.1 e)), tt),
+    (λ e. absurd (no_group_number (ty_view m.key) h.1.0 e)),
+    ((λ e. absurd (no_group_number (ty_view m.value) h.1.1 e)), tt),
   );
-  parts = λ e.
-      (entry_part (codes "key") (pos 1) m.key h.0, entry_part (codes "value") (pos 2) m.value h.1);
+  parts = λ e. (
+    entry_part (codes "key") (pos 1) m.key h.1.0,
+    entry_part (codes "value") (pos 2) m.value h.1.1,
+  );
   none_extended = λ e. refl;
   none_nested = λ e. refl;
 }

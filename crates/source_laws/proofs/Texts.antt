@@ -1,8 +1,11 @@
--- Identifiers in lower case, and with dots between them.
+-- Identifiers in lower case, with dots between them, and in camel case.
 use Rattle.std.proofs.Common.{◌≡◌, ◌∙◌, ◌<◌, ◌==◌, ◌&&◌, ◌++◌, ℕ, Bool, true, false, not, cond, [], ◌∷◌, List, map, refl, ap, sym, subst, arith, tests, append-nil}
-use Rattle.std.specs.Char.{to_ascii_lowercase}
+use Rattle.std.specs.Char.{to_ascii_lowercase, to_ascii_uppercase}
+use Rattle.std.specs.Prelude.{codes, encode_utf8_all}
 use Rattle.std.specs.List.{flat_map, list_all}
 use Rattle.std.proofs.lemmas.Bool.{agree_below, agree_below_at, and_from, and_parts, eqb-true}
+use Rattle.std.proofs.lemmas.Str.{encode_ascii}
+use Rattle.protox_field_records.specs.FieldRecords.{letter, camel, entry_name_of}
 use Rattle.protox_lex.specs.Class.{Text, is_in}
 use Rattle.protox_lex.specs.declared.class.Class.TheVariants as class
 use Rattle.protox_tokens.specs.Marks.{Each, IsSome_of}
@@ -114,3 +117,50 @@ tail_is (w ∷ ws) h = record {
 pub dotted_name : (ws : List Word) → IsSome_of IsNamed ws → is_full_name (parts (dotted ws)) ≡ true
 dotted_name [] h = absurd h
 dotted_name (w ∷ ws) h = joined_is w.text (flat_map (λ w. 46 ∷ w.text) ws) h.0 (tail_is ws h.1)
+
+-- ---- what the types of maps' entries are called
+
+upper_word : (b : ℕ) → is_in class.Word b ≡ true → is_in class.Word (to_ascii_uppercase b) ≡ true
+upper_word b h =
+    followed (is_in class.Word) (λ b. is_in class.Word (to_ascii_uppercase b)) 123 refl b
+    (word_small b h) h
+
+letter_is_word : (raise : Bool) (b : ℕ) → is_in class.Word b ≡ true
+    → is_in class.Word (letter raise b) ≡ true
+letter_is_word true b h = upper_word b h
+letter_is_word false b h = h
+
+camel_words : (raise : Bool) (t : Text) → list_all (is_in class.Word) t ≡ true
+    → list_all (is_in class.Word) (camel raise t) ≡ true
+camel_words raise [] h = refl
+camel_words raise (b ∷ t) h =
+    let both = and_parts (is_in class.Word b) (list_all (is_in class.Word) t) h in
+    by (b == 95) refl both.0 (λ r. camel_words r t both.1) where
+      by : (v : Bool) → (b == 95) ≡ v → is_in class.Word b ≡ true
+          → ((r : Bool) → list_all (is_in class.Word) (camel r t) ≡ true)
+          → list_all (is_in class.Word) (camel raise (b ∷ t)) ≡ true
+      by true is here rest = rw is (rest true)
+      by false is here rest = rw is (and_from _ _ (letter_is_word raise b here) (rest false))
+
+encoded_words : (t : Text) → list_all (is_in class.Word) t ≡ true → encode_utf8_all t ≡ t
+encoded_words [] h = refl
+encoded_words (b ∷ t) h =
+    let both = and_parts (is_in class.Word b) (list_all (is_in class.Word) t) h in
+    let small = word_small b both.0 in
+    ap (λ c. c ++ encode_utf8_all t) (encode_ascii b (omega (arith, small)))
+    ∙ ap (λ c. b ∷ c) (encoded_words t both.1)
+
+both_words : (s t : Text) → list_all (is_in class.Word) s ≡ true
+    → list_all (is_in class.Word) t ≡ true → list_all (is_in class.Word) (s ++ t) ≡ true
+both_words [] t h k = k
+both_words (b ∷ s) t h k =
+    let both = and_parts (is_in class.Word b) (list_all (is_in class.Word) s) h in
+    and_from _ _ both.0 (both_words s t both.1 k)
+
+pub entry_words : (t : Text) → is_identifier t ≡ true
+    → list_all (is_in class.Word) (entry_name_of t) ≡ true
+entry_words t h =
+    let all = camel_words true t (identifier_words t h) in
+    both_words (encode_utf8_all (camel true t)) (codes "Entry")
+    (subst (λ c. list_all (is_in class.Word) c ≡ true) (sym (encoded_words (camel true t) all)) all)
+    refl
