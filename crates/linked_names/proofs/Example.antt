@@ -1,6 +1,6 @@
 -- Files may have such names: here a message with a group and a map, the name of whose entries' type
 -- begins with a digit.
-use Rattle.std.proofs.Common.{◌≡◌, inl, inr, ℤ, pos, Bool, true, List, [], ◌∷◌, Option, None, Some, codes, refl}
+use Rattle.std.proofs.Common.{inl, inr, ℤ, pos, true, [], ◌∷◌, Option, None, Some, codes, refl}
 use Rattle.descriptor_records.specs.Content.{Text, OptionsContent, FieldContent, MessageContent, message, no_messages, more_messages, FileContent}
 use Rattle.source_records.specs.SourceNames.{IsSourceMessage, IsSourceFile}
 
@@ -34,15 +34,15 @@ entry_options = record {
 
 abbrev entry : MessageContent
 entry = message (Some (codes "1Entry")) (
-  field (codes "key") (pos 1) (pos 9) None
-  ∷ field (codes "value") (pos 2) (pos 5) None ∷ []
-) [] no_messages [] [] [] (Some entry_options) [] []
+    field (codes "key") (pos 1) (pos 9) None
+    ∷ field (codes "value") (pos 2) (pos 5) None ∷ []
+    ) [] no_messages [] [] [] (Some entry_options) [] []
 
 abbrev response : MessageContent
 response = message (Some (codes "Response")) (
-  field (codes "result") (pos 1) (pos 10) (Some (codes "Result"))
-  ∷ field (codes "_1") (pos 2) (pos 11) (Some (codes "1Entry")) ∷ []
-) [] (more_messages result (more_messages entry no_messages)) [] [] [] None [] []
+    field (codes "result") (pos 1) (pos 10) (Some (codes "Result"))
+    ∷ field (codes "_1") (pos 2) (pos 11) (Some (codes "1Entry")) ∷ []
+    ) [] (more_messages result (more_messages entry no_messages)) [] [] [] None [] []
 
 abbrev the_file : FileContent
 the_file = record {

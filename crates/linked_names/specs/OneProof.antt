@@ -1,6 +1,6 @@
 -- That a pool's names are as sources give them has one proof at most, so that a value may keep it
 -- as a fact.
-use Rattle.std.proofs.Common.{◌≡◌, ◌≢◌, ◌<◌, ◌∙◌, ℕ, List, Bool, true, false, length, map, sym}
+use Rattle.std.proofs.Common.{◌≡◌, ◌≢◌, ◌<◌, ◌∙◌, ℕ, true, false, length, map, sym}
 use Rattle.std.proofs.Props.{props}
 use Rattle.std.specs.Char.{to_ascii_lowercase}
 use mathlib.Core.HLevel.{is_prop→PathP}
