@@ -10,4 +10,5 @@ mod Entries
 mod Kept
 mod Accepted
 mod Stays
+mod Typed
 mod Example

@@ -6,6 +6,7 @@ ghost use Rattle.std.specs.Prelude.{List};
 ghost use Rattle.std.specs.List.{AllByRecursion};
 ghost use Rattle.descriptor_records.specs.Content.{file_view};
 ghost use Rattle.descriptor_records.specs.declared.file.FileDescriptorProto.{FileDescriptorProto};
+ghost use Rattle.option_parts.specs.TypedOptions.{TypedFiles};
 ghost use Rattle.reflect_build.specs.Accepted.{FaultlessFiles};
 ghost use Rattle.reflect_pool.specs.Linked.{empty_pool};
 ghost use Rattle.reflect_tables.specs.Types.{IsSettled, PoolType};
@@ -38,4 +39,12 @@ pub fn accepted_sources_keep_source_names()
 /// So it does where options are settled, which changes the records of files alone.
 pub fn settled_pools_keep_source_names()
     ensures { (old new : PoolType) → IsSettled old new → IsSourcePool old → IsSourcePool new }
+{}
+
+/// Where the names in files are as sources give them, they are so in the files to which the options
+/// that linking reads itself were copied.
+pub fn typed_options_say_nothing_of_names()
+    ensures { (files typed : List FileDescriptorProto) → TypedFiles files typed
+        → AllByRecursion (λ (f : FileDescriptorProto). IsSourceFile (file_view f)) files
+        → AllByRecursion (λ (f : FileDescriptorProto). IsSourceFile (file_view f)) typed }
 {}
