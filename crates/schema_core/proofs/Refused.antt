@@ -113,7 +113,7 @@ nowhere o Q none = subst (λ l. IfSome (option_map place_of l) Q) (sym none) tt
 
 -- sources that fit together are refused for their options, at no place
 pub sources_options : (p : PoolType) (batch : List (List ℕ × List ℕ)) (new : PoolType) (o : OptionError) (e : SchemaError) → SourcesLinked p batch new → o.place ≡ None → (e ≡ Memory) ⊎ (e ≡ Options o) → SourcesRefused p batch e
-sources_options p batch new o e (files, read, (linked, fit, settled)) none x = of_sources p batch files e read (of_options p files linked o e fit (nowhere o (StandsFrom linked.records (length p.files)) none) x)
+sources_options p batch new o e (files, read, (linked, fit, settled, bare)) none x = of_sources p batch files e read (of_options p files linked o e fit (nowhere o (StandsFrom linked.records (length p.files)) none) x)
 
 -- bytes that are read as no set spell none
 pub of_bytes : (p : PoolType) (bytes : List ℕ) (e : WireError) → Rejects IsSetBytes bytes e → SetRefused p bytes (of_wire e)

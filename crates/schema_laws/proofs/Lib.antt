@@ -1,2 +1,3 @@
 pub mod Recoding
 pub mod Encoding
+pub mod Naming

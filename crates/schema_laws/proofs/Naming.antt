@@ -1,0 +1,29 @@
+-- Names of schemas that sources are added to.
+use Rattle.std.proofs.Common.{ℕ, List, [], ◌∷◌}
+use Rattle.std.specs.List.{AllByRecursion}
+use Rattle.descriptor_records.specs.Content.{file_view}
+use Rattle.descriptor_records.specs.declared.file.FileDescriptorProto.{FileDescriptorProto}
+use Rattle.reflect_tables.specs.Types.{PoolType}
+use Rattle.source_laws.proofs.Sources.{source_names}
+use Rattle.source_records.specs.SourceNames.{IsSourceFile}
+use Rattle.message_view.specs.Sound.{IsSound}
+use Rattle.linked_names.proofs.Accepted.{accepted_sources}
+use Rattle.linked_names.proofs.Stays.{settled_sources}
+use Rattle.linked_names.proofs.Typed.{typed_files}
+use Rattle.linked_names.specs.SourcePools.{IsSourcePool}
+use Rattle.schema_core.specs.Refusals.{AreFilesOf, SourcesLinked}
+
+-- the files that sources are have names as sources give them
+of_sources : (sources : List (List ℕ × List ℕ)) (files : List FileDescriptorProto) → AreFilesOf sources files → AllByRecursion (λ (f : FileDescriptorProto). IsSourceFile (file_view f)) files
+of_sources [] [] h = tt
+of_sources [] (f ∷ fs) h = absurd h
+of_sources (s ∷ ss) [] h = tt
+of_sources (s ∷ ss) (f ∷ fs) h = (source_names s.0 s.1 f h.0, of_sources ss fs h.1)
+
+-- so such names stay, where sources are added to a pool
+pub named_by_sources : (old new : PoolType) (sources : List (List ℕ × List ℕ)) → IsSound old → SourcesLinked old sources new → IsSourcePool old → IsSourcePool new
+named_by_sources old new sources sound h names =
+    let files = of_sources sources h.0 h.1 in
+    let fit = h.3 in
+    let typed = typed_files h.0 fit.0 fit.1 files in
+    settled_sources h.2 new h.4 (accepted_sources old h.2 fit.0 sound fit.3 typed names)
