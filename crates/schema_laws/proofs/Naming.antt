@@ -1,8 +1,9 @@
 -- Names of schemas that sources are added to.
-use Rattle.std.proofs.Common.{ℕ, List, [], ◌∷◌}
+use Rattle.std.proofs.Common.{rules, ℕ, List, [], ◌∷◌}
 use Rattle.std.specs.List.{AllByRecursion}
 use Rattle.descriptor_records.specs.Content.{file_view}
 use Rattle.descriptor_records.specs.declared.file.FileDescriptorProto.{FileDescriptorProto}
+use Rattle.reflect_pool.specs.Linked.{empty_pool}
 use Rattle.reflect_tables.specs.Types.{PoolType}
 use Rattle.source_laws.proofs.Sources.{source_names}
 use Rattle.source_records.specs.SourceNames.{IsSourceFile}
@@ -27,3 +28,7 @@ named_by_sources old new sources sound h names =
     let fit = h.3 in
     let typed = typed_files h.0 fit.0 fit.1 files in
     settled_sources h.2 new h.4 (accepted_sources old h.2 fit.0 sound fit.3 typed names)
+
+-- a pool without files has such names
+pub empty_sources : IsSourcePool empty_pool
+empty_sources = search rules

@@ -1,9 +1,8 @@
 use Rattle.std.proofs.Common.{[], ◌∷◌}
 use Rattle.reflect_pool.specs.Linked.{empty_pool}
 use Rattle.linked_messages.proofs.Stays.{empty_sound}
-use Rattle.linked_names.proofs.Stays.{empty_sources}
 use Rattle.schema_core.specs.Refusals.{descriptor_name}
-use Rattle.schema_laws.proofs.Naming.{named_by_sources}
+use Rattle.schema_laws.proofs.Naming.{empty_sources, named_by_sources}
 use Rattle.schema_laws.proofs.names.new_schemas_have_source_names.Goals as goal
 
 pub returns : goal.returns
