@@ -8,7 +8,7 @@ mod Groups
 mod Stored
 mod Entries
 mod Kept
-mod Accepted
-mod Stays
-mod Typed
+pub mod Accepted
+pub mod Stays
+pub mod Typed
 mod Example
