@@ -23,11 +23,9 @@ of_sources (s ∷ ss) (f ∷ fs) h = (source_names s.0 s.1 f h.0, of_sources ss 
 
 -- so such names stay, where sources are added to a pool
 pub named_by_sources : (old new : PoolType) (sources : List (List ℕ × List ℕ)) → IsSound old → SourcesLinked old sources new → IsSourcePool old → IsSourcePool new
-named_by_sources old new sources sound h names =
-    let files = of_sources sources h.0 h.1 in
-    let fit = h.3 in
-    let typed = typed_files h.0 fit.0 fit.1 files in
-    settled_sources h.2 new h.4 (accepted_sources old h.2 fit.0 sound fit.3 typed names)
+named_by_sources old new sources sound (files, read, (linked, fit, settled, bare)) names =
+    let typed = typed_files files fit.0 fit.1 (of_sources sources files read) in
+    settled_sources linked new settled (accepted_sources old linked fit.0 sound fit.2.1 typed names)
 
 -- a pool without files has such names
 pub empty_sources : IsSourcePool empty_pool
