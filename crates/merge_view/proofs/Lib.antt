@@ -1,1 +1,4 @@
 pub mod Copied
+pub mod Elements
+pub mod Entries
+pub mod Merged
