@@ -14,11 +14,11 @@ use Rattle.reflect_message.specs.Trees.{ValueTree, MessageTree, Place, Row, Dict
 use Rattle.reflect_message.specs.Trees as trees
 use Rattle.reflect_message.specs.declared.message.DynamicMessage.{DynamicMessage}
 use Rattle.reflect_message.specs.declared.parts.Held as blocks
-use Rattle.reflect_message.specs.declared.parts.Held.TheFolds.{map-Held, map-Value, map-DynamicMessage, map-Parts, fold-Held, fold-Value, fold-DynamicMessage, fold-Parts, fold-roll-Held, fold-roll-Value, fold-roll-DynamicMessage, fold-roll-Parts, ind-Value}
+use Rattle.reflect_message.specs.declared.parts.Held.TheFolds.{map-Held, map-Value, map-DynamicMessage, map-Parts, fold-Held, fold-DynamicMessage, fold-Parts, fold-roll-Held, fold-roll-Value, fold-roll-DynamicMessage, fold-roll-Parts, ind-Value}
 use Rattle.reflect_message.specs.declared.parts.Held.TheOpen.{Held-F, Parts-F, Value-F, DynamicMessage-F}
 use Rattle.reflect_message.specs.declared.parts.Parts.{Parts}
 use Rattle.reflect_message.specs.declared.value.Value.{Value}
-use Rattle.protobuf_model.specs.Values.{Single, Content, single, message, list, dictionary, Contents, no_contents, more_contents, Entries, no_entries, more_entries, Held, Message, absent, chain_of, entries_of}
+use Rattle.protobuf_model.specs.Values.{Content, single, message, list, dictionary, Contents, no_contents, more_contents, Entries, no_entries, more_entries, Message, absent, chain_of, entries_of}
 use Rattle.protobuf_model.specs.Meaning.{payloads}
 use Rattle.message_view.specs.Singles.{single_view}
 use Rattle.message_view.specs.Views.{Placed, held_either, held_step, value_step, message_step, parts_step, content_view, contents_view, view_of}

@@ -1,5 +1,5 @@
 -- What records leave behind what a message holds, number by number and level by level.
-use Rattle.std.proofs.Common.{◌≡◌, ◌<◌, inl, inr, ℕ, zero, suc, Bool, true, false, true≢false, cond, not, ◌&&◌, ◌||◌, List, [], ◌∷◌, ◌++◌, map, length, Option, Some, None, option_map, refl, sym, ap, ◌∙◌, subst}
+use Rattle.std.proofs.Common.{◌≡◌, ◌<◌, inl, inr, ℕ, zero, suc, Bool, true, false, true≢false, cond, List, [], ◌∷◌, ◌++◌, map, length, Option, Some, None, option_map, refl, sym, ap, ◌∙◌, subst}
 use Rattle.std.specs.Option.{IsSome}
 use mathlib.Core.Path.{fun_ext}
 use Rattle.reflect_tables.specs.Types.{PoolType, FieldType}
@@ -17,7 +17,7 @@ use Rattle.reflect_message.specs.Known.{holds_floats, known_field, known_extensi
 use Rattle.reflect_message.specs.Lists.{list_items}
 use Rattle.reflect_message.specs.Maps.{map_entries}
 use Rattle.reflect_message.specs.declared.value.Value.{Value}
-use Rattle.reflect_decode.specs.Fields.{LeavesField, LeavesExtension}
+use Rattle.reflect_decode.specs.Fields.{LeavesField}
 use Rattle.reflect_decode.specs.Keeps as keeps
 use Rattle.reflect_decode.specs.Levels.{TakenAt, TakesAt, MergesAt}
 use Rattle.reflect_decode.specs.Messages.{Takes, AreInside, IsInside, IsEntryBody}
@@ -32,7 +32,7 @@ use Rattle.protobuf_model.specs.Types.{Name, Field, Types, one, many, keyed, one
 use Rattle.protobuf_model.specs.Types as kinds
 use Rattle.protobuf_model.specs.Reader.{inside_of}
 use Rattle.protobuf_model.specs.Meaning.{Merge, is_in, payloads, standing, left_of, joined, taken, kept, held_by, held, meaning_by, meaning}
-use Rattle.protobuf_model.specs.Typed.{IsHeldOf, IsTypedBy, IsTyped}
+use Rattle.protobuf_model.specs.Typed.{IsHeldOf, IsTyped}
 use Rattle.protobuf_model.proofs.Bridge.{stands_alone, stands_behind, inside_is}
 use Rattle.message_view.specs.Sound.{HaveEntryDefaults}
 use Rattle.message_view.specs.Types.{name_at, part_of, key_of, entry_part, values_of, label_of, field_of, oneof_at, either_field, field_at}
@@ -169,7 +169,7 @@ module _ (d : MessageDescriptor) (keyed_maps : HaveMapKeys d.pool.now) (defaults
       subst (IsHeldOf typed levels (Some (field_of pool (oneof_at pool d.index g) false g))) (sym (seen_as old)) (subst (λ o. IsHeldOf typed levels o (start n)) field (holds n)) in
       field_stands f owns before after (view_of pool d.index new n)
       (λ ps leaves. ap (λ o. held inner o (start n) ps) field ∙ ap (λ h. held inner (Some (field_of pool (oneof_at pool d.index g) false g)) h ps) (sym (seen_as old))
-          ∙ field_behind pool keyed_maps defaults inner takes nests suits typed levels goes_on (oneof_at pool d.index g) false g before after ps whole fits is_typed leaves ∙ seen_as new)
+      ∙ field_behind pool keyed_maps defaults inner takes nests suits typed levels goes_on (oneof_at pool d.index g) false g before after ps whole fits is_typed leaves ∙ seen_as new)
       (λ ps leaves. ap (λ o. held inner o absent ps) field ∙ field_left pool keyed_maps defaults inner takes nests g after ps whole leaves ∙ seen_as new)
       ((merges.filled suited.chosen).each f owns)
 

@@ -1,0 +1,91 @@
+-- What `merge` says of bytes, in the words of the model.
+use Rattle.std.proofs.Common.{◌≡◌, inl, ℕ, List, [], ◌∷◌, ◌++◌, refl, sym, ◌∙◌, subst}
+use Rattle.reflect_pool.specs.declared.message.MessageDescriptor.{MessageDescriptor}
+use Rattle.reflect_wire.specs.Written.{AreBytes}
+use Rattle.reflect_message.specs.Contents.{content_of, nothing}
+use Rattle.reflect_message.specs.Oneofs.{AreChosen, IsExclusive}
+use Rattle.reflect_message.specs.Held.{choices_of, fields_of}
+use Rattle.reflect_message.specs.declared.message.DynamicMessage.{DynamicMessage}
+use Rattle.reflect_decode.specs.Levels.{MergesAt}
+use Rattle.reflect_decode.specs.Spelled.{IsMerged, IsSpelled}
+use Rattle.reflect_decode.specs.Suits.{Suits, SuitsBelow}
+use Rattle.reflect_decode.proofs.Suiting.{copy_suits, nothing_suits, suits_stay}
+use Rattle.protobuf_model.specs.Coded.{AreMerged, Mean, SuitsType}
+use Rattle.protobuf_model.specs.Values as model
+use Rattle.protobuf_model.proofs.Bytewise.{merged_in_pieces, merged_well, one_meaning}
+use Rattle.protobuf_model.proofs.Merging.{nothing_typed}
+use Rattle.message_view.specs.Sound.{IsSound}
+use Rattle.message_view.specs.Types.{name_at, types_of}
+use Rattle.message_view.specs.Views.{view, view_of}
+use Rattle.message_view.proofs.Accepting.{accepted}
+use Rattle.message_view.proofs.Decoded.{decoded_means}
+use Rattle.message_view.proofs.Defaults.{have_defaults}
+use Rattle.message_view.proofs.Elements.{seen_in}
+use Rattle.message_view.proofs.Sound.{named}
+use Rattle.merge_view.proofs.Copied.{copy_seen}
+use Rattle.merge_view.proofs.Merged.{merged_meaning}
+
+-- what is merged into a message is what the bytes mean behind it
+pub merged_means : (d : MessageDescriptor) → IsSound d.pool.now → (bytes : List ℕ) → AreBytes bytes → (old new : DynamicMessage) → old.descriptor ≡ d → new.descriptor ≡ d
+    → Suits 100 d (content_of old) → SuitsType (types_of d.pool.now) (name_at d.pool.now d.index) (view old) → IsMerged d bytes old new
+    → AreMerged (types_of d.pool.now) (name_at d.pool.now d.index) (view old) bytes (view new)
+merged_means d sound bytes b old new type also suits typed (rs, copy, spelled, copied, merges, accepts) =
+    let pool = d.pool.now in
+    let types = types_of pool in
+    let t = name_at pool d.index in
+    let told = named pool sound.names in
+    let same : view old ≡ view_of pool d.index copy = seen_in pool d old type refl ∙ sym (copy_seen pool d.index (content_of old) copy copied) in
+    let means = merged_meaning pool sound.keys sound.defaults types told 100 d refl copy (content_of new) rs (copy_suits 100 d (content_of old) copy copied suits) (subst (SuitsType types t) same typed) merges in
+    let whole = subst (λ start. AreMerged types t start bytes (view_of pool d.index (content_of new))) (sym same)
+    (rs, record { spelled = spelled; accepted = accepted pool sound.keys types told 100 d refl bytes rs b spelled (accepts suits) }, means) in
+    subst (AreMerged types t (view old) bytes) (sym (seen_in pool d new also refl)) whole
+
+-- and suits the type
+pub merged_suits : (d : MessageDescriptor) → IsSound d.pool.now → (bytes : List ℕ) → AreBytes bytes → (old new : DynamicMessage) → old.descriptor ≡ d → new.descriptor ≡ d
+    → Suits 100 d (content_of old) → SuitsType (types_of d.pool.now) (name_at d.pool.now d.index) (view old) → IsMerged d bytes old new
+    → Suits 100 d (content_of new) × SuitsType (types_of d.pool.now) (name_at d.pool.now d.index) (view new)
+merged_suits d sound bytes b old new type also suits typed merged = (
+  suits_stay 100 d merged.1 (content_of new) merged.0 merged.4 (copy_suits 100 d (content_of old) merged.1 merged.3 suits),
+  merged_well (types_of d.pool.now) (have_defaults d.pool.now sound.keys sound.defaults) (name_at d.pool.now d.index) (view old) (view new) bytes typed (merged_means d sound bytes b old new type also suits typed merged),
+)
+
+-- what is decoded suits its type
+pub decoded_fits : (d : MessageDescriptor) (bytes : List ℕ) (m : DynamicMessage) → m.descriptor ≡ d → IsSpelled d bytes m → IsExclusive m → Suits 100 d (content_of m)
+decoded_fits d bytes m type (rs, spelled, keeps, some, also, fields, (extensions, apart), accepts, ordered) chosen =
+    let merges : MergesAt 100 d nothing (content_of m) rs = record {
+      fields = record { spared = λ n spared. inl (some n spared) };
+      filled = λ _. record { each = fields; chosen = subst (λ d. AreChosen d (choices_of m) (fields_of m)) type chosen };
+      extensions = record { spared = also };
+      extended = record { each = extensions; behind = apart };
+      unknown = keeps;
+      ordered = λ _. ordered;
+    } in
+    suits_stay 100 d nothing (content_of m) rs merges (nothing_suits (SuitsBelow 100) d)
+
+-- bytes behind others
+pub behind_means : (d : MessageDescriptor) → IsSound d.pool.now → (a b : List ℕ) → AreBytes b → (old new : DynamicMessage) → old.descriptor ≡ d → new.descriptor ≡ d
+    → Suits 100 d (content_of old) → Mean (types_of d.pool.now) (name_at d.pool.now d.index) a (view old) → IsMerged d b old new
+    → Mean (types_of d.pool.now) (name_at d.pool.now d.index) (a ++ b) (view new)
+behind_means d sound a b second old new type also suits means merged =
+    let types = types_of d.pool.now in
+    let t = name_at d.pool.now d.index in
+    let typed = merged_well types (have_defaults d.pool.now sound.keys sound.defaults) t model.nothing (view old) a (nothing_typed 100 types t) means in
+    merged_in_pieces types t a b model.nothing (view old) (view new) means (merged_means d sound b second old new type also suits typed merged)
+
+-- one piece decoded and another merged
+pub pieces_mean : (d : MessageDescriptor) → IsSound d.pool.now → (a b : List ℕ) → AreBytes a → AreBytes b → (old new : DynamicMessage) → old.descriptor ≡ d → new.descriptor ≡ d
+    → IsSpelled d a old → IsExclusive old → IsMerged d b old new → Mean (types_of d.pool.now) (name_at d.pool.now d.index) (a ++ b) (view new)
+pieces_mean d sound a b first second old new type also spelled chosen merged =
+    behind_means d sound a b second old new type also (decoded_fits d a old type spelled chosen) (decoded_means d sound a first old type spelled) merged
+
+bytes_joined : (a b : List ℕ) → AreBytes a → AreBytes b → AreBytes (a ++ b)
+bytes_joined [] b first second = second
+bytes_joined (n ∷ a) b first second = (first.0, bytes_joined a b first.1 second)
+
+-- and both decoded at once
+pub pieces_alike : (d : MessageDescriptor) → IsSound d.pool.now → (a b : List ℕ) → AreBytes a → AreBytes b → (old new whole : DynamicMessage) → old.descriptor ≡ d → new.descriptor ≡ d → whole.descriptor ≡ d
+    → IsSpelled d a old → IsExclusive old → IsMerged d b old new → IsSpelled d (a ++ b) whole → view new ≡ view whole
+pieces_alike d sound a b first second old new whole type also last spelled chosen merged together =
+    one_meaning (types_of d.pool.now) (name_at d.pool.now d.index) model.nothing (a ++ b) (view new) (view whole)
+    (pieces_mean d sound a b first second old new type also spelled chosen merged)
+    (decoded_means d sound (a ++ b) (bytes_joined a b first second) whole last together)
