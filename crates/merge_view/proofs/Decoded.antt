@@ -1,5 +1,6 @@
 -- What `merge` says of bytes, in the words of the model.
-use Rattle.std.proofs.Common.{◌≡◌, inl, ℕ, List, [], ◌∷◌, ◌++◌, refl, sym, ◌∙◌, subst}
+use Rattle.std.proofs.Common.{◌≡◌, inl, ℕ, List, [], ◌∷◌, ◌++◌, append-nil, append_assoc, refl, sym, ◌∙◌, subst}
+use Rattle.std.specs.List.{AllByRecursion, concat}
 use Rattle.reflect_pool.specs.declared.message.MessageDescriptor.{MessageDescriptor}
 use Rattle.reflect_wire.specs.Written.{AreBytes}
 use Rattle.reflect_message.specs.Contents.{content_of, nothing}
@@ -22,6 +23,7 @@ use Rattle.message_view.proofs.Decoded.{decoded_means}
 use Rattle.message_view.proofs.Defaults.{have_defaults}
 use Rattle.message_view.proofs.Elements.{seen_in}
 use Rattle.message_view.proofs.Sound.{named}
+use Rattle.merge_view.specs.Pieces.{MergesEach}
 use Rattle.merge_view.proofs.Copied.{copy_seen}
 use Rattle.merge_view.proofs.Merged.{merged_meaning}
 
@@ -41,11 +43,14 @@ merged_means d sound bytes b old new type also suits typed (rs, copy, spelled, c
     subst (AreMerged types t (view old) bytes) (sym (seen_in pool d new also refl)) whole
 
 -- and suits the type
+merged_fits : (d : MessageDescriptor) (bytes : List ℕ) (old new : DynamicMessage) → Suits 100 d (content_of old) → IsMerged d bytes old new → Suits 100 d (content_of new)
+merged_fits d bytes old new suits (rs, copy, spelled, copied, merges, accepts) = suits_stay 100 d copy (content_of new) rs merges (copy_suits 100 d (content_of old) copy copied suits)
+
 pub merged_suits : (d : MessageDescriptor) → IsSound d.pool.now → (bytes : List ℕ) → AreBytes bytes → (old new : DynamicMessage) → old.descriptor ≡ d → new.descriptor ≡ d
     → Suits 100 d (content_of old) → SuitsType (types_of d.pool.now) (name_at d.pool.now d.index) (view old) → IsMerged d bytes old new
     → Suits 100 d (content_of new) × SuitsType (types_of d.pool.now) (name_at d.pool.now d.index) (view new)
 merged_suits d sound bytes b old new type also suits typed merged = (
-  suits_stay 100 d merged.1 (content_of new) merged.0 merged.4 (copy_suits 100 d (content_of old) merged.1 merged.3 suits),
+  merged_fits d bytes old new suits merged,
   merged_well (types_of d.pool.now) (have_defaults d.pool.now sound.keys sound.defaults) (name_at d.pool.now d.index) (view old) (view new) bytes typed (merged_means d sound bytes b old new type also suits typed merged),
 )
 
@@ -78,14 +83,36 @@ pub pieces_mean : (d : MessageDescriptor) → IsSound d.pool.now → (a b : List
 pieces_mean d sound a b first second old new type also spelled chosen merged =
     behind_means d sound a b second old new type also (decoded_fits d a old type spelled chosen) (decoded_means d sound a first old type spelled) merged
 
-bytes_joined : (a b : List ℕ) → AreBytes a → AreBytes b → AreBytes (a ++ b)
-bytes_joined [] b first second = second
-bytes_joined (n ∷ a) b first second = (first.0, bytes_joined a b first.1 second)
+bytes_joined : (a : List ℕ) (bs : List (List ℕ)) → AreBytes a → AllByRecursion AreBytes bs → AreBytes (a ++ concat bs)
+bytes_joined [] [] first all = tt
+bytes_joined [] (b ∷ bs) first all = bytes_joined b bs all.0 all.1
+bytes_joined (n ∷ a) bs first all = (first.0, bytes_joined a bs first.1 all)
 
--- and both decoded at once
-pub pieces_alike : (d : MessageDescriptor) → IsSound d.pool.now → (a b : List ℕ) → AreBytes a → AreBytes b → (old new whole : DynamicMessage) → old.descriptor ≡ d → new.descriptor ≡ d → whole.descriptor ≡ d
-    → IsSpelled d a old → IsExclusive old → IsMerged d b old new → IsSpelled d (a ++ b) whole → view new ≡ view whole
-pieces_alike d sound a b first second old new whole type also last spelled chosen merged together =
-    one_meaning (types_of d.pool.now) (name_at d.pool.now d.index) model.nothing (a ++ b) (view new) (view whole)
-    (pieces_mean d sound a b first second old new type also spelled chosen merged)
-    (decoded_means d sound (a ++ b) (bytes_joined a b first second) whole last together)
+-- any number of pieces
+through : (d : MessageDescriptor) → IsSound d.pool.now → (a : List ℕ) (bs : List (List ℕ)) → AllByRecursion AreBytes bs → (old new : DynamicMessage) → old.descriptor ≡ d → new.descriptor ≡ d
+    → Suits 100 d (content_of old) → Mean (types_of d.pool.now) (name_at d.pool.now d.index) a (view old) → MergesEach d old bs new
+    → Mean (types_of d.pool.now) (name_at d.pool.now d.index) (a ++ concat bs) (view new)
+through d sound a [] all old new type also suits means same =
+    let types = types_of d.pool.now in
+    let t = name_at d.pool.now d.index in
+    subst (λ bytes. Mean types t bytes (view new)) (sym (append-nil a)) (subst (λ m. Mean types t a (view m)) same means)
+through d sound a (b ∷ bs) all old new type also suits means (next, between, merged, rest) =
+    let types = types_of d.pool.now in
+    let t = name_at d.pool.now d.index in
+    let further = behind_means d sound a b all.0 old next type between suits means merged in
+    subst (λ bytes. Mean types t bytes (view new)) (append_assoc a b (concat bs))
+    (through d sound (a ++ b) bs all.1 next new between also (merged_fits d b old next suits merged) further rest)
+
+pub each_means : (d : MessageDescriptor) → IsSound d.pool.now → (a : List ℕ) (bs : List (List ℕ)) → AreBytes a → AllByRecursion AreBytes bs → (old new : DynamicMessage) → old.descriptor ≡ d → new.descriptor ≡ d
+    → IsSpelled d a old → IsExclusive old → MergesEach d old bs new → Mean (types_of d.pool.now) (name_at d.pool.now d.index) (a ++ concat bs) (view new)
+each_means d sound a bs first all old new type also spelled chosen merges =
+    through d sound a bs all old new type also (decoded_fits d a old type spelled chosen) (decoded_means d sound a first old type spelled) merges
+
+-- and all decoded at once
+pub pieces_alike : (d : MessageDescriptor) → IsSound d.pool.now → (a : List ℕ) (bs : List (List ℕ)) → AreBytes a → AllByRecursion AreBytes bs → (old new whole : DynamicMessage)
+    → old.descriptor ≡ d → new.descriptor ≡ d → whole.descriptor ≡ d
+    → IsSpelled d a old → IsExclusive old → MergesEach d old bs new → IsSpelled d (a ++ concat bs) whole → view new ≡ view whole
+pieces_alike d sound a bs first all old new whole type also last spelled chosen merges together =
+    one_meaning (types_of d.pool.now) (name_at d.pool.now d.index) model.nothing (a ++ concat bs) (view new) (view whole)
+    (each_means d sound a bs first all old new type also spelled chosen merges)
+    (decoded_means d sound (a ++ concat bs) (bytes_joined a bs first all) whole last together)

@@ -1,6 +1,7 @@
 //! Laws of what `merge` says of bytes and messages, each the contract of a function that does
 //! nothing. They speak of the types of a pool, and of a message as one of these.
 ghost use Rattle.std.specs.Prelude.{◌≡◌, ◌++◌, ℕ, List};
+ghost use Rattle.std.specs.List.{AllByRecursion, concat};
 ghost use Rattle.protobuf_model.specs.Coded.{AreMerged, Mean, SuitsType};
 ghost use Rattle.reflect_decode.specs.Spelled.{IsMerged, IsSpelled};
 ghost use Rattle.reflect_decode.specs.Suits.{Suits};
@@ -12,6 +13,7 @@ ghost use Rattle.reflect_wire.specs.Written.{AreBytes};
 ghost use Rattle.message_view.specs.Sound.{IsSound};
 ghost use Rattle.message_view.specs.Types.{name_at, types_of};
 ghost use Rattle.message_view.specs.Views.{view};
+ghost use Rattle.merge_view.specs.Pieces.{MergesEach};
 
 /// What `merge` leaves is what the bytes mean behind what the message held, where this suits the
 /// type.
@@ -61,12 +63,21 @@ pub fn decoded_and_merged_pieces_mean_the_message()
         → Mean (types_of d.pool.now) (name_at d.pool.now d.index) (a ++ b) (view new) }
 {}
 
-/// What `decode` gives of the whole is the same message.
+/// So is one into which any number of pieces was merged, one after the other.
+pub fn pieces_mean_the_message()
+    ensures { (d : MessageDescriptor) → IsSound d.pool.now
+        → (a : List ℕ) (bs : List (List ℕ)) → AreBytes a → AllByRecursion AreBytes bs
+        → (old new : DynamicMessage) → old.descriptor ≡ d → new.descriptor ≡ d
+        → IsSpelled d a old → IsExclusive old → MergesEach d old bs new
+        → Mean (types_of d.pool.now) (name_at d.pool.now d.index) (a ++ concat bs) (view new) }
+{}
+
+/// What `decode` gives of them together is the same message.
 pub fn pieces_are_merged_as_they_are_decoded()
     ensures { (d : MessageDescriptor) → IsSound d.pool.now
-        → (a b : List ℕ) → AreBytes a → AreBytes b
+        → (a : List ℕ) (bs : List (List ℕ)) → AreBytes a → AllByRecursion AreBytes bs
         → (old new whole : DynamicMessage)
         → old.descriptor ≡ d → new.descriptor ≡ d → whole.descriptor ≡ d
-        → IsSpelled d a old → IsExclusive old → IsMerged d b old new → IsSpelled d (a ++ b) whole
-        → view new ≡ view whole }
+        → IsSpelled d a old → IsExclusive old → MergesEach d old bs new
+        → IsSpelled d (a ++ concat bs) whole → view new ≡ view whole }
 {}
