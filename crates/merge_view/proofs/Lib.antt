@@ -3,3 +3,4 @@ pub mod Elements
 pub mod Entries
 pub mod Merged
 pub mod Decoded
+mod Example
