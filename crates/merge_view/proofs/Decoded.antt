@@ -42,10 +42,11 @@ merged_means d sound bytes b old new type also suits typed (rs, copy, spelled, c
     (rs, record { spelled = spelled; accepted = accepted pool sound.keys types told 100 d refl bytes rs b spelled (accepts suits) }, means) in
     subst (AreMerged types t (view old) bytes) (sym (seen_in pool d new also refl)) whole
 
--- and suits the type
+-- and suits the type, in the program's words
 merged_fits : (d : MessageDescriptor) (bytes : List ℕ) (old new : DynamicMessage) → Suits 100 d (content_of old) → IsMerged d bytes old new → Suits 100 d (content_of new)
 merged_fits d bytes old new suits (rs, copy, spelled, copied, merges, accepts) = suits_stay 100 d copy (content_of new) rs merges (copy_suits 100 d (content_of old) copy copied suits)
 
+-- and in the model's
 pub merged_suits : (d : MessageDescriptor) → IsSound d.pool.now → (bytes : List ℕ) → AreBytes bytes → (old new : DynamicMessage) → old.descriptor ≡ d → new.descriptor ≡ d
     → Suits 100 d (content_of old) → SuitsType (types_of d.pool.now) (name_at d.pool.now d.index) (view old) → IsMerged d bytes old new
     → Suits 100 d (content_of new) × SuitsType (types_of d.pool.now) (name_at d.pool.now d.index) (view new)
