@@ -1,0 +1,69 @@
+-- Languages of tokens: which tokens may stand from one place of a source to another.
+use Rattle.protox_lex.specs.Token.{Token, ident}
+use Rattle.protox_lex.specs.declared.span.Span.{Span}
+use Rattle.protox_tokens.specs.Marks.{Mark, Spells, spot}
+use Rattle.protox_tokens.specs.Parser.{Parser}
+use Rattle.protox_tokens.specs.Stream.{Stream}
+use Rattle.std.specs.Prelude.{◌≡◌, ◌↔◌, List, [], ◌∷◌, Option, Some, None, Ok}
+
+-- What stands before the first place and not before the second is of the language.
+abbrev pub Language : Type 1
+Language = Stream → Stream → Type 0
+
+abbrev pub nothing : Language
+nothing ts r = ts ≡ r
+
+abbrev pub never : Language
+never ts r = ⊥
+
+-- one token
+abbrev pub one : Mark → Language
+one m ts r = Spells (m ∷ []) ts r
+
+-- this token, at a place of which that holds
+abbrev pub token_at : Token → (Span → Type 0) → Language
+token_at k Holds ts r = (at : Span) × one (spot at k) ts r × Holds at
+
+abbrev pub the : Token → Language
+the k = token_at k (λ at. Unit {0})
+
+-- where what stands at the first place begins, and where it ends
+abbrev pub begins : Span → Span → Type 0
+begins whole at = whole.start ≡ at.start
+
+abbrev pub ends : Span → Span → Type 0
+ends whole at = whole.end ≡ at.end
+
+-- one behind the other
+infixr 10 ◌▸◌
+abbrev pub ◌▸◌ : Language → Language → Language
+L ▸ M = λ ts r. (u : Stream) × L ts u × M u r
+
+-- this token at the place that is kept of it, or none
+abbrev pub if_there : Token → Option Span → Language
+if_there k None = nothing
+if_there k (Some at) = one (spot at k)
+
+abbrev pub each : {A : Type 0} → (A → Language) → List A → Language
+each L [] = nothing
+each L (x ∷ xs) = L x ▸ each L xs
+
+-- one or more
+abbrev pub some : {A : Type 0} → (A → Language) → List A → Language
+some L [] = never
+some L (x ∷ xs) = L x ▸ each L xs
+
+-- one or more, with this token between them
+abbrev pub some_by : {A : Type 0} → Token → (A → Language) → List A → Language
+some_by k L [] = never
+some_by k L (x ∷ xs) = L x ▸ each (λ y. the k ▸ L y) xs
+
+-- A rule reads a value off tokens, and leaves the others, exactly where those that it takes spell
+-- the value and this holds of the others.
+abbrev pub Reads : {A : Type 0} → Parser A → (A → Language) → (A → Stream → Type 0) → Type 0
+Reads {A = A} p L Behind =
+    (a : A) (ts r : Stream) → (p ts ≡ Ok (a, r)) ↔ (L a ts r × Behind a r)
+
+-- Whatever may follow.
+abbrev pub Anything : {A : Type 0} → A → Stream → Type 0
+Anything a r = Unit {0}

@@ -1,0 +1,31 @@
+//! What each rule of the parser reads, as contracts of functions that do nothing.
+//!
+//! `Reads rule language behind` says both ways that the rule reads a value off tokens, and leaves
+//! the others, exactly where the tokens that it takes are of the value's language and `behind`
+//! holds of the others. The languages are those of the specification, one production each.
+ghost use Rattle.protox_options.specs.NameGrammar.{an_int, full_ident, strings, type_name};
+ghost use Rattle.source_grammar.specs.Languages.{Anything, Reads};
+ghost use Rattle.source_grammar.specs.Names.{
+  NoDot,
+  NoString,
+  a_string,
+  a_type_name,
+  full_name,
+  integer,
+};
+
+/// Names, and types' names, are words with dots between them.
+pub fn names_are_read_as_they_are_spelled()
+    ensures full { Reads full_ident full_name NoDot }
+    ensures types { Reads type_name a_type_name NoDot }
+{}
+
+/// An integer is its digits, and a minus before them where it is negative.
+pub fn integers_are_read_as_they_are_spelled()
+    ensures { Reads an_int integer Anything }
+{}
+
+/// A string is one literal or more.
+pub fn strings_are_read_as_they_are_spelled()
+    ensures { Reads strings a_string NoString }
+{}
