@@ -1,2 +1,4 @@
-pub mod Rules
+pub mod Ahead
 pub mod NameLaws
+pub mod RangeLaws
+pub mod Rules

@@ -1,2 +1,3 @@
 pub mod Languages
 pub mod Names
+pub mod Ranges

@@ -4,6 +4,7 @@
 //! the others, exactly where the tokens that it takes are of the value's language and `behind`
 //! holds of the others. The languages are those of the specification, one production each.
 ghost use Rattle.protox_options.specs.NameGrammar.{an_int, full_ident, strings, type_name};
+ghost use Rattle.protox_options.specs.RangeGrammar.{range, reserved};
 ghost use Rattle.source_grammar.specs.Languages.{Anything, Reads};
 ghost use Rattle.source_grammar.specs.Names.{
   NoDot,
@@ -13,6 +14,7 @@ ghost use Rattle.source_grammar.specs.Names.{
   full_name,
   integer,
 };
+ghost use Rattle.source_grammar.specs.Ranges.{NoEnd, a_range, a_reserved};
 
 /// Names, and types' names, are words with dots between them.
 pub fn names_are_read_as_they_are_spelled()
@@ -28,4 +30,11 @@ pub fn integers_are_read_as_they_are_spelled()
 /// A string is one literal or more.
 pub fn strings_are_read_as_they_are_spelled()
     ensures { Reads strings a_string NoString }
+{}
+
+/// A `reserved` statement is ranges or names with commas between them. A range is a number, and
+/// behind the word `to` its end.
+pub fn ranges_are_read_as_they_are_spelled()
+    ensures range { Reads range a_range NoEnd }
+    ensures reserved { Reads reserved a_reserved Anything }
 {}
