@@ -1,4 +1,6 @@
+pub mod AggregateLaws
 pub mod Ahead
 pub mod NameLaws
 pub mod RangeLaws
 pub mod Rules
+pub mod Takes

@@ -4,7 +4,7 @@ use Rattle.protox_lex.specs.declared.span.Span.{Span}
 use Rattle.protox_tokens.specs.Marks.{Mark, Spells, spot}
 use Rattle.protox_tokens.specs.Parser.{Parser}
 use Rattle.protox_tokens.specs.Stream.{Stream}
-use Rattle.std.specs.Prelude.{◌≡◌, ◌↔◌, List, [], ◌∷◌, Option, Some, None, Ok}
+use Rattle.std.specs.Prelude.{◌≡◌, ◌↔◌, ◌⊎◌, ℕ, zero, suc, List, [], ◌∷◌, Option, Some, None, Ok}
 
 -- What stands before the first place and not before the second is of the language.
 abbrev pub Language : Type 1
@@ -57,6 +57,22 @@ some L (x ∷ xs) = L x ▸ each L xs
 abbrev pub some_by : {A : Type 0} → Token → (A → Language) → List A → Language
 some_by k L [] = never
 some_by k L (x ∷ xs) = L x ▸ each (λ y. the k ▸ L y) xs
+
+-- the one or the other
+infixr 9 ◌∪◌
+abbrev pub ◌∪◌ : Language → Language → Language
+L ∪ M = λ ts r. L ts r ⊎ M ts r
+
+abbrev pub perhaps : Language → Language
+perhaps L = L ∪ nothing
+
+abbrev pub times : Language → ℕ → Language
+times L zero = nothing
+times L (suc n) = L ▸ times L n
+
+-- any number of these, one behind the other
+abbrev pub many : Language → Language
+many L ts r = (n : ℕ) × times L n ts r
 
 -- A rule reads a value off tokens, and leaves the others, exactly where those that it takes spell
 -- the value and this holds of the others.

@@ -1,3 +1,4 @@
+pub mod Aggregates
 pub mod Languages
 pub mod Names
 pub mod Ranges

@@ -3,8 +3,10 @@
 //! `Reads rule language behind` says both ways that the rule reads a value off tokens, and leaves
 //! the others, exactly where the tokens that it takes are of the value's language and `behind`
 //! holds of the others. The languages are those of the specification, one production each.
+ghost use Rattle.protox_aggregates.specs.AggregateGrammar.{aggregate};
 ghost use Rattle.protox_options.specs.NameGrammar.{an_int, full_ident, strings, type_name};
 ghost use Rattle.protox_options.specs.RangeGrammar.{range, reserved};
+ghost use Rattle.source_grammar.specs.Aggregates.{an_aggregate};
 ghost use Rattle.source_grammar.specs.Languages.{Anything, Reads};
 ghost use Rattle.source_grammar.specs.Names.{
   NoDot,
@@ -37,4 +39,10 @@ pub fn strings_are_read_as_they_are_spelled()
 pub fn ranges_are_read_as_they_are_spelled()
     ensures range { Reads range a_range NoEnd }
     ensures reserved { Reads reserved a_reserved Anything }
+{}
+
+/// A value in braces is fields of text format, with braces of a hundred levels in them at most, and
+/// the text that is kept of it is that of their tokens.
+pub fn values_in_braces_are_read_as_they_are_spelled()
+    ensures { Reads aggregate (λ x. an_aggregate x.0 x.1) Anything }
 {}
