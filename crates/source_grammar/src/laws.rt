@@ -5,6 +5,8 @@
 //! holds of the others. The languages are those of the specification, one production each.
 ghost use Rattle.protox_aggregates.specs.AggregateGrammar.{aggregate};
 ghost use Rattle.protox_options.specs.NameGrammar.{an_int, full_ident, strings, type_name};
+ghost use Rattle.protox_options.specs.OptionGrammar as rules;
+ghost use Rattle.protox_options.specs.OptionGrammar.{option, value};
 ghost use Rattle.protox_options.specs.RangeGrammar.{range, reserved};
 ghost use Rattle.source_grammar.specs.Aggregates.{an_aggregate};
 ghost use Rattle.source_grammar.specs.Languages.{Anything, Reads};
@@ -15,6 +17,13 @@ ghost use Rattle.source_grammar.specs.Names.{
   a_type_name,
   full_name,
   integer,
+};
+ghost use Rattle.source_grammar.specs.Options.{
+  ConstantEnds,
+  NoBracket,
+  a_constant,
+  an_option,
+  options,
 };
 ghost use Rattle.source_grammar.specs.Ranges.{NoEnd, a_range, a_reserved};
 
@@ -45,4 +54,11 @@ pub fn ranges_are_read_as_they_are_spelled()
 /// the text that is kept of it is that of their tokens.
 pub fn values_in_braces_are_read_as_they_are_spelled()
     ensures { Reads aggregate (λ x. an_aggregate x.0 x.1) Anything }
+{}
+
+/// An option is a name and a value. It stands in a statement, or with others in brackets.
+pub fn options_are_read_as_they_are_spelled()
+    ensures value { Reads value a_constant ConstantEnds }
+    ensures statement { Reads option an_option Anything }
+    ensures list { Reads rules.options options NoBracket }
 {}
