@@ -1,5 +1,7 @@
 pub mod AggregateLaws
 pub mod Ahead
+pub mod Choices
+pub mod EnumLaws
 pub mod NameLaws
 pub mod OptionLaws
 pub mod RangeLaws

@@ -1,5 +1,7 @@
 pub mod Aggregates
+pub mod Enums
 pub mod Languages
 pub mod Names
 pub mod Options
 pub mod Ranges
+pub mod Words

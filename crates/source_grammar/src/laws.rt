@@ -4,11 +4,13 @@
 //! the others, exactly where the tokens that it takes are of the value's language and `behind`
 //! holds of the others. The languages are those of the specification, one production each.
 ghost use Rattle.protox_aggregates.specs.AggregateGrammar.{aggregate};
+ghost use Rattle.protox_declarations.specs.EnumGrammar.{enumeration};
 ghost use Rattle.protox_options.specs.NameGrammar.{an_int, full_ident, strings, type_name};
 ghost use Rattle.protox_options.specs.OptionGrammar as rules;
 ghost use Rattle.protox_options.specs.OptionGrammar.{option, value};
 ghost use Rattle.protox_options.specs.RangeGrammar.{range, reserved};
 ghost use Rattle.source_grammar.specs.Aggregates.{an_aggregate};
+ghost use Rattle.source_grammar.specs.Enums.{an_enum};
 ghost use Rattle.source_grammar.specs.Languages.{Anything, Reads};
 ghost use Rattle.source_grammar.specs.Names.{
   NoDot,
@@ -61,4 +63,9 @@ pub fn options_are_read_as_they_are_spelled()
     ensures value { Reads value a_constant ConstantEnds }
     ensures statement { Reads option an_option Anything }
     ensures list { Reads rules.options options NoBracket }
+{}
+
+/// An enum is a name and statements in braces, of which those that no word begins are its values.
+pub fn enums_are_read_as_they_are_spelled()
+    ensures { Reads enumeration an_enum Anything }
 {}
