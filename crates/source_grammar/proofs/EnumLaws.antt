@@ -65,10 +65,10 @@ valued = choice_last enum_value (rule_where (λ (v : EnumValue). IsNoneOf words 
   starts v ts r h = let m = none_misses v.name.text v.name.span words ts h.1.0 h.1.1 h.0 in
       (m.0, (m.1.0, (word_misses (sign s.Semicolon) v.name ts h.1.0 refl h.1.1, (word_misses (sign s.RightBrace) v.name ts h.1.0 refl h.1.1, tt))))
 
-option_starts : (o : OptionStatement) (ts r : Stream) → an_option o ts r → sees (ident (codes "option")) ts ≡ true
+pub option_starts : (o : OptionStatement) (ts r : Stream) → an_option o ts r → sees (ident (codes "option")) ts ≡ true
 option_starts o ts r h = first_is (ident (codes "option")) (ident (codes "option")) (begins o.span) ts h.0 h.1
 
-reserved_starts : (x : Reserved) (ts r : Stream) → a_reserved x ts r → sees (ident (codes "reserved")) ts ≡ true
+pub reserved_starts : (x : Reserved) (ts r : Stream) → a_reserved x ts r → sees (ident (codes "reserved")) ts ≡ true
 reserved_starts x ts r h = first_is (ident (codes "reserved")) (ident (codes "reserved")) (begins x.span) ts h.0 h.1
 
 abbrev Item : EnumItem → Language

@@ -6,4 +6,5 @@ pub mod NameLaws
 pub mod OptionLaws
 pub mod RangeLaws
 pub mod Rules
+pub mod ServiceLaws
 pub mod Takes

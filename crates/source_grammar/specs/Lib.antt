@@ -4,4 +4,5 @@ pub mod Languages
 pub mod Names
 pub mod Options
 pub mod Ranges
+pub mod Services
 pub mod Words

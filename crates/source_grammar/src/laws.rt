@@ -5,6 +5,7 @@
 //! holds of the others. The languages are those of the specification, one production each.
 ghost use Rattle.protox_aggregates.specs.AggregateGrammar.{aggregate};
 ghost use Rattle.protox_declarations.specs.EnumGrammar.{enumeration};
+ghost use Rattle.protox_declarations.specs.ServiceGrammar.{service};
 ghost use Rattle.protox_options.specs.NameGrammar.{an_int, full_ident, strings, type_name};
 ghost use Rattle.protox_options.specs.OptionGrammar as rules;
 ghost use Rattle.protox_options.specs.OptionGrammar.{option, value};
@@ -28,6 +29,7 @@ ghost use Rattle.source_grammar.specs.Options.{
   options,
 };
 ghost use Rattle.source_grammar.specs.Ranges.{NoEnd, a_range, a_reserved};
+ghost use Rattle.source_grammar.specs.Services.{a_service};
 
 /// Names, and types' names, are words with dots between them.
 pub fn names_are_read_as_they_are_spelled()
@@ -68,4 +70,9 @@ pub fn options_are_read_as_they_are_spelled()
 /// An enum is a name and statements in braces, of which those that no word begins are its values.
 pub fn enums_are_read_as_they_are_spelled()
     ensures { Reads enumeration an_enum Anything }
+{}
+
+/// A service is a name, and options and methods in braces.
+pub fn services_are_read_as_they_are_spelled()
+    ensures { Reads service a_service Anything }
 {}
