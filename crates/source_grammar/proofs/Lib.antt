@@ -2,6 +2,7 @@ pub mod AggregateLaws
 pub mod Ahead
 pub mod Choices
 pub mod EnumLaws
+pub mod FieldLaws
 pub mod NameLaws
 pub mod OptionLaws
 pub mod RangeLaws

@@ -1,10 +1,11 @@
 -- Languages of tokens: which tokens may stand from one place of a source to another.
+use Rattle.protox_lex.specs.Class.{Text}
 use Rattle.protox_lex.specs.Token.{Token, ident}
 use Rattle.protox_lex.specs.declared.span.Span.{Span}
 use Rattle.protox_tokens.specs.Marks.{Mark, Spells, spot}
-use Rattle.protox_tokens.specs.Parser.{Parser}
-use Rattle.protox_tokens.specs.Stream.{Stream}
-use Rattle.std.specs.Prelude.{◌≡◌, ◌↔◌, ◌⊎◌, ℕ, zero, suc, List, [], ◌∷◌, Option, Some, None, Ok}
+use Rattle.protox_tokens.specs.Parser.{Parser, sees}
+use Rattle.protox_tokens.specs.Stream.{Stream, source, peek, span_of}
+use Rattle.std.specs.Prelude.{◌≡◌, ◌↔◌, ◌⊎◌, ℕ, zero, suc, false, List, [], ◌∷◌, Option, Some, None, Ok}
 
 -- What stands before the first place and not before the second is of the language.
 abbrev pub Language : Type 1
@@ -73,6 +74,22 @@ times L (suc n) = L ▸ times L n
 -- any number of these, one behind the other
 abbrev pub many : Language → Language
 many L ts r = (n : ℕ) × times L n ts r
+
+-- where this holds
+abbrev pub given : Type 0 → Language → Language
+given Holds L = λ ts r. Holds × L ts r
+
+abbrev pub FirstIsNoneOf : List Text → Stream → Type 0
+FirstIsNoneOf [] ts = Unit {0}
+FirstIsNoneOf (k ∷ ks) ts = (sees (ident k) ts ≡ false) × FirstIsNoneOf ks ts
+
+-- where none of these words comes first
+abbrev pub unless : List Text → Language → Language
+unless ks L = λ ts r. FirstIsNoneOf ks ts × L ts r
+
+-- where the first token begins at the start of this place
+abbrev pub starts : Span → Language → Language
+starts whole L = λ ts r. begins whole (span_of (peek source ts)) × L ts r
 
 -- A rule reads a value off tokens, and leaves the others, exactly where those that it takes spell
 -- the value and this holds of the others.

@@ -1,6 +1,8 @@
 pub mod Aggregates
 pub mod Enums
+pub mod Fields
 pub mod Languages
+pub mod Messages
 pub mod Names
 pub mod Options
 pub mod Ranges

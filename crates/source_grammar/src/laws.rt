@@ -6,12 +6,14 @@
 ghost use Rattle.protox_aggregates.specs.AggregateGrammar.{aggregate};
 ghost use Rattle.protox_declarations.specs.EnumGrammar.{enumeration};
 ghost use Rattle.protox_declarations.specs.ServiceGrammar.{service};
+ghost use Rattle.protox_messages.specs.FieldGrammar.{extensions, ty};
 ghost use Rattle.protox_options.specs.NameGrammar.{an_int, full_ident, strings, type_name};
 ghost use Rattle.protox_options.specs.OptionGrammar as rules;
 ghost use Rattle.protox_options.specs.OptionGrammar.{option, value};
 ghost use Rattle.protox_options.specs.RangeGrammar.{range, reserved};
 ghost use Rattle.source_grammar.specs.Aggregates.{an_aggregate};
 ghost use Rattle.source_grammar.specs.Enums.{an_enum};
+ghost use Rattle.source_grammar.specs.Fields.{TyEnds, a_type, an_extensions};
 ghost use Rattle.source_grammar.specs.Languages.{Anything, Reads};
 ghost use Rattle.source_grammar.specs.Names.{
   NoDot,
@@ -75,4 +77,11 @@ pub fn enums_are_read_as_they_are_spelled()
 /// A service is a name, and options and methods in braces.
 pub fn services_are_read_as_they_are_spelled()
     ensures { Reads service a_service Anything }
+{}
+
+/// A type is one of the scalar types' words, or a name that begins with another word or a dot. The
+/// statement `extensions` is ranges, and options behind them.
+pub fn types_are_read_as_they_are_spelled()
+    ensures types { Reads ty a_type TyEnds }
+    ensures extensions { Reads extensions an_extensions Anything }
 {}
