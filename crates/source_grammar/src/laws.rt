@@ -7,14 +7,17 @@ ghost use Rattle.protox_aggregates.specs.AggregateGrammar.{aggregate};
 ghost use Rattle.protox_declarations.specs.EnumGrammar.{enumeration};
 ghost use Rattle.protox_declarations.specs.ServiceGrammar.{service};
 ghost use Rattle.protox_messages.specs.FieldGrammar.{extensions, ty};
+ghost use Rattle.protox_messages.specs.MessageGrammar as rules;
+ghost use Rattle.protox_messages.specs.MessageGrammar.{extend_with, message_with};
 ghost use Rattle.protox_options.specs.NameGrammar.{an_int, full_ident, strings, type_name};
-ghost use Rattle.protox_options.specs.OptionGrammar as rules;
+ghost use Rattle.protox_options.specs.OptionGrammar as lists;
 ghost use Rattle.protox_options.specs.OptionGrammar.{option, value};
 ghost use Rattle.protox_options.specs.RangeGrammar.{range, reserved};
 ghost use Rattle.source_grammar.specs.Aggregates.{an_aggregate};
 ghost use Rattle.source_grammar.specs.Enums.{an_enum};
 ghost use Rattle.source_grammar.specs.Fields.{TyEnds, a_type, an_extensions};
 ghost use Rattle.source_grammar.specs.Languages.{Anything, Reads};
+ghost use Rattle.source_grammar.specs.Messages.{a_message, an_extend, block};
 ghost use Rattle.source_grammar.specs.Names.{
   NoDot,
   NoString,
@@ -32,6 +35,7 @@ ghost use Rattle.source_grammar.specs.Options.{
 };
 ghost use Rattle.source_grammar.specs.Ranges.{NoEnd, a_range, a_reserved};
 ghost use Rattle.source_grammar.specs.Services.{a_service};
+ghost use Rattle.std.specs.Prelude.{ℕ};
 
 /// Names, and types' names, are words with dots between them.
 pub fn names_are_read_as_they_are_spelled()
@@ -66,7 +70,7 @@ pub fn values_in_braces_are_read_as_they_are_spelled()
 pub fn options_are_read_as_they_are_spelled()
     ensures value { Reads value a_constant ConstantEnds }
     ensures statement { Reads option an_option Anything }
-    ensures list { Reads rules.options options NoBracket }
+    ensures list { Reads lists.options options NoBracket }
 {}
 
 /// An enum is a name and statements in braces, of which those that no word begins are its values.
@@ -84,4 +88,11 @@ pub fn services_are_read_as_they_are_spelled()
 pub fn types_are_read_as_they_are_spelled()
     ensures types { Reads ty a_type TyEnds }
     ensures extensions { Reads extensions an_extensions Anything }
+{}
+
+/// A message is a name and what may stand in it, and an `extend` statement a type's name and fields,
+/// with at most so many braces of messages and groups open at once.
+pub fn messages_are_read_as_they_are_spelled()
+    ensures messages { (n : ℕ) → Reads (message_with (rules.block n)) (a_message (block n)) Anything }
+    ensures extends { (n : ℕ) → Reads (extend_with (rules.block n)) (an_extend (block n)) Anything }
 {}
