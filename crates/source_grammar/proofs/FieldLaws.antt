@@ -357,7 +357,7 @@ rule_kind {H} = record { sound = λ ts r k h e. forth ts r k (sees map_word ts) 
 -- ---- labels
 
 -- a token that stands for a value by itself, where what holds of the input is passed on
-rule_or : {B : Type 0} (k : Token) → IsNamed k → (e : Span → B) (f : Option Span → Parser B) {H : Stream → Type 0} {M : B → Language} {G : B → Stream → Type 0} → ((at : Span) → f (Some at) ≡ pure (e at)) → ((at : Span) (r : Stream) → G (e at) r)
+pub rule_or : {B : Type 0} (k : Token) → IsNamed k → (e : Span → B) (f : Option Span → Parser B) {H : Stream → Type 0} {M : B → Language} {G : B → Stream → Type 0} → ((at : Span) → f (Some at) ≡ pure (e at)) → ((at : Span) (r : Stream) → G (e at) r)
     → Rule (λ ts. H ts × (sees k ts ≡ false)) (f None) M IsAny G → ((b : B) (ts r : Stream) → M b ts r → G b r → sees k ts ≡ false) → Rule H (eat k >>= f) (λ b ts r. token_at k (λ at. b ≡ e at) ts r ⊎ M b ts r) IsAny G
 rule_or {B = B} k is_named e f {H = H} {M = M} {G = G} alone told other tails = record { sound = λ ts r b h i. let x = bound (eat k ts) f (b, r) i in by ts r b h x.0.0 x.0.1 ((rule_eat k is_named {H = H}).sound ts x.0.1 x.0.0 h x.1) x.2; complete = λ ts r b h y g. back ts r b h g } where
   by : (ts r : Stream) (b : B) → H ts → (o : Option Span) (u : Stream) → if_there k o ts u × Unit {0} × Absent k o u → f o u ≡ Ok (b, r) → (token_at k (λ at. b ≡ e at) ts r ⊎ M b ts r) × Unit {0} × G b r

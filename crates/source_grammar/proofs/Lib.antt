@@ -3,6 +3,7 @@ pub mod Ahead
 pub mod Choices
 pub mod EnumLaws
 pub mod FieldLaws
+pub mod FileLaws
 pub mod MessageLaws
 pub mod NameLaws
 pub mod OptionLaws

@@ -1,6 +1,7 @@
 pub mod Aggregates
 pub mod Enums
 pub mod Fields
+pub mod Files
 pub mod Languages
 pub mod Messages
 pub mod Names

@@ -6,6 +6,8 @@
 ghost use Rattle.protox_aggregates.specs.AggregateGrammar.{aggregate};
 ghost use Rattle.protox_declarations.specs.EnumGrammar.{enumeration};
 ghost use Rattle.protox_declarations.specs.ServiceGrammar.{service};
+ghost use Rattle.protox_file.specs.Sources.{Spells};
+ghost use Rattle.protox_lex.specs.Class.{Text};
 ghost use Rattle.protox_messages.specs.FieldGrammar.{extensions, ty};
 ghost use Rattle.protox_messages.specs.MessageGrammar as rules;
 ghost use Rattle.protox_messages.specs.MessageGrammar.{extend_with, message_with};
@@ -13,9 +15,11 @@ ghost use Rattle.protox_options.specs.NameGrammar.{an_int, full_ident, strings, 
 ghost use Rattle.protox_options.specs.OptionGrammar as lists;
 ghost use Rattle.protox_options.specs.OptionGrammar.{option, value};
 ghost use Rattle.protox_options.specs.RangeGrammar.{range, reserved};
+ghost use Rattle.protox_tree.specs.FileTree.{File};
 ghost use Rattle.source_grammar.specs.Aggregates.{an_aggregate};
 ghost use Rattle.source_grammar.specs.Enums.{an_enum};
 ghost use Rattle.source_grammar.specs.Fields.{TyEnds, a_type, an_extensions};
+ghost use Rattle.source_grammar.specs.Files.{IsSpelledBy};
 ghost use Rattle.source_grammar.specs.Languages.{Anything, Reads};
 ghost use Rattle.source_grammar.specs.Messages.{a_message, an_extend, block};
 ghost use Rattle.source_grammar.specs.Names.{
@@ -35,7 +39,7 @@ ghost use Rattle.source_grammar.specs.Options.{
 };
 ghost use Rattle.source_grammar.specs.Ranges.{NoEnd, a_range, a_reserved};
 ghost use Rattle.source_grammar.specs.Services.{a_service};
-ghost use Rattle.std.specs.Prelude.{ℕ};
+ghost use Rattle.std.specs.Prelude.{◌↔◌, ℕ};
 
 /// Names, and types' names, are words with dots between them.
 pub fn names_are_read_as_they_are_spelled()
@@ -95,4 +99,9 @@ pub fn types_are_read_as_they_are_spelled()
 pub fn messages_are_read_as_they_are_spelled()
     ensures messages { (n : ℕ) → Reads (message_with (rules.block n)) (a_message (block n)) Anything }
     ensures extends { (n : ℕ) → Reads (extend_with (rules.block n)) (an_extend (block n)) Anything }
+{}
+
+/// A text spells a tree exactly where its tokens are those of the tree.
+pub fn sources_are_read_as_they_are_spelled()
+    ensures { (z : Text) (tree : File) → Spells z tree ↔ IsSpelledBy tree z }
 {}
