@@ -1,8 +1,8 @@
 -- What the rules of a value in braces take.
-use Rattle.std.proofs.Common.{◌≡◌, ℕ, zero, suc, Bool, true, false, [], ◌∷◌, Option, Some, None, Ok, Err, refl, ap, sym, subst, ◌∙◌, inl, inr, ◌⊎◌}
-use Rattle.std.specs.Prelude.{if◌then◌else◌, is_some, not, length, take, ◌-◌}
+use Rattle.std.proofs.Common.{[], ◌≡◌, ℕ, zero, suc, Bool, true, false, ◌∷◌, Option, Some, None, Ok, Err, refl, ap, sym, subst, ◌∙◌, inl, inr, ◌⊎◌}
+use Rattle.std.specs.Prelude.{if◌then◌else◌, is_some, not, ◌-◌}
 use Rattle.protox_aggregates.specs.AggregateGrammar as rules
-use Rattle.protox_aggregates.specs.AggregateGrammar.{Passes, passes, must, is_ident, is_literal, is_plain, an_ident_as, bracketed_if, dotted_if, semicolon_unless, elements_unless, list_or_value, behind_colon, opens, open_by, braces_at, opening}
+use Rattle.protox_aggregates.specs.AggregateGrammar.{Passes, passes, must, is_ident, is_literal, is_plain, an_ident_as, bracketed_if, dotted_if, semicolon_unless, elements_unless, list_or_value, behind_colon, opens, open_by, opening}
 use Rattle.protox_aggregates.specs.BraceTexts.{text_by, text_up_to, text_of}
 use Rattle.protox_aggregates.proofs.AggregateLaws.{dotted_turns, literals_turns, list_turns, fields_turns, Local-braces}
 use Rattle.protox_lex.specs.Class.{Text}
@@ -11,7 +11,7 @@ use Rattle.protox_lex.specs.declared.span.Span.{Span}
 use Rattle.protox_lex.specs.declared.token.Sign.{Sign}
 use Rattle.protox_lex.specs.declared.token.Sign.TheVariants as s
 use Rattle.protox_tokens.specs.Stream.{Stream, Seen, look, text}
-use Rattle.protox_tokens.specs.Parser.{Outcome, Parser, and_then, ◌>>=◌, ◌>>◌, pure, same, sees_in, is_str, is_string_of, is_string_in, expect_in, done, behind_in, until_in, many as many_steps}
+use Rattle.protox_tokens.specs.Parser.{Outcome, Parser, and_then, ◌>>=◌, ◌>>◌, pure, same, sees_in, is_str, is_string_of, is_string_in, expect_in, done, behind_in, many as many_steps}
 use Rattle.protox_tokens.specs.Refusal.{Expected}
 use Rattle.protox_tokens.specs.Refusal as expects
 use Rattle.protox_tokens.specs.Span.{across}
@@ -19,11 +19,11 @@ use Rattle.protox_tokens.specs.Marks.{IsAny}
 use Rattle.protox_tokens.proofs.Local.{Local, good, same_ok, bound}
 use Rattle.protox_tokens.proofs.Both.{IsNamed, Always, then_ok}
 use Rattle.protox_tokens.proofs.Both as both
-use Rattle.source_grammar.specs.Languages.{Language, nothing, never, token_at, begins, ends, ◌▸◌, ◌∪◌, perhaps, times, many}
+use Rattle.source_grammar.specs.Languages.{Language, nothing, begins, ends, ◌▸◌, ◌∪◌, perhaps, many}
 use Rattle.source_grammar.specs.Aggregates.{Sees, in_text, a_sign, an_ident, a_literal, a_plain, dotted, field_name, scalar, separator, a_value, a_list, a_field, message, between, fields_as, an_aggregate}
 use Rattle.source_grammar.proofs.Rules.{Rule, rule_token}
 use Rattle.source_grammar.proofs.Ahead.{one_seen, seen_no_string}
-use Rattle.source_grammar.proofs.Takes.{Takes, Free, takes_as, takes_one, takes_must, takes_branch, takes_done, takes_then, takes_choose, takes_while, takes_behind, text_first, sees_more, expect_sound, expect_complete, expect_some}
+use Rattle.source_grammar.proofs.Takes.{Takes, Free, takes_as, takes_one, takes_must, takes_branch, takes_done, takes_then, takes_choose, takes_while, takes_behind, text_first, sees_more, expect_sound, expect_some}
 
 -- ---- what comes next
 

@@ -1,15 +1,15 @@
 -- What comes next is one thing alone.
-use Rattle.std.proofs.Common.{◌≡◌, Bool, true, false, [], ◌∷◌, Some, None, refl, ap, sym, ◌∙◌}
+use Rattle.std.proofs.Common.{[], ◌≡◌, Bool, true, false, ◌∷◌, Some, None, refl, ap, sym, ◌∙◌}
 use Rattle.std.specs.Prelude.{is_some}
-use Rattle.protox_lex.specs.Token.{Token, ident, int, sign}
+use Rattle.protox_lex.specs.Token.{Token, int, sign}
 use Rattle.protox_lex.specs.declared.literal.Int.{Int}
 use Rattle.protox_lex.specs.declared.span.Span.{Span}
 use Rattle.protox_lex.specs.declared.token.Sign.TheVariants as s
-use Rattle.protox_tokens.specs.Stream.{Stream, Mode, source, Seen, look}
+use Rattle.protox_tokens.specs.Stream.{Stream, Mode, Seen, look}
 use Rattle.protox_tokens.specs.Parser.{same, is, value_of, sees_in, sees, is_str, is_string_of, is_string_in, is_string}
 use Rattle.protox_tokens.specs.Marks.{spot}
 use Rattle.protox_tokens.proofs.Steps.{same_is, seen_is, sees_first}
-use Rattle.source_grammar.specs.Languages.{token_at, one}
+use Rattle.source_grammar.specs.Languages.{token_at}
 use Rattle.source_grammar.specs.Names.{integer_of, integer}
 use Rattle.source_grammar.proofs.NameLaws.{no_string}
 

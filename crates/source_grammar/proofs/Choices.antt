@@ -1,8 +1,6 @@
 -- Choices by the word that comes first, and statements up to a closing brace.
-use Rattle.std.proofs.Common.{◌≡◌, Bool, true, false, List, [], ◌∷◌, Option, Some, None, Ok, refl, ap, sym, subst, ◌∙◌, inl, inr, ◌⊎◌}
+use Rattle.std.proofs.Common.{[], ◌≡◌, Bool, true, false, List, ◌∷◌, Option, Some, None, refl, ap, sym, subst, inl, inr, ◌⊎◌}
 use Rattle.std.specs.Prelude.{not}
-use Rattle.std.specs.Str.{bytes_eq}
-use Rattle.std.proofs.lemmas.Slice.Eq.{bytes_eq-Decides}
 use Rattle.protox_lex.specs.Class.{Text}
 use Rattle.protox_lex.specs.Token.{Token, ident, sign}
 use Rattle.protox_lex.specs.declared.span.Span.{Span}
@@ -14,8 +12,7 @@ use Rattle.protox_tokens.proofs.Loops.{Shortens}
 use Rattle.protox_tokens.proofs.Both.{IsNamed, Always, Free}
 use Rattle.protox_tokens.proofs.Steps.{sees_first}
 use Rattle.protox_tokens.proofs.Lists.{lastly_all}
-use Rattle.source_grammar.specs.Languages.{Language, nothing, one, token_at, ◌▸◌, ◌∪◌, each}
-use Rattle.source_grammar.specs.Words.{IsNoneOf}
+use Rattle.source_grammar.specs.Languages.{Language, nothing, one, token_at, ◌▸◌, ◌∪◌, each, FirstIsNoneOf, unless}
 use Rattle.source_grammar.proofs.Rules.{Rule, rule_as, rule_made, rule_pure, rule_choose, rule_branch, rule_while}
 use Rattle.source_grammar.proofs.Ahead.{one_seen}
 
@@ -84,37 +81,24 @@ choice_empty {B = B} e f {ks = ks} {H = H} {M = M} alone differs others = record
 pub choice_last : {A B : Type 0} (c : A → B) {ks : List Token} {H : Stream → Type 0} {p : Parser A} {L : A → Language} → Rule H p L IsAny Free → ((a : A) (ts r : Stream) → L a ts r → Misses ks ts) → Choice ks H (c <$> p) (Made c L)
 choice_last c rule starts = record { rule = rule_made c rule (λ a. tt) (λ a r f. f) (λ a r f. f); misses = λ b ts r h. starts h.0 ts r h.2 }
 
--- something that what is known of the input tells of the value
-pub rule_where : {A : Type 0} (N : A → Type 0) {H : Stream → Type 0} {p : Parser A} {L : A → Language} {K : A → Type 0} {F : A → Stream → Type 0} → Rule H p L K F → ((a : A) (ts r : Stream) → H ts → L a ts r → N a) → Rule H p (λ a ts r. N a × L a ts r) K F
-rule_where N rule told = record { sound = λ ts r a h e. let x = rule.sound ts r a h e in ((told a ts r h x.0, x.0), x.1, x.2); complete = λ ts r a h k f. rule.complete ts r a h.1 k f }
-
 -- more is known of the input than is needed
 pub rule_under : {A : Type 0} {H : Stream → Type 0} {p : Parser A} {L : A → Language} {K : A → Type 0} {F : A → Stream → Type 0} → Rule Always p L K F → Rule H p L K F
 rule_under rule = record { sound = λ ts r a h e. rule.sound ts r a tt e; complete = rule.complete }
 
--- ---- words that are none of these
-
-pub differs_from : (x k : Text) → bytes_eq x k ≡ false → x ≡ k → ⊥
-differs_from x k e i = let wrong : true ≡ false = sym ((bytes_eq-Decides x k).1 i) ∙ e in absurd cc
-
-pub is_other : (x k : Text) → (x ≡ k → ⊥) → bytes_eq x k ≡ false
-is_other x k n = by (bytes_eq x k) refl where
-  by : (b : Bool) → bytes_eq x k ≡ b → b ≡ false
-  by true e = absurd (n ((bytes_eq-Decides x k).0 e))
-  by false e = refl
+-- ---- words that do not come
 
 -- the tokens of these words
 abbrev pub words_of : List Text → List Token
 words_of [] = []
 words_of (k ∷ ks) = ident k ∷ words_of ks
 
-pub none_seen : (x : Text) (at : Span) (ks : List Text) (ts r : Stream) → one (spot at (ident x)) ts r → Misses (words_of ks) ts → IsNoneOf ks x
-none_seen x at [] ts r h m = tt
-none_seen x at (k ∷ ks) ts r h m = (differs_from x k (sym (sees_first (ident k) (spot at (ident x)) [] ts r h) ∙ m.0), none_seen x at ks ts r h m.1)
+pub none_misses : (ks : List Text) (ts : Stream) → FirstIsNoneOf ks ts → Misses (words_of ks) ts
+none_misses [] ts n = tt
+none_misses (k ∷ ks) ts n = (n.0, none_misses ks ts n.1)
 
-pub none_misses : (x : Text) (at : Span) (ks : List Text) (ts r : Stream) → one (spot at (ident x)) ts r → IsNoneOf ks x → Misses (words_of ks) ts
-none_misses x at [] ts r h n = tt
-none_misses x at (k ∷ ks) ts r h n = (sees_first (ident k) (spot at (ident x)) [] ts r h ∙ is_other x k n.0, none_misses x at ks ts r h n.1)
+-- where none of these words comes
+pub rule_unless : {A : Type 0} (ks : List Text) {H : Stream → Type 0} {p : Parser A} {L : A → Language} {K : A → Type 0} {F : A → Stream → Type 0} → Rule Always p L K F → ((ts : Stream) → H ts → FirstIsNoneOf ks ts) → Rule H p (λ a. unless ks (L a)) K F
+rule_unless ks rule told = record { sound = λ ts r a h e. let x = rule.sound ts r a tt e in ((told ts h, x.0), x.1, x.2); complete = λ ts r a h k f. rule.complete ts r a h.1 k f }
 
 -- ---- statements up to a closing brace
 

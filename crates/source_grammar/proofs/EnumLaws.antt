@@ -1,31 +1,29 @@
 -- What the rules of enums read.
-use Rattle.std.proofs.Common.{◌≡◌, List, [], ◌∷◌, Option, Some, None, refl, ap, sym, subst, ◌∙◌, inl, inr, ◌⊎◌}
-use Rattle.std.specs.Prelude.{codes, false, true}
+use Rattle.std.proofs.Common.{[], ◌≡◌, List, ◌∷◌, Option, Some, None, refl, ap, sym, subst, ◌∙◌, inl, inr}
+use Rattle.std.specs.Prelude.{codes, true}
 use Rattle.protox_declarations.specs.EnumGrammar.{an_enum_value as value_rule, enum_item_unless, enum_item, enum_items, enumeration}
 use Rattle.protox_declarations.proofs.EnumLaws.{enum_turns}
 use Rattle.protox_lex.specs.Class.{Text}
-use Rattle.protox_lex.specs.Token.{Token, ident, sign}
+use Rattle.protox_lex.specs.Token.{ident, sign}
 use Rattle.protox_lex.specs.declared.literal.Int.{Int}
 use Rattle.protox_lex.specs.declared.span.Span.{Span}
 use Rattle.protox_lex.specs.declared.token.Sign.TheVariants as s
 use Rattle.protox_tree.specs.Tree.{Word, OptionStatement, OptionList, Reserved, EnumValue, EnumItem, enum_value, enum_option, enum_reserved, enum_empty, Enum}
 use Rattle.protox_tokens.specs.Stream.{Stream}
-use Rattle.protox_tokens.specs.Parser.{◌<$>◌, sees, same}
+use Rattle.protox_tokens.specs.Parser.{sees}
 use Rattle.protox_tokens.specs.Span.{across}
-use Rattle.protox_tokens.specs.Marks.{spot, IsAny}
+use Rattle.protox_tokens.specs.Marks.{IsAny}
 use Rattle.protox_tokens.proofs.Both.{Always, Free}
-use Rattle.source_grammar.specs.Languages.{Language, one, the, token_at, begins, ends, ◌▸◌, ◌∪◌, each}
-use Rattle.source_grammar.specs.Names.{a_word, integer}
+use Rattle.source_grammar.specs.Languages.{Language, token_at, begins, ends, ◌∪◌, each, unless}
 use Rattle.source_grammar.specs.Options.{an_option, options, NoBracket}
 use Rattle.source_grammar.specs.Ranges.{a_reserved}
-use Rattle.source_grammar.specs.Words.{IsNoneOf}
 use Rattle.source_grammar.specs.Enums.{an_enum_value, an_enum_item, an_enum}
 use Rattle.source_grammar.proofs.Rules.{Rule, rule_as, rule_then, rule_token, rule_close, first_is}
 use Rattle.source_grammar.proofs.NameLaws.{rule_word, rule_int, word_misses}
 use Rattle.source_grammar.proofs.OptionLaws.{rule_option, rule_options}
 use Rattle.source_grammar.proofs.RangeLaws.{rule_reserved}
 use Rattle.source_grammar.proofs.Ahead.{begins_misses}
-use Rattle.source_grammar.proofs.Choices.{Misses, Made, Empty, Choice, choice_word, choice_empty, choice_last, rule_where, none_seen, none_misses, rule_items}
+use Rattle.source_grammar.proofs.Choices.{Misses, Made, Empty, Choice, choice_word, choice_empty, choice_last, rule_unless, rule_items}
 
 -- ---- values
 
@@ -54,16 +52,10 @@ abbrev words : List Text
 words = codes "reserved" ∷ codes "option" ∷ []
 
 abbrev Valued : EnumValue → Language
-Valued v ts r = IsNoneOf words v.name.text × an_enum_value v ts r
+Valued v = unless words (an_enum_value v)
 
-abbrev Other : Stream → Type 0
-Other ts = ((sees (sign s.Semicolon) ts ≡ false) × (sees (ident (codes "option")) ts ≡ false)) × (sees (ident (codes "reserved")) ts ≡ false)
-
-valued : Choice (ident (codes "reserved") ∷ ident (codes "option") ∷ sign s.Semicolon ∷ sign s.RightBrace ∷ []) Other (enum_value <$> value_rule) (Made enum_value Valued)
-valued = choice_last enum_value (rule_where (λ (v : EnumValue). IsNoneOf words v.name.text) rule_value (λ v ts r h l. none_seen v.name.text v.name.span words ts l.0 l.1 (h.1, (h.0.1, tt)))) starts where
-  starts : (v : EnumValue) (ts r : Stream) → Valued v ts r → Misses (ident (codes "reserved") ∷ ident (codes "option") ∷ sign s.Semicolon ∷ sign s.RightBrace ∷ []) ts
-  starts v ts r h = let m = none_misses v.name.text v.name.span words ts h.1.0 h.1.1 h.0 in
-      (m.0, (m.1.0, (word_misses (sign s.Semicolon) v.name ts h.1.0 refl h.1.1, (word_misses (sign s.RightBrace) v.name ts h.1.0 refl h.1.1, tt))))
+valued_misses : (v : EnumValue) (ts r : Stream) → Valued v ts r → Misses (ident (codes "reserved") ∷ ident (codes "option") ∷ sign s.Semicolon ∷ sign s.RightBrace ∷ []) ts
+valued_misses v ts r h = (h.0.0, (h.0.1.0, (word_misses (sign s.Semicolon) v.name ts h.1.0 refl h.1.1, (word_misses (sign s.RightBrace) v.name ts h.1.0 refl h.1.1, tt))))
 
 pub option_starts : (o : OptionStatement) (ts r : Stream) → an_option o ts r → sees (ident (codes "option")) ts ≡ true
 option_starts o ts r h = first_is (ident (codes "option")) (ident (codes "option")) (begins o.span) ts h.0 h.1
@@ -78,7 +70,8 @@ choice : Choice (sign s.RightBrace ∷ []) Always enum_item Item
 unfolding enum_item
 choice = choice_empty enum_empty enum_item_unless (λ at. refl) (refl, tt)
     (choice_word (ident (codes "option")) refl enum_option rule_option option_starts (refl, (refl, tt))
-    (choice_word (ident (codes "reserved")) refl enum_reserved rule_reserved reserved_starts (refl, (refl, (refl, tt))) valued))
+    (choice_word (ident (codes "reserved")) refl enum_reserved rule_reserved reserved_starts (refl, (refl, (refl, tt)))
+    (choice_last enum_value (rule_unless words rule_value (λ ts h. (h.1, (h.0.1, tt)))) valued_misses)))
 
 item_to : (i : EnumItem) (ts r : Stream) → Item i ts r → an_enum_item i ts r
 item_to i ts r (inl h) = subst (λ i. an_enum_item i ts r) (sym h.2) h.1

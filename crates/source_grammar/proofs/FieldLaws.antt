@@ -1,5 +1,5 @@
 -- What the rules of types, labels and fields that nothing nests in read.
-use Rattle.std.proofs.Common.{◌≡◌, Bool, true, false, List, [], ◌∷◌, Option, Some, None, Ok, refl, ap, sym, subst, ◌∙◌, inl, inr, ◌⊎◌}
+use Rattle.std.proofs.Common.{[], ◌≡◌, Bool, true, false, List, ◌∷◌, Option, Some, None, Ok, refl, ap, sym, subst, ◌∙◌, inl, inr, ◌⊎◌}
 use Rattle.std.specs.Prelude.{if◌then◌else◌, codes}
 use Rattle.std.specs.Str.{bytes_eq}
 use Rattle.std.proofs.lemmas.Slice.Eq.{bytes_eq-Decides}
@@ -14,27 +14,26 @@ use Rattle.protox_lex.specs.declared.span.Span.{Span}
 use Rattle.protox_lex.specs.declared.token.Sign.{Sign}
 use Rattle.protox_lex.specs.declared.token.Sign.TheVariants as s
 use Rattle.protox_messages.specs.FieldGrammar.{named_type, ty_of, ty_after, ty, map_type, map_by, map_or_name, field_type, extensions, Labelled, repeated_if, required_if, optional_if, label, plain_field}
-use Rattle.protox_options.specs.NameGrammar.{parts_after, full_ident, an_int}
-use Rattle.protox_options.specs.OptionGrammar.{options as options_rule}
+use Rattle.protox_options.specs.NameGrammar.{parts_after, full_ident}
 use Rattle.protox_tree.specs.Nest.{MapType, Extensions, Field, field, Kind, normal, group, map_kind}
 use Rattle.protox_tree.specs.declared.range.ReservedRange.{ReservedRange}
 use Rattle.protox_tree.specs.Scalar.{scalar_of}
-use Rattle.protox_tree.specs.Tree.{Word, TypeName, Ty, scalar, named, OptionList}
+use Rattle.protox_tree.specs.Tree.{Word, Ty, scalar, named, OptionList}
 use Rattle.protox_tokens.specs.Stream.{Stream, source, tail}
-use Rattle.protox_tokens.specs.Parser.{Outcome, Parser, and_then, ◌>>=◌, ◌<$>◌, pure, same, sees, eat, expect, word}
+use Rattle.protox_tokens.specs.Parser.{Outcome, Parser, and_then, ◌>>=◌, ◌<$>◌, pure, same, sees, eat, word}
 use Rattle.protox_tokens.specs.Span.{across}
 use Rattle.protox_tokens.specs.Marks.{Mark, spot, IsAny}
-use Rattle.protox_tokens.proofs.Local.{good, same_ok, bound}
+use Rattle.protox_tokens.proofs.Local.{same_ok, bound}
 use Rattle.protox_tokens.proofs.Both.{IsNamed, Always, Free, then_ok}
 use Rattle.protox_tokens.proofs.Steps.{Absent, sees_first, eat_none}
 use Rattle.protox_tokens.proofs.Lists.{lastly_all}
-use Rattle.source_grammar.specs.Languages.{Language, nothing, one, the, token_at, begins, ends, ◌▸◌, if_there, each, some_by, FirstIsNoneOf}
-use Rattle.source_grammar.specs.Names.{a_word, full_name, a_type_name, integer, NoDot}
-use Rattle.source_grammar.specs.Options.{options, NoBracket}
-use Rattle.source_grammar.specs.Ranges.{a_range, NoEnd}
-use Rattle.source_grammar.specs.Fields.{scalar_word, scalar_words, a_word_if, a_type, TyEnds, a_map, a_kind, label_word, a_label, label_words, a_numbered, a_plain_field, an_extensions}
-use Rattle.source_grammar.proofs.Rules.{Rule, rule_as, rule_then, rule_token, rule_close, rule_eat, rule_pure, first_is}
-use Rattle.source_grammar.proofs.NameLaws.{rule_word, rule_full, rule_int, word_misses, full_no_dot}
+use Rattle.source_grammar.specs.Languages.{Language, one, the, token_at, begins, ends, ◌▸◌, if_there, each, FirstIsNoneOf}
+use Rattle.source_grammar.specs.Names.{a_word, full_name}
+use Rattle.source_grammar.specs.Options.{options}
+use Rattle.source_grammar.specs.Ranges.{NoEnd}
+use Rattle.source_grammar.specs.Fields.{scalar_word, scalar_words, a_word_if, a_type, TyEnds, a_map, a_kind, a_label, label_words, a_numbered, an_extensions}
+use Rattle.source_grammar.proofs.Rules.{Rule, rule_as, rule_then, rule_token, rule_close, rule_eat, first_is}
+use Rattle.source_grammar.proofs.NameLaws.{rule_word, rule_full, rule_int, word_misses}
 use Rattle.source_grammar.proofs.OptionLaws.{rule_options}
 use Rattle.source_grammar.proofs.RangeLaws.{rule_ranges, ListEnds, no_to}
 use Rattle.source_grammar.proofs.EnumLaws.{bracket_or, whole}

@@ -1,10 +1,8 @@
 -- What the rules of whole sources read.
-use Rattle.std.proofs.Common.{◌≡◌, Bool, true, false, List, [], ◌∷◌, Option, Some, None, Ok, Err, refl, ap, sym, subst, ◌∙◌, inl, inr, ◌⊎◌}
+use Rattle.std.proofs.Common.{[], ◌≡◌, Bool, true, false, List, ◌∷◌, Option, Some, None, Ok, refl, ap, sym, subst, ◌∙◌, inl, inr, ◌⊎◌}
 use Rattle.std.specs.Prelude.{if◌then◌else◌, codes, not, ◌↔◌}
 use Rattle.std.specs.Str.{bytes_eq}
 use Rattle.std.proofs.lemmas.Slice.Eq.{bytes_eq-Decides}
-use Rattle.protox_declarations.specs.EnumGrammar.{enumeration}
-use Rattle.protox_declarations.specs.ServiceGrammar.{service}
 use Rattle.protox_file.specs.FileGrammar.{language, known, syntax_behind, syntax_if, unless_edition, syntax, public_if, weak_if, import_kind, an_import as import_rule, a_package as package_rule, file_item_unless, file_item, file_items, file}
 use Rattle.protox_file.specs.Sources.{Spells}
 use Rattle.protox_file.proofs.FileLaws.{file_turns}
@@ -12,9 +10,6 @@ use Rattle.protox_lex.specs.Class.{Text}
 use Rattle.protox_lex.specs.Token.{Token, ident, sign}
 use Rattle.protox_lex.specs.declared.span.Span.{Span}
 use Rattle.protox_lex.specs.declared.token.Sign.TheVariants as s
-use Rattle.protox_messages.specs.MessageGrammar.{message_with, extend_with}
-use Rattle.protox_options.specs.NameGrammar.{full_ident, strings}
-use Rattle.protox_options.specs.OptionGrammar.{option}
 use Rattle.protox_tree.specs.FileTree.{SyntaxStatement, Import, Package, FileItem, file_import, file_package, file_option, file_message, file_enum, file_service, file_extend, file_empty, File, file_span}
 use Rattle.protox_tree.specs.Nest.{Message, message, Extend, extend}
 use Rattle.protox_tree.specs.Tree.{Word, Enum, Service, joined, words_span}
@@ -23,21 +18,21 @@ use Rattle.protox_tree.specs.declared.file.ImportKind.TheVariants as imports
 use Rattle.protox_tree.specs.declared.types.Syntax.{Syntax}
 use Rattle.protox_tree.specs.declared.types.Syntax.TheVariants as syntaxes
 use Rattle.protox_tokens.specs.Stream.{Stream, source, is_over}
-use Rattle.protox_tokens.specs.Parser.{Parser, and_then, ◌>>=◌, ◌>>◌, ◌<$>◌, pure, sees, eat, expect, loop, when, is_string}
-use Rattle.protox_tokens.specs.Refusal.{Fault, a_file_item as expected_item, refusal, unknown_syntax}
+use Rattle.protox_tokens.specs.Parser.{Parser, ◌>>=◌, ◌>>◌, pure, sees, eat, expect}
+use Rattle.protox_tokens.specs.Refusal.{a_file_item as expected_item, refusal}
 use Rattle.protox_tokens.specs.Span.{across}
 use Rattle.protox_tokens.specs.Marks.{spot, literal, IsAny}
-use Rattle.protox_tokens.proofs.Local.{good, same_ok, bound}
+use Rattle.protox_tokens.proofs.Local.{same_ok, bound}
 use Rattle.protox_tokens.proofs.Both.{Always, Free, then_ok}
 use Rattle.protox_tokens.proofs.Steps.{Absent, sees_first, eat_none}
-use Rattle.protox_tokens.proofs.Lists.{Lastly, lastly_all}
-use Rattle.source_grammar.specs.Languages.{Language, nothing, one, the, token_at, begins, ends, ◌▸◌, ◌∪◌, if_there, each, given}
-use Rattle.source_grammar.specs.Names.{full_name, a_string, NoString}
+use Rattle.protox_tokens.proofs.Lists.{lastly_all}
+use Rattle.source_grammar.specs.Languages.{Language, the, token_at, begins, ends, ◌▸◌, ◌∪◌, if_there, each, given}
+use Rattle.source_grammar.specs.Names.{a_string, NoString}
 use Rattle.source_grammar.specs.Options.{an_option}
 use Rattle.source_grammar.specs.Enums.{an_enum}
 use Rattle.source_grammar.specs.Services.{a_service}
 use Rattle.source_grammar.specs.Messages.{a_message, an_extend, block}
-use Rattle.source_grammar.specs.Files.{syntax_name, a_syntax, a_syntax_if, import_word, an_import_kind, an_import, a_package, a_file_item, a_file, IsSpelledBy}
+use Rattle.source_grammar.specs.Files.{syntax_name, a_syntax_if, an_import_kind, an_import, a_package, a_file_item, a_file, IsSpelledBy}
 use Rattle.source_grammar.proofs.Rules.{Rule, rule_as, rule_then, rule_map, rule_token, rule_close, rule_eat, rule_while, first_is}
 use Rattle.source_grammar.proofs.NameLaws.{rule_full, rule_strings}
 use Rattle.source_grammar.proofs.OptionLaws.{rule_option}
@@ -45,8 +40,8 @@ use Rattle.source_grammar.proofs.EnumLaws.{rule_enum, whole, option_starts}
 use Rattle.source_grammar.proofs.ServiceLaws.{rule_service, choice_refused}
 use Rattle.source_grammar.proofs.FieldLaws.{rule_or}
 use Rattle.source_grammar.proofs.MessageLaws.{message_law, extend_law}
-use Rattle.source_grammar.proofs.Ahead.{one_seen, begins_misses, begins_no_string}
-use Rattle.source_grammar.proofs.Choices.{Misses, Made, Empty, Choice, choice_word, choice_empty, rule_under}
+use Rattle.source_grammar.proofs.Ahead.{begins_misses, begins_no_string}
+use Rattle.source_grammar.proofs.Choices.{Made, Empty, Choice, choice_word, choice_empty, rule_under}
 
 -- ---- the language
 

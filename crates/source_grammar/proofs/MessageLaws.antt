@@ -1,43 +1,39 @@
 -- What the rules of messages read: from what the braces inside are to those of one level more.
-use Rattle.std.proofs.Common.{◌≡◌, ℕ, zero, suc, Bool, true, false, List, [], ◌∷◌, Option, Some, None, Ok, Err, refl, ap, sym, subst, ◌∙◌, inl, inr, ◌⊎◌}
+use Rattle.std.proofs.Common.{[], ◌≡◌, ℕ, zero, suc, true, false, List, ◌∷◌, Option, Some, None, Ok, Err, refl, ap, sym, subst, ◌∙◌, inl, inr, ◌⊎◌}
 use Rattle.std.specs.Prelude.{codes}
-use Rattle.protox_declarations.specs.EnumGrammar.{enumeration}
 use Rattle.protox_lex.specs.Class.{Text}
 use Rattle.protox_lex.specs.Token.{Token, ident, sign}
 use Rattle.protox_lex.specs.declared.literal.Int.{Int}
 use Rattle.protox_lex.specs.declared.span.Span.{Span}
 use Rattle.protox_lex.specs.declared.token.Sign.TheVariants as s
-use Rattle.protox_messages.specs.FieldGrammar.{Labelled, label, plain_field, extensions}
+use Rattle.protox_messages.specs.FieldGrammar.{Labelled}
 use Rattle.protox_messages.specs.MessageGrammar.{Block, group_with, group_if, field_with, message_with, member_unless, member_with, members_with, oneof_with, added_unless, added_with, all_added_with, extend_with, item_unless, item_with, items_with, inside_with, block as block_rule}
 use Rattle.protox_messages.proofs.MessageLaws.{member_turns, added_turns, item_turns, Local-block}
-use Rattle.protox_options.specs.NameGrammar.{an_int, type_name}
-use Rattle.protox_options.specs.OptionGrammar.{option, options as options_rule}
-use Rattle.protox_tree.specs.Nest.{Message, message, Items, no_items, more_items, items_of, Item, item_field, item_oneof, item_message, item_enum, item_extend, item_extensions, item_reserved, item_option, item_empty, Field, field, Kind, normal, group, map_kind, Group, a_group, Oneof, oneof, Members, no_members, more_members, members_of, Member, member_field, member_option, member_empty, Extend, extend, Added, none_added, more_added, added_of, AddedItem, added_field, added_empty, Extensions}
-use Rattle.protox_tree.specs.Tree.{Word, TypeName, Ty, scalar, named, OptionList, OptionStatement}
+use Rattle.protox_tree.specs.Nest.{Message, message, Items, no_items, more_items, items_of, Item, item_field, item_oneof, item_message, item_enum, item_extend, item_extensions, item_reserved, item_option, item_empty, Field, field, Kind, normal, group, map_kind, a_group, Oneof, oneof, Members, no_members, more_members, members_of, Member, member_field, member_option, member_empty, Extend, extend, Added, none_added, more_added, added_of, AddedItem, added_field, added_empty}
+use Rattle.protox_tree.specs.Tree.{Word, TypeName, scalar, named, OptionList}
 use Rattle.protox_tokens.specs.Stream.{Stream, source, peek, span_of}
-use Rattle.protox_tokens.specs.Parser.{Outcome, Parser, and_then, ◌>>=◌, ◌<$>◌, pure, same, sees, eat, expect, word, loop, until, here}
+use Rattle.protox_tokens.specs.Parser.{Parser, ◌>>=◌, pure, same, sees, eat, expect, here}
 use Rattle.protox_tokens.specs.Refusal.{Fault, too_deep}
 use Rattle.protox_tokens.specs.Span.{across}
 use Rattle.protox_tokens.specs.Marks.{spot, IsAny}
-use Rattle.protox_tokens.proofs.Local.{Local, good, same_ok, bound}
+use Rattle.protox_tokens.proofs.Local.{Local, good, bound}
 use Rattle.protox_tokens.proofs.Both.{IsNamed, Always, Free, then_ok}
 use Rattle.protox_tokens.proofs.Steps.{Absent, sees_first, eat_none}
-use Rattle.source_grammar.specs.Languages.{Language, nothing, never, one, the, token_at, begins, ends, ◌▸◌, ◌∪◌, if_there, each, given, FirstIsNoneOf, unless, starts}
-use Rattle.source_grammar.specs.Names.{a_word, full_name, a_type_name, integer}
-use Rattle.source_grammar.specs.Options.{an_option, options, NoBracket}
+use Rattle.source_grammar.specs.Languages.{Language, never, one, token_at, begins, ends, ◌▸◌, ◌∪◌, if_there, each, given, FirstIsNoneOf, unless, starts}
+use Rattle.source_grammar.specs.Names.{a_word, full_name, a_type_name}
+use Rattle.source_grammar.specs.Options.{an_option, NoBracket}
 use Rattle.source_grammar.specs.Ranges.{a_reserved}
 use Rattle.source_grammar.specs.Enums.{an_enum}
-use Rattle.source_grammar.specs.Fields.{scalar_word, a_word_if, a_type, a_map, a_kind, label_word, a_label, label_words, a_numbered, a_plain_field, an_extensions}
+use Rattle.source_grammar.specs.Fields.{scalar_word, a_word_if, a_kind, label_word, a_label, label_words, a_numbered, an_extensions}
 use Rattle.source_grammar.specs.Messages.{items_in, members_in, added_in, item_words, a_declared, a_field, a_message, a_member, a_oneof, an_added, an_extend, an_item, block}
 use Rattle.source_grammar.proofs.Rules.{Rule, rule_as, rule_then, rule_map, rule_last, rule_expect, rule_token, rule_close, rule_eat, first_is}
-use Rattle.source_grammar.proofs.NameLaws.{rule_word, rule_int, rule_type_name, word_misses}
+use Rattle.source_grammar.proofs.NameLaws.{rule_word, rule_int, rule_type_name}
 use Rattle.source_grammar.proofs.OptionLaws.{rule_option, rule_options}
 use Rattle.source_grammar.proofs.RangeLaws.{rule_reserved}
 use Rattle.source_grammar.proofs.EnumLaws.{rule_enum, whole, option_starts, reserved_starts}
-use Rattle.source_grammar.proofs.ServiceLaws.{option_misses}
-use Rattle.source_grammar.proofs.FieldLaws.{LabelEnds, rule_label, rule_plain, rule_extensions, label_in, kind_in, name_in, number_in, options_in, span_in, seen_first, sign_first}
+use Rattle.source_grammar.proofs.FieldLaws.{LabelEnds, rule_label, rule_plain, rule_extensions, label_in, kind_in, name_in, number_in, options_in, span_in}
 use Rattle.source_grammar.proofs.Ahead.{one_seen, begins_misses}
-use Rattle.source_grammar.proofs.Choices.{Misses, Differs, seen_misses, words_of, Made, Empty, Choice, choice_word, choice_empty, choice_last, rule_where, rule_under, rule_items}
+use Rattle.source_grammar.proofs.Choices.{Made, Empty, Choice, choice_word, choice_empty, choice_last, rule_unless, none_misses, rule_under, rule_items}
 
 -- ---- what nests, as lists
 
@@ -146,10 +142,6 @@ rule_either {B = B} k is_named f P {H = H} {L = L} {M = M} {K = K} {G = G} first
   back ts r b (inl h) known g = then_ok f ((rule_eat k is_named {H = H}).complete ts h.0 (Some h.1.0) h.1.1 tt tt) ((first h.1.0).complete h.0 r b h.2 (h.1.2, known) g)
   back ts r b (inr h) known g = then_ok f (eat_none k ts (tails b ts r h)) (other.complete ts r b h known g)
 
--- where none of these words comes
-rule_unless : {A : Type 0} (ks : List Text) {H : Stream → Type 0} {p : Parser A} {L : A → Language} {K : A → Type 0} {F : A → Stream → Type 0} → Rule Always p L K F → ((ts : Stream) → H ts → FirstIsNoneOf ks ts) → Rule H p (λ a. unless ks (L a)) K F
-rule_unless ks rule told = record { sound = λ ts r a h e. let x = rule.sound ts r a tt e in ((told ts h, x.0), x.1, x.2); complete = λ ts r a h k f. rule.complete ts r a h.1 k f }
-
 -- where what is read begins
 rule_here : {B : Type 0} (at : B → Span) {H : Stream → Type 0} {q : Span → Parser B} {L : B → Language} {G : B → Stream → Type 0} → ((p : Span) → Rule Always (q p) L (λ b. begins (at b) p) G) → Rule H (here >>= q) (λ b. starts (at b) (L b)) IsAny G
 rule_here at rule = record {
@@ -252,13 +244,7 @@ module _ (inner : Parser Block) (local : Local inner) (B : Items → Span → La
   pub message_starts : (m : Message) (ts r : Stream) → a_message B m ts r → sees (ident (codes "message")) ts ≡ true
   message_starts (message n braces items at) ts r h = first_is (ident (codes "message")) (ident (codes "message")) (begins at) ts h.0 h.1
 
-  -- a field is none of the other statements, nor the closing brace
-  unless_misses : (ks : List Text) (f : Field) (ts r : Stream) → unless ks (a_field B f) ts r → Misses (words_of ks) ts
-  unless_misses ks f ts r h = by ks h.0 where
-    by : (ks : List Text) → FirstIsNoneOf ks ts → Misses (words_of ks) ts
-    by [] n = tt
-    by (k ∷ ks) n = (n.0, by ks n.1)
-
+  -- no field begins with a semicolon or the closing brace
   no_semicolon : (f : Field) (ts r : Stream) → a_field B f ts r → sees (sign s.Semicolon) ts ≡ false
   no_semicolon f ts r h = field_no_sign B (sign s.Semicolon) (λ x. refl) refl f ts r h
 
@@ -277,7 +263,7 @@ module _ (inner : Parser Block) (local : Local inner) (B : Items → Span → La
   unfolding member_with
   member_choice = choice_empty member_empty (member_unless inner) (λ at. refl) (refl, tt)
       (choice_word (ident (codes "option")) refl member_option rule_option option_starts (refl, (refl, tt))
-      (choice_last member_field (rule_unless (codes "option" ∷ []) rule_field (λ ts h. (h.1, tt))) (λ f ts r h. ((unless_misses (codes "option" ∷ []) f ts r h).0, (no_semicolon f ts r h.1, (no_brace f ts r h.1, tt))))))
+      (choice_last member_field (rule_unless (codes "option" ∷ []) rule_field (λ ts h. (h.1, tt))) (λ f ts r h. (h.0.0, (no_semicolon f ts r h.1, (no_brace f ts r h.1, tt))))))
 
   member_to : (m : Member) (ts r : Stream) → MemberItem m ts r → a_member B m ts r
   member_to m ts r (inl h) = subst (λ m. a_member B m ts r) (sym h.2) h.1
@@ -418,7 +404,7 @@ module _ (inner : Parser Block) (local : Local inner) (B : Items → Span → La
       (choice_word (ident (codes "option")) refl item_option rule_option option_starts (refl, (refl, (refl, (refl, (refl, (refl, (refl, tt)))))))
       (choice_word (ident (codes "oneof")) refl item_oneof rule_oneof oneof_starts (refl, (refl, (refl, (refl, (refl, (refl, (refl, (refl, tt))))))))
       (choice_last item_field (rule_unless item_words rule_field (λ ts h. (h.1, (h.0.1, (h.0.0.1, (h.0.0.0.1, (h.0.0.0.0.1, (h.0.0.0.0.0.1, (h.0.0.0.0.0.0.1, tt)))))))))
-      (λ f ts r h. let m = unless_misses item_words f ts r h in (m.0, (m.1.0, (m.1.1.0, (m.1.1.1.0, (m.1.1.1.1.0, (m.1.1.1.1.1.0, (m.1.1.1.1.1.1.0, (no_semicolon f ts r h.1, (no_brace f ts r h.1, tt))))))))))))))))))
+      (λ f ts r h. let m = none_misses item_words ts h.0 in (m.0, (m.1.0, (m.1.1.0, (m.1.1.1.0, (m.1.1.1.1.0, (m.1.1.1.1.1.0, (m.1.1.1.1.1.1.0, (no_semicolon f ts r h.1, (no_brace f ts r h.1, tt))))))))))))))))))
 
   item_to : (i : Item) (ts r : Stream) → ItemLanguage i ts r → an_item B i ts r
   item_to i ts r (inl h) = subst (λ i. an_item B i ts r) (sym h.2) h.1

@@ -1,5 +1,5 @@
 -- What the rules of names, numbers and strings read.
-use Rattle.std.proofs.Common.{◌≡◌, ℕ, Bool, true, false, List, [], ◌∷◌, Option, Some, None, Ok, refl, ap, sym, subst, ◌∙◌, inl, inr, ◌⊎◌}
+use Rattle.std.proofs.Common.{[], ◌≡◌, ℕ, Bool, true, false, List, ◌∷◌, Option, Some, None, Ok, refl, ap, sym, subst, ◌∙◌, inl, inr, ◌⊎◌}
 use Rattle.std.specs.Prelude.{is_some}
 use Rattle.protox_lex.specs.Lex as lex
 use Rattle.protox_lex.specs.Token.{Token, ident, int, float, str, sign, comment}
@@ -12,14 +12,14 @@ use Rattle.protox_tree.specs.Tree.{Word, TypeName}
 use Rattle.protox_tokens.specs.Stream.{Stream, Seen, source, look}
 use Rattle.protox_tokens.specs.Parser.{Parser, ◌>>=◌, pure, same, sees, word_of, word, digits_of, digits, literal_of, literal, loop, when, is_str, is_string_of, is_string, some_by}
 use Rattle.protox_tokens.specs.Refusal.{an_ident, an_int, a_string}
-use Rattle.protox_tokens.specs.Marks.{Mark, token, literal as literal_mark, Fits, FitsToken, IsLiteral, Spells, spot, word_mark, IsAny}
+use Rattle.protox_tokens.specs.Marks.{literal as literal_mark, Fits, FitsToken, IsLiteral, spot, word_mark, IsAny}
 use Rattle.protox_tokens.proofs.Local.{same_ok, bound}
 use Rattle.protox_tokens.proofs.Both.{Always, Free, then_ok}
 use Rattle.protox_tokens.proofs.Steps.{Absent, both_leaf, sees_first}
 use Rattle.protox_tokens.proofs.Lists.{Lastly, lastly_all}
-use Rattle.source_grammar.specs.Languages.{Language, one, token_at, begins, ends, ◌▸◌, if_there, each, some}
+use Rattle.source_grammar.specs.Languages.{Language, one, token_at, begins, ends, ◌▸◌, each}
 use Rattle.source_grammar.specs.Names.{a_word, full_name, a_type_name, integer_of, integer, a_string as string_of, NoDot, NoString}
-use Rattle.source_grammar.proofs.Rules.{Rule, rule_as, of_both, rule_then, rule_map, rule_last, rule_eat, rule_branch, rule_while, rule_some_by, first_is}
+use Rattle.source_grammar.proofs.Rules.{Rule, rule_as, of_both, rule_then, rule_map, rule_last, rule_eat, rule_branch, rule_while, rule_some_by}
 
 -- ---- one token
 

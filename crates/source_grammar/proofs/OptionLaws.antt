@@ -1,9 +1,8 @@
 -- What the rules of options read.
-use Rattle.std.proofs.Common.{◌≡◌, ◌≤◌, ◌^◌, ℕ, nat_le, Bool, true, false, ◌||◌, List, [], ◌∷◌, Option, Some, None, Ok, Err, refl, ap, sym, subst, ◌∙◌, inl, inr, ◌⊎◌, arith}
+use Rattle.std.proofs.Common.{[], ◌≡◌, ◌≤◌, ◌^◌, ℕ, nat_le, Bool, true, false, ◌||◌, List, ◌∷◌, Option, Some, None, Ok, Err, refl, ap, sym, subst, ◌∙◌, inl, inr, ◌⊎◌, arith}
 use Rattle.std.specs.Prelude.{if◌then◌else◌, codes}
 use Rattle.std.specs.Str.{bytes_eq}
 use Rattle.std.proofs.lemmas.Slice.Eq.{bytes_eq-Decides}
-use Rattle.protox_aggregates.specs.AggregateGrammar.{aggregate}
 use Rattle.protox_lex.specs.Class.{Text}
 use Rattle.protox_lex.specs.Token.{Token, ident, int, float, str, sign, comment}
 use Rattle.protox_lex.specs.declared.error.LexErrorKind.TheVariants as kinds
@@ -12,26 +11,25 @@ use Rattle.protox_lex.specs.declared.span.Span.{Span}
 use Rattle.protox_lex.specs.declared.token.Sign.TheVariants as s
 use Rattle.protox_options.specs.OptionGrammar.{in_parens, part_after, name_part, name, plain_of, negative_of, in_range, negative, plain_value, signed_or_plain, value, body, option, bodies, in_brackets, options_after, options as options_rule}
 use Rattle.protox_options.proofs.OptionLaws.{name_turns, body_turns}
-use Rattle.protox_options.specs.NameGrammar.{strings}
 use Rattle.protox_tree.specs.Tree.{Word, TypeName, NamePart, plain, extension, Value, word_value, minus_word, int_value, float_value, strings_value, braces_value, Body, OptionStatement, OptionList}
 use Rattle.protox_tokens.specs.Stream.{Stream, Piece, Seen, source, look}
-use Rattle.protox_tokens.specs.Parser.{Outcome, Parser, and_then, ◌>>=◌, ◌<$>◌, pure, same, sees, value_of, eat, taken, one as one_by, word, some_by as list_rule, is_string, is_str}
+use Rattle.protox_tokens.specs.Parser.{◌>>=◌, pure, same, sees, value_of, taken, one as one_by, is_string}
 use Rattle.protox_tokens.specs.Refusal.{Expected, an_option_value, a_number, lex_fault}
 use Rattle.protox_tokens.specs.Span.{across}
-use Rattle.protox_tokens.specs.Marks.{Spells, Fits, spot, literal, IsAny}
+use Rattle.protox_tokens.specs.Marks.{Fits, spot, IsAny}
 use Rattle.protox_tokens.proofs.Local.{good, same_ok, bound}
 use Rattle.protox_tokens.proofs.Both.{Always, Free, then_ok}
 use Rattle.protox_tokens.proofs.Steps.{sees_first}
 use Rattle.protox_tokens.proofs.Lists.{Lastly, lastly_all}
 use Rattle.source_grammar.specs.Aggregates.{an_aggregate}
-use Rattle.source_grammar.specs.Languages.{Language, nothing, one, the, token_at, begins, ends, ◌▸◌, some_by}
-use Rattle.source_grammar.specs.Names.{a_word, a_type_name, integer_of, integer, a_string, NoDot, NoString}
-use Rattle.source_grammar.specs.Options.{a_name_part, an_option_name, minus, IsNoDigits, IsInRange, a_constant, a_body, an_option, options, ConstantEnds, NoBracket}
-use Rattle.source_grammar.proofs.Rules.{Rule, rule_as, rule_then, rule_map, rule_made, rule_last, rule_pure, rule_token, rule_close, rule_choose, rule_branch, rule_some_by}
+use Rattle.source_grammar.specs.Languages.{Language, one, token_at, begins, ends, ◌▸◌, some_by}
+use Rattle.source_grammar.specs.Names.{a_word, a_type_name, integer_of, a_string}
+use Rattle.source_grammar.specs.Options.{a_name_part, an_option_name, IsNoDigits, IsInRange, a_constant, a_body, an_option, options, ConstantEnds, NoBracket}
+use Rattle.source_grammar.proofs.Rules.{Rule, rule_as, rule_then, rule_made, rule_last, rule_token, rule_close, rule_choose, rule_branch, rule_some_by}
 use Rattle.source_grammar.proofs.NameLaws.{rule_word, rule_type_name, rule_strings, string_seen, no_string, word_misses}
 use Rattle.source_grammar.proofs.RangeLaws.{ListEnds}
 use Rattle.source_grammar.proofs.AggregateLaws.{rule_aggregate}
-use Rattle.source_grammar.proofs.Ahead.{one_seen, seen_no_string, begins_misses, begins_no_string}
+use Rattle.source_grammar.proofs.Ahead.{seen_no_string, begins_misses, begins_no_string}
 
 -- ---- names
 

@@ -1,11 +1,10 @@
 -- What the rules of ranges and reserved statements read.
-use Rattle.std.proofs.Common.{◌≡◌, Bool, true, false, List, [], ◌∷◌, Option, Some, None, Ok, refl, ap, sym, subst, ◌∙◌, inl, inr, ◌⊎◌}
+use Rattle.std.proofs.Common.{[], ◌≡◌, true, false, List, ◌∷◌, None, Ok, refl, ap, sym, subst, ◌∙◌, inl, inr, ◌⊎◌}
 use Rattle.std.specs.Prelude.{codes}
-use Rattle.protox_lex.specs.Token.{Token, ident, int, sign}
+use Rattle.protox_lex.specs.Token.{Token, ident, sign}
 use Rattle.protox_lex.specs.declared.literal.Int.{Int}
 use Rattle.protox_lex.specs.declared.span.Span.{Span}
 use Rattle.protox_lex.specs.declared.token.Sign.TheVariants as s
-use Rattle.protox_options.specs.NameGrammar.{an_int, strings}
 use Rattle.protox_options.specs.RangeGrammar.{max_or_int, end_behind, range_end, range, ranges, names, reserved_items as items_rule, reserved}
 use Rattle.protox_options.proofs.RangeLaws.{range_turns, names_turns}
 use Rattle.protox_tree.specs.Tree.{Word, ReservedItems, reserved_ranges, reserved_names, Reserved}
@@ -13,16 +12,16 @@ use Rattle.protox_tree.specs.declared.range.RangeEnd.{RangeEnd}
 use Rattle.protox_tree.specs.declared.range.ReservedRange.{ReservedRange}
 use Rattle.protox_tree.specs.declared.range.RangeEnd.TheVariants as bounds
 use Rattle.protox_tokens.specs.Stream.{Stream, source}
-use Rattle.protox_tokens.specs.Parser.{◌>>=◌, pure, same, sees, eat, is_string}
+use Rattle.protox_tokens.specs.Parser.{◌>>=◌, pure, sees, eat, is_string}
 use Rattle.protox_tokens.specs.Span.{across}
-use Rattle.protox_tokens.specs.Marks.{spot, IsAny, literal}
+use Rattle.protox_tokens.specs.Marks.{spot, IsAny}
 use Rattle.protox_tokens.proofs.Local.{same_ok}
 use Rattle.protox_tokens.proofs.Both.{Always, Free}
 use Rattle.protox_tokens.proofs.Lists.{Lastly, lastly_all}
 use Rattle.source_grammar.specs.Languages.{Language, nothing, one, the, token_at, begins, ends, ◌▸◌, some_by}
 use Rattle.source_grammar.specs.Names.{integer, a_string, NoString}
 use Rattle.source_grammar.specs.Ranges.{a_range_end, a_range, reserved_items, a_reserved, NoTo, NoEnd}
-use Rattle.source_grammar.proofs.Rules.{Rule, rule_as, rule_then, rule_map, rule_made, rule_last, rule_pure, rule_token, rule_close, rule_choose, rule_branch, rule_some_by}
+use Rattle.source_grammar.proofs.Rules.{Rule, rule_as, rule_then, rule_made, rule_last, rule_pure, rule_token, rule_close, rule_choose, rule_branch, rule_some_by}
 use Rattle.source_grammar.proofs.NameLaws.{rule_int, rule_strings, string_seen}
 use Rattle.source_grammar.proofs.Ahead.{one_seen, seen_no_string, int_misses, int_no_string, begins_misses, begins_no_string}
 

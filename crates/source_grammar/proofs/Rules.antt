@@ -1,19 +1,19 @@
 -- Rules that read a language, in both directions, and the steps that they are made of.
-use Rattle.std.proofs.Common.{◌≡◌, ℕ, zero, suc, ◌<◌, Bool, true, false, List, [], ◌∷◌, length, Option, Some, None, Ok, Err, refl, ap, sym, subst, ◌∙◌, inl, inr, ◌⊎◌, arith}
-use Rattle.std.specs.Prelude.{if◌then◌else◌, ◌↔◌, is_some}
+use Rattle.std.proofs.Common.{[], ◌≡◌, ℕ, zero, suc, ◌<◌, Bool, true, false, List, ◌∷◌, length, Option, Some, None, Ok, Err, refl, ap, sym, subst, ◌∙◌, inl, inr, ◌⊎◌, arith}
+use Rattle.std.specs.Prelude.{if◌then◌else◌, is_some}
 use Rattle.protox_lex.specs.Token.{Token}
 use Rattle.protox_lex.specs.declared.span.Span.{Span}
-use Rattle.protox_tokens.specs.Stream.{Stream, source}
+use Rattle.protox_tokens.specs.Stream.{Stream}
 use Rattle.protox_tokens.specs.Parser.{Outcome, Parser, and_then, ◌>>=◌, ◌<$>◌, pure, same, is, sees, eat, pass, expect_in, expect, goes_on, loop, when, behind, choose, some_by}
 use Rattle.protox_tokens.specs.Refusal.{this}
 use Rattle.protox_tokens.specs.Marks.{Mark, Spells, FitsToken, spot, IsAny}
 use Rattle.protox_tokens.specs.Marks as marks
 use Rattle.protox_tokens.proofs.Loops.{Shortens, loop-is}
-use Rattle.protox_tokens.proofs.Local.{good, same_ok, bound}
+use Rattle.protox_tokens.proofs.Local.{same_ok, bound}
 use Rattle.protox_tokens.proofs.Both as both
 use Rattle.protox_tokens.proofs.Both.{IsNamed, Always, Free, then_ok}
-use Rattle.protox_tokens.proofs.Steps.{Absent, eat_sound, eat_some, eat_none, both_eat, both_leaf, same_is, sees_first}
-use Rattle.protox_tokens.proofs.Lists.{Lastly, lastly_all}
+use Rattle.protox_tokens.proofs.Steps.{Absent, eat_none, both_eat, both_leaf, same_is, sees_first}
+use Rattle.protox_tokens.proofs.Lists.{Lastly}
 use Rattle.source_grammar.specs.Languages.{Language, nothing, one, token_at, the, ◌▸◌, if_there, each, Reads}
 use Rattle.source_grammar.specs.Languages as languages
 

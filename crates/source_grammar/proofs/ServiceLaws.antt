@@ -1,71 +1,49 @@
 -- What the rules of services read.
-use Rattle.std.proofs.Common.{◌≡◌, ℕ, List, [], ◌∷◌, Option, Some, None, Ok, Err, refl, ap, sym, subst, ◌∙◌, inl, inr, ◌⊎◌}
-use Rattle.std.specs.Prelude.{codes, false, true}
+use Rattle.std.proofs.Common.{[], ◌≡◌, ℕ, List, ◌∷◌, Option, Some, None, Err, refl, ap, sym, subst, ◌∙◌, inl, inr, ◌⊎◌}
+use Rattle.std.specs.Prelude.{codes, true}
 use Rattle.protox_declarations.specs.ServiceGrammar.{method_type, method_item_unless, method_item, method_items, method_end, method_body, a_method as method_rule, service_item_unless, service_item, service_items, service}
 use Rattle.protox_declarations.proofs.ServiceLaws.{method_turns, service_turns}
 use Rattle.protox_options.specs.NameGrammar.{type_name}
-use Rattle.protox_lex.specs.Class.{Text}
 use Rattle.protox_lex.specs.Token.{Token, ident, sign}
 use Rattle.protox_lex.specs.declared.span.Span.{Span}
 use Rattle.protox_lex.specs.declared.token.Sign.TheVariants as s
-use Rattle.protox_tree.specs.Tree.{Word, TypeName, OptionStatement, MethodType, MethodItem, method_option, method_empty, MethodBody, Method, ServiceItem, service_method, service_option, service_empty, Service}
+use Rattle.protox_tree.specs.Tree.{Word, OptionStatement, MethodType, MethodItem, method_option, method_empty, MethodBody, Method, ServiceItem, service_method, service_option, service_empty, Service}
 use Rattle.protox_tokens.specs.Stream.{Stream, source}
-use Rattle.protox_tokens.specs.Parser.{Parser, ◌>>=◌, ◌<$>◌, pure, sees, same, expect}
+use Rattle.protox_tokens.specs.Parser.{◌>>=◌, pure, sees, expect}
 use Rattle.protox_tokens.specs.Refusal.{Fault, a_service_item as expected_item, refusal}
 use Rattle.protox_tokens.specs.Span.{across}
-use Rattle.protox_tokens.specs.Marks.{spot, IsAny}
-use Rattle.protox_tokens.proofs.Local.{good, same_ok, bound}
-use Rattle.protox_tokens.proofs.Both.{Always, Free, then_ok}
-use Rattle.protox_tokens.proofs.Steps.{Absent, sees_first}
-use Rattle.source_grammar.specs.Languages.{Language, one, the, token_at, begins, ends, ◌▸◌, ◌∪◌, if_there, each}
-use Rattle.source_grammar.specs.Names.{a_word, full_name, a_type_name}
+use Rattle.protox_tokens.specs.Marks.{IsAny}
+use Rattle.protox_tokens.proofs.Local.{good}
+use Rattle.protox_tokens.proofs.Both.{Always, Free}
+use Rattle.protox_tokens.proofs.Steps.{Absent}
+use Rattle.source_grammar.specs.Languages.{Language, the, token_at, begins, ends, ◌▸◌, ◌∪◌, each, FirstIsNoneOf, unless}
+use Rattle.source_grammar.specs.Names.{a_type_name}
 use Rattle.source_grammar.specs.Options.{an_option}
-use Rattle.source_grammar.specs.Words.{IsNoneOf, FirstIsNoneOf, BeginsWithNone}
-use Rattle.source_grammar.specs.Services.{StreamIsSaid, a_method_type, a_method_item, a_method_end, a_method, a_service_item, a_service}
-use Rattle.source_grammar.proofs.Rules.{Rule, rule_as, rule_then, rule_map, rule_last, rule_token, rule_close, rule_eat, rule_branch, first_is}
+use Rattle.source_grammar.specs.Services.{stream_words, a_method_type, a_method_item, a_method_end, a_method, a_service_item, a_service}
+use Rattle.source_grammar.proofs.Rules.{Rule, rule_as, rule_then, rule_last, rule_token, rule_close, rule_eat, rule_branch, first_is}
 use Rattle.source_grammar.proofs.NameLaws.{rule_word, rule_type_name}
 use Rattle.source_grammar.proofs.OptionLaws.{rule_option}
 use Rattle.source_grammar.proofs.EnumLaws.{option_starts, whole}
 use Rattle.source_grammar.proofs.Ahead.{begins_misses}
-use Rattle.source_grammar.proofs.Choices.{Misses, Differs, seen_misses, words_of, Made, Empty, Choice, choice_word, choice_empty, choice_last, rule_where, rule_under, none_seen, none_misses, rule_items}
-
--- ---- the first word of a type's name
-
-pub first_seen : (ks : List Text) (t : TypeName) (ts r : Stream) → a_type_name t ts r → Misses (words_of ks) ts → BeginsWithNone ks t
-first_seen ks t ts r h m = by t.leading_dot t.parts h.0 h.1 h.2 where
-  by : (dot : Option Span) (ws : List Word) (u : Stream) → if_there (sign s.Dot) dot ts u → full_name ws u r → FirstIsNoneOf ks dot ws
-  by None [] u d n = tt
-  by None (w ∷ ws) u d n = none_seen w.text w.span ks ts n.0 (subst (λ u. a_word w u n.0) (sym d) n.1) m
-  by (Some at) ws u d n = tt
-
-pub first_misses : (ks : List Text) (t : TypeName) (ts r : Stream) → a_type_name t ts r → BeginsWithNone ks t → Misses (words_of ks) ts
-first_misses ks t ts r h b = by t.leading_dot t.parts h.0 h.1 h.2 b where
-  dot_misses : (ks : List Text) (at : Span) (u : Stream) → one (spot at (sign s.Dot)) ts u → Misses (words_of ks) ts
-  dot_misses [] at u d = tt
-  dot_misses (k ∷ ks) at u d = (sees_first (ident k) (spot at (sign s.Dot)) [] ts u d, dot_misses ks at u d)
-
-  by : (dot : Option Span) (ws : List Word) (u : Stream) → if_there (sign s.Dot) dot ts u → full_name ws u r → FirstIsNoneOf ks dot ws → Misses (words_of ks) ts
-  by None [] u d n b = absurd n
-  by None (w ∷ ws) u d n b = none_misses w.text w.span ks ts n.0 (subst (λ u. a_word w u n.0) (sym d) n.1) b
-  by (Some at) ws u d n b = dot_misses ks at u d
+use Rattle.source_grammar.proofs.Choices.{Misses, Differs, seen_misses, Made, Empty, Choice, choice_word, choice_empty, choice_last, rule_items}
 
 -- ---- methods
 
-stream_told : (o : Option Span) (t : TypeName) (ts r : Stream) → Absent (ident (codes "stream")) o ts → a_type_name t ts r → StreamIsSaid o t
-stream_told None t ts r a h = first_seen (codes "stream" ∷ []) t ts r h (a, tt)
-stream_told (Some at) t ts r a h = tt
+stream_told : (o : Option Span) (ts : Stream) → Absent (ident (codes "stream")) o ts → FirstIsNoneOf (stream_words o) ts
+stream_told None ts a = (a, tt)
+stream_told (Some at) ts a = tt
 
-stream_absent : (o : Option Span) (t : TypeName) (ts r : Stream) → StreamIsSaid o t → a_type_name t ts r → Absent (ident (codes "stream")) o ts
-stream_absent None t ts r a h = (first_misses (codes "stream" ∷ []) t ts r h a).0
-stream_absent (Some at) t ts r a h = tt
+stream_absent : (o : Option Span) (ts : Stream) → FirstIsNoneOf (stream_words o) ts → Absent (ident (codes "stream")) o ts
+stream_absent None ts n = n.0
+stream_absent (Some at) ts n = tt
 
 abbrev Named : MethodType → Language
-Named t ts r = StreamIsSaid t.stream t.name × (a_type_name t.name ▸ the (sign s.RightParen)) ts r
+Named t = unless (stream_words t.stream) (a_type_name t.name ▸ the (sign s.RightParen))
 
 rule_named : (o : Option Span) → Rule (Absent (ident (codes "stream")) o) (type_name >>= (λ n. expect (sign s.RightParen) >>= (λ q. pure (record { stream = o; name = n })))) Named (λ (t : MethodType). (t.stream ≡ o) × (Unit {0} × IsAny t)) Free
 rule_named o = record {
   sound = λ ts r t h e. let x = (inner {H = Absent (ident (codes "stream")) o}).sound ts r t h e in
-      ((stream_told t.stream t.name ts x.0.0 (subst (λ o. Absent (ident (codes "stream")) o ts) (sym x.1.0) h) x.0.1, x.0), x.1, x.2);
+      ((stream_told t.stream ts (subst (λ o. Absent (ident (codes "stream")) o ts) (sym x.1.0) h), x.0), x.1, x.2);
   complete = λ ts r t h k g. (inner {H = Always}).complete ts r t h.1 k g;
 } where
   inner : {H : Stream → Type 0} → Rule H (type_name >>= (λ n. expect (sign s.RightParen) >>= (λ q. pure (record { stream = o; name = n })))) (λ (t : MethodType). a_type_name t.name ▸ the (sign s.RightParen)) (λ (t : MethodType). (t.stream ≡ o) × (Unit {0} × IsAny t)) Free
@@ -75,7 +53,7 @@ rule_named o = record {
 rule_method_type : {H : Stream → Type 0} → Rule H method_type a_method_type IsAny Free
 unfolding method_type
 rule_method_type = rule_token (sign s.LeftParen) refl (λ t at. Unit {0}) (λ at.
-    rule_then (λ (t : MethodType). t.stream) (rule_eat (ident (codes "stream")) refl) (λ t ts r h g. stream_absent t.stream t.name ts h.1.0 h.0 h.1.1) rule_named)
+    rule_then (λ (t : MethodType). t.stream) (rule_eat (ident (codes "stream")) refl) (λ t ts r h g. stream_absent t.stream ts h.0) rule_named)
 
 abbrev Item : MethodItem → Language
 Item i = Empty method_empty i ∪ Made method_option an_option i

@@ -1,18 +1,18 @@
 -- Rules of text format that take tokens of a language, in both directions.
-use Rattle.std.proofs.Common.{◌≡◌, ℕ, zero, suc, Bool, true, false, List, [], ◌∷◌, length, Option, Some, None, Ok, Err, refl, ap, sym, subst, ◌∙◌, inl, inr, ◌⊎◌}
+use Rattle.std.proofs.Common.{[], ◌≡◌, ℕ, zero, suc, Bool, true, false, List, ◌∷◌, length, Option, Some, None, Ok, refl, ap, sym, subst, ◌∙◌, inl, inr, ◌⊎◌}
 use Rattle.std.specs.Prelude.{if◌then◌else◌, is_some}
 use Rattle.protox_aggregates.specs.AggregateGrammar.{Passes, passes, must}
 use Rattle.protox_lex.specs.Token.{Token, sign}
 use Rattle.protox_lex.specs.declared.span.Span.{Span}
 use Rattle.protox_lex.specs.declared.token.Sign.{Sign}
-use Rattle.protox_tokens.specs.Stream.{Stream, Piece, Seen, look, peek, tail, text}
-use Rattle.protox_tokens.specs.Parser.{Outcome, Parser, and_then, ◌>>=◌, ◌>>◌, ◌<$>◌, pure, same, is, value_of, saw, sees_in, eaten, eat_in, pass_in, taken, one, expect_in, loop, when, behind_in, many as many_steps, done, choose}
+use Rattle.protox_tokens.specs.Stream.{Stream, Piece, Seen, look, tail, text}
+use Rattle.protox_tokens.specs.Parser.{Outcome, Parser, and_then, ◌>>=◌, ◌>>◌, ◌<$>◌, pure, same, is, value_of, saw, sees_in, eaten, eat_in, taken, one, expect_in, loop, when, behind_in, many as many_steps, done, choose}
 use Rattle.protox_tokens.specs.Refusal.{Expected, this}
 use Rattle.protox_tokens.proofs.Loops.{Shortens}
 use Rattle.protox_tokens.proofs.Local.{same_ok, bound}
 use Rattle.protox_tokens.proofs.Both.{IsNamed, Always, then_ok}
 use Rattle.protox_tokens.proofs.Steps.{same_is, seen_is}
-use Rattle.protox_tokens.proofs.Lists.{Lastly, lastly_all}
+use Rattle.protox_tokens.proofs.Lists.{lastly_all}
 use Rattle.source_grammar.specs.Aggregates.{Sees, in_text, a_sign}
 use Rattle.source_grammar.specs.Languages.{Language, nothing, ◌▸◌, ◌∪◌, each, times, many}
 use Rattle.source_grammar.proofs.Rules.{Turn, loop_sound, loop_complete, some_of, some_not, none_is, none_not}

@@ -7,7 +7,7 @@ use Rattle.protox_lex.specs.declared.span.Span.{Span}
 use Rattle.protox_lex.specs.declared.token.Sign.{Sign}
 use Rattle.protox_tokens.specs.Stream.{Stream, Seen, look, text}
 use Rattle.source_grammar.specs.Languages.{Language, never, token_at, begins, ends, ◌▸◌, ◌∪◌, perhaps, many}
-use Rattle.std.specs.Prelude.{◌≡◌, ◌⊎◌, ◌-◌, ℕ, zero, suc, [], ◌∷◌, length, take, Some, None}
+use Rattle.std.specs.Prelude.{[], ◌≡◌, ◌-◌, ℕ, zero, suc, ◌∷◌, length, take, Some, None}
 use Rattle.protox_lex.specs.declared.token.Sign.TheVariants as s
 
 -- ---- tokens

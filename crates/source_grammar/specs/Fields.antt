@@ -14,7 +14,7 @@ use Rattle.source_grammar.specs.Languages.{Language, nothing, never, one, the, t
 use Rattle.source_grammar.specs.Names.{a_word, a_type_name, integer, NoDot}
 use Rattle.source_grammar.specs.Options.{options}
 use Rattle.source_grammar.specs.Ranges.{a_range}
-use Rattle.std.specs.Prelude.{List, [], ◌∷◌, Option, Some, None, codes}
+use Rattle.std.specs.Prelude.{[], List, ◌∷◌, Option, Some, None, codes}
 use Rattle.descriptor_records.specs.declared.field.FieldType.TheVariants as types
 use Rattle.descriptor_records.specs.declared.field.Label.TheVariants as labels
 use Rattle.protox_lex.specs.declared.token.Sign.TheVariants as s

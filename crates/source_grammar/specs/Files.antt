@@ -15,7 +15,7 @@ use Rattle.source_grammar.specs.Messages.{a_message, an_extend, block}
 use Rattle.source_grammar.specs.Names.{full_name, a_string}
 use Rattle.source_grammar.specs.Options.{an_option}
 use Rattle.source_grammar.specs.Services.{a_service}
-use Rattle.std.specs.Prelude.{◌≡◌, [], Option, Some, None, codes}
+use Rattle.std.specs.Prelude.{[], ◌≡◌, Option, Some, None, codes}
 use Rattle.protox_lex.specs.declared.token.Sign.TheVariants as s
 use Rattle.protox_tree.specs.declared.file.ImportKind.TheVariants as imports
 use Rattle.protox_tree.specs.declared.types.Syntax.TheVariants as syntaxes

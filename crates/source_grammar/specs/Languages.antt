@@ -5,7 +5,7 @@ use Rattle.protox_lex.specs.declared.span.Span.{Span}
 use Rattle.protox_tokens.specs.Marks.{Mark, Spells, spot}
 use Rattle.protox_tokens.specs.Parser.{Parser, sees}
 use Rattle.protox_tokens.specs.Stream.{Stream, source, peek, span_of}
-use Rattle.std.specs.Prelude.{◌≡◌, ◌↔◌, ◌⊎◌, ℕ, zero, suc, false, List, [], ◌∷◌, Option, Some, None, Ok}
+use Rattle.std.specs.Prelude.{[], ◌≡◌, ◌↔◌, ◌⊎◌, ℕ, zero, suc, false, List, ◌∷◌, Option, Some, None, Ok}
 
 -- What stands before the first place and not before the second is of the language.
 abbrev pub Language : Type 1

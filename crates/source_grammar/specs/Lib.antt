@@ -8,4 +8,3 @@ pub mod Names
 pub mod Options
 pub mod Ranges
 pub mod Services
-pub mod Words

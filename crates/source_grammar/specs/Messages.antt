@@ -13,7 +13,7 @@ use Rattle.source_grammar.specs.Languages.{Language, never, one, token_at, begin
 use Rattle.source_grammar.specs.Names.{a_word, a_type_name}
 use Rattle.source_grammar.specs.Options.{an_option}
 use Rattle.source_grammar.specs.Ranges.{a_reserved}
-use Rattle.std.specs.Prelude.{ℕ, zero, suc, List, [], ◌∷◌, Option, codes}
+use Rattle.std.specs.Prelude.{[], ℕ, zero, suc, List, ◌∷◌, Option, codes}
 use Rattle.protox_lex.specs.declared.token.Sign.TheVariants as s
 
 -- ---- what nests, as lists

@@ -1,6 +1,6 @@
 -- The tokens of names, numbers and strings, by the language specification's section "Lexical
 -- elements".
-use Rattle.protox_lex.specs.Token.{ident, int, sign}
+use Rattle.protox_lex.specs.Token.{int, sign}
 use Rattle.protox_lex.specs.declared.literal.Int.{Int}
 use Rattle.protox_tokens.specs.Marks.{literal, spot, word_mark}
 use Rattle.protox_tokens.specs.Parser.{sees, is_string}

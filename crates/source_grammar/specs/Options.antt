@@ -1,6 +1,6 @@
 -- The tokens of options, by the language specification's sections "Option" and "Constant".
 use Rattle.protox_lex.specs.Class.{Text}
-use Rattle.protox_lex.specs.Token.{Token, ident, int, float, sign}
+use Rattle.protox_lex.specs.Token.{Token, ident, float, sign}
 use Rattle.protox_lex.specs.declared.literal.Int.{Int}
 use Rattle.protox_lex.specs.declared.span.Span.{Span}
 use Rattle.protox_tokens.specs.Marks.{spot}
@@ -10,7 +10,7 @@ use Rattle.protox_tree.specs.Tree.{NamePart, plain, extension, Value, word_value
 use Rattle.source_grammar.specs.Aggregates.{an_aggregate}
 use Rattle.source_grammar.specs.Languages.{Language, nothing, one, the, token_at, begins, ends, ◌▸◌, some_by}
 use Rattle.source_grammar.specs.Names.{a_word, a_type_name, integer, a_string, NoString}
-use Rattle.std.specs.Prelude.{◌≡◌, ◌⊎◌, ◌≤◌, ◌^◌, Bool, true, false, List, Option, Some, None, codes}
+use Rattle.std.specs.Prelude.{◌≡◌, ◌⊎◌, ◌≤◌, ◌^◌, true, false, List, Option, Some, None, codes}
 use Rattle.protox_lex.specs.declared.token.Sign.TheVariants as s
 
 -- ident | "(" [ "." ] fullIdent ")"

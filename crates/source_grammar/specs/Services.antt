@@ -1,24 +1,24 @@
 -- The tokens of services, by the language specification's section "Service definition".
+use Rattle.protox_lex.specs.Class.{Text}
 use Rattle.protox_lex.specs.Token.{ident, sign}
 use Rattle.protox_lex.specs.declared.span.Span.{Span}
 use Rattle.protox_tokens.specs.Marks.{spot}
-use Rattle.protox_tree.specs.Tree.{TypeName, MethodType, MethodItem, method_option, method_empty, MethodBody, Method, ServiceItem, service_method, service_option, service_empty, Service}
-use Rattle.source_grammar.specs.Languages.{Language, one, the, token_at, begins, ends, ◌▸◌, if_there, each}
+use Rattle.protox_tree.specs.Tree.{MethodType, MethodItem, method_option, method_empty, MethodBody, Method, ServiceItem, service_method, service_option, service_empty, Service}
+use Rattle.source_grammar.specs.Languages.{Language, one, the, token_at, begins, ends, ◌▸◌, if_there, each, unless}
 use Rattle.source_grammar.specs.Names.{a_word, a_type_name}
 use Rattle.source_grammar.specs.Options.{an_option}
-use Rattle.source_grammar.specs.Words.{BeginsWithNone}
-use Rattle.std.specs.Prelude.{◌≡◌, ℕ, [], ◌∷◌, Option, Some, None, codes}
+use Rattle.std.specs.Prelude.{[], ◌≡◌, ℕ, List, ◌∷◌, Option, Some, None, codes}
 use Rattle.protox_lex.specs.declared.token.Sign.TheVariants as s
 
--- Without the keyword `stream` a method's type does not begin with this word.
-abbrev pub StreamIsSaid : Option Span → TypeName → Type 0
-StreamIsSaid None t = BeginsWithNone (codes "stream" ∷ []) t
-StreamIsSaid (Some at) t = Unit {0}
+-- Behind a missing keyword `stream` this word does not stand.
+abbrev pub stream_words : Option Span → List Text
+stream_words None = codes "stream" ∷ []
+stream_words (Some at) = []
 
 -- "(" [ "stream" ] messageType ")"
 abbrev pub a_method_type : MethodType → Language
 a_method_type t = the (sign s.LeftParen) ▸ (if_there (ident (codes "stream")) t.stream
-    ▸ (λ ts r. StreamIsSaid t.stream t.name × (a_type_name t.name ▸ the (sign s.RightParen)) ts r))
+    ▸ unless (stream_words t.stream) (a_type_name t.name ▸ the (sign s.RightParen)))
 
 -- option | emptyStatement
 abbrev pub a_method_item : MethodItem → Language
