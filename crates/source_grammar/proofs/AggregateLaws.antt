@@ -1,6 +1,6 @@
 -- What the rules of a value in braces take.
 use Rattle.std.proofs.Common.{[], ◌≡◌, ℕ, zero, suc, Bool, true, false, ◌∷◌, Option, Some, None, Ok, Err, refl, ap, sym, subst, ◌∙◌, inl, inr, ◌⊎◌}
-use Rattle.std.specs.Prelude.{if◌then◌else◌, is_some, not, ◌-◌}
+use Rattle.std.specs.Prelude.{if◌then◌else◌, is_some, not}
 use Rattle.protox_aggregates.specs.AggregateGrammar as rules
 use Rattle.protox_aggregates.specs.AggregateGrammar.{Passes, passes, must, is_ident, is_literal, is_plain, an_ident_as, bracketed_if, dotted_if, semicolon_unless, elements_unless, list_or_value, behind_colon, opens, open_by, opening}
 use Rattle.protox_aggregates.specs.BraceTexts.{text_by, text_up_to, text_of}

@@ -15,7 +15,7 @@ use Rattle.protox_tokens.specs.Span.{across}
 use Rattle.protox_tokens.specs.Marks.{IsAny}
 use Rattle.protox_tokens.proofs.Both.{Always, Free}
 use Rattle.source_grammar.specs.Languages.{Language, token_at, begins, ends, ◌∪◌, each, unless}
-use Rattle.source_grammar.specs.Options.{an_option, options, NoBracket}
+use Rattle.source_grammar.specs.Options.{an_option, NoBracket}
 use Rattle.source_grammar.specs.Ranges.{a_reserved}
 use Rattle.source_grammar.specs.Enums.{an_enum_value, an_enum_item, an_enum}
 use Rattle.source_grammar.proofs.Rules.{Rule, rule_as, rule_then, rule_token, rule_close, first_is}

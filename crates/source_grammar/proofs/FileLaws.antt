@@ -18,7 +18,7 @@ use Rattle.protox_tree.specs.declared.file.ImportKind.TheVariants as imports
 use Rattle.protox_tree.specs.declared.types.Syntax.{Syntax}
 use Rattle.protox_tree.specs.declared.types.Syntax.TheVariants as syntaxes
 use Rattle.protox_tokens.specs.Stream.{Stream, source, is_over}
-use Rattle.protox_tokens.specs.Parser.{Parser, ◌>>=◌, ◌>>◌, pure, sees, eat, expect}
+use Rattle.protox_tokens.specs.Parser.{Parser, ◌>>=◌, pure, sees, eat, expect}
 use Rattle.protox_tokens.specs.Refusal.{a_file_item as expected_item, refusal}
 use Rattle.protox_tokens.specs.Span.{across}
 use Rattle.protox_tokens.specs.Marks.{spot, literal, IsAny}

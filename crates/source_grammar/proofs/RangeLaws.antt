@@ -1,5 +1,5 @@
 -- What the rules of ranges and reserved statements read.
-use Rattle.std.proofs.Common.{[], ◌≡◌, true, false, List, ◌∷◌, None, Ok, refl, ap, sym, subst, ◌∙◌, inl, inr, ◌⊎◌}
+use Rattle.std.proofs.Common.{[], ◌≡◌, true, false, List, ◌∷◌, Ok, refl, ap, sym, subst, ◌∙◌, inl, inr, ◌⊎◌}
 use Rattle.std.specs.Prelude.{codes}
 use Rattle.protox_lex.specs.Token.{Token, ident, sign}
 use Rattle.protox_lex.specs.declared.literal.Int.{Int}

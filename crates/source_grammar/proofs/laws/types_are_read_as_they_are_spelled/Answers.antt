@@ -1,4 +1,4 @@
-use Rattle.source_grammar.proofs.FieldLaws.{rule_ty, rule_extensions, rule_plain, rule_label}
+use Rattle.source_grammar.proofs.FieldLaws.{rule_ty, rule_extensions}
 use Rattle.source_grammar.proofs.Rules.{reads}
 use Rattle.source_grammar.proofs.laws.types_are_read_as_they_are_spelled.Goals as goal
 
