@@ -11,7 +11,6 @@ use Rattle.protox_lex.specs.Token.{Token, ident, sign}
 use Rattle.protox_lex.specs.declared.span.Span.{Span}
 use Rattle.protox_lex.specs.declared.token.Sign.TheVariants as s
 use Rattle.protox_tree.specs.FileTree.{SyntaxStatement, Import, Package, FileItem, file_import, file_package, file_option, file_message, file_enum, file_service, file_extend, file_empty, File, file_span}
-use Rattle.protox_tree.specs.Nest.{Message, message, Extend, extend}
 use Rattle.protox_tree.specs.Tree.{Word, Enum, Service, joined, words_span}
 use Rattle.protox_tree.specs.declared.file.ImportKind.{ImportKind}
 use Rattle.protox_tree.specs.declared.file.ImportKind.TheVariants as imports
@@ -39,7 +38,7 @@ use Rattle.source_grammar.proofs.OptionLaws.{rule_option}
 use Rattle.source_grammar.proofs.EnumLaws.{rule_enum, whole, option_starts}
 use Rattle.source_grammar.proofs.ServiceLaws.{rule_service, choice_refused}
 use Rattle.source_grammar.proofs.FieldLaws.{rule_or}
-use Rattle.source_grammar.proofs.MessageLaws.{message_law, extend_law}
+use Rattle.source_grammar.proofs.MessageLaws.{message_starts, extend_starts, message_law, extend_law}
 use Rattle.source_grammar.proofs.Ahead.{begins_misses, begins_no_string}
 use Rattle.source_grammar.proofs.Choices.{Made, Empty, Choice, choice_word, choice_empty, rule_under}
 
@@ -232,21 +231,15 @@ enum_starts x ts r h = first_is (ident (codes "enum")) (ident (codes "enum")) (b
 service_starts : (x : Service) (ts r : Stream) → a_service x ts r → sees (ident (codes "service")) ts ≡ true
 service_starts x ts r h = first_is (ident (codes "service")) (ident (codes "service")) (begins x.span) ts h.0 h.1
 
-message_first : (m : Message) (ts r : Stream) → a_message (block 31) m ts r → sees (ident (codes "message")) ts ≡ true
-message_first (message n braces items at) ts r h = first_is (ident (codes "message")) (ident (codes "message")) (begins at) ts h.0 h.1
-
-extend_first : (e : Extend) (ts r : Stream) → an_extend (block 31) e ts r → sees (ident (codes "extend")) ts ≡ true
-extend_first (extend n braces items at) ts r h = first_is (ident (codes "extend")) (ident (codes "extend")) (begins at) ts h.0 h.1
-
 item_choice : Choice (ident (codes "edition") ∷ ident (codes "syntax") ∷ []) Always file_item ItemLanguage
 unfolding file_item
 item_choice = choice_empty file_empty file_item_unless (λ at. refl) (refl, (refl, tt))
     (choice_word (ident (codes "import")) refl file_import rule_import import_starts (refl, (refl, (refl, tt)))
     (choice_word (ident (codes "package")) refl file_package rule_package package_starts (refl, (refl, (refl, (refl, tt))))
-    (choice_word (ident (codes "message")) refl file_message (message_law 31) message_first (refl, (refl, (refl, (refl, (refl, tt)))))
+    (choice_word (ident (codes "message")) refl file_message (message_law 31) (message_starts (block 31)) (refl, (refl, (refl, (refl, (refl, tt)))))
     (choice_word (ident (codes "enum")) refl file_enum rule_enum enum_starts (refl, (refl, (refl, (refl, (refl, (refl, tt))))))
     (choice_word (ident (codes "service")) refl file_service rule_service service_starts (refl, (refl, (refl, (refl, (refl, (refl, (refl, tt)))))))
-    (choice_word (ident (codes "extend")) refl file_extend (extend_law 31) extend_first (refl, (refl, (refl, (refl, (refl, (refl, (refl, (refl, tt))))))))
+    (choice_word (ident (codes "extend")) refl file_extend (extend_law 31) (extend_starts (block 31)) (refl, (refl, (refl, (refl, (refl, (refl, (refl, (refl, tt))))))))
     (choice_word (ident (codes "option")) refl file_option rule_option option_starts (refl, (refl, (refl, (refl, (refl, (refl, (refl, (refl, (refl, tt)))))))))
     (choice_refused (refusal source expected_item)))))))))
 
@@ -280,10 +273,10 @@ item_goes : (i : FileItem) (ts r : Stream) → a_file_item i ts r → not (is_ov
 item_goes (file_empty at) ts r h = goes_on (sign s.Semicolon) ts (sees_first (sign s.Semicolon) (spot at (sign s.Semicolon)) [] ts r h)
 item_goes (file_import x) ts r h = goes_on (ident (codes "import")) ts (import_starts x ts r h)
 item_goes (file_package x) ts r h = goes_on (ident (codes "package")) ts (package_starts x ts r h)
-item_goes (file_message m) ts r h = goes_on (ident (codes "message")) ts (message_first m ts r h)
+item_goes (file_message m) ts r h = goes_on (ident (codes "message")) ts (message_starts (block 31) m ts r h)
 item_goes (file_enum e) ts r h = goes_on (ident (codes "enum")) ts (enum_starts e ts r h)
 item_goes (file_service x) ts r h = goes_on (ident (codes "service")) ts (service_starts x ts r h)
-item_goes (file_extend e) ts r h = goes_on (ident (codes "extend")) ts (extend_first e ts r h)
+item_goes (file_extend e) ts r h = goes_on (ident (codes "extend")) ts (extend_starts (block 31) e ts r h)
 item_goes (file_option o) ts r h = goes_on (ident (codes "option")) ts (option_starts o ts r h)
 
 -- nothing is left

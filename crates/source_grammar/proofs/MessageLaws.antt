@@ -88,6 +88,13 @@ module _ (B : Items → Span → Language) where
   field_no_sign k d e (field None t n i os at) ts r h = subst (λ u. sees k u ≡ false) (sym h.1.1) (declared_no_sign k d e t n i os at h.1.0 r h.1.2.1)
   field_no_sign k d e (field (Some x) t n i os at) ts r h = sees_first k (spot x.1 (ident (label_word x.0))) [] ts h.1.0 h.1.1 ∙ d (label_word x.0)
 
+module _ (B : Items → Span → Language) where
+  pub message_starts : (m : Message) (ts r : Stream) → a_message B m ts r → sees (ident (codes "message")) ts ≡ true
+  message_starts (message n braces items at) ts r h = first_is (ident (codes "message")) (ident (codes "message")) (begins at) ts h.0 h.1
+
+  pub extend_starts : (o : Extend) (ts r : Stream) → an_extend B o ts r → sees (ident (codes "extend")) ts ≡ true
+  extend_starts (extend n braces ms at) ts r h = first_is (ident (codes "extend")) (ident (codes "extend")) (begins at) ts h.0 h.1
+
 -- ---- fields
 
 -- which kind of field a keyword begins, and with which place
@@ -241,9 +248,6 @@ module _ (inner : Parser Block) (local : Local inner) (B : Items → Span → La
         from : (m : Message) (ts r : Stream) → a_message B m ts r → (token_at (ident (codes "message")) (begins (message_span m)) ▸ (a_word (message_name m) ▸ MessageRest m)) ts r
         from (message n braces items at) ts r h = h
 
-  pub message_starts : (m : Message) (ts r : Stream) → a_message B m ts r → sees (ident (codes "message")) ts ≡ true
-  message_starts (message n braces items at) ts r h = first_is (ident (codes "message")) (ident (codes "message")) (begins at) ts h.0 h.1
-
   -- no field begins with a semicolon or the closing brace
   no_semicolon : (f : Field) (ts r : Stream) → a_field B f ts r → sees (sign s.Semicolon) ts ≡ false
   no_semicolon f ts r h = field_no_sign B (sign s.Semicolon) (λ x. refl) refl f ts r h
@@ -381,9 +385,6 @@ module _ (inner : Parser Block) (local : Local inner) (B : Items → Span → La
     from : (o : Extend) (ts r : Stream) → an_extend B o ts r → ExtendLanguage o ts r
     from (extend n braces ms at) ts r h = h
 
-  pub extend_starts : (o : Extend) (ts r : Stream) → an_extend B o ts r → sees (ident (codes "extend")) ts ≡ true
-  extend_starts (extend n braces ms at) ts r h = first_is (ident (codes "extend")) (ident (codes "extend")) (begins at) ts h.0 h.1
-
   -- ---- items
 
   abbrev ItemField : Field → Language
@@ -396,9 +397,9 @@ module _ (inner : Parser Block) (local : Local inner) (B : Items → Span → La
   item_choice : Choice (sign s.RightBrace ∷ []) Always (item_with inner) ItemLanguage
   unfolding item_with
   item_choice = choice_empty item_empty (item_unless inner) (λ at. refl) (refl, tt)
-      (choice_word (ident (codes "message")) refl item_message rule_message message_starts (refl, (refl, tt))
+      (choice_word (ident (codes "message")) refl item_message rule_message (message_starts B) (refl, (refl, tt))
       (choice_word (ident (codes "enum")) refl item_enum rule_enum (λ e ts r h. first_is (ident (codes "enum")) (ident (codes "enum")) (begins e.span) ts h.0 h.1) (refl, (refl, (refl, tt)))
-      (choice_word (ident (codes "extend")) refl item_extend rule_extend extend_starts (refl, (refl, (refl, (refl, tt))))
+      (choice_word (ident (codes "extend")) refl item_extend rule_extend (extend_starts B) (refl, (refl, (refl, (refl, tt))))
       (choice_word (ident (codes "extensions")) refl item_extensions rule_extensions (λ e ts r h. first_is (ident (codes "extensions")) (ident (codes "extensions")) (begins e.span) ts h.0 h.1) (refl, (refl, (refl, (refl, (refl, tt)))))
       (choice_word (ident (codes "reserved")) refl item_reserved rule_reserved reserved_starts (refl, (refl, (refl, (refl, (refl, (refl, tt))))))
       (choice_word (ident (codes "option")) refl item_option rule_option option_starts (refl, (refl, (refl, (refl, (refl, (refl, (refl, tt)))))))

@@ -297,9 +297,6 @@ module _ {A : Type 0} (k : Token) (named : IsNamed k) {p : Parser A} {L : A → 
     next : (x y : A) (ts r : Stream) → More y ts r → F x ts
     next x y ts r h = go_on x ts (first_is k k (λ at. Unit {0}) ts h.0 h.1 ∙ named)
 
-    list_of : A → Parser (List A)
-    list_of x = loop (behind k p) >>= (λ xs. pure (x ∷ xs))
-
     forth : (ts r : Stream) (xs : List A) → H ts → some_by k p ts ≡ Ok (xs, r) → languages.some_by k L xs ts r × Unit {0} × ((sees k r ≡ false) × Lastly F xs r)
     forth ts r xs h e =
         let a = bound (p ts) (λ x. loop (behind k p) >>= (λ xs. pure (x ∷ xs))) (xs, r) e in

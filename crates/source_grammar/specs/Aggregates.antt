@@ -1,5 +1,5 @@
 -- The tokens of a value in braces, in which text format stands, by the text format specification's
--- sections "String Literals" to "Fields".
+-- productions of fields and values.
 use Rattle.protox_aggregates.specs.BraceTexts.{text_of}
 use Rattle.protox_lex.specs.Class.{Text}
 use Rattle.protox_lex.specs.Token.{Token, ident, int, float, str, sign}

@@ -95,7 +95,8 @@ label_words (Some x) = []
 
 -- ---- fields
 
--- fieldName "=" fieldNumber [ "[" fieldOptions "]" ], and what stands behind that
+-- fieldName "=" fieldNumber [ "[" fieldOptions "]" ], and what stands behind that. A minus is no fault
+-- of the tokens
 abbrev pub a_numbered : Word → Int → Option OptionList → Language → Language
 a_numbered name n os L = a_word name ▸ (the (sign s.Equals) ▸ (integer n ▸ (options os ▸ L)))
 

@@ -32,12 +32,12 @@ minus whole k = token_at (sign s.Minus) (begins whole) ▸ token_at k (ends whol
 abbrev pub IsNoDigits : Text → Type 0
 IsNoDigits x = (x ≡ codes "inf") ⊎ (x ≡ codes "nan")
 
--- Integers of the size that options can have: of 64 bits, with a sign where it is written.
+-- An integer behind a minus is at least -2^63; one without it is any that the lexer gives.
 abbrev pub IsInRange : Int → Type 0
 IsInRange n = n.negative ≡ true → n.value ≤ 2 ^ 63
 
 -- constant = fullIdent | [ "-" ] intLit | [ "-" ] floatLit | strLit | boolLit | messageValue,
--- where of fullIdent one word alone is taken
+-- where of fullIdent one word alone is taken, and `-` before `inf` and `nan` too
 abbrev pub a_constant : Value → Language
 a_constant (word_value w) = a_word w
 a_constant (minus_word w) = λ ts r. IsNoDigits w.text × minus w.span (ident w.text) ts r
