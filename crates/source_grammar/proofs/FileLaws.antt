@@ -194,7 +194,7 @@ import_of p k v q = record { kind = k; value = v; span = across p q }
 made_import : (p q : Span) (k : Importing) (v : List Word) (x : Import) → x.kind ≡ k → x.value ≡ v → begins x.span p → ends x.span q → import_of p k v q ≡ x
 made_import p q k v x a b c d = ap (λ at. record { kind = k; value = v; span = at }) (whole x.span p q c d) ∙ rw (← a, ← b) refl
 
-rule_import : {H : Stream → Type 0} → Rule H import_rule an_import IsAny Free
+pub rule_import : {H : Stream → Type 0} → Rule H import_rule an_import IsAny Free
 unfolding import_rule
 rule_import = rule_token (ident (codes "import")) refl (λ (x : Import). begins x.span) (λ p.
     rule_then (λ (x : Import). x.kind) rule_import_kind (λ x ts r h g. kind_ends x.kind x.value ts h.0 h.1) (λ k.
@@ -207,7 +207,7 @@ package_of p n q = record { name = n; span = across p q }
 made_package : (p q : Span) (n : List Word) (x : Package) → x.name ≡ n → begins x.span p → ends x.span q → package_of p n q ≡ x
 made_package p q n x a c d = rw (← a, ← c, ← d) refl
 
-rule_package : {H : Stream → Type 0} → Rule H package_rule a_package IsAny Free
+pub rule_package : {H : Stream → Type 0} → Rule H package_rule a_package IsAny Free
 unfolding package_rule
 rule_package = rule_token (ident (codes "package")) refl (λ (x : Package). begins x.span) (λ p.
     rule_then (λ (x : Package). x.name) rule_full (λ x ts r h g. begins_misses (sign s.Dot) (sign s.Semicolon) (ends x.span) ts r refl h) (λ n.
@@ -313,3 +313,7 @@ rule_file = rule_then (λ (f : File). f.syntax) rule_syntax (λ f ts r h g. synt
 
 pub spelled : (z : Text) (tree : File) → Spells z tree ↔ IsSpelledBy tree z
 spelled z tree = (λ h. (h.0, h.1, (rule_file.sound h.0 [] tree tt h.2).0), λ h. (h.0, h.1, rule_file.complete h.0 [] tree h.2 tt refl))
+
+-- the grammar is not ambiguous
+pub one_tree : (ts : Stream) (a b : File) → a_file a ts [] → a_file b ts [] → a ≡ b
+one_tree ts a b h g = ap (λ (y : File × Stream). y.0) (same_ok (a, []) (b, []) (sym (rule_file.complete ts [] a h tt refl) ∙ rule_file.complete ts [] b g tt refl))

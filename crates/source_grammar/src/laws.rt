@@ -6,6 +6,7 @@
 ghost use Rattle.protox_aggregates.specs.AggregateGrammar.{aggregate};
 ghost use Rattle.protox_declarations.specs.EnumGrammar.{enumeration};
 ghost use Rattle.protox_declarations.specs.ServiceGrammar.{service};
+ghost use Rattle.protox_file.specs.FileGrammar as files;
 ghost use Rattle.protox_file.specs.Sources.{Spells};
 ghost use Rattle.protox_lex.specs.Class.{Text};
 ghost use Rattle.protox_messages.specs.FieldGrammar.{extensions, ty};
@@ -15,11 +16,12 @@ ghost use Rattle.protox_options.specs.NameGrammar.{an_int, full_ident, strings, 
 ghost use Rattle.protox_options.specs.OptionGrammar as lists;
 ghost use Rattle.protox_options.specs.OptionGrammar.{option, value};
 ghost use Rattle.protox_options.specs.RangeGrammar.{range, reserved};
+ghost use Rattle.protox_tokens.specs.Stream.{Stream};
 ghost use Rattle.protox_tree.specs.FileTree.{File};
 ghost use Rattle.source_grammar.specs.Aggregates.{an_aggregate};
 ghost use Rattle.source_grammar.specs.Enums.{an_enum};
 ghost use Rattle.source_grammar.specs.Fields.{TyEnds, a_type, an_extensions};
-ghost use Rattle.source_grammar.specs.Files.{IsSpelledBy};
+ghost use Rattle.source_grammar.specs.Files.{IsSpelledBy, a_file, a_package, an_import};
 ghost use Rattle.source_grammar.specs.Languages.{Anything, Reads};
 ghost use Rattle.source_grammar.specs.Messages.{a_message, an_extend, block};
 ghost use Rattle.source_grammar.specs.Names.{
@@ -39,7 +41,7 @@ ghost use Rattle.source_grammar.specs.Options.{
 };
 ghost use Rattle.source_grammar.specs.Ranges.{NoEnd, a_range, a_reserved};
 ghost use Rattle.source_grammar.specs.Services.{a_service};
-ghost use Rattle.std.specs.Prelude.{◌↔◌, ℕ};
+ghost use Rattle.std.specs.Prelude.{◌≡◌, ◌↔◌, [], ℕ};
 
 /// Names, and types' names, are words with dots between them.
 pub fn names_are_read_as_they_are_spelled()
@@ -101,7 +103,18 @@ pub fn messages_are_read_as_they_are_spelled()
     ensures extends { (n : ℕ) → Reads (extend_with (rules.block n)) (an_extend (block n)) Anything }
 {}
 
+/// An import is a string, before which `weak` or `public` may stand, and a package a name.
+pub fn imports_and_packages_are_read_as_they_are_spelled()
+    ensures imports { Reads files.an_import an_import Anything }
+    ensures packages { Reads files.a_package a_package Anything }
+{}
+
 /// A text spells a tree exactly where its tokens are those of the tree.
 pub fn sources_are_read_as_they_are_spelled()
     ensures { (z : Text) (tree : File) → Spells z tree ↔ IsSpelledBy tree z }
+{}
+
+/// Tokens are those of one tree at most: the grammar is not ambiguous.
+pub fn tokens_are_those_of_one_tree()
+    ensures { (ts : Stream) (a b : File) → a_file a ts [] → a_file b ts [] → a ≡ b }
 {}
