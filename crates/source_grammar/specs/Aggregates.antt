@@ -45,7 +45,7 @@ dotted = an_ident ▸ many (a_sign s.Dot ▸ an_ident)
 -- FieldName = "[" ( Domain "/" TypeName | TypeName ) "]" | IDENT
 abbrev pub field_name : Language
 field_name =
-    (a_sign s.LeftBracket ▸ (dotted ▸ (perhaps (a_sign s.ForwardSlash ▸ dotted) ▸ a_sign s.RightBracket)))
+    (a_sign s.LeftBracket ▸ dotted ▸ perhaps (a_sign s.ForwardSlash ▸ dotted) ▸ a_sign s.RightBracket)
     ∪ an_ident
 
 -- ScalarValue = String | [ "-" ] ( IDENT | number )
@@ -66,18 +66,18 @@ module _ (message : Language) where
   abbrev pub a_list : Language
   a_list =
       a_sign s.LeftBracket
-      ▸ (perhaps (a_value ▸ many (a_sign s.Comma ▸ a_value)) ▸ a_sign s.RightBracket)
+      ▸ perhaps (a_value ▸ many (a_sign s.Comma ▸ a_value)) ▸ a_sign s.RightBracket
 
   -- FieldName ":" ( list | value ), or FieldName MessageValue
   abbrev pub a_field : Language
-  a_field = field_name ▸ (((a_sign s.Colon ▸ (a_list ∪ a_value)) ∪ message) ▸ separator)
+  a_field = field_name ▸ ((a_sign s.Colon ▸ (a_list ∪ a_value)) ∪ message) ▸ separator
 
 -- MessageValue = "{" { Field } "}" | "<" { Field } ">", of so many levels at most
 abbrev pub message : ℕ → Language
 message zero = never
 message (suc n) =
-    (a_sign s.LeftBrace ▸ (many (a_field (message n)) ▸ a_sign s.RightBrace))
-    ∪ (a_sign s.LeftAngleBracket ▸ (many (a_field (message n)) ▸ a_sign s.RightAngleBracket))
+    (a_sign s.LeftBrace ▸ many (a_field (message n)) ▸ a_sign s.RightBrace)
+    ∪ (a_sign s.LeftAngleBracket ▸ many (a_field (message n)) ▸ a_sign s.RightAngleBracket)
 
 -- The first tokens, as far as they are not of the second ones.
 abbrev pub between : Stream → Stream → Stream
@@ -91,4 +91,4 @@ fields_as x ts r = many (a_field (message 100)) ts r × (x ≡ text_of (between 
 abbrev pub an_aggregate : Text → Span → Language
 an_aggregate x whole =
     token_at (sign s.LeftBrace) (begins whole)
-    ▸ (fields_as x ▸ in_text (λ t at. (t ≡ sign s.RightBrace) × ends whole at))
+    ▸ fields_as x ▸ in_text (λ t at. (t ≡ sign s.RightBrace) × ends whole at)

@@ -12,8 +12,8 @@ use Rattle.protox_lex.specs.declared.token.Sign.TheVariants as s
 -- enumField = ident "=" [ "-" ] intLit [ options ] ";"
 abbrev pub an_enum_value : EnumValue → Language
 an_enum_value v =
-    a_word v.name ▸ (the (sign s.Equals) ▸ (integer v.number ▸ (options v.options
-    ▸ token_at (sign s.Semicolon) (λ at. begins v.span v.name.span × ends v.span at))))
+    a_word v.name ▸ the (sign s.Equals) ▸ integer v.number ▸ options v.options
+    ▸ token_at (sign s.Semicolon) (λ at. begins v.span v.name.span × ends v.span at)
 
 -- option | enumField | emptyStatement | reserved, where the words of the statements begin no value
 abbrev pub an_enum_item : EnumItem → Language
@@ -27,5 +27,5 @@ an_enum_item (enum_empty at) = one (spot at (sign s.Semicolon))
 abbrev pub an_enum : Enum → Language
 an_enum e =
     token_at (ident (codes "enum")) (begins e.span)
-    ▸ (a_word e.name ▸ (token_at (sign s.LeftBrace) (begins e.braces) ▸ (each an_enum_item e.items
-    ▸ token_at (sign s.RightBrace) (λ at. ends e.braces at × ends e.span at))))
+    ▸ a_word e.name ▸ token_at (sign s.LeftBrace) (begins e.braces) ▸ each an_enum_item e.items
+    ▸ token_at (sign s.RightBrace) (λ at. ends e.braces at × ends e.span at)

@@ -67,9 +67,9 @@ TyEnds (named n) r = NoDot n r
 -- "map" "<" keyType "," type ">", with any type for a key
 abbrev pub a_map : MapType → Language
 a_map m =
-    token_at (ident (codes "map")) (begins m.span) ▸ (the (sign s.LeftAngleBracket)
-    ▸ (a_type m.key ▸ (the (sign s.Comma) ▸ (a_type m.value
-    ▸ token_at (sign s.RightAngleBracket) (ends m.span)))))
+    token_at (ident (codes "map")) (begins m.span) ▸ the (sign s.LeftAngleBracket)
+    ▸ a_type m.key ▸ the (sign s.Comma) ▸ a_type m.value
+    ▸ token_at (sign s.RightAngleBracket) (ends m.span)
 
 abbrev pub a_kind : Kind → Language
 a_kind (normal t) = a_type t
@@ -95,10 +95,9 @@ label_words (Some x) = []
 
 -- ---- fields
 
--- fieldName "=" fieldNumber [ "[" fieldOptions "]" ], and what stands behind that. A minus is no fault
--- of the tokens
+-- fieldName "=" [ "-" ] fieldNumber [ "[" fieldOptions "]" ], and what stands behind that
 abbrev pub a_numbered : Word → Int → Option OptionList → Language → Language
-a_numbered name n os L = a_word name ▸ (the (sign s.Equals) ▸ (integer n ▸ (options os ▸ L)))
+a_numbered name n os L = a_word name ▸ the (sign s.Equals) ▸ integer n ▸ options os ▸ L
 
 -- type fieldName "=" fieldNumber [ "[" fieldOptions "]" ] ";", which the word `group` does not begin
 abbrev pub a_plain_field : Kind → Word → Int → Option OptionList → Span → Language
@@ -110,5 +109,5 @@ a_plain_field k name n os whole =
 abbrev pub an_extensions : Extensions → Language
 an_extensions x =
     token_at (ident (codes "extensions")) (begins x.span)
-    ▸ (some_by (sign s.Comma) a_range x.ranges ▸ (options x.options
-    ▸ token_at (sign s.Semicolon) (ends x.span)))
+    ▸ some_by (sign s.Comma) a_range x.ranges ▸ options x.options
+    ▸ token_at (sign s.Semicolon) (ends x.span)

@@ -27,9 +27,9 @@ syntax_name syntaxes.Proto3 = codes "proto3"
 -- syntax = "syntax" "=" strLit ";", whose string names the language
 abbrev pub a_syntax : SyntaxStatement → Language
 a_syntax x =
-    token_at (ident (codes "syntax")) (begins x.span) ▸ (the (sign s.Equals)
-    ▸ (a_string x.value ▸ given (joined x.value ≡ syntax_name x.syntax)
-    (token_at (sign s.Semicolon) (ends x.span))))
+    token_at (ident (codes "syntax")) (begins x.span) ▸ the (sign s.Equals)
+    ▸ a_string x.value ▸ given (joined x.value ≡ syntax_name x.syntax)
+    (token_at (sign s.Semicolon) (ends x.span))
 
 abbrev pub a_syntax_if : Option SyntaxStatement → Language
 a_syntax_if None = nothing
@@ -48,13 +48,13 @@ an_import_kind (Some x) = one (spot x.1 (ident (import_word x.0)))
 abbrev pub an_import : Import → Language
 an_import x =
     token_at (ident (codes "import")) (begins x.span)
-    ▸ (an_import_kind x.kind ▸ (a_string x.value ▸ token_at (sign s.Semicolon) (ends x.span)))
+    ▸ an_import_kind x.kind ▸ a_string x.value ▸ token_at (sign s.Semicolon) (ends x.span)
 
 -- package = "package" fullIdent ";"
 abbrev pub a_package : Package → Language
 a_package x =
     token_at (ident (codes "package")) (begins x.span)
-    ▸ (full_name x.name ▸ token_at (sign s.Semicolon) (ends x.span))
+    ▸ full_name x.name ▸ token_at (sign s.Semicolon) (ends x.span)
 
 -- import | package | option | message | enum | service | extend | emptyStatement, where 31 braces of
 -- messages and groups may be open at once

@@ -56,7 +56,7 @@ module _ (block : Items → Span → Language) where
   abbrev pub a_message : Message → Language
   a_message (message name braces items whole) =
       token_at (ident (codes "message")) (begins whole)
-      ▸ (a_word name ▸ given (ends whole braces) (block items braces))
+      ▸ a_word name ▸ given (ends whole braces) (block items braces)
 
   -- option | oneofField | emptyStatement
   abbrev pub a_member : Member → Language
@@ -68,8 +68,9 @@ module _ (block : Items → Span → Language) where
   abbrev pub a_oneof : Oneof → Language
   a_oneof (oneof name braces members whole) =
       token_at (ident (codes "oneof")) (begins whole)
-      ▸ (a_word name ▸ (token_at (sign s.LeftBrace) (begins braces) ▸ (each a_member (members_in members)
-      ▸ token_at (sign s.RightBrace) (λ at. ends braces at × ends whole at))))
+      ▸ a_word name ▸ token_at (sign s.LeftBrace) (begins braces)
+      ▸ each a_member (members_in members)
+      ▸ token_at (sign s.RightBrace) (λ at. ends braces at × ends whole at)
 
   -- field | group | emptyStatement
   abbrev pub an_added : AddedItem → Language
@@ -80,8 +81,9 @@ module _ (block : Items → Span → Language) where
   abbrev pub an_extend : Extend → Language
   an_extend (extend extendee braces added whole) =
       token_at (ident (codes "extend")) (begins whole)
-      ▸ (a_type_name extendee ▸ (token_at (sign s.LeftBrace) (begins braces) ▸ (each an_added (added_in added)
-      ▸ token_at (sign s.RightBrace) (λ at. ends braces at × ends whole at))))
+      ▸ a_type_name extendee ▸ token_at (sign s.LeftBrace) (begins braces)
+      ▸ each an_added (added_in added)
+      ▸ token_at (sign s.RightBrace) (λ at. ends braces at × ends whole at)
 
   -- field | enum | message | extend | extensions | group | option | oneof | mapField | reserved
   -- | emptyStatement
@@ -101,4 +103,4 @@ abbrev pub block : ℕ → Items → Span → Language
 block zero items braces = never
 block (suc n) items braces =
     token_at (sign s.LeftBrace) (begins braces)
-    ▸ (each (an_item (block n)) (items_in items) ▸ token_at (sign s.RightBrace) (ends braces))
+    ▸ each (an_item (block n)) (items_in items) ▸ token_at (sign s.RightBrace) (ends braces)

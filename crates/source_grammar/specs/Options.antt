@@ -8,7 +8,7 @@ use Rattle.protox_tokens.specs.Parser.{sees}
 use Rattle.protox_tokens.specs.Stream.{Stream}
 use Rattle.protox_tree.specs.Tree.{NamePart, plain, extension, Value, word_value, minus_word, int_value, float_value, strings_value, braces_value, Body, OptionStatement, OptionList}
 use Rattle.source_grammar.specs.Aggregates.{an_aggregate}
-use Rattle.source_grammar.specs.Languages.{Language, nothing, one, the, token_at, begins, ends, ◌▸◌, some_by}
+use Rattle.source_grammar.specs.Languages.{Language, nothing, one, the, token_at, begins, ends, ◌▸◌, some_by, given}
 use Rattle.source_grammar.specs.Names.{a_word, a_type_name, integer, a_string, NoString}
 use Rattle.std.specs.Prelude.{◌≡◌, ◌⊎◌, ◌≤◌, ◌^◌, true, false, List, Option, Some, None, codes}
 use Rattle.protox_lex.specs.declared.token.Sign.TheVariants as s
@@ -18,7 +18,7 @@ abbrev pub a_name_part : NamePart → Language
 a_name_part (plain w) = a_word w
 a_name_part (extension t whole) =
     token_at (sign s.LeftParen) (begins whole)
-    ▸ (a_type_name t ▸ token_at (sign s.RightParen) (ends whole))
+    ▸ a_type_name t ▸ token_at (sign s.RightParen) (ends whole)
 
 -- optionName, with dots between its parts
 abbrev pub an_option_name : List NamePart → Language
@@ -40,8 +40,8 @@ IsInRange n = n.negative ≡ true → n.value ≤ 2 ^ 63
 -- where of fullIdent one word alone is taken, and `-` before `inf` and `nan` too
 abbrev pub a_constant : Value → Language
 a_constant (word_value w) = a_word w
-a_constant (minus_word w) = λ ts r. IsNoDigits w.text × minus w.span (ident w.text) ts r
-a_constant (int_value n) = λ ts r. IsInRange n × integer n ts r
+a_constant (minus_word w) = given (IsNoDigits w.text) (minus w.span (ident w.text))
+a_constant (int_value n) = given (IsInRange n) (integer n)
 a_constant (float_value false w) = one (spot w.span (float w.text))
 a_constant (float_value true w) = minus w.span (float w.text)
 a_constant (strings_value ws) = a_string ws
@@ -49,20 +49,20 @@ a_constant (braces_value x whole) = an_aggregate x whole
 
 -- optionName "=" constant
 abbrev pub a_body : Body → Language
-a_body b = an_option_name b.name ▸ (the (sign s.Equals) ▸ a_constant b.value)
+a_body b = an_option_name b.name ▸ the (sign s.Equals) ▸ a_constant b.value
 
 -- option = "option" optionName "=" constant ";"
 abbrev pub an_option : OptionStatement → Language
 an_option o =
     token_at (ident (codes "option")) (begins o.span)
-    ▸ (a_body o.body ▸ token_at (sign s.Semicolon) (ends o.span))
+    ▸ a_body o.body ▸ token_at (sign s.Semicolon) (ends o.span)
 
 -- [ "[" optionName "=" constant { "," optionName "=" constant } "]" ]
 abbrev pub options : Option OptionList → Language
 options None = nothing
 options (Some o) =
     token_at (sign s.LeftBracket) (begins o.span)
-    ▸ (some_by (sign s.Comma) a_body o.options ▸ token_at (sign s.RightBracket) (ends o.span))
+    ▸ some_by (sign s.Comma) a_body o.options ▸ token_at (sign s.RightBracket) (ends o.span)
 
 -- ---- what may follow
 

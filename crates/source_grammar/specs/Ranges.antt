@@ -32,7 +32,7 @@ reserved_items (reserved_names ns) = some_by (sign s.Comma) a_string ns
 abbrev pub a_reserved : Reserved → Language
 a_reserved x =
     token_at (ident (codes "reserved")) (begins x.span)
-    ▸ (reserved_items x.items ▸ token_at (sign s.Semicolon) (ends x.span))
+    ▸ reserved_items x.items ▸ token_at (sign s.Semicolon) (ends x.span)
 
 -- A range without an end goes on with the word `to`.
 abbrev pub NoTo : RangeEnd → Stream → Type 0

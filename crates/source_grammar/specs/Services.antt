@@ -17,8 +17,8 @@ stream_words (Some at) = []
 
 -- "(" [ "stream" ] messageType ")"
 abbrev pub a_method_type : MethodType → Language
-a_method_type t = the (sign s.LeftParen) ▸ (if_there (ident (codes "stream")) t.stream
-    ▸ unless (stream_words t.stream) (a_type_name t.name ▸ the (sign s.RightParen)))
+a_method_type t = the (sign s.LeftParen) ▸ if_there (ident (codes "stream")) t.stream
+    ▸ unless (stream_words t.stream) (a_type_name t.name ▸ the (sign s.RightParen))
 
 -- option | emptyStatement
 abbrev pub a_method_item : MethodItem → Language
@@ -29,16 +29,16 @@ a_method_item (method_empty at) = one (spot at (sign s.Semicolon))
 abbrev pub a_method_end : Option MethodBody → ℕ → Language
 a_method_end None end = token_at (sign s.Semicolon) (λ at. end ≡ at.end)
 a_method_end (Some b) end =
-    token_at (sign s.LeftBrace) (begins b.braces) ▸ (each a_method_item b.items
-    ▸ token_at (sign s.RightBrace) (λ at. ends b.braces at × (end ≡ at.end)))
+    token_at (sign s.LeftBrace) (begins b.braces) ▸ each a_method_item b.items
+    ▸ token_at (sign s.RightBrace) (λ at. ends b.braces at × (end ≡ at.end))
 
 -- rpc = "rpc" rpcName "(" [ "stream" ] messageType ")" "returns" "(" [ "stream" ] messageType ")"
 -- ( "{" { option | emptyStatement } "}" | ";" )
 abbrev pub a_method : Method → Language
 a_method m =
     token_at (ident (codes "rpc")) (begins m.span)
-    ▸ (a_word m.name ▸ (a_method_type m.input ▸ (the (ident (codes "returns"))
-    ▸ (a_method_type m.output ▸ a_method_end m.body m.span.end))))
+    ▸ a_word m.name ▸ a_method_type m.input ▸ the (ident (codes "returns"))
+    ▸ a_method_type m.output ▸ a_method_end m.body m.span.end
 
 -- option | rpc | emptyStatement
 abbrev pub a_service_item : ServiceItem → Language
@@ -50,5 +50,5 @@ a_service_item (service_empty at) = one (spot at (sign s.Semicolon))
 abbrev pub a_service : Service → Language
 a_service x =
     token_at (ident (codes "service")) (begins x.span)
-    ▸ (a_word x.name ▸ (token_at (sign s.LeftBrace) (begins x.braces) ▸ (each a_service_item x.items
-    ▸ token_at (sign s.RightBrace) (λ at. ends x.braces at × ends x.span at))))
+    ▸ a_word x.name ▸ token_at (sign s.LeftBrace) (begins x.braces) ▸ each a_service_item x.items
+    ▸ token_at (sign s.RightBrace) (λ at. ends x.braces at × ends x.span at)
