@@ -45,7 +45,8 @@ dotted = an_ident ▸ many (a_sign s.Dot ▸ an_ident)
 -- FieldName = "[" ( Domain "/" TypeName | TypeName ) "]" | IDENT
 abbrev pub field_name : Language
 field_name =
-    (a_sign s.LeftBracket ▸ dotted ▸ perhaps (a_sign s.ForwardSlash ▸ dotted) ▸ a_sign s.RightBracket)
+    (a_sign s.LeftBracket ▸ dotted
+    ▸ perhaps (a_sign s.ForwardSlash ▸ dotted) ▸ a_sign s.RightBracket)
     ∪ an_ident
 
 -- ScalarValue = String | [ "-" ] ( IDENT | number )

@@ -99,7 +99,7 @@ label_words (Some x) = []
 abbrev pub a_numbered : Word → Int → Option OptionList → Language → Language
 a_numbered name n os L = a_word name ▸ the (sign s.Equals) ▸ integer n ▸ options os ▸ L
 
--- type fieldName "=" fieldNumber [ "[" fieldOptions "]" ] ";", which the word `group` does not begin
+-- type fieldName "=" fieldNumber [ "[" fieldOptions "]" ] ";", which the word `group` doesn't begin
 abbrev pub a_plain_field : Kind → Word → Int → Option OptionList → Span → Language
 a_plain_field k name n os whole =
     unless (codes "group" ∷ [])

@@ -56,8 +56,8 @@ a_package x =
     token_at (ident (codes "package")) (begins x.span)
     ▸ full_name x.name ▸ token_at (sign s.Semicolon) (ends x.span)
 
--- import | package | option | message | enum | service | extend | emptyStatement, where 31 braces of
--- messages and groups may be open at once
+-- import | package | option | message | enum | service | extend | emptyStatement, where 31 braces
+-- of messages and groups may be open at once
 abbrev pub a_file_item : FileItem → Language
 a_file_item (file_import x) = an_import x
 a_file_item (file_package x) = a_package x
@@ -68,8 +68,8 @@ a_file_item (file_service x) = a_service x
 a_file_item (file_extend e) = an_extend (block 31) e
 a_file_item (file_empty at) = one (spot at (sign s.Semicolon))
 
--- proto = [ syntax ] { import | package | option | topLevelDef | emptyStatement }, of which the place
--- is that of its statements
+-- proto = [ syntax ] { import | package | option | topLevelDef | emptyStatement }, of which the
+-- place is that of its statements
 abbrev pub a_file : File → Language
 a_file f =
     a_syntax_if f.syntax

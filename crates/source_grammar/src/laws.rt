@@ -96,11 +96,13 @@ pub fn types_are_read_as_they_are_spelled()
     ensures extensions { Reads extensions an_extensions Anything }
 {}
 
-/// A message is a name and what may stand in it, and an `extend` statement a type's name and fields,
-/// with at most so many braces of messages and groups open at once.
+/// A message is a name and what may stand in it, and an `extend` statement a type's name and
+/// fields, with at most so many braces of messages and groups open at once.
 pub fn messages_are_read_as_they_are_spelled()
-    ensures messages { (n : ℕ) → Reads (message_with (rules.block n)) (a_message (block n)) Anything }
-    ensures extends { (n : ℕ) → Reads (extend_with (rules.block n)) (an_extend (block n)) Anything }
+    ensures messages { (n : ℕ)
+        → Reads (message_with (rules.block n)) (a_message (block n)) Anything }
+    ensures extends { (n : ℕ)
+        → Reads (extend_with (rules.block n)) (an_extend (block n)) Anything }
 {}
 
 /// An import is a string, before which `weak` or `public` may stand, and a package a name.

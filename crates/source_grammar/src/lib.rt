@@ -1,5 +1,5 @@
-//! What sources are, by the language specification of protobuf: the tokens of each tree, and that the
-//! parser reads exactly these. It has no code.
+//! The grammar of sources as the language specification has it: the tokens of each tree, and that
+//! the parser reads exactly these. It has no code.
 #![tactic(auto)]
 
 pub mod laws;
