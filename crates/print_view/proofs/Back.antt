@@ -1,8 +1,7 @@
 -- What is printed of a decoded message is read back as it.
-use Rattle.std.proofs.Common.{◌≡◌, ◌≤◌, ℕ, List, Option, refl, sym, ap, ◌∙◌, subst}
+use Rattle.std.proofs.Common.{◌≡◌, ◌≤◌, ℕ, not, List, Option, sym, ap, ◌∙◌, subst}
 use Rattle.protox_lex.specs.Class.{Text}
 use Rattle.protobuf_model.specs.Bytes.{bytes_of}
-use Rattle.protobuf_model.specs.Coded.{SuitsType}
 use Rattle.protobuf_model.specs.Types.{Name}
 use Rattle.protobuf_model.specs.Values.{Message, nothing}
 use Rattle.reflect_wire.specs.Written.{AreBytes}
@@ -13,6 +12,8 @@ use Rattle.reflect_decode.specs.Spelled.{IsSpelled}
 use Rattle.reflect_format.specs.Filled.{Fills, Makes}
 use Rattle.reflect_format.specs.Unfit.{CannotMake, Unfit}
 use Rattle.reflect_print.specs.MessageTexts.{IsMessageText}
+use Rattle.text_lines.specs.declared.options.FormatOptions.{FormatOptions}
+use Rattle.text_model.specs.Forms.{Form, IsOwn}
 use Rattle.text_model.specs.Plain.{IsPlain}
 use Rattle.text_model.specs.Printed.{printed}
 use Rattle.text_model.specs.Schemas.{Schema}
@@ -30,23 +31,30 @@ use Rattle.text_view.specs.Schemas.{schema_of}
 use Rattle.text_view.specs.SourceNames.{HasSourceNames}
 use Rattle.text_view.proofs.HaveNames.{have_identifiers, have_names}
 use Rattle.text_view.proofs.Made.{made_given, none_given}
-use Rattle.print_view.specs.Forms.{compact_form, own_form}
-use Rattle.print_view.proofs.Printed.{decoded_printed}
+use Rattle.print_view.specs.Forms.{form_of, TellsFields}
+use Rattle.print_view.proofs.Printed.{told_printed}
 
-module _ (decoded : Name → Text → Option Message) (d : MessageDescriptor) (sound : IsSound d.pool.now)
+module _ (options : FormatOptions) (tells : TellsFields options) (decoded : Name → Text → Option Message) (d : MessageDescriptor) (sound : IsSound d.pool.now)
     (named : HasSourceNames d.pool.now)
     (bytes : List ℕ) (are : AreBytes bytes) (m : DynamicMessage) (type : m.descriptor ≡ d) (spelled : IsSpelled d bytes m) where
   abbrev w : Schema
   w = schema_of d.pool.now decoded
 
+  -- the form that the options are, in which the fields that are set are printed and no others
+  abbrev form : Form
+  form = form_of options
+
+  own : IsOwn form
+  own = record { set = ap not tells.set; unexpanded = tells.unexpanded }
+
   abbrev t : Name
   t = name_at d.pool.now d.index
 
-  module _ (plain : IsPlain (types_of d.pool.now) t (view m)) (shallow : open_braces (printed own_form w t (view m)) ≤ 100) (z : Text) (text : IsMessageText compact_form m z) where
+  module _ (plain : IsPlain (types_of d.pool.now) t (view m)) (shallow : open_braces (printed form w t (view m)) ≤ 100) (z : Text) (text : IsMessageText options m z) where
     -- the text gives what is seen of the message
     gives : Gives w t z (view m)
-    gives = subst (λ z. Gives w t z (view m)) (sym (decoded_printed d sound bytes m type spelled decoded z text))
-        (printed_text_back own_form (record { set = refl; unexpanded = refl }) w (have_names d.pool.now sound named decoded) (have_identifiers d.pool.now sound named decoded) t (view m) (decoded_suits d sound bytes are m type spelled) plain shallow)
+    gives = subst (λ z. Gives w t z (view m)) (sym (told_printed options tells d sound bytes m type spelled decoded z text))
+        (printed_text_back form own w (have_names d.pool.now sound named decoded) (have_identifiers d.pool.now sound named decoded) t (view m) (decoded_suits d sound bytes are m type spelled) plain shallow)
 
     -- so what it makes is written as the message is
     pub same_written : (fs : Fields) → IsText z fs → (n : DynamicMessage) → Makes d (Fills fs) n → message_bytes n ≡ message_bytes m

@@ -1,37 +1,40 @@
 -- What is printed of a message, number by number, and entry by entry.
-use Rattle.std.proofs.Common.{◌≡◌, inl, inr, ℕ, ◌-◌, ◌^◌, ◌==◌, ◌&&◌, ◌||◌, Bool, true, false, true≢false, cond, not, List, [], ◌∷◌, ◌++◌, map, Option, Some, None, option_map, refl, sym, ap, ◌∙◌, subst, arith}
+use Rattle.std.proofs.Common.{◌≡◌, ◌<◌, inl, inr, ℕ, suc, length, ◌-◌, ◌^◌, ◌==◌, ◌&&◌, ◌||◌, Bool, true, false, true≢false, cond, not, List, [], ◌∷◌, ◌++◌, map, Option, Some, None, option_map, refl, sym, ap, ◌∙◌, subst, arith}
+use Rattle.std.specs.Prelude.{slice_index_or}
 use Rattle.std.specs.List.{AllByRecursion, cons_option, find, filter, filter_map, flat_map}
 use Rattle.std.specs.Option.{option_and_then}
 use Rattle.std.proofs.lemmas.Grind.{flat_map-append}
 use Rattle.protox_lex.specs.Class.{Text}
-use Rattle.reflect_tables.specs.Types.{PoolType, FieldType, ExtensionType}
+use Rattle.reflect_tables.specs.Types.{PoolType, FieldType, ExtensionType, no_field, type_at, type_of_field}
 use Rattle.reflect_wire.specs.Records.{Payload}
-use Rattle.reflect_pool.specs.Shapes.{is_entry, is_repeated, holds_list, holds_map}
+use Rattle.reflect_pool.specs.Shapes.{is_repeated, holds_list, holds_map}
 use Rattle.reflect_entries.specs.Entries.{value_at}
+use Rattle.reflect_scalar.proofs.First.{Tells}
 use Rattle.reflect_scalar.specs.FieldTypes.{extension_type}
 use Rattle.reflect_contents.specs.Walked.{Holding, if_set, set_field, set_extension}
 use Rattle.reflect_message.specs.Bytes as forms
-use Rattle.reflect_message.specs.Bytes.{form_of}
 use Rattle.reflect_message.specs.Contents.{content_of}
 use Rattle.reflect_message.specs.Held.{fields_of, extensions_of, unknown_of}
 use Rattle.reflect_message.specs.Known.{is_float, has_floats, holds_floats, if_held, numbered_field, known_field, known_extension}
-use Rattle.reflect_message.specs.Lists.{list_items}
-use Rattle.reflect_message.specs.Maps.{map_entries}
+use Rattle.reflect_message.specs.Present.{is_held}
+use Rattle.reflect_message.specs.Shown.{IsHeldOrDefault}
 use Rattle.reflect_message.specs.declared.message.DynamicMessage.{DynamicMessage}
 use Rattle.reflect_message.specs.declared.value.Value.{Value}
-use Rattle.reflect_scalar.specs.declared.map_key.MapKey.{MapKey}
-use Rattle.print_parts.specs.Entries.{Entry, extension, set_entry, set_entries, known_entry, extension_entries}
+use Rattle.print_parts.specs.Entries.{Entry, field, extension, set_entry, known_entry, extension_entries, AreDeclared, IsFieldOf, is_printed}
+use Rattle.print_parts.specs.Pairwise.{Pairwise}
 use Rattle.reflect_print.specs.Named.{label_of}
 use Rattle.protobuf_model.specs.Types.{Name, Field}
 use Rattle.protobuf_model.specs.Values as model
 use Rattle.protobuf_model.specs.Values.{Held, content, records, Message, absent}
 use Rattle.protobuf_model.specs.Meaning.{payloads}
 use Rattle.protobuf_model.specs.Bytes.{field_numbers, is_declared}
+use Rattle.text_lines.specs.declared.options.FormatOptions.{FormatOptions}
+use Rattle.text_model.specs.Forms.{Form}
 use Rattle.text_model.specs.Printed.{Inner, parts, printed_content, printed_held, printing_order}
 use Rattle.text_model.specs.Schemas.{Schema}
 use Rattle.text_model.specs.Tree as tree
 use Rattle.text_model.specs.Tree.{Given}
-use Rattle.message_view.specs.Sound.{HaveNames, HaveEntryFields, HaveLists}
+use Rattle.message_view.specs.Sound.{AreApart, HaveNames, HaveEntryFields, HaveLists}
 use Rattle.message_view.specs.Types.{field_of, field_at, either_field, oneof_at, values_of}
 use Rattle.message_view.specs.Views as views
 use Rattle.message_view.specs.Views.{held_in, held_either, content_view, contents_view, view, view_of}
@@ -39,19 +42,20 @@ use Rattle.message_view.proofs.Accepting.{known_whole, extension_known_whole}
 use Rattle.message_view.proofs.Arranging.{IsShaped, Shaped}
 use Rattle.message_view.proofs.Entries.{Sort, plain, floating, message_type, sort_of}
 use Rattle.message_view.proofs.Fields.{known, known_extension_is, none_owned}
-use Rattle.message_view.proofs.Forms.{single_form_seen, message_form_seen, list_form_seen, map_form_seen, forms_of}
+use Rattle.message_view.proofs.Forms.{single_form_seen, message_form_seen}
 use Rattle.message_view.proofs.Ordering.{found_each}
-use Rattle.message_view.proofs.Seen.{single_seen, message_seen, list_seen, map_seen, pairs_view, value_at-view, view_opened}
+use Rattle.message_view.proofs.Seen.{single_seen, message_seen, value_at-view, view_opened}
 use Rattle.message_view.proofs.Written.{FitsOne, FitsAs, default_same}
 use Rattle.text_view.specs.Names.{name_in, names_of, printed_name, value_kind}
 use Rattle.text_view.specs.Schemas.{schema_of}
+use Rattle.text_view.proofs.Apart.{only_one}
 use Rattle.text_view.proofs.Shapes.{placed}
 use Rattle.text_view.proofs.Set.{list_repeats, list_set, map_repeats, map_set}
-use Rattle.print_view.specs.Forms.{own_form}
+use Rattle.print_view.specs.Forms.{form_of}
 use Rattle.print_view.proofs.Parts.{HaveValues}
 use Rattle.print_view.proofs.Counting.{same_numbers, filtered, shown, under, each, all_numbers}
 use Rattle.print_view.proofs.Pieces.{Pair}
-use Rattle.print_view.proofs.Values.{given, pairs_in, EntryFits, pair_of}
+use Rattle.print_view.proofs.Values.{own_options, given, pairs_in, EntryFits, pair_of}
 
 -- ---- which fields are set
 
@@ -61,7 +65,7 @@ or_true false = refl
 
 module _ (pool : PoolType) (inner : DynamicMessage → Type 0) where
   abbrev Set : FieldType → Value → Type 0
-  Set f v = forms.is_set pool f (form_of v) ≡ views.is_set pool f (content_view v)
+  Set f v = forms.is_set pool f (forms.form_of v) ≡ views.is_set pool f (content_view v)
 
   set_one : (f : FieldType) (v : Value) → is_float f.kind ≡ false → FitsOne inner pool f v → Set f v
   set_one f v whole fits = by (sort_of f.kind) where
@@ -85,6 +89,29 @@ module _ (pool : PoolType) (inner : DynamicMessage → Type 0) where
       one false is = is
       one true is = absurd (true≢false (sym (ap (λ a. a || (holds_map pool f && has_floats pool f.kind)) is) ∙ whole))
 
+-- ---- the fields of a type
+
+-- no two of which have one number, so that each is found under its own
+module _ (pool : PoolType) (i : ℕ) (apart : AreApart pool) where
+  abbrev IsFound : FieldType → Type 0
+  IsFound f = numbered_field pool i f.number ≡ Some f
+
+  numbered_at : (n : ℕ) → Tells (λ (f : FieldType). f.number ≡ n) (λ f. f.number == n)
+  numbered_at n = record { says = λ f e. grind (arith, e); passes = λ f e. grind (arith, e) }
+
+  found_at : (k : ℕ) → k < length (type_at pool i).fields → IsFound (type_of_field pool i k)
+  found_at k lt =
+      let n = (type_of_field pool i k).number in
+      only_one (λ (f : FieldType). f.number ≡ n) (λ f. f.number == n) (numbered_at n) (type_at pool i).fields no_field k lt refl
+      (λ j less same. apart.fields i j k less lt same)
+
+  each_of : (fs : List FieldType) → ((k : ℕ) → k < length fs → IsFound (slice_index_or fs k no_field)) → AllByRecursion IsFound fs
+  each_of [] found = tt
+  each_of (f ∷ fs) found = (found 0 (omega arith), each_of fs (λ k lt. found (suc k) (omega (arith, lt))))
+
+  each_numbered : AllByRecursion IsFound (type_at pool i).fields
+  each_numbered = each_of (type_at pool i).fields found_at
+
 -- ---- a message
 
 passes : {X : Type 0} (test : X → Bool) (xs : List X) (x : X) → find test xs ≡ Some x → test x ≡ true
@@ -98,7 +125,7 @@ both : (a b : Bool) → a && b ≡ true → (a ≡ true) × (b ≡ true)
 both true b e = (refl, e)
 both false b e = absurd (cc e)
 
-module _ (m : DynamicMessage) (fields_have : HaveEntryFields m.descriptor.pool.now) (values : HaveValues m.descriptor.pool.now) (lists : HaveLists m.descriptor.pool.now) (names : HaveNames m.descriptor.pool.now)
+module _ (p as_declared : Bool) (m : DynamicMessage) (apart : AreApart m.descriptor.pool.now) (fields_have : HaveEntryFields m.descriptor.pool.now) (values : HaveValues m.descriptor.pool.now) (lists : HaveLists m.descriptor.pool.now) (names : HaveNames m.descriptor.pool.now)
     (decoded : Name → Text → Option Message) (inner : Inner) (rounds levels : ℕ) (shaped : IsShaped (Shaped levels) m.descriptor (content_of m)) where
   abbrev pool : PoolType
   pool = m.descriptor.pool.now
@@ -106,22 +133,28 @@ module _ (m : DynamicMessage) (fields_have : HaveEntryFields m.descriptor.pool.n
   abbrev i : ℕ
   i = m.descriptor.index
 
+  abbrev options : FormatOptions
+  options = own_options p as_declared
+
+  abbrev own : Form
+  own = form_of options
+
   abbrev schema : Schema
   schema = schema_of pool decoded
 
   abbrev give : FieldType → Value → Given
-  give f v = given pool fields_have values decoded inner rounds (values_of pool f) v
+  give f v = given p as_declared pool fields_have values decoded inner rounds (values_of pool f) v
 
   abbrev pair : Entry → Pair
-  pair e = pair_of pool fields_have values decoded inner rounds e
+  pair e = pair_of p as_declared pool fields_have values decoded inner rounds e
 
   abbrev fits : ℕ → Entry → Type 0
-  fits n e = EntryFits pool fields_have values decoded inner rounds n e
+  fits n e = EntryFits p as_declared pool fields_have values decoded inner rounds n e
 
   -- ---- what stands there suits
 
   abbrev Suits : FieldType → Value → Type 0
-  Suits f v = (holds_floats pool f ≡ false) × FitsAs (Shaped levels) pool f (holds_map pool f) (holds_list pool f) v × (forms.is_set pool f (form_of v) ≡ views.is_set pool f (content_view v))
+  Suits f v = (holds_floats pool f ≡ false) × FitsAs (Shaped levels) pool f (holds_map pool f) (holds_list pool f) v × (forms.is_set pool f (forms.form_of v) ≡ views.is_set pool f (content_view v))
 
   field_suits : (n : ℕ) (v : Value) (f : FieldType) → value_at (fields_of m) n ≡ Some v → known_field pool i n ≡ Some f → Suits f v
   field_suits n v f at is =
@@ -201,7 +234,7 @@ module _ (m : DynamicMessage) (fields_have : HaveEntryFields m.descriptor.pool.n
 
     by : (o : Option FieldType) → numbered_field pool i e.0 ≡ o → AllByRecursion (fits levels) (entries es) → put (set_field pool i e)
     by None is rest = subst (λ o. put (option_and_then (if_set pool e.1) o)) (sym is) rest
-    by (Some f) is rest = subst (λ o. put (option_and_then (if_set pool e.1) o)) (sym is) (within (forms.is_set pool f (form_of e.1))) where
+    by (Some f) is rest = subst (λ o. put (option_and_then (if_set pool e.1) o)) (sym is) (within (forms.is_set pool f (forms.form_of e.1))) where
       within : (b : Bool) → put (cond b (Some (f, e.1)) None)
       within false = rest
       within true = let suits = field_suits e.0 e.1 f all.0 (is_known e.0 e.1 f all.0 is) in ((refl, suits.0, suits.1), rest)
@@ -255,7 +288,7 @@ module _ (m : DynamicMessage) (fields_have : HaveEntryFields m.descriptor.pool.n
           within : (b : Bool) → holds_floats pool y.field ≡ b → put (if_set pool v y.field) ≡ of_extension None (known_extension pool i n) v ++ map pair (filter_map known_one rest)
           within true e =
               let nothing : known_extension pool i n ≡ None = known_as ∙ ap (λ b. cond b None (Some y.field)) e in
-              told (forms.is_set pool y.field (form_of v)) None nothing ∙ drops (forms.is_set pool y.field (form_of v))
+              told (forms.is_set pool y.field (forms.form_of v)) None nothing ∙ drops (forms.is_set pool y.field (forms.form_of v))
               ∙ sym (ap (λ o. of_extension None o v ++ map pair (filter_map known_one rest)) nothing) where
                 drops : (b : Bool) → map pair (cons_option (cond b None None) (filter_map known_one rest)) ≡ map pair (filter_map known_one rest)
                 drops true = refl
@@ -263,7 +296,7 @@ module _ (m : DynamicMessage) (fields_have : HaveEntryFields m.descriptor.pool.n
           within false e =
               let there : known_extension pool i n ≡ Some y.field = known_as ∙ ap (λ b. cond b None (Some y.field)) e in
               let suits = extension_suits n v y.field at none there in
-              told (forms.is_set pool y.field (form_of v)) (Some y.field) there
+              told (forms.is_set pool y.field (forms.form_of v)) (Some y.field) there
               ∙ ap (λ b. map pair (cons_option (cond b (Some (extension pool y.field v)) None) (filter_map known_one rest))) suits.2
               ∙ shown_so (views.is_set pool y.field (content_view v))
               ∙ sym (ap (λ o. of_extension None o v ++ map pair (filter_map known_one rest)) there) where
@@ -285,7 +318,7 @@ module _ (m : DynamicMessage) (fields_have : HaveEntryFields m.descriptor.pool.n
     by : (o : Option FieldType) → known_field pool i e.0 ≡ o → (x : Option ExtensionType) → find (extends e.0) pool.extensions ≡ x → AllByRecursion (fits levels) (others es) → put (set_extension pool i e)
     by (Some f) there x is rest = absurd (no_field_too e.0 e.1 f all.0 there)
     by None none None is rest = subst (λ o. put (option_and_then (if_set pool e.1) (option_map (λ (x : ExtensionType). x.field) o))) (sym is) rest
-    by None none (Some y) is rest = subst (λ o. put (option_and_then (if_set pool e.1) (option_map (λ (x : ExtensionType). x.field) o))) (sym is) (within (forms.is_set pool y.field (form_of e.1))) where
+    by None none (Some y) is rest = subst (λ o. put (option_and_then (if_set pool e.1) (option_map (λ (x : ExtensionType). x.field) o))) (sym is) (within (forms.is_set pool y.field (forms.form_of e.1))) where
       number : y.field.number ≡ e.0
       number = let two = both (y.extendee == i) (y.field.number == e.0) (passes (extends e.0) pool.extensions y is) in grind (arith, two.1)
 
@@ -304,9 +337,9 @@ module _ (m : DynamicMessage) (fields_have : HaveEntryFields m.descriptor.pool.n
   by_names f x None h = []
   by_names f x (Some g) (records ps) = []
   by_names f x (Some g) (content c) =
-      (cond g.extension (tree.extension (parts (printed_name pool f x))) (tree.plain (printed_name pool f x)), printed_content own_form schema inner (λ z. option_and_then (λ k. name_in pool k z) (value_kind pool f x)) g.part.kind c) ∷ []
+      (cond g.extension (tree.extension (parts (printed_name pool f x))) (tree.plain (printed_name pool f x)), printed_content own schema inner (λ z. option_and_then (λ k. name_in pool k z) (value_kind pool f x)) g.part.kind c) ∷ []
 
-  held_names : (n : ℕ) (o : Option Field) (h : Held) → printed_held own_form schema inner (names_of pool i) n o h ≡ by_names (known_field pool i n) (known_extension pool i n) o h
+  held_names : (n : ℕ) (o : Option Field) (h : Held) → printed_held own schema inner (names_of pool i) n o h ≡ by_names (known_field pool i n) (known_extension pool i n) o h
   held_names n None (records ps) = refl
   held_names n None (content c) = refl
   held_names n (Some g) (records ps) = refl
@@ -340,11 +373,11 @@ module _ (m : DynamicMessage) (fields_have : HaveEntryFields m.descriptor.pool.n
   extensions_at n None None (Some v) a ps = refl
 
   abbrev printed_at : ℕ → List Pair
-  printed_at n = printed_held own_form schema inner (names_of pool i) n (field_at pool i n) (view m n)
+  printed_at n = printed_held own schema inner (names_of pool i) n (field_at pool i n) (view m n)
 
   seen_at : (n : ℕ) → printed_at n ≡ under_either (known_field pool i n) (known_extension pool i n) (option_map content_view (value_at (fields_of m) n)) (option_map content_view (value_at (extensions_of m) n)) (payloads n (unknown_of m))
   seen_at n =
-      ap (λ (s : Message). printed_held own_form schema inner (names_of pool i) n (field_at pool i n) (s n)) (view_opened m)
+      ap (λ (s : Message). printed_held own schema inner (names_of pool i) n (field_at pool i n) (s n)) (view_opened m)
       ∙ held_names n (field_at pool i n) (view_of pool i (content_of m) n)
       ∙ ap (λ a. under_either (known_field pool i n) (known_extension pool i n) a (value_at (contents_view (extensions_of m)) n) (payloads n (unknown_of m))) (value_at-view (fields_of m) n)
       ∙ ap (λ b. under_either (known_field pool i n) (known_extension pool i n) (option_map content_view (value_at (fields_of m) n)) b (payloads n (unknown_of m))) (value_at-view (extensions_of m) n)
@@ -368,7 +401,7 @@ module _ (m : DynamicMessage) (fields_have : HaveEntryFields m.descriptor.pool.n
         same_shown (Some v) = refl
 
   abbrev placed_at : ℕ → List Pair
-  placed_at k = flat_map (λ n. printed_held own_form schema inner (names_of pool k) n (field_at pool k n) (view m n)) (printing_order own_form (names_of pool k) (λ n. field_at pool k n))
+  placed_at k = flat_map (λ n. printed_held own schema inner (names_of pool k) n (field_at pool k n) (view m n)) (printing_order own (names_of pool k) (λ n. field_at pool k n))
 
   found_fields : Found (fields_of m) (fields_of m)
   found_fields = found_each 1 (2 ^ 29 - 1) (fields_of m) shaped.fields_rise
@@ -376,18 +409,116 @@ module _ (m : DynamicMessage) (fields_have : HaveEntryFields m.descriptor.pool.n
   found_extensions : Found (extensions_of m) (extensions_of m)
   found_extensions = found_each 1 (2 ^ 29 - 1) (extensions_of m) shaped.extensions_rise
 
-  pub all_printed : AllByRecursion (fits levels) (set_entries m) × AllByRecursion (fits levels) (extension_entries m)
-      × (pairs_in pool fields_have values decoded inner rounds m ≡ map pair (set_entries m) ++ map pair (extension_entries m))
-  all_printed =
-      let declared = λ (n : ℕ). is_declared (field_at pool i n) in (
+  -- ---- as they are declared
+
+  -- each field of the type is found under its number
+  abbrev Numbered : List FieldType → Type 0
+  Numbered fs = AllByRecursion (λ (f : FieldType). numbered_field pool i f.number ≡ Some f) fs
+
+  abbrev numbers : List FieldType → List ℕ
+  numbers fs = map (λ (f : FieldType). f.number) (filter (λ f. not (holds_floats pool f)) fs)
+
+  abbrev Printed : List FieldType → List Entry → Type 0
+  Printed fs es = Pairwise (IsFieldOf m) (filter (is_printed options m) (filter_map (λ (f : FieldType). known_field pool i f.number) fs)) es
+
+  abbrev Told : List FieldType → List Entry → Type 0
+  Told fs es = (flat_map printed_at (numbers fs) ≡ map pair es) × AllByRecursion (fits levels) es
+
+  -- what is printed under the number of a field that messages hold
+  under_field : (f : FieldType) → known_field pool i f.number ≡ Some f → printed_at f.number ≡ shown (λ n v. of_field (Some f) v) (value_at (fields_of m) f.number) f.number
+  under_field f there =
+      let declared : is_declared (field_at pool i f.number) ≡ true = ap (λ o. is_declared (either_field pool i o (known_extension pool i f.number))) there in
+      sym (ap (λ b. cond b (printed_at f.number) []) declared) ∙ first_at f.number
+      ∙ same_shown (value_at (fields_of m) f.number) where
+        same_shown : (v : Option Value) → shown first v f.number ≡ shown (λ n v. of_field (Some f) v) v f.number
+        same_shown None = refl
+        same_shown (Some v) = ap (λ o. of_field o v) there
+
+  declared_told : (fs : List FieldType) → Numbered fs → (es : List Entry) → Printed fs es → Told fs es
+  declared_told [] each es printed = subst (λ es. Told [] es) (sym printed) (refl, tt)
+  declared_told (f ∷ fs) each es printed = by (holds_floats pool f) refl (declared_told fs each.1) where
+    behind : List FieldType
+    behind = filter_map (λ (f : FieldType). known_field pool i f.number) fs
+
+    Puts : Option FieldType → List Entry → Type 0
+    Puts o es = Pairwise (IsFieldOf m) (filter (is_printed options m) (cons_option o behind)) es
+
+    Behind : Type 0
+    Behind = (es : List Entry) → Printed fs es → Told fs es
+
+    known_as : known_field pool i f.number ≡ if_held pool f
+    known_as = ap (option_and_then (if_held pool)) each.0
+
+    begins : (b : Bool) → holds_floats pool f ≡ b → flat_map printed_at (numbers (f ∷ fs)) ≡ cond b [] (printed_at f.number) ++ flat_map printed_at (numbers fs)
+    begins true is = ap (λ b. flat_map printed_at (map (λ (f : FieldType). f.number) (cond (not b) (f ∷ filter (λ f. not (holds_floats pool f)) fs) (filter (λ f. not (holds_floats pool f)) fs)))) is
+    begins false is = ap (λ b. flat_map printed_at (map (λ (f : FieldType). f.number) (cond (not b) (f ∷ filter (λ f. not (holds_floats pool f)) fs) (filter (λ f. not (holds_floats pool f)) fs)))) is
+
+    by : (b : Bool) → holds_floats pool f ≡ b → Behind → Told (f ∷ fs) es
+    by true is rest =
+        let none : known_field pool i f.number ≡ None = known_as ∙ ap (λ b. cond b None (Some f)) is in
+        let told = rest es (subst (λ o. Puts o es) none printed) in
+        (begins true is ∙ told.0, told.1)
+    by false is rest =
+        let there : known_field pool i f.number ≡ Some f = known_as ∙ ap (λ b. cond b None (Some f)) is in
+        let told = within there (value_at (fields_of m) f.number) refl rest (subst (λ o. Puts o es) there printed) in
+        (begins false is ∙ ap (λ l. l ++ flat_map printed_at (numbers fs)) (under_field f there) ∙ told.0, told.1) where
+          Put : Bool → List Entry → Type 0
+          Put b es = Pairwise (IsFieldOf m) (cond b (f ∷ filter (is_printed options m) behind) (filter (is_printed options m) behind)) es
+
+          Ends : Option Value → Type 0
+          Ends v = (shown (λ n v. of_field (Some f) v) v f.number ++ flat_map printed_at (numbers fs) ≡ map pair es) × AllByRecursion (fits levels) es
+
+          at_value : (v : Value) → value_at (fields_of m) f.number ≡ Some v → Suits f v → (b : Bool) → views.is_set pool f (content_view v) ≡ b → Behind → Put b es → Ends (Some v)
+          at_value v at suits false set rest puts =
+              let told = rest es puts in
+              (ap (λ b. cond b ((tree.plain (label_of pool f), give f v) ∷ []) [] ++ flat_map printed_at (numbers fs)) set ∙ told.0, told.1)
+          at_value v at suits true set rest (e, es', (w, held, is), more, whole) =
+              let told = rest es' more in
+              let same : w ≡ v = subst (λ o. IsHeldOrDefault pool f o w) at held in
+              let entry : e ≡ field pool f v = is ∙ ap (field pool f) same in
+              let all : es ≡ field pool f v ∷ es' = whole ∙ ap (λ e. e ∷ es') entry in (
+                ap (λ b. cond b ((tree.plain (label_of pool f), give f v) ∷ []) [] ++ flat_map printed_at (numbers fs)) set
+                    ∙ ap (λ l. (tree.plain (label_of pool f), give f v) ∷ l) told.0 ∙ sym (ap (map pair) all),
+                subst (AllByRecursion (fits levels)) (sym all) ((refl, suits.0, suits.1), told.1),
+              )
+
+          within : known_field pool i f.number ≡ Some f → (v : Option Value) → value_at (fields_of m) f.number ≡ v → Behind → Puts (Some f) es → Ends v
+          within there None at rest puts = rest es (subst (λ o. Put (is_held pool f o) es) at puts)
+          within there (Some v) at rest puts =
+              let suits = field_suits f.number v f at there in
+              at_value v at suits (views.is_set pool f (content_view v)) refl rest
+              (subst (λ b. Put b es) suits.2 (subst (λ o. Put (is_held pool f o) es) at puts))
+
+  -- ---- all of them
+
+  abbrev declared : ℕ → Bool
+  declared n = is_declared (field_at pool i n)
+
+  abbrev Arranged : Bool → List Entry → Type 0
+  Arranged by_place ds =
+      (flat_map printed_at (cond by_place (numbers (type_at pool i).fields) (filter declared field_numbers)) ≡ map pair ds)
+      × AllByRecursion (fits levels) ds
+
+  arranged : (by_place : Bool) (ds : List Entry) → AreDeclared (own_options p by_place) m ds → Arranged by_place ds
+  arranged false ds are =
+      subst (Arranged false) (sym are) (
+        filtered declared printed_at field_numbers ∙ same_numbers (λ n. cond (declared n) (printed_at n) []) (under first (fields_of m)) (λ n le. first_at n)
+            ∙ all_numbers first (fields_of m) shaped.fields_rise ∙ sym (fields_said (fields_of m) found_fields),
         fields_fit (fields_of m) found_fields,
+      )
+  arranged true ds (found, printed, same) =
+      subst (Arranged true) (sym same) (declared_told (type_at pool i).fields (each_numbered pool i apart) found printed)
+
+  pub all_printed : (ds : List Entry) → AreDeclared options m ds → AllByRecursion (fits levels) ds × AllByRecursion (fits levels) (extension_entries m)
+      × (pairs_in p as_declared pool fields_have values decoded inner rounds m ≡ map pair ds ++ map pair (extension_entries m))
+  all_printed ds are =
+      let told = arranged as_declared ds are in (
+        told.1,
         extensions_fit (extensions_of m) found_extensions,
         ap placed_at (placed pool.messages i m.descriptor.in_range (λ k less e. names i k m.descriptor.in_range less e))
-            ∙ flat_map-append printed_at (filter declared field_numbers) (filter (λ n. not (declared n)) field_numbers)
-            ∙ ap (λ l. l ++ flat_map printed_at (filter (λ n. not (declared n)) field_numbers))
-            (filtered declared printed_at field_numbers ∙ same_numbers (λ n. cond (declared n) (printed_at n) []) (under first (fields_of m)) (λ n le. first_at n)
-            ∙ all_numbers first (fields_of m) shaped.fields_rise ∙ sym (fields_said (fields_of m) found_fields))
-            ∙ ap (λ l. map pair (set_entries m) ++ l)
+            ∙ flat_map-append printed_at (cond as_declared (numbers (type_at pool i).fields) (filter declared field_numbers)) (filter (λ n. not (declared n)) field_numbers)
+            ∙ ap (λ l. l ++ flat_map printed_at (filter (λ n. not (declared n)) field_numbers)) told.0
+            ∙ ap (λ l. map pair ds ++ l)
             (filtered (λ n. not (declared n)) printed_at field_numbers ∙ same_numbers (λ n. cond (not (declared n)) (printed_at n) []) (under second (extensions_of m)) (λ n le. second_at n)
             ∙ all_numbers second (extensions_of m) shaped.extensions_rise ∙ sym (extensions_said (extensions_of m) found_extensions)),
       )

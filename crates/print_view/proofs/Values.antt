@@ -1,5 +1,5 @@
 -- The text of values and messages is that of their trees.
-use Rattle.std.proofs.Common.{◌≡◌, ℕ, ℤ, zero, suc, ◌+◌, ◌&&◌, ◌||◌, Bool, true, false, true≢false, cond, not, if◌then◌else◌, List, [], ◌∷◌, ◌++◌, map, Option, Some, None, unwrap_or, codes, refl, sym, ap, ◌∙◌, subst, append-nil}
+use Rattle.std.proofs.Common.{◌≡◌, ℕ, ℤ, zero, suc, ◌+◌, ◌&&◌, ◌||◌, Bool, true, false, true≢false, cond, not, List, [], ◌∷◌, ◌++◌, map, Option, Some, None, unwrap_or, codes, refl, sym, ap, ◌∙◌, subst, append-nil, append_assoc}
 use Rattle.std.specs.List.{AllByRecursion}
 use Rattle.protox_lex.specs.Class.{Text}
 use Rattle.reflect_tables.specs.Types.{PoolType, FieldType, KindType, type_at, type_of_field, no_field}
@@ -15,21 +15,22 @@ use Rattle.reflect_message.specs.Messages.{message_in}
 use Rattle.reflect_message.specs.Singles as singles
 use Rattle.reflect_message.specs.declared.message.DynamicMessage.{DynamicMessage}
 use Rattle.reflect_message.specs.declared.value.Value.{Value}
-use Rattle.print_parts.specs.Entries.{Entry, field, extension, undeclared, set_entries, extension_entries}
+use Rattle.print_parts.specs.Entries.{Entry, field, extension, undeclared, AreDeclared, extension_entries}
 use Rattle.reflect_print.specs.MessageTexts.{before_value, any_behind, key_text, value_text, IsSingleText, IsValueText, single_text, message_text, list_text, map_text, IsListText, no_values, more_values, IsPairText, pair_text, IsMapText, no_pairs, more_pairs, IsBracedText, braced, IsItemsText, expanded, listed, IsRowText, no_entries, more_entries, IsEntryText, field_text, extension_text, record_text}
 use Rattle.reflect_print.specs.Named.{Named, named, value_kind, label_of}
-use Rattle.text_lines.specs.Pieces.{before_element}
+use Rattle.text_lines.specs.Pieces.{padding, colon, before_element, before_item}
+use Rattle.text_lines.specs.declared.options.FormatOptions.{FormatOptions}
 use Rattle.text_lines.specs.Pieces as pieces
 use Rattle.protobuf_model.specs.Types.{Name}
 use Rattle.protobuf_model.specs.Values as model
 use Rattle.protobuf_model.specs.Values.{Content, Message, chain_of, entries_of}
+use Rattle.text_model.specs.Forms.{Form, between}
 use Rattle.text_model.specs.Printed.{Inner, joined, parts, printed_content, printed_list, printed_entry, printed_entries, printed_fields, printed_single, value_in}
 use Rattle.text_model.specs.Rendered.{run}
 use Rattle.text_model.specs.Schemas.{Schema}
-use Rattle.text_model.specs.Tokens.{scalar_tokens, value_tokens, more_tokens, values_tokens, given_tokens, fields_tokens}
+use Rattle.text_model.specs.Tokens.{scalar_tokens}
 use Rattle.text_model.specs.Tree as tree
-use Rattle.text_model.specs.Tree.{Given, Fields, Values, comma, curly}
-use Rattle.text_lex.specs.Token.{sign}
+use Rattle.text_model.specs.Tree.{Given, Fields, Values, curly}
 use Rattle.message_view.specs.Singles.{single_view}
 use Rattle.message_view.specs.Sound.{HaveEntryFields}
 use Rattle.message_view.specs.Types.{name_at, kind_in, entry_part, values_of}
@@ -40,10 +41,20 @@ use Rattle.message_view.proofs.Seen.{single_seen, message_seen, list_seen, map_s
 use Rattle.message_view.proofs.Written.{FitsOne, FitsAs}
 use Rattle.text_view.specs.Names.{name_in}
 use Rattle.text_view.specs.Schemas.{schema_of}
-use Rattle.print_view.specs.Forms.{compact_form, own_form}
+use Rattle.print_view.specs.Forms.{form_of}
 use Rattle.print_view.proofs.Parts.{HaveValues}
-use Rattle.print_view.proofs.Pieces.{Pair, one, row, list_tokens, run_append, word_said, name_said, bracket_said, joined_said, row_append, any_pairs, braced_said, no_line}
+use Rattle.print_view.proofs.Pieces.{Pair, value_shown, given_shown, list_shown, scalar_value, scalar_given, message_given, list_given, list_none, list_more, one, row, word_said, name_said, bracket_said, row_append, any_pairs, any_append, braced_said}
 use Rattle.print_view.proofs.Singles.{single_said, key_said}
+
+-- the options that tell the fields that are set, pretty or not, by number or as declared
+abbrev pub own_options : (p as_declared : Bool) → FormatOptions
+own_options p as_declared = record {
+  pretty = p;
+  skip_unknown_fields = true;
+  skip_default_fields = true;
+  in_index_order = as_declared;
+  expand_any = false;
+}
 
 -- what is seen of a value is of one sort
 no_message : (v : Value) (c : Content) → content_view v ≡ c → ((m : Message) → c ≡ model.message m → ⊥) → message_in v ≡ None
@@ -61,77 +72,82 @@ no_enum (keys.U32 m) n e = cc e
 no_enum (keys.U64 m) n e = cc e
 no_enum (keys.String t) n e = cc e
 
-module _ (pool : PoolType) (fields_of : HaveEntryFields pool) (values : HaveValues pool) (decoded : Name → Text → Option Message) (inner : Inner) (payloads : ℕ) where
+module _ (p as_declared : Bool) (pool : PoolType) (fields_of : HaveEntryFields pool) (values : HaveValues pool) (decoded : Name → Text → Option Message) (inner : Inner) (payloads : ℕ) where
+  -- the options, and the form that they are
+  abbrev pub options : FormatOptions
+  options = own_options p as_declared
+
+  abbrev pub own : Form
+  own = form_of options
+
   abbrev pub schema : Schema
   schema = schema_of pool decoded
 
   -- what is given to a field whose values are of the type of this one
   abbrev pub given : FieldType → Value → Given
-  given f v = printed_content own_form schema inner (name_in pool f.kind) (kind_in pool f.group f.kind) (content_view v)
+  given f v = printed_content own schema inner (name_in pool f.kind) (kind_in pool f.group f.kind) (content_view v)
 
   -- what is printed of a message
   abbrev pub pairs_in : DynamicMessage → List Pair
-  pairs_in m = printed_fields own_form schema inner (name_at pool m.descriptor.index) (view m)
+  pairs_in m = printed_fields own schema inner (name_at pool m.descriptor.index) (view m)
 
   abbrev pub tree_of : DynamicMessage → Fields
-  tree_of m = joined comma (pairs_in m)
+  tree_of m = joined (between p) (pairs_in m)
 
-  abbrev in_braces : Fields → Text
-  in_braces fs = 123 ∷ (run (fields_tokens fs) ++ 125 ∷ [])
+  -- a text is that of a value in a list, and behind a name, at an indentation
+  abbrev Said : ℕ → FieldType → Value → Text → Type 0
+  Said i f v z = (z ≡ value_shown p i (value_in (given f v))) × (before_value p (message_in v) ++ z ≡ given_shown p i (given f v))
 
-  -- a text is that of a value in a list, and behind a name
-  abbrev Said : FieldType → Value → Text → Type 0
-  Said f v z = (z ≡ run (value_tokens (value_in (given f v)))) × (before_value false (message_in v) ++ z ≡ run (given_tokens (given f v)))
-
-  said_single : (f : FieldType) (v : Value) (s : held.Single) (z : Text) → singles.single v ≡ Some s → z ≡ run (scalar_tokens (printed_single (name_in pool f.kind) (single_view s))) → Said f v z
-  said_single f v s z is h =
+  said_single : (i : ℕ) (f : FieldType) (v : Value) (s : held.Single) (z : Text) → singles.single v ≡ Some s → z ≡ run (scalar_tokens (printed_single (name_in pool f.kind) (single_view s))) → Said i f v z
+  said_single i f v s z is h =
       let seen = single_seen v s is in
-      let same = ap (λ c. printed_content own_form schema inner (name_in pool f.kind) (kind_in pool f.group f.kind) c) seen in (
-        h ∙ sym (ap (λ g. run (value_tokens (value_in g))) same),
-        ap (λ o. before_value false o ++ z) (no_message v (model.single (single_view s)) seen (λ m e. cc e)) ∙ ap (λ l. 58 ∷ l) h ∙ sym (ap (λ g. run (given_tokens g)) same),
+      let word = printed_single (name_in pool f.kind) (single_view s) in
+      let same = ap (λ c. printed_content own schema inner (name_in pool f.kind) (kind_in pool f.group f.kind) c) seen in (
+        h ∙ sym (scalar_value p i word) ∙ sym (ap (λ g. value_shown p i (value_in g)) same),
+        ap (λ o. before_value p o ++ z) (no_message v (model.single (single_view s)) seen (λ m e. cc e)) ∙ ap (λ l. colon p ++ l) h ∙ sym (scalar_given p i word) ∙ sym (ap (given_shown p i) same),
       )
 
-  said_message : (f : FieldType) (v : Value) (m : DynamicMessage) (z : Text) → message_in v ≡ Some m → f.kind ≡ types.message m.descriptor.index → z ≡ in_braces (tree_of m) → Said f v z
-  said_message f v m z is kind h =
+  said_message : (i : ℕ) (f : FieldType) (v : Value) (m : DynamicMessage) (z : Text) → message_in v ≡ Some m → f.kind ≡ types.message m.descriptor.index → z ≡ value_shown p i (tree.braced curly (tree_of m)) → Said i f v z
+  said_message i f v m z is kind h =
       let same : given f v ≡ tree.one_message false curly (tree_of m) =
-      ap (λ c. printed_content own_form schema inner (name_in pool f.kind) (kind_in pool f.group f.kind) c) (message_seen v m is)
-      ∙ ap (λ k. printed_content own_form schema inner (name_in pool f.kind) (kind_in pool f.group k) (model.message (view m))) kind in (
-        h ∙ sym (braced_said (tree_of m)) ∙ sym (ap (λ g. run (value_tokens (value_in g))) same),
-        ap (λ o. before_value false o ++ z) is ∙ h ∙ sym (braced_said (tree_of m)) ∙ sym (ap (λ g. run (given_tokens g)) same),
+      ap (λ c. printed_content own schema inner (name_in pool f.kind) (kind_in pool f.group f.kind) c) (message_seen v m is)
+      ∙ ap (λ k. printed_content own schema inner (name_in pool f.kind) (kind_in pool f.group k) (model.message (view m))) kind in (
+        h ∙ sym (ap (λ g. value_shown p i (value_in g)) same),
+        ap (λ o. before_value p o ++ z) is ∙ ap (λ l. padding p ++ l) h ∙ sym (message_given p i (tree_of m)) ∙ sym (ap (given_shown p i) same),
       )
 
   -- a list and a map behind a name
-  abbrev Behind : FieldType → Value → Text → Type 0
-  Behind f v z = before_value false (message_in v) ++ z ≡ run (given_tokens (given f v))
+  abbrev Behind : ℕ → FieldType → Value → Text → Type 0
+  Behind i f v z = before_value p (message_in v) ++ z ≡ given_shown p i (given f v)
 
-  behind_list : (f : FieldType) (v : Value) (c : Content) (vs : Values) (z : Text) → content_view v ≡ c → ((m : Message) → c ≡ model.message m → ⊥)
-      → printed_content own_form schema inner (name_in pool f.kind) (kind_in pool f.group f.kind) c ≡ tree.listed vs → z ≡ run (values_tokens vs) → Behind f v (91 ∷ (z ++ 93 ∷ []))
-  behind_list f v c vs z seen other is h =
-      ap (λ o. before_value false o ++ (91 ∷ (z ++ 93 ∷ []))) (no_message v c seen other)
-      ∙ ap (λ l. 58 ∷ 91 ∷ (l ++ 93 ∷ [])) h
-      ∙ ap (λ l. 58 ∷ 91 ∷ l) (sym (run_append (values_tokens vs) (sign 93 ∷ [])))
-      ∙ sym (ap (λ c. run (given_tokens (printed_content own_form schema inner (name_in pool f.kind) (kind_in pool f.group f.kind) c))) seen ∙ ap (λ g. run (given_tokens g)) is)
+  behind_list : (i : ℕ) (f : FieldType) (v : Value) (c : Content) (vs : Values) (z : Text) → content_view v ≡ c → ((m : Message) → c ≡ model.message m → ⊥)
+      → printed_content own schema inner (name_in pool f.kind) (kind_in pool f.group f.kind) c ≡ tree.listed vs → z ≡ list_shown p true i vs → Behind i f v (91 ∷ (z ++ 93 ∷ []))
+  behind_list i f v c vs z seen other is h =
+      ap (λ o. before_value p o ++ (91 ∷ (z ++ 93 ∷ []))) (no_message v c seen other)
+      ∙ ap (λ l. colon p ++ 91 ∷ (l ++ 93 ∷ [])) h
+      ∙ sym (list_given p i vs)
+      ∙ sym (ap (λ c. given_shown p i (printed_content own schema inner (name_in pool f.kind) (kind_in pool f.group f.kind) c)) seen ∙ ap (given_shown p i) is)
 
   -- what may be printed of a message
   abbrev pub FitsField : ℕ → PoolType → FieldType → Value → Type 0
-  FitsField levels p f v = (p ≡ pool) × (holds_floats pool f ≡ false) × FitsAs (Shaped levels) pool f (holds_map pool f) (holds_list pool f) v
+  FitsField levels q f v = (q ≡ pool) × (holds_floats pool f ≡ false) × FitsAs (Shaped levels) pool f (holds_map pool f) (holds_list pool f) v
 
   abbrev pub EntryFits : ℕ → Entry → Type 0
-  EntryFits levels (field p f v) = FitsField levels p f v
-  EntryFits levels (extension p f v) = FitsField levels p f v
+  EntryFits levels (field q f v) = FitsField levels q f v
+  EntryFits levels (extension q f v) = FitsField levels q f v
   EntryFits levels (undeclared r) = ⊥
 
   -- an entry under its name
   abbrev pub pair_of : Entry → Pair
-  pair_of (field p f v) = (tree.plain (label_of pool f), given (values_of pool f) v)
-  pair_of (extension p f v) = (tree.extension (parts f.full_name), given (values_of pool f) v)
+  pair_of (field q f v) = (tree.plain (label_of pool f), given (values_of pool f) v)
+  pair_of (extension q f v) = (tree.extension (parts f.full_name), given (values_of pool f) v)
   pair_of (undeclared r) = (tree.plain [], tree.listed tree.no_values)
 
   -- what has to be shown of a message at each depth: what is printed of it are its entries
   abbrev pub Printed : Type 0
-  Printed = (levels : ℕ) (m : DynamicMessage) → m.descriptor.pool.now ≡ pool → Shaped (suc levels) m
-      → AllByRecursion (EntryFits levels) (set_entries m) × AllByRecursion (EntryFits levels) (extension_entries m)
-      × (pairs_in m ≡ map pair_of (set_entries m) ++ map pair_of (extension_entries m))
+  Printed = (levels : ℕ) (m : DynamicMessage) → m.descriptor.pool.now ≡ pool → Shaped (suc levels) m → (ds : List Entry) → AreDeclared options m ds
+      → AllByRecursion (EntryFits levels) ds × AllByRecursion (EntryFits levels) (extension_entries m)
+      × (pairs_in m ≡ map pair_of ds ++ map pair_of (extension_entries m))
 
   -- the values of a map are those of its entries' type
   map_values : (f : FieldType) → holds_map pool f ≡ true → value_kind (named pool f.kind) ≡ named pool (values_of pool f).kind
@@ -192,138 +208,146 @@ module _ (pool : PoolType) (fields_of : HaveEntryFields pool) (values : HaveValu
       (subst (λ g. FitsOne (Shaped levels) pool g e.1) (sym there.2) (all.0 there.0 there.1), each_value f levels is es all.1)
 
   -- one value more of a list
-  more_said : (first : Bool) (v : tree.Value) (vs : Values) (y rest : Text) → y ≡ run (value_tokens v) → rest ≡ run (list_tokens false vs) → before_element false first ++ (y ++ rest) ≡ run (list_tokens first (tree.more_values v vs))
-  more_said true v vs y rest h k = ap (λ l. l ++ rest) h ∙ ap (λ l. run (value_tokens v) ++ l) k ∙ sym (run_append (value_tokens v) (more_tokens vs))
-  more_said false v vs y rest h k = ap (λ l. 44 ∷ l) (ap (λ l. l ++ rest) h ∙ ap (λ l. run (value_tokens v) ++ l) k ∙ sym (run_append (value_tokens v) (more_tokens vs)))
+  more_said : (first : Bool) (i : ℕ) (v : tree.Value) (vs : Values) (y rest : Text) → y ≡ value_shown p i v → rest ≡ list_shown p false i vs → before_element p first ++ (y ++ rest) ≡ list_shown p first i (tree.more_values v vs)
+  more_said first i v vs y rest h k =
+      ap (λ l. before_element p first ++ (l ++ rest)) h ∙ ap (λ l. before_element p first ++ (value_shown p i v ++ l)) k
+      ∙ sym (list_more p first i v vs)
 
   -- an entry of a map
-  entry_said : (f : FieldType) (v : Value) (k : tree.ScalarValue) (i : ℕ) (key value : Text) → key ≡ run (scalar_tokens k) → before_value false (message_in v) ++ value ≡ run (given_tokens (given f v))
-      → pieces.in_braces false i true (key_text false (i + 2) key ++ value_text false (i + 2) v value) ≡ run (value_tokens (printed_entry comma k (given f v)))
+  entry_said : (f : FieldType) (v : Value) (k : tree.ScalarValue) (i : ℕ) (key value : Text) → key ≡ run (scalar_tokens k) → before_value p (message_in v) ++ value ≡ given_shown p (i + 2) (given f v)
+      → pieces.in_braces p i true (key_text p (i + 2) key ++ value_text p (i + 2) v value) ≡ value_shown p i (printed_entry (between p) k (given f v))
   entry_said f v k i key value h said =
-      let p : Pair = (tree.plain (codes "key"), tree.one_scalar k) in
-      let q : Pair = (tree.plain (codes "value"), given f v) in
-      let first : codes "key" ++ 58 ∷ key ≡ one p = ap (λ l. codes "key" ++ 58 ∷ l) h ∙ ap (λ l. l ++ 58 ∷ run (scalar_tokens k)) (sym (word_said (codes "key"))) in
-      let second : codes "value" ++ (before_value false (message_in v) ++ value) ≡ one q = ap (λ l. codes "value" ++ l) said ∙ ap (λ l. l ++ run (given_tokens (given f v))) (sym (word_said (codes "value"))) in
-      ap (λ l. 123 ∷ ((l ++ 44 ∷ (codes "value" ++ (before_value false (message_in v) ++ value))) ++ 125 ∷ [])) first
-      ∙ ap (λ l. 123 ∷ ((one p ++ 44 ∷ l) ++ 125 ∷ [])) (second ∙ sym (append-nil (one q)))
-      ∙ sym (braced_said (joined comma (p ∷ q ∷ [])) ∙ ap (λ l. 123 ∷ (l ++ 125 ∷ [])) (joined_said (p ∷ q ∷ [])))
+      let a : Pair = (tree.plain (codes "key"), tree.one_scalar k) in
+      let b : Pair = (tree.plain (codes "value"), given f v) in
+      let first : codes "key" ++ (colon p ++ key) ≡ one p (i + 2) a =
+      ap (λ l. codes "key" ++ (colon p ++ l)) h ∙ ap (λ l. codes "key" ++ l) (sym (scalar_given p (i + 2) k))
+      ∙ ap (λ l. l ++ given_shown p (i + 2) (tree.one_scalar k)) (sym (word_said (codes "key"))) in
+      let second : codes "value" ++ (before_value p (message_in v) ++ value) ≡ one p (i + 2) b =
+      ap (λ l. codes "value" ++ l) said ∙ ap (λ l. l ++ given_shown p (i + 2) (given f v)) (sym (word_said (codes "value"))) in
+      ap (λ l. pieces.in_braces p i true ((before_item p true false (i + 2) ++ l) ++ value_text p (i + 2) v value)) first
+      ∙ ap (λ l. pieces.in_braces p i true ((before_item p true false (i + 2) ++ one p (i + 2) a) ++ (before_item p true true (i + 2) ++ l))) (second ∙ sym (append-nil (one p (i + 2) b)))
+      ∙ ap (pieces.in_braces p i true) (append_assoc (before_item p true false (i + 2)) (one p (i + 2) a) (before_item p true true (i + 2) ++ (one p (i + 2) b ++ [])))
+      ∙ braced_said p i (a ∷ b ∷ [])
 
   same_any : (any : Bool) (es : List Entry) → any_behind any es ≡ any_pairs any (map pair_of es)
   same_any any [] = refl
   same_any any (e ∷ es) = refl
 
-  -- what a message holds, one behind the other
-  rows_said : (m : DynamicMessage) (ds os : List Entry) (y rest : Text) → ds ≡ set_entries m → os ≡ extension_entries m → y ≡ row false (map pair_of ds) → rest ≡ row (any_behind false ds) (map pair_of os)
-      → pairs_in m ≡ map pair_of (set_entries m) ++ map pair_of (extension_entries m) → y ++ rest ≡ run (fields_tokens (tree_of m))
-  rows_said m ds os y rest declared others fields extensions all =
-      ap (λ l. l ++ rest) fields ∙ ap (λ l. row false (map pair_of ds) ++ l) (extensions ∙ ap (λ b. row b (map pair_of os)) (same_any false ds))
-      ∙ sym (row_append false (map pair_of ds) (map pair_of os))
-      ∙ ap (λ es. row false (map pair_of es ++ map pair_of os)) declared ∙ ap (λ es. row false (map pair_of (set_entries m) ++ map pair_of es)) others
-      ∙ ap (row false) (sym all) ∙ sym (joined_said (pairs_in m))
+  -- what a message holds, one behind the other, and whether it holds anything
+  rows_said : (braces : Bool) (i : ℕ) (m : DynamicMessage) (ds os : List Entry) (y rest : Text) → os ≡ extension_entries m → y ≡ row p braces i false (map pair_of ds) → rest ≡ row p braces i (any_behind false ds) (map pair_of os)
+      → pairs_in m ≡ map pair_of ds ++ map pair_of (extension_entries m) → (y ++ rest ≡ row p braces i false (pairs_in m)) × (any_behind (any_behind false ds) os ≡ any_pairs false (pairs_in m))
+  rows_said braces i m ds os y rest others fields extensions all =
+      let whole : map pair_of ds ++ map pair_of os ≡ pairs_in m = ap (λ es. map pair_of ds ++ map pair_of es) others ∙ sym all in (
+        ap (λ l. l ++ rest) fields ∙ ap (λ l. row p braces i false (map pair_of ds) ++ l) (extensions ∙ ap (λ b. row p braces i b (map pair_of os)) (same_any false ds))
+            ∙ sym (row_append p braces i false (map pair_of ds) (map pair_of os)) ∙ ap (row p braces i false) whole,
+        same_any (any_behind false ds) os ∙ ap (λ b. any_pairs b (map pair_of os)) (same_any false ds)
+            ∙ any_append false (map pair_of ds) (map pair_of os) ∙ ap (any_pairs false) whole,
+      )
 
   -- what a value is, by whether its field is a map, and whether it is a list
   abbrev Whole : Bool → FieldType → Type 0
   Whole true f = (holds_floats pool f ≡ false) × (holds_map pool f ≡ true)
   Whole false f = is_float f.kind ≡ false
 
-  abbrev Shows : (map_too repeated : Bool) → FieldType → Value → Text → Type 0
-  Shows true repeated f v z = Behind (values_of pool f) v z
-  Shows false true f v z = Behind f v z
-  Shows false false f v z = Said f v z
+  abbrev Shows : (map_too repeated : Bool) → ℕ → FieldType → Value → Text → Type 0
+  Shows true repeated i f v z = Behind i (values_of pool f) v z
+  Shows false true i f v z = Behind i f v z
+  Shows false false i f v z = Said i f v z
 
   -- what a field holds, behind its name
-  held_said : (f : FieldType) (v : Value) (z : Text) (b c : Bool) → holds_map pool f ≡ b → holds_floats pool f ≡ false
-      → ((b c : Bool) → holds_map pool f ≡ b → Whole b f → (levels : ℕ) → FitsAs (Shaped levels) pool f b c v → Shows b c f v z)
-      → (levels : ℕ) → FitsAs (Shaped levels) pool f b c v → Behind (values_of pool f) v z
-  held_said f v z true c is whole shows levels fits = shows true c is (whole, is) levels fits
-  held_said f v z false true is whole shows levels fits = subst (λ g. Behind g v z) (sym (one_of f is)) (shows false true is (not_float f whole is) levels fits)
-  held_said f v z false false is whole shows levels fits = subst (λ g. Behind g v z) (sym (one_of f is)) (shows false false is (not_float f whole is) levels fits).1
+  held_said : (i : ℕ) (f : FieldType) (v : Value) (z : Text) (b c : Bool) → holds_map pool f ≡ b → holds_floats pool f ≡ false
+      → ((b c : Bool) → holds_map pool f ≡ b → Whole b f → (levels : ℕ) → FitsAs (Shaped levels) pool f b c v → Shows b c i f v z)
+      → (levels : ℕ) → FitsAs (Shaped levels) pool f b c v → Behind i (values_of pool f) v z
+  held_said i f v z true c is whole shows levels fits = shows true c is (whole, is) levels fits
+  held_said i f v z false true is whole shows levels fits = subst (λ g. Behind i g v z) (sym (one_of f is)) (shows false true is (not_float f whole is) levels fits)
+  held_said i f v z false false is whole shows levels fits = subst (λ g. Behind i g v z) (sym (one_of f is)) (shows false false is (not_float f whole is) levels fits).1
 
   module _ (printed : Printed) where
     mutual
-      value_said : {x i : ℕ} {kind : Named} {v : Value} {z : Text} → IsValueText compact_form payloads x i kind v z → (levels : ℕ) (f : FieldType) (b c : Bool) → kind ≡ named pool f.kind → Whole b f → FitsAs (Shaped levels) pool f b c v → Shows b c f v z
-      value_said {v = v} (single_text s is text) levels f true c kind whole fits = absurd (cc (sym (single_seen v s is) ∙ map_seen v fits.0 fits.1))
-      value_said {v = v} (single_text s is text) levels f false true kind whole fits = absurd (cc (sym (single_seen v s is) ∙ list_seen v fits.0 fits.1))
-      value_said {v = v} {z = z} (single_text s is text) levels f false false kind whole fits =
-          said_single f v s z is (single_said pool f.kind s z (subst (λ k. IsSingleText k s z) kind text))
-      value_said {v = v} (message_text m is text) levels f true c kind whole fits = absurd (cc (sym (message_seen v m is) ∙ map_seen v fits.0 fits.1))
-      value_said {v = v} (message_text m is text) levels f false true kind whole fits = absurd (cc (sym (message_seen v m is) ∙ list_seen v fits.0 fits.1))
-      value_said {v = v} {z = z} (message_text m is text) levels f false false kind whole fits = by (sort_of f.kind) (braced_text text levels) where
-        by : Sort f.kind → (m.descriptor.pool.now ≡ pool → Shaped levels m → z ≡ in_braces (tree_of m)) → Said f v z
+      value_said : {x i : ℕ} {kind : Named} {v : Value} {z : Text} → IsValueText options payloads x i kind v z → (levels : ℕ) (f : FieldType) (b c : Bool) → kind ≡ named pool f.kind → Whole b f → FitsAs (Shaped levels) pool f b c v → Shows b c i f v z
+      value_said {i = i} {v = v} (single_text s is text) levels f true c kind whole fits = absurd (cc (sym (single_seen v s is) ∙ map_seen v fits.0 fits.1))
+      value_said {i = i} {v = v} (single_text s is text) levels f false true kind whole fits = absurd (cc (sym (single_seen v s is) ∙ list_seen v fits.0 fits.1))
+      value_said {i = i} {v = v} {z = z} (single_text s is text) levels f false false kind whole fits =
+          said_single i f v s z is (single_said pool f.kind s z (subst (λ k. IsSingleText k s z) kind text))
+      value_said {i = i} {v = v} (message_text m is text) levels f true c kind whole fits = absurd (cc (sym (message_seen v m is) ∙ map_seen v fits.0 fits.1))
+      value_said {i = i} {v = v} (message_text m is text) levels f false true kind whole fits = absurd (cc (sym (message_seen v m is) ∙ list_seen v fits.0 fits.1))
+      value_said {i = i} {v = v} {z = z} (message_text m is text) levels f false false kind whole fits = by (sort_of f.kind) (braced_text text levels) where
+        by : Sort f.kind → (m.descriptor.pool.now ≡ pool → Shaped levels m → z ≡ value_shown p i (tree.braced curly (tree_of m))) → Said i f v z
         by (floating e) deeper = absurd (true≢false (sym e ∙ whole))
         by (plain type) deeper = let w = fits.plain type in absurd (cc (sym (single_seen v w.0 w.1) ∙ message_seen v m is))
         by (message_type type) deeper =
             let n = fits.nested type in
             let same : n.0 ≡ m = ap (λ o. unwrap_or o m) (sym n.1 ∙ is) in
-            said_message f v m z is (n.2.1 ∙ ap (λ (m : DynamicMessage). types.message m.descriptor.index) same)
+            said_message i f v m z is (n.2.1 ∙ ap (λ (m : DynamicMessage). types.message m.descriptor.index) same)
             (deeper (sym (ap (λ (m : DynamicMessage). m.descriptor.pool.now) same) ∙ n.2.0) (subst (Shaped levels) same n.3))
-      value_said {v = v} (list_text vs y is text) levels f true c kind whole fits = absurd (cc (sym (list_seen v vs is) ∙ map_seen v fits.0 fits.1))
-      value_said {v = v} (list_text vs y is text) levels f false true kind whole fits =
+      value_said {i = i} {v = v} (list_text vs y is text) levels f true c kind whole fits = absurd (cc (sym (list_seen v vs is) ∙ map_seen v fits.0 fits.1))
+      value_said {i = i} {v = v} (list_text vs y is text) levels f false true kind whole fits =
           let same : fits.0 ≡ vs = ap (λ o. unwrap_or o vs) (sym fits.1 ∙ is) in
-          behind_list f v (model.list (chain_of (map content_view vs))) (printed_list own_form schema inner (name_in pool f.kind) (kind_in pool f.group f.kind) (chain_of (map content_view vs))) y (list_seen v vs is) (λ m e. cc e) refl
+          behind_list i f v (model.list (chain_of (map content_view vs))) (printed_list own schema inner (name_in pool f.kind) (kind_in pool f.group f.kind) (chain_of (map content_view vs))) y (list_seen v vs is) (λ m e. cc e) refl
           (list_said text levels f kind whole (subst (AllByRecursion (FitsOne (Shaped levels) pool f)) same fits.2))
-      value_said {v = v} (list_text vs y is text) levels f false false kind whole fits = by (sort_of f.kind) where
-        by : Sort f.kind → Said f v (91 ∷ (y ++ 93 ∷ []))
+      value_said {i = i} {v = v} (list_text vs y is text) levels f false false kind whole fits = by (sort_of f.kind) where
+        by : Sort f.kind → Said i f v (91 ∷ (y ++ 93 ∷ []))
         by (floating e) = absurd (true≢false (sym e ∙ whole))
         by (plain type) = let w = fits.plain type in absurd (cc (sym (single_seen v w.0 w.1) ∙ list_seen v vs is))
         by (message_type type) = let n = fits.nested type in absurd (cc (sym (message_seen v n.0 n.1) ∙ list_seen v vs is))
-      value_said {v = v} (map_text es y is text) levels f true c kind whole fits =
+      value_said {i = i} {v = v} (map_text es y is text) levels f true c kind whole fits =
           let same : fits.0 ≡ es = ap (λ o. unwrap_or o es) (sym fits.1 ∙ is) in
           let g = values_of pool f in
           let every = subst (λ es. AllByRecursion (λ (e : MapKey × Value). (values : FieldType) → entry_field pool f.kind 2 ≡ Some values → FitsOne (Shaped levels) pool values e.1) es) same fits.2 in
-          behind_list g v (model.dictionary (entries_of (pairs_view es))) (printed_entries own_form schema inner (name_in pool g.kind) (kind_in pool g.group g.kind) (entries_of (pairs_view es))) y (map_seen v es is) (λ m e. cc e) refl
+          behind_list i g v (model.dictionary (entries_of (pairs_view es))) (printed_entries own schema inner (name_in pool g.kind) (kind_in pool g.group g.kind) (entries_of (pairs_view es))) y (map_seen v es is) (λ m e. cc e) refl
           (map_said text levels g (ap value_kind kind ∙ map_values f whole.1) (values_not_float f whole.0 whole.1) (each_value f levels whole.1 es every))
-      value_said {v = v} (map_text es y is text) levels f false true kind whole fits = absurd (cc (sym (map_seen v es is) ∙ list_seen v fits.0 fits.1))
-      value_said {v = v} (map_text es y is text) levels f false false kind whole fits = by (sort_of f.kind) where
-        by : Sort f.kind → Said f v (91 ∷ (y ++ 93 ∷ []))
+      value_said {i = i} {v = v} (map_text es y is text) levels f false true kind whole fits = absurd (cc (sym (map_seen v es is) ∙ list_seen v fits.0 fits.1))
+      value_said {i = i} {v = v} (map_text es y is text) levels f false false kind whole fits = by (sort_of f.kind) where
+        by : Sort f.kind → Said i f v (91 ∷ (y ++ 93 ∷ []))
         by (floating e) = absurd (true≢false (sym e ∙ whole))
         by (plain type) = let w = fits.plain type in absurd (cc (sym (single_seen v w.0 w.1) ∙ map_seen v es is))
         by (message_type type) = let n = fits.nested type in absurd (cc (sym (message_seen v n.0 n.1) ∙ map_seen v es is))
 
-      list_said : {x i : ℕ} {kind : Named} {first : Bool} {vs : List Value} {z : Text} → IsListText compact_form payloads x i kind first vs z → (levels : ℕ) (f : FieldType) → kind ≡ named pool f.kind → is_float f.kind ≡ false → AllByRecursion (FitsOne (Shaped levels) pool f) vs
-          → z ≡ run (list_tokens first (printed_list own_form schema inner (name_in pool f.kind) (kind_in pool f.group f.kind) (chain_of (map content_view vs))))
-      list_said {first = true} no_values levels f kind whole fits = refl
-      list_said {first = false} no_values levels f kind whole fits = refl
-      list_said {first = first} (more_values {v = v} {vs = vs} y rest text texts) levels f kind whole fits =
-          more_said first (value_in (given f v)) (printed_list own_form schema inner (name_in pool f.kind) (kind_in pool f.group f.kind) (chain_of (map content_view vs))) y rest (value_said text levels f false false kind whole fits.0).0 (list_said texts levels f kind whole fits.1)
+      list_said : {x i : ℕ} {kind : Named} {first : Bool} {vs : List Value} {z : Text} → IsListText options payloads x i kind first vs z → (levels : ℕ) (f : FieldType) → kind ≡ named pool f.kind → is_float f.kind ≡ false → AllByRecursion (FitsOne (Shaped levels) pool f) vs
+          → z ≡ list_shown p first i (printed_list own schema inner (name_in pool f.kind) (kind_in pool f.group f.kind) (chain_of (map content_view vs)))
+      list_said {i = i} {first = first} no_values levels f kind whole fits = sym (list_none p first i)
+      list_said {i = i} {first = first} (more_values {v = v} {vs = vs} y rest text texts) levels f kind whole fits =
+          more_said first i (value_in (given f v)) (printed_list own schema inner (name_in pool f.kind) (kind_in pool f.group f.kind) (chain_of (map content_view vs))) y rest (value_said text levels f false false kind whole fits.0).0 (list_said texts levels f kind whole fits.1)
 
-      pair_said : {x i : ℕ} {kind : Named} {e : MapKey × Value} {z : Text} → IsPairText compact_form payloads x i kind e z → (levels : ℕ) (f : FieldType) → kind ≡ named pool f.kind → is_float f.kind ≡ false → FitsOne (Shaped levels) pool f e.1
-          → z ≡ run (value_tokens (printed_entry comma (printed_single (name_in pool f.kind) (single_view (key_view e.0))) (given f e.1)))
+      pair_said : {x i : ℕ} {kind : Named} {e : MapKey × Value} {z : Text} → IsPairText options payloads x i kind e z → (levels : ℕ) (f : FieldType) → kind ≡ named pool f.kind → is_float f.kind ≡ false → FitsOne (Shaped levels) pool f e.1
+          → z ≡ value_shown p i (printed_entry (between p) (printed_single (name_in pool f.kind) (single_view (key_view e.0))) (given f e.1))
       pair_said {i = i} {e = e} (pair_text key value keyed text) levels f kind whole fits =
           entry_said f e.1 (printed_single (name_in pool f.kind) (single_view (key_view e.0))) i key value (key_said pool f.kind (key_view e.0) key (no_enum e.0) keyed) (value_said text levels f false false kind whole fits).1
 
-      map_said : {x i : ℕ} {kind : Named} {first : Bool} {es : List (MapKey × Value)} {z : Text} → IsMapText compact_form payloads x i kind first es z → (levels : ℕ) (f : FieldType) → kind ≡ named pool f.kind → is_float f.kind ≡ false → AllByRecursion (λ (e : MapKey × Value). FitsOne (Shaped levels) pool f e.1) es
-          → z ≡ run (list_tokens first (printed_entries own_form schema inner (name_in pool f.kind) (kind_in pool f.group f.kind) (entries_of (pairs_view es))))
-      map_said {first = true} no_pairs levels f kind whole fits = refl
-      map_said {first = false} no_pairs levels f kind whole fits = refl
-      map_said {first = first} (more_pairs {e = e} {es = es} y rest text texts) levels f kind whole fits =
-          more_said first (printed_entry comma (printed_single (name_in pool f.kind) (single_view (key_view e.0))) (given f e.1)) (printed_entries own_form schema inner (name_in pool f.kind) (kind_in pool f.group f.kind) (entries_of (pairs_view es))) y rest (pair_said text levels f kind whole fits.0) (map_said texts levels f kind whole fits.1)
+      map_said : {x i : ℕ} {kind : Named} {first : Bool} {es : List (MapKey × Value)} {z : Text} → IsMapText options payloads x i kind first es z → (levels : ℕ) (f : FieldType) → kind ≡ named pool f.kind → is_float f.kind ≡ false → AllByRecursion (λ (e : MapKey × Value). FitsOne (Shaped levels) pool f e.1) es
+          → z ≡ list_shown p first i (printed_entries own schema inner (name_in pool f.kind) (kind_in pool f.group f.kind) (entries_of (pairs_view es)))
+      map_said {i = i} {first = first} no_pairs levels f kind whole fits = sym (list_none p first i)
+      map_said {i = i} {first = first} (more_pairs {e = e} {es = es} y rest text texts) levels f kind whole fits =
+          more_said first i (printed_entry (between p) (printed_single (name_in pool f.kind) (single_view (key_view e.0))) (given f e.1)) (printed_entries own schema inner (name_in pool f.kind) (kind_in pool f.group f.kind) (entries_of (pairs_view es))) y rest (pair_said text levels f kind whole fits.0) (map_said texts levels f kind whole fits.1)
 
-      braced_text : {x i : ℕ} {m : DynamicMessage} {z : Text} → IsBracedText compact_form payloads x i m z → (levels : ℕ) → m.descriptor.pool.now ≡ pool → Shaped levels m → z ≡ in_braces (tree_of m)
-      braced_text {i = i} (braced any y text) levels there shaped =
-          ap (λ l. 123 ∷ (y ++ (l ++ 125 ∷ []))) (no_line any i) ∙ ap (λ l. 123 ∷ (l ++ 125 ∷ [])) (items_said text levels there shaped)
+      braced_text : {x i : ℕ} {m : DynamicMessage} {z : Text} → IsBracedText options payloads x i m z → (levels : ℕ) → m.descriptor.pool.now ≡ pool → Shaped levels m → z ≡ value_shown p i (tree.braced curly (tree_of m))
+      braced_text {i = i} {m = m} (braced any y text) levels there shaped =
+          let h = items_said text levels there shaped in
+          ap (λ b. pieces.in_braces p i b y) h.1 ∙ ap (pieces.in_braces p i (any_pairs false (pairs_in m))) h.0
+          ∙ braced_said p i (pairs_in m)
 
-      pub items_said : {x i : ℕ} {braces any : Bool} {m : DynamicMessage} {z : Text} → IsItemsText compact_form payloads x i braces m any z → (levels : ℕ) → m.descriptor.pool.now ≡ pool → Shaped levels m → z ≡ run (fields_tokens (tree_of m))
+      pub items_said : {x i : ℕ} {braces any : Bool} {m : DynamicMessage} {z : Text} → IsItemsText options payloads x i braces m any z → (levels : ℕ) → m.descriptor.pool.now ≡ pool → Shaped levels m
+          → (z ≡ row p braces i false (pairs_in m)) × (any ≡ any_pairs false (pairs_in m))
       items_said (expanded url body y may stands text) levels there shaped = absurd (cc may.0)
       items_said (listed ds os y rest either declared others first second) zero there shaped = absurd shaped
-      items_said {m = m} (listed ds os y rest either declared others first second) (suc levels) there shaped =
-          let all = printed levels m there shaped in
-          rows_said m ds os y rest declared others
-          (row_said first levels (subst (AllByRecursion (EntryFits levels)) (sym declared) all.0))
+      items_said {i = i} {braces = braces} {m = m} (listed ds os y rest either declared others first second) (suc levels) there shaped =
+          let all = printed levels m there shaped ds declared in
+          rows_said braces i m ds os y rest others
+          (row_said first levels all.0)
           (row_said second levels (subst (AllByRecursion (EntryFits levels)) (sym others) all.1)) all.2
 
-      row_said : {x i : ℕ} {braces any : Bool} {es : List Entry} {z : Text} → IsRowText compact_form payloads x i braces any es z → (levels : ℕ) → AllByRecursion (EntryFits levels) es → z ≡ row any (map pair_of es)
+      row_said : {x i : ℕ} {braces any : Bool} {es : List Entry} {z : Text} → IsRowText options payloads x i braces any es z → (levels : ℕ) → AllByRecursion (EntryFits levels) es → z ≡ row p braces i any (map pair_of es)
       row_said no_entries levels fits = refl
-      row_said {any = any} (more_entries {e = e} {es = es} y rest text texts) levels fits =
-          ap (λ l. (if any then 44 ∷ [] else []) ++ (l ++ rest)) (entry_text text levels fits.0)
-          ∙ ap (λ l. (if any then 44 ∷ [] else []) ++ (one (pair_of e) ++ l)) (row_said texts levels fits.1)
+      row_said {i = i} {braces = braces} {any = any} (more_entries {e = e} {es = es} y rest text texts) levels fits =
+          ap (λ l. before_item p braces any i ++ (l ++ rest)) (entry_text text levels fits.0)
+          ∙ ap (λ l. before_item p braces any i ++ (one p i (pair_of e) ++ l)) (row_said texts levels fits.1)
 
-      entry_text : {x i : ℕ} {e : Entry} {z : Text} → IsEntryText compact_form payloads x i e z → (levels : ℕ) → EntryFits levels e → z ≡ one (pair_of e)
-      entry_text (field_text {pool = p} {f = f} {v = v} y text) levels fits =
-          ap (λ p. label_of p f ++ (before_value false (message_in v) ++ y)) fits.0
-          ∙ ap (λ l. label_of pool f ++ l) (held_said f v y (holds_map pool f) (holds_list pool f) refl fits.1 (λ b c is whole levels. value_said text levels f b c (ap (λ p. named p f.kind) fits.0) whole) levels fits.2)
-          ∙ ap (λ l. l ++ run (given_tokens (given (values_of pool f) v))) (sym (name_said (label_of pool f)))
-      entry_text (extension_text {pool = p} {f = f} {v = v} y text) levels fits =
-          ap (λ l. (91 ∷ (f.full_name ++ 93 ∷ [])) ++ l) (held_said f v y (holds_map pool f) (holds_list pool f) refl fits.1 (λ b c is whole levels. value_said text levels f b c (ap (λ p. named p f.kind) fits.0) whole) levels fits.2)
-          ∙ ap (λ l. l ++ run (given_tokens (given (values_of pool f) v))) (sym (bracket_said f.full_name))
+      entry_text : {x i : ℕ} {e : Entry} {z : Text} → IsEntryText options payloads x i e z → (levels : ℕ) → EntryFits levels e → z ≡ one p i (pair_of e)
+      entry_text {i = i} (field_text {pool = q} {f = f} {v = v} y text) levels fits =
+          ap (λ q. label_of q f ++ (before_value p (message_in v) ++ y)) fits.0
+          ∙ ap (λ l. label_of pool f ++ l) (held_said i f v y (holds_map pool f) (holds_list pool f) refl fits.1 (λ b c is whole levels. value_said text levels f b c (ap (λ q. named q f.kind) fits.0) whole) levels fits.2)
+          ∙ ap (λ l. l ++ given_shown p i (given (values_of pool f) v)) (sym (name_said (label_of pool f)))
+      entry_text {i = i} (extension_text {pool = q} {f = f} {v = v} y text) levels fits =
+          ap (λ l. (91 ∷ (f.full_name ++ 93 ∷ [])) ++ l) (held_said i f v y (holds_map pool f) (holds_list pool f) refl fits.1 (λ b c is whole levels. value_said text levels f b c (ap (λ q. named q f.kind) fits.0) whole) levels fits.2)
+          ∙ ap (λ l. l ++ given_shown p i (given (values_of pool f) v)) (sym (bracket_said f.full_name))
       entry_text (record_text text) levels fits = absurd fits

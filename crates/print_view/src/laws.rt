@@ -8,12 +8,13 @@ ghost use Rattle.reflect_message.specs.declared.message.DynamicMessage.{DynamicM
 ghost use Rattle.reflect_decode.specs.Spelled.{IsSpelled};
 ghost use Rattle.reflect_format.specs.Filled.{Fills, Makes};
 ghost use Rattle.reflect_format.specs.Unfit.{CannotMake, Unfit};
+ghost use Rattle.text_lines.specs.declared.options.FormatOptions.{FormatOptions};
 ghost use Rattle.reflect_print.specs.MessageTexts.{IsMessageText};
 ghost use Rattle.protobuf_model.specs.Types.{Name};
 ghost use Rattle.protobuf_model.specs.Values.{Message};
 ghost use Rattle.text_model.specs.Plain.{IsPlain};
 ghost use Rattle.text_model.specs.Printed.{printed};
-ghost use Rattle.text_model.specs.Rendered.{compact};
+ghost use Rattle.text_model.specs.Rendered.{text_of};
 ghost use Rattle.text_model.specs.Texts.{IsText};
 ghost use Rattle.text_model.specs.Tokens.{open_braces};
 ghost use Rattle.text_model.specs.Tree.{Fields};
@@ -22,42 +23,46 @@ ghost use Rattle.message_view.specs.Types.{name_at, types_of};
 ghost use Rattle.message_view.specs.Views.{view};
 ghost use Rattle.text_view.specs.Schemas.{schema_of};
 ghost use Rattle.text_view.specs.SourceNames.{HasSourceNames};
-ghost use Rattle.print_view.specs.Forms.{compact_form, own_form};
+ghost use Rattle.print_view.specs.Forms.{form_of, TellsFields};
 
-/// The compact text of a decoded message is that of the tree which the model prints.
+/// The text of a decoded message, in each form that tells the fields that are set and nothing else,
+/// is that of the tree which the model prints in this form.
 pub fn decoded_messages_are_printed_as_their_trees()
-    ensures { (d : MessageDescriptor) → IsSound d.pool.now
+    ensures { (options : FormatOptions) → TellsFields options
+        → (d : MessageDescriptor) → IsSound d.pool.now
         → (bytes : List ℕ) (m : DynamicMessage) → m.descriptor ≡ d → IsSpelled d bytes m
-        → (decoded : Name → Text → Option Message) (z : Text) → IsMessageText compact_form m z
-        → z ≡ compact (printed own_form (schema_of d.pool.now decoded) (name_at d.pool.now d.index)
-        (view m)) }
+        → (decoded : Name → Text → Option Message) (z : Text) → IsMessageText options m z
+        → z ≡ text_of (form_of options) (printed (form_of options)
+        (schema_of d.pool.now decoded) (name_at d.pool.now d.index) (view m)) }
 {}
 
-/// Where names are spelled as in sources, what is printed of a decoded message whose records all
-/// have fields makes, as a text of its type, messages that are written in the same bytes, if no more
-/// than 100 braces are open in it at once.
+/// Where names are spelled as in sources, what is printed in such a form of a decoded message whose
+/// records all have fields makes, as a text of its type, messages that are written in the same
+/// bytes, if no more than 100 braces are open in it at once.
 pub fn printed_messages_are_read_back()
-    ensures { (decoded : Name → Text → Option Message) (d : MessageDescriptor)
+    ensures { (options : FormatOptions) → TellsFields options
+        → (decoded : Name → Text → Option Message) (d : MessageDescriptor)
         → IsSound d.pool.now → HasSourceNames d.pool.now
         → (bytes : List ℕ) → AreBytes bytes
         → (m : DynamicMessage) → m.descriptor ≡ d → IsSpelled d bytes m
         → IsPlain (types_of d.pool.now) (name_at d.pool.now d.index) (view m)
-        → open_braces (printed own_form (schema_of d.pool.now decoded)
+        → open_braces (printed (form_of options) (schema_of d.pool.now decoded)
         (name_at d.pool.now d.index) (view m)) ≤ 100
-        → (z : Text) → IsMessageText compact_form m z
+        → (z : Text) → IsMessageText options m z
         → (fs : Fields) → IsText z fs → (n : DynamicMessage) → Makes d (Fills fs) n
         → message_bytes n ≡ message_bytes m }
 {}
 
 /// And it is not refused as a text that the type does not take.
 pub fn printed_messages_are_taken()
-    ensures { (decoded : Name → Text → Option Message) (d : MessageDescriptor)
+    ensures { (options : FormatOptions) → TellsFields options
+        → (decoded : Name → Text → Option Message) (d : MessageDescriptor)
         → IsSound d.pool.now → HasSourceNames d.pool.now
         → (bytes : List ℕ) → AreBytes bytes
         → (m : DynamicMessage) → m.descriptor ≡ d → IsSpelled d bytes m
         → IsPlain (types_of d.pool.now) (name_at d.pool.now d.index) (view m)
-        → open_braces (printed own_form (schema_of d.pool.now decoded)
+        → open_braces (printed (form_of options) (schema_of d.pool.now decoded)
         (name_at d.pool.now d.index) (view m)) ≤ 100
-        → (z : Text) → IsMessageText compact_form m z
+        → (z : Text) → IsMessageText options m z
         → ((fs : Fields) → IsText z fs → CannotMake d (Unfit fs)) → ⊥ }
 {}
