@@ -31,10 +31,10 @@ use Rattle.text_view.specs.Schemas.{schema_of}
 use Rattle.text_view.specs.SourceNames.{HasSourceNames}
 use Rattle.text_view.proofs.HaveNames.{have_identifiers, have_names}
 use Rattle.text_view.proofs.Made.{made_given, none_given}
-use Rattle.print_view.specs.Forms.{form_of, TellsFields}
-use Rattle.print_view.proofs.Printed.{told_printed}
+use Rattle.print_view.specs.Forms.{form_of, TellsSet}
+use Rattle.print_view.proofs.Printed.{set_printed}
 
-module _ (options : FormatOptions) (tells : TellsFields options) (decoded : Name → Text → Option Message) (d : MessageDescriptor) (sound : IsSound d.pool.now)
+module _ (options : FormatOptions) (tells : TellsSet options) (decoded : Name → Text → Option Message) (d : MessageDescriptor) (sound : IsSound d.pool.now)
     (named : HasSourceNames d.pool.now)
     (bytes : List ℕ) (are : AreBytes bytes) (m : DynamicMessage) (type : m.descriptor ≡ d) (spelled : IsSpelled d bytes m) where
   abbrev w : Schema
@@ -45,7 +45,7 @@ module _ (options : FormatOptions) (tells : TellsFields options) (decoded : Name
   form = form_of options
 
   own : IsOwn form
-  own = record { set = ap not tells.set; unexpanded = tells.unexpanded }
+  own = record { set = ap not tells.set; unexpanded = tells.fields.unexpanded }
 
   abbrev t : Name
   t = name_at d.pool.now d.index
@@ -53,7 +53,7 @@ module _ (options : FormatOptions) (tells : TellsFields options) (decoded : Name
   module _ (plain : IsPlain (types_of d.pool.now) t (view m)) (shallow : open_braces (printed form w t (view m)) ≤ 100) (z : Text) (text : IsMessageText options m z) where
     -- the text gives what is seen of the message
     gives : Gives w t z (view m)
-    gives = subst (λ z. Gives w t z (view m)) (sym (told_printed options tells d sound bytes m type spelled decoded z text))
+    gives = subst (λ z. Gives w t z (view m)) (sym (set_printed options tells d sound bytes m type spelled decoded z text))
         (printed_text_back form own w (have_names d.pool.now sound named decoded) (have_identifiers d.pool.now sound named decoded) t (view m) (decoded_suits d sound bytes are m type spelled) plain shallow)
 
     -- so what it makes is written as the message is

@@ -12,11 +12,11 @@ apart q n h = by (q == n) refl where
   by false e = e
 
 module _ {X : Type 0} where
-  none : (k low : ℕ) (g : ℕ → List X) → ((n : ℕ) → low ≤ n → g n ≡ []) → flat_map g (count_from low k) ≡ []
+  pub none : (k low : ℕ) (g : ℕ → List X) → ((n : ℕ) → low ≤ n → g n ≡ []) → flat_map g (count_from low k) ≡ []
   none zero low g e = refl
   none (suc k) low g e = ap (λ l. l ++ flat_map g (count_from (suc low) k)) (e low (omega arith)) ∙ none k (suc low) g (λ n le. e n (omega (arith, le)))
 
-  same : (k low : ℕ) (g h : ℕ → List X) → ((n : ℕ) → low ≤ n → g n ≡ h n) → flat_map g (count_from low k) ≡ flat_map h (count_from low k)
+  pub same : (k low : ℕ) (g h : ℕ → List X) → ((n : ℕ) → low ≤ n → g n ≡ h n) → flat_map g (count_from low k) ≡ flat_map h (count_from low k)
   same zero low g h e = refl
   same (suc k) low g h e =
       ap (λ l. l ++ flat_map g (count_from (suc low) k)) (e low (omega arith))

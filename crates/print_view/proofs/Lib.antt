@@ -1,5 +1,7 @@
 pub mod Parts
 mod Counting
+mod Sorting
+mod Defaults
 mod Pieces
 mod Singles
 mod Values

@@ -47,11 +47,11 @@ use Rattle.print_view.proofs.Pieces.{Pair, value_shown, given_shown, list_shown,
 use Rattle.print_view.proofs.Singles.{single_said, key_said}
 
 -- the options that tell the fields that are set, pretty or not, by number or as declared
-abbrev pub own_options : (p as_declared : Bool) → FormatOptions
-own_options p as_declared = record {
+abbrev pub own_options : (p skip as_declared : Bool) → FormatOptions
+own_options p skip as_declared = record {
   pretty = p;
   skip_unknown_fields = true;
-  skip_default_fields = true;
+  skip_default_fields = skip;
   in_index_order = as_declared;
   expand_any = false;
 }
@@ -72,10 +72,10 @@ no_enum (keys.U32 m) n e = cc e
 no_enum (keys.U64 m) n e = cc e
 no_enum (keys.String t) n e = cc e
 
-module _ (p as_declared : Bool) (pool : PoolType) (fields_of : HaveEntryFields pool) (values : HaveValues pool) (decoded : Name → Text → Option Message) (inner : Inner) (payloads : ℕ) where
+module _ (p skip as_declared : Bool) (pool : PoolType) (fields_of : HaveEntryFields pool) (values : HaveValues pool) (decoded : Name → Text → Option Message) (inner : Inner) (payloads : ℕ) where
   -- the options, and the form that they are
   abbrev pub options : FormatOptions
-  options = own_options p as_declared
+  options = own_options p skip as_declared
 
   abbrev pub own : Form
   own = form_of options

@@ -1,5 +1,9 @@
 -- The forms in which messages are printed, in the words of `text_model`.
-use Rattle.std.specs.Prelude.{◌≡◌, not, true, false}
+use Rattle.std.specs.Prelude.{◌≡◌, ℕ, not, true, false, Some}
+use Rattle.reflect_tables.specs.Types.{PoolType, FieldType}
+use Rattle.reflect_pool.specs.Shapes.{is_repeated}
+use Rattle.reflect_message.specs.Known.{known_field}
+use Rattle.reflect_message.specs.KindTypes.{IsMessageType}
 use Rattle.text_lines.specs.Forms.{usual_form}
 use Rattle.text_lines.specs.declared.options.FormatOptions.{FormatOptions}
 use Rattle.text_model.specs.Forms.{Form}
@@ -13,11 +17,21 @@ form_of options = record {
   expands = options.expand_any;
 }
 
--- the fields that are set, and nothing else
+-- the fields of a message, and neither records of unknown numbers nor what an Any holds
 pub record TellsFields (options : FormatOptions) : Type 0 where
-  pub set : options.skip_default_fields ≡ true
   pub declared : options.skip_unknown_fields ≡ true
   pub unexpanded : options.expand_any ≡ false
+
+-- of these the ones that are set, and no others
+pub record TellsSet (options : FormatOptions) : Type 0 where
+  pub fields : TellsFields options
+  pub set : options.skip_default_fields ≡ true
+
+-- a field of one message has presence
+abbrev pub HaveMessagePresence : PoolType → Type 0
+HaveMessagePresence pool =
+    (i n : ℕ) (f : FieldType) → known_field pool i n ≡ Some f → IsMessageType f.kind
+    → is_repeated f.cardinality ≡ false → f.presence ≡ true
 
 -- by ascending number, on one line: in the printer's words
 abbrev pub compact_form : FormatOptions

@@ -1,5 +1,5 @@
 //! Laws of what is printed of messages, each the contract of a function that does nothing.
-ghost use Rattle.std.specs.Prelude.{◌≡◌, ◌≤◌, ℕ, List, Option};
+ghost use Rattle.std.specs.Prelude.{◌≡◌, ◌≤◌, ℕ, List, Option, false};
 ghost use Rattle.protox_lex.specs.Class.{Text};
 ghost use Rattle.reflect_pool.specs.declared.message.MessageDescriptor.{MessageDescriptor};
 ghost use Rattle.reflect_wire.specs.Written.{AreBytes};
@@ -23,24 +23,25 @@ ghost use Rattle.message_view.specs.Types.{name_at, types_of};
 ghost use Rattle.message_view.specs.Views.{view};
 ghost use Rattle.text_view.specs.Schemas.{schema_of};
 ghost use Rattle.text_view.specs.SourceNames.{HasSourceNames};
-ghost use Rattle.print_view.specs.Forms.{form_of, TellsFields};
+ghost use Rattle.print_view.specs.Forms.{form_of, HaveMessagePresence, TellsFields, TellsSet};
 
-/// The text of a decoded message, in each form that tells the fields that are set and nothing else,
-/// is that of the tree which the model prints in this form.
+/// The text of a decoded message, in each form that tells fields and nothing else, is that of the
+/// tree which the model prints in this form: with defaults where a field of one message has presence.
 pub fn decoded_messages_are_printed_as_their_trees()
     ensures { (options : FormatOptions) → TellsFields options
         → (d : MessageDescriptor) → IsSound d.pool.now
+        → (options.skip_default_fields ≡ false → HaveMessagePresence d.pool.now)
         → (bytes : List ℕ) (m : DynamicMessage) → m.descriptor ≡ d → IsSpelled d bytes m
         → (decoded : Name → Text → Option Message) (z : Text) → IsMessageText options m z
         → z ≡ text_of (form_of options) (printed (form_of options)
         (schema_of d.pool.now decoded) (name_at d.pool.now d.index) (view m)) }
 {}
 
-/// Where names are spelled as in sources, what is printed in such a form of a decoded message whose
-/// records all have fields makes, as a text of its type, messages that are written in the same
+/// Where names are spelled as in sources, what is printed of the fields that are set of a decoded
+/// message whose records all have fields makes, as a text of its type, messages that are written in the same
 /// bytes, if no more than 100 braces are open in it at once.
 pub fn printed_messages_are_read_back()
-    ensures { (options : FormatOptions) → TellsFields options
+    ensures { (options : FormatOptions) → TellsSet options
         → (decoded : Name → Text → Option Message) (d : MessageDescriptor)
         → IsSound d.pool.now → HasSourceNames d.pool.now
         → (bytes : List ℕ) → AreBytes bytes
@@ -55,7 +56,7 @@ pub fn printed_messages_are_read_back()
 
 /// And it is not refused as a text that the type does not take.
 pub fn printed_messages_are_taken()
-    ensures { (options : FormatOptions) → TellsFields options
+    ensures { (options : FormatOptions) → TellsSet options
         → (decoded : Name → Text → Option Message) (d : MessageDescriptor)
         → IsSound d.pool.now → HasSourceNames d.pool.now
         → (bytes : List ℕ) → AreBytes bytes
