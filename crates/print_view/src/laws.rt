@@ -26,7 +26,8 @@ ghost use Rattle.text_view.specs.SourceNames.{HasSourceNames};
 ghost use Rattle.print_view.specs.Forms.{form_of, HaveMessagePresence, TellsFields, TellsSet};
 
 /// The text of a decoded message, in each form that tells fields and nothing else, is that of the
-/// tree which the model prints in this form: with defaults where a field of one message has presence.
+/// tree which the model prints in this form; with defaults, where a field of one message has
+/// presence.
 pub fn decoded_messages_are_printed_as_their_trees()
     ensures { (options : FormatOptions) → TellsFields options
         → (d : MessageDescriptor) → IsSound d.pool.now
@@ -37,9 +38,10 @@ pub fn decoded_messages_are_printed_as_their_trees()
         (schema_of d.pool.now decoded) (name_at d.pool.now d.index) (view m)) }
 {}
 
-/// Where names are spelled as in sources, what is printed of the fields that are set of a decoded
-/// message whose records all have fields makes, as a text of its type, messages that are written in the same
-/// bytes, if no more than 100 braces are open in it at once.
+/// Where names are spelled as in sources, what is printed of a decoded message whose records all
+/// have fields makes, in each form that tells the fields that are set and nothing else, and as a
+/// text of its type, messages that are written in the same bytes, if no more than 100 braces are
+/// open in it at once.
 pub fn printed_messages_are_read_back()
     ensures { (options : FormatOptions) → TellsSet options
         → (decoded : Name → Text → Option Message) (d : MessageDescriptor)
