@@ -1,5 +1,6 @@
 pub mod AggregateLaws
 pub mod Ahead
+pub mod Answered
 pub mod Choices
 pub mod EnumLaws
 pub mod FieldLaws

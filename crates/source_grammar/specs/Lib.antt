@@ -1,4 +1,5 @@
 pub mod Aggregates
+pub mod Answers
 pub mod Enums
 pub mod Fields
 pub mod Files

@@ -2,4 +2,5 @@
 //! the parser reads exactly these. It has no code.
 #![tactic(auto)]
 
+pub mod answers;
 pub mod laws;
