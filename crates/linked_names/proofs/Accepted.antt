@@ -1,12 +1,19 @@
 -- A batch that is accepted keeps a pool's names apart, and as sources give them.
-use Rattle.std.proofs.Common.{◌≡◌, [], ◌⊎◌, inl, inr, ◌<◌, ◌≤◌, ◌++◌, ℕ, true, List, map, length, Option, Some, slice_index_or, sym, ap, ◌∙◌, subst, arith}
+use Rattle.std.proofs.Common.{◌≡◌, [], ◌⊎◌, inl, inr, ◌<◌, ◌≤◌, ◌++◌, ℕ, true, List, map, length, Option, Some, slice_index_or, sym, ap, ◌∙◌, subst, arith, refl, false, ℤ, slice_get}
 use Rattle.std.specs.List.{AllByRecursion}
 use Rattle.descriptor_records.specs.Content.{file_view}
 use Rattle.descriptor_records.specs.declared.file.FileDescriptorProto.{FileDescriptorProto}
 use Rattle.reflect_walk.specs.Declarations.{Declaration}
 use Rattle.reflect_passes.specs.NameFaults.{name_faults}
 use Rattle.reflect_tables.specs.Names.{extension_name, extensions, found}
-use Rattle.reflect_tables.specs.Types.{PoolType, FieldType, MessageType, EnumType, ExtensionType, ArePooled, no_type, no_enum, no_extension, type_at, type_of_field, enum_at, extension_at}
+use Rattle.reflect_tables.specs.Types.{PoolType, FieldType, MessageType, EnumType, ExtensionType, ArePooled, no_type, no_enum, no_extension, type_at, type_of_field, enum_at, extension_at, KindType, no_field}
+use Rattle.reflect_tables.specs.Types as types
+use Rattle.reflect_tables.specs.declared.kind.Cardinality.{Cardinality}
+use Rattle.reflect_tables.specs.declared.kind.Cardinality.TheVariants.{Optional, Required, Repeated}
+use Rattle.reflect_tables.specs.declared.kind.Syntax.{Syntax}
+use Rattle.reflect_fields.specs.Fields.{has_presence, label_of}
+use Rattle.reflect_pool.specs.Shapes.{is_repeated}
+use Rattle.reflect_message.specs.KindTypes.{IsMessageType}
 use Rattle.reflect_tables.specs.Views.{message_of, enum_of, extension_of, record_file}
 use Rattle.reflect_tables.specs.declared.stored.StoredEntry.{StoredEntry}
 use Rattle.reflect_index.specs.declared.batch.Batch.{Batch}
@@ -18,7 +25,9 @@ use Rattle.text_model.specs.Printed.{parts}
 use Rattle.message_view.specs.Sound.{IsSound}
 use Rattle.text_view.specs.SourceNames.{HaveOwnNames, IsGroupField, HasPartNames}
 use Rattle.source_records.specs.SourceNames.{IsSourceFile}
+use Rattle.linked_messages.proofs.Declared.{field_declared}
 use Rattle.linked_messages.proofs.Among.{Among, of_all, all_of, of_filter, of_place, in_map, get_at, get_map}
+use Rattle.linked_names.specs.Presence.{HasMessagePresence, HasPresentMessages}
 use Rattle.linked_names.specs.SourcePools.{IsScoped, IsSourcePool}
 use Rattle.linked_names.proofs.Batch.{ds, known, types_are, extensions_are, extensions_found}
 use Rattle.linked_names.proofs.Entries.{entry_named}
@@ -26,6 +35,13 @@ use Rattle.linked_names.proofs.Kept.{field_same, scope_stays, group_stays, parts
 use Rattle.linked_names.proofs.Lists.{which, IsLater}
 use Rattle.linked_names.proofs.Sourced.{IsSourced, batch_sourced}
 use Rattle.linked_names.proofs.Stored.{names_apart, enum_of_batch, values_apart, new_scoped, field_spelled, group_spelled, value_spelled, extension_spelled}
+
+single_present : (s : Syntax) (c : Cardinality) (k : KindType) (o : Option ℤ) → IsMessageType k
+    → is_repeated c ≡ false → has_presence s c k o ≡ true
+single_present s Optional (types.message i) o one single = refl
+single_present s Required (types.message i) o one single = refl
+single_present s Repeated (types.message i) o one single = absurd (cc single)
+single_present s c k o one single = absurd one
 
 module _ (old new : PoolType) (ns : List FileDescriptorProto) (w : Linking) (is : IsOf old w)
     (pooled : ArePooled old) (names : name_faults w.indexes w.known w.before w.first ns ≡ [])
@@ -121,6 +137,25 @@ module _ (old new : PoolType) (ns : List FileDescriptorProto) (w : Linking) (is 
         ∙ ap (found extensions (known old new ns w is pooled names batch)) e
         ∙ extension_found k less);
   }
+
+  -- ---- presence
+
+  present : HasPresentMessages old → HasPresentMessages new
+  present has i j lt = elim (which_type i) [
+    | inl (here, type) ↦ subst HasMessagePresence
+        (sym (field_same old new b (map record_file ns) pooled files_are messages_are enums_are i here j))
+        (has i j (subst (λ (t : MessageType). j < length t.fields) type lt))
+    | inr (inl later) ↦ (
+        let there = subst (λ (t : MessageType). slice_get t.fields j ≡ Some (type_of_field new i j))
+        later.is (get_at (type_at new i).fields j no_field lt) in
+        let d = field_declared batch.references w.before w.first ns b batch.declared.entries
+        later.place later.own j (type_of_field new i j) later.at there in
+        λ one single. d.says.presence
+        ∙ single_present d.met.hand.syntax (label_of d.own.label) d.holds d.own.oneof_index
+        (subst IsMessageType d.says.says.kind one)
+        (sym (ap is_repeated d.says.says.cardinality) ∙ single))
+    | inr (inr none) ↦ absurd (no_field_there i j none.1 lt)
+  ]
 
   -- ---- names as sources give them
 
@@ -231,3 +266,8 @@ accepted_sources old new files sound (w, is, (names, batch)) sources pool =
     source_pool old new ns w is sound.pooled names batch
     (batch_sourced w.before w.first ns (all_of IsSource ns (λ f h.
     of_all IsSource f files sources (of_filter (is_unknown w.indexes) f files h).0))) pool
+
+pub accepted_present : (old new : PoolType) (files : List FileDescriptorProto) → IsSound old
+    → FaultlessFiles old files new → HasPresentMessages old → HasPresentMessages new
+accepted_present old new files sound (w, is, (names, batch)) has =
+    present old new (new_files w.indexes files) w is sound.pooled names batch has

@@ -1,5 +1,5 @@
 mod Dots
-mod Lists
+pub mod Lists
 mod Sourced
 mod Known
 mod Apart

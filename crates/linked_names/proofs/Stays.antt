@@ -4,6 +4,7 @@ use Rattle.descriptor_records.specs.declared.file.FileDescriptorProto.{FileDescr
 use Rattle.reflect_tables.specs.Types.{PoolType, FieldType, IsSettled}
 use Rattle.reflect_tables.specs.declared.stored.StoredEntry.{StoredEntry}
 use Rattle.text_view.specs.SourceNames.{IsGroupField, HasPartNames}
+use Rattle.linked_names.specs.Presence.{HasPresentMessages}
 use Rattle.linked_names.specs.SourcePools.{IsSourcePool}
 
 same_group : (old : PoolType) (records : List FileDescriptorProto) (i : ℕ) (f : FieldType)
@@ -51,3 +52,7 @@ pub settled_sources : (old new : PoolType) → IsSettled old new → IsSourcePoo
     → IsSourcePool new
 settled_sources old new settled pool =
     subst IsSourcePool (sym settled) (with_records old new.records pool)
+
+pub settled_present : (old new : PoolType) → IsSettled old new → HasPresentMessages old
+    → HasPresentMessages new
+settled_present old new settled has = subst HasPresentMessages (sym settled) has

@@ -1,2 +1,3 @@
 pub mod OneProof
+pub mod Presence
 pub mod SourcePools

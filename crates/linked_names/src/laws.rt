@@ -13,6 +13,7 @@ ghost use Rattle.reflect_tables.specs.Types.{IsSettled, PoolType};
 ghost use Rattle.message_view.specs.Sound.{IsSound};
 ghost use Rattle.text_view.specs.SourceNames.{HaveOwnNames};
 ghost use Rattle.source_records.specs.SourceNames.{IsSourceFile};
+ghost use Rattle.linked_names.specs.Presence.{HasPresentMessages};
 ghost use Rattle.linked_names.specs.SourcePools.{IsSourcePool};
 
 /// Names of a pool without files are as sources give them.
@@ -47,4 +48,22 @@ pub fn typed_options_say_nothing_of_names()
     ensures { (files typed : List FileDescriptorProto) → TypedFiles files typed
         → AllByRecursion (λ (f : FileDescriptorProto). IsSourceFile (file_view f)) files
         → AllByRecursion (λ (f : FileDescriptorProto). IsSourceFile (file_view f)) typed }
+{}
+
+/// In a pool without files each field of one message has presence.
+pub fn the_empty_pool_has_present_messages()
+    ensures { HasPresentMessages empty_pool }
+{}
+
+/// So it stays where no pass finds a fault in the files that are added.
+pub fn accepted_files_keep_messages_present()
+    ensures { (old new : PoolType) (files : List FileDescriptorProto)
+        → IsSound old → FaultlessFiles old files new → HasPresentMessages old
+        → HasPresentMessages new }
+{}
+
+/// And where options are settled.
+pub fn settled_pools_keep_messages_present()
+    ensures { (old new : PoolType) → IsSettled old new → HasPresentMessages old
+        → HasPresentMessages new }
 {}

@@ -8,7 +8,6 @@ use Rattle.protobuf_model.specs.Values.{Message, nothing}
 use Rattle.protobuf_model.proofs.Bytewise.{bytes_mean, merged_well, one_meaning}
 use Rattle.protobuf_model.proofs.Merging.{nothing_typed}
 use Rattle.reflect_pool.specs.Dots.{without_dot}
-use Rattle.reflect_pool.specs.declared.message.MessageDescriptor.{MessageDescriptor}
 use Rattle.reflect_tables.specs.Types.{PoolType}
 use Rattle.reflect_wire.specs.Written.{AreBytes}
 use Rattle.reflect_format.specs.Reads.{IsCause}

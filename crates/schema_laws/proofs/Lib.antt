@@ -1,3 +1,4 @@
 pub mod Recoding
 pub mod Encoding
 pub mod Naming
+pub mod PresentMessages

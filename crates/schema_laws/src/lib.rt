@@ -3,4 +3,5 @@
 
 pub mod laws;
 pub mod names;
+pub mod presence;
 pub mod texts;

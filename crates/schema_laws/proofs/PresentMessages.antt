@@ -1,0 +1,29 @@
+-- Presence of messages in schemas that files are added to.
+use Rattle.std.proofs.Common.{◌≡◌, List, Option, None, Some, sym, ap, ◌∙◌, subst, refl, ◌==◌}
+use Rattle.std.specs.Option.{option_and_then}
+use Rattle.descriptor_records.specs.declared.file.FileDescriptorProto.{FileDescriptorProto}
+use Rattle.reflect_message.specs.Known.{if_held, numbered_field}
+use Rattle.reflect_tables.specs.Types.{PoolType, FieldType, no_field, type_at}
+use Rattle.message_view.proofs.Fields.{held_is}
+use Rattle.message_view.specs.Sound.{IsSound}
+use Rattle.print_view.specs.Forms.{HaveMessagePresence}
+use Rattle.linked_messages.proofs.Among.{of_find, place_of, index_is}
+use Rattle.linked_names.proofs.Accepted.{accepted_present}
+use Rattle.linked_names.proofs.Lists.{get_in}
+use Rattle.linked_names.proofs.Stays.{settled_present}
+use Rattle.linked_names.specs.Presence.{HasMessagePresence, HasPresentMessages}
+use Rattle.schema_core.specs.Refusals.{FilesLinked}
+
+pub linked_present : (old new : PoolType) (files : List FileDescriptorProto) → IsSound old → FilesLinked old files new → HasPresentMessages old → HasPresentMessages new
+linked_present old new files sound (linked, fit, settled, bare) has =
+    settled_present linked new settled (accepted_present old linked fit.0 sound fit.2.1 has)
+
+pub printed_present : (pool : PoolType) → HasPresentMessages pool → HaveMessagePresence pool
+printed_present pool has i n f known = by (numbered_field pool i n) refl where
+  by : (o : Option FieldType) → numbered_field pool i n ≡ o → HasMessagePresence f
+  by None is = absurd (cc (sym (ap (option_and_then (if_held pool)) is) ∙ known))
+  by (Some h) is =
+      let fields = (type_at pool i).fields in
+      let kept = held_is pool h f (sym (ap (option_and_then (if_held pool)) is) ∙ known) in
+      let spot = place_of h fields (of_find (λ (g : FieldType). g.number == n) h fields is).0 in
+      subst HasMessagePresence (index_is fields spot.0 h no_field spot.1 ∙ kept.1) (has i spot.0 (get_in fields spot.0 h spot.1))
