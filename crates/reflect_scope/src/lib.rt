@@ -7,5 +7,5 @@ mod resolve;
 mod seen;
 
 pub use definition::{Definition, DefinitionKind, ResolveNameFilter};
-pub use resolve::{ResolveNameError, Resolved, joined, outer_of, resolve_name};
+pub use resolve::{ResolveNameError, Resolved, joined, outer_of, resolve_name, write_joined};
 pub use seen::{Links, SeenFiles};

@@ -49,11 +49,12 @@ enum Standing {
     Wanted(Definition),
 }
 
-/// Writes the full name of `name` in `scope` over `full_name`.
-fn write_joined(full_name: &mut String, scope: &str, name: &str) -> Result<(), AllocError>
+/// Writes the full name of `name` in `scope` over `full_name`, whose memory is used again.
+pub fn write_joined(full_name: &mut String, scope: &str, name: &str) -> Result<(), AllocError>
     ensures { OnOk result (string_bytes full_name.new ≡ join scope.now name.now) }
 {
     full_name.clear();
+    full_name.reserve(scope.len().saturating_add(1).saturating_add(name.len()))?;
     full_name.push_str(scope)?;
     if !scope.is_empty() {
         full_name.push_str(".")?;

@@ -10,7 +10,7 @@ use descriptor_records::{
     FileDescriptorProto, MethodDescriptorProto, OneofDescriptorProto, ServiceDescriptorProto,
     join_path, tag,
 };
-use reflect_scope::joined;
+use reflect_scope::{joined, write_joined};
 use std::alloc::Global;
 
 /// How many messages, enums, extensions and services are declared before, in all files.
@@ -70,9 +70,49 @@ fn name_in(alloc: Global, scope: &str, name: &Option<String>) -> Result<String, 
     Ok(joined(alloc, scope, text_of(name))?)
 }
 
+/// Where the path and the full name of one declaration after the other are written, in memory that
+/// is used again.
+#[derive(Drop)]
+struct Place {
+    path: Vec<i32>,
+    full_name: String,
+}
+
+impl Place {
+    /// Takes no memory.
+    fn new(alloc: Global) -> Place {
+        Place {
+            path: Vec::new(alloc),
+            full_name: String::new(alloc),
+        }
+    }
+
+    /// Writes those of an entry of a list, which has a name in a scope.
+    fn lead(
+        &mut self,
+        path: &[i32],
+        tag: i32,
+        index: u32,
+        scope: &str,
+        name: &Option<String>,
+    ) -> Result<(), VisitError>
+        requires { index < 2 ^ 31 }
+        ensures path { OnOk result (self.new.path.items ≡ entry path.now tag index) }
+        ensures name { OnOk result (string_bytes self.new.full_name
+            ≡ join scope.now (content_of name.now)) }
+    {
+        self.path.clear();
+        self.path.extend_from_slice(path)?;
+        self.path.push(tag)?;
+        self.path.push(index as i32)?;
+        Ok(write_joined(&mut self.full_name, scope, text_of(name))?)
+    }
+}
+
 fn visit_field<V: Visitor>(
     alloc: Global,
     visitor: &mut V,
+    place: &mut Place,
     path: &[i32],
     scope: &str,
     file: u32,
@@ -85,12 +125,11 @@ fn visit_field<V: Visitor>(
         (one_field path.now scope.now file message index field.now) visitor.new) }
     ensures keeps { V.kept file visitor.old visitor.new }
 {
-    let place = item_path(alloc, path, tag::message::FIELD, index)?;
-    let full_name = name_in(alloc, scope, &field.name)?;
+    place.lead(path, tag::message::FIELD, index, scope, &field.name)?;
     visitor.visit_field(
         alloc,
-        place.as_slice(),
-        full_name.as_str(),
+        place.path.as_slice(),
+        place.full_name.as_str(),
         file,
         message,
         index,
@@ -111,9 +150,12 @@ fn visit_fields<V: Visitor>(
         (each (one_field path.now scope.now file message) 0 fields.now.items) visitor.new) }
     ensures keeps { V.kept file visitor.old visitor.new }
 {
+    let mut place = Place::new(alloc);
     'turns: for (at, field) in fields.iter().enumerate() {
         let index = list_index(at)?;
-        visit_field(alloc, visitor, path, scope, file, message, index, field)?;
+        visit_field(
+            alloc, visitor, &mut place, path, scope, file, message, index, field,
+        )?;
     }
     Ok(())
 }
@@ -121,6 +163,7 @@ fn visit_fields<V: Visitor>(
 fn visit_oneof<V: Visitor>(
     alloc: Global,
     visitor: &mut V,
+    place: &mut Place,
     path: &[i32],
     scope: &str,
     file: u32,
@@ -133,12 +176,11 @@ fn visit_oneof<V: Visitor>(
         (one_oneof path.now scope.now file message index oneof.now) visitor.new) }
     ensures keeps { V.kept file visitor.old visitor.new }
 {
-    let place = item_path(alloc, path, tag::message::ONEOF_DECL, index)?;
-    let full_name = name_in(alloc, scope, &oneof.name)?;
+    place.lead(path, tag::message::ONEOF_DECL, index, scope, &oneof.name)?;
     visitor.visit_oneof(
         alloc,
-        place.as_slice(),
-        full_name.as_str(),
+        place.path.as_slice(),
+        place.full_name.as_str(),
         file,
         message,
         index,
@@ -159,9 +201,12 @@ fn visit_oneofs<V: Visitor>(
         (each (one_oneof path.now scope.now file message) 0 oneofs.now.items) visitor.new) }
     ensures keeps { V.kept file visitor.old visitor.new }
 {
+    let mut place = Place::new(alloc);
     'turns: for (at, oneof) in oneofs.iter().enumerate() {
         let index = list_index(at)?;
-        visit_oneof(alloc, visitor, path, scope, file, message, index, oneof)?;
+        visit_oneof(
+            alloc, visitor, &mut place, path, scope, file, message, index, oneof,
+        )?;
     }
     Ok(())
 }
@@ -169,6 +214,7 @@ fn visit_oneofs<V: Visitor>(
 fn visit_enum_value<V: Visitor>(
     alloc: Global,
     visitor: &mut V,
+    place: &mut Place,
     path: &[i32],
     scope: &str,
     file: u32,
@@ -181,12 +227,11 @@ fn visit_enum_value<V: Visitor>(
         (one_value path.now scope.now file enumeration index value.now) visitor.new) }
     ensures keeps { V.kept file visitor.old visitor.new }
 {
-    let place = item_path(alloc, path, tag::enumeration::VALUE, index)?;
-    let full_name = name_in(alloc, scope, &value.name)?;
+    place.lead(path, tag::enumeration::VALUE, index, scope, &value.name)?;
     visitor.visit_enum_value(
         alloc,
-        place.as_slice(),
-        full_name.as_str(),
+        place.path.as_slice(),
+        place.full_name.as_str(),
         file,
         enumeration,
         index,
@@ -207,9 +252,20 @@ fn visit_values<V: Visitor>(
         (each (one_value path.now scope.now file enumeration) 0 values.now.items) visitor.new) }
     ensures keeps { V.kept file visitor.old visitor.new }
 {
+    let mut place = Place::new(alloc);
     'turns: for (at, value) in values.iter().enumerate() {
         let index = list_index(at)?;
-        visit_enum_value(alloc, visitor, path, scope, file, enumeration, index, value)?;
+        visit_enum_value(
+            alloc,
+            visitor,
+            &mut place,
+            path,
+            scope,
+            file,
+            enumeration,
+            index,
+            value,
+        )?;
     }
     Ok(())
 }
@@ -217,6 +273,7 @@ fn visit_values<V: Visitor>(
 fn visit_method<V: Visitor>(
     alloc: Global,
     visitor: &mut V,
+    place: &mut Place,
     path: &[i32],
     scope: &str,
     file: u32,
@@ -229,12 +286,11 @@ fn visit_method<V: Visitor>(
         (one_method path.now scope.now file service index method.now) visitor.new) }
     ensures keeps { V.kept file visitor.old visitor.new }
 {
-    let place = item_path(alloc, path, tag::service::METHOD, index)?;
-    let full_name = name_in(alloc, scope, &method.name)?;
+    place.lead(path, tag::service::METHOD, index, scope, &method.name)?;
     visitor.visit_method(
         alloc,
-        place.as_slice(),
-        full_name.as_str(),
+        place.path.as_slice(),
+        place.full_name.as_str(),
         file,
         service,
         index,
@@ -255,9 +311,12 @@ fn visit_methods<V: Visitor>(
         (each (one_method path.now scope.now file service) 0 methods.now.items) visitor.new) }
     ensures keeps { V.kept file visitor.old visitor.new }
 {
+    let mut place = Place::new(alloc);
     'turns: for (at, method) in methods.iter().enumerate() {
         let index = list_index(at)?;
-        visit_method(alloc, visitor, path, scope, file, service, index, method)?;
+        visit_method(
+            alloc, visitor, &mut place, path, scope, file, service, index, method,
+        )?;
     }
     Ok(())
 }
