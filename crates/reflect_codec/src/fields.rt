@@ -1,5 +1,5 @@
 //! The fields of a record that is being read, and the readers of what they hold.
-ghost use Rattle.std.specs.Prelude.{◌≡◌, ℕ, ◌-◌, ◌++◌, List, IfOk, IfSome, option_map, flat_map, string_bytes, unsigned_abs};
+ghost use Rattle.std.specs.Prelude.{◌≡◌, ℕ, ◌-◌, ◌++◌, List, IfOk, IfSome, option_map, flat_map, length, string_bytes, unsigned_abs};
 ghost use Rattle.std.specs.List.{AllZip};
 ghost use Rattle.reflect_wire.specs.Reads.{ReadsBy};
 ghost use Rattle.reflect_codec.specs.Raw.{value_view, fields_view, IsRawValue, MoreFields, MoreNumbers};
@@ -88,6 +88,12 @@ fn raw_value_at(
     }
 }
 
+/// For how many fields there is room at first in a record of so many bytes: enough for most, so that
+/// few lists grow.
+fn first_room(bytes: usize) -> usize {
+    (bytes / 16).clamp(8, 64)
+}
+
 /// The fields with those behind them that the bytes spell.
 fn with_fields<'b>(
     fields: Vec<RawField<'b>>,
@@ -134,8 +140,24 @@ impl<'b> Fields<'b> {
             bytes.now result }
         ensures levels { IfOk result (λ f. f.levels ≡ levels) }
     {
-        let list = with_fields(Vec::new(alloc), alloc, bytes, levels)?;
+        let room = Vec::with_capacity(alloc, first_room(bytes.len()))?;
+        let list = with_fields(room, alloc, bytes, levels)?;
         Ok(Fields { list, levels })
+    }
+
+    /// How many values a field has.
+    pub fn count(&self, number: i32) -> usize
+        ensures { result
+            ≡ length (values_at (unsigned_abs number) (fields_view self.now.list.items)) }
+    {
+        let wanted = number.unsigned_abs();
+        let mut count = 0;
+        for field in &self.list {
+            if field.number == wanted {
+                count += 1;
+            }
+        }
+        count
     }
 
     /// The last value of a field.
@@ -159,7 +181,7 @@ impl<'b> Fields<'b> {
             (values_at (unsigned_abs number) (fields_view self.now.list.items)) result }
     {
         let wanted = number.unsigned_abs();
-        let mut list = Vec::new(alloc);
+        let mut list = Vec::with_capacity(alloc, self.count(number))?;
         for field in &self.list {
             if field.number == wanted {
                 list.push(T::from_value(alloc, field.value, self.levels)?)?;

@@ -27,7 +27,7 @@ pub fn message_types(
         (values_at (unsigned_abs number) (fields_view fields.now.list.items)) result }
 {
     let wanted = number.unsigned_abs();
-    let mut list = Vec::new(alloc);
+    let mut list = Vec::with_capacity(alloc, fields.count(number))?;
     for field in &fields.list {
         if field.number == wanted {
             list.push(message_type(alloc, field.value, fields.levels)?)?;

@@ -104,7 +104,7 @@ message_type-returns t c =
 pub message_types-returns-in_err-message_type : goal.message_types-returns-in_err-message_type
 message_types-returns-in_err-message_type t c =
     let bits : to_z w32 (of_z w32 c.args.number) ≡ c.args.number = search rules in
-    let p = err_from_is_err_and c.from_residual.result c.from_residual.ensures.1 in
+    let p = err_from_is_err_and c.from_residual-in_err-message_type.result c.from_residual-in_err-message_type.ensures.1 in
     rw (p.1, p.2) (rejects (λ h each. each_at c.unsigned_abs-wanted.result c.deref-field-items.result.now c.loop-field.field-index blank c.loop-field-test.true (unsigned_abs c.args.number) c.args.fields.now.list.items
     (c.unsigned_abs-wanted.ensures.value ∙ ap unsigned_abs bits) c.deref-field-items.ensures.value (IsMessage c.args.fields.now.levels) h.items c.if-field-wanted.true each) c.in_err-message_type.ensures)
 
