@@ -141,8 +141,8 @@ pub fn escape(y: &[u8]) -> Result<(Meaning, usize), usize>
 }
 
 /// What the first byte of a string's contents, or the escape that begins there, stands for, and its
-/// length. A backslash that begins no escape stands for itself.
-fn unit(raw: &[u8]) -> (Meaning, usize)
+/// length. A backslash that begins no escape stands for itself. The contents are not empty.
+pub fn unit(raw: &[u8]) -> (Meaning, usize)
     requires { 0 < length raw.now }
     ensures value { result ≡ spec.unit_of raw.now }
     ensures within { (1 ≤ result.1) × (result.1 ≤ length raw.now) }

@@ -18,7 +18,7 @@ pub mod token;
 
 pub use comments::Comments;
 pub use error::{LexError, LexErrorKind};
-pub use escape::{Escaped, is_escaped, unescape};
+pub use escape::{Escaped, Meaning, is_escaped, unescape, unit};
 pub use lexer::{Lexeme, Lexer};
 pub use lines::LineResolver;
 pub use literal::{Float, Int, String};
