@@ -6,7 +6,7 @@ use Rattle.std.proofs.lemmas.List.Sums.{sum_by-cons}
 use Rattle.descriptor_records.specs.Content.{Text}
 use Rattle.reflect_scope.specs.declared.definition.Definition.{Definition}
 use Rattle.reflect_scope.specs.Known.{Known, declared, is_taken, is_package, may_repeat}
-use Rattle.reflect_names.proofs.Entries.{declared_new}
+use Rattle.reflect_names.proofs.Declared.{declared_new}
 use Rattle.linked_view.proofs.Counts.{one_if, bytes_same, bytes_refl}
 
 -- a name, and what it stands for

@@ -19,6 +19,7 @@ ghost use Rattle.reflect_tables.specs.ExtensionNumbers.{KeyType};
 ghost use Rattle.reflect_tables.specs.Types.{ArePooled, PoolType};
 ghost use Rattle.reflect_tables.specs.declared.stored.StoredMessage.{StoredMessage};
 ghost use Rattle.std.specs.BTreeMap.{BTreeMap};
+ghost use Rattle.name_table.specs.declared.table.NameTable.{NameTable};
 ghost use Rattle.std.specs.declared.alloc.Global.{Global};
 ghost use Rattle.reflect_pool.specs.declared.message.MessageDescriptor.{MessageDescriptor};
 ghost use Rattle.reflect_wire.specs.Written.{AreBytes};
@@ -32,7 +33,7 @@ ghost use Rattle.message_view.specs.Views.{view};
 
 /// The parts of a linked pool fit together, and no two of its message types have one name.
 pub fn linked_pools_have_names()
-    ensures { (pool : PoolType) (names : BTreeMap (String Global) Definition)
+    ensures { (pool : PoolType) (names : NameTable Definition)
         (file_names : BTreeMap (String Global) ℕ) (places : BTreeMap KeyType ℕ) (links : List Links)
         (messages : List StoredMessage)
         → IsLinked pool names file_names places links messages → ArePooled pool × HaveNames pool }

@@ -6,7 +6,7 @@ use Rattle.std.specs.Cmp.Lexicographic.{bytes_decides}
 use Rattle.std.specs.List.{AllByRecursion}
 use Rattle.std.specs.Map.{update}
 use Rattle.descriptor_records.specs.declared.file.FileDescriptorProto.{FileDescriptorProto}
-use Rattle.reflect_scope.specs.Known.{Known, declared}
+use Rattle.reflect_scope.specs.Known.{Known, declared, kept_first, KeepsFirst}
 use Rattle.reflect_scope.specs.Means.{scopes}
 use Rattle.reflect_scope.specs.declared.definition.Definition.{Definition}
 use Rattle.reflect_walk.specs.Batches.{batch_declarations, past_files}
@@ -15,6 +15,7 @@ use Rattle.reflect_walk.specs.Tree.{text_of}
 use Rattle.reflect_walk.specs.declared.visit_parts.Offsets.{Offsets}
 use Rattle.reflect_known.specs.DeclaredNames.{is_of, with_name, with_names}
 use Rattle.reflect_known.specs.KnownNames.{package_of, named, packages, known_after, known_behind, nothing_known, nothing_before, known_of_files, counts_of_files}
+use Rattle.reflect_names.proofs.Declared.{at_name}
 use Rattle.reflect_known.proofs.GivenNames.{known_told, names_told}
 use Rattle.reflect_tables.specs.Names.{Sort, FullName, names_of}
 use Rattle.reflect_tables.specs.Names as sorts
@@ -24,7 +25,7 @@ use Rattle.reflect_growth.specs.Cut.{cut_to}
 use Rattle.reflect_index.proofs.Batched.{known_on, names_on, names_behind}
 use Rattle.reflect_index.proofs.Counted.{AreNext, past_one, file_next}
 use Rattle.reflect_index.proofs.Known.{offset, counts}
-use Rattle.reflect_index.proofs.Orders.{all_push, first_names, kept_first}
+use Rattle.reflect_index.proofs.Orders.{all_push, first_names}
 use Rattle.reflect_pool.specs.Linked.{AreRecorded}
 use Rattle.reflect_build.specs.Accepted.{AddsRecords}
 use Rattle.reflect_build.proofs.Back.{filter_below, filter_from}
@@ -186,21 +187,6 @@ module _ (F : ℕ → Type 0) (Q : Known → Type 0)
   walk_keeps known (d ∷ ds) all h =
       walk_keeps (known_after known d) ds all.1 (body_keeps known d d.body all.0 h)
 
--- what a name stands for behind a declaration: the definition, if the name was new, or what it was
-module _ (known : Known) (name : List ℕ) (d : Definition) where
-  at_name : (P : Option Definition → Type 0) (t : List ℕ)
-      → (known t ≡ None → P (Some d)) → P (known t) → P (declared known name d t)
-  at_name P t new old = by (known name) refl where
-    at : (b : Bool) → bytes_eq name t ≡ b → known name ≡ None → P (cond b (Some d) (known t))
-    at true is none = new (ap known (sym ((bytes_decides name t).0 is)) ∙ none)
-    at false is none = old
-
-    by : (o : Option Definition) → known name ≡ o
-        → P (elim o as (λ _. Known) [ None ↦ update bytes_eq known name (Some d) | Some e ↦ known ]
-        t)
-    by None none = at (bytes_eq name t) refl none
-    by (Some e) is = old
-
 -- all definitions are of the first files
 abbrev AreFirst : ℕ → Known → Type 0
 AreFirst mark known = (t : List ℕ) → kept_first mark (known t) ≡ known t
@@ -211,10 +197,6 @@ declared_first mark known name d lt h t =
     let low : nat_lt d.file mark ≡ true = grind (arith, lt) in
     let here = ap (λ b. cond b (Some d) None) low in
     at_name known name d (λ o. kept_first mark o ≡ o) t (λ none. here) (h t)
-
--- the definitions of the first files are the same
-abbrev KeepsFirst : ℕ → Known → Known → Type 0
-KeepsFirst mark was known = (t : List ℕ) → kept_first mark (known t) ≡ kept_first mark (was t)
 
 declared_later : (mark : ℕ) (was known : Known) (name : List ℕ) (d : Definition)
     → mark ≤ d.file → KeepsFirst mark was known → KeepsFirst mark was (declared known name d)

@@ -3,6 +3,7 @@ use Rattle.std.proofs.Common.{◌≡◌, ◌++◌, ℕ, String, length, List, []
 use Rattle.std.proofs.Math.ListN.{length-map}
 use Rattle.std.specs.declared.alloc.Global.{Global}
 use Rattle.std.specs.BTreeMap.{BTreeMap}
+use Rattle.name_table.specs.declared.table.NameTable.{NameTable}
 use Rattle.reflect_scope.specs.declared.definition.Definition.{Definition}
 use Rattle.reflect_walk.specs.declared.visit_parts.Offsets.{Offsets}
 use Rattle.reflect_tables.specs.Views.{file_of, pool_of}
@@ -137,7 +138,7 @@ module _ {A V : Type 0} (w : Linking) (fs : List FileDescriptorProto) (Gives : V
     by (Err y) is = inl (mapped_error Gives r s cases alone y is)
 
 -- what the parts of a pool are linked with
-pub is_of : (tables : Tables) (names : BTreeMap (String Global) Definition) (file_names : BTreeMap (String Global) ℕ) (links : List Links) (numbers : BTreeMap KeyType ℕ) (before : Offsets) (first : ℕ) (p : PoolType)
+pub is_of : (tables : Tables) (names : NameTable Definition) (file_names : BTreeMap (String Global) ℕ) (links : List Links) (numbers : BTreeMap KeyType ℕ) (before : Offsets) (first : ℕ) (p : PoolType)
     → IsLinked (pool_of tables) names file_names numbers links tables.messages.items → CountsOf (pool_of tables) before → first ≡ length tables.files.items → pool_of tables ≡ p
     → IsOf p (linking file_names names links tables numbers before first)
 is_of tables names file_names links numbers before first p linked counts start same =

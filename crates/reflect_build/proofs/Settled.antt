@@ -3,6 +3,7 @@ use Rattle.std.proofs.Common.{◌≡◌, ℕ, List, [], String, map, sym, subst,
 use Rattle.std.specs.BTreeMap.{BTreeMap}
 use Rattle.std.specs.declared.alloc.Global.{Global}
 use Rattle.descriptor_records.specs.declared.file.FileDescriptorProto.{FileDescriptorProto}
+use Rattle.name_table.specs.declared.table.NameTable.{NameTable}
 use Rattle.reflect_scope.specs.declared.definition.Definition.{Definition}
 use Rattle.reflect_scope.specs.declared.seen.Links.{Links}
 use Rattle.reflect_tables.specs.Types.{PoolType, ArePooled, IsSettled}
@@ -25,7 +26,7 @@ pooled_with p rs h = record { declared = h.declared; messages = h.messages; chil
 
 -- what holds of a linked pool speaks of the names that its records give, of their headers, and of
 -- what they say beside options
-pub linked_settled : (p q : PoolType) (names : BTreeMap (String Global) Definition) (file_names : BTreeMap (String Global) ℕ) (places : BTreeMap KeyType ℕ) (links : List Links) (ms ns : List StoredMessage)
+pub linked_settled : (p q : PoolType) (names : NameTable Definition) (file_names : BTreeMap (String Global) ℕ) (places : BTreeMap KeyType ℕ) (links : List Links) (ms ns : List StoredMessage)
     → IsSettled p q → map names_of_file q.records ≡ map names_of_file p.records
     → map bare_of q.records ≡ map bare_of p.records → p.files ≡ map record_file q.records
     → ns ≡ ms

@@ -5,6 +5,7 @@ use Rattle.std.proofs.lemmas.List.{append-nil}
 use Rattle.std.specs.List.{AllByRecursion}
 use Rattle.std.specs.BTreeMap.{BTreeMap}
 use Rattle.descriptor_records.specs.declared.file.FileDescriptorProto.{FileDescriptorProto}
+use Rattle.name_table.specs.declared.table.NameTable.{NameTable}
 use Rattle.reflect_scope.specs.declared.definition.Definition.{Definition}
 use Rattle.reflect_scope.specs.declared.seen.Links.{Links}
 use Rattle.reflect_walk.specs.Declarations.{Declaration}
@@ -16,7 +17,7 @@ use Rattle.reflect_names.specs.FileNames.{with_files, files_faults}
 use Rattle.reflect_names.specs.ImportedFiles.{links_to}
 use Rattle.reflect_names.specs.Names.{Places}
 use Rattle.reflect_names.specs.NameSteps.{KeepsFrom}
-use Rattle.reflect_names.proofs.Entries.{below_more}
+use Rattle.reflect_names.proofs.Declared.{below_more}
 use Rattle.reflect_known.specs.KnownNames.{known_behind, counts_of_files}
 use Rattle.reflect_names.specs.NamePass.{faults_along}
 use Rattle.reflect_tables.specs.Types.{PoolType, FileType, ArePooled, MessageWithin, EnumWithin, ExtensionWithin, ServiceWithin, counts_of}
@@ -102,11 +103,11 @@ all_go_on old new ds g enums = named_as enum_name enum_of new.enums.items old.en
 all_go_on old new ds g extensions = named_as extension_name extension_of new.extensions.items old.extensions.items _ g.extensions
 all_go_on old new ds g services = named_as service_name service_of new.services.items old.services.items _ g.services
 
-pub linked_more : (old new : Tables) (were are : BTreeMap (String Global) Definition) (had has : BTreeMap (String Global) ℕ) (marked marks : BTreeMap KeyType ℕ) (ls ks : List Links) (at : ℕ → Places) (o : Offsets) (first : ℕ) (fs : List FileDescriptorProto)
+pub linked_more : (old new : Tables) (were are : NameTable Definition) (had has : BTreeMap (String Global) ℕ) (marked marks : BTreeMap KeyType ℕ) (ls ks : List Links) (at : ℕ → Places) (o : Offsets) (first : ℕ) (fs : List FileDescriptorProto)
     → IsLinked (pool_of old) were had marked ls old.messages.items → CountsOf (pool_of old) o → first ≡ length old.files.items
     → indexes_of has ≡ with_files (indexes_of had) first fs → files_faults at (indexes_of had) first fs ≡ []
     → known_of are ≡ known_behind (known_of were) (batch_declarations o first fs) → faults_along at (with_files (indexes_of had) first fs) (known_of were) (batch_declarations o first fs) ≡ []
-    → KeepsFrom first (length fs) were.entries are.entries
+    → KeepsFrom first (length fs) (known_of were) (known_of are)
     → ArePooled (pool_of new) → map file_of new.files.items ≡ map file_of old.files.items ++ map record_file fs → GoesOn old new (batch_declarations o first fs)
     → AreNumbered (numbers_of marks) (map key_of (pool_of new).extensions) → map link_view ks
     ≡ map link_view ls ++ map (links_to (indexes_of has)) fs
@@ -135,7 +136,7 @@ linked_more old new were are had has marked marks ls ks at o first fs linked cou
           (subst (λ n. faults_along at (with_files (indexes_of had) first fs) (known_of were) (batch_declarations o n fs) ≡ []) from none)
           (λ s. subst (λ n. names_of (pool_of new) s ≡ names_of (pool_of old) s ++ with_names s [] (batch_declarations o n fs)) from (all_go_on old new (batch_declarations o first fs) goes s));
       below = keeps.bound (length (pool_of new).files) (omega (arith, count, from))
-          (below_more (length (pool_of old).files) (length (pool_of new).files) were.entries (omega (arith, count)) linked.below);
+          (below_more (length (pool_of old).files) (length (pool_of new).files) (known_of were) (omega (arith, count)) linked.below);
       files = indexed;
       numbers = numbered;
       imports = imports_more (indexes_of had) (indexes_of has) (pool_of old).files (pool_of new).files fs files linked.files indexed linked.imports at (known_of were) o first found;

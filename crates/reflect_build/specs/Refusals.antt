@@ -5,6 +5,7 @@ use Rattle.std.specs.BTreeMap.{BTreeMap}
 use Rattle.std.specs.Bool.{Decides}
 use Rattle.std.specs.List.{Contains}
 use Rattle.descriptor_records.specs.declared.file.FileDescriptorProto.{FileDescriptorProto}
+use Rattle.name_table.specs.declared.table.NameTable.{NameTable}
 use Rattle.reflect_scope.specs.declared.definition.Definition.{Definition}
 use Rattle.reflect_scope.specs.declared.seen.Links.{Links}
 use Rattle.reflect_walk.specs.Batches.{batch_declarations}
@@ -53,7 +54,7 @@ pub record Linking : Type 0 where
   pub before : Offsets
   pub first : ℕ
 
-abbrev pub linking : BTreeMap (String Global) ℕ → BTreeMap (String Global) Definition → List Links
+abbrev pub linking : BTreeMap (String Global) ℕ → NameTable Definition → List Links
     → Tables → BTreeMap KeyType ℕ → Offsets → ℕ → Linking
 linking file_names names links tables numbers before first =
     record {

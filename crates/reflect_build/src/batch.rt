@@ -5,7 +5,7 @@ ghost use Rattle.std.specs.List.{AllByRecursion};
 ghost use Rattle.reflect_walk.specs.Batches.{batch_declarations};
 ghost use Rattle.reflect_scope.specs.FileIndexes.{indexes_of, KeepsIndexes, link_view};
 ghost use Rattle.reflect_names.specs.ImportedFiles.{links_to};
-ghost use Rattle.reflect_scope.specs.Known.{below};
+ghost use Rattle.reflect_scope.specs.Known.{known_of, KeepsFirst};
 ghost use Rattle.reflect_growth.specs.Cut.{cut_to};
 ghost use Rattle.reflect_growth.specs.Growth.{Together, Appended};
 ghost use Rattle.reflect_tables.specs.Types.{ArePooled, AreFew, ListsMembers};
@@ -21,6 +21,7 @@ ghost use Rattle.reflect_build.specs.Refusals.{CountsOf, linking, FaultyBatch, F
 ghost use Rattle.reflect_build.specs.Accepted.{AddsRecords, FaultlessBatch, Faultless, AddsNames};
 
 use descriptor_records::FileDescriptorProto;
+use name_table::NameTable;
 use reflect_growth::{append, are_from, are_within};
 use reflect_index::rewritten;
 use reflect_names::Faults;
@@ -91,7 +92,7 @@ fn link_declared(
     tables: &mut Tables,
     links: &mut Vec<Links>,
     file_names: &BTreeMap<String, u32>,
-    names: &BTreeMap<String, Definition>,
+    names: &NameTable<Definition>,
     extension_numbers: &mut BTreeMap<(u32, u32), u32>,
 ) -> Result<(), DescriptorError>
     requires pooled { ArePooled (pool_of tables.old) }
@@ -215,7 +216,7 @@ pub fn link(
     tables: &mut Tables,
     links: &mut Vec<Links>,
     file_names: &mut BTreeMap<String, u32>,
-    names: &mut BTreeMap<String, Definition>,
+    names: &mut NameTable<Definition>,
     extension_numbers: &mut BTreeMap<(u32, u32), u32>,
 ) -> Result<(), DescriptorError>
     requires linked { IsLinked (pool_of tables.old) names.old file_names.old extension_numbers.old
@@ -224,7 +225,7 @@ pub fn link(
     requires first { first ≡ length tables.old.files.items }
     ensures unchanged { OnErr result (pool_of tables.new ≡ pool_of tables.old) }
     ensures same_messages { OnErr result (tables.new.messages.items ≡ tables.old.messages.items) }
-    ensures kept { below first names.new.entries ≡ below first names.old.entries }
+    ensures kept { KeepsFirst first (known_of names.old) (known_of names.new) }
     ensures kept_files { KeepsIndexes first (indexes_of file_names.old)
         (indexes_of file_names.new) }
     ensures grown { OnOk result (cut_to (pool_of tables.new) (length tables.old.files.items)

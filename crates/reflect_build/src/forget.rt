@@ -1,20 +1,34 @@
 //! Takes the names and numbers of files out of a pool's maps.
 
-ghost use Rattle.std.specs.Prelude.{◌≡◌, nat_lt, string_cmp};
+ghost use Rattle.std.specs.Prelude.{◌≡◌, ℕ, List, nat_lt, string_cmp};
 ghost use Rattle.std.specs.List.{filter};
 ghost use Rattle.std.specs.BTreeMap.{IsOrdered};
-ghost use Rattle.reflect_scope.specs.Known.{below};
+ghost use Rattle.reflect_scope.specs.Known.{known_of, kept_first};
 ghost use Rattle.reflect_tables.specs.ExtensionNumbers.{key_cmp};
 
+use name_table::{NameTable, ValueTest};
 use reflect_scope::Definition;
 use std::collections::BTreeMap;
 
+/// Keeps what the first so many files define.
+#[derive(Drop)]
+struct FilesBelow {
+    mark: u32,
+}
+
+impl ValueTest<Definition> for FilesBelow {
+    ghost keeps = { λ test definition. nat_lt definition.file test.mark };
+
+    fn keeps(&self, definition: &Definition) -> bool {
+        definition.file < self.mark
+    }
+}
+
 /// Leaves only the names of the first so many files.
-pub fn forget_names(names: &mut BTreeMap<String, Definition>, mark: u32)
-    ensures entries { names.new.entries ≡ below mark names.old.entries }
-    ensures was_ordered { IsOrdered string_cmp names.old }
+pub fn forget_names(names: &mut NameTable<Definition>, mark: u32)
+    ensures { (t : List ℕ) → known_of names.new t ≡ kept_first mark (known_of names.old t) }
 {
-    names.retain(|_, definition| definition.file < mark);
+    names.retain(&FilesBelow { mark });
 }
 
 /// Leaves only the names of the first so many files, as names of files.

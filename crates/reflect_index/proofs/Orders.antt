@@ -5,6 +5,7 @@ use Rattle.std.proofs.lemmas.Option.{same_Some}
 use Rattle.reflect_walk.specs.Declarations.{Declaration}
 use Rattle.reflect_walk.specs.declared.visit_parts.Offsets.{Offsets}
 use Rattle.reflect_scope.specs.declared.definition.Definition.{Definition}
+use Rattle.reflect_scope.specs.Known.{kept_first}
 use Rattle.reflect_tables.specs.Names.{Sort, with_file, FullName, AreFound, AreInOrder, place_in, place_of}
 use Rattle.reflect_known.specs.DeclaredNames.{is_of, with_name, with_names}
 use Rattle.reflect_index.proofs.Counted.{AreNext, past_one}
@@ -117,11 +118,6 @@ order_first mark (x ∷ xs) up = by (nat_lt x.1 mark) (order_first mark xs up.1)
   by : (b : Bool) → AreInOrder (first_names mark xs) → AreInOrder (cond b (x ∷ first_names mark xs) (first_names mark xs))
   by true inner = (all_first (λ y. x.1 ≤ y.1) mark xs up.0, inner)
   by false inner = inner
-
--- the definitions of the files below the mark
-abbrev pub kept_first : ℕ → Option Definition → Option Definition
-kept_first mark None = None
-kept_first mark (Some d) = cond (nat_lt d.file mark) (Some d) None
 
 pub found_kept : (s : Sort) (mark : ℕ) (o : Option Definition) → place_in s (kept_first mark o) ≡ only mark (place_in s o)
 found_kept s mark None = refl

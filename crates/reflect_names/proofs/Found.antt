@@ -4,7 +4,7 @@ use Rattle.reflect_names.specs.Faults.{Fault}
 use Rattle.reflect_names.specs.References.{Target, View}
 use Rattle.reflect_names.specs.ReferenceSteps.{Finds, IsSame, target_of, view_of}
 use Rattle.reflect_names.specs.declared.resolve_visitor.ResolveVisitor.{ResolveVisitor}
-use Rattle.std.specs.BTreeMap.{get_by_text}
+use Rattle.reflect_scope.specs.Known.{known_of}
 use Rattle.reflect_scope.specs.Seen.{tells}
 use Rattle.reflect_names.proofs.Added.{adds_on}
 
@@ -15,4 +15,4 @@ finds_on s t u xs ys ws vs a b = record {
 }
 
 pub same_view : (s t : ResolveVisitor) → IsSame s t → view_of t ≡ view_of s
-same_view s t a = ap {B = View} (λ m. record { known = λ n. get_by_text m n; sees = tells t.seen }) a.names ∙ ap {B = View} (λ x. record { known = λ n. get_by_text s.names.now n; sees = tells x }) a.seen
+same_view s t a = ap {B = View} (λ m. record { known = known_of m; sees = tells t.seen }) a.names ∙ ap {B = View} (λ x. record { known = known_of s.names.now; sees = tells x }) a.seen

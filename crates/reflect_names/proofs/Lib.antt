@@ -1,6 +1,6 @@
 pub mod Added
 pub mod SpanRuns
-pub mod Entries
+pub mod Declared
 pub mod Packages
 pub mod Found
 pub mod NameRuns

@@ -4,7 +4,7 @@ use Rattle.std.proofs.Math.Path.{fun_ext}
 use Rattle.std.specs.BTreeMap.{get_by_text}
 use Rattle.reflect_walk.specs.Declarations.{Declaration, Runs}
 use Rattle.reflect_walk.specs.Batches.{KeptBy}
-use Rattle.reflect_scope.specs.Known.{known_of, below, AllBelow}
+use Rattle.reflect_scope.specs.Known.{known_of, kept_first, AllBelow}
 use Rattle.reflect_names.specs.Faults.{Adds, place_at}
 use Rattle.reflect_known.specs.KnownNames.{known_behind}
 use Rattle.reflect_names.specs.NamePass.{faults_along}
@@ -33,17 +33,17 @@ ran s (d ∷ ds) t (m, (step, rest)) =
       faults = adds_on s.faults m.faults t.faults _ _ step.faults later;
     }
 
--- the entries that a walk over files leaves
-pub kept : (i n : ℕ) (s t : NameVisitor) → KeptBy Keeps i n s t → KeepsFrom i n s.names.entries t.names.entries
+-- what a walk over files leaves of what was known
+pub kept : (i n : ℕ) (s t : NameVisitor) → KeptBy Keeps i n s t → KeepsFrom i n (known_of s.names) (known_of t.names)
 kept i zero s t e = record {
-  below = λ mark le. ap (λ x. below mark x.names.entries) e;
-  bound = λ top le all. subst (λ x. AllBelow top x.names.entries) (sym e) all;
+  kept = λ mark le u. ap (λ x. kept_first mark (known_of x.names u)) e;
+  bound = λ top le all. subst (λ x. AllBelow top (known_of x.names)) (sym e) all;
 }
 kept i (suc n) s t (m, before, now) =
     let r = kept i n s m before in
     record {
-      below = λ mark le. now.entries.below mark (omega (arith, le)) ∙ r.below mark le;
-      bound = λ top le all. now.entries.bound top (omega (arith, le)) (r.bound top (omega (arith, le)) all);
+      kept = λ mark le u. now.known.kept mark (omega (arith, le)) u ∙ r.kept mark le u;
+      bound = λ top le all. now.known.bound top (omega (arith, le)) (r.bound top (omega (arith, le)) all);
     }
 
 pub kept_files : (i n : ℕ) (s t : NameVisitor) → KeptBy Keeps i n s t → t.file_names.now ≡ s.file_names.now

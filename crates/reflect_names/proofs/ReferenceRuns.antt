@@ -2,7 +2,6 @@
 use Rattle.std.proofs.Common.{◌≡◌, ◌<◌, ◌≤◌, ◌↔◌, ℕ, zero, suc, ℤ, pos, List, [], ◌∷◌, ◌++◌, ◌+◌, map, ap, sym, ◌∙◌, subst, append_assoc, arith, refl, Bool, true, false, cond, nat_lt, IsTrue, Option, Some, None, length}
 use Rattle.std.proofs.Math.Path.{fun_ext}
 use Rattle.std.proofs.lemmas.List.{append-nil}
-use Rattle.std.specs.BTreeMap.{get_by_text}
 use Rattle.reflect_scope.specs.Means.{join}
 use Rattle.reflect_scope.specs.Seen.{tells}
 use Rattle.reflect_scope.specs.Sees.{Sees}
@@ -104,7 +103,7 @@ ran views file s [] t parts view e = record {
 }
 ran views file s (d ∷ ds) t parts view (m, (step, rest)) =
     let seen = stays s d m parts.0.0 step.looks in
-    let same : view_of m ≡ view_of s = ap {B = View} (λ x. record { known = λ n. get_by_text x n; sees = tells m.seen }) step.names ∙ ap {B = View} (λ f. record { known = λ n. get_by_text s.names.now n; sees = f }) seen in
+    let same : view_of m ≡ view_of s = ap {B = View} (λ x. record { known = known_of x; sees = tells m.seen }) step.names ∙ ap {B = View} (λ f. record { known = known_of s.names.now; sees = f }) seen in
     let here : view_of s ≡ views d.file = view ∙ ap views (sym parts.0.1) in
     let places : place_at m.faults ≡ place_at s.faults = fun_ext (same_places s.faults m.faults _ step.faults) in
     let later = subst (λ p. Finds m t (targets_along views ds) (reference_faults_along p views ds)) places (ran views file m ds t parts.1 (same ∙ view) rest) in
@@ -124,7 +123,7 @@ record Resolved (s : ResolveVisitor) (o : Offsets) (file : ℕ) (f : FileDescrip
 
 resolved : (s : ResolveVisitor) (o : Offsets) (file : ℕ) (f : FileDescriptorProto) (t : ResolveVisitor) → Runs Refers s (file_declarations o file f) t → Resolved s o file f t
 resolved s o file f t (m, (step, rest)) =
-    let view : view_of m ≡ record { known = known_of s.names.now; sees = tells m.seen } = ap {B = View} (λ x. record { known = λ n. get_by_text x n; sees = tells m.seen }) step.names in
+    let view : view_of m ≡ record { known = known_of s.names.now; sees = tells m.seen } = ap {B = View} (λ x. record { known = known_of x; sees = tells m.seen }) step.names in
     let places : place_at m.faults ≡ place_at s.faults = fun_ext (same_places s.faults m.faults _ step.faults) in
     record {
       sees = tells m.seen;

@@ -1,7 +1,6 @@
 -- What the visitor of references does at a declaration.
 use Rattle.std.specs.Prelude.{◌≡◌, ◌<◌, ◌↔◌, ℕ, List, ◌++◌, map, length, IsTrue, refl, string_bytes}
 use Rattle.std.proofs.Common.{◌∙◌}
-use Rattle.std.specs.BTreeMap.{get_by_text}
 use Rattle.descriptor_records.specs.declared.file.FileDescriptorProto.{FileDescriptorProto}
 use Rattle.reflect_scope.specs.Seen.{tells}
 use Rattle.reflect_scope.specs.Sees.{Sees}
@@ -18,7 +17,7 @@ abbrev pub target_of : Reference → Target
 target_of r = (string_bytes r.name, r.definition)
 
 abbrev pub view_of : ResolveVisitor → View
-view_of s = record { known = λ n. get_by_text s.names.now n; sees = tells s.seen }
+view_of s = record { known = known_of s.names.now; sees = tells s.seen }
 
 -- at a file: what it sees is seen from then on; elsewhere that stays
 abbrev pub Looks : ResolveVisitor → Declaration → ResolveVisitor → Type 0

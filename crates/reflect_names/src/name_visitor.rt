@@ -11,6 +11,7 @@ use descriptor_records::{
     DescriptorProto, EnumDescriptorProto, EnumValueDescriptorProto, FieldDescriptorProto,
     FileDescriptorProto, MethodDescriptorProto, OneofDescriptorProto, ServiceDescriptorProto, tag,
 };
+use name_table::NameTable;
 use reflect_scope::{Definition, DefinitionKind};
 use reflect_walk::{Offsets, VisitError, Visitor, visit_all};
 use std::alloc::Global;
@@ -24,7 +25,7 @@ use std::collections::BTreeMap;
 /// of a name stays. A file's package declares each part of its name up to a dot too.
 #[derive(Drop)]
 pub struct NameVisitor<'a> {
-    names: BTreeMap<String, Definition>,
+    names: NameTable<Definition>,
     faults: Faults<'a>,
     file_names: &'a BTreeMap<String, u32>,
 }
@@ -40,11 +41,11 @@ impl<'a> NameVisitor<'a> {
     /// Adds to `names` and `faults`. `file_names` has the indexes of all files, old and new, by
     /// their names.
     pub fn new(
-        names: BTreeMap<String, Definition>,
+        names: NameTable<Definition>,
         faults: Faults<'a>,
         file_names: &'a BTreeMap<String, u32>,
     ) -> NameVisitor<'a>
-        ensures names { result.names.entries ≡ names.entries }
+        ensures names { known_of result.names ≡ known_of names }
         ensures faults { result.faults ≡ faults.entry }
         ensures file_names { result.file_names.now ≡ file_names.now }
     {
@@ -69,8 +70,8 @@ impl<'a> NameVisitor<'a> {
         ensures faults { OnOk result (Adds self.old.faults self.new.faults
             (faults_along (place_at self.old.faults) (λ n. get_by_text self.old.file_names.now n)
             (known_of self.old.names) (batch_declarations before first files.now))) }
-        ensures keeps { KeepsFrom first (length files.now) self.old.names.entries
-            self.new.names.entries }
+        ensures keeps { KeepsFrom first (length files.now) (known_of self.old.names)
+            (known_of self.new.names) }
         ensures file_names { self.new.file_names.now ≡ self.old.file_names.now }
         ensures counts { IfOk result (λ o. o ≡ past_files before files.now) }
     {
@@ -79,8 +80,8 @@ impl<'a> NameVisitor<'a> {
     }
 
     /// The names, with those that were declared since, and the faults.
-    pub fn into_parts(self) -> (BTreeMap<String, Definition>, Faults<'a>)
-        ensures names { result.0.entries ≡ self.entry.names.entries }
+    pub fn into_parts(self) -> (NameTable<Definition>, Faults<'a>)
+        ensures names { known_of result.0 ≡ known_of self.entry.names }
         ensures faults { result.1 ≡ self.entry.faults }
     {
         let NameVisitor {

@@ -4,15 +4,15 @@ ghost use Rattle.reflect_scope.specs.Known.{known_of, declared, may_repeat as re
 ghost use Rattle.reflect_names.specs.Faults.{Adds, place_at};
 ghost use Rattle.reflect_known.specs.KnownNames.{named, packages, package_of};
 ghost use Rattle.reflect_names.specs.Names.{taken, name_faults, package_faults, syntax_faults};
-ghost use Rattle.reflect_names.specs.NameSteps.{KeepsEntries};
+ghost use Rattle.reflect_names.specs.NameSteps.{KeepsKnown};
 
 use crate::error::DescriptorErrorKind;
 use crate::faults::Faults;
 use crate::required::require;
 use descriptor_records::tag;
+use name_table::NameTable;
 use reflect_scope::{Definition, DefinitionKind, outer_of};
 use std::alloc::{AllocError, Global};
-use std::collections::BTreeMap;
 
 fn may_repeat(first: DefinitionKind, next: DefinitionKind) -> bool
     ensures { result ≡ repeats first next }
@@ -24,7 +24,7 @@ fn may_repeat(first: DefinitionKind, next: DefinitionKind) -> bool
 /// of a name stays.
 fn declare(
     alloc: Global,
-    names: &mut BTreeMap<String, Definition>,
+    names: &mut NameTable<Definition>,
     faults: &mut Faults<'_>,
     path: &[i32],
     tag: i32,
@@ -36,14 +36,10 @@ fn declare(
     ensures faults { OnOk result (Adds faults.old faults.new
         (taken (place_at faults.old definition.file) (known_of names.old) path.now tag full_name.now
         definition)) }
-    ensures keeps { KeepsEntries definition.file names.old.entries names.new.entries }
+    ensures keeps { KeepsKnown definition.file (known_of names.old) (known_of names.new) }
 {
-    match names.get(full_name).copied() {
-        None => {
-            let name = String::from_str(alloc, full_name)?;
-            names.insert(name, definition)?;
-            Ok(())
-        }
+    match names.insert_first(alloc, full_name, definition)? {
+        None => Ok(()),
         Some(first) => {
             if may_repeat(first.kind, definition.kind) {
                 return Ok(());
@@ -58,7 +54,7 @@ fn declare(
 /// Declares what has a name, or lists that it has none.
 pub fn declare_named(
     alloc: Global,
-    names: &mut BTreeMap<String, Definition>,
+    names: &mut NameTable<Definition>,
     faults: &mut Faults<'_>,
     path: &[i32],
     full_name: &str,
@@ -70,7 +66,7 @@ pub fn declare_named(
     ensures faults { OnOk result (Adds faults.old faults.new
         (name_faults (place_at faults.old definition.file) (known_of names.old) path.now
         full_name.now (is_some name.now) definition)) }
-    ensures keeps { KeepsEntries definition.file names.old.entries names.new.entries }
+    ensures keeps { KeepsKnown definition.file (known_of names.old) (known_of names.new) }
 {
     if name.is_some() {
         declare(
@@ -98,7 +94,7 @@ pub fn declare_named(
 /// Declares a package, and each part of its name up to a dot.
 pub fn declare_package(
     alloc: Global,
-    names: &mut BTreeMap<String, Definition>,
+    names: &mut NameTable<Definition>,
     faults: &mut Faults<'_>,
     file: u32,
     full_name: &str,
@@ -108,7 +104,7 @@ pub fn declare_package(
     ensures faults { OnOk result (Adds faults.old faults.new
         (package_faults (place_at faults.old file) (known_of names.old) file
         (scopes full_name.now))) }
-    ensures keeps { KeepsEntries file names.old.entries names.new.entries }
+    ensures keeps { KeepsKnown file (known_of names.old) (known_of names.new) }
 {
     let definition = Definition {
         file,

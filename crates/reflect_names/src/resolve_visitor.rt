@@ -7,12 +7,12 @@ use descriptor_records::{
     DescriptorProto, EnumDescriptorProto, EnumValueDescriptorProto, FieldDescriptorProto,
     FileDescriptorProto, MethodDescriptorProto, OneofDescriptorProto, ServiceDescriptorProto, tag,
 };
+use name_table::NameTable;
 use reflect_scope::{
     Definition, DefinitionKind, Links, ResolveNameError, ResolveNameFilter, SeenFiles, resolve_name,
 };
 use reflect_walk::{Offsets, VisitError, Visitor, visit_all};
 use std::alloc::{AllocError, Global};
-use std::collections::BTreeMap;
 
 /// What a reference means.
 #[derive(Drop)]
@@ -32,7 +32,7 @@ pub struct Reference {
 pub struct ResolveVisitor<'a> {
     references: Vec<Reference>,
     faults: Faults<'a>,
-    names: &'a BTreeMap<String, Definition>,
+    names: &'a NameTable<Definition>,
     links: &'a [Links],
     seen: SeenFiles,
 }
@@ -98,7 +98,7 @@ impl<'a> ResolveVisitor<'a> {
     pub fn new(
         alloc: Global,
         faults: Faults<'a>,
-        names: &'a BTreeMap<String, Definition>,
+        names: &'a NameTable<Definition>,
         links: &'a [Links],
     ) -> ResolveVisitor<'a>
         ensures references { result.references.items ≡ [] }

@@ -1,13 +1,8 @@
 -- The faults that a batch's walks list.
-use Rattle.std.proofs.Common.{◌≡◌, ℕ, List, [], ◌++◌, inr, map, String, Global, string_bytes, Result, Err, IfErr, ap, sym, subst, ◌∙◌}
+use Rattle.std.proofs.Common.{◌≡◌, ℕ, List, [], ◌++◌, inr, map, Result, Err, IfErr, ap, sym, subst, ◌∙◌}
 use Rattle.std.proofs.Math.Path.{fun_ext}
 use Rattle.std.proofs.lemmas.Result.{IfErr-weaker}
-use Rattle.std.specs.BTreeMap.{BTreeMap, is_at}
-use Rattle.std.specs.Map.{lookup}
-use Rattle.std.specs.Cmp.Lexicographic.{slice_cmp}
-use Rattle.std.specs.Ordering.{nat_cmp}
 use Rattle.descriptor_records.specs.declared.file.FileDescriptorProto.{FileDescriptorProto}
-use Rattle.reflect_scope.specs.declared.definition.Definition.{Definition}
 use Rattle.reflect_scope.specs.declared.seen.Links.{Links}
 use Rattle.reflect_walk.specs.Batches.{batch_declarations}
 use Rattle.reflect_walk.specs.declared.visit_parts.Offsets.{Offsets}
@@ -33,9 +28,6 @@ refused_by r xs Are are err = IfErr-weaker r (λ e. faults_of e ≡ xs) (λ e. R
 
 pub refused_as : {T : Type 0} (r : Result T DescriptorError) (e : DescriptorError) (Are : List Fault → Type 0) → r ≡ Err e → Are (faults_of e) → IfErr r (λ e. Refuses Are e)
 refused_as r e Are is are = subst (λ x. IfErr x (λ e. Refuses Are e)) (sym is) (inr are)
-
-pub same_known : (a b : BTreeMap (String Global) Definition) → a.entries ≡ b.entries → known_of a ≡ known_of b
-same_known a b same = ap {B = Known} (λ es. λ t. lookup (is_at (λ k. slice_cmp nat_cmp t (string_bytes k))) es) same
 
 -- the places of the faults of these files
 pub places : (f : Faults) (files : List FileDescriptorProto) (first : ℕ) → f.files.now ≡ files → f.first ≡ first → place_at f ≡ batch_places files first

@@ -18,6 +18,7 @@ ghost use Rattle.reflect_passes.specs.NameFaults.{name_faults, ReferenceFaults};
 use crate::error::DescriptorError;
 use crate::linked_types::LinkedTypes;
 use descriptor_records::FileDescriptorProto;
+use name_table::NameTable;
 use reflect_names::{
     Definition, DescriptorErrorKind, Faults, Links, NameVisitor, Offsets, Reference,
     ResolveVisitor, VisitError, name_files,
@@ -65,7 +66,7 @@ pub fn declare_names(
     first: u32,
     files: &[FileDescriptorProto],
     file_names: &mut BTreeMap<String, u32>,
-    names: &mut BTreeMap<String, Definition>,
+    names: &mut NameTable<Definition>,
 ) -> Result<(), DescriptorError>
     ensures ok { OnOk result (name_faults (indexes_of file_names.old) (known_of names.old) before
         first files.now ≡ []) }
@@ -76,7 +77,7 @@ pub fn declare_names(
     ensures err { IfErr result (λ e. Refuses
         (λ xs. xs ≡ name_faults (indexes_of file_names.old) (known_of names.old) before first
         files.now) e) }
-    ensures keeps { KeepsFrom first (length files.now) names.old.entries names.new.entries }
+    ensures keeps { KeepsFrom first (length files.now) (known_of names.old) (known_of names.new) }
     ensures keeps_files { KeepsIndexes first (indexes_of file_names.old)
         (indexes_of file_names.new) }
 {
@@ -84,7 +85,7 @@ pub fn declare_names(
     if let Err(error) = name_files(alloc, file_names, first, files, &mut faults) {
         return Err(walk_error(alloc, error));
     }
-    let known = mem::replace(names, BTreeMap::new(alloc));
+    let known = mem::replace(names, NameTable::new(alloc));
     let mut visitor = NameVisitor::new(known, faults, &*file_names);
     let declared = visitor.declare_files(alloc, before, first, files);
     let (all, faults) = visitor.into_parts();
@@ -103,7 +104,7 @@ pub fn resolve_references(
     before: Offsets,
     first: u32,
     files: &[FileDescriptorProto],
-    names: &BTreeMap<String, Definition>,
+    names: &NameTable<Definition>,
     links: &[Links],
 ) -> Result<Vec<Reference>, DescriptorError>
     ensures ok { IfOk result (λ references. BatchReferences (known_of names.now) links.now

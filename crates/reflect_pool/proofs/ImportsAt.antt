@@ -8,6 +8,7 @@ use Rattle.std.proofs.lemmas.Option.{slice_get-get_or, slice_get_within, get_or_
 use Rattle.std.proofs.lemmas.List.Elements.{All-from_recursion}
 use Rattle.std.specs.List.{All, AllByRecursion, Contains, cons_option, filter_map}
 use Rattle.std.specs.BTreeMap.{BTreeMap}
+use Rattle.name_table.specs.declared.table.NameTable.{NameTable}
 use Rattle.reflect_scope.specs.declared.definition.Definition.{Definition}
 use Rattle.reflect_scope.specs.declared.seen.Links.{Links}
 use Rattle.reflect_scope.specs.FileIndexes.{Indexes, indexes_of, link_view, is_index}
@@ -88,7 +89,7 @@ module _ (indexes : Indexes) (files : List FileType) (are : AreIndexed indexes (
   publicly_imported_there = all_given (λ place. place < length files) (import_at indexes f.imports) publicly_there f.public_imports
 
 -- the links of a pool's files
-module _ (q pool : PoolType) (names : BTreeMap (String Global) Definition) (file_names : BTreeMap (String Global) ℕ) (places : BTreeMap KeyType ℕ) (links : List Links)
+module _ (q pool : PoolType) (names : NameTable Definition) (file_names : BTreeMap (String Global) ℕ) (places : BTreeMap KeyType ℕ) (links : List Links)
     {messages : List StoredMessage} (same : q ≡ pool)
     (linked : IsLinked q names file_names places links messages) where
   here : IsLinked pool names file_names places links messages

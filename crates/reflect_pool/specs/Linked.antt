@@ -2,6 +2,7 @@
 use Rattle.std.specs.Prelude.{◌≡◌, ℕ, List, [], Some, map, length, slice_get, String}
 use Rattle.std.specs.declared.alloc.Global.{Global}
 use Rattle.std.specs.BTreeMap.{BTreeMap}
+use Rattle.name_table.specs.declared.table.NameTable.{NameTable}
 use Rattle.reflect_scope.specs.declared.definition.Definition.{Definition}
 use Rattle.reflect_scope.specs.declared.seen.Links.{Links}
 use Rattle.reflect_scope.specs.FileIndexes.{Indexes, indexes_of, link_view}
@@ -53,12 +54,12 @@ AreRecorded p =
 -- extension's message and number for the extension; what files import is there, and the links are
 -- to it; the files are those of the records, and what is known, the names of the entries, and what
 -- is stored of the messages, is what the records give
-pub record IsLinked (p : PoolType) (names : BTreeMap (String Global) Definition)
+pub record IsLinked (p : PoolType) (names : NameTable Definition)
     (file_names : BTreeMap (String Global) ℕ) (places : BTreeMap KeyType ℕ)
     (links : List Links) (messages : List StoredMessage) : Type 0 where
   pub pooled : ArePooled p
   pub named : AreNamed (known_of names) (names_of p)
-  pub below : AllBelow (length p.files) names.entries
+  pub below : AllBelow (length p.files) (known_of names)
   pub files : AreIndexed (indexes_of file_names) (names_of_files p.files)
   pub numbers : AreNumbered (numbers_of places) (map key_of p.extensions)
   pub imports : ImportsAreThere p

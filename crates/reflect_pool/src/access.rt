@@ -16,9 +16,9 @@ use crate::enums::EnumDescriptor;
 use crate::extension::ExtensionDescriptor;
 use crate::message::MessageDescriptor;
 use crate::pool::{DescriptorPool, kind_of};
+use name_table::NameTable;
 use reflect_scope::{Definition, DefinitionKind, Links};
 use reflect_tables::{Children, Counts, Declared, Tables};
-use std::collections::BTreeMap;
 
 impl DescriptorPool {
     /// All that the pool keeps of its files' declarations.
@@ -58,7 +58,7 @@ impl DescriptorPool {
     }
 
     /// What the full names stand for.
-    pub fn names(&self) -> &BTreeMap<String, Definition>
+    pub fn names(&self) -> &NameTable<Definition>
         ensures { AreNamed (known_of result.now) (names_of self.now) }
     {
         &self.names

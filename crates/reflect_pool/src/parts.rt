@@ -6,6 +6,7 @@ ghost use Rattle.reflect_pool.specs.Linked.{IsLinked};
 
 use crate::blank::Blanks;
 use crate::pool::DescriptorPool;
+use name_table::NameTable;
 use reflect_scope::{Definition, Links};
 use reflect_tables::Tables;
 use std::collections::BTreeMap;
@@ -19,7 +20,7 @@ pub struct PoolParts {
     /// The places of the files, by their names.
     pub file_names: BTreeMap<String, u32>,
     /// What the full names stand for.
-    pub names: BTreeMap<String, Definition>,
+    pub names: NameTable<Definition>,
     /// The places of the extensions, by the message that they extend and their number.
     pub extension_numbers: BTreeMap<(u32, u32), u32>,
 }

@@ -11,6 +11,7 @@ use crate::blank::Blanks;
 use crate::enums::EnumDescriptor;
 use crate::extension::ExtensionDescriptor;
 use crate::message::MessageDescriptor;
+use name_table::NameTable;
 use reflect_scope::{Definition, DefinitionKind, Links};
 use reflect_tables::Tables;
 use std::alloc::Global;
@@ -28,7 +29,7 @@ pub struct DescriptorPool {
     /// The places of the files, by their names.
     pub(crate) file_names: BTreeMap<String, u32>,
     /// What the full names stand for.
-    pub(crate) names: BTreeMap<String, Definition>,
+    pub(crate) names: NameTable<Definition>,
     /// The places of the extensions, by the message that they extend and their number.
     pub(crate) extension_numbers: BTreeMap<(u32, u32), u32>,
     pub(crate) blanks: Blanks,
@@ -61,14 +62,14 @@ fn without_dot(name: &str) -> &str
 }
 
 /// What a full name stands for, which may have one leading dot.
-pub(crate) fn kind_of(names: &BTreeMap<String, Definition>, name: &str) -> Option<DefinitionKind>
+pub(crate) fn kind_of(names: &NameTable<Definition>, name: &str) -> Option<DefinitionKind>
     ensures { result ≡ option_map (λ d. d.kind) (known_of names.now (without_dot name.now)) }
 {
     kind_named(names, without_dot(name))
 }
 
 /// What a full name without a leading dot stands for.
-fn kind_named(names: &BTreeMap<String, Definition>, name: &str) -> Option<DefinitionKind>
+fn kind_named(names: &NameTable<Definition>, name: &str) -> Option<DefinitionKind>
     ensures { result ≡ option_map (λ d. d.kind) (known_of names.now name.now) }
 {
     Some(names.get(name)?.kind)
@@ -86,7 +87,7 @@ impl DescriptorPool {
             tables: Tables::new(alloc),
             links: Vec::new(alloc),
             file_names: BTreeMap::new(alloc),
-            names: BTreeMap::new(alloc),
+            names: NameTable::new(alloc),
             extension_numbers: BTreeMap::new(alloc),
             blanks: Blanks::new(alloc),
         }

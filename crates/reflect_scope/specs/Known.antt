@@ -1,10 +1,7 @@
 -- What full names stand for, as a function, and how declarations add to it.
-use Rattle.std.specs.declared.alloc.Global.{Global}
-use Rattle.std.specs.Prelude.{◌<◌, ℕ, List, [], ◌∷◌, Bool, true, false, ◌&&◌, Option, Some, None, nat_lt, String}
-use Rattle.std.specs.List.{filter}
-use Rattle.std.specs.Map.{update}
-use Rattle.std.specs.Str.{bytes_eq}
-use Rattle.std.specs.BTreeMap.{BTreeMap, get_by_text}
+use Rattle.std.specs.Prelude.{◌≡◌, ◌<◌, ℕ, List, Bool, true, false, ◌&&◌, Option, Some, None, IfSome, nat_lt}
+use Rattle.name_table.specs.Known.{known_in, first_stays, kept}
+use Rattle.name_table.specs.declared.table.NameTable.{NameTable}
 use Rattle.reflect_scope.specs.declared.definition.Definition.{Definition}
 use Rattle.reflect_scope.specs.declared.definition.DefinitionKind.{DefinitionKind}
 use Rattle.reflect_scope.specs.declared.definition.DefinitionKind.TheVariants as kind
@@ -12,8 +9,8 @@ use Rattle.reflect_scope.specs.declared.definition.DefinitionKind.TheVariants as
 abbrev pub Known : Type 0
 Known = List ℕ → Option Definition
 
-abbrev pub known_of : BTreeMap (String Global) Definition → Known
-known_of m = λ t. get_by_text m t
+abbrev pub known_of : NameTable Definition → Known
+known_of names = known_in names
 
 abbrev pub is_package : DefinitionKind → Bool
 is_package kind.Package = true
@@ -25,19 +22,21 @@ may_repeat first next = is_package first && is_package next
 
 -- the first definition of a name stays
 abbrev pub declared : Known → List ℕ → Definition → Known
-declared known name d = elim (known name)
-    [ None ↦ update bytes_eq known name (Some d) | Some e ↦ known ]
+declared known name d = first_stays known name d
 
 -- the name is taken by what may not repeat
 abbrev pub is_taken : Known → List ℕ → Definition → Bool
 is_taken known name d = elim (known name)
     [ None ↦ false | Some e ↦ elim (may_repeat e.kind d.kind) [ true ↦ false | false ↦ true ] ]
 
--- the entries of the files below the mark
-abbrev pub below : ℕ → List (String Global × Definition) → List (String Global × Definition)
-below mark es = filter (λ e. nat_lt e.1.file mark) es
+-- the definition, if it is of a file below the mark
+abbrev pub kept_first : ℕ → Option Definition → Option Definition
+kept_first mark found = kept (λ d. nat_lt d.file mark) found
 
--- each entry is of a file below the top
-abbrev pub AllBelow : ℕ → List (String Global × Definition) → Type 0
-AllBelow top [] = Unit {0}
-AllBelow top (e ∷ es) = (e.1.file < top) × AllBelow top es
+-- the files below the mark define the same
+abbrev pub KeepsFirst : ℕ → Known → Known → Type 0
+KeepsFirst mark old new = (t : List ℕ) → kept_first mark (new t) ≡ kept_first mark (old t)
+
+-- each definition is of a file below the top
+abbrev pub AllBelow : ℕ → Known → Type 0
+AllBelow top known = (t : List ℕ) → IfSome (known t) (λ d. d.file < top)

@@ -1,13 +1,13 @@
 ghost use Rattle.std.specs.Prelude.{◌≡◌, ℕ, ◌+◌, ◌<◌, ◌≤◌, IfOk, OnOk, string_bytes, false};
-ghost use Rattle.std.specs.BTreeMap.{get_by_text};
+ghost use Rattle.reflect_scope.specs.Known.{known_of};
 ghost use Rattle.reflect_scope.specs.Seen.{tells};
 ghost use Rattle.reflect_scope.specs.Says.{Means, Tells};
 ghost use Rattle.reflect_scope.specs.Means.{join, outer, is_wanted as takes, is_seen as sees, standing, is_holder as holds, Answers, resolve, undotted, dotted, settled, rooted, scopes, marks, missing};
 
 use crate::definition::{Definition, DefinitionKind, ResolveNameFilter};
 use crate::seen::SeenFiles;
+use name_table::NameTable;
 use std::alloc::{AllocError, Global};
-use std::collections::BTreeMap;
 
 /// What a name means: a full name, without a leading dot, and what is defined there.
 #[derive(Drop)]
@@ -160,13 +160,13 @@ fn unresolved(passed: bool) -> ResolveNameError
 fn in_scopes(
     alloc: Global,
     dependencies: &SeenFiles,
-    names: &BTreeMap<String, Definition>,
+    names: &NameTable<Definition>,
     scope: &str,
     name: &str,
     filter: ResolveNameFilter,
 ) -> Result<Resolved, ResolveNameError>
     ensures { Answers result (undotted
-        (λ p. standing (tells dependencies.now) filter (get_by_text names.now (join p name.now)))
+        (λ p. standing (tells dependencies.now) filter (known_of names.now (join p name.now)))
         name.now (scopes scope.now) false) }
 {
     let mut full_name = String::new(alloc);
@@ -174,7 +174,7 @@ fn in_scopes(
     let mut passed = false;
     'scopes: loop {
         write_joined(&mut full_name, scope, name)?;
-        let found = names.get(full_name.as_str()).copied();
+        let found = names.get(full_name.as_str());
         let here = standing_of(dependencies, filter, found);
         if let Standing::Wanted(definition) = here {
             return Ok(Resolved {
@@ -209,23 +209,23 @@ fn settle(standing: Standing, full_name: String) -> Result<Resolved, ResolveName
 fn by_first_part(
     alloc: Global,
     dependencies: &SeenFiles,
-    names: &BTreeMap<String, Definition>,
+    names: &NameTable<Definition>,
     scope: &str,
     first: &str,
     name: &str,
     filter: ResolveNameFilter,
 ) -> Result<Resolved, ResolveNameError>
-    ensures { Answers result (dotted (λ p. holds (get_by_text names.now (join p first.now)))
-        (λ p. standing (tells dependencies.now) filter (get_by_text names.now (join p name.now)))
+    ensures { Answers result (dotted (λ p. holds (known_of names.now (join p first.now)))
+        (λ p. standing (tells dependencies.now) filter (known_of names.now (join p name.now)))
         name.now (scopes scope.now)) }
 {
     let mut full_name = String::new(alloc);
     let mut scope = scope;
     'scopes: loop {
         write_joined(&mut full_name, scope, first)?;
-        if is_holder(names.get(full_name.as_str()).copied()) {
+        if is_holder(names.get(full_name.as_str())) {
             write_joined(&mut full_name, scope, name)?;
-            let found = names.get(full_name.as_str()).copied();
+            let found = names.get(full_name.as_str());
             return settle(standing_of(dependencies, filter, found), full_name);
         }
         if scope.is_empty() {
@@ -238,15 +238,15 @@ fn by_first_part(
 fn by_full_name(
     alloc: Global,
     dependencies: &SeenFiles,
-    names: &BTreeMap<String, Definition>,
+    names: &NameTable<Definition>,
     full_name: &str,
     filter: ResolveNameFilter,
 ) -> Result<Resolved, ResolveNameError>
     ensures { Answers result (rooted
-        (standing (tells dependencies.now) filter (get_by_text names.now full_name.now))
+        (standing (tells dependencies.now) filter (known_of names.now full_name.now))
         full_name.now) }
 {
-    match standing_of(dependencies, filter, names.get(full_name).copied()) {
+    match standing_of(dependencies, filter, names.get(full_name)) {
         Standing::Wanted(definition) => Ok(Resolved {
             full_name: String::from_str(alloc, full_name)?,
             definition,
@@ -269,16 +269,16 @@ fn by_full_name(
 pub fn resolve_name(
     alloc: Global,
     dependencies: &SeenFiles,
-    names: &BTreeMap<String, Definition>,
+    names: &NameTable<Definition>,
     scope: &str,
     name: &str,
     filter: ResolveNameFilter,
 ) -> Result<Resolved, ResolveNameError>
     // `resolve` goes from scope to scope; `Means` says the same of all scopes at once.
     ensures answers { Answers result
-        (resolve (λ t. get_by_text names.now t) (tells dependencies.now) filter
+        (resolve (known_of names.now) (tells dependencies.now) filter
         scope.now name.now) }
-    ensures means { Tells (Means (λ t. get_by_text names.now t) (tells dependencies.now) filter
+    ensures means { Tells (Means (known_of names.now) (tells dependencies.now) filter
         scope.now name.now) result }
 {
     if let Some(full_name) = name.strip_prefix('.') {

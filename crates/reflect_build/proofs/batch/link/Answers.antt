@@ -37,7 +37,7 @@ returns-clause-linked c =
     let placed = subst (λ l. indexes_of has ≡ with_files indexes c.args.first l) same c.in_ok-declare_names.ensures.files in
     let named = subst (λ l. known_of are ≡ known_behind (known_of were) (batch_declarations c.args.before c.args.first l)) same c.in_ok-declare_names.ensures.names in
     let none = subst (λ l. name_faults indexes (known_of were) c.args.before c.args.first l ≡ []) same c.in_ok-declare_names.ensures.ok in
-    let keeps = subst (λ l. KeepsFrom c.args.first (length l) were.entries are.entries) same c.in_ok-declare_names.ensures.keeps in
+    let keeps = subst (λ l. KeepsFrom c.args.first (length l) (known_of were) (known_of are)) same c.in_ok-declare_names.ensures.keeps in
     by c.link_declared.result c.link_declared.ensures.pooled c.link_declared.ensures.files c.link_declared.ensures.messages c.link_declared.ensures.enums c.link_declared.ensures.extensions c.link_declared.ensures.services c.link_declared.ensures.numbered
     c.link_declared.ensures.linked c.link_declared.ensures.records c.link_declared.ensures.stored
     (λ pooled files ms es xs ss numbered links adds stored. linked_more c.args.tables.now

@@ -3,7 +3,7 @@ use Rattle.std.proofs.Math.ListN.{length-map}
 use Rattle.std.specs.List.{filter}
 use Rattle.std.proofs.lemmas.Fn.{filter_same}
 use Rattle.std.proofs.lemmas.Grind.{common_steps}
-use Rattle.reflect_names.proofs.Entries.{err_from}
+use Rattle.reflect_names.proofs.Declared.{err_from}
 use Rattle.reflect_tables.specs.Views.{extension_of, pool_of}
 use Rattle.reflect_build.specs.Refusals.{CountsOf, linking, is_unknown}
 use Rattle.reflect_build.proofs.Refused.{mapped, is_of, refused_files}
@@ -24,7 +24,7 @@ returns-then-is_err-clause-fit c =
     let count : c.len-extensions.result ≡ length (map extension_of items) = here ∙ sym (length-map items extension_of) in
     let few : FirstNumbers (length (map extension_of items)) v w = (c.forget_numbers.ensures.was_ordered, subst (λ n. w.entries ≡ filter (λ e. nat_lt e.1 n) v.entries) count c.forget_numbers.ensures.entries) in
     linked_same tables (pool_of c.link-outcome.new.tables) c.args.parts.now.names c.forget_names.new.names c.args.parts.now.file_names c.link-outcome.new.file_names c.forget_files.new.file_names c.args.parts.now.extension_numbers v w
-    c.args.parts.now.links.items c.link-outcome.new.links.items c.truncate.new.self.items c.link-outcome.new.tables.messages.items first start same (c.forget_names.ensures.entries ∙ c.link-outcome.ensures.kept) c.link-outcome.ensures.kept_files (c.forget_files.ensures.was_ordered, c.forget_files.ensures.entries) c.link-outcome.ensures.kept_numbers few
+    c.args.parts.now.links.items c.link-outcome.new.links.items c.truncate.new.self.items c.link-outcome.new.tables.messages.items first start same (λ t. c.forget_names.ensures t ∙ c.link-outcome.ensures.kept t) c.link-outcome.ensures.kept_files (c.forget_files.ensures.was_ordered, c.forget_files.ensures.entries) c.link-outcome.ensures.kept_numbers few
     c.link-outcome.ensures.kept_links (search rules) (err_from _ c.link-outcome.result (search rules) c.link-outcome.ensures.same_messages) c.requires.fit
 
 pub returns-then-is_err-clause-refused : goal.returns-then-is_err-clause-refused

@@ -14,4 +14,4 @@ returns-clause-fit c =
     let count : c.len-extensions.result ≡ length (map extension_of items) = here ∙ sym (length-map items extension_of) in
     let few : FirstNumbers (length (map extension_of items)) u v = (c.forget_numbers.ensures.was_ordered, subst (λ n. v.entries ≡ filter (λ e. nat_lt e.1 n) u.entries) count c.forget_numbers.ensures.entries) in
     linked_cut (pool_of c.args.parts.now.tables) (pool_of c.cut.new.tables) c.args.mark c.args.parts.now.names c.forget_names.new.names c.args.parts.now.file_names c.forget_files.new.file_names u v c.args.parts.now.links.items c.truncate.new.self.items
-    c.args.parts.now.tables.messages.items c.cut.new.tables.messages.items c.cut.ensures.pool c.forget_names.ensures.was_ordered c.forget_names.ensures.entries (c.forget_files.ensures.was_ordered, c.forget_files.ensures.entries) few (search rules) refl c.cut.ensures.messages c.requires.fit c.requires.alone
+    c.args.parts.now.tables.messages.items c.cut.new.tables.messages.items c.cut.ensures.pool c.forget_names.ensures (c.forget_files.ensures.was_ordered, c.forget_files.ensures.entries) few (search rules) refl c.cut.ensures.messages c.requires.fit c.requires.alone

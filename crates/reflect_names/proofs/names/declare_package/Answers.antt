@@ -6,13 +6,13 @@ use Rattle.reflect_scope.specs.Known.{known_of, declared}
 use Rattle.reflect_names.specs.Faults.{place_at, list_of}
 use Rattle.reflect_known.specs.KnownNames.{packages, package_of}
 use Rattle.reflect_names.specs.Names.{package_faults, taken}
-use Rattle.reflect_names.specs.NameSteps.{entries-on}
+use Rattle.reflect_names.specs.NameSteps.{known-on}
 use Rattle.reflect_names.proofs.Added.{places_of_same}
 use Rattle.reflect_names.proofs.Packages.{packages_more, packages_last, faults_more, faults_last}
 use Rattle.reflect_names.proofs.names.declare_package.Goals as goal
 
 pub returns-in_err-declare-clause-keeps : goal.returns-in_err-declare-clause-keeps
-returns-in_err-declare-clause-keeps c = entries-on c.args.file c.args.names.now.entries c.scopes.names.entries c.declare.new.names.entries c.scopes.invariant.keeps c.declare.ensures.keeps
+returns-in_err-declare-clause-keeps c = known-on c.args.file (known_of c.args.names.now) (known_of c.scopes.names) (known_of c.declare.new.names) c.scopes.invariant.keeps c.declare.ensures.keeps
 
 pub scopes-smaller : goal.scopes-smaller
 scopes-smaller c =
@@ -38,7 +38,7 @@ scopes-preserved c =
           ∙ ap (λ t. list_of c.declare.new.faults ++ package_faults at (known_of c.declare.new.names) file (scopes t)) (sym c.outer_of-scope.ensures);
       files = c.in_ok-declare.ensures.faults.files ∙ c.scopes.invariant.files;
       first = c.in_ok-declare.ensures.faults.first ∙ c.scopes.invariant.first;
-      keeps = entries-on file c.args.names.now.entries c.scopes.names.entries c.declare.new.names.entries c.scopes.invariant.keeps c.declare.ensures.keeps;
+      keeps = known-on file (known_of c.args.names.now) known (known_of c.declare.new.names) c.scopes.invariant.keeps c.declare.ensures.keeps;
       utf8 = search rules;
     }
 

@@ -6,7 +6,7 @@ use Rattle.reflect_scope.specs.Known.{known_of}
 use Rattle.reflect_names.specs.Faults.{place_at, list_of}
 use Rattle.reflect_known.specs.KnownNames.{packages}
 use Rattle.reflect_names.specs.Names.{package_faults}
-use Rattle.reflect_names.specs.NameSteps.{KeepsEntries}
+use Rattle.reflect_names.specs.NameSteps.{KeepsKnown}
 use Rattle.reflect_names.proofs.names.declare_package.Given as goal
 
 abbrev pub invariant-scopes : goal.invariant-scopes
@@ -16,7 +16,7 @@ invariant-scopes l = record {
       ≡ list_of l.faults ++ package_faults (place_at l.initial.faults l.file) (known_of l.names) l.file (scopes l.scope);
   files : l.faults.files.now ≡ l.initial.faults.files.now;
   first : l.faults.first ≡ l.initial.faults.first;
-  keeps : KeepsEntries l.file l.initial.names.entries l.names.entries;
+  keeps : KeepsKnown l.file (known_of l.initial.names) (known_of l.names);
   utf8 : shadow (Utf8 l.scope);
 }
 

@@ -6,7 +6,7 @@ use Rattle.reflect_known.specs.KnownNames.{known_behind}
 use Rattle.reflect_names.specs.NamePass.{faults_along}
 use Rattle.reflect_walk.specs.Batches.{batch_declarations}
 use Rattle.reflect_passes.specs.NameFaults.{name_faults}
-use Rattle.reflect_passes.proofs.Listed.{names_listed, refused_by, same_known}
+use Rattle.reflect_passes.proofs.Listed.{names_listed, refused_by}
 use Rattle.reflect_passes.proofs.passes.declare_names.Goals as goal
 
 listed : (c : goal.After-without_faults) → list_of c.into_parts-all.result.1 ≡ name_faults (indexes_of c.args.file_names.now) (known_of c.args.names.now) c.args.before c.args.first c.args.files.now
@@ -18,7 +18,7 @@ listed c =
     let now = indexes_of c.name_files.new.file_names in
     let known = known_of c.args.names.now in
     let ds = batch_declarations c.args.before c.args.first c.args.files.now in
-    let same : known_of v.names ≡ known = same_known v.names c.replace-known.result c.new-visitor.ensures.names ∙ ap known_of c.replace-known.ensures.value in
+    let same : known_of v.names ≡ known = c.new-visitor.ensures.names ∙ ap known_of c.replace-known.ensures.value in
     let names : indexes_of v.file_names.now ≡ now = ap indexes_of c.new-visitor.ensures.file_names in
     let found = subst (λ x. Adds x h (faults_along (place_at x) now known ds)) c.new-visitor.ensures.faults
     (subst (λ k. Adds v.faults h (faults_along (place_at v.faults) now k ds)) same
@@ -43,6 +43,5 @@ returns-in-Ok-clause-names c =
     let known = known_of c.args.names.now in
     let ds = batch_declarations c.args.before c.args.first c.args.files.now in
     let v = c.new-visitor.result in
-    let same : known_of v.names ≡ known = same_known v.names c.replace-known.result c.new-visitor.ensures.names ∙ ap known_of c.replace-known.ensures.value in
-    let all = same_known c.into_parts-all.result.0 c.declare_files-declared.new.self.names c.into_parts-all.ensures.names in
-    always c.without_faults.result (known_of c.into_parts-all.result.0 ≡ known_behind known ds) (all ∙ c.in-Ok.ensures.known ∙ ap (λ k. known_behind k ds) same)
+    let same : known_of v.names ≡ known = c.new-visitor.ensures.names ∙ ap known_of c.replace-known.ensures.value in
+    always c.without_faults.result (known_of c.into_parts-all.result.0 ≡ known_behind known ds) (c.into_parts-all.ensures.names ∙ c.in-Ok.ensures.known ∙ ap (λ k. known_behind k ds) same)

@@ -1,15 +1,15 @@
 use Rattle.std.proofs.Common.{◌≡◌, false, length}
 use denote.Shadow.{shadow}
 use denote.Text.{Utf8}
-use Rattle.std.specs.BTreeMap.{get_by_text}
+use Rattle.reflect_scope.specs.Known.{known_of}
 use Rattle.reflect_scope.specs.Seen.{tells}
 use Rattle.reflect_scope.specs.Means.{join, standing, undotted, scopes}
 use Rattle.reflect_scope.proofs.resolve.in_scopes.Given as goal
 
 abbrev pub invariant-scopes : goal.invariant-scopes
 invariant-scopes l = record {
-  same : undotted (λ p. standing (tells l.dependencies) l.filter (get_by_text l.names (join p l.name))) l.name (scopes l.initial.scope) false
-      ≡ undotted (λ p. standing (tells l.dependencies) l.filter (get_by_text l.names (join p l.name))) l.name (scopes l.scope) l.passed;
+  same : undotted (λ p. standing (tells l.dependencies) l.filter (known_of l.names (join p l.name))) l.name (scopes l.initial.scope) false
+      ≡ undotted (λ p. standing (tells l.dependencies) l.filter (known_of l.names (join p l.name))) l.name (scopes l.scope) l.passed;
   utf8 : shadow (Utf8 l.scope);
 }
 

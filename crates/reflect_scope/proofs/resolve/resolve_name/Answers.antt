@@ -1,5 +1,5 @@
 use Rattle.std.proofs.Common.{◌≡◌, ℕ, List, true, ap, sym, subst, ◌∙◌, Some, None, lit<, Option, Bor}
-use Rattle.std.specs.BTreeMap.{get_by_text}
+use Rattle.reflect_scope.specs.Known.{known_of}
 use Rattle.std.proofs.lemmas.Str.Pattern.{strip_prefix_char, split_once_first, split_parts}
 use Rattle.reflect_scope.specs.Seen.{tells}
 use Rattle.reflect_scope.specs.Says.{Means}
@@ -12,19 +12,19 @@ use Rattle.reflect_scope.proofs.resolve.resolve_name.Goals as goal
 
 pub returns-in-Some-clause-answers : goal.returns-in-Some-clause-answers
 returns-in-Some-clause-answers c =
-    let names : List ℕ → Option Definition = λ t. get_by_text c.args.names.now t in
+    let names : List ℕ → Option Definition = known_of c.args.names.now in
     let is = strip_prefix_char 46 c.args.name.now (Some c.in-Some.full_name) c.in-Some.ensures.cases (lit< tt) in
     subst (λ n. Answers c.by_full_name.result (resolve names (tells c.args.dependencies.now) c.args.filter c.args.scope.now n)) (sym is) c.by_full_name.ensures
 
 pub returns-in-Some-clause-means : goal.returns-in-Some-clause-means
 returns-in-Some-clause-means c =
-    let names : List ℕ → Option Definition = λ t. get_by_text c.args.names.now t in
+    let names : List ℕ → Option Definition = known_of c.args.names.now in
     tells_from_answers (Means names (tells c.args.dependencies.now) c.args.filter c.args.scope.now c.args.name.now) c.by_full_name.result _
     (resolve_means names (tells c.args.dependencies.now) c.args.filter c.args.scope.now c.args.name.now) (returns-in-Some-clause-answers c)
 
 pub returns-in-Some-split_once-clause-answers : goal.returns-in-Some-split_once-clause-answers
 returns-in-Some-split_once-clause-answers c =
-    let names : List ℕ → Option Definition = λ t. get_by_text c.args.names.now t in
+    let names : List ℕ → Option Definition = known_of c.args.names.now in
     let sees = tells c.args.dependencies.now in
     let name = c.args.name.now in
     let none = strip_prefix_char 46 name None c.in_default.ensures.cases (lit< tt) in
@@ -38,13 +38,13 @@ returns-in-Some-split_once-clause-answers c =
 
 pub returns-in-Some-split_once-clause-means : goal.returns-in-Some-split_once-clause-means
 returns-in-Some-split_once-clause-means c =
-    let names : List ℕ → Option Definition = λ t. get_by_text c.args.names.now t in
+    let names : List ℕ → Option Definition = known_of c.args.names.now in
     tells_from_answers (Means names (tells c.args.dependencies.now) c.args.filter c.args.scope.now c.args.name.now) c.by_first_part.result _
     (resolve_means names (tells c.args.dependencies.now) c.args.filter c.args.scope.now c.args.name.now) (returns-in-Some-split_once-clause-answers c)
 
 pub returns-in-None-clause-answers : goal.returns-in-None-clause-answers
 returns-in-None-clause-answers c =
-    let names : List ℕ → Option Definition = λ t. get_by_text c.args.names.now t in
+    let names : List ℕ → Option Definition = known_of c.args.names.now in
     let name = c.args.name.now in
     let none = strip_prefix_char 46 name None c.in_default.ensures.cases (lit< tt) in
     let plain = no_dot name (split_parts 46 name None c.in-None.ensures.cases (lit< tt)) in
@@ -52,6 +52,6 @@ returns-in-None-clause-answers c =
 
 pub returns-in-None-clause-means : goal.returns-in-None-clause-means
 returns-in-None-clause-means c =
-    let names : List ℕ → Option Definition = λ t. get_by_text c.args.names.now t in
+    let names : List ℕ → Option Definition = known_of c.args.names.now in
     tells_from_answers (Means names (tells c.args.dependencies.now) c.args.filter c.args.scope.now c.args.name.now) c.in_scopes.result _
     (resolve_means names (tells c.args.dependencies.now) c.args.filter c.args.scope.now c.args.name.now) (returns-in-None-clause-answers c)

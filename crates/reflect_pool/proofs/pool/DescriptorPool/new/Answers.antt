@@ -1,24 +1,13 @@
 -- A pool without files knows nothing, and nothing is declared in it.
-use Rattle.std.proofs.Common.{◌≡◌, [], map, Global, String, string_bytes, ap, sym, subst, ◌∙◌, rules}
-use Rattle.std.specs.BTreeMap.{BTreeMap}
-use Rattle.std.specs.Cmp.Lexicographic.{slice_cmp}
-use Rattle.std.specs.Map.{lookup}
-use Rattle.std.specs.Ordering.{is_eq, nat_cmp}
-use Rattle.reflect_scope.specs.Known.{Known, known_of}
-use Rattle.reflect_scope.specs.declared.definition.Definition.{Definition}
+use Rattle.std.proofs.Common.{◌≡◌, [], map, ap, sym, subst, ◌∙◌, rules}
 use Rattle.reflect_walk.specs.Batches.{batch_declarations}
 use Rattle.reflect_known.specs.DeclaredNames.{with_names}
-use Rattle.reflect_known.specs.KnownNames.{nothing_known, nothing_before, known_of_files}
+use Rattle.reflect_known.specs.KnownNames.{nothing_before, known_of_files}
 use Rattle.reflect_tables.specs.Names.{Sort, messages, enums, extensions, services, names_of, message_name, enum_name, extension_name, service_name}
 use Rattle.reflect_tables.specs.Views.{file_of, record_of, record_file, message_of, enum_of, extension_of, service_of, pool_of}
 use Rattle.reflect_tables.specs.declared.tables.Tables.{Tables}
 use Rattle.reflect_pool.specs.Stored.{AreStored}
 use Rattle.reflect_pool.proofs.pool.DescriptorPool.new.Goals as goal
-
-none_known : (names : BTreeMap (String Global) Definition) → names.entries ≡ [] → known_of names
-    ≡ nothing_known
-none_known names e = ap {B = Known}
-    (λ es. λ t. lookup (λ k. is_eq (slice_cmp nat_cmp t (string_bytes k))) es) e
 
 module _ (t : Tables) (ms : t.messages.items ≡ []) (es : t.enums.items ≡ [])
     (xs : t.extensions.items ≡ []) (ss : t.services.items ≡ []) where
@@ -41,7 +30,7 @@ invariant_of-result c =
       numbers = search rules;
       imports = search rules;
       to_imports = search rules;
-      known = none_known c.new-4.result c.new-4.ensures.empty ∙ sym (ap known_of_files none);
+      known = c.new-4.ensures.known ∙ sym (ap known_of_files none);
       headers = ap (map file_of) made.files ∙ sym (ap (map record_file) none);
       entries =
           λ s. none_named t made.messages made.enums made.extensions made.services s
