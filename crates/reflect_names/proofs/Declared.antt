@@ -1,11 +1,10 @@
 -- What is known behind a declaration, and below a mark.
-use Rattle.std.proofs.Common.{◌≡◌, ◌∙◌, ℕ, ◌<◌, ◌≤◌, nat_lt, List, Bool, true, false, cond, bytes_eq, Option, Some, None, IfSome, Result, Ok, Err, OnErr, is_err, ap, sym, refl, arith}
+use Rattle.std.proofs.Common.{◌≡◌, ◌∙◌, ℕ, ◌<◌, ◌≤◌, List, Bool, true, false, cond, bytes_eq, Option, Some, None, IfSome, Result, Ok, Err, OnErr, is_err, ap, sym, refl, arith}
 use Rattle.std.specs.Cmp.Lexicographic.{bytes_decides}
 use Rattle.std.specs.Map.{update}
 use Rattle.name_table.proofs.Puts.{first_new}
 use Rattle.reflect_scope.specs.declared.definition.Definition.{Definition}
-use Rattle.reflect_scope.specs.Known.{Known, declared, kept_first, AllBelow}
-use Rattle.reflect_names.specs.NameSteps.{KeepsKnown}
+use Rattle.reflect_scope.specs.Known.{Known, declared, AllBelow}
 
 -- what a name stands for behind a declaration: the definition, if the name was new, or what it was
 module _ (known : Known) (name : List ℕ) (d : Definition) where
@@ -24,17 +23,6 @@ module _ (known : Known) (name : List ℕ) (d : Definition) where
 
   pub declared_new : known name ≡ None → declared known name d ≡ update bytes_eq known name (Some d)
   declared_new none = first_new known name d none
-
-  pub declared_keeps : KeepsKnown d.file known (declared known name d)
-  declared_keeps = record {
-    kept = λ mark le t.
-        let high : nat_lt d.file mark ≡ false = grind (arith, le) in
-        let out = ap (λ b. cond b (Some d) None) high in
-        at_name (λ o. kept_first mark o ≡ kept_first mark (known t)) t
-        (λ none. out ∙ sym (ap (kept_first mark) none)) refl;
-    bound = λ top lt all t.
-        at_name (λ o. IfSome o (λ e. e.file < top)) t (λ none. lt) (all t);
-  }
 
 pub below_more : (n m : ℕ) (known : Known) → n ≤ m → AllBelow n known → AllBelow m known
 below_more n m known le all t = more (known t) (all t) where
