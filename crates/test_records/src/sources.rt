@@ -1,6 +1,7 @@
 //! Comments of sources, parts of syntax trees, and where faults of files stand.
 
 use descriptor_records::{FieldType, FileDescriptorProto};
+use name_table::NameTable;
 use protox_lex::{Comments, Int, Span, String as Literal};
 use protox_parse::parse;
 use protox_parse::tree::{
@@ -152,7 +153,7 @@ fn faults_of<R: Abort + AllocGlobal>(
     let mut faults = Faults::new(alloc, files, 0);
     let mut file_names = BTreeMap::new(alloc);
     name_files(alloc, &mut file_names, 0, files, &mut faults).expect(rt, "room");
-    let mut names = NameVisitor::new(BTreeMap::new(alloc), faults, &file_names);
+    let mut names = NameVisitor::new(NameTable::new(alloc), faults, &file_names);
     let none = Offsets {
         messages: 0,
         enums: 0,
