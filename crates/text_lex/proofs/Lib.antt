@@ -8,3 +8,5 @@ pub mod Boundaries
 pub mod Sources
 pub mod OneReading
 pub mod Orders
+pub mod HexEscapes
+pub mod Decimals

@@ -8,7 +8,7 @@ ghost use Rattle.protox_lex.specs.Shown as source;
 ghost use Rattle.protox_lex.specs.Token.{int};
 ghost use Rattle.protox_lex.specs.declared.class.Class.TheVariants as class;
 ghost use Rattle.protox_lex.specs.declared.error.LexErrorKind.TheVariants as kinds;
-ghost use Rattle.std.specs.Prelude.{◌≡◌, ℕ, ◌<◌, ◌≤◌, ◌+◌, ◌^◌, ◌==◌, [], ◌∷◌, length, take, drop, slice_index, option_map, IfOk, IfErr, IfSome, IfNone, MatchOption, IsCharBoundary, Ok, List, false};
+ghost use Rattle.std.specs.Prelude.{◌≡◌, ℕ, ◌<◌, ◌≤◌, ◌+◌, ◌^◌, ◌==◌, ◌||◌, [], ◌∷◌, length, take, drop, slice_index, option_map, IfOk, IfErr, IfSome, IfNone, MatchOption, IsCharBoundary, Ok, List, false};
 ghost use Rattle.text_lex.specs.Lex as spec;
 ghost use Rattle.text_lex.specs.Shown.{token_of};
 ghost use Rattle.text_lex.specs.Token.{token, token_at, fault};
@@ -106,6 +106,50 @@ fn text_token<'a>(rest: &'a str, lexeme: protox_lex::Lexeme<'a>) -> Option<Token
     }
 }
 
+/// The end of the decimal digits that stand at a place.
+fn digits_end(text: &[u8], at: usize) -> usize
+    requires { at ≤ length text.now }
+    ensures value { result ≡ past class.Digit text.now at }
+    ensures within { (at ≤ result) × (result ≤ length text.now) }
+{
+    let mut end = at;
+    'run: while end < text.len() && text[end].is_ascii_digit() {
+        end += 1;
+    }
+    end
+}
+
+/// A letter or a point stands at a place.
+fn is_at_letter_or_point(text: &[u8], at: usize) -> bool
+    ensures { result ≡ (is_in class.Letter (slice_index text.now at)
+        || slice_index text.now at == 46) }
+{
+    if at >= text.len() {
+        return false;
+    }
+    let b = text[at];
+    b.is_ascii_alphabetic() || b == b'_' || b == b'.'
+}
+
+/// The decimal integer in the front and its length, where it does not begin with 0 and neither a
+/// letter nor a point stands behind it. This is what most numbers are, and a source would count
+/// what their digits write.
+fn decimal(rest: &str) -> Option<(Token<'_>, usize)>
+    requires { 0 < length rest.now }
+    ensures { IfSome result (λ p. (at : ℕ) → spec.front at rest.now
+        ≡ Ok (token (token_of p.0), p.1)) }
+{
+    let bytes = rest.as_bytes();
+    if !bytes[0].is_ascii_digit() || bytes[0] == b'0' {
+        return None;
+    }
+    let end = digits_end(bytes, 0);
+    if is_at_letter_or_point(bytes, end) {
+        return None;
+    }
+    Some((integer_to(rest, end), end))
+}
+
 /// A token of so many bytes at a place, or the fault that none is there.
 fn taken(found: Option<Token<'_>>, at: usize, len: usize) -> Result<(Token<'_>, usize), LexError>
     requires { at + len < 2 ^ 64 }
@@ -198,8 +242,11 @@ fn front(rest: &str, at: usize) -> Result<(Token<'_>, usize), LexError>
         × ((slice_index rest.now 0 == 35) ≡ false) }
     ensures { source.Gives (λ p. (token (token_of p.0), p.1)) result (spec.front at rest.now) }
 {
-    match lone_sign(rest.as_bytes()[0]) {
-        Some(sign) => Ok((sign, 1)),
+    if let Some(sign) = lone_sign(rest.as_bytes()[0]) {
+        return Ok((sign, 1));
+    }
+    match decimal(rest) {
+        Some(found) => Ok(found),
         None => source_token(rest, at),
     }
 }

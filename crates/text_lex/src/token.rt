@@ -1,8 +1,8 @@
-ghost use Rattle.std.specs.Prelude.{◌≡◌, option_map};
+ghost use Rattle.std.specs.Prelude.{◌≡◌, IfOk, option_map, string_bytes};
 
-use crate::escape::write_contents;
-use protox_lex::Sign;
-use std::fmt;
+use crate::escape::Escaped;
+use protox_lex::{Sign, unescape};
+use std::alloc::{AllocError, Global};
 
 /// What the digits of an integer count in.
 #[derive(Clone, Copy, PartialEq, Eq)]
@@ -50,9 +50,6 @@ impl<'a> Int<'a> {
 }
 
 /// A token of the text format, lent from its text.
-///
-/// It prints as it is written, but an integer without its prefix, and a string in `"` with its
-/// bytes escaped.
 #[derive(Clone, Copy, PartialEq)]
 pub enum Token<'a> {
     Ident(&'a str),
@@ -102,10 +99,10 @@ impl Token<'static> {
 }
 
 impl Token<'_> {
-    ghost use Rattle.text_lex.specs.Printed.{plain_text};
+    ghost use Rattle.text_lex.specs.Printed.{plain_text, printed};
     ghost use Rattle.text_lex.specs.Shown.{token_of};
 
-    /// What the token prints; nothing of a string, which prints its bytes.
+    /// What is printed of the token; nothing of a string, whose bytes are printed.
     fn text(&self) -> &str
         ensures { result.now ≡ plain_text (token_of self.now) }
     {
@@ -127,22 +124,18 @@ impl Token<'_> {
             Token::ForwardSlash => "/",
         }
     }
-}
 
-impl fmt::Display for Token<'_> {
-    ghost use Rattle.text_lex.specs.Printed.{printed};
-    ghost use Rattle.text_lex.specs.Shown.{token_of};
-
-    ghost output = { λ t. printed (token_of t) };
-
-    fn fmt<W: fmt::Write>(&self, f: &mut fmt::Formatter<W>) -> fmt::Result {
+    /// The token as a fault tells it: as it is written, but an integer without its prefix, and a
+    /// string in `"` with its bytes escaped. Refused only for want of memory.
+    pub fn printed(&self, alloc: Global) -> Result<String, AllocError>
+        ensures { IfOk result (λ s. string_bytes s ≡ printed (token_of self.now)) }
+    {
         match self {
             Token::StringLiteral(raw) => {
-                f.write_str("\"")?;
-                write_contents(f, raw)?;
-                f.write_str("\"")
+                let bytes = unescape(alloc, raw)?;
+                format!(in alloc; "\"{}\"", Escaped(bytes.as_slice()))
             }
-            _ => f.write_str(self.text()),
+            _ => String::from_str(alloc, self.text()),
         }
     }
 }

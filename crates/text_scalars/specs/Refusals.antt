@@ -36,15 +36,11 @@ IsLexical (lexical.InvalidStringEscape s) kind = kind ≡ kinds.InvalidStringEsc
 IsLexical (lexical.NoSpaceBetweenIntAndIdent s) kind = kind ≡ kinds.NoSpaceBetweenIntAndIdent s
 IsLexical lexical.UnterminatedString kind = IsEnd (codes "string terminator") kind
 
--- a token is told as it prints, where that is said
-abbrev pub IsFound : Option Text → Text → Type 0
-IsFound (Some printed) found = found ≡ printed
-IsFound None found = Unit {0}
-
--- a token of these bytes stands where these words say what is expected, or memory ran out
+-- a token of these bytes, told as it prints, stands where these words say what is expected, or
+-- memory ran out
 abbrev pub IsToken : Text → Token → Span → ParseErrorKind → Type 0
 IsToken words t bytes (kinds.UnexpectedToken expected found span) =
-    (expected.now ≡ words) × IsFound (printed t) (string_bytes found) × (span ≡ bytes)
+    (expected.now ≡ words) × (string_bytes found ≡ printed t) × (span ≡ bytes)
 IsToken words t bytes kinds.Memory = Unit {0}
 IsToken words t bytes _ = ⊥
 

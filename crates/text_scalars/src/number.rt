@@ -123,6 +123,9 @@ fn radix_of(radix: Radix) -> u64
     }
 }
 
+/// A number below this bound has at most 64 bits with a further digit too, in each radix.
+const SHORT: u64 = 1 << 59;
+
 /// The number that digits write, if it has at most 64 bits.
 fn magnitude(radix: u64, digits: &[u8]) -> Option<u64>
     requires { (1 ≤ radix) × (radix ≤ 16) }
@@ -130,7 +133,12 @@ fn magnitude(radix: u64, digits: &[u8]) -> Option<u64>
 {
     let mut n = 0u64;
     for b in digits {
-        n = n.checked_mul(radix)?.checked_add(digit_value(*b))?;
+        let digit = digit_value(*b);
+        n = if n < SHORT {
+            n * radix + digit
+        } else {
+            n.checked_mul(radix)?.checked_add(digit)?
+        };
     }
     Some(n)
 }
