@@ -1,8 +1,8 @@
-ghost use Rattle.std.specs.Prelude.{◌≡◌, IfOk, option_map, string_bytes};
+ghost use Rattle.std.specs.Prelude.{◌≡◌, Some, option_map};
 
-use crate::escape::Escaped;
-use protox_lex::{Sign, unescape};
-use std::alloc::{AllocError, Global};
+use crate::escape::write_contents;
+use protox_lex::Sign;
+use std::fmt;
 
 /// What the digits of an integer count in.
 #[derive(Clone, Copy, PartialEq, Eq)]
@@ -50,6 +50,9 @@ impl<'a> Int<'a> {
 }
 
 /// A token of the text format, lent from its text.
+///
+/// It prints as it is written, but an integer without its prefix, and a string in `"` with its
+/// bytes escaped.
 #[derive(Clone, Copy, PartialEq)]
 pub enum Token<'a> {
     Ident(&'a str),
@@ -99,10 +102,10 @@ impl Token<'static> {
 }
 
 impl Token<'_> {
-    ghost use Rattle.text_lex.specs.Printed.{plain_text, printed};
+    ghost use Rattle.text_lex.specs.Printed.{plain_text};
     ghost use Rattle.text_lex.specs.Shown.{token_of};
 
-    /// What is printed of the token; nothing of a string, whose bytes are printed.
+    /// What the token prints; nothing of a string, which prints its bytes.
     fn text(&self) -> &str
         ensures { result.now ≡ plain_text (token_of self.now) }
     {
@@ -124,18 +127,22 @@ impl Token<'_> {
             Token::ForwardSlash => "/",
         }
     }
+}
 
-    /// The token as a fault tells it: as it is written, but an integer without its prefix, and a
-    /// string in `"` with its bytes escaped. Refused only for want of memory.
-    pub fn printed(&self, alloc: Global) -> Result<String, AllocError>
-        ensures { IfOk result (λ s. string_bytes s ≡ printed (token_of self.now)) }
-    {
+impl fmt::Display for Token<'_> {
+    ghost use Rattle.text_lex.specs.Printed.{printed};
+    ghost use Rattle.text_lex.specs.Shown.{token_of};
+
+    ghost output = { λ t. Some (printed (token_of t)) };
+
+    fn fmt<W: fmt::Write>(&self, f: &mut fmt::Formatter<W>) -> fmt::Result {
         match self {
             Token::StringLiteral(raw) => {
-                let bytes = unescape(alloc, raw)?;
-                format!(in alloc; "\"{}\"", Escaped(bytes.as_slice()))
+                f.write_str("\"")?;
+                write_contents(f, raw)?;
+                f.write_str("\"")
             }
-            _ => String::from_str(alloc, self.text()),
+            _ => f.write_str(self.text()),
         }
     }
 }

@@ -222,14 +222,17 @@ impl<'a> Tokens<'a> {
     {
         match self.ahead {
             Ok(None) => ParseErrorKind::UnexpectedEof { expected },
-            Ok(Some(lexeme)) => match lexeme.token.printed(self.alloc) {
-                Ok(found) => ParseErrorKind::UnexpectedToken {
-                    expected,
-                    found,
-                    span: lexeme.span,
-                },
-                Err(_) => ParseErrorKind::Memory,
-            },
+            Ok(Some(lexeme)) => {
+                let token = lexeme.token;
+                match format!(in self.alloc; "{token}") {
+                    Ok(found) => ParseErrorKind::UnexpectedToken {
+                        expected,
+                        found,
+                        span: lexeme.span,
+                    },
+                    Err(_) => ParseErrorKind::Memory,
+                }
+            }
             Err(error) => lexical_fault(error),
         }
     }
