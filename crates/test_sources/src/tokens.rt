@@ -87,8 +87,7 @@ pub fn tell_text_tokens(
             Ok(Some(lexeme)) => {
                 let (start, end) = (lexeme.span.start, lexeme.span.end);
                 let letter = text_mark(lexeme.token);
-                let printed = lexeme.token.printed(alloc)?;
-                write!(&mut out, "{start}..{end} {letter}{printed} ")?;
+                write!(&mut out, "{start}..{end} {letter}{} ", lexeme.token)?;
             }
             Ok(None) => break,
             Err(error) => {
