@@ -9,4 +9,4 @@ pub mod Sources
 pub mod OneReading
 pub mod Orders
 pub mod HexEscapes
-pub mod Decimals
+pub mod Direct

@@ -119,6 +119,46 @@ fn digits_end(text: &[u8], at: usize) -> usize
     end
 }
 
+fn is_letter(b: u8) -> bool
+    ensures { result ≡ is_in class.Letter b }
+{
+    b.is_ascii_alphabetic() || b == b'_'
+}
+
+fn is_word(b: u8) -> bool
+    ensures { result ≡ is_in class.Word b }
+{
+    b.is_ascii_alphanumeric() || b == b'_'
+}
+
+/// The end of the letters and digits that stand at a place.
+fn word_end(text: &[u8], at: usize) -> usize
+    requires { at ≤ length text.now }
+    ensures value { result ≡ past class.Word text.now at }
+    ensures within { (at ≤ result) × (result ≤ length text.now) }
+{
+    let mut end = at;
+    'run: while end < text.len() && is_word(text[end]) {
+        end += 1;
+    }
+    end
+}
+
+/// The word in the front and its length.
+fn word(rest: &str) -> Option<(Token<'_>, usize)>
+    requires some { 0 < length rest.now }
+    requires begins { is_in class.Blank (slice_index rest.now 0) ≡ false }
+    ensures { IfSome result (λ p. (at : ℕ) → spec.front at rest.now
+        ≡ Ok (token (token_of p.0), p.1)) }
+{
+    let bytes = rest.as_bytes();
+    if !is_letter(bytes[0]) {
+        return None;
+    }
+    let end = word_end(bytes, 1);
+    Some((Token::Ident(&rest[..end]), end))
+}
+
 /// A letter or a point stands at a place.
 fn is_at_letter_or_point(text: &[u8], at: usize) -> bool
     ensures { result ≡ (is_in class.Letter (slice_index text.now at)
@@ -127,13 +167,11 @@ fn is_at_letter_or_point(text: &[u8], at: usize) -> bool
     if at >= text.len() {
         return false;
     }
-    let b = text[at];
-    b.is_ascii_alphabetic() || b == b'_' || b == b'.'
+    is_letter(text[at]) || text[at] == b'.'
 }
 
 /// The decimal integer in the front and its length, where it does not begin with 0 and neither a
-/// letter nor a point stands behind it. This is what most numbers are, and a source would count
-/// what their digits write.
+/// letter nor a point stands behind it.
 fn decimal(rest: &str) -> Option<(Token<'_>, usize)>
     requires { 0 < length rest.now }
     ensures { IfSome result (λ p. (at : ℕ) → spec.front at rest.now
@@ -235,6 +273,9 @@ fn source_token(rest: &str, at: usize) -> Result<(Token<'_>, usize), LexError>
 }
 
 /// The token in the front of what is left of a text, and its length.
+///
+/// A source has all but `/` there too. What most tokens are is cut here: a source's lexer tests that
+/// words are text, which is known here, and counts what digits write, which may be of any length.
 fn front(rest: &str, at: usize) -> Result<(Token<'_>, usize), LexError>
     requires some { 0 < length rest.now }
     requires fits { at + length rest.now < 2 ^ 64 }
@@ -244,6 +285,9 @@ fn front(rest: &str, at: usize) -> Result<(Token<'_>, usize), LexError>
 {
     if let Some(sign) = lone_sign(rest.as_bytes()[0]) {
         return Ok((sign, 1));
+    }
+    if let Some(found) = word(rest) {
+        return Ok(found);
     }
     match decimal(rest) {
         Some(found) => Ok(found),

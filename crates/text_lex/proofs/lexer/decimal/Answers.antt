@@ -3,7 +3,7 @@ use Rattle.protox_lex.specs.Class.{is_in, past}
 use Rattle.protox_lex.specs.declared.class.Class.TheVariants as class
 use Rattle.text_lex.specs.Lex.{int_of}
 use Rattle.text_lex.specs.Token.{token}
-use Rattle.text_lex.proofs.Decimals.{decimal_front, digits_boundary}
+use Rattle.text_lex.proofs.Direct.{decimal_front, digits_boundary}
 use Rattle.text_lex.proofs.lexer.decimal.Goals as goal
 
 pub integer_to-requires : goal.integer_to-requires
@@ -11,7 +11,7 @@ integer_to-requires c =
     let z = c.args.rest.now in
     let digit : is_in class.Digit (slice_index z 0) ≡ true = search rules in
     let is : c.digits_end-end.result ≡ past class.Digit z 0 = c.digits_end-end.ensures.value ∙ ap (λ t. past class.Digit t 0) c.as_bytes-bytes.ensures.value in
-    subst (IsCharBoundary z) (sym is) (digits_boundary z c.utf8.rest c.requires digit)
+    subst (IsCharBoundary z) (sym is) (digits_boundary z c.utf8.rest digit)
 
 pub returns : goal.returns
 returns c at =
