@@ -1,5 +1,5 @@
 -- Which fault is told where what is wanted does not stand at the front of lexemes.
-use Rattle.std.specs.Prelude.{◌≡◌, Bool, true, false, List, [], ◌∷◌, Option, None, Some, codes, string_bytes}
+use Rattle.std.specs.Prelude.{◌≡◌, Bool, true, false, List, [], ◌∷◌, codes, string_bytes}
 use Rattle.protox_lex.specs.Class.{Text}
 use Rattle.protox_lex.specs.declared.span.Span.{Span}
 use Rattle.text_lex.specs.declared.lexer.LexError.{LexError}

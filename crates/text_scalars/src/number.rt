@@ -103,8 +103,8 @@ fn digit_value(b: u8) -> u64
     ensures value { result ≡ digit b }
     ensures small { result < 256 }
 {
-    if b <= b'9' {
-        u64::from(b.saturating_sub(b'0'))
+    if b.is_ascii_digit() {
+        u64::from(b - b'0')
     } else if b <= b'F' {
         u64::from(b.saturating_sub(b'A' - 10))
     } else {
