@@ -1,12 +1,12 @@
 -- What the older grammar reads is read in the same way.
 use Rattle.protox_declarations.specs.EnumGrammar.{enumeration}
+use Rattle.protox_fields.specs.FieldGrammar.{Labelled, extensions, label}
 use Rattle.protox_file.specs.FileGrammar.{file_item_unless, file_item, file_items, file, syntax}
 use Rattle.protox_file.specs.OlderGrammar.{last_has_end, options_behind, older_extensions, older_item, older_items, older_inside, older_block, older_file_item, older_file_items, older_file, SpellsOlder}
 use Rattle.protox_file.specs.Sources.{Spells}
 use Rattle.protox_lex.specs.Class.{Text}
 use Rattle.protox_lex.specs.Token.{Token, ident, sign}
 use Rattle.protox_lex.specs.declared.span.Span.{Span}
-use Rattle.protox_messages.specs.FieldGrammar.{Labelled, extensions, label}
 use Rattle.protox_messages.specs.MessageGrammar.{Block, group_with, group_if, field_with, message_with, member_unless, member_with, members_with, oneof_with, added_unless, added_with, all_added_with, extend_with, item_unless, item_with, items_with, inside_with, block}
 use Rattle.protox_options.specs.NameGrammar.{type_name, an_int}
 use Rattle.protox_options.specs.OptionGrammar.{option, options_after, options}

@@ -8,7 +8,7 @@ use Rattle.protox_options.specs.OptionGrammar.{in_parens, name_part, name, negat
 use Rattle.protox_options.specs.RangeGrammar.{range_end, range, ranges, names, reserved_items, reserved}
 use Rattle.protox_declarations.specs.EnumGrammar.{an_enum_value, enum_item, enum_items, enumeration}
 use Rattle.protox_declarations.specs.ServiceGrammar.{method_type, method_item, method_items, method_body, a_method, service_item, service_items, service}
-use Rattle.protox_messages.specs.FieldGrammar.{ty, map_type, map_or_name, field_type, extensions, label, plain_field}
+use Rattle.protox_fields.specs.FieldGrammar.{ty, map_type, map_or_name, field_type, extensions, label, plain_field}
 use Rattle.protox_messages.specs.MessageGrammar.{group_with, field_with, message_with, member_with, members_with, oneof_with, added_with, all_added_with, extend_with, item_with, items_with, inside_with, block}
 use Rattle.protox_file.specs.FileGrammar.{syntax_behind, syntax, import_kind, an_import, a_package, file_item, file_items, file}
 use Rattle.protox_check.specs.Faults.{faults_of}

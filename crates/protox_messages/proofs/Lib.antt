@@ -1,2 +1,1 @@
-pub mod FieldLaws
 pub mod MessageLaws

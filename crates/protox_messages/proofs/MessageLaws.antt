@@ -1,9 +1,9 @@
 -- The rules of messages look one token ahead, and each turn of their loops takes one.
 use Rattle.protox_declarations.proofs.EnumLaws.{Local-enumeration, Moves-enumeration}
+use Rattle.protox_fields.proofs.FieldLaws.{Local-here, Local-extensions, Moves-extensions, Local-label, Local-plain, Moves-plain}
+use Rattle.protox_fields.specs.FieldGrammar.{Labelled}
 use Rattle.protox_lex.specs.Token.{ident, sign}
 use Rattle.protox_lex.specs.declared.span.Span.{Span}
-use Rattle.protox_messages.proofs.FieldLaws.{Local-here, Local-extensions, Moves-extensions, Local-label, Local-plain, Moves-plain}
-use Rattle.protox_messages.specs.FieldGrammar.{Labelled}
 use Rattle.protox_messages.specs.MessageGrammar.{Block, group_with, group_if, field_with, message_with, member_unless, member_with, members_with, oneof_with, added_unless, added_with, all_added_with, extend_with, item_unless, item_with, items_with, inside_with, block}
 use Rattle.protox_options.proofs.NameLaws.{Local-type_name, Local-int}
 use Rattle.protox_options.proofs.OptionLaws.{Local-option, Moves-option, Local-options}

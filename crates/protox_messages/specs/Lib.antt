@@ -1,2 +1,1 @@
-pub mod FieldGrammar
 pub mod MessageGrammar

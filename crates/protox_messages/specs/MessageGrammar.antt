@@ -1,8 +1,8 @@
 -- How messages are read, and what may stand in them.
 use Rattle.protox_declarations.specs.EnumGrammar.{enumeration}
+use Rattle.protox_fields.specs.FieldGrammar.{Labelled, extensions, label, plain_field}
 use Rattle.protox_lex.specs.Token.{ident, sign}
 use Rattle.protox_lex.specs.declared.span.Span.{Span}
-use Rattle.protox_messages.specs.FieldGrammar.{Labelled, extensions, label, plain_field}
 use Rattle.protox_options.specs.NameGrammar.{type_name, an_int}
 use Rattle.protox_options.specs.OptionGrammar.{option, options}
 use Rattle.protox_options.specs.RangeGrammar.{reserved}

@@ -1,7 +1,6 @@
 //! Messages, and what may stand in them.
 
 ghost use Rattle.std.specs.Prelude.{◌≡◌, ◌<◌, ◌≤◌, OnOk};
-ghost use Rattle.protox_messages.specs.FieldGrammar as fields;
 ghost use Rattle.protox_messages.specs.MessageGrammar as spec;
 ghost use Rattle.protox_tokens.specs.Left.{left};
 ghost use Rattle.protox_tokens.specs.Reads.{Reads};
@@ -9,9 +8,9 @@ ghost use Rattle.protox_tokens.specs.Stream.{stream};
 ghost use Rattle.protox_tree.specs.Nest as nest;
 ghost use Rattle.protox_tree.specs.NestView.{kind_view, message_view, item_view, items_view, field_view, member_view, members_view, oneof_view, added_view, added_items_view, extend_view};
 
-use crate::field::{extensions, field_type, label};
 use descriptor_records::Label;
 use protox_declarations::enumeration;
+use protox_fields::{extensions, label, plain_field};
 use protox_lex::{Sign, Span, token};
 use protox_options::{int, option, options, reserved, type_name};
 use protox_tokens::{Fault, Stop, Tokens, across};
@@ -136,34 +135,6 @@ pub fn message<'a>(alloc: Global, tokens: &mut Tokens<'a>, levels: u8) -> Result
         braces,
         items,
         span: across(first, braces),
-    })
-}
-
-/// A field or a map.
-#[tactic(auto, unfolding(crate::specs::FieldGrammar::plain_field))]
-fn plain_field<'a>(
-    alloc: Global,
-    tokens: &mut Tokens<'a>,
-    start: Span,
-    label: Option<(Label, Span)>,
-) -> Result<Field, Stop<'a>>
-    ensures reads { Reads field_view (fields.plain_field start label (stream tokens.old))
-        result tokens.new }
-    ensures moves { OnOk result (left tokens.new < left tokens.old) }
-{
-    let kind = field_type(alloc, tokens)?;
-    let name = tokens.ident(alloc)?;
-    tokens.expect_sign(Sign::Equals)?;
-    let number = int(tokens)?;
-    let options = options(alloc, tokens)?;
-    let last = tokens.expect_sign(Sign::Semicolon)?;
-    Ok(Field {
-        label,
-        kind,
-        name,
-        number,
-        options,
-        span: across(start, last),
     })
 }
 

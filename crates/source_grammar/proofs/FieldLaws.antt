@@ -7,13 +7,13 @@ use Rattle.descriptor_records.specs.declared.field.FieldType.{FieldType}
 use Rattle.descriptor_records.specs.declared.field.FieldType.TheVariants as types
 use Rattle.descriptor_records.specs.declared.field.Label.{Label}
 use Rattle.descriptor_records.specs.declared.field.Label.TheVariants as labels
+use Rattle.protox_fields.specs.FieldGrammar.{named_type, ty_of, ty_after, ty, map_type, map_by, map_or_name, field_type, extensions, Labelled, repeated_if, required_if, optional_if, label, plain_field}
 use Rattle.protox_lex.specs.Class.{Text}
 use Rattle.protox_lex.specs.Token.{Token, ident, sign}
 use Rattle.protox_lex.specs.declared.literal.Int.{Int}
 use Rattle.protox_lex.specs.declared.span.Span.{Span}
 use Rattle.protox_lex.specs.declared.token.Sign.{Sign}
 use Rattle.protox_lex.specs.declared.token.Sign.TheVariants as s
-use Rattle.protox_messages.specs.FieldGrammar.{named_type, ty_of, ty_after, ty, map_type, map_by, map_or_name, field_type, extensions, Labelled, repeated_if, required_if, optional_if, label, plain_field}
 use Rattle.protox_options.specs.NameGrammar.{parts_after, full_ident}
 use Rattle.protox_tree.specs.Nest.{MapType, Extensions, Field, field, Kind, normal, group, map_kind}
 use Rattle.protox_tree.specs.declared.range.ReservedRange.{ReservedRange}

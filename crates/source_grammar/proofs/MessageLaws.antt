@@ -1,12 +1,12 @@
 -- What the rules of messages read: from what the braces inside are to those of one level more.
 use Rattle.std.proofs.Common.{[], ◌≡◌, ℕ, zero, suc, true, false, List, ◌∷◌, Option, Some, None, Ok, Err, refl, ap, sym, subst, ◌∙◌, inl, inr, ◌⊎◌}
 use Rattle.std.specs.Prelude.{codes}
+use Rattle.protox_fields.specs.FieldGrammar.{Labelled}
 use Rattle.protox_lex.specs.Class.{Text}
 use Rattle.protox_lex.specs.Token.{Token, ident, sign}
 use Rattle.protox_lex.specs.declared.literal.Int.{Int}
 use Rattle.protox_lex.specs.declared.span.Span.{Span}
 use Rattle.protox_lex.specs.declared.token.Sign.TheVariants as s
-use Rattle.protox_messages.specs.FieldGrammar.{Labelled}
 use Rattle.protox_messages.specs.MessageGrammar.{Block, group_with, group_if, field_with, message_with, member_unless, member_with, members_with, oneof_with, added_unless, added_with, all_added_with, extend_with, item_unless, item_with, items_with, inside_with, block as block_rule}
 use Rattle.protox_messages.proofs.MessageLaws.{member_turns, added_turns, item_turns, Local-block}
 use Rattle.protox_tree.specs.Nest.{Message, message, Items, no_items, more_items, items_of, Item, item_field, item_oneof, item_message, item_enum, item_extend, item_extensions, item_reserved, item_option, item_empty, Field, field, Kind, normal, group, map_kind, a_group, Oneof, oneof, Members, no_members, more_members, members_of, Member, member_field, member_option, member_empty, Extend, extend, Added, none_added, more_added, added_of, AddedItem, added_field, added_empty}

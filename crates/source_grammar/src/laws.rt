@@ -6,10 +6,10 @@
 ghost use Rattle.protox_aggregates.specs.AggregateGrammar.{aggregate};
 ghost use Rattle.protox_declarations.specs.EnumGrammar.{enumeration};
 ghost use Rattle.protox_declarations.specs.ServiceGrammar.{service};
+ghost use Rattle.protox_fields.specs.FieldGrammar.{extensions, ty};
 ghost use Rattle.protox_file.specs.FileGrammar as files;
 ghost use Rattle.protox_file.specs.Sources.{Spells};
 ghost use Rattle.protox_lex.specs.Class.{Text};
-ghost use Rattle.protox_messages.specs.FieldGrammar.{extensions, ty};
 ghost use Rattle.protox_messages.specs.MessageGrammar as rules;
 ghost use Rattle.protox_messages.specs.MessageGrammar.{extend_with, message_with};
 ghost use Rattle.protox_options.specs.NameGrammar.{an_int, full_ident, strings, type_name};

@@ -1,10 +1,10 @@
 -- Messages, as they are read, have identifiers for names.
 use Rattle.std.proofs.Common.{ℕ, zero, suc, codes, List, [], ◌∷◌, Option, Some, None}
+use Rattle.protox_fields.proofs.FieldLaws.{Local-extensions, Local-here, Local-label}
+use Rattle.protox_fields.specs.FieldGrammar.{Labelled, plain_field}
 use Rattle.protox_lex.specs.Token.{ident, sign}
 use Rattle.protox_lex.specs.declared.span.Span.{Span}
 use Rattle.protox_lex.specs.declared.token.Sign.TheVariants as s
-use Rattle.protox_messages.proofs.FieldLaws.{Local-extensions, Local-here, Local-label}
-use Rattle.protox_messages.specs.FieldGrammar.{Labelled, plain_field}
 use Rattle.protox_messages.specs.MessageGrammar.{Block, added_unless, added_with, all_added_with, block, extend_with, field_with, group_if, group_with, inside_with, item_unless, item_with, items_with, member_unless, member_with, members_with, message_with, oneof_with}
 use Rattle.protox_options.proofs.NameLaws.{Local-int, Local-type_name}
 use Rattle.protox_options.proofs.OptionLaws.{Local-option, Local-options}

@@ -4,11 +4,11 @@ use Rattle.std.specs.Prelude.{if◌then◌else◌, bytes_eq, codes}
 use Rattle.descriptor_records.specs.declared.field.FieldType.{FieldType}
 use Rattle.descriptor_records.specs.declared.field.FieldType.TheVariants as types
 use Rattle.protox_declarations.specs.EnumGrammar.{an_enum_value, enum_item, enum_item_unless, enum_items, enumeration}
+use Rattle.protox_fields.specs.FieldGrammar.{field_type, map_by, map_or_name, map_type, ty, ty_after, ty_of}
 use Rattle.protox_lex.specs.Class.{Text}
 use Rattle.protox_lex.specs.Token.{sign}
 use Rattle.protox_lex.specs.declared.span.Span.{Span}
 use Rattle.protox_lex.specs.declared.token.Sign.TheVariants as s
-use Rattle.protox_messages.specs.FieldGrammar.{field_type, map_by, map_or_name, map_type, ty, ty_after, ty_of}
 use Rattle.protox_options.proofs.NameLaws.{Local-int, Local-parts}
 use Rattle.protox_options.proofs.OptionLaws.{Local-option, Local-options}
 use Rattle.protox_options.proofs.RangeLaws.{Local-reserved}

@@ -1,23 +1,23 @@
 //! What stands before a field's name.
 
 ghost use Rattle.std.specs.Prelude.{◌≡◌, ◌<◌, ◌≤◌, OnOk, Ok};
-ghost use Rattle.protox_messages.specs.FieldGrammar as spec;
+ghost use Rattle.protox_fields.specs.FieldGrammar as spec;
 ghost use Rattle.protox_tokens.specs.Left.{left};
 ghost use Rattle.protox_tokens.specs.Reads.{Reads};
 ghost use Rattle.protox_tokens.specs.Stream.{stream};
-ghost use Rattle.protox_tree.specs.NestView.{map_view, kind_view, extensions_view};
+ghost use Rattle.protox_tree.specs.NestView.{map_view, kind_view, extensions_view, field_view};
 ghost use Rattle.protox_tree.specs.View.{ty_view};
 
 use descriptor_records::Label;
 use protox_lex::{Sign, Span, token};
-use protox_options::{options, parts_after, ranges};
+use protox_options::{int, options, parts_after, ranges};
 use protox_tokens::{Stop, Tokens, across};
-use protox_tree::{Extensions, FieldKind, Map, Ty, TypeName};
+use protox_tree::{Extensions, Field, FieldKind, Map, Ty, TypeName};
 use std::alloc::Global;
 
 /// The type of a field: the word of a scalar type is always that type.
 #[tactic(auto, unfolding(crate::specs::FieldGrammar::ty))]
-pub fn ty<'a>(alloc: Global, tokens: &mut Tokens<'a>) -> Result<Ty, Stop<'a>>
+fn ty<'a>(alloc: Global, tokens: &mut Tokens<'a>) -> Result<Ty, Stop<'a>>
     ensures reads { Reads ty_view (spec.ty (stream tokens.old)) result tokens.new }
     ensures moves { OnOk result (left tokens.new < left tokens.old) }
 {
@@ -69,7 +69,7 @@ fn map_or_name<'a>(alloc: Global, tokens: &mut Tokens<'a>) -> Result<FieldKind, 
 
 /// A field's type.
 #[tactic(auto, unfolding(crate::specs::FieldGrammar::field_type))]
-pub fn field_type<'a>(alloc: Global, tokens: &mut Tokens<'a>) -> Result<FieldKind, Stop<'a>>
+fn field_type<'a>(alloc: Global, tokens: &mut Tokens<'a>) -> Result<FieldKind, Stop<'a>>
     ensures reads { Reads kind_view (spec.field_type (stream tokens.old)) result tokens.new }
     ensures moves { OnOk result (left tokens.new < left tokens.old) }
 {
@@ -113,5 +113,34 @@ pub fn extensions<'a>(alloc: Global, tokens: &mut Tokens<'a>) -> Result<Extensio
         ranges,
         options,
         span: across(first, close),
+    })
+}
+
+/// A field or a map behind its label. The label, if there is one, began at `start`; the field
+/// begins there.
+#[tactic(auto, unfolding(crate::specs::FieldGrammar::plain_field))]
+pub fn plain_field<'a>(
+    alloc: Global,
+    tokens: &mut Tokens<'a>,
+    start: Span,
+    label: Option<(Label, Span)>,
+) -> Result<Field, Stop<'a>>
+    ensures reads { Reads field_view (spec.plain_field start label (stream tokens.old))
+        result tokens.new }
+    ensures moves { OnOk result (left tokens.new < left tokens.old) }
+{
+    let kind = field_type(alloc, tokens)?;
+    let name = tokens.ident(alloc)?;
+    tokens.expect_sign(Sign::Equals)?;
+    let number = int(tokens)?;
+    let options = options(alloc, tokens)?;
+    let last = tokens.expect_sign(Sign::Semicolon)?;
+    Ok(Field {
+        label,
+        kind,
+        name,
+        number,
+        options,
+        span: across(start, last),
     })
 }

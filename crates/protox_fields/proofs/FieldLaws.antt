@@ -1,7 +1,7 @@
 -- The rules of fields look one token ahead, and those of which there are many take one.
 use Rattle.descriptor_records.specs.declared.field.FieldType.{FieldType}
+use Rattle.protox_fields.specs.FieldGrammar.{ty_of, ty_after, ty, map_type, map_by, map_or_name, field_type, extensions, Labelled, repeated_if, required_if, optional_if, label, plain_field}
 use Rattle.protox_lex.specs.declared.span.Span.{Span}
-use Rattle.protox_messages.specs.FieldGrammar.{ty_of, ty_after, ty, map_type, map_by, map_or_name, field_type, extensions, Labelled, repeated_if, required_if, optional_if, label, plain_field}
 use Rattle.protox_options.proofs.NameLaws.{Local-parts, Local-int}
 use Rattle.protox_options.proofs.OptionLaws.{Local-options}
 use Rattle.protox_options.proofs.RangeLaws.{Local-ranges}
