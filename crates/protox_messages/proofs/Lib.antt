@@ -1,1 +1,3 @@
+mod Behind
+mod Parts
 pub mod MessageLaws
