@@ -1,3 +1,3 @@
-mod Behind
+mod Choices
 mod Parts
 pub mod MessageLaws

@@ -1,7 +1,9 @@
 use Rattle.protox_declarations.specs.EnumGrammar.{enumeration}
-use Rattle.protox_messages.proofs.Behind.{Answers, behind, refused, last, chosen, passed}
+use Rattle.protox_fields.proofs.Behind.{Answers, behind, refused, last}
 use Rattle.protox_fields.specs.FieldGrammar.{extensions, label}
 use Rattle.protox_lex.specs.Token.{ident, sign}
+use Rattle.protox_lex.specs.declared.span.Span.{Span}
+use Rattle.protox_messages.proofs.Choices.{chosen, passed}
 use Rattle.protox_messages.proofs.MessageLaws.{item_turns, member_turns, added_turns, Local-block}
 use Rattle.protox_messages.proofs.Parts.{message_parts, field_parts, oneof_parts, extend_parts, item_message_is, item_enum_is, item_extend_is, item_extensions_is, item_reserved_is, item_option_is, item_oneof_is, item_field_is, item_empty_is, member_field_is, member_option_is, member_empty_is, added_field_is, added_empty_is}
 use Rattle.protox_messages.specs.MessageGrammar.{block, group_with, field_with, message_with, item_with, items_with, inside_with, member_with, members_with, oneof_with, added_with, all_added_with, extend_with, group_if, Block}
@@ -13,10 +15,9 @@ use Rattle.protox_tokens.specs.Parser.{Outcome, Parser, ◌>>=◌, expect, eat, 
 use Rattle.protox_tokens.specs.Reads.{Fails}
 use Rattle.protox_tokens.specs.Span.{across}
 use Rattle.protox_tokens.specs.Stream.{Stream, stream, source, peek, span_of}
-use Rattle.protox_lex.specs.declared.span.Span.{Span}
 use Rattle.protox_tree.specs.Nest.{Field, message, items_of, item_field, item_oneof, item_message, item_enum, item_extend, item_extensions, item_reserved, item_option, item_empty, field, group, a_group, oneof, members_of, member_field, member_option, member_empty, extend, added_of, added_field, added_empty}
-use Rattle.protox_tree.specs.View.{ident_view, type_name_view, option_list_view, option_view, reserved_view, enum_view}
 use Rattle.protox_tree.specs.NestView.{extensions_view, message_view, item_view, items_view, field_view, oneof_view, member_view, members_view, extend_view, added_view, added_items_view}
+use Rattle.protox_tree.specs.View.{ident_view, type_name_view, option_list_view, option_view, reserved_view, enum_view}
 use Rattle.std.proofs.Common.{◌≡◌, ◌++◌, ◌∷◌, [], ◌∙◌, ap, sym, true, false, not, arith, refl, subst, Ok}
 use Rattle.std.proofs.lemmas.List.{map_push}
 use Rattle.std.proofs.lemmas.Result.{err_from_is_err_and}
