@@ -1,5 +1,5 @@
 -- What a pool knows, and the names of its entries, by the records of its files.
-use Rattle.std.proofs.Common.{◌≡◌, ◌<◌, ◌≤◌, ◌+◌, ℕ, zero, suc, List, [], ◌∷◌, ◌++◌, map, take, drop, length, Bool, true, false, cond, nat_lt, Option, Some, None, is_some, append_assoc, zero-add, ap, sym, subst, ◌∙◌, arith, refl}
+use Rattle.std.proofs.Common.{◌≡◌, ◌<◌, ◌≤◌, ◌+◌, ℕ, zero, suc, List, [], ◌∷◌, ◌++◌, map, take, drop, length, Bool, true, false, cond, nat_lt, Some, None, is_some, append_assoc, zero-add, ap, sym, subst, ◌∙◌, arith, refl}
 use Rattle.std.proofs.lemmas.List.{append-nil, take-append-drop, take-map}
 use Rattle.std.proofs.lemmas.List.Elements.{filter-append}
 use Rattle.std.specs.List.{AllByRecursion}
