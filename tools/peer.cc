@@ -1,6 +1,7 @@
 // Measures what tools/bench.rattle measures, by the C++ library of protobuf. `tools/measure` builds and runs it.
 //
 // usage: peer FOLDER [SOURCE], where FOLDER holds the inputs that `tools/measure` wrote and SOURCE is a descriptor.proto.
+// peer count-look-ups LABEL SOURCE ROUNDS looks up the names of a source's messages in so many rounds and prints nothing.
 
 #include <google/protobuf/compiler/importer.h>
 #include <google/protobuf/compiler/parser.h>
@@ -126,7 +127,22 @@ void SetRows(const std::string& label, const std::string& text) {
   });
 }
 
-void LinkRows(const std::string& label, const std::string& text, int count) {
+// Looks up the names of message types, each of which has to be there.
+void LookUp(const pb::DescriptorPool& pool, const std::vector<std::string>& names) {
+  for (const std::string& name : names) {
+    if (pool.FindMessageTypeByName(name) == nullptr) Require(false, name);
+  }
+}
+
+std::vector<std::string> MessageNames(const pb::FileDescriptor& file) {
+  std::vector<std::string> names;
+  for (int i = 0; i < file.message_type_count(); ++i) {
+    names.push_back(file.message_type(i)->full_name());
+  }
+  return names;
+}
+
+void LinkRows(const std::string& label, const std::string& text) {
   pb::FileDescriptorProto file;
   Parse(text, &file);
   file.set_name(kName);
@@ -135,18 +151,23 @@ void LinkRows(const std::string& label, const std::string& text, int count) {
     Require(pool.BuildFile(file) != nullptr, "a file is not linked");
   });
   pb::DescriptorPool pool;
-  Require(pool.BuildFile(file) != nullptr, "a file is not linked");
-  std::vector<std::string> names;
+  const pb::FileDescriptor* linked = pool.BuildFile(file);
+  Require(linked != nullptr, "a file is not linked");
+  std::vector<std::string> names = MessageNames(*linked);
   size_t bytes = 0;
-  for (int i = 0; i < count; ++i) {
-    names.push_back("generated.Message" + std::to_string(i));
-    bytes += names.back().size();
-  }
-  Row("look up", label, bytes, [&] {
-    for (const std::string& name : names) {
-      Require(pool.FindMessageTypeByName(name) != nullptr, name);
-    }
-  });
+  for (const std::string& name : names) bytes += name.size();
+  Row("look up", label, bytes, [&] { LookUp(pool, names); });
+}
+
+void LookUpRounds(const std::string& text, int rounds) {
+  pb::FileDescriptorProto file;
+  Parse(text, &file);
+  file.set_name(kName);
+  pb::DescriptorPool pool;
+  const pb::FileDescriptor* linked = pool.BuildFile(file);
+  Require(linked != nullptr, "a file is not linked");
+  std::vector<std::string> names = MessageNames(*linked);
+  for (int i = 0; i < rounds; ++i) LookUp(pool, names);
 }
 
 std::string Printed(const pb::Message& message) {
@@ -237,6 +258,10 @@ void AllMessageRows(const std::string& folder) {
 }  // namespace
 
 int main(int argc, char** argv) {
+  if (argc == 5 && std::string(argv[1]) == "count-look-ups") {
+    LookUpRounds(ReadFile(argv[3]), std::atoi(argv[4]));
+    return 0;
+  }
   Require(argc == 2 || argc == 3, "usage: peer FOLDER [SOURCE]");
   std::string folder = argv[1];
   if (argc == 3) {
@@ -250,7 +275,7 @@ int main(int argc, char** argv) {
   }
   for (int count : {100, 1000, 10000}) {
     std::string label = "messages-" + std::to_string(count);
-    LinkRows(label, ReadFile(folder + "/" + label + ".proto"), count);
+    LinkRows(label, ReadFile(folder + "/" + label + ".proto"));
   }
   AllMessageRows(folder);
 }
