@@ -1,2 +1,3 @@
 mod Exclusive
 mod Putting
+mod Staying

@@ -1,3 +1,4 @@
 pub mod Gives
+pub mod Others
 pub mod Puts
 pub mod Siblings

@@ -9,6 +9,7 @@ ghost use Rattle.reflect_message.specs.Declares.{Declares};
 ghost use Rattle.reflect_message.specs.Lists.{list_items, Lengthens, KeepsList};
 ghost use Rattle.reflect_message.specs.Held.{fields_of, Same};
 ghost use Rattle.reflect_extend.specs.Gives.{Gives, GivesEntry, IsPart};
+ghost use Rattle.reflect_extend.specs.Others.{KeepsOther};
 ghost use Rattle.reflect_extend.specs.Puts.{Puts, PutsAll, PutsFront, PutsEntries, PutsSome};
 
 use reflect_entries::Entries;
@@ -19,7 +20,8 @@ use std::alloc::{AllocError, Global};
 use std::collections::BTreeMap;
 
 /// Puts values behind those of a list, or the entries that they are into a map, each over what
-/// stood under its key. Of a field that is neither nothing happens.
+/// stood under its key. Of a field that is neither nothing happens, nor where something else stands
+/// under its number.
 ///
 /// A refusal leaves the values of a list; a map has then perhaps some of the entries.
 pub fn extend<'p, F: FieldDescriptorLike<'p>>(
@@ -36,6 +38,9 @@ pub fn extend<'p, F: FieldDescriptorLike<'p>>(
     ensures left { holds_list (F.pool field.now) (F.says field.now) ≡ true
         → OnErr result (KeepsList (value_at content.old (F.says field.now).number)
         (value_at content.new (F.says field.now).number)) }
+    ensures other { holds_list (F.pool field.now) (F.says field.now) ≡ true
+        → KeepsOther (value_at content.old (F.says field.now).number)
+        (value_at content.new (F.says field.now).number) }
     ensures map { holds_map (F.pool field.now) (F.says field.now) ≡ true
         → OnOk result (PutsEntries (value_at content.old (F.says field.now).number)
         (value_at content.new (F.says field.now).number) values.entry.items) }
@@ -57,11 +62,12 @@ pub fn extend<'p, F: FieldDescriptorLike<'p>>(
     Ok(())
 }
 
-/// Puts values behind those of a list. Refused, the list is as before.
+/// Puts values behind those of a list; what is no list stays. Refused, the list is as before.
 fn append<'p>(list: &mut Value<'p>, mut values: Vec<Value<'p>>) -> Result<(), AllocError>
     ensures more { OnOk result (IfSome (list_items list.old)
         (λ before. list_items list.new ≡ Some (before ++ values.entry.items))) }
     ensures left { OnErr result (list_items list.new ≡ list_items list.old) }
+    ensures other { list_items list.old ≡ None → list.new ≡ list.old }
 {
     let Value::List(held) = list else {
         return Ok(());

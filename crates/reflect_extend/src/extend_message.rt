@@ -8,6 +8,7 @@ ghost use Rattle.reflect_message.specs.Declares.{Declares, Owns};
 ghost use Rattle.reflect_message.specs.Held.{fields_of, choices_of, extensions_of, unknown_of, Same};
 ghost use Rattle.reflect_message.specs.Lists.{Lengthens, KeepsList};
 ghost use Rattle.reflect_message.specs.Oneofs.{AreChosen, IsExclusive, sibling};
+ghost use Rattle.reflect_extend.specs.Others.{KeepsOther};
 ghost use Rattle.reflect_extend.specs.Puts.{PutsEntries, PutsSome};
 ghost use Rattle.reflect_extend.specs.Siblings.{LacksSibling};
 
@@ -27,7 +28,7 @@ pub trait ExtendMessage<'p> {
     /// Puts values that suit it behind those of the field, one of the message's type: of a list as
     /// its elements, and of a map as its entries, which are messages of the entries' type, each
     /// over what stood under its key. The other members of its oneof are unset. Of a field that
-    /// holds one value nothing happens.
+    /// holds one value nothing happens, nor to what stands under its number and is no list or map.
     ///
     /// A refusal leaves the values of a list, and of a map perhaps some of the entries more.
     fn extend_field(
@@ -46,6 +47,9 @@ pub trait ExtendMessage<'p> {
             → OnErr result (KeepsList (value_at (fields_of (message self.old))
             (field_type field.now).number)
             (value_at (fields_of (message self.new)) (field_type field.now).number)) }
+        ensures other { holds_list (field_pool field.now) (field_type field.now) ≡ true
+            → KeepsOther (value_at (fields_of (message self.old)) (field_type field.now).number)
+            (value_at (fields_of (message self.new)) (field_type field.now).number) }
         ensures map { holds_map (field_pool field.now) (field_type field.now) ≡ true
             → OnOk result (PutsEntries (value_at (fields_of (message self.old))
             (field_type field.now).number)
@@ -90,6 +94,10 @@ pub trait ExtendMessage<'p> {
             ≡ true → OnErr result (KeepsList
             (value_at (extensions_of (message self.old)) (extension_type extension.now).number)
             (value_at (extensions_of (message self.new)) (extension_type extension.now).number)) }
+        ensures other { holds_list (extension_pool extension.now) (extension_type extension.now)
+            ≡ true → KeepsOther
+            (value_at (extensions_of (message self.old)) (extension_type extension.now).number)
+            (value_at (extensions_of (message self.new)) (extension_type extension.now).number) }
         ensures map { holds_map (extension_pool extension.now) (extension_type extension.now)
             ≡ true → OnOk result (PutsEntries
             (value_at (extensions_of (message self.old)) (extension_type extension.now).number)
@@ -161,6 +169,9 @@ fn extend_parts<'p>(
     ensures left { holds_list (field_pool field.now) (field_type field.now) ≡ true
         → OnErr result (KeepsList (value_at parts.old.fields (field_type field.now).number)
         (value_at parts.new.fields (field_type field.now).number)) }
+    ensures other { holds_list (field_pool field.now) (field_type field.now) ≡ true
+        → KeepsOther (value_at parts.old.fields (field_type field.now).number)
+        (value_at parts.new.fields (field_type field.now).number) }
     ensures map { holds_map (field_pool field.now) (field_type field.now) ≡ true
         → OnOk result (PutsEntries (value_at parts.old.fields (field_type field.now).number)
         (value_at parts.new.fields (field_type field.now).number) values.entry.items) }

@@ -4,6 +4,7 @@ use Rattle.reflect_message.specs.Lists.{items_held}
 use Rattle.reflect_message.specs.declared.value.Value.{Map, Value, the_lemmas}
 use Rattle.reflect_message.proofs.Lengthening.{lengthens_slot, items_of_slot}
 use Rattle.reflect_extend.proofs.Putting.{puts_none_at, ok_slot, err_slot}
+use Rattle.reflect_extend.proofs.Staying.{other_at, other_slot}
 use Rattle.reflect_extend.specs.Puts.{PutsAll, PutsFront}
 use Rattle.reflect_extend.proofs.extend.extend.Goals as goal
 
@@ -12,6 +13,15 @@ returns-then-is_list-clause-list g c = λ list.
     let number = c.number-number in
     let held = items_of_slot (value_at c.args.content.now number.result) _ _ c.in_ok-list.ensures.value (search (rules, the_lemmas)) in
     lengthens_slot _ _ _ _ (held ∙ ap (λ n. items_held (value_at c.args.content.now n)) number.ensures) (search rules) c.append.result c.args.values.items c.append.ensures.more
+
+pub returns-then-is_list-clause-other : goal.returns-then-is_list-clause-other
+returns-then-is_list-clause-other g c = λ list.
+    let number = c.number-number in
+    other_slot (value_at c.args.content.now) number.result _ _ _ _ _ number.ensures c.in_ok-list.ensures.value (search rules) c.append.ensures.other
+
+pub returns-in_err-list-clause-other : goal.returns-in_err-list-clause-other
+returns-in_err-list-clause-other g c = λ list. let same : c.slot-then-is_list.follows.lender-at-none ≡ c.args.content.now = search rules in
+    other_at _ _ (g.F.FieldDescriptorLike.says c.args.field.now).number same
 
 pub returns-in_err-map-clause-part : goal.returns-in_err-map-clause-part
 returns-in_err-map-clause-part g c = λ map. let same : c.slot-then-is_map.follows.lender-at-none ≡ c.args.content.now = search rules in

@@ -2,11 +2,16 @@ use Rattle.std.proofs.Common.{refl, ◌∙◌}
 use Rattle.reflect_pool.specs.FieldsLeft.{field_type}
 use Rattle.reflect_message.proofs.Choosing.{chosen_next, makes_room, room_exclusive, room_keeps, unsets_changes}
 use Rattle.reflect_extend.proofs.Putting.{puts_none_at}
+use Rattle.reflect_extend.proofs.Staying.{other_at}
 use Rattle.reflect_extend.proofs.extend_message.extend_parts.Goals as goal
 
 pub returns-in_err-make_room-clause-part : goal.returns-in_err-make_room-clause-part
 returns-in_err-make_room-clause-part c = λ map. let held = c.args.parts.now.fields in
     puts_none_at c.from_residual.result held held (field_type c.args.field.now).number c.args.values.items refl
+
+pub returns-in_err-make_room-clause-other : goal.returns-in_err-make_room-clause-other
+returns-in_err-make_room-clause-other c = λ list. let held = c.args.parts.now.fields in
+    other_at held held (field_type c.args.field.now).number refl
 
 pub returns-clause-chosen : goal.returns-clause-chosen
 returns-clause-chosen c = λ m owns chosen.

@@ -7,6 +7,7 @@ use Rattle.reflect_message.specs.Lists.{KeepsList}
 use Rattle.reflect_message.specs.declared.parts.Parts.{Parts}
 use Rattle.reflect_extend.proofs.Exclusive.{put_back}
 use Rattle.reflect_extend.proofs.Putting.{puts_none_at, left_back}
+use Rattle.reflect_extend.proofs.Staying.{other_at, other_back}
 use Rattle.reflect_extend.proofs.extend_message.DynamicMessageExtendMessage.extend_extension.Goals as goal
 
 pub returns-in_err-parts-clause-part : goal.returns-in_err-parts-clause-part
@@ -17,6 +18,15 @@ returns-clause-left c = λ list.
     let out = ap (λ (parts : Parts). parts.extensions) c.deref_mut.ensures.value ∙ c.in_ok-parts.ensures.extensions in
     left_back c.extend-outcome.result KeepsList (extensions_of c.args.self.now) c.deref_mut.result.now.extensions c.extend-outcome.new.content (extensions_of c.put_block.new.self) (extension_type c.args.extension.now).number
     out c.put_block.ensures.extensions (c.extend-outcome.ensures.left list)
+
+pub returns-in_err-parts-clause-other : goal.returns-in_err-parts-clause-other
+returns-in_err-parts-clause-other c = λ list. other_at (extensions_of c.args.self.now) (extensions_of c.take_block.new.self) (extension_type c.args.extension.now).number (ap extensions_of c.in_err-parts.ensures.err)
+
+pub returns-clause-other : goal.returns-clause-other
+returns-clause-other c = λ list.
+    let out = ap (λ (parts : Parts). parts.extensions) c.deref_mut.ensures.value ∙ c.in_ok-parts.ensures.extensions in
+    other_back (extensions_of c.args.self.now) c.deref_mut.result.now.extensions c.extend-outcome.new.content (extensions_of c.put_block.new.self) (extension_type c.args.extension.now).number
+    out c.put_block.ensures.extensions (c.extend-outcome.ensures.other list)
 
 pub returns-in_err-parts-clause-exclusive : goal.returns-in_err-parts-clause-exclusive
 returns-in_err-parts-clause-exclusive c = subst IsExclusive (sym c.in_err-parts.ensures.err)

@@ -6,6 +6,7 @@ use Rattle.reflect_message.specs.Lists.{KeepsList}
 use Rattle.reflect_message.specs.declared.parts.Parts.{Parts}
 use Rattle.reflect_extend.proofs.Exclusive.{stays_exclusive}
 use Rattle.reflect_extend.proofs.Putting.{puts_none_at, left_back}
+use Rattle.reflect_extend.proofs.Staying.{other_at, other_back}
 use Rattle.reflect_extend.proofs.extend_message.DynamicMessageExtendMessage.extend_field.Goals as goal
 
 pub returns-in_err-parts-clause-part : goal.returns-in_err-parts-clause-part
@@ -16,6 +17,15 @@ returns-clause-left c = λ list.
     let out = ap (λ (parts : Parts). parts.fields) c.deref_mut.ensures.value ∙ c.in_ok-parts.ensures.fields in
     left_back c.extend_parts-outcome.result KeepsList (fields_of c.args.self.now) c.deref_mut.result.now.fields c.extend_parts-outcome.new.parts.fields (fields_of c.put_block.new.self) (field_type c.args.field.now).number
     out c.put_block.ensures.fields (c.extend_parts-outcome.ensures.left list)
+
+pub returns-in_err-parts-clause-other : goal.returns-in_err-parts-clause-other
+returns-in_err-parts-clause-other c = λ list. other_at (fields_of c.args.self.now) (fields_of c.take_block.new.self) (field_type c.args.field.now).number (ap fields_of c.in_err-parts.ensures.err)
+
+pub returns-clause-other : goal.returns-clause-other
+returns-clause-other c = λ list.
+    let out = ap (λ (parts : Parts). parts.fields) c.deref_mut.ensures.value ∙ c.in_ok-parts.ensures.fields in
+    other_back (fields_of c.args.self.now) c.deref_mut.result.now.fields c.extend_parts-outcome.new.parts.fields (fields_of c.put_block.new.self) (field_type c.args.field.now).number
+    out c.put_block.ensures.fields (c.extend_parts-outcome.ensures.other list)
 
 pub returns-clause-exclusive : goal.returns-clause-exclusive
 returns-clause-exclusive c = λ owns.

@@ -1,0 +1,9 @@
+-- What stands under a list's number and is no list.
+use Rattle.std.specs.Prelude.{◌≡◌, Option, None, Some}
+use Rattle.reflect_message.specs.Lists.{list_items}
+use Rattle.reflect_message.specs.declared.value.Value.{Value}
+
+-- a value that is no list stays
+abbrev pub KeepsOther : Option Value → Option Value → Type 0
+KeepsOther None new = Unit {0}
+KeepsOther (Some v) new = list_items v ≡ None → new ≡ Some v
