@@ -1,7 +1,7 @@
 //! Laws of what texts spell, each the contract of a function that does nothing.
 //!
-//! `Spells z tree` says that the tokens of the text `z` are read as this tree, `RefusedBy z fault` that they are refused with this
-//! fault.
+//! `Spells z tree` says that the tokens of the text `z` are read as this tree, `RefusedBy z fault`
+//! that they are refused with this fault.
 
 ghost use Rattle.protox_file.specs.FileGrammar.{file};
 ghost use Rattle.protox_file.specs.OlderGrammar.{SpellsOlder};

@@ -1,8 +1,8 @@
 //! Laws of what sources are answered with, each the contract of a function that does nothing.
 //!
-//! `Spells z tree` says that the tokens of the text `z` are read as this tree, and `IsAnswered name z result` that this is what a
-//! source of this text is answered with under this name. So a source has a record exactly where it spells a tree without faults,
-//! unless memory runs out.
+//! `Spells z tree` says that the tokens of the text `z` are read as this tree, and `IsAnswered name
+//! z result` that this is what a source of this text is answered with under this name. So a source
+//! has a record exactly where it spells a tree without faults, unless memory runs out.
 
 ghost use Rattle.descriptor_records.specs.Content as records;
 ghost use Rattle.descriptor_records.specs.declared.file.FileDescriptorProto.{FileDescriptorProto};

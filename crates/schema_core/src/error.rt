@@ -82,7 +82,8 @@ impl SchemaError {
     }
 }
 
-/// `file:line:column: text` where the place is known, else `file: text` where the file is, else the text.
+/// `file:line:column: text` where the place is known, else `file: text` where the file is, else the
+/// text.
 impl fmt::Display for SchemaError {
     ghost output = { λ e. Some (said e) };
 

@@ -106,8 +106,8 @@ impl Schema {
     /// Adds the files of a descriptor set, as protobuf's `FileDescriptorSet` is written, as one
     /// batch.
     ///
-    /// `Wire` where the bytes are no set; else as `add_sources` does and refuses with files that are parsed. Any refusal leaves
-    /// the schema as it was.
+    /// `Wire` where the bytes are no set; else as `add_sources` does and refuses with files that
+    /// are parsed. Any refusal leaves the schema as it was.
     pub fn add_descriptor_set(&mut self, bytes: &[u8]) -> Result<(), SchemaError>
         ensures unchanged { OnErr result (self.new.pool ≡ self.old.pool) }
         ensures linked { OnOk result (SetLinked self.old.pool bytes.now self.new.pool) }

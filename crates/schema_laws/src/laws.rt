@@ -1,8 +1,8 @@
 //! Laws of `Schema::decode` and `Schema::recode`, each the contract of a function that does
 //! nothing. `Decoded s.pool name bytes text` and `Recoded s.pool name bytes out` are what these
 //! calls promise where a schema `s` answers: that the bytes spell a message of the named type, that
-//! `text` is what is printed of it, and `out` what is written of it. `IsNoMessage s.pool name bytes e` is what they promise where
-//! they refuse bytes as a message of a known type.
+//! `text` is what is printed of it, and `out` what is written of it. `IsNoMessage s.pool name bytes
+//! e` is what they promise where they refuse bytes as a message of a known type.
 ghost use Rattle.std.specs.Prelude.{◌≡◌, ◌<◌, ◌^◌, ℕ, List, length, map};
 ghost use Rattle.protobuf_model.specs.Coded.{AreOlderThan, IsAccepted, IsRecoded, Mean};
 ghost use Rattle.protobuf_model.specs.Older.{IsOlder};

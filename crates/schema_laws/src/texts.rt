@@ -1,5 +1,5 @@
-//! Laws of `Schema::encode` and of what `Schema::decode` prints, in the words of the model of texts,
-//! each the contract of a function that does nothing. `Encoded s.pool name text out` is what
+//! Laws of `Schema::encode` and of what `Schema::decode` prints, in the words of the model of
+//! texts, each the contract of a function that does nothing. `Encoded s.pool name text out` is what
 //! `encode` promises where a schema `s` answers: that the text spells fields of the named type, and
 //! `out` is what is written of the message that they make. `IsNoText s.pool name text kind` is what
 //! it promises where it refuses a text as one of a known type.
@@ -71,7 +71,8 @@ pub fn printed_texts_encode_to_the_recoded_bytes()
 /// And it is not refused as a text of the type, unless memory runs out.
 pub fn printed_texts_are_taken()
     ensures { (s : Schema) (decoded : Name → List ℕ → Option Message)
-        → HasSourceNames s.pool → (name bytes text : List ℕ) → AreBytes bytes → Decoded s.pool name bytes text
+        → HasSourceNames s.pool → (name bytes text : List ℕ) → AreBytes bytes
+        → Decoded s.pool name bytes text
         → (m : Message) → Mean (types_of s.pool) (without_dot name) bytes m
         → IsPlain (types_of s.pool) (without_dot name) m
         → open_braces (printed own_form (schema_of s.pool decoded) (without_dot name) m) ≤ 100
@@ -87,9 +88,9 @@ pub fn encoded_bytes_are_accepted()
         × Mean (types_of s.pool) (without_dot name) out m }
 {}
 
-/// Where names are spelled as in sources, what a schema prints of the bytes that it encoded a text to
-/// encodes to these bytes again, and is not refused unless memory runs out, if no more than 100 braces
-/// are open in it at once.
+/// Where names are spelled as in sources, what a schema prints of the bytes that it encoded a text
+/// to encodes to these bytes again, and is not refused unless memory runs out, if no more than 100
+/// braces are open in it at once.
 pub fn reprinted_texts_encode_to_the_same_bytes()
     ensures same { (s : Schema) (decoded : Name → List ℕ → Option Message)
         → HasSourceNames s.pool → (name text out reprint again : List ℕ) → AreBytes text

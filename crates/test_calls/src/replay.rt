@@ -1,7 +1,8 @@
 //! Cases of calls. A `pool` case makes a pool, which later cases of its file name by its `id`; what
 //! they ask has a `type` of it.
 //!
-//! `op` names what the calls are made of, `calls` has them, and each has under `is` what it answers. Bytes are hex text.
+//! `op` names what the calls are made of, `calls` has them, and each has under `is` what it
+//! answers. Bytes are hex text.
 
 use crate::texts::{replay_message, replay_values};
 use crate::types::TypeCase;

@@ -1,8 +1,9 @@
 //! Cases as data: each is a line of JSON with what is asked, and under `expect` what has to come,
 //! member by member.
 //!
-//! `op` names what is asked, `id` the case. A `schema` case builds a schema in steps, which later cases of its file name by its
-//! `id`; after a refused last step it is the schema of the steps before. Bytes are hex text.
+//! `op` names what is asked, `id` the case. A `schema` case builds a schema in steps, which later
+//! cases of its file name by its `id`; after a refused last step it is the schema of the steps
+//! before. Bytes are hex text.
 
 use crate::messages::{tell_asked, tell_merged, tell_printed};
 use crate::schemas::{tell_options, tell_steps};

@@ -11,7 +11,8 @@ use Rattle.text_model.specs.Identifiers.{is_identifier, is_full_name}
 use Rattle.text_model.specs.Printed.{parts}
 use Rattle.message_view.specs.Types.{field_at}
 
--- no two fields of a type have one name, nor two values of an enum, nor two extensions one full name
+-- no two fields of a type have one name, nor two values of an enum, nor two extensions one full
+-- name
 pub record HaveOwnNames (pool : PoolType) : Type 0 where
   pub fields : (i j k : ℕ) → j < length (type_at pool i).fields
       → k < length (type_at pool i).fields

@@ -1,4 +1,5 @@
-//! Laws of the names and types of pools in texts, each the contract of a function that does nothing.
+//! Laws of the names and types of pools in texts, each the contract of a function that does
+//! nothing.
 ghost use Rattle.std.specs.Prelude.{ℕ, List, Option};
 ghost use Rattle.protobuf_model.specs.Types.{Name};
 ghost use Rattle.protobuf_model.specs.Values.{Message};
@@ -26,7 +27,8 @@ pub fn sound_pools_have_sound_types()
         → HasSoundTypes (schema_of pool decoded) }
 {}
 
-/// Where the names of a pool are spelled as in sources, the defaults of its maps' entries hold bytes.
+/// Where the names of a pool are spelled as in sources, the defaults of its maps' entries hold
+/// bytes.
 pub fn defaults_as_in_sources_hold_bytes()
     ensures { (pool : PoolType) → IsSound pool → HasSourceNames pool
         → HaveSmallDefaults (types_of pool) }
