@@ -43,7 +43,7 @@ pub both_true : (a b : Bool) → (a && b) ≡ true → (a ≡ true) × (b ≡ tr
 both_true true b e = (refl, e)
 both_true false b e = absurd (cc e)
 
-parent_is : (i : ℕ) (o : Option ℕ) → is_parent i o ≡ true → o ≡ Some i
+pub parent_is : (i : ℕ) (o : Option ℕ) → is_parent i o ≡ true → o ≡ Some i
 parent_is i None e = absurd (cc e)
 parent_is i (Some j) e = let same : j ≡ i = grind (arith, e) in ap Some same
 
@@ -86,7 +86,7 @@ of_extension_body : (m : Met) (b : Body) (x : ExtensionType) → IsExtensionFrom
 of_extension_body m (of_extension r) x h = (r, refl, h)
 of_extension_body m b x h = absurd h
 
-list_of : {X Y : Type 0} (g : X → List Y) (xs : List X) (k : ℕ) (x : X) → slice_get xs k ≡ Some x
+pub list_of : {X Y : Type 0} (g : X → List Y) (xs : List X) (k : ℕ) (x : X) → slice_get xs k ≡ Some x
     → list_at (map g xs) k ≡ g x
 list_of g [] k x e = absurd (cc e)
 list_of g (y ∷ xs) zero x e = let same : y ≡ x = cc e in ap g same

@@ -1,0 +1,175 @@
+-- Entries keep their records where each record of a pool stays, or one that gives the same names
+-- stands in its place.
+use Rattle.std.proofs.Common.{◌≡◌, ℕ, ℤ, List, [], ◌∷◌, map, Option, Some, refl, sym, ap, ◌∙◌, subst, arith, slice_get}
+use Rattle.descriptor_records.specs.Content.{FieldContent, OneofContent, EnumValueContent, EnumContent, MethodContent, ServiceContent, MessageContent, message, MessageContents, no_messages, more_messages, FileContent, file_view}
+use Rattle.descriptor_records.specs.declared.file.FileDescriptorProto.{FileDescriptorProto}
+use Rattle.reflect_known.specs.GivenNames.{EnumNames, ServiceNames, MessageNames, message_names, NestedNames, more_names, FileNames, names_of_file}
+use Rattle.reflect_known.proofs.MessageNames.{nested_of}
+use Rattle.reflect_growth.specs.Settled.{bare_field, bare_oneof, bare_value, bare_enum, bare_method, bare_service, bare_message, bare_messages, bare_file, bare_of}
+use Rattle.reflect_growth.proofs.Told.{enum_told, service_told, message_told, messages_told, file_told, file_seen}
+use Rattle.reflect_link.specs.Records.{message_along, field_along, oneof_along, enum_along, value_along, extension_along, service_along, method_along}
+use Rattle.reflect_pool.specs.Linked.{empty_pool}
+use Rattle.reflect_tables.specs.Types.{PoolType, IsSettled}
+use Rattle.linked_messages.proofs.Among.{get_map, got_map}
+use Rattle.linked_names.proofs.Lists.{mapped}
+use Rattle.linked_records.specs.AtPaths.{Stands, HaveRecords, message_name, field_name, oneof_name, enum_name, value_name, service_name, method_name}
+use Rattle.linked_records.proofs.Alike.{Moves, AllMove, all_move}
+
+-- for each record of the first pool there is one in the second that gives the same names
+pub record IsKeptFile (new : PoolType) (n : ℕ) (f : FileDescriptorProto) : Type 0 where
+  pub own : FileDescriptorProto
+  pub at : slice_get new.records n ≡ Some own
+  pub moves : AllMove f own
+
+abbrev pub KeepFiles : PoolType → PoolType → Type 0
+KeepFiles old new = (n : ℕ) (f : FileDescriptorProto) → slice_get old.records n ≡ Some f
+    → IsKeptFile new n f
+
+module _ (old new : PoolType) (kept : KeepFiles old new) where
+  stays : {X : Type 0} (along : FileDescriptorProto → List ℤ → Option X) (name_of : X → List ℕ)
+      → ((f g : FileDescriptorProto) → AllMove f g → Moves along name_of f g)
+      → (n : ℕ) (path : List ℤ) (name : List ℕ) → Stands along name_of old n path name
+      → Stands along name_of new n path name
+  stays along name_of moves n path name s =
+      let f = kept n s.of_file s.there in
+      let found = moves s.of_file f.own f.moves path s.own s.at in
+      record {
+        of_file = f.own;
+        own = found.0;
+        there = f.at;
+        at = found.1;
+        named = found.2 ∙ s.named;
+      }
+
+  pub message_stays : (n : ℕ) (path : List ℤ) (name : List ℕ)
+      → Stands message_along message_name old n path name
+      → Stands message_along message_name new n path name
+  message_stays = stays message_along message_name (λ f g m. m.messages)
+
+  pub field_stays : (n : ℕ) (path : List ℤ) (name : List ℕ)
+      → Stands field_along field_name old n path name
+      → Stands field_along field_name new n path name
+  field_stays = stays field_along field_name (λ f g m. m.fields)
+
+  pub oneof_stays : (n : ℕ) (path : List ℤ) (name : List ℕ)
+      → Stands oneof_along oneof_name old n path name
+      → Stands oneof_along oneof_name new n path name
+  oneof_stays = stays oneof_along oneof_name (λ f g m. m.oneofs)
+
+  pub enum_stays : (n : ℕ) (path : List ℤ) (name : List ℕ)
+      → Stands enum_along enum_name old n path name
+      → Stands enum_along enum_name new n path name
+  enum_stays = stays enum_along enum_name (λ f g m. m.enums)
+
+  pub value_stays : (n : ℕ) (path : List ℤ) (name : List ℕ)
+      → Stands value_along value_name old n path name
+      → Stands value_along value_name new n path name
+  value_stays = stays value_along value_name (λ f g m. m.values)
+
+  pub extension_stays : (n : ℕ) (path : List ℤ) (name : List ℕ)
+      → Stands extension_along field_name old n path name
+      → Stands extension_along field_name new n path name
+  extension_stays = stays extension_along field_name (λ f g m. m.extensions)
+
+  pub service_stays : (n : ℕ) (path : List ℤ) (name : List ℕ)
+      → Stands service_along service_name old n path name
+      → Stands service_along service_name new n path name
+  service_stays = stays service_along service_name (λ f g m. m.services)
+
+  pub method_stays : (n : ℕ) (path : List ℤ) (name : List ℕ)
+      → Stands method_along method_name old n path name
+      → Stands method_along method_name new n path name
+  method_stays = stays method_along method_name (λ f g m. m.methods)
+
+-- ---- a pool without files
+
+pub empty_has : HaveRecords empty_pool
+empty_has = record {
+  messages = λ i lt. absurd (omega (arith, lt));
+  fields = λ i j lt less. absurd (omega (arith, lt));
+  oneofs = λ i j lt less. absurd (omega (arith, lt));
+  enums = λ i lt. absurd (omega (arith, lt));
+  values = λ i j lt less. absurd (omega (arith, lt));
+  extensions = λ i lt. absurd (omega (arith, lt));
+  services = λ i lt. absurd (omega (arith, lt));
+  methods = λ i j lt less. absurd (omega (arith, lt));
+}
+
+-- ---- settled options, of which the names that a file gives say nothing
+
+enum_bare : (e : EnumContent) → enum_told (bare_enum e) ≡ enum_told e
+enum_bare e = ap {B = EnumNames} (λ vs. record { name = e.name; values = vs })
+    (mapped (λ (v : EnumValueContent). v.name) bare_value (λ v. v.name) (λ v. refl) e.value)
+
+service_bare : (s : ServiceContent) → service_told (bare_service s) ≡ service_told s
+service_bare s = ap {B = ServiceNames} (λ ms. record { name = s.name; methods = ms })
+    (mapped (λ (m : MethodContent). m.name) bare_method (λ m. m.name) (λ m. refl) s.method)
+
+mutual
+  message_bare : (m : MessageContent) → message_told (bare_message m) ≡ message_told m
+  message_bare (message name fields others nested enums ranges oneofs options reserved names) =
+      let fs = mapped (λ (f : FieldContent). f.name) bare_field (λ f. f.name) (λ f. refl) fields in
+      let xs = mapped (λ (f : FieldContent). f.name) bare_field (λ f. f.name) (λ f. refl) others in
+      let es = mapped enum_told bare_enum enum_told enum_bare enums in
+      let os = mapped (λ (o : OneofContent). o.name) bare_oneof (λ o. o.name) (λ o. refl) oneofs in
+      let inner = messages_bare nested in
+      λ i. message_names name (fs i) (inner i) (es i) (xs i) (os i)
+
+  messages_bare : (ms : MessageContents) → messages_told (bare_messages ms) ≡ messages_told ms
+  messages_bare no_messages = refl
+  messages_bare (more_messages m ms) = λ i. more_names (message_bare m i) (messages_bare ms i)
+
+file_bare : (f : FileContent) → file_told (bare_file f) ≡ file_told f
+file_bare f =
+    let ms = ap nested_of (mapped message_told bare_message message_told message_bare f.message_type)
+    in
+    let es = mapped enum_told bare_enum enum_told enum_bare f.enum_type in
+    let ss = mapped service_told bare_service service_told service_bare f.service in
+    let xs = mapped (λ (x : FieldContent). x.name) bare_field (λ x. x.name) (λ x. refl) f.extension
+    in
+    λ i. record {
+      package_name = f.package_name;
+      messages = ms i;
+      enums = es i;
+      services = ss i;
+      extensions = xs i;
+    }
+
+names_bare : (f g : FileDescriptorProto) → bare_of g ≡ bare_of f
+    → names_of_file g ≡ names_of_file f
+names_bare f g e =
+    file_seen g ∙ sym (file_bare (file_view g)) ∙ ap file_told e ∙ file_bare (file_view f)
+    ∙ sym (file_seen f)
+
+settled_files : (old new : PoolType) → map bare_of new.records ≡ map bare_of old.records
+    → KeepFiles old new
+settled_files old new same n f at =
+    let found = got_map bare_of new.records n (bare_of f)
+    (ap (λ l. slice_get l n) same ∙ get_map bare_of old.records n f at) in
+    record {
+      own = found.0;
+      at = found.1;
+      moves = all_move f found.0 (names_bare f found.0 found.2);
+    }
+
+with_records : (old : PoolType) (records : List FileDescriptorProto)
+    → map bare_of records ≡ map bare_of old.records → HaveRecords old
+    → HaveRecords (record old { records = records })
+with_records old records same has =
+    let new : PoolType = record old { records = records } in
+    let kept = settled_files old new same in
+    record {
+      messages = λ i lt. message_stays old new kept _ _ _ (has.messages i lt);
+      fields = λ i j lt less. field_stays old new kept _ _ _ (has.fields i j lt less);
+      oneofs = λ i j lt less. oneof_stays old new kept _ _ _ (has.oneofs i j lt less);
+      enums = λ i lt. enum_stays old new kept _ _ _ (has.enums i lt);
+      values = λ i j lt less. value_stays old new kept _ _ _ (has.values i j lt less);
+      extensions = λ i lt. extension_stays old new kept _ _ _ (has.extensions i lt);
+      services = λ i lt. service_stays old new kept _ _ _ (has.services i lt);
+      methods = λ i j lt less. method_stays old new kept _ _ _ (has.methods i j lt less);
+    }
+
+pub settled_has : (old new : PoolType) → IsSettled old new
+    → map bare_of new.records ≡ map bare_of old.records → HaveRecords old → HaveRecords new
+settled_has old new settled same has =
+    subst HaveRecords (sym settled) (with_records old new.records same has)
