@@ -135,7 +135,7 @@ file_bare f =
       extensions = xs i;
     }
 
-names_bare : (f g : FileDescriptorProto) → bare_of g ≡ bare_of f
+pub names_bare : (f g : FileDescriptorProto) → bare_of g ≡ bare_of f
     → names_of_file g ≡ names_of_file f
 names_bare f g e =
     file_seen g ∙ sym (file_bare (file_view g)) ∙ ap file_told e ∙ file_bare (file_view f)

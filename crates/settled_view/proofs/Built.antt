@@ -1,0 +1,51 @@
+-- Pools that are built but for their options.
+use Rattle.std.proofs.Common.{◌≡◌, ◌∙◌, List, [], ◌∷◌, map, ap, refl}
+use Rattle.descriptor_records.specs.Content.{FileContent, file_view}
+use Rattle.descriptor_records.specs.declared.file.FileDescriptorProto.{FileDescriptorProto}
+use Rattle.reflect_build.specs.Accepted.{FaultlessFiles}
+use Rattle.reflect_build.specs.Refusals.{IsOf, Linking, new_files}
+use Rattle.reflect_pool.specs.Linked.{empty_pool}
+use Rattle.reflect_tables.specs.Types.{PoolType}
+use Rattle.linked_messages.specs.Kept.{IsKept}
+use Rattle.linked_view.specs.Alone.{IsRecorded}
+use Rattle.linked_view.specs.Extended.{IsIndexed}
+use Rattle.linked_view.proofs.Together.{built_more, empty_built}
+use Rattle.settled_view.specs.BuiltBut.{IsBuiltBut, Settles}
+use Rattle.settled_view.proofs.Transfer.{recorded_before, indexed_before, kept_before}
+use Rattle.settled_view.proofs.Unsettled.{linking, is_before, added, batch_before, added_settles}
+
+itself : (p : PoolType) → Settles p p
+itself p = record { settled = refl; bare = refl }
+
+pub empty_built_but : IsBuiltBut [] empty_pool
+empty_built_but = record {
+  linked = empty_pool;
+  built = empty_built;
+  settles = itself empty_pool;
+}
+
+-- one that is settled twice is settled
+twice : (a b c : PoolType) → Settles a b → Settles b c → Settles a c
+twice a b c s t = record {
+  settled = t.settled ∙ ap (λ (q : PoolType). record q { records = c.records }) s.settled;
+  bare = t.bare ∙ s.bare;
+}
+
+pub built_but_more : (earlier : List (List FileContent)) (old linked new : PoolType)
+    (files : List FileDescriptorProto) → IsBuiltBut earlier old → IsRecorded new → IsIndexed new
+    → IsKept new → FaultlessFiles old files linked → Settles linked new
+    → (w : Linking) × IsOf old w
+    × IsBuiltBut (map file_view (new_files w.indexes files) ∷ earlier) new
+built_but_more earlier old linked new files is recorded index kept (w, of, (names, batch)) settles =
+    let before = is.linked in
+    let ns = new_files w.indexes files in
+    let one = added before old is.settles w of ns linked batch in
+    let whole = twice one linked new (added_settles before old is.settles w of ns linked batch) settles
+    in
+    let more = built_more earlier before one files is.built (recorded_before one new whole recorded)
+    (indexed_before one new whole index) (kept_before one new whole kept) (
+      linking before old is.settles w of,
+      is_before before old is.settles w of,
+      (names, batch_before before old is.settles w of ns linked batch),
+    ) in
+    (w, of, record { linked = one; built = more.2; settles = whole })

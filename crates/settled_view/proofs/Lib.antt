@@ -1,0 +1,3 @@
+pub mod Transfer
+pub mod Unsettled
+pub mod Built
