@@ -2,3 +2,4 @@ pub mod Recoding
 pub mod Encoding
 pub mod Naming
 pub mod PresentMessages
+pub mod AddedBatches

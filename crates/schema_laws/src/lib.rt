@@ -1,6 +1,7 @@
 //! Laws of what a schema encodes, decodes and recodes, in the words of the model. It has no code.
 #![tactic(auto)]
 
+pub mod batches;
 pub mod laws;
 pub mod names;
 pub mod presence;

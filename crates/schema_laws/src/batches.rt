@@ -1,0 +1,38 @@
+//! Laws of the batches that a schema is built of, each the contract of a function that does
+//! nothing. With them the laws of `schema_view` speak of schemas: a batch is what was added, without
+//! the files that were there, and with the options that linking reads where it reads them.
+ghost use Rattle.std.specs.Prelude.{◌∷◌, ℕ, List, map};
+ghost use Rattle.descriptor_records.specs.Content.{FileContent, file_view};
+ghost use Rattle.descriptor_records.specs.declared.file.FileDescriptorProto.{FileDescriptorProto};
+ghost use Rattle.option_parts.specs.TypedOptions.{TypedFiles};
+ghost use Rattle.reflect_build.specs.Refusals.{IsOf, Linking, new_files};
+ghost use Rattle.reflect_bytes.specs.Spelled.{SpellsSet};
+ghost use Rattle.linked_messages.specs.Kept.{IsKept};
+ghost use Rattle.linked_view.specs.Alone.{IsRecorded};
+ghost use Rattle.linked_view.specs.Extended.{IsIndexed};
+ghost use Rattle.settled_view.specs.BuiltBut.{IsBuiltBut};
+ghost use Rattle.schema_core.specs.Refusals.{AreFilesOf, SetLinked, SourcesLinked};
+ghost use Rattle.schema_core.specs.declared.schema.Schema.{Schema};
+
+/// Sources that are added are one batch more. What is asked of the new schema's pool each pool has,
+/// as `pools_are_recorded`, `pools_are_indexed` and `pools_are_linked` say.
+pub fn added_sources_are_a_batch()
+    ensures { (earlier : List (List FileContent)) (old new : Schema)
+        (sources : List (List ℕ × List ℕ)) → IsBuiltBut earlier old.pool
+        → IsRecorded new.pool → IsIndexed new.pool → IsKept new.pool
+        → SourcesLinked old.pool sources new.pool
+        → (files typed : List FileDescriptorProto) × (w : Linking) × AreFilesOf sources files
+        × TypedFiles files typed × IsOf old.pool w
+        × IsBuiltBut (map file_view (new_files w.indexes typed) ∷ earlier) new.pool }
+{}
+
+/// And so are descriptor sets.
+pub fn added_sets_are_a_batch()
+    ensures { (earlier : List (List FileContent)) (old new : Schema) (bytes : List ℕ)
+        → IsBuiltBut earlier old.pool
+        → IsRecorded new.pool → IsIndexed new.pool → IsKept new.pool
+        → SetLinked old.pool bytes new.pool
+        → (files typed : List FileDescriptorProto) × (w : Linking) × SpellsSet bytes files
+        × TypedFiles files typed × IsOf old.pool w
+        × IsBuiltBut (map file_view (new_files w.indexes typed) ∷ earlier) new.pool }
+{}
