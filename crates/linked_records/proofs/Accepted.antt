@@ -245,10 +245,10 @@ module _ (old new : PoolType) (ns : List FileDescriptorProto) (w : Linking) (is 
   -- ---- their parts
 
   -- what an entry of a part is paired with
-  record IsPart {X : Type 0} (OfMet : Met → X → Type 0) (parent : ℕ) (x : X) : Type 0 where
+  record IsPart {X : Type 0} (OfMet : Met → X → Type 0) (whole : ℕ) (x : X) : Type 0 where
     its : Met
     here : Among its.declaration all
-    parent_is : its.declaration.parent ≡ Some parent
+    up : its.declaration.parent ≡ Some whole
     says : OfMet its x
 
   part_at : {X : Type 0} (sort : Body → Bool) (OfMet : Met → X → Type 0) (i : ℕ) (xs : List X)
@@ -262,7 +262,7 @@ module _ (old new : PoolType) (ns : List FileDescriptorProto) (w : Linking) (is 
       record {
         its = zipped.0;
         here = of_along hand all zipped.0 whole.0;
-        parent_is = parent_is i d.parent (both_true (sort d.body) _ whole.1).1;
+        up = parent_is i d.parent (both_true (sort d.body) _ whole.1).1;
         says = zipped.2;
       }
 
@@ -302,7 +302,7 @@ module _ (old new : PoolType) (ns : List FileDescriptorProto) (w : Linking) (is 
         let whole = subst (HasWhole (w.first + its.place) all x.parent) r.1 its.placed.whole in
         stands_by oneof_along names.oneof_name (λ f g y. y.oneofs) x its r.0 leads
         (message_of m).file o.path o.name
-        (message_file k m at (w.first + its.place) x.parent whole p.parent_is)
+        (message_file k m at (w.first + its.place) x.parent whole p.up)
         (ap (λ (y : OneofType). y.path) (sym stored.2) ∙ ap (λ (y : OneofName). y.path) r.2)
         (ap (λ (y : OneofType). y.name) (sym stored.2) ∙ ap (λ (y : OneofName). y.name) r.2)
 
@@ -323,7 +323,7 @@ module _ (old new : PoolType) (ns : List FileDescriptorProto) (w : Linking) (is 
       let leads = subst (Leads its.own x.path) r.1 its.placed.leads in
       let whole = subst (HasWhole (w.first + its.place) all x.parent) r.1 its.placed.whole in
       stands_by value_along value_name (λ f g y. y.values) x its r.0 leads (enum_of e).file v.path
-      v.name (enum_file k e at (w.first + its.place) x.parent whole p.parent_is)
+      v.name (enum_file k e at (w.first + its.place) x.parent whole p.up)
       (ap (λ (y : ValueType). y.path) r.2) (ap (λ (y : ValueType). y.name) r.2)
 
   new_method : (k : ℕ) (s : StoredService) (at : slice_get b.services.items k ≡ Some s) (j : ℕ)
@@ -343,7 +343,7 @@ module _ (old new : PoolType) (ns : List FileDescriptorProto) (w : Linking) (is 
       let leads = subst (Leads its.own x.path) r.1 its.placed.leads in
       let whole = subst (HasWhole (w.first + its.place) all x.parent) r.1 its.placed.whole in
       stands_by method_along method_name (λ f g z. z.methods) x its r.0 leads (service_of s).file
-      y.path y.name (service_file k s at (w.first + its.place) x.parent whole p.parent_is)
+      y.path y.name (service_file k s at (w.first + its.place) x.parent whole p.up)
       r.2.path r.2.name
 
   new_extension : (x : ExtensionType) → Among x (map extension_of b.extensions.items)

@@ -124,13 +124,13 @@ Leads f path body = elim body [
 ]
 
 -- the index that a part tells is that of a declaration of the sort, in the same file
-pub record IsPartOf (sort : Body → Bool) (file : ℕ) (all : List Declaration)
-    (parent : Option ℕ) : Type 0 where
+pub record IsPartOf (sort : Body → Bool) (in_file : ℕ) (all : List Declaration)
+    (up : Option ℕ) : Type 0 where
   pub whole : Declaration
   pub among : Among whole all
   pub is : sort whole.body ≡ true
-  pub file : whole.file ≡ file
-  pub parent : parent ≡ Some whole.index
+  pub file : whole.file ≡ in_file
+  pub parent : up ≡ Some whole.index
 
 abbrev pub HasWhole : ℕ → List Declaration → Option ℕ → Body → Type 0
 HasWhole file all parent body = elim body [
@@ -196,12 +196,12 @@ module _ (f : FileDescriptorProto) (i : ℕ) (all : List Declaration) where
       each_from one 0 xs (λ j x at. subst (OfEntry one x) (start j) (step j x at))
 
   -- what has parts
-  record IsWhole (sort : Body → Bool) (index : ℕ) : Type 0 where
+  record IsWhole (sort : Body → Bool) (n : ℕ) : Type 0 where
     whole : Declaration
     among : Among whole all
     is : sort whole.body ≡ true
     file : whole.file ≡ i
-    index : whole.index ≡ index
+    index : whole.index ≡ n
 
   part_of : (sort : Body → Bool) (index : ℕ) → IsWhole sort index
       → IsPartOf sort i all (Some index)
