@@ -1,5 +1,5 @@
 -- What stands under a list's number and is no list.
-use Rattle.std.proofs.Common.{◌≡◌, ℕ, List, Option, None, Some, ap, ◌∙◌, unwrap_or}
+use Rattle.std.proofs.Common.{◌≡◌, ℕ, List, Option, None, Some, sym, ap, ◌∙◌, subst, unwrap_or}
 use Rattle.reflect_entries.specs.Entries.{value_at}
 use Rattle.reflect_message.specs.Lists.{list_items}
 use Rattle.reflect_message.specs.declared.value.Value.{Value}
@@ -25,4 +25,6 @@ other_slot held n m new empty slot filled number is put stays =
 -- what was taken out of a message and is put back
 pub other_back : (before taken left behind : List (ℕ × Value)) (n : ℕ) → taken ≡ before → behind ≡ left → KeepsOther (value_at taken n) (value_at left n)
     → KeepsOther (value_at before n) (value_at behind n)
-other_back before taken left behind n out back h = rw (out, back) h
+other_back before taken left behind n out back h =
+    subst (λ l. KeepsOther (value_at l n) (value_at behind n)) out
+    (subst (λ l. KeepsOther (value_at taken n) (value_at l n)) (sym back) h)

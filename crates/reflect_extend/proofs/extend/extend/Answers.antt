@@ -20,7 +20,7 @@ returns-then-is_list-clause-other g c = λ list.
     other_slot (value_at c.args.content.now) number.result _ _ _ _ _ number.ensures c.in_ok-list.ensures.value (search rules) c.append.ensures.other
 
 pub returns-in_err-list-clause-other : goal.returns-in_err-list-clause-other
-returns-in_err-list-clause-other g c = λ list. let same : c.slot-then-is_list.follows.lender-at-none ≡ c.args.content.now = search rules in
+returns-in_err-list-clause-other g c = λ list. let same : c.slot.follows.lender-at-none ≡ c.args.content.now = search rules in
     other_at _ _ (g.F.FieldDescriptorLike.says c.args.field.now).number same
 
 pub returns-in_err-map-clause-part : goal.returns-in_err-map-clause-part
