@@ -116,7 +116,9 @@ module _ (f g : FileDescriptorProto) (same : names_of_file f ≡ names_of_file g
   below_same o p [] e = e
   below_same o p (number ∷ []) e = refl
   below_same o p (number ∷ place ∷ path) e =
-      below_same _ _ path (then_same names_of_message names_of_message
+      below_same (option_and_then (λ d. entry_of (pos 3) (nested_of d) number place) o)
+      (option_and_then (λ d. entry_of (pos 3) (nested_of d) number place) p) path
+      (then_same names_of_message names_of_message
       (λ d. entry_of (pos 3) (nested_of d) number place)
       (λ a b alike. entry_same names_of_message (nested_of a) (nested_of b)
       (nested_same a b alike) (pos 3) number place) o p e)

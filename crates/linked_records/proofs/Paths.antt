@@ -181,7 +181,7 @@ module _ (f : FileDescriptorProto) (i : ℕ) (all : List Declaration) where
   each_from : {A : Type 0} (one : ℕ → A → List Declaration) (k : ℕ) (xs : List A)
       → ((j : ℕ) (x : A) → slice_get xs j ≡ Some x → OfEntry one x (k + j))
       → AreAll (each one k xs) → AllPlaced (each one k xs)
-  each_from one k [] step inside d h = absurd h
+  each_from one k [] step inside = λ d h. absurd h
   each_from one k (x ∷ xs) step inside =
       both Placed (one k x) (each one (k + 1) xs)
       (subst (OfEntry one x) (here k) (step 0 x refl)
@@ -368,7 +368,7 @@ module _ (f : FileDescriptorProto) (i : ℕ) (all : List Declaration) where
         → message_along f (entry path tag (k + j)) ≡ Some m)
         → AreAll (trees_declarations path tag scope i parent k o ts)
         → AllPlaced (trees_declarations path tag scope i parent k o ts)
-    trees_placed path tag scope parent k o no_messages ms is leads inside d h = absurd h
+    trees_placed path tag scope parent k o no_messages ms is leads inside = λ d h. absurd h
     trees_placed path tag scope parent k o (more_messages t ts) [] is leads inside =
         absurd (cc is)
     trees_placed path tag scope parent k o (more_messages t ts) (m ∷ ms) is leads inside =
@@ -425,7 +425,7 @@ pub record IsDeclared (all : List Declaration) (fs : List FileDescriptorProto) (
 batch_placed : (all : List Declaration) (o : Offsets) (i : ℕ) (fs : List FileDescriptorProto)
     → ((d : Declaration) → Among d (batch_declarations o i fs) → Among d all)
     → (d : Declaration) → Among d (batch_declarations o i fs) → IsDeclared all fs i d
-batch_placed all o i [] inside d h = absurd h
+batch_placed all o i [] inside = λ d h. absurd h
 batch_placed all o i (f ∷ fs) inside =
     let xs = file_declarations o i f in
     let ys = batch_declarations (past_file o f) (i + 1) fs in

@@ -101,48 +101,48 @@ module _ (sort : Body → Bool) (count : Offsets → ℕ) (counts : Counts sort 
       → AreCounted o ds p → (d : Declaration) → Among d ds → sort d.body ≡ true
       → IsAt (count o) (all_of sort (along h ds)) d
   stands_at o h [] p c d k is = absurd k
-  stands_at o h (e ∷ ds) p c d k is = by (sort e.body) refl k where
-    rest : List Met
-    rest = all_of sort (along (hand_behind h e) ds)
+  stands_at o h (e ∷ ds) p c d k is =
+      by (λ k. stands_at (past_one o e.body) (hand_behind h e) ds p c.1 d k is) (sort e.body) refl k
+    where
+      rest : List Met
+      rest = all_of sort (along (hand_behind h e) ds)
 
-    listed : Bool → List Met
-    listed b = cond b (met h e ∷ rest) rest
+      listed : Bool → List Met
+      listed b = cond b (met h e ∷ rest) rest
 
-    later : Among d ds → IsAt (count (past_one o e.body)) rest d
-    later k = stands_at (past_one o e.body) (hand_behind h e) ds p c.1 d k is
+      zeroth : (n : ℕ) → n ≡ n + 0
+      zeroth n = omega arith
 
-    zeroth : (n : ℕ) → n ≡ n + 0
-    zeroth n = omega arith
+      next : (n k : ℕ) → n + 1 + k ≡ n + suc k
+      next n k = omega arith
 
-    next : (n k : ℕ) → n + 1 + k ≡ n + suc k
-    next n k = omega arith
-
-    by : (b : Bool) → sort e.body ≡ b → (e ≡ d) ⊎ Among d ds → IsAt (count o) (listed (sort e.body)) d
-    by true yes (inl same) = record {
-      place = 0;
-      its = met h e;
-      index = ap (λ (x : Declaration). x.index) (sym same)
-          ∙ counts.own o e.index e.body yes c.0 ∙ zeroth (count o);
-      at = ap (λ b. slice_get (listed b) 0) yes;
-      is = same;
-    }
-    by false no (inl same) =
-        absurd (cc (sym no ∙ ap (λ (x : Declaration). sort x.body) same ∙ is))
-    by true yes (inr k) = let r = later k in record {
-      place = suc r.place;
-      its = r.its;
-      index = r.index ∙ ap (λ n. n + r.place) (counts.more o e.body yes)
-          ∙ next (count o) r.place;
-      at = ap (λ b. slice_get (listed b) (suc r.place)) yes ∙ r.at;
-      is = r.is;
-    }
-    by false no (inr k) = let r = later k in record {
-      place = r.place;
-      its = r.its;
-      index = r.index ∙ ap (λ n. n + r.place) (counts.same o e.body no);
-      at = ap (λ b. slice_get (listed b) r.place) no ∙ r.at;
-      is = r.is;
-    }
+      by : (Among d ds → IsAt (count (past_one o e.body)) rest d) → (b : Bool) → sort e.body ≡ b
+          → (e ≡ d) ⊎ Among d ds → IsAt (count o) (listed (sort e.body)) d
+      by later true on (inl same) = record {
+        place = 0;
+        its = met h e;
+        index = ap (λ (x : Declaration). x.index) (sym same)
+            ∙ counts.own o e.index e.body on c.0 ∙ zeroth (count o);
+        at = ap (λ b. slice_get (listed b) 0) on;
+        is = same;
+      }
+      by later false off (inl same) =
+          absurd (cc (sym off ∙ ap (λ (x : Declaration). sort x.body) same ∙ is))
+      by later true on (inr k) = let r = later k in record {
+        place = suc r.place;
+        its = r.its;
+        index = r.index ∙ ap (λ n. n + r.place) (counts.more o e.body on)
+            ∙ next (count o) r.place;
+        at = ap (λ b. slice_get (listed b) (suc r.place)) on ∙ r.at;
+        is = r.is;
+      }
+      by later false off (inr k) = let r = later k in record {
+        place = r.place;
+        its = r.its;
+        index = r.index ∙ ap (λ n. n + r.place) (counts.same o e.body off);
+        at = ap (λ b. slice_get (listed b) r.place) off ∙ r.at;
+        is = r.is;
+      }
 
   -- entries of the sort, by their declarations
   module _ (o : Offsets) (h : AtHand) (ds : List Declaration) (p : Offsets)

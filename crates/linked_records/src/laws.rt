@@ -13,21 +13,47 @@ ghost use Rattle.descriptor_records.specs.declared.service.ServiceDescriptorProt
 ghost use Rattle.reflect_build.specs.Accepted.{FaultlessFiles};
 ghost use Rattle.reflect_growth.specs.Settled.{bare_of};
 ghost use Rattle.reflect_link.specs.Lent.{
-    IsMessageOf, IsFieldOf, IsOneofOf, IsEnumOf, IsValueOf, IsExtensionOf, IsServiceOf, IsMethodOf,
+  IsMessageOf,
+  IsFieldOf,
+  IsOneofOf,
+  IsEnumOf,
+  IsValueOf,
+  IsExtensionOf,
+  IsServiceOf,
+  IsMethodOf,
 };
 ghost use Rattle.reflect_link.specs.Records.{
-    message_along, field_along, oneof_along, enum_along, value_along, extension_along,
-    service_along, method_along,
+  message_along,
+  field_along,
+  oneof_along,
+  enum_along,
+  value_along,
+  extension_along,
+  service_along,
+  method_along,
 };
 ghost use Rattle.reflect_pool.specs.Linked.{empty_pool};
 ghost use Rattle.reflect_pool.specs.Parts.{type_of_oneof, type_of_value, type_of_method};
 ghost use Rattle.reflect_tables.specs.Types.{
-    IsSettled, PoolType, type_at, type_of_field, enum_at, extension_at, service_at,
+  IsSettled,
+  PoolType,
+  type_at,
+  type_of_field,
+  enum_at,
+  extension_at,
+  service_at,
 };
 ghost use Rattle.linked_view.specs.Alone.{IsRecorded};
 ghost use Rattle.linked_records.specs.AtPaths.{
-    HaveRecords, IsOwn, message_name, field_name, oneof_name, enum_name, value_name, service_name,
-    method_name,
+  HaveRecords,
+  IsOwn,
+  message_name,
+  field_name,
+  oneof_name,
+  enum_name,
+  value_name,
+  service_name,
+  method_name,
 };
 
 /// In a pool without files each entry has its record, as there is none.

@@ -6,10 +6,21 @@ ghost use Rattle.descriptor_records.specs.declared.message.DescriptorProto.TheVi
 ghost use Rattle.descriptor_records.specs.declared.options.Options.{Options};
 ghost use Rattle.reflect_tables.specs.Types.{PoolType};
 ghost use Rattle.reflect_link.specs.Lent.{
-    IsMessageOf, IsFieldOf, IsExtensionOf, IsOneofOf, IsEnumOf, IsValueOf, IsServiceOf, IsMethodOf,
+  IsMessageOf,
+  IsFieldOf,
+  IsExtensionOf,
+  IsOneofOf,
+  IsEnumOf,
+  IsValueOf,
+  IsServiceOf,
+  IsMethodOf,
 };
 ghost use Rattle.reflect_dynamic.specs.StoredOptions.{
-    HasOptions, IsReadBy, IsRefusedBy, OfItsOptions, stored_bytes,
+  HasOptions,
+  IsReadBy,
+  IsRefusedBy,
+  OfItsOptions,
+  stored_bytes,
 };
 
 use descriptor_records::Options;
