@@ -24,7 +24,7 @@ use Rattle.linked_view.proofs.Accepted.{have_names, refs, told, known, known_all
 use Rattle.linked_view.proofs.Along.{ruled_to}
 use Rattle.linked_view.proofs.AtHand.{met_to_by}
 use Rattle.linked_view.proofs.Linked.{meanings}
-use Rattle.reflect_known.specs.KnownNames.{nothing_before, known_of_files}
+use Rattle.reflect_known.specs.KnownNames.{known_of_files}
 use Rattle.reflect_passes.specs.Linked.{linked_says}
 use Rattle.reflect_walk.specs.Declarations as walk
 use Rattle.reflect_walk.specs.Tree.{MessageParts}
@@ -32,7 +32,6 @@ use Rattle.schema_view.specs.Declarations as view
 use Rattle.linked_view.proofs.Accepted.{files_none}
 use Rattle.linked_view.proofs.Behind.{all_named, known_is}
 use Rattle.linked_view.proofs.Named.{in_all}
-use Rattle.std.proofs.lemmas.List.Elements.{Contains-append_right}
 use Rattle.std.specs.Prelude.{true}
 use Rattle.linked_view.specs.Extended.{IsIndexed}
 use Rattle.reflect_tables.specs.Names.{names_of}
@@ -52,12 +51,11 @@ use Rattle.schema_view.proofs.Lists.{contains_there}
 use Rattle.linked_view.specs.AtHand.{IsMetBy}
 use Rattle.linked_view.specs.Entries.{HaveOneUse}
 use Rattle.linked_view.specs.Ruled.{TellsOf}
-use Rattle.linked_view.proofs.Indexed.{message_index}
 use Rattle.linked_view.proofs.Known.{file_batch}
 use Rattle.linked_view.proofs.Listed.{batch_listed}
 use Rattle.linked_view.proofs.Once.{names_it, written_uses, one_use_map}
 use Rattle.linked_view.proofs.Places.{contains_get}
-use Rattle.linked_view.proofs.Ranged.{batch_all}
+use Rattle.linked_view.proofs.Ranged.{known_message}
 use Rattle.linked_view.proofs.Shapes.{entry_from}
 use Rattle.linked_view.proofs.Used.{uses_by, uses_of, uses_along, gives_uses, used, one_map}
 use Rattle.linked_view.proofs.Walked.{Seen, seen, seen_body, told as told_of, facts_in, inner_declarations, file_seen}
@@ -175,13 +173,8 @@ module _ (old new : PoolType) (ns : List FileDescriptorProto) (w : Linking) (is 
   -- it is known by its name, for its index
   pub knows_along : (n : Text) (m : view.MessageFacts) → (along : IsAlong ds n m)
       → all_known along.own.name ≡ Some (definition_of along.own)
-  knows_along n m along =
-      let x = along.own in
-      ap (λ (k : Known). k x.name) known_all_files
-      ∙ message_index all named_files x along.parts
-      (subst (λ l. Contains l x) (sym (batch_all old ns w is has))
-      (Contains-append_right (batch_declarations nothing_before 0 old.records) ds x along.there))
-      along.body
+  knows_along n m along = known_message old ns w is has named_files all_known known_all_files
+      along.own along.parts along.there along.body
 
   pub are_found : AreFound (found messages all_known) (names_of new messages)
   are_found = subst (λ k. AreFound (found messages k) (names_of new messages))

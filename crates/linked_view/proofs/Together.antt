@@ -14,9 +14,8 @@ use Rattle.reflect_pool.specs.Linked.{empty_pool}
 use Rattle.reflect_pool.specs.Stored.{SaysEntry as MarksEntry}
 use Rattle.reflect_scope.specs.Known.{Known}
 use Rattle.reflect_scope.specs.declared.definition.Definition.{Definition}
-use Rattle.reflect_scope.specs.declared.definition.DefinitionKind.{DefinitionKind}
 use Rattle.reflect_scope.specs.declared.definition.DefinitionKind.TheVariants as kind
-use Rattle.reflect_tables.specs.Names.{AreFound, found, message_name, messages, names_of, place_in, place_of, with_file}
+use Rattle.reflect_tables.specs.Names.{AreFound, found, message_name, messages, names_of}
 use Rattle.reflect_tables.specs.Types.{MessageType, PoolType}
 use Rattle.reflect_tables.specs.Views.{message_of}
 use Rattle.reflect_tables.specs.declared.stored.StoredMessage.{StoredMessage}
@@ -43,6 +42,7 @@ use Rattle.linked_view.proofs.AtHand.{met_to_by}
 use Rattle.linked_view.proofs.Defaulted.{defaults_suit}
 use Rattle.linked_view.proofs.Entries.{are_found, entries_once}
 use Rattle.linked_view.proofs.Extended.{key_once}
+use Rattle.linked_view.proofs.Found.{found_place, message_place}
 use Rattle.linked_view.proofs.Kept.{empty_has_names, pool_keeps}
 use Rattle.linked_view.proofs.Linked.{meanings}
 use Rattle.linked_view.proofs.Named.{in_all}
@@ -53,26 +53,6 @@ use Rattle.linked_view.proofs.Settling.{all_good, batch_holds}
 use Rattle.linked_view.proofs.Telling.{get_before, pool_tells, tells_new}
 use Rattle.linked_view.proofs.Valued.{pool_values}
 use Rattle.linked_view.proofs.Unused.{Unused, one_map_left, one_map_right, unused_before, unused_seen}
-
--- what stands for a message's place stands for a message
-message_found : (o : Option Definition) (i file : ℕ) → place_in messages o ≡ Some (i, file)
-    → (d : Definition) × (o ≡ Some d) × (d.kind ≡ kind.Message i)
-message_found None i file e = absurd (cc e)
-message_found (Some d) i file e = by d.kind refl where
-  by : (k : DefinitionKind) → d.kind ≡ k → (x : Definition) × (Some d ≡ Some x) × (x.kind ≡ kind.Message i)
-  by (kind.Message j) is =
-      let here : ◌≡◌ {A = Option (ℕ × ℕ)} (Some (j, d.file)) (Some (i, file)) =
-      sym (ap (λ k. with_file d (place_of messages k)) is) ∙ e in
-      let pair : ◌≡◌ {A = ℕ × ℕ} (j, d.file) (i, file) = cc here in
-      (d, refl, is ∙ ap (λ (p : ℕ × ℕ). kind.Message p.0) pair)
-  by kind.Package is = absurd (cc (sym (ap (λ k. with_file d (place_of messages k)) is) ∙ e))
-  by kind.Field is = absurd (cc (sym (ap (λ k. with_file d (place_of messages k)) is) ∙ e))
-  by kind.Oneof is = absurd (cc (sym (ap (λ k. with_file d (place_of messages k)) is) ∙ e))
-  by (kind.Enum j) is = absurd (cc (sym (ap (λ k. with_file d (place_of messages k)) is) ∙ e))
-  by kind.EnumValue is = absurd (cc (sym (ap (λ k. with_file d (place_of messages k)) is) ∙ e))
-  by (kind.Service j) is = absurd (cc (sym (ap (λ k. with_file d (place_of messages k)) is) ∙ e))
-  by kind.Method is = absurd (cc (sym (ap (λ k. with_file d (place_of messages k)) is) ∙ e))
-  by (kind.Extension j) is = absurd (cc (sym (ap (λ k. with_file d (place_of messages k)) is) ∙ e))
 
 module _ (old new : PoolType) (ns : List FileDescriptorProto) (w : Linking) (is : IsOf old w)
     (has : IsWellNamed old) (names : name_faults w.indexes w.known w.before w.first ns ≡ [])
@@ -109,8 +89,9 @@ module _ (old new : PoolType) (ns : List FileDescriptorProto) (w : Linking) (is 
         let named : slice_get (names_of new messages) i ≡ Some (t.full_name, t.file) =
         get_map message_name new.messages i t
         (ap (λ (ms : List MessageType). slice_get ms i) types_are ∙ here) in
-        message_found (all_known t.full_name) i t.file
-        ((stand t.full_name i t.file).1 named)
+        let d = found_place messages (all_known t.full_name) i t.file
+        ((stand t.full_name i t.file).1 named) in
+        (d.0, d.1, message_place d.0.kind i d.2)
 
     abbrev marks_by : Option StoredMessage → Bool
     marks_by o = elim o [ None ↦ false | Some m ↦ m.is_entry ]
