@@ -19,11 +19,13 @@ use Rattle.reflect_tables.specs.Types.{PoolType}
 use Rattle.reflect_tables.specs.Views.{message_of, ranges_of}
 use Rattle.reflect_tables.specs.declared.stored.StoredMessage.{StoredMessage}
 use Rattle.reflect_tables.specs.declared.tables.Tables.{Tables}
+use Rattle.reflect_names.specs.ReferencePass.{views_of}
 use Rattle.reflect_names.specs.ReferenceSteps.{target_of}
 use Rattle.reflect_names.specs.declared.resolve_visitor.Reference.{Reference}
 use Rattle.reflect_index.specs.Rewriting.{write_each, write_file, written}
 use Rattle.reflect_index.specs.OfDeclarations.{RangesType, AreDeclared, AllDeclared, messages_in, stored_ranges}
 use Rattle.reflect_passes.specs.Linked.{message_at, linked_says, linked_values}
+use Rattle.reflect_rules.specs.Walks.{Facts}
 use Rattle.reflect_passes.specs.NameFaults.{name_faults}
 use Rattle.reflect_passes.specs.declared.linked_types.LinkedTypes.{LinkedTypes}
 use Rattle.reflect_build.specs.Accepted.{FaultlessBatch, FaultlessFiles}
@@ -39,13 +41,15 @@ use Rattle.schema_view.specs.Lawful.{outlines, all_linked}
 use Rattle.linked_view.specs.Alone.{IsWellNamed, AreLawfulAlone}
 use Rattle.linked_view.specs.Known.{AreKnown}
 use Rattle.linked_view.specs.Named.{AreWellNamed}
-use Rattle.linked_view.specs.Passed.{facts_of, start_of, AreTold}
+use Rattle.linked_view.specs.AtHand.{AreMetBy}
+use Rattle.linked_view.specs.Passed.{facts_of, start_of, AreTold, ReferTo}
 use Rattle.linked_view.specs.Referred.{AreMeant, AreSeenBy}
-use Rattle.linked_view.specs.Ruled.{IsTyped, TellsOf, Each}
+use Rattle.linked_view.specs.Ruled.{AreRuled, IsTyped, TellsOf, Each}
 use Rattle.linked_view.specs.Taken.{in_order}
 use Rattle.linked_view.specs.Whole.{IsLabelled}
 use Rattle.linked_view.proofs.Along.{ruled_to}
-use Rattle.linked_view.proofs.Behind.{placed, are_known, seen_by, name_at}
+use Rattle.linked_view.proofs.AtHand.{met_to_by}
+use Rattle.linked_view.proofs.Behind.{placed, all_named, are_known, known_is, seen_by, name_at}
 use Rattle.linked_view.proofs.Faults.{none_both}
 use Rattle.linked_view.proofs.Fitting.{batch_fits}
 use Rattle.linked_view.proofs.Named.{named_to}
@@ -158,6 +162,14 @@ module _ (old new : PoolType) (ns : List FileDescriptorProto) (w : Linking) (is 
   known_all = are_known old ns w is has have_names files_none links batch.means.linked sees
       batch.means.right.right
 
+  pub named_files : AreWellNamed [] (map file_view all_files)
+  named_files = all_named old ns w is has have_names files_none links batch.means.linked sees
+      batch.means.right.right
+
+  pub known_files : known ≡ known_of_files all_files
+  known_files = known_is old ns w is has have_names files_none links batch.means.linked sees
+      batch.means.right.right
+
   pub seen_all : AreSeenBy all_files w.first ns sees
   seen_all = seen_by old ns w is has have_names files_none links batch.means.linked sees
       batch.means.right.right
@@ -205,26 +217,39 @@ module _ (old new : PoolType) (ns : List FileDescriptorProto) (w : Linking) (is 
       is.tables
       ∙ ap (λ fs. map file_view old.records ++ fs) written_is
 
+  abbrev facts : Facts
+  facts = facts_of batch.types w.before w.first ns batch.references
+
+  -- the declarations meet the rules by themselves, and by what they refer to
+  ruled : AreRuled (map file_view ns)
+      × ReferTo batch.types w.before w.first ns batch.references
+  ruled = ruled_to facts (linked_values batch.types) (batch_places ns w.first)
+      (start_of batch.references) w.before w.first ns have_names.complete refs.1 told batch.numbers
+
+  -- and so by what their names mean
+  pub all_met : AreMetBy facts (linked_values batch.types) (views_of known sees)
+      (batch_declarations w.before w.first ns)
+  all_met = met_to_by facts (linked_values batch.types) (views_of known sees)
+      (batch_places ns w.first) (start_of batch.references)
+      (batch_declarations w.before w.first ns) (sym batch.means.right.faults)
+      batch.means.right.targets ruled.1
+
   pub lawful_alone : AreLawfulAlone (map file_view old.records) (map file_view ns) (map file_view new.records)
-  lawful_alone =
-      let g = facts_of batch.types w.before w.first ns batch.references in
-      let ruled = ruled_to g (linked_values batch.types) (batch_places ns w.first)
-      (start_of batch.references) w.before w.first ns have_names.complete refs.1 told batch.numbers in
-      record {
-        meanings = meanings all_files known known_all indexes sees;
-        names = have_names;
-        means = λ f r j k. subst (λ fs. Means (outlines fs) (outline_of f) r
-            (meanings all_files known known_all indexes sees f r))
-            views_of_both (means_of f r j k);
-        sound = parts_sound (map file_view ns) (
-          have_names.complete,
-          refs.1,
-          refs.0,
-          ruled.0,
-          batch_fits (with_declared w ns) ns new batch kept.numbers,
-        );
-        stand = stand_linked;
-      }
+  lawful_alone = record {
+    meanings = meanings all_files known known_all indexes sees;
+    names = have_names;
+    means = λ f r j k. subst (λ fs. Means (outlines fs) (outline_of f) r
+        (meanings all_files known known_all indexes sees f r))
+        views_of_both (means_of f r j k);
+    sound = parts_sound (map file_view ns) (
+      have_names.complete,
+      refs.1,
+      refs.0,
+      ruled.0,
+      batch_fits (with_declared w ns) ns new batch kept.numbers,
+    );
+    stand = stand_linked;
+  }
 
   pub meanings_alone : lawful_alone.meanings
       ≡ meanings all_files known known_all indexes sees

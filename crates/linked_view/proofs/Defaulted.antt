@@ -9,7 +9,7 @@ use Rattle.reflect_scope.specs.declared.definition.DefinitionKind.TheVariants as
 use Rattle.reflect_scope.specs.Known.{Known}
 use Rattle.reflect_names.specs.Faults.{batch_places}
 use Rattle.reflect_names.specs.ReferencePass.{views_of}
-use Rattle.reflect_passes.specs.Linked.{enum_at, HasValue, linked_values}
+use Rattle.reflect_passes.specs.Linked.{enum_at, HasValue}
 use Rattle.reflect_passes.specs.NameFaults.{name_faults}
 use Rattle.reflect_passes.specs.declared.linked_types.LinkedTypes.{LinkedTypes}
 use Rattle.reflect_tables.specs.Names.{FullName, AreFound, found, place_in, place_of, with_file, enum_name, names_of, enums}
@@ -29,12 +29,10 @@ use Rattle.schema_view.proofs.Lists.{contains_here, contains_cases, contains_non
 use Rattle.schema_view.proofs.Road.{outlines_linked}
 use Rattle.linked_view.specs.Alone.{IsWellNamed, AreLawfulAlone}
 use Rattle.linked_view.specs.Extended.{IsIndexed}
-use Rattle.linked_view.specs.Passed.{facts_of, start_of}
+use Rattle.linked_view.specs.Passed.{facts_of}
 use Rattle.linked_view.specs.Valued.{NamedValues, values_in, written_values, kept_values, TellsValues, SuitEnums}
-use Rattle.linked_view.proofs.Accepted.{have_names, refs, told, known, known_all, indexes, names_at, lawful_alone, meanings_alone}
-use Rattle.linked_view.proofs.Along.{ruled_to}
+use Rattle.linked_view.proofs.Accepted.{all_met, known, known_all, indexes, names_at, lawful_alone, meanings_alone}
 use Rattle.linked_view.proofs.Behind.{get_behind}
-use Rattle.linked_view.proofs.AtHand.{met_to_by}
 use Rattle.linked_view.proofs.Found.{enum_place, found_place}
 use Rattle.linked_view.proofs.Linked.{meanings}
 use Rattle.linked_view.proofs.Places.{contains_get, get_contains, get_less, get_map, get_map_cases}
@@ -247,12 +245,7 @@ module _ (old new : PoolType) (ns : List FileDescriptorProto) (w : Linking) (is 
       let views = views_of all_known batch.means.right.sees in
       let ds = batch_declarations w.before w.first ns in
       let at = batch_places ns w.first in
-      let ruled = ruled_to g (linked_values batch.types) at (start_of batch.references) w.before w.first
-      ns (have_names old new ns w is has names batch kept).complete
-      (refs old new ns w is has names batch kept).1
-      (told old new ns w is has names batch kept) batch.numbers in
-      let met = met_to_by g (linked_values batch.types) views at (start_of batch.references) ds
-      (sym batch.means.right.faults) batch.means.right.targets ruled.1 in
+      let met = all_met old new ns w is has names batch kept in
       let all = known_all old new ns w is has names batch kept in
       let named = indexes old new ns w is has names batch kept in
       let good = all_good (old.records ++ ns) all_known all named batch.means.right.sees batch.types g at

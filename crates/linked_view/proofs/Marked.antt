@@ -68,8 +68,17 @@ declares_more a b full e = record {
 abbrev marks : StoredMessage → Bool
 marks m = m.is_entry
 
-abbrev marks_by : Option StoredMessage → Bool
+abbrev pub marks_by : Option StoredMessage → Bool
 marks_by o = elim o [ None ↦ false | Some m ↦ m.is_entry ]
+
+-- an older message among all
+pub older_at : (w : Linking) (t : LinkedTypes) → t.old.now ≡ w.tables → (i : ℕ) (m : StoredMessage)
+    → slice_get w.tables.messages.items i ≡ Some m → message_at t i ≡ Some m
+older_at w t tables i m e =
+    let olds = t.old.now.messages.items in
+    let news = t.new.now.messages.items in
+    both_at olds news i m (get_before olds news i m
+    (ap (λ (x : Tables). slice_get x.messages.items i) tables ∙ e))
 
 module _ (old : PoolType) (w : Linking) (is : IsOf old w) (has : IsWellNamed old)
     (marked : AreMarked old.records w.tables.messages.items) (t : LinkedTypes)
@@ -90,12 +99,8 @@ module _ (old : PoolType) (w : Linking) (is : IsOf old w) (has : IsWellNamed old
       let s = get_map_cases marks stored i (says_entry m.own.options)
       (ap (λ bs. slice_get bs i) marked
       ∙ get_map (λ (p : MessageParts). says_entry p.options) parts i m.own m.place) in
-      let olds = t.old.now.messages.items in
-      let news = t.new.now.messages.items in
-      let at : message_at t i ≡ Some s.0 =
-      both_at olds news i s.0 (get_before olds news i s.0
-      (ap (λ (x : Tables). slice_get x.messages.items i) tables ∙ s.1)) in
-      let says : says_entry m.own.options ≡ true = sym s.2 ∙ sym (ap marks_by at) ∙ entry in
+      let says : says_entry m.own.options ≡ true = sym s.2
+      ∙ sym (ap marks_by (older_at w t tables i s.0 s.1)) ∙ entry in
       record {
         file = m.file;
         message = m.message;

@@ -10,7 +10,6 @@ use Rattle.reflect_scope.specs.declared.definition.DefinitionKind.TheVariants as
 use Rattle.reflect_scope.specs.Known.{Known}
 use Rattle.reflect_names.specs.Faults.{batch_places}
 use Rattle.reflect_names.specs.ReferencePass.{views_of}
-use Rattle.reflect_passes.specs.Linked.{linked_values}
 use Rattle.reflect_passes.specs.NameFaults.{name_faults}
 use Rattle.reflect_tables.specs.Types.{PoolType}
 use Rattle.reflect_tables.specs.declared.tables.Tables.{Tables}
@@ -24,10 +23,9 @@ use Rattle.schema_view.specs.References.{linked}
 use Rattle.schema_view.proofs.Lists.{contains_none, contains_map, contains_map_cases}
 use Rattle.linked_view.specs.Alone.{IsWellNamed, AreLawfulAlone}
 use Rattle.linked_view.specs.Named.{AreWellNamed}
-use Rattle.linked_view.specs.Passed.{facts_of, start_of}
-use Rattle.linked_view.proofs.Accepted.{have_names, refs, told, known, known_all, indexes, names_at, lawful_alone, meanings_alone}
-use Rattle.linked_view.proofs.Along.{none_reserved, ruled_to}
-use Rattle.linked_view.proofs.AtHand.{met_to_by}
+use Rattle.linked_view.specs.Passed.{facts_of}
+use Rattle.linked_view.proofs.Accepted.{all_met, known_files, named_files, known, known_all, indexes, names_at, lawful_alone, meanings_alone}
+use Rattle.linked_view.proofs.Along.{none_reserved}
 use Rattle.linked_view.proofs.Linked.{meanings}
 use Rattle.linked_view.proofs.Places.{get_map}
 use Rattle.linked_view.proofs.Settling.{all_good, batch_holds}
@@ -54,9 +52,8 @@ use Rattle.schema_view.specs.Rules.{IsIn, HasBounds}
 use Rattle.reflect_build.proofs.Stored.{all_declared, zip_both}
 use Rattle.linked_view.specs.Ranged.{KeepNumbers}
 use Rattle.linked_view.specs.Ruled.{IsExtensionNumber}
-use Rattle.linked_view.proofs.Accepted.{files_none}
 use Rattle.linked_view.proofs.Along.{range_in, in_range}
-use Rattle.linked_view.proofs.Behind.{all_named, batch_on, first_is, known_is}
+use Rattle.linked_view.proofs.Behind.{batch_on, first_is}
 use Rattle.linked_view.proofs.Defaulted.{at_both, both_at}
 use Rattle.linked_view.proofs.Extended.{zip_at}
 use Rattle.linked_view.proofs.Indexed.{IsMessageAt, message_index, message_known}
@@ -204,16 +201,6 @@ module _ (old new : PoolType) (ns : List FileDescriptorProto) (w : Linking) (is 
   abbrev stored_all : List StoredMessage
   stored_all = batch.types.old.now.messages.items ++ batch.types.new.now.messages.items
 
-  named_files : AreWellNamed [] (map file_view all)
-  named_files = all_named old ns w is has (have_names old new ns w is has names batch kept)
-      (files_none old new ns w is has names batch kept) batch.means.links batch.means.linked
-      batch.means.right.sees batch.means.right.right
-
-  known_all_files : all_known ≡ known_of_files all
-  known_all_files = known_is old ns w is has (have_names old new ns w is has names batch kept)
-      (files_none old new ns w is has names batch kept) batch.means.links batch.means.linked
-      batch.means.right.sees batch.means.right.right
-
   stored_at : (i : ℕ) (own : MessageParts) (s : StoredMessage)
       → slice_get (messages_in (batch_declarations nothing_before 0 all)) i ≡ Some own
       → slice_get stored_all i ≡ Some s → HasRanges (declared_ranges own) s
@@ -223,7 +210,7 @@ module _ (old new : PoolType) (ns : List FileDescriptorProto) (w : Linking) (is 
       subst (HasRanges (declared_ranges own)) same r.2
 
   -- the ranges of a message, as they are kept and as its record has them
-  ranges_keep : (full : Text) (n : ℤ) (i : ℕ) (m : IsMessageAt all named_files full i)
+  ranges_keep : (full : Text) (n : ℤ) (i : ℕ) (m : IsMessageAt all (named_files old new ns w is has names batch kept) full i)
       (s : StoredMessage) → HasRanges (declared_ranges m.own) s → (r : pool.Range)
       → Contains (ranges_of s.extension_numbers) r → pool.IsIn n r
       → pool.IsRangeOf (ranges_of s.reserved_numbers) n None
@@ -266,8 +253,8 @@ module _ (old new : PoolType) (ns : List FileDescriptorProto) (w : Linking) (is 
             → Keeps (outlines (map file_view all)) full n
         by None e = absurd (contains_none r (subst (λ l. Contains l r) (ap extensions_by e) inside))
         by (Some s) e =
-            let m = message_known all named_files full d i
-            (ap (λ (k : Known). k full) (sym known_all_files) ∙ knows) same in
+            let m = message_known all (named_files old new ns w is has names batch kept) full d i
+            (ap (λ (k : Known). k full) (sym (known_files old new ns w is has names batch kept)) ∙ knows) same in
             let declared = stored_at i m.own s m.place (at_both batch.types.old.now.messages.items
             batch.types.new.now.messages.items i s e) in
             ranges_keep full n i m s declared r
@@ -280,12 +267,7 @@ module _ (old new : PoolType) (ns : List FileDescriptorProto) (w : Linking) (is 
       let views = views_of all_known batch.means.right.sees in
       let ds = batch_declarations w.before w.first ns in
       let at = batch_places ns w.first in
-      let ruled = ruled_to g (linked_values batch.types) at (start_of batch.references) w.before w.first
-      ns (have_names old new ns w is has names batch kept).complete
-      (refs old new ns w is has names batch kept).1
-      (told old new ns w is has names batch kept) batch.numbers in
-      let met = met_to_by g (linked_values batch.types) views at (start_of batch.references) ds
-      (sym batch.means.right.faults) batch.means.right.targets ruled.1 in
+      let met = all_met old new ns w is has names batch kept in
       let are = known_all old new ns w is has names batch kept in
       let named = indexes old new ns w is has names batch kept in
       let good = all_good all all_known are named batch.means.right.sees batch.types g at

@@ -22,8 +22,7 @@ use Rattle.schema_view.specs.Declarations.{declarations}
 use Rattle.schema_view.specs.Lawful.{Meanings, all_linked}
 use Rattle.linked_view.specs.Alone.{IsWellNamed}
 use Rattle.linked_view.specs.Extended.{WrittenKey, keys_of, written_keys, IsIndexed, HasWritten, TellsExtensions}
-use Rattle.linked_view.proofs.Accepted.{have_names, files_none, known_all, indexes, known, names_at, stand_linked}
-use Rattle.linked_view.proofs.Behind.{known_is}
+use Rattle.linked_view.proofs.Accepted.{known_files, known_all, indexes, known, names_at, stand_linked}
 use Rattle.linked_view.proofs.Extensions.{keys_zipped}
 use Rattle.linked_view.proofs.Linked.{meanings}
 
@@ -62,9 +61,7 @@ module _ (old new : PoolType) (ns : List FileDescriptorProto) (w : Linking) (is 
       (map-append names_of_file old.records batch.added.records.more
       ∙ ap (λ xs. map names_of_file old.records ++ xs) batch.added.records.names
       ∙ sym (map-append names_of_file old.records ns))
-      ∙ sym (known_is old ns w is has (have_names old new ns w is has names batch kept)
-      (files_none old new ns w is has names batch kept) batch.means.links batch.means.linked
-      batch.means.right.sees batch.means.right.right)
+      ∙ sym (known_files old new ns w is has names batch kept)
 
 module _ (old new : PoolType) (ns : List FileDescriptorProto) (w : Linking) (is : IsOf old w)
     (has : IsWellNamed old) (names : name_faults w.indexes w.known w.before w.first ns ≡ [])
