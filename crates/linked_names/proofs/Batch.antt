@@ -1,7 +1,7 @@
 -- What is known behind files in which no pass finds a fault, and which types stand where.
-use Rattle.std.proofs.Common.{◌≡◌, inl, inr, ◌<◌, ◌≤◌, ◌+◌, ◌++◌, ℕ, zero, suc, true, false, List, [], ◌∷◌, map, length, Option, None, Some, is_some, String, Global, slice_get, slice_index_or, refl, sym, ap, ◌∙◌, subst, arith}
+use Rattle.std.proofs.Common.{◌≡◌, inl, inr, ◌<◌, ◌+◌, ◌++◌, ℕ, zero, suc, true, false, List, [], ◌∷◌, map, length, Option, None, Some, is_some, String, Global, slice_get, slice_index_or, refl, sym, ap, ◌∙◌, subst, arith}
 use Rattle.std.proofs.lemmas.Bool.{cases_lt}
-use Rattle.std.proofs.lemmas.List.{map-append, append-nil, length-map}
+use Rattle.std.proofs.lemmas.List.{map-append}
 use Rattle.std.specs.List.{AllByRecursion}
 use Rattle.descriptor_records.specs.Content.{Text}
 use Rattle.descriptor_records.specs.declared.field.FieldDescriptorProto.{FieldDescriptorProto}
@@ -21,11 +21,9 @@ use Rattle.reflect_names.specs.FileNames.{with_files, files_faults}
 use Rattle.reflect_names.specs.NamePass.{faults_along}
 use Rattle.reflect_index.specs.DraftNames.{stored_message_name, stored_extension_name}
 use Rattle.reflect_index.specs.declared.batch.Batch.{Batch}
-use Rattle.reflect_index.proofs.Batched.{Stand, batch_stands, names_behind}
-use Rattle.reflect_index.proofs.Orders.{AreUpTo}
 use Rattle.reflect_passes.specs.NameFaults.{name_faults}
-use Rattle.reflect_tables.specs.Names.{Sort, FullName, AreFound, found, place_in, names_of, message_name, extension_name, messages, extensions}
-use Rattle.reflect_tables.specs.Types.{PoolType, MessageType, FileType, ArePooled, MessageWithin, ExtensionWithin, counts_of, no_type, type_at}
+use Rattle.reflect_tables.specs.Names.{FullName, AreFound, found, place_in, names_of, message_name, extension_name, messages, extensions}
+use Rattle.reflect_tables.specs.Types.{PoolType, MessageType, FileType, ArePooled, no_type, type_at}
 use Rattle.reflect_tables.specs.Views.{file_of, record_of, record_file, message_of, extension_of, pool_of}
 use Rattle.reflect_tables.specs.Views as views
 use Rattle.reflect_tables.specs.declared.stored.StoredFile.{StoredFile}
@@ -35,6 +33,7 @@ use Rattle.reflect_build.specs.Refusals.{Linking, with_declared, IsOf}
 use Rattle.linked_messages.proofs.Among.{Among, of_all, in_second, get_at, get_map, got_map, index_is}
 use Rattle.linked_view.proofs.Completes.{IsCompleteBody}
 use Rattle.linked_view.proofs.Faults.{none_both}
+use Rattle.linked_view.proofs.Found.{found_behind}
 use Rattle.linked_view.proofs.Given.{Giving, known_by, Free, free_to}
 use Rattle.linked_view.proofs.Named.{given, known_is_given}
 use Rattle.linked_view.proofs.Walked.{seen_body}
@@ -63,12 +62,6 @@ file_there o i (g ∷ fs) (suc k) f e =
     (batch_declarations (past_file o g) (i + 1) fs)
     (subst (λ n. Among (file_declaration [] n f) (batch_declarations (past_file o g) (i + 1) fs))
     place (file_there (past_file o g) (i + 1) fs k f e))
-
-up_to : {Y : Type 0} (name : Y → FullName) (P : Y → Type 0) (n : ℕ)
-    → ((y : Y) → P y → (name y).1 ≤ n) → (ys : List Y) → AllByRecursion P ys
-    → AreUpTo n (map name ys)
-up_to name P n step [] all = tt
-up_to name P n step (y ∷ ys) all = (step y all.0, up_to name P n step ys all.1)
 
 -- a definition of a message or of an extension has a place among those
 message_place : (o : Option Definition) (n i : ℕ)
@@ -150,26 +143,6 @@ module _ (old new : PoolType) (ns : List FileDescriptorProto) (w : Linking) (is 
   pub first_is : w.first ≡ length old.files
   first_is = is.first
 
-  stand_messages : Stand messages w.known (names_of old messages) w.first w.before
-  stand_messages = record {
-    found = is.named.found messages;
-    count = length-map old.messages message_name ∙ sym is.before.messages;
-    up_to = up_to message_name (MessageWithin (counts_of old)) w.first
-        (λ m h. (let lt = h.file in let same = is.first in omega (arith, lt, same))) old.messages
-        pooled.messages;
-    in_order = is.named.in_order messages;
-  }
-
-  stand_extensions : Stand extensions w.known (names_of old extensions) w.first w.before
-  stand_extensions = record {
-    found = is.named.found extensions;
-    count = length-map old.extensions extension_name ∙ sym is.before.extensions;
-    up_to = up_to extension_name (ExtensionWithin (counts_of old)) w.first
-        (λ x h. (let lt = h.file in let same = is.first in omega (arith, lt, same))) old.extensions
-        pooled.extensions;
-    in_order = is.named.in_order extensions;
-  }
-
   pub types_are : new.messages ≡ old.messages ++ map message_of b.messages.items
   types_are = batch.added.messages
       ∙ ap (λ (p : PoolType). p.messages ++ map message_of b.messages.items) is.tables
@@ -178,22 +151,16 @@ module _ (old new : PoolType) (ns : List FileDescriptorProto) (w : Linking) (is 
   extensions_are = batch.added.extensions
       ∙ ap (λ (p : PoolType). p.extensions ++ map extension_of b.extensions.items) is.tables
 
-  names_with : (s : Sort) (ms : List FullName)
-      → with_names s ms ds ≡ ms ++ with_names s [] ds
-  names_with s ms = ap (λ l. with_names s l ds) (sym (append-nil ms)) ∙ names_behind s ms [] ds
-
-  message_names : with_names messages (names_of old messages) ds ≡ names_of new messages
+  message_names : names_of old messages ++ with_names messages [] ds ≡ names_of new messages
   message_names =
-      names_with messages (names_of old messages)
-      ∙ ap (λ l. names_of old messages ++ l) (sym batch.declared.messages
+      ap (λ l. names_of old messages ++ l) (sym batch.declared.messages
       ∙ sym (mapped message_name message_of stored_message_name (λ m. refl) b.messages.items))
       ∙ sym (ap (map message_name) types_are
       ∙ map-append message_name old.messages (map message_of b.messages.items))
 
-  extension_names : with_names extensions (names_of old extensions) ds ≡ names_of new extensions
+  extension_names : names_of old extensions ++ with_names extensions [] ds ≡ names_of new extensions
   extension_names =
-      names_with extensions (names_of old extensions)
-      ∙ ap (λ l. names_of old extensions ++ l) (sym batch.declared.extensions
+      ap (λ l. names_of old extensions ++ l) (sym batch.declared.extensions
       ∙ sym (mapped extension_name extension_of stored_extension_name (λ m. refl)
       b.extensions.items))
       ∙ sym (ap (map extension_name) extensions_are
@@ -201,13 +168,11 @@ module _ (old new : PoolType) (ns : List FileDescriptorProto) (w : Linking) (is 
 
   pub messages_found : AreFound (found messages known) (names_of new messages)
   messages_found = subst (AreFound (found messages known)) message_names
-      (batch_stands messages (batch_places ns w.first) (with_files w.indexes w.first ns) w.known
-      (names_of old messages) w.before w.first ns stand_messages none).found
+      (found_behind old ns w is pooled names messages)
 
   pub extensions_found : AreFound (found extensions known) (names_of new extensions)
   extensions_found = subst (AreFound (found extensions known)) extension_names
-      (batch_stands extensions (batch_places ns w.first) (with_files w.indexes w.first ns) w.known
-      (names_of old extensions) w.before w.first ns stand_extensions none).found
+      (found_behind old ns w is pooled names extensions)
 
   -- ---- types by their names
 

@@ -19,14 +19,17 @@ use Rattle.reflect_tables.specs.Types.{PoolType}
 use Rattle.reflect_tables.specs.Views.{message_of, ranges_of}
 use Rattle.reflect_tables.specs.declared.stored.StoredMessage.{StoredMessage}
 use Rattle.reflect_tables.specs.declared.tables.Tables.{Tables}
+use Rattle.reflect_names.specs.ReferencePass.{views_of}
 use Rattle.reflect_names.specs.ReferenceSteps.{target_of}
+use Rattle.reflect_names.specs.declared.resolve_visitor.Reference.{Reference}
 use Rattle.reflect_index.specs.Rewriting.{write_each, write_file, written}
 use Rattle.reflect_index.specs.OfDeclarations.{RangesType, AreDeclared, AllDeclared, messages_in, stored_ranges}
 use Rattle.reflect_passes.specs.Linked.{message_at, linked_says, linked_values}
+use Rattle.reflect_rules.specs.Walks.{Facts}
 use Rattle.reflect_passes.specs.NameFaults.{name_faults}
 use Rattle.reflect_passes.specs.declared.linked_types.LinkedTypes.{LinkedTypes}
 use Rattle.reflect_build.specs.Accepted.{FaultlessBatch, FaultlessFiles}
-use Rattle.reflect_build.specs.Refusals.{Linking, with_declared, IsOf, new_files}
+use Rattle.reflect_build.specs.Refusals.{AreTypes, Linking, with_declared, IsOf, new_files}
 use Rattle.linked_messages.specs.Kept.{IsKept}
 use Rattle.linked_messages.proofs.Among.{Among, all_of}
 use Rattle.linked_messages.proofs.Declared.{stands_in_batch, declared_at}
@@ -35,22 +38,23 @@ use Rattle.schema_view.specs.Files.{file_name}
 use Rattle.schema_view.specs.References.{Reference as Naming, references}
 use Rattle.schema_view.specs.Means.{Means}
 use Rattle.schema_view.specs.Lawful.{outlines, all_linked}
-use Rattle.schema_view.proofs.Lists.{contains_map, contains_map_cases}
 use Rattle.linked_view.specs.Alone.{IsWellNamed, AreLawfulAlone}
 use Rattle.linked_view.specs.Known.{AreKnown}
 use Rattle.linked_view.specs.Named.{AreWellNamed}
-use Rattle.linked_view.specs.Passed.{facts_of, start_of, AreTold}
+use Rattle.linked_view.specs.AtHand.{AreMetBy}
+use Rattle.linked_view.specs.Passed.{facts_of, start_of, AreTold, ReferTo}
 use Rattle.linked_view.specs.Referred.{AreMeant, AreSeenBy}
-use Rattle.linked_view.specs.Ruled.{IsTyped, TellsOf, Each}
+use Rattle.linked_view.specs.Ruled.{AreRuled, IsTyped, TellsOf, Each}
 use Rattle.linked_view.specs.Taken.{in_order}
 use Rattle.linked_view.specs.Whole.{IsLabelled}
 use Rattle.linked_view.proofs.Along.{ruled_to}
-use Rattle.linked_view.proofs.Behind.{placed, are_known, seen_by, name_at}
+use Rattle.linked_view.proofs.AtHand.{met_to_by}
+use Rattle.linked_view.proofs.Behind.{placed, all_named, are_known, known_is, seen_by, name_at}
 use Rattle.linked_view.proofs.Faults.{none_both}
 use Rattle.linked_view.proofs.Fitting.{batch_fits}
 use Rattle.linked_view.proofs.Named.{named_to}
-use Rattle.linked_view.proofs.Linked.{meanings, targets_in, batch_targets, batch_means}
-use Rattle.linked_view.proofs.Places.{contains_get, get_map, get_map_cases}
+use Rattle.linked_view.proofs.Linked.{meanings, targets_in, batch_targets, files_mean}
+use Rattle.linked_view.proofs.Places.{get_map, get_map_cases}
 use Rattle.linked_view.proofs.Taken.{files_written}
 use Rattle.linked_view.proofs.References.{referred_to}
 use Rattle.linked_view.proofs.Sound.{parts_sound}
@@ -110,8 +114,18 @@ module _ (t : LinkedTypes) (before : Offsets) (first : ℕ) (files : List FileDe
   tells_one d (of_method m) is h = tt
   tells_one d (of_extension x) is h = tt
 
-  pub types_tell : AreTold t before first files
+  types_tell : AreTold t before first files
   types_tell = all_of (TellsOf (linked_says t)) ds (λ d h. tells_one d d.body refl h)
+
+-- the types of a batch tell what it declares
+pub batch_told : (old : PoolType) (ns : List FileDescriptorProto) (w : Linking) → IsOf old w
+    → (rs : List Reference) (t : LinkedTypes) → AreTypes (with_declared w ns) ns rs t
+    → AreTold t w.before w.first ns
+batch_told old ns w is rs t declared = types_tell t w.before w.first ns
+    (is.before.messages ∙ ap (λ (p : PoolType). length p.messages) (sym is.tables)
+    ∙ length-map w.tables.messages.items message_of
+    ∙ ap (λ (s : Tables). length s.messages.items) (sym declared.old))
+    declared.ranges
 
 module _ (old new : PoolType) (ns : List FileDescriptorProto) (w : Linking) (is : IsOf old w)
     (has : IsWellNamed old) (names : name_faults w.indexes w.known w.before w.first ns ≡ [])
@@ -148,6 +162,14 @@ module _ (old new : PoolType) (ns : List FileDescriptorProto) (w : Linking) (is 
   known_all = are_known old ns w is has have_names files_none links batch.means.linked sees
       batch.means.right.right
 
+  pub named_files : AreWellNamed [] (map file_view all_files)
+  named_files = all_named old ns w is has have_names files_none links batch.means.linked sees
+      batch.means.right.right
+
+  pub known_files : known ≡ known_of_files all_files
+  known_files = known_is old ns w is has have_names files_none links batch.means.linked sees
+      batch.means.right.right
+
   pub seen_all : AreSeenBy all_files w.first ns sees
   seen_all = seen_by old ns w is has have_names files_none links batch.means.linked sees
       batch.means.right.right
@@ -158,12 +180,7 @@ module _ (old new : PoolType) (ns : List FileDescriptorProto) (w : Linking) (is 
       batch.means.right.right
 
   pub told : AreTold batch.types w.before w.first ns
-  told = types_tell batch.types w.before w.first ns
-      (is.before.messages ∙ ap (λ (p : PoolType). length p.messages) (sym is.tables)
-      ∙ length-map w.tables.messages.items message_of
-      ∙ ap (λ (t : Tables). length t.messages.items)
-      (sym batch.declared.old))
-      batch.declared.ranges
+  told = batch_told old ns w is batch.references batch.types batch.declared
 
   pub refs : Each IsLabelled (map file_view ns) × Each IsTyped (map file_view ns)
       × AreMeant (outlines (map file_view all_files)) (map file_view ns)
@@ -190,13 +207,7 @@ module _ (old new : PoolType) (ns : List FileDescriptorProto) (w : Linking) (is 
   means_of : (f : FileContent) (r : Naming) → Contains (map file_view ns) f
       → Contains (references f) r → Means (outlines (map file_view all_files)) (outline_of f) r
       (meanings all_files known known_all indexes sees f r)
-  means_of c r j k =
-      let f = contains_map_cases file_view ns c j in
-      let at = contains_get ns f.0 f.1 in
-      let m = batch_means all_files known known_all indexes sees w.first ns names_at seen_all refs.2 at.0 f.0 at.1 r (subst (λ x. Contains (references x) r) (sym f.2) k)
-      (contains_map file_view ns f.0 f.1) in
-      subst (λ x. Means (outlines (map file_view all_files)) (outline_of x) r
-      (meanings all_files known known_all indexes sees x r)) f.2 m
+  means_of = files_mean all_files known known_all indexes sees w.first ns names_at seen_all refs.2
 
   pub stand_linked : map file_view new.records ≡ map file_view old.records
       ++ all_linked (meanings all_files known known_all indexes sees) (map file_view ns)
@@ -206,26 +217,39 @@ module _ (old new : PoolType) (ns : List FileDescriptorProto) (w : Linking) (is 
       is.tables
       ∙ ap (λ fs. map file_view old.records ++ fs) written_is
 
+  abbrev facts : Facts
+  facts = facts_of batch.types w.before w.first ns batch.references
+
+  -- the declarations meet the rules by themselves, and by what they refer to
+  ruled : AreRuled (map file_view ns)
+      × ReferTo batch.types w.before w.first ns batch.references
+  ruled = ruled_to facts (linked_values batch.types) (batch_places ns w.first)
+      (start_of batch.references) w.before w.first ns have_names.complete refs.1 told batch.numbers
+
+  -- and so by what their names mean
+  pub all_met : AreMetBy facts (linked_values batch.types) (views_of known sees)
+      (batch_declarations w.before w.first ns)
+  all_met = met_to_by facts (linked_values batch.types) (views_of known sees)
+      (batch_places ns w.first) (start_of batch.references)
+      (batch_declarations w.before w.first ns) (sym batch.means.right.faults)
+      batch.means.right.targets ruled.1
+
   pub lawful_alone : AreLawfulAlone (map file_view old.records) (map file_view ns) (map file_view new.records)
-  lawful_alone =
-      let g = facts_of batch.types w.before w.first ns batch.references in
-      let ruled = ruled_to g (linked_values batch.types) (batch_places ns w.first)
-      (start_of batch.references) w.before w.first ns have_names.complete refs.1 told batch.numbers in
-      record {
-        meanings = meanings all_files known known_all indexes sees;
-        names = have_names;
-        means = λ f r j k. subst (λ fs. Means (outlines fs) (outline_of f) r
-            (meanings all_files known known_all indexes sees f r))
-            views_of_both (means_of f r j k);
-        sound = parts_sound (map file_view ns) (
-          have_names.complete,
-          refs.1,
-          refs.0,
-          ruled.0,
-          batch_fits (with_declared w ns) ns new batch kept.numbers,
-        );
-        stand = stand_linked;
-      }
+  lawful_alone = record {
+    meanings = meanings all_files known known_all indexes sees;
+    names = have_names;
+    means = λ f r j k. subst (λ fs. Means (outlines fs) (outline_of f) r
+        (meanings all_files known known_all indexes sees f r))
+        views_of_both (means_of f r j k);
+    sound = parts_sound (map file_view ns) (
+      have_names.complete,
+      refs.1,
+      refs.0,
+      ruled.0,
+      batch_fits (with_declared w ns) ns new batch kept.numbers,
+    );
+    stand = stand_linked;
+  }
 
   pub meanings_alone : lawful_alone.meanings
       ≡ meanings all_files known known_all indexes sees

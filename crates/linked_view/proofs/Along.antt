@@ -1,6 +1,7 @@
 -- The pass over numbers finds nothing wrong with a batch exactly where its declarations meet the
 -- rules.
 use Rattle.std.proofs.Common.{◌≡◌, ◌∙◌, ◌+◌, ◌≤ℤ◌, ◌<ℤ◌, ℕ, ℤ, pos, Bool, true, false, List, [], ◌∷◌, ◌++◌, Option, Some, None, is_some, String, Global, string_bytes, bytes_eq, codes, unwrap_or, map, length, ap, sym, subst, refl}
+use Rattle.std.specs.Prelude.{IsPermutation}
 use Rattle.std.specs.List.{Contains, AllByRecursion}
 use Rattle.std.proofs.lemmas.List.{length-map}
 use Rattle.std.proofs.lemmas.List.Elements.{All-contains, All-from_recursion}
@@ -29,11 +30,11 @@ use Rattle.schema_view.proofs.Lists.{contains_map, contains_map_cases}
 use Rattle.linked_view.specs.Complete.{IsComplete}
 use Rattle.linked_view.specs.Ruled.{IsRuled, IsRangedMessage, IsRanged, IsTyped, IsPlacedField, TellsOf, AreMet}
 use Rattle.linked_view.proofs.Completes.{IsCompleteBody}
-use Rattle.linked_view.proofs.Faults.{none_both}
+use Rattle.linked_view.proofs.Faults.{none_both, both_none}
 use Rattle.linked_view.proofs.Messages as fields
 use Rattle.linked_view.proofs.Messages.{AreIn, HasFields, HaveFields, oneofs_after, in_split, in_joined, inner_to, inner_from}
 use Rattle.linked_view.proofs.Named.{in_all, all_in, all_split, all_joined, inner_declared, content_to, content_from}
-use Rattle.linked_view.proofs.Ruled.{IsTypedBody, IsRuledBody, clean_to, clean_from}
+use Rattle.linked_view.proofs.Ruled.{IsDecided, IsTypedBody, IsRuledBody, clean_only, clean_to, clean_from}
 use Rattle.linked_view.proofs.Shapes.{IsTypedField}
 use Rattle.linked_view.proofs.Walked.{Seen, seen_body, facts_in, inner_declarations}
 
@@ -80,6 +81,16 @@ module _ (g : Facts) (values : Values) (at : ℕ → Places) where
         (record { own = h.own.1; placed = h.placed.1; met = h.met.1 }),
     refl,
   )
+
+  along_only : IsDecided values → (p : Place) (ds : List Declaration) (xs : List Fault)
+      → AreTyped ds → AreClean p ds → FaultsAlong g values at p ds xs → xs ≡ []
+  along_only decided p [] xs typed h is = is
+  along_only decided p (d ∷ ds) xs typed h (ys, zs, here, rest, is) =
+      is ∙ both_none ys zs
+      (clean_only g values p (at d.file) d decided typed.0
+      (record { own = h.own.0; placed = h.placed.0; met = h.met.0 }) ys here)
+      (along_only decided (place_behind p d) ds zs typed.1
+      (record { own = h.own.1; placed = h.placed.1; met = h.met.1 }) rest)
 
 abbrev proto3_after : Bool → List Declaration → Bool
 proto3_after b [] = b
@@ -196,6 +207,21 @@ field_of fs x h =
     let f = contains_map_cases field_view fs c.0 c.1 in
     (f.0, f.1, ap view.facts_of f.2 ∙ c.2)
 
+-- a number that no reserved range of a record has is in none of those that are kept of it
+pub none_reserved : (xs : List ReservedRange) (rs : List Range) (n : ℤ)
+    → IsPermutation (map pool.reserved_range xs) rs
+    → AllByRecursion (λ r. HasBounds (view.reserved_range r)) xs
+    → ((r : ReservedRange) → Contains xs r → IsIn n (view.reserved_range r) → ⊥)
+    → IsRangeOf rs n None
+none_reserved xs rs n same bounds none =
+    All-from_recursion (λ q. pool.IsIn n q → ⊥) rs
+    (all_in (λ q. pool.IsIn n q → ⊥) rs (λ q k is.
+    let back = Contains-permutation rs (map pool.reserved_range xs) q
+    (IsPermutation-sym (map pool.reserved_range xs) rs same) k in
+    let r = contains_map_cases pool.reserved_range xs q back in
+    let there = in_all (λ (x : ReservedRange). HasBounds (view.reserved_range x)) xs bounds r.0 r.1 in
+    none r.0 r.1 (in_range n r.0.start r.0.end there (subst (pool.IsIn n) (sym r.2) is))))
+
 module _ (types : TypesSay) (i : ℕ) (m : MessageParts) (told_of : AreDeclared m (record {
   reserved = types.reserved i;
   extensions = types.extensions i;
@@ -271,17 +297,9 @@ module _ (types : TypesSay) (i : ℕ) (m : MessageParts) (told_of : AreDeclared 
     out_of_reserved : (f : FieldDescriptorProto) → Contains m.field f
         → IsRangeOf (types.reserved i) (number_of f) None
     out_of_reserved f j =
-        All-from_recursion (λ q. pool.IsIn (number_of f) q → ⊥) (types.reserved i)
-        (all_in (λ q. pool.IsIn (number_of f) q → ⊥) (types.reserved i) (λ q k is.
-        let back = Contains-permutation (types.reserved i) (map pool.reserved_range m.reserved_range) q
-        (IsPermutation-sym (map pool.reserved_range m.reserved_range) (types.reserved i)
-        told_of.reserved) k in
-        let r = contains_map_cases pool.reserved_range m.reserved_range q back in
-        let bounds = in_all (λ (x : ReservedRange). HasBounds (view.reserved_range x)) m.reserved_range
-        complete.2 r.0 r.1 in
-        h.unreserved (view.facts_of (field_view f)) (number_of f) r.0 (facts_there f j) (number_at f j)
-        r.1 (in_range (number_of f) r.0.start r.0.end bounds
-        (subst (pool.IsIn (number_of f)) (sym r.2) is))))
+        none_reserved m.reserved_range (types.reserved i) (number_of f) told_of.reserved complete.2
+        (λ r k is. h.unreserved (view.facts_of (field_view f)) (number_of f) r (facts_there f j)
+        (number_at f j) k is)
 
     out_of_extensions : (f : FieldDescriptorProto) → Contains m.field f
         → IsRangeOf (types.extensions i) (number_of f) None
@@ -518,18 +536,34 @@ module _ (g : Facts) (values : Values) (at : ℕ → Places) (p : Place) (o : Of
         clean.met,
       )
 
-  pub ruled_from : ((c : _) (v : view.Declaration) → Contains (map file_view fs) c
+  ruled_clean : ((c : _) (v : view.Declaration) → Contains (map file_view fs) c
       → Contains (view.declarations c) v → IsRuled (is_proto3 c) v.body × IsRanged v.body)
       × AreMet g values p ds
-      → FaultsAlong g values at p ds []
-  ruled_from (h, met) =
+      → AreClean g values at p ds
+  ruled_clean (h, met) =
       let own = all_in (OnContent IsRuled) fs (λ f j.
       all_in (λ (v : view.Declaration). IsRuled (is_proto3 (file_view f)) v.body)
       (view.declarations (file_view f))
       (λ v k. (h (file_view f) v (contains_map file_view fs f j) k).0)) in
       let ranged = each_on IsRanged fs (λ c v j k. (h c v j k).1) in
-      along_from g values at p ds (batch_typed o i fs (each_on IsTyped fs typed)) (record {
+      record {
         own = own_batch_from p.is_proto3 o i fs own;
         placed = placed_from g.types p.oneofs o i fs tells (each_on IsComplete fs complete) ranged;
         met = met;
-      })
+      }
+
+  pub ruled_from : ((c : _) (v : view.Declaration) → Contains (map file_view fs) c
+      → Contains (view.declarations c) v → IsRuled (is_proto3 c) v.body × IsRanged v.body)
+      × AreMet g values p ds
+      → FaultsAlong g values at p ds []
+  ruled_from rules =
+      along_from g values at p ds (batch_typed o i fs (each_on IsTyped fs typed)) (ruled_clean rules)
+
+  -- and no other answer
+  pub ruled_only : IsDecided values → ((c : _) (v : view.Declaration) → Contains (map file_view fs) c
+      → Contains (view.declarations c) v → IsRuled (is_proto3 c) v.body × IsRanged v.body)
+      × AreMet g values p ds
+      → (xs : List Fault) → FaultsAlong g values at p ds xs → xs ≡ []
+  ruled_only decided rules xs h =
+      along_only g values at decided p ds xs (batch_typed o i fs (each_on IsTyped fs typed))
+      (ruled_clean rules) h

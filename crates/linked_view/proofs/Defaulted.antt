@@ -1,5 +1,5 @@
 -- The defaults of accepted files that stand at enums' names are names of the enums' values.
-use Rattle.std.proofs.Common.{◌≡◌, ◌∙◌, ◌+◌, ◌-◌, inl, inr, ℕ, Bool, true, false, cond, nat_lt, List, [], ◌++◌, Option, Some, None, map, length, slice_get, ap, sym, subst, refl, arith}
+use Rattle.std.proofs.Common.{◌≡◌, ◌∙◌, ◌⊎◌, ◌+◌, ◌-◌, inl, inr, ℕ, zero, suc, Bool, true, false, cond, nat_lt, List, [], ◌∷◌, ◌++◌, Option, Some, None, map, length, slice_get, ap, sym, subst, refl, arith}
 use Rattle.std.specs.List.{Contains, flat_map}
 use Rattle.std.proofs.lemmas.List.{map-append}
 use Rattle.descriptor_records.specs.Content.{Text, FileContent, file_view}
@@ -9,9 +9,10 @@ use Rattle.reflect_scope.specs.declared.definition.DefinitionKind.TheVariants as
 use Rattle.reflect_scope.specs.Known.{Known}
 use Rattle.reflect_names.specs.Faults.{batch_places}
 use Rattle.reflect_names.specs.ReferencePass.{views_of}
-use Rattle.reflect_passes.specs.Linked.{enum_at, HasValue, linked_values}
+use Rattle.reflect_passes.specs.Linked.{enum_at, HasValue}
 use Rattle.reflect_passes.specs.NameFaults.{name_faults}
-use Rattle.reflect_tables.specs.Names.{FullName, found, place_in, place_of, with_file, enum_name, names_of, enums}
+use Rattle.reflect_passes.specs.declared.linked_types.LinkedTypes.{LinkedTypes}
+use Rattle.reflect_tables.specs.Names.{FullName, AreFound, found, place_in, place_of, with_file, enum_name, names_of, enums}
 use Rattle.reflect_tables.specs.Types.{PoolType, EnumType, ValueType}
 use Rattle.reflect_tables.specs.Views.{enum_of}
 use Rattle.reflect_tables.specs.declared.stored.StoredEnum.{StoredEnum}
@@ -22,20 +23,19 @@ use Rattle.reflect_build.specs.Refusals.{Linking, with_declared, IsOf, new_files
 use Rattle.linked_messages.specs.Kept.{IsKept}
 use Rattle.schema_view.specs.Declarations.{Body, of_message, of_field, of_oneof, of_enum, of_value, of_service, of_method, of_extension, declarations}
 use Rattle.schema_view.specs.Lawful.{outlines, SuitsEnum}
-use Rattle.schema_view.specs.Outlines.{value_name, sort_of, enum_sort, head_of, outline_of}
+use Rattle.schema_view.specs.Outlines.{value_name, sort_of, enum_sort, Head, head_of, Outline, outline_of, IsDeclared}
 use Rattle.schema_view.specs.References.{linked}
-use Rattle.schema_view.proofs.Lists.{contains_cases, contains_none, contains_map, contains_map_cases, contains_flat_cases}
+use Rattle.schema_view.proofs.Lists.{contains_here, contains_cases, contains_none, contains_map, contains_map_cases, contains_flat, contains_flat_cases}
 use Rattle.schema_view.proofs.Road.{outlines_linked}
 use Rattle.linked_view.specs.Alone.{IsWellNamed, AreLawfulAlone}
 use Rattle.linked_view.specs.Extended.{IsIndexed}
-use Rattle.linked_view.specs.Passed.{facts_of, start_of}
-use Rattle.linked_view.specs.Valued.{NamedValues, values_in, kept_values, TellsValues, SuitEnums}
-use Rattle.linked_view.proofs.Accepted.{have_names, refs, told, known, known_all, indexes, names_at, lawful_alone, meanings_alone}
-use Rattle.linked_view.proofs.Along.{ruled_to}
+use Rattle.linked_view.specs.Passed.{facts_of}
+use Rattle.linked_view.specs.Valued.{NamedValues, values_in, written_values, kept_values, TellsValues, SuitEnums}
+use Rattle.linked_view.proofs.Accepted.{all_met, known, known_all, indexes, names_at, lawful_alone, meanings_alone}
 use Rattle.linked_view.proofs.Behind.{get_behind}
-use Rattle.linked_view.proofs.AtHand.{met_to_by}
+use Rattle.linked_view.proofs.Found.{enum_place, found_place}
 use Rattle.linked_view.proofs.Linked.{meanings}
-use Rattle.linked_view.proofs.Places.{get_contains, get_map}
+use Rattle.linked_view.proofs.Places.{contains_get, get_contains, get_less, get_map, get_map_cases}
 use Rattle.linked_view.proofs.Settling.{all_good, batch_holds}
 use Rattle.linked_view.proofs.Suited.{IsValueOf, suits_seen}
 use Rattle.linked_view.proofs.Telling.{get_before, known_new}
@@ -71,6 +71,31 @@ at_both {X} xs ys i x e = by (nat_lt i (length xs)) refl where
   by false is =
       let place : length xs + (i - length xs) ≡ i = grind (arith, is) in
       ap (slice_get (xs ++ ys)) (sym place) ∙ get_behind xs ys (i - length xs) x (at_last false is)
+
+pub split_at : {X : Type 0} (xs ys : List X) (i : ℕ) (x : X) → slice_get (xs ++ ys) i ≡ Some x
+    → (slice_get xs i ≡ Some x) ⊎ ((k : ℕ) × (i ≡ length xs + k) × (slice_get ys k ≡ Some x))
+split_at [] ys i x e = inr (i, omega arith, e)
+split_at (y ∷ xs) ys zero x e = inl e
+split_at (y ∷ xs) ys (suc i) x e = elim (split_at xs ys i x e) [
+  | inl h ↦ inl h
+  | inr r ↦ (let place = r.1 in inr (r.0, omega (arith, place), r.2))
+]
+
+-- and back
+pub both_at : {X : Type 0} (xs ys : List X) (i : ℕ) (x : X) → slice_get (xs ++ ys) i ≡ Some x
+    → cond (nat_lt i (length xs)) (slice_get xs i) (slice_get ys (i - length xs)) ≡ Some x
+both_at xs ys i x e = elim (split_at xs ys i x e) [
+  | inl h ↦ (
+      let less = get_less xs i x h in
+      let low : nat_lt i (length xs) ≡ true = grind (arith, less) in
+      ap (λ b. cond b (slice_get xs i) (slice_get ys (i - length xs))) low ∙ h)
+  | inr r ↦ (
+      let place = r.1 in
+      let high : nat_lt i (length xs) ≡ false = grind (arith, place) in
+      let back : i - length xs ≡ r.0 = omega (arith, place) in
+      ap (λ b. cond b (slice_get xs i) (slice_get ys (i - length xs))) high
+      ∙ ap (slice_get ys) back ∙ r.2)
+]
 
 -- an enum's entry that has a value of the name
 has_value : (o : Option StoredEnum) (text : Text) → HasValue o text
@@ -110,6 +135,69 @@ written_value p index tells i e full text file at named has =
       ),
       subst (λ vs. Contains vs text) (sym (ap (λ (n : NamedValues). n.1) v.2)) has,
     )
+
+-- and back: an enum that is declared with values has them among what is written
+values_there : (n : Text) (b : Body) (values : List Text) → sort_of b ≡ enum_sort values
+    → Contains (values_in (record { name = n; body = b })) (n, values)
+values_there n (of_enum e) values is =
+    let same : map value_name e.value ≡ values = cc is in
+    let own : NamedValues = (n, map value_name e.value) in
+    subst (λ vs. Contains (own ∷ []) (n, vs)) same (contains_here own [])
+values_there n (of_message m) values is = absurd (cc is)
+values_there n (of_field f) values is = absurd (cc is)
+values_there n (of_oneof o) values is = absurd (cc is)
+values_there n (of_value v) values is = absurd (cc is)
+values_there n (of_service s) values is = absurd (cc is)
+values_there n (of_method m) values is = absurd (cc is)
+values_there n (of_extension x) values is = absurd (cc is)
+
+values_written : (fs : List FileContent) (full : Text) (values : List Text)
+    → IsDeclared (outlines fs) full (enum_sort values) → Contains (written_values fs) (full, values)
+values_written fs full values (o, h, i, j, name, is) =
+    let f = contains_map_cases outline_of fs o i in
+    let d = contains_map_cases head_of (declarations f.0) h
+    (subst (λ (p : Outline). Contains p.heads h) (sym f.2) j) in
+    let own : d.0.name ≡ full = ap (λ (x : Head). x.name) d.2 ∙ name in
+    let sort : sort_of d.0.body ≡ enum_sort values = ap (λ (x : Head). x.sort) d.2 ∙ is in
+    subst (λ n. Contains (written_values fs) (n, values)) own
+    (contains_flat (λ f. flat_map values_in (declarations f)) fs f.0 (d.0.name, values) f.1
+    (contains_flat values_in (declarations f.0) d.0 (d.0.name, values) d.1
+    (values_there d.0.name d.0.body values sort)))
+
+-- its entry has them, where entries and names are those of the records
+module _ (t : LinkedTypes) (fs : List FileContent) (known : Known) (names : List FullName)
+    (stand : AreFound (found enums known) names) where
+  abbrev stored : List StoredEnum
+  stored = t.old.now.enums.items ++ t.new.now.enums.items
+
+  pub value_told : names ≡ map enum_name (map enum_of stored)
+      → map kept_values (map enum_of stored) ≡ written_values fs → (full text : Text)
+      (d : Definition) → known full ≡ Some d → IsValueOf (outlines fs) full text
+      → (i : ℕ) × (d.kind ≡ kind.Enum i) × HasValue (enum_at t i) text
+  value_told named written full text d knows (values, declared, has) =
+      let k = contains_get (map kept_values (map enum_of stored)) (full, values)
+      (subst (λ vs. Contains vs (full, values)) (sym written) (values_written fs full values declared))
+      in
+      let e = get_map_cases kept_values (map enum_of stored) k.0 (full, values) k.1 in
+      let s = get_map_cases enum_of stored k.0 e.0 e.1 in
+      let own : slice_get names k.0 ≡ Some (full, e.0.file) =
+      ap (λ ns. slice_get ns k.0) named
+      ∙ get_map enum_name (map enum_of stored) k.0 e.0 e.1
+      ∙ ap (λ (v : NamedValues). Some (v.0, e.0.file)) e.2 in
+      let place = found_place enums (Some d) k.0 e.0.file
+      (sym (ap (place_in enums) knows) ∙ (stand full k.0 e.0.file).1 own) in
+      let same : d ≡ place.0 = cc place.1 in
+      let there : Contains (map (λ (v : ValueType). v.name) (enum_of s.0).values) text =
+      subst (λ vs. Contains vs text)
+      (sym (ap (λ (x : EnumType). map (λ (v : ValueType). v.name) x.values) s.2
+      ∙ ap (λ (v : NamedValues). v.1) e.2)) has in
+      let v = contains_map_cases (λ (v : ValueType). v.name) (enum_of s.0).values text there in (
+        k.0,
+        ap (λ (x : Definition). x.kind) same ∙ enum_place place.0.kind k.0 place.2,
+        subst (λ o. HasValue o text)
+            (sym (both_at t.old.now.enums.items t.new.now.enums.items k.0 s.0 s.1))
+            (v.1.0, v.0, v.1.1, v.1.2, v.2),
+      )
 
 module _ (old new : PoolType) (ns : List FileDescriptorProto) (w : Linking) (is : IsOf old w)
     (has : IsWellNamed old) (names : name_faults w.indexes w.known w.before w.first ns ≡ [])
@@ -157,12 +245,7 @@ module _ (old new : PoolType) (ns : List FileDescriptorProto) (w : Linking) (is 
       let views = views_of all_known batch.means.right.sees in
       let ds = batch_declarations w.before w.first ns in
       let at = batch_places ns w.first in
-      let ruled = ruled_to g (linked_values batch.types) at (start_of batch.references) w.before w.first
-      ns (have_names old new ns w is has names batch kept).complete
-      (refs old new ns w is has names batch kept).1
-      (told old new ns w is has names batch kept) batch.numbers in
-      let met = met_to_by g (linked_values batch.types) views at (start_of batch.references) ds
-      (sym batch.means.right.faults) batch.means.right.targets ruled.1 in
+      let met = all_met old new ns w is has names batch kept in
       let all = known_all old new ns w is has names batch kept in
       let named = indexes old new ns w is has names batch kept in
       let good = all_good (old.records ++ ns) all_known all named batch.means.right.sees batch.types g at

@@ -1,7 +1,8 @@
 -- A text is a default of a scalar type for the pass over numbers exactly where it is one.
-use Rattle.std.proofs.Common.{◌≡◌, ◌∙◌, inl, inr, ℕ, ℤ, true, false, cond, ◌==◌, List, [], ◌∷◌, Some, None, String, Global, string_bytes, ap, sym, refl}
+use Rattle.std.proofs.Common.{◌≡◌, ◌∙◌, inl, inr, ℕ, ℤ, Bool, true, false, cond, ◌==◌, List, [], ◌∷◌, Option, Some, None, String, Global, string_bytes, ap, sym, subst, refl, arith}
 use Rattle.std.specs.Int.{Width}
 use Rattle.std.proofs.lemmas.Str.{IsUtf8-string_bytes}
+use Rattle.descriptor_records.specs.FieldNumbers.{IsTypeOf, type_number}
 use Rattle.descriptor_records.specs.declared.field.FieldType.{FieldType}
 use Rattle.descriptor_records.specs.declared.field.FieldType.TheVariants as types
 use Rattle.reflect_defaults.specs.Defaults.{IsTruth, Says, HasDefault, IsScalarSuited}
@@ -86,3 +87,20 @@ suited_to z s (Some t, e, decides) = let d = decides.0 refl in (t, e, says_to t 
 pub suited_from : (z : ℤ) (text : List ℕ) → IsScalarDefault z text
     → IsScalarSuited (Some z) text true
 suited_from z text (t, e, h) = (Some t, e, ((λ is. says_from t text h), λ x. refl))
+
+-- no two types have one number
+one_type : (t u : FieldType) → type_number t ≡ type_number u → t ≡ u
+one_type t u e = grind (arith, e)
+
+type_only : (n : ℤ) (t u : Option FieldType) → IsTypeOf n t → IsTypeOf n u → t ≡ u
+type_only n None None e f = refl
+type_only n None (Some b) e f = absurd (e b f)
+type_only n (Some a) None e f = absurd (f a e)
+type_only n (Some a) (Some b) e f = ap Some (one_type a b (e ∙ sym f))
+
+-- whether a text is a default has one answer
+pub scalar_only : (number : Option ℤ) (text : List ℕ) (suits : Bool)
+    → IsScalarSuited number text true → IsScalarSuited number text suits → suits ≡ true
+scalar_only None text suits h k = absurd (cc h)
+scalar_only (Some n) text suits (t, e, own) (u, f, other) =
+    other.1 (subst (λ o. HasDefault o text) (type_only n t u e f) (own.0 refl))

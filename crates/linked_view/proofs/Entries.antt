@@ -18,21 +18,14 @@ use Rattle.schema_view.specs.Declarations.{Body, of_message, of_field, of_oneof,
 use Rattle.schema_view.specs.References.{linked}
 use Rattle.schema_view.proofs.Lists.{contains_map, contains_map_cases}
 use Rattle.linked_view.specs.Alone.{IsWellNamed, AreLawfulAlone}
-use Rattle.linked_view.specs.Named.{AreWellNamed}
-use Rattle.linked_view.specs.Passed.{facts_of, start_of}
-use Rattle.linked_view.proofs.Accepted.{have_names, refs, told, known, known_all, indexes, names_at, lawful_alone, meanings_alone}
-use Rattle.linked_view.proofs.Along.{ruled_to}
-use Rattle.linked_view.proofs.AtHand.{met_to_by}
+use Rattle.linked_view.specs.Passed.{facts_of}
+use Rattle.linked_view.proofs.Accepted.{all_met, known_files, named_files, told, known, known_all, indexes, names_at, lawful_alone, meanings_alone}
 use Rattle.linked_view.proofs.Linked.{meanings}
-use Rattle.reflect_known.specs.KnownNames.{nothing_before, known_of_files}
 use Rattle.reflect_passes.specs.Linked.{linked_says}
 use Rattle.reflect_walk.specs.Declarations as walk
 use Rattle.reflect_walk.specs.Tree.{MessageParts}
 use Rattle.schema_view.specs.Declarations as view
-use Rattle.linked_view.proofs.Accepted.{files_none}
-use Rattle.linked_view.proofs.Behind.{all_named, known_is}
 use Rattle.linked_view.proofs.Named.{in_all}
-use Rattle.std.proofs.lemmas.List.Elements.{Contains-append_right}
 use Rattle.std.specs.Prelude.{true}
 use Rattle.linked_view.specs.Extended.{IsIndexed}
 use Rattle.reflect_tables.specs.Names.{names_of}
@@ -52,12 +45,11 @@ use Rattle.schema_view.proofs.Lists.{contains_there}
 use Rattle.linked_view.specs.AtHand.{IsMetBy}
 use Rattle.linked_view.specs.Entries.{HaveOneUse}
 use Rattle.linked_view.specs.Ruled.{TellsOf}
-use Rattle.linked_view.proofs.Indexed.{message_index}
 use Rattle.linked_view.proofs.Known.{file_batch}
 use Rattle.linked_view.proofs.Listed.{batch_listed}
 use Rattle.linked_view.proofs.Once.{names_it, written_uses, one_use_map}
 use Rattle.linked_view.proofs.Places.{contains_get}
-use Rattle.linked_view.proofs.Ranged.{batch_all}
+use Rattle.linked_view.proofs.Ranged.{known_message}
 use Rattle.linked_view.proofs.Shapes.{entry_from}
 use Rattle.linked_view.proofs.Used.{uses_by, uses_of, uses_along, gives_uses, used, one_map}
 use Rattle.linked_view.proofs.Walked.{Seen, seen, seen_body, told as told_of, facts_in, inner_declarations, file_seen}
@@ -118,16 +110,6 @@ module _ (old new : PoolType) (ns : List FileDescriptorProto) (w : Linking) (is 
   abbrev ds : List walk.Declaration
   ds = batch_declarations w.before w.first ns
 
-  named_files : AreWellNamed [] (map file_view all)
-  named_files = all_named old ns w is has (have_names old new ns w is has names batch kept)
-      (files_none old new ns w is has names batch kept) batch.means.links batch.means.linked
-      batch.means.right.sees batch.means.right.right
-
-  known_all_files : all_known ≡ known_of_files all
-  known_all_files = known_is old ns w is has (have_names old new ns w is has names batch kept)
-      (files_none old new ns w is has names batch kept) batch.means.links batch.means.linked
-      batch.means.right.sees batch.means.right.right
-
   -- a message of the linked files, as it was before
   pub message_source : (meanings : Meanings) (f : FileContent) (d : Declaration)
       (m : view.MessageFacts)
@@ -175,13 +157,8 @@ module _ (old new : PoolType) (ns : List FileDescriptorProto) (w : Linking) (is 
   -- it is known by its name, for its index
   pub knows_along : (n : Text) (m : view.MessageFacts) → (along : IsAlong ds n m)
       → all_known along.own.name ≡ Some (definition_of along.own)
-  knows_along n m along =
-      let x = along.own in
-      ap (λ (k : Known). k x.name) known_all_files
-      ∙ message_index all named_files x along.parts
-      (subst (λ l. Contains l x) (sym (batch_all old ns w is has))
-      (Contains-append_right (batch_declarations nothing_before 0 old.records) ds x along.there))
-      along.body
+  knows_along n m along = known_message old ns w is has (named_files old new ns w is has names batch kept) all_known (known_files old new ns w is has names batch kept)
+      along.own along.parts along.there along.body
 
   pub are_found : AreFound (found messages all_known) (names_of new messages)
   are_found = subst (λ k. AreFound (found messages k) (names_of new messages))
@@ -206,12 +183,7 @@ module _ (old new : PoolType) (ns : List FileDescriptorProto) (w : Linking) (is 
       let g = facts_of batch.types w.before w.first ns batch.references in
       let views = views_of all_known batch.means.right.sees in
       let at = batch_places ns w.first in
-      let ruled = ruled_to g (linked_values batch.types) at (start_of batch.references) w.before w.first
-      ns (have_names old new ns w is has names batch kept).complete
-      (refs old new ns w is has names batch kept).1
-      (told old new ns w is has names batch kept) batch.numbers in
-      let met = met_to_by g (linked_values batch.types) views at (start_of batch.references) ds
-      (sym batch.means.right.faults) batch.means.right.targets ruled.1 in
+      let met = all_met old new ns w is has names batch kept in
       let own_met = subst (λ b. IsMetBy g (linked_values batch.types) (views x.file)
       (record x { body = b })) along.body
       (in_all (λ (d : walk.Declaration). IsMetBy g (linked_values batch.types) (views d.file) d) ds met x

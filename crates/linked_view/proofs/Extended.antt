@@ -12,10 +12,10 @@ use Rattle.reflect_tables.specs.Types.{PoolType, ExtensionType}
 use Rattle.schema_view.specs.Declarations.{declarations, Body, of_message, of_field, of_oneof, of_enum, of_value, of_service, of_method, of_extension}
 use Rattle.schema_view.specs.Lawful.{Key, is_dotted, has_key, times_by}
 use Rattle.schema_view.specs.Rules.{is_number}
-use Rattle.schema_view.proofs.Lists.{sum_same}
+use Rattle.schema_view.proofs.Lists.{sum_same, sum_some}
 use Rattle.linked_view.specs.Extended.{WrittenKey, keys_of, written_keys, IsIndexed, HasWritten, TellsExtensions}
-use Rattle.linked_view.proofs.Counts.{one_if, bytes_same, some_weight, weighed}
-use Rattle.linked_view.proofs.Places.{get_map, contains_get}
+use Rattle.linked_view.proofs.Counts.{one_if, bytes_same, some_weight, weighs, weighed}
+use Rattle.linked_view.proofs.Places.{get_contains, get_map, contains_get}
 
 -- what has its part on the right has it at its place
 pub zip_at : {X Y : Type 0} (R : X → Y → Type 0) (xs : List X) (ys : List Y) (i : ℕ) (x : X)
@@ -25,6 +25,16 @@ zip_at R (z ∷ xs) [] i x h e = absurd h
 zip_at R (z ∷ xs) (y ∷ ys) zero x h e =
     let same : z ≡ x = cc e in (y, refl, subst (λ a. R a y) same h.0)
 zip_at R (z ∷ xs) (y ∷ ys) (suc i) x h e = zip_at R xs ys i x h.1 e
+
+-- and back
+pub at_zip : {X Y : Type 0} (R : X → Y → Type 0) (xs : List X) (ys : List Y) (i : ℕ) (y : Y)
+    → AllZip R xs ys → slice_get ys i ≡ Some y → (x : X) × (slice_get xs i ≡ Some x) × R x y
+at_zip R [] [] i y h e = absurd (cc e)
+at_zip R [] (z ∷ ys) i y h e = absurd h
+at_zip R (x ∷ xs) [] i y h e = absurd h
+at_zip R (x ∷ xs) (z ∷ ys) zero y h e =
+    let same : z ≡ y = cc e in (x, refl, subst (λ b. R x b) same h.0)
+at_zip R (x ∷ xs) (z ∷ ys) (suc i) y h e = at_zip R xs ys i y h.1 e
 
 -- what passes a test at one place alone passes it once
 pub once : {X : Type 0} (test : X → Bool) (xs : List X)
@@ -59,6 +69,30 @@ once {X} test (x ∷ xs) one = by (test x) refl (sum_by-cons (λ y. one_if (test
     by false is sum rest =
         let here : one_if (test x) ≡ 0 = ap one_if is in omega (arith, here, rest, sum)
 
+-- and back: what passes a test once passes it at one place alone
+twice : {X : Type 0} (test : X → Bool) (z : X) (xs : List X) (j : ℕ) (y : X)
+    → sum_by (λ q. one_if (test q)) (z ∷ xs) ≤ 1 → test z ≡ true → slice_get xs j ≡ Some y
+    → test y ≡ true → ⊥
+twice test z xs j y le first e second =
+    let here = weighs (test z) first in
+    let there = weighs (test y) second in
+    let some = sum_some (λ q. one_if (test q)) xs y (get_contains xs j y e) in
+    let sum = sum_by-cons (λ q. one_if (test q)) z xs in
+    omega (arith, le, here, there, some, sum)
+
+pub one_place : {X : Type 0} (test : X → Bool) (xs : List X) (i j : ℕ) (x y : X)
+    → sum_by (λ q. one_if (test q)) xs ≤ 1 → slice_get xs i ≡ Some x → slice_get xs j ≡ Some y
+    → test x ≡ true → test y ≡ true → i ≡ j
+one_place test [] i j x y le e f g h = absurd (cc e)
+one_place test (z ∷ xs) zero zero x y le e f g h = refl
+one_place test (z ∷ xs) zero (suc j) x y le e f g h =
+    let same : z ≡ x = cc e in absurd (twice test z xs j y le (ap test same ∙ g) f h)
+one_place test (z ∷ xs) (suc i) zero x y le e f g h =
+    let same : z ≡ y = cc f in absurd (twice test z xs i x le (ap test same ∙ h) e g)
+one_place test (z ∷ xs) (suc i) (suc j) x y le e f g h =
+    let sum = sum_by-cons (λ q. one_if (test q)) z xs in
+    ap suc (one_place test xs i j x y (omega (arith, le, sum)) e f g h)
+
 both_true : (a b : Bool) → (a && b) ≡ true → (a ≡ true) × (b ≡ true)
 both_true true true e = (refl, refl)
 both_true true false e = absurd (cc e)
@@ -73,7 +107,7 @@ number_is n None e = absurd (cc e)
 number_is n (Some m) e = ap Some ((Decides-int_eq m n).0 e)
 
 -- the key is written
-abbrev writes_key : Key → WrittenKey → Bool
+abbrev pub writes_key : Key → WrittenKey → Bool
 writes_key k w = is_dotted k.0 w.0 && is_number k.1 w.1
 
 pub sum_flat : {X Y : Type 0} (w : Y → ℕ) (g : X → List Y) (xs : List X)
@@ -84,7 +118,7 @@ sum_flat w g (x ∷ xs) =
     ∙ sym (sum_by-cons (λ y. sum_by w (g y)) x xs)
 
 module _ (k : Key) where
-  abbrev weight : WrittenKey → ℕ
+  abbrev pub weight : WrittenKey → ℕ
   weight w = one_if (writes_key k w)
 
   body_weight : (n : Text) (b : Body) → sum_by weight (keys_of (record { name = n; body = b }))

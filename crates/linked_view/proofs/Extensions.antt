@@ -1,5 +1,5 @@
 -- The entries of a batch's extensions are those of the records as they are linked.
-use Rattle.std.proofs.Common.{◌≡◌, ◌∙◌, ℕ, Bool, List, [], ◌∷◌, ◌++◌, Option, Some, None, String, Global, string_bytes, map, slice_get, cond, append_assoc, ap, sym, refl}
+use Rattle.std.proofs.Common.{◌≡◌, ◌∙◌, ℕ, Bool, List, [], ◌∷◌, ◌++◌, Option, Some, None, String, Global, string_bytes, map, slice_get, cond, append_assoc, ap, sym, subst, refl}
 use Rattle.std.specs.List.{AllZip}
 use Rattle.descriptor_records.specs.Content.{Text, FileContent, text_view, file_view}
 use Rattle.descriptor_records.specs.declared.file.FileDescriptorProto.{FileDescriptorProto}
@@ -211,3 +211,17 @@ module _ (files : List FileDescriptorProto) (known : Known) (are : AreKnown file
       ≡ written_keys (all_linked (meanings files known are indexes sees) (map file_view fs))
   batch_keys o i fs at = batch_listed keys_by keys_of files known are indexes sees
       (record { none = λ v i f. refl; one = body_keys }) o i fs at
+
+  -- and so the entries are those of the linked files
+  module _ (o : Offsets) (i : ℕ) (fs : List FileDescriptorProto)
+      (placed : AreAt files known are indexes sees i fs) where
+    pub keys_zipped : (full_names : List FullName) → AreFound (found messages known) full_names
+        → (at : ℕ → Places) (h : AtHand) (es : List ExtensionType)
+        → reference_faults_along at (views_of known sees) (batch_declarations o i fs) ≡ []
+        → map target_of h.rest ≡ targets_along (views_of known sees) (batch_declarations o i fs)
+        → AllZip IsExtensionOf (all_of is_extension (along h (batch_declarations o i fs))) es
+        → AllZip (HasWritten full_names)
+        (written_keys (all_linked (meanings files known are indexes sees) (map file_view fs))) es
+    keys_zipped full_names stand at h es none targets z =
+        subst (λ ks. AllZip (HasWritten full_names) ks es) (batch_keys o i fs placed)
+        (zipped full_names known stand sees at h (batch_declarations o i fs) es none targets z)

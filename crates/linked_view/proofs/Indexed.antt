@@ -1,7 +1,7 @@
 -- A message that is known by a name is declared under it, and has its place among the messages.
 use Rattle.std.proofs.Common.{◌≡◌, ◌∙◌, ◌+◌, inl, inr, ℕ, List, [], ◌∷◌, Some, map, slice_get, ap, sym, subst, refl, arith}
 use Rattle.std.specs.List.{Contains}
-use Rattle.descriptor_records.specs.Content.{Text, file_view}
+use Rattle.descriptor_records.specs.Content.{Text, FileContent, file_view}
 use Rattle.descriptor_records.specs.declared.file.FileDescriptorProto.{FileDescriptorProto}
 use Rattle.reflect_scope.specs.declared.definition.Definition.{Definition}
 use Rattle.reflect_scope.specs.declared.definition.DefinitionKind.TheVariants as kind
@@ -49,6 +49,12 @@ module _ (files : List FileDescriptorProto) (named : AreWellNamed [] (map file_v
     pub declared : IsDeclared (outlines (map file_view files)) n
         (sort_of (view.of_message (facts_in own)))
     pub complete : IsComplete (view.of_message (facts_in own))
+    pub file : FileContent
+    pub message : view.Declaration
+    pub there : Contains (map file_view files) file
+    pub inside : Contains (view.declarations file) message
+    pub name : message.name ≡ n
+    pub body : message.body ≡ view.of_message (facts_in own)
 
   pub message_known : (n : Text) (d : Definition) (i : ℕ) → known_of_files files n ≡ Some d
       → d.kind ≡ kind.Message i → IsMessageAt n i
@@ -94,6 +100,12 @@ module _ (files : List FileDescriptorProto) (named : AreWellNamed [] (map file_v
                 ap sort_of same,
               );
               complete = subst IsComplete same (named.complete c v.0 there v.1);
+              file = c;
+              message = v.0;
+              there = there;
+              inside = v.1;
+              name = full;
+              body = same;
             })
       ]
 

@@ -1,17 +1,20 @@
 pub mod Accepted
 pub mod Added
+pub mod Agreed
 pub mod Along
 pub mod Behind
 pub mod Completes
 pub mod Counts
 pub mod Defaulted
 pub mod Defaults
+pub mod Doubled
 pub mod Entries
 pub mod Enums
 pub mod Extended
 pub mod Extensions
 pub mod Faults
 pub mod Fitting
+pub mod Found
 pub mod Given
 pub mod Indexed
 pub mod Kept
@@ -19,6 +22,7 @@ pub mod Known
 pub mod Lawful
 pub mod Linked
 pub mod Listed
+pub mod Marked
 pub mod Means
 pub mod Messages
 pub mod AtHand
@@ -38,6 +42,7 @@ pub mod Ruled
 pub mod Scopes
 pub mod Sees
 pub mod Shapes
+pub mod Shown
 pub mod Settling
 pub mod Suited
 pub mod Sound

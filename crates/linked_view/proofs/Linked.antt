@@ -31,6 +31,7 @@ use Rattle.linked_view.specs.Resolved.{filter_of, SeesThose}
 use Rattle.linked_view.specs.Taken.{type_of, in_order}
 use Rattle.linked_view.proofs.Known.{next_file}
 use Rattle.linked_view.proofs.Named.{all_in}
+use Rattle.linked_view.proofs.Places.{contains_get}
 use Rattle.linked_view.proofs.References.{meaning_to, reference_from}
 use Rattle.linked_view.proofs.Walked.{Seen, seen, told, inner_declarations, file_seen}
 
@@ -224,7 +225,7 @@ module _ (files : List FileDescriptorProto) (known : Known) (are : AreKnown file
       (batch_declarations (past_file o f) (i + 1) fs)) own
       ∙ ap (λ ts. in_order (targets_in (file_view f)) (file_view f) ++ ts) later
 
-  pub batch_means : (i : ℕ) (fs : List FileDescriptorProto) → AreAt i fs → AreSeenBy files i fs sees
+  batch_means : (i : ℕ) (fs : List FileDescriptorProto) → AreAt i fs → AreSeenBy files i fs sees
       → AreMeant (outlines (map file_view files)) (map file_view fs)
       → (k : ℕ) (f : FileDescriptorProto) → slice_get fs k ≡ Some f → (r : Reference)
       → Contains (references (file_view f)) r → Contains (map file_view fs) (file_view f)
@@ -236,3 +237,16 @@ module _ (files : List FileDescriptorProto) (known : Known) (are : AreKnown file
       })) (sym (sees_at f (i + k) (at k f e)))
       (means_found files known are (outline_of (file_view f)) (sees (i + k)) (those k f e) r
       (meant (file_view f) r there j))
+
+  -- and so does each in the contents of the files
+  pub files_mean : (i : ℕ) (fs : List FileDescriptorProto) → AreAt i fs → AreSeenBy files i fs sees
+      → AreMeant (outlines (map file_view files)) (map file_view fs)
+      → (c : FileContent) (r : Reference) → Contains (map file_view fs) c
+      → Contains (references c) r
+      → Means (outlines (map file_view files)) (outline_of c) r (meanings c r)
+  files_mean i fs at those meant c r j k =
+      let f = contains_map_cases file_view fs c j in
+      let place = contains_get fs f.0 f.1 in
+      subst (λ x. Means (outlines (map file_view files)) (outline_of x) r (meanings x r)) f.2
+      (batch_means i fs at those meant place.0 f.0 place.1 r
+      (subst (λ x. Contains (references x) r) (sym f.2) k) (contains_map file_view fs f.0 f.1))

@@ -2,10 +2,10 @@
 use Rattle.std.proofs.Common.{◌≡◌, ◌⊎◌, ◌∙◌, ◌+◌, inl, inr, suc, pos, Bool, true, false, cond, List, [], ◌∷◌, Some, length, sum_by, ap, sym, subst, refl, arith}
 use Rattle.std.specs.List.{Contains, filter, flat_map}
 use Rattle.std.proofs.lemmas.List.Sums.{sum_by-cons}
-use Rattle.descriptor_records.specs.Content.{Text, FileContent}
-use Rattle.schema_view.specs.Declarations.{declarations, Body, of_message, of_field, of_oneof, of_enum, of_value, of_service, of_method, of_extension}
-use Rattle.schema_view.specs.Lawful.{is_dotted, times_by, is_use, IsMapUse, IsOneMap}
-use Rattle.schema_view.proofs.Lists.{contains_here, contains_there, contains_cases, contains_none, contains_flat, sum_same}
+use Rattle.descriptor_records.specs.Content.{Text, FieldContent, FileContent}
+use Rattle.schema_view.specs.Declarations.{Declaration, declarations, Body, of_message, of_field, of_oneof, of_enum, of_value, of_service, of_method, of_extension}
+use Rattle.schema_view.specs.Lawful.{is_dotted, times_by, is_use, IsMap, IsMapUse, IsOneMap}
+use Rattle.schema_view.proofs.Lists.{contains_here, contains_there, contains_cases, contains_none, contains_flat, contains_flat_cases, sum_same}
 use Rattle.linked_view.proofs.Counts.{one_if}
 use Rattle.linked_view.proofs.Extended.{sum_flat}
 use Rattle.linked_view.proofs.Used.{WrittenUse, uses_of}
@@ -47,6 +47,22 @@ filter_contains {X} test (y ∷ xs) x h e =
       by false is (inl same) rest = absurd (cc (sym is ∙ ap test same ∙ e))
       by false is (inr j) rest =
           subst (λ c. Contains (cond c (y ∷ filter test xs) (filter test xs)) x) (sym is) (rest j)
+
+pub contains_filter : {X : Type 0} (test : X → Bool) (xs : List X) (x : X)
+    → Contains (filter test xs) x → Contains xs x × (test x ≡ true)
+contains_filter test [] x h = absurd (contains_none x h)
+contains_filter {X} test (y ∷ xs) x h = by (test y) refl (contains_filter test xs x) where
+  at : (b : Bool) → test y ≡ b → Contains (cond b (y ∷ filter test xs) (filter test xs)) x
+  at b is = subst (λ c. Contains (cond c (y ∷ filter test xs) (filter test xs)) x) is h
+
+  by : (b : Bool) → test y ≡ b
+      → (Contains (filter test xs) x → Contains xs x × (test x ≡ true))
+      → Contains (y ∷ xs) x × (test x ≡ true)
+  by true is rest = elim (contains_cases y (filter test xs) x (at true is)) [
+    | inl same ↦ (subst (Contains (y ∷ xs)) same (contains_here y xs), sym (ap test same) ∙ is)
+    | inr j ↦ (let r = rest j in (contains_there y xs x r.0, r.1))
+  ]
+  by false is rest = let r = rest (at false is) in (contains_there y xs x r.0, r.1)
 
 abbrev pub written_uses : List FileContent → List WrittenUse
 written_uses fs = flat_map (λ f. flat_map uses_of (declarations f)) fs
@@ -118,3 +134,40 @@ module _ (full : Text) where
           contains_flat (λ f. flat_map uses_of (declarations f)) fs f v i
           (contains_flat uses_of (declarations f) d v j k));
     }
+
+  -- and back: what is written of the name is a map's
+  field_used : (x : FieldContent) → (is_dotted full x.type_name ≡ true → IsMap x)
+      → (u : WrittenUse) → Contains ((x.type_name, (x.label, x.field_type)) ∷ []) u
+      → names_it u ≡ true → (u.1.0 ≡ Some (pos 3)) × (u.1.1 ≡ Some (pos 11))
+  field_used x h u i e =
+      elim (contains_cases (x.type_name, (x.label, x.field_type)) [] u i) [
+        | inl same ↦ (
+            let m = h (ap names_it same ∙ e) in (
+              sym (ap (λ (y : WrittenUse). y.1.0) same) ∙ m.0,
+              sym (ap (λ (y : WrittenUse). y.1.1) same) ∙ m.1,
+            ))
+        | inr none ↦ absurd (contains_none u none)
+      ]
+
+  body_used : (n : Text) (b : Body) → IsMapUse full b → (u : WrittenUse)
+      → Contains (uses_of (record { name = n; body = b })) u → names_it u ≡ true
+      → (u.1.0 ≡ Some (pos 3)) × (u.1.1 ≡ Some (pos 11))
+  body_used n (of_field x) h u i e = field_used x h u i e
+  body_used n (of_extension x) h u i e = field_used x h u i e
+  body_used n (of_message m) h u i e = absurd (contains_none u i)
+  body_used n (of_oneof o) h u i e = absurd (contains_none u i)
+  body_used n (of_enum k) h u i e = absurd (contains_none u i)
+  body_used n (of_value v) h u i e = absurd (contains_none u i)
+  body_used n (of_service s) h u i e = absurd (contains_none u i)
+  body_used n (of_method m) h u i e = absurd (contains_none u i)
+
+  pub used_as_map : (fs : List FileContent)
+      → ((f : FileContent) (d : Declaration) → Contains fs f → Contains (declarations f) d
+      → IsMapUse full d.body)
+      → (u : WrittenUse) → Contains (filter names_it (written_uses fs)) u
+      → (u.1.0 ≡ Some (pos 3)) × (u.1.1 ≡ Some (pos 11))
+  used_as_map fs maps u h =
+      let r = contains_filter names_it (written_uses fs) u h in
+      let f = contains_flat_cases (λ f. flat_map uses_of (declarations f)) fs u r.0 in
+      let d = contains_flat_cases uses_of (declarations f.0) u f.2 in
+      body_used d.0.name d.0.body (maps f.0 d.0 f.1 d.1) u d.2 r.1

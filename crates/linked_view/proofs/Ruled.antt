@@ -2,20 +2,22 @@
 -- itself, by its message, and by what it refers to.
 use Rattle.std.proofs.Common.{◌≡◌, ◌∙◌, inl, inr, ℕ, ℤ, pos, Bool, true, false, cond, not, ◌&&◌, nat_lt, List, [], ◌++◌, Option, Some, None, String, Global, string_bytes, unwrap_or, map, sum_by, ap, sym, subst, refl, arith}
 use Rattle.std.specs.List.{AllByRecursion}
+use Rattle.std.proofs.lemmas.List.Elements.{All-contains}
 use Rattle.descriptor_records.specs.Content.{Text, text_view, field_view}
 use Rattle.descriptor_records.specs.declared.field.FieldDescriptorProto.{FieldDescriptorProto}
 use Rattle.reflect_scope.specs.declared.definition.DefinitionKind.{DefinitionKind}
+use Rattle.reflect_scope.specs.declared.definition.DefinitionKind.TheVariants as kind
 use Rattle.reflect_walk.specs.Tree.{MessageParts}
 use Rattle.reflect_walk.specs.MapEntries.{says_entry}
 use Rattle.reflect_walk.specs.Declarations.{Declaration, Body, of_file, of_message, of_field, of_oneof, of_enum, of_enum_value, of_service, of_method, of_extension}
 use Rattle.reflect_names.specs.Faults.{Fault, duplicate_number}
 use Rattle.reflect_names.specs.Names.{Places}
-use Rattle.reflect_tables.specs.Ranges.{Range, IsRangeOf}
+use Rattle.reflect_tables.specs.Ranges.{Range, IsIn, IsRangeOf}
 use Rattle.reflect_references.specs.Meanings.{meaning, behind}
 use Rattle.reflect_rules.specs.TypesSay.{TypesSay}
 use Rattle.reflect_rules.specs.MapEntries.{has_entry_shape}
 use Rattle.reflect_rules.specs.Numbers.{is_field_number, number_faults, reserved_faults, kept_faults, outside_faults, oneof_faults}
-use Rattle.reflect_rules.specs.Rules.{Values, IsDefaultOf, FieldFaults, ExtensionNumber, ExtensionFaults, number_of, message_of, is_one_map, entry_faults, message_faults, older_faults, default_faults, parent_of, FaultsOf}
+use Rattle.reflect_rules.specs.Rules.{Values, IsSuited, IsDefaultOf, FieldFindings, FieldFaults, ExtensionNumber, ExtensionFindings, ExtensionFaults, number_of, message_of, is_one_map, entry_faults, message_faults, older_faults, default_faults, parent_of, FaultsOf}
 use Rattle.reflect_rules.specs.Walks.{Facts, Place}
 use Rattle.schema_view.specs.Files.{IsThere}
 use Rattle.schema_view.specs.Declarations as view
@@ -24,10 +26,10 @@ use Rattle.schema_view.specs.Rules.{is_number, HasFieldNumber, HasOneof, HasType
 use Rattle.schema_view.proofs.Renames.{map_same}
 use Rattle.linked_view.specs.Ruled.{IsRuledMessage, IsRuledField, IsRuled, IsPlacedField, IsNewer, IsMetField, IsExtensionNumber, IsMet}
 use Rattle.linked_view.proofs.Completes.{IsCompleteBody}
-use Rattle.linked_view.proofs.Defaults.{suited_to, suited_from}
+use Rattle.linked_view.proofs.Defaults.{scalar_only, suited_to, suited_from}
 use Rattle.linked_view.proofs.Enums.{enum_to, enum_from}
 use Rattle.linked_view.proofs.Faults.{none_both, both_none, unless_to, unless_from, when_to, when_from}
-use Rattle.linked_view.proofs.Messages.{IsIn}
+use Rattle.linked_view.proofs.Messages as fields
 use Rattle.linked_view.proofs.NamedFiles.{place_to, place_from}
 use Rattle.linked_view.proofs.Numbers.{number_to, number_from, and_to, and_from}
 use Rattle.linked_view.proofs.Repeated.{often, often_seen, once_to, once_from}
@@ -46,7 +48,7 @@ IsRuledBody proto3 (Some b) = IsRuled proto3 b
 
 -- a field by its message
 abbrev pub IsPlacedIn : TypesSay → ℕ → Declaration → Type 0
-IsPlacedIn types oneofs d = IsIn (IsPlacedField types) oneofs d
+IsPlacedIn types oneofs d = fields.IsIn (IsPlacedField types) oneofs d
 
 pub record IsClean (g : Facts) (values : Values) (p : Place) (d : Declaration) : Type 0 where
   pub own : IsRuledBody p.is_proto3 (seen_body d.body)
@@ -78,6 +80,38 @@ named_scalar : (z : ℤ) (t : Text) → HasType (Some z) (Some t) → is_scalar 
 named_scalar z t (inl is) e = cc (sym (ap is_scalar is) ∙ e)
 named_scalar z t (inr (inl is)) e = cc (sym (ap is_scalar is) ∙ e)
 named_scalar z t (inr (inr is)) e = cc (sym (ap is_scalar is) ∙ e)
+
+-- what is asked of enums' values has one answer where it is yes
+abbrev pub IsDecided : Values → Type 0
+IsDecided values = (i : ℕ) (text : Text) (suits : Bool) → values i text true → values i text suits
+    → suits ≡ true
+
+suited_only : (values : Values) → IsDecided values → (number : Option ℤ) (m : Option DefinitionKind)
+    (text : Text) (suits : Bool) → IsSuited values number m text true
+    → IsSuited values number m text suits → suits ≡ true
+suited_only values decided number None text suits h k = scalar_only number text suits h k
+suited_only values decided number (Some (kind.Enum i)) text suits h k = decided i text suits h k
+suited_only values decided number (Some kind.Package) text suits h k = absurd (cc h)
+suited_only values decided number (Some (kind.Message i)) text suits h k = absurd (cc h)
+suited_only values decided number (Some kind.Field) text suits h k = absurd (cc h)
+suited_only values decided number (Some kind.Oneof) text suits h k = absurd (cc h)
+suited_only values decided number (Some kind.EnumValue) text suits h k = absurd (cc h)
+suited_only values decided number (Some (kind.Service i)) text suits h k = absurd (cc h)
+suited_only values decided number (Some kind.Method) text suits h k = absurd (cc h)
+suited_only values decided number (Some (kind.Extension i)) text suits h k = absurd (cc h)
+
+default_only : (values : Values) → IsDecided values → (number : Option ℤ)
+    (m : Option DefinitionKind) (value : Option (String Global)) (suits : Bool)
+    → IsDefaultOf values number m value true → IsDefaultOf values number m value suits
+    → suits ≡ true
+default_only values decided number m None suits h k = k
+default_only values decided number m (Some s) suits h k =
+    suited_only values decided number m (string_bytes s) suits h k
+
+range_only : (rs : List Range) (n : ℤ) (r : Option Range) → IsRangeOf rs n None → IsRangeOf rs n r
+    → r ≡ None
+range_only rs n None none h = refl
+range_only rs n (Some r) none h = absurd (All-contains (λ q. IsIn n q → ⊥) rs r none h.0 h.1)
 
 scalar_to : (values : Values) (number : Option ℤ) (name value : Option (String Global))
     (m : Option DefinitionKind) → (name ≡ None → m ≡ None) → HasType number (text_view name)
@@ -199,33 +233,56 @@ module _ (g : Facts) (values : Values) (at : Places) (path : List ℤ) where
           },
         )
 
+    -- nothing is wrong with a field that meets the rules, whatever is found of it
+    field_clear : (oneofs message : ℕ) → IsRuledField (field_view f)
+        → IsPlacedField g.types oneofs message f → IsMetField g values m f
+        → (r : FieldFindings g values m message (number_of f) f) → r.suits ≡ true
+        → number_faults at path (number_of f) ++ reserved_faults at path (number_of f) r.reserved
+        ++ kept_faults at path (number_of f) r.kept ++ oneof_faults at path oneofs f.oneof_index
+        ++ older_faults at path g.types g.first (message_of m)
+        ++ default_faults at path f.default_value r.suits ≡ []
+    field_clear oneofs message own placed met r suits =
+        let n = number_of f in
+        let a = number_faults at path n in
+        let b = a ++ reserved_faults at path n r.reserved in
+        let c = b ++ kept_faults at path n r.kept in
+        let d = c ++ oneof_faults at path oneofs f.oneof_index in
+        let o = d ++ older_faults at path g.types g.first (message_of m) in
+        let reserved = range_only (g.types.reserved message) n r.reserved placed.unreserved r.is_reserved
+        in
+        let kept = range_only (g.types.extensions message) n r.kept placed.no_extension r.is_kept in
+        both_none o (default_faults at path f.default_value r.suits)
+        (both_none d (older_faults at path g.types g.first (message_of m))
+        (both_none c (oneof_faults at path oneofs f.oneof_index)
+        (both_none b (kept_faults at path n r.kept)
+        (both_none a (reserved_faults at path n r.reserved)
+        (unless_from (is_field_number n) _ (in_number f.number own.number))
+        (ap (reserved_faults at path n) reserved)) (ap (kept_faults at path n) kept))
+        (oneof_from at path oneofs f.oneof_index placed.oneof))
+        (newer_from at path g.types g.first (message_of m) met.newer))
+        (ap (default_faults at path f.default_value) suits ∙ is_default at path f.default_value)
+
     field_from : (oneofs message : ℕ) → IsRuledField (field_view f)
         → IsPlacedField g.types oneofs message f → IsMetField g values m f
         → FieldFaults g values oneofs at path message f (number_of f) m []
     field_from oneofs message own placed met =
-        let n = number_of f in (
-          record {
-            reserved = None;
-            kept = None;
-            suits = true;
-            is_reserved = placed.unreserved;
-            is_kept = placed.no_extension;
-            is_suited = own_default own met.default;
-          },
-          (let a = number_faults at path n in
-              let b = a ++ [] in
-              let c = b ++ [] in
-              let d = c ++ oneof_faults at path oneofs f.oneof_index in
-              let o = d ++ older_faults at path g.types g.first (message_of m) in
-              sym (both_none o (default_faults at path f.default_value true)
-              (both_none d (older_faults at path g.types g.first (message_of m))
-              (both_none c (oneof_faults at path oneofs f.oneof_index)
-              (both_none b [] (both_none a []
-              (unless_from (is_field_number n) _ (in_number f.number own.number)) refl) refl)
-              (oneof_from at path oneofs f.oneof_index placed.oneof))
-              (newer_from at path g.types g.first (message_of m) met.newer))
-              (is_default at path f.default_value))),
-        )
+        let r : FieldFindings g values m message (number_of f) f = record {
+          reserved = None;
+          kept = None;
+          suits = true;
+          is_reserved = placed.unreserved;
+          is_kept = placed.no_extension;
+          is_suited = own_default own met.default;
+        } in
+        (r, sym (field_clear oneofs message own placed met r refl))
+
+    field_only : IsDecided values → (oneofs message : ℕ) → IsRuledField (field_view f)
+        → IsPlacedField g.types oneofs message f → IsMetField g values m f → (xs : List Fault)
+        → FieldFaults g values oneofs at path message f (number_of f) m xs → xs ≡ []
+    field_only decided oneofs message own placed met xs (r, is) =
+        is ∙ field_clear oneofs message own placed met r
+        (default_only values decided f.field_type m f.default_value r.suits
+        (own_default own met.default) r.is_suited)
 
     numbered_to : (extendee : Option ℕ) (xs : List Fault)
         → ExtensionNumber g.types at path (number_of f) extendee xs → xs ≡ []
@@ -244,6 +301,21 @@ module _ (g : Facts) (values : Values) (at : Places) (path : List ℤ) where
         → ExtensionNumber g.types at path (number_of f) extendee []
     numbered_from None h = refl
     numbered_from (Some i) (unreserved, r, kept) = (None, Some r, unreserved, kept, refl)
+
+    numbered_only : (extendee : Option ℕ) → IsExtensionNumber g.types (number_of f) extendee
+        → (xs : List Fault) → ExtensionNumber g.types at path (number_of f) extendee xs → xs ≡ []
+    numbered_only None h xs e = e
+    numbered_only (Some i) (unreserved, r, kept) xs (reserved, o, is_reserved, is_kept, is) =
+        let n = number_of f in
+        let none = range_only (g.types.reserved i) n reserved unreserved is_reserved in
+        is ∙ both_none (reserved_faults at path n reserved)
+        (outside_faults at path n (g.types.name i) o) (ap (reserved_faults at path n) none)
+        (by o is_kept) where
+          by : (o : Option Range) → IsRangeOf (g.types.extensions i) (number_of f) o
+              → outside_faults at path (number_of f) (g.types.name i) o ≡ []
+          by None h = absurd (All-contains (λ q. IsIn (number_of f) q → ⊥) (g.types.extensions i) r h
+              kept.0 kept.1)
+          by (Some x) h = refl
 
     extension_to : (extendee : Option DefinitionKind) → IsThere f.number
         → ExtensionFaults g values at path f (number_of f) extendee m []
@@ -267,26 +339,45 @@ module _ (g : Facts) (values : Values) (at : Places) (path : List ℤ) where
           },
         )
 
+    extension_clear : (extendee : Option DefinitionKind) → IsRuledField (field_view f)
+        → IsExtensionNumber g.types (number_of f) (message_of extendee) → IsMetField g values m f
+        → (r : ExtensionFindings g values at path f (number_of f) extendee m) → r.suits ≡ true
+        → number_faults at path (number_of f) ++ r.numbers
+        ++ older_faults at path g.types g.first (message_of m)
+        ++ default_faults at path f.default_value r.suits ≡ []
+    extension_clear extendee own numbered met r suits =
+        let n = number_of f in
+        let a = number_faults at path n in
+        let b = a ++ r.numbers in
+        let o = b ++ older_faults at path g.types g.first (message_of m) in
+        both_none o (default_faults at path f.default_value r.suits)
+        (both_none b (older_faults at path g.types g.first (message_of m))
+        (both_none a r.numbers
+        (unless_from (is_field_number n) _ (in_number f.number own.number))
+        (numbered_only (message_of extendee) numbered r.numbers r.is_number))
+        (newer_from at path g.types g.first (message_of m) met.newer))
+        (ap (default_faults at path f.default_value) suits ∙ is_default at path f.default_value)
+
     extension_from : (extendee : Option DefinitionKind) → IsRuledField (field_view f)
         → IsExtensionNumber g.types (number_of f) (message_of extendee) → IsMetField g values m f
         → ExtensionFaults g values at path f (number_of f) extendee m []
     extension_from extendee own numbered met =
-        let n = number_of f in (
-          record {
-            numbers = [];
-            suits = true;
-            is_number = numbered_from (message_of extendee) numbered;
-            is_suited = own_default own met.default;
-          },
-          (let a = number_faults at path n in
-              let b = a ++ [] in
-              let o = b ++ older_faults at path g.types g.first (message_of m) in
-              sym (both_none o (default_faults at path f.default_value true)
-              (both_none b (older_faults at path g.types g.first (message_of m))
-              (both_none a [] (unless_from (is_field_number n) _ (in_number f.number own.number)) refl)
-              (newer_from at path g.types g.first (message_of m) met.newer))
-              (is_default at path f.default_value))),
-        )
+        let r : ExtensionFindings g values at path f (number_of f) extendee m = record {
+          numbers = [];
+          suits = true;
+          is_number = numbered_from (message_of extendee) numbered;
+          is_suited = own_default own met.default;
+        } in
+        (r, sym (extension_clear extendee own numbered met r refl))
+
+    extension_only : IsDecided values → (extendee : Option DefinitionKind)
+        → IsRuledField (field_view f)
+        → IsExtensionNumber g.types (number_of f) (message_of extendee) → IsMetField g values m f
+        → (xs : List Fault) → ExtensionFaults g values at path f (number_of f) extendee m xs → xs ≡ []
+    extension_only decided extendee own numbered met xs (r, is) =
+        is ∙ extension_clear extendee own numbered met r
+        (default_only values decided f.field_type m f.default_value r.suits
+        (own_default own met.default) r.is_suited)
 
 -- two numbers of a message's fields
 fields_seen : (n : ℤ) (fs : List FieldDescriptorProto)
@@ -396,6 +487,24 @@ module _ (g : Facts) (values : Values) (p : Place) (at : Places) (d : Declaratio
       extension_from g values at d.path x (meaning x.type_name rest) (meaning_none x.type_name rest) typed
       (meaning x.extendee p.rest) h.own h.met.0 h.met.1
 
+  body_only : IsDecided values → (b : Body) → IsTypedBody b → IsClean g values p (with_body b)
+      → (xs : List Fault) → FaultsOf g values p at (with_body b) xs → xs ≡ []
+  body_only decided (of_file f) typed h xs e = e
+  body_only decided (of_message m) typed h xs e =
+      e ∙ message_from at d.path d.name m (g.uses d.index) h.own h.met
+  body_only decided (of_field f) typed h xs e =
+      field_only g values at d.path f (meaning f.type_name p.rest) (meaning_none f.type_name p.rest) typed
+      decided p.oneofs (parent_of d) h.own h.placed h.met xs e
+  body_only decided (of_oneof o) typed h xs e = e
+  body_only decided (of_enum k) typed h xs e = e ∙ enum_from at d.path p.is_proto3 k h.own
+  body_only decided (of_enum_value v) typed h xs e = e
+  body_only decided (of_service s) typed h xs e = e
+  body_only decided (of_method m) typed h xs e = e
+  body_only decided (of_extension x) typed h xs e =
+      let rest = behind x.extendee p.rest in
+      extension_only g values at d.path x (meaning x.type_name rest) (meaning_none x.type_name rest) typed
+      decided (meaning x.extendee p.rest) h.own h.met.0 h.met.1 xs e
+
 pub clean_to : (g : Facts) (values : Values) (p : Place) (at : Places) (d : Declaration)
     → IsCompleteBody (seen_body d.body) → IsTypedBody d.body → FaultsOf g values p at d []
     → IsClean g values p d
@@ -404,3 +513,8 @@ clean_to g values p at d = body_to g values p at d d.body
 pub clean_from : (g : Facts) (values : Values) (p : Place) (at : Places) (d : Declaration)
     → IsTypedBody d.body → IsClean g values p d → FaultsOf g values p at d []
 clean_from g values p at d = body_from g values p at d d.body
+
+pub clean_only : (g : Facts) (values : Values) (p : Place) (at : Places) (d : Declaration)
+    → IsDecided values → IsTypedBody d.body → IsClean g values p d → (xs : List Fault)
+    → FaultsOf g values p at d xs → xs ≡ []
+clean_only g values p at d decided = body_only g values p at d decided d.body

@@ -10,7 +10,6 @@ use Rattle.reflect_known.specs.KnownNames.{nothing_known, nothing_before, known_
 use Rattle.reflect_known.proofs.GivenNames.{known_told}
 use Rattle.reflect_index.specs.Along.{before_files}
 use Rattle.reflect_names.specs.Faults.{batch_places}
-use Rattle.reflect_walk.specs.Batches.{batch_declarations}
 use Rattle.reflect_passes.specs.NameFaults.{name_faults}
 use Rattle.reflect_tables.specs.Names.{FullName, AreFound, found, message_name, names_of, messages}
 use Rattle.reflect_tables.specs.Types.{PoolType, ExtensionType}
@@ -23,9 +22,8 @@ use Rattle.schema_view.specs.Declarations.{declarations}
 use Rattle.schema_view.specs.Lawful.{Meanings, all_linked}
 use Rattle.linked_view.specs.Alone.{IsWellNamed}
 use Rattle.linked_view.specs.Extended.{WrittenKey, keys_of, written_keys, IsIndexed, HasWritten, TellsExtensions}
-use Rattle.linked_view.proofs.Accepted.{have_names, files_none, known_all, indexes, known, names_at, stand_linked}
-use Rattle.linked_view.proofs.Behind.{known_is}
-use Rattle.linked_view.proofs.Extensions.{batch_keys, zipped}
+use Rattle.linked_view.proofs.Accepted.{known_files, known_all, indexes, known, names_at, stand_linked}
+use Rattle.linked_view.proofs.Extensions.{keys_zipped}
 use Rattle.linked_view.proofs.Linked.{meanings}
 
 pub get_before : {X : Type 0} (xs ys : List X) (i : ℕ) (x : X) → slice_get xs i ≡ Some x
@@ -34,7 +32,7 @@ get_before [] ys i x e = absurd (cc e)
 get_before (z ∷ xs) ys zero x e = e
 get_before (z ∷ xs) ys (suc i) x e = get_before xs ys i x e
 
-zip_more : (names more : List FullName) (ks : List WrittenKey) (xs : List ExtensionType)
+pub zip_more : (names more : List FullName) (ks : List WrittenKey) (xs : List ExtensionType)
     → AllZip (HasWritten names) ks xs → AllZip (HasWritten (names ++ more)) ks xs
 zip_more names more [] [] h = tt
 zip_more names more [] (x ∷ xs) h = absurd h
@@ -63,9 +61,7 @@ module _ (old new : PoolType) (ns : List FileDescriptorProto) (w : Linking) (is 
       (map-append names_of_file old.records batch.added.records.more
       ∙ ap (λ xs. map names_of_file old.records ++ xs) batch.added.records.names
       ∙ sym (map-append names_of_file old.records ns))
-      ∙ sym (known_is old ns w is has (have_names old new ns w is has names batch kept)
-      (files_none old new ns w is has names batch kept) batch.means.links batch.means.linked
-      batch.means.right.sees batch.means.right.right)
+      ∙ sym (known_files old new ns w is has names batch kept)
 
 module _ (old new : PoolType) (ns : List FileDescriptorProto) (w : Linking) (is : IsOf old w)
     (has : IsWellNamed old) (names : name_faults w.indexes w.known w.before w.first ns ≡ [])
@@ -106,17 +102,12 @@ module _ (old new : PoolType) (ns : List FileDescriptorProto) (w : Linking) (is 
       (written_keys (all_linked meant more))
       (map extension_of batch.types.new.now.extensions.items)
   batch_zipped =
-      subst (λ ks. AllZip (HasWritten named) ks
-      (map extension_of batch.types.new.now.extensions.items))
-      (batch_keys (old.records ++ ns) (known old new ns w is has names batch kept)
+      keys_zipped (old.records ++ ns) (known old new ns w is has names batch kept)
       (known_all old new ns w is has names batch kept)
       (indexes old new ns w is has names batch kept) batch.means.right.sees w.before w.first ns
-      (names_at old new ns w is has names batch kept))
-      (zipped named (known old new ns w is has names batch kept) are_found batch.means.right.sees
-      (batch_places ns w.first) (before_files batch.references)
-      (batch_declarations w.before w.first ns)
-      (map extension_of batch.types.new.now.extensions.items)
-      (sym batch.means.right.faults) batch.means.right.targets batch.declared.entries.extensions)
+      (names_at old new ns w is has names batch kept) named are_found (batch_places ns w.first)
+      (before_files batch.references) (map extension_of batch.types.new.now.extensions.items)
+      (sym batch.means.right.faults) batch.means.right.targets batch.declared.entries.extensions
 
   pub tells_new : TellsExtensions new
   tells_new =

@@ -1,5 +1,5 @@
 -- Accepted files are added: what they say of others agrees with these.
-use Rattle.std.proofs.Common.{◌≡◌, ◌≤◌, ◌<◌, ◌-◌, ◌∙◌, inl, inr, ℕ, Bool, true, false, cond, nat_lt, is_some, List, [], ◌∷◌, ◌++◌, Option, Some, None, map, length, slice_get, ap, sym, subst, refl, arith}
+use Rattle.std.proofs.Common.{◌≡◌, ◌≤◌, ◌<◌, ◌∙◌, inl, inr, ℕ, true, false, is_some, List, [], ◌∷◌, ◌++◌, Some, map, slice_get, ap, sym, subst, refl, arith}
 use Rattle.std.specs.List.{Contains}
 use Rattle.std.proofs.lemmas.List.Elements.{Contains-append_cases}
 use Rattle.descriptor_records.specs.Content.{FileContent, file_view}
@@ -8,19 +8,17 @@ use Rattle.reflect_build.specs.Accepted.{FaultlessBatch, FaultlessFiles}
 use Rattle.reflect_build.specs.Refusals.{Linking, with_declared, IsOf, new_files}
 use Rattle.reflect_names.specs.Faults.{batch_places}
 use Rattle.reflect_names.specs.ReferencePass.{views_of}
-use Rattle.reflect_passes.specs.Linked.{linked_says, linked_values, message_at}
+use Rattle.reflect_passes.specs.Linked.{linked_says}
 use Rattle.reflect_passes.specs.NameFaults.{name_faults}
 use Rattle.reflect_pool.specs.Linked.{empty_pool}
 use Rattle.reflect_pool.specs.Stored.{SaysEntry as MarksEntry}
 use Rattle.reflect_scope.specs.Known.{Known}
 use Rattle.reflect_scope.specs.declared.definition.Definition.{Definition}
-use Rattle.reflect_scope.specs.declared.definition.DefinitionKind.{DefinitionKind}
 use Rattle.reflect_scope.specs.declared.definition.DefinitionKind.TheVariants as kind
-use Rattle.reflect_tables.specs.Names.{AreFound, found, message_name, messages, names_of, place_in, place_of, with_file}
+use Rattle.reflect_tables.specs.Names.{AreFound, found, message_name, messages, names_of}
 use Rattle.reflect_tables.specs.Types.{MessageType, PoolType}
 use Rattle.reflect_tables.specs.Views.{message_of}
 use Rattle.reflect_tables.specs.declared.stored.StoredMessage.{StoredMessage}
-use Rattle.reflect_tables.specs.declared.tables.Tables.{Tables}
 use Rattle.reflect_walk.specs.Batches.{batch_declarations}
 use Rattle.linked_messages.specs.Kept.{IsKept}
 use Rattle.schema_view.specs.Declarations.{MessageFacts, of_message, Declaration, declarations}
@@ -34,17 +32,17 @@ use Rattle.linked_view.specs.Alone.{AreLawfulAlone, AreSettledAlone, IsRecorded,
 use Rattle.linked_view.specs.Built.{IsBuilt}
 use Rattle.linked_view.specs.Entries.{TellsEntries}
 use Rattle.linked_view.specs.Extended.{IsIndexed, TellsExtensions}
-use Rattle.linked_view.specs.Passed.{facts_of, start_of}
+use Rattle.linked_view.specs.Passed.{facts_of}
 use Rattle.linked_view.specs.Valued.{TellsValues}
-use Rattle.linked_view.proofs.Accepted.{have_names, refs, told, known, known_all, indexes, names_at, lawful_alone, meanings_alone}
+use Rattle.linked_view.proofs.Accepted.{all_met, known, known_all, indexes, names_at, lawful_alone, meanings_alone}
 use Rattle.linked_view.proofs.Added.{alone_added}
-use Rattle.linked_view.proofs.Along.{ruled_to}
-use Rattle.linked_view.proofs.AtHand.{met_to_by}
 use Rattle.linked_view.proofs.Defaulted.{defaults_suit}
 use Rattle.linked_view.proofs.Entries.{are_found, entries_once}
 use Rattle.linked_view.proofs.Extended.{key_once}
+use Rattle.linked_view.proofs.Found.{found_place, message_place}
 use Rattle.linked_view.proofs.Kept.{empty_has_names, pool_keeps}
 use Rattle.linked_view.proofs.Linked.{meanings}
+use Rattle.linked_view.proofs.Marked.{marks_by, older_at}
 use Rattle.linked_view.proofs.Named.{in_all}
 use Rattle.linked_view.proofs.Parted.{empty_entries, pool_entries}
 use Rattle.linked_view.proofs.Places.{contains_get, get_contains, get_less, get_map, get_map_cases}
@@ -53,26 +51,6 @@ use Rattle.linked_view.proofs.Settling.{all_good, batch_holds}
 use Rattle.linked_view.proofs.Telling.{get_before, pool_tells, tells_new}
 use Rattle.linked_view.proofs.Valued.{pool_values}
 use Rattle.linked_view.proofs.Unused.{Unused, one_map_left, one_map_right, unused_before, unused_seen}
-
--- what stands for a message's place stands for a message
-message_found : (o : Option Definition) (i file : ℕ) → place_in messages o ≡ Some (i, file)
-    → (d : Definition) × (o ≡ Some d) × (d.kind ≡ kind.Message i)
-message_found None i file e = absurd (cc e)
-message_found (Some d) i file e = by d.kind refl where
-  by : (k : DefinitionKind) → d.kind ≡ k → (x : Definition) × (Some d ≡ Some x) × (x.kind ≡ kind.Message i)
-  by (kind.Message j) is =
-      let here : ◌≡◌ {A = Option (ℕ × ℕ)} (Some (j, d.file)) (Some (i, file)) =
-      sym (ap (λ k. with_file d (place_of messages k)) is) ∙ e in
-      let pair : ◌≡◌ {A = ℕ × ℕ} (j, d.file) (i, file) = cc here in
-      (d, refl, is ∙ ap (λ (p : ℕ × ℕ). kind.Message p.0) pair)
-  by kind.Package is = absurd (cc (sym (ap (λ k. with_file d (place_of messages k)) is) ∙ e))
-  by kind.Field is = absurd (cc (sym (ap (λ k. with_file d (place_of messages k)) is) ∙ e))
-  by kind.Oneof is = absurd (cc (sym (ap (λ k. with_file d (place_of messages k)) is) ∙ e))
-  by (kind.Enum j) is = absurd (cc (sym (ap (λ k. with_file d (place_of messages k)) is) ∙ e))
-  by kind.EnumValue is = absurd (cc (sym (ap (λ k. with_file d (place_of messages k)) is) ∙ e))
-  by (kind.Service j) is = absurd (cc (sym (ap (λ k. with_file d (place_of messages k)) is) ∙ e))
-  by kind.Method is = absurd (cc (sym (ap (λ k. with_file d (place_of messages k)) is) ∙ e))
-  by (kind.Extension j) is = absurd (cc (sym (ap (λ k. with_file d (place_of messages k)) is) ∙ e))
 
 module _ (old new : PoolType) (ns : List FileDescriptorProto) (w : Linking) (is : IsOf old w)
     (has : IsWellNamed old) (names : name_faults w.indexes w.known w.before w.first ns ≡ [])
@@ -109,11 +87,9 @@ module _ (old new : PoolType) (ns : List FileDescriptorProto) (w : Linking) (is 
         let named : slice_get (names_of new messages) i ≡ Some (t.full_name, t.file) =
         get_map message_name new.messages i t
         (ap (λ (ms : List MessageType). slice_get ms i) types_are ∙ here) in
-        message_found (all_known t.full_name) i t.file
-        ((stand t.full_name i t.file).1 named)
-
-    abbrev marks_by : Option StoredMessage → Bool
-    marks_by o = elim o [ None ↦ false | Some m ↦ m.is_entry ]
+        let d = found_place messages (all_known t.full_name) i t.file
+        ((stand t.full_name i t.file).1 named) in
+        (d.0, d.1, message_place d.0.kind i d.2)
 
     -- one that has the parts of an entry is told to be one
     older_entry : (i : ℕ) (t : MessageType) → slice_get old.messages i ≡ Some t
@@ -124,15 +100,7 @@ module _ (old new : PoolType) (ns : List FileDescriptorProto) (w : Linking) (is 
         let marks = in_all MarksEntry stored is.stored.entries x.0 (get_contains stored i x.0 x.1) in
         let says : x.0.is_entry ≡ true =
         marks (ap (λ (y : MessageType). is_some y.entry) x.2 ∙ parts) in
-        let olds = batch.types.old.now.messages.items in
-        let there : slice_get olds i ≡ Some x.0 =
-        ap (λ (s : Tables). slice_get s.messages.items i) batch.declared.old ∙ x.1 in
-        let less = get_less olds i x.0 there in
-        let low : nat_lt i (length olds) ≡ true = grind (arith, less) in
-        let at : message_at batch.types i ≡ Some x.0 =
-        ap (λ b. cond b (slice_get olds i)
-        (slice_get batch.types.new.now.messages.items (i - length olds))) low ∙ there in
-        ap marks_by at ∙ says
+        ap marks_by (older_at w batch.types batch.declared.old i x.0 x.1) ∙ says
 
     -- new files do not use an older type of entries
     unused_by_new : (i : ℕ) (t : MessageType) → slice_get old.messages i ≡ Some t
@@ -142,12 +110,7 @@ module _ (old new : PoolType) (ns : List FileDescriptorProto) (w : Linking) (is 
         let views = views_of all_known batch.means.right.sees in
         let ds = batch_declarations w.before w.first ns in
         let at = batch_places ns w.first in
-        let ruled = ruled_to g (linked_values batch.types) at (start_of batch.references) w.before w.first
-        ns (have_names old new ns w is has names batch kept).complete
-        (refs old new ns w is has names batch kept).1
-        (told old new ns w is has names batch kept) batch.numbers in
-        let met = met_to_by g (linked_values batch.types) views at (start_of batch.references) ds
-        (sym batch.means.right.faults) batch.means.right.targets ruled.1 in
+        let met = all_met old new ns w is has names batch kept in
         let are = known_all old new ns w is has names batch kept in
         let named = indexes old new ns w is has names batch kept in
         let all = old.records ++ ns in

@@ -57,6 +57,16 @@ never_used full fs none =
     sum_none (λ d. cond (is_use full d.body) 1 0) (declarations f) (λ d j.
     ap (λ b. cond b 1 0) (none f d i j)))
 
+unused_from : (full : Text) (fs : List FileContent) → times_by (is_use full) fs ≡ 0 → Unused full fs
+unused_from full fs none f d i j = by (is_use full d.body) refl where
+  by : (b : Bool) → is_use full d.body ≡ b → is_use full d.body ≡ false
+  by false e = e
+  by true e =
+      let outer = sum_some (λ f. sum_by (λ d. cond (is_use full d.body) 1 0) (declarations f)) fs f i in
+      let inner = sum_some (λ d. cond (is_use full d.body) 1 0) (declarations f) d j in
+      let one : ◌≡◌ {A = ℕ} (cond (is_use full d.body) 1 0) 1 = ap (λ b. cond b 1 0) e in
+      absurd (omega (arith, none, outer, inner, one))
+
 unused_map : (full : Text) (b : view.Body) → is_use full b ≡ false → IsMapUse full b
 unused_map full (view.of_message m) none = tt
 unused_map full (view.of_field f) none = λ e. absurd (cc (sym e ∙ none))
@@ -93,6 +103,21 @@ one_map_right full a b one none = record {
     | inl k ↦ unused_map full d.body (none f d k j)
     | inr k ↦ one.map f d k j
   ];
+}
+
+-- and back
+pub map_left_only : (full : Text) (a b : List FileContent) → IsOneMap a full
+    → IsOneMap (a ++ b) full → Unused full b
+map_left_only full a b one all = unused_from full b
+    (let here = one.once in let both = all.once in let sum = times_both full a b in
+    omega (arith, here, both, sum))
+
+pub map_right_only : (full : Text) (a b : List FileContent) → IsOneMap (a ++ b) full
+    → Unused full a → IsOneMap b full
+map_right_only full a b all none = record {
+  once = (let both = all.once in let rest = never_used full a none in let sum = times_both full a b in
+      omega (arith, both, rest, sum));
+  map = λ f d i j. all.map f d (Contains-append_right a b f i) j;
 }
 
 -- ---- an older type, by new files

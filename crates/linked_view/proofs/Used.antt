@@ -1,6 +1,6 @@
 -- How often the type of a map's entries is used in a batch, by its name and by its index.
-use Rattle.std.proofs.Common.{◌≡◌, ◌∙◌, ℕ, ℤ, pos, negsuc, Bool, true, false, not, ◌||◌, ◌&&◌, ◌==◌, cond, bytes_eq, List, [], ◌∷◌, ◌++◌, Option, Some, None, String, Global, string_bytes, map, slice_get, append_assoc, ap, sym, refl, arith}
-use Rattle.std.specs.List.{AllZip, filter}
+use Rattle.std.proofs.Common.{◌≡◌, ◌∙◌, ℕ, ℤ, pos, negsuc, Bool, true, false, not, ◌||◌, ◌&&◌, ◌==◌, cond, bytes_eq, List, [], ◌∷◌, ◌++◌, Option, Some, None, String, Global, string_bytes, map, length, slice_get, append_assoc, ap, sym, refl, arith}
+use Rattle.std.specs.List.{AllZip, Contains, filter}
 use Rattle.std.specs.Ordering.{int_eq}
 use Rattle.std.proofs.lemmas.Bool.Decides.{Decides-int_eq}
 use Rattle.std.specs.Cmp.Lexicographic.{bytes_decides}
@@ -42,6 +42,7 @@ use Rattle.linked_view.specs.Known.{AreKnown}
 use Rattle.linked_view.proofs.Listed.{listed_along, GivesSame, names, see, listed_seen}
 use Rattle.linked_view.proofs.Walked.{seen}
 use Rattle.linked_view.proofs.Means.{resolved_to}
+use Rattle.schema_view.proofs.Lists.{contains_here}
 
 -- a field's type by its name, its label, and the number of its type
 abbrev pub WrittenUse : Type 0
@@ -95,6 +96,40 @@ uses_along views ds = listed_along uses_by uses_of views ds
 pub record IsUseOf (u : WrittenUse) (f : FieldDescriptorProto) : Type 0 where
   pub label : u.1.0 ≡ f.label
   pub type : is_equal f.field_type (pos 10) ≡ false → u.1.1 ≡ Some (pos 11)
+  pub given : (z : ℤ) → f.field_type ≡ Some z → u.1.1 ≡ Some z
+
+filled_given : (v : View) (scope : Text) (t : Option ℤ) (o : Option (String Global)) (z : ℤ)
+    → t ≡ Some z → filled_by v scope t o ≡ Some z
+filled_given v scope None o z e = absurd (cc e)
+filled_given v scope (Some n) o z e = e
+
+-- where one use is written, and it is a map's, there is one user, which is a map
+pub map_one : (us : List WrittenUse) (fs : List FieldDescriptorProto) → AllZip IsUseOf us fs
+    → length us ≡ 1
+    → ((u : WrittenUse) → Contains us u → (u.1.0 ≡ Some (pos 3)) × (u.1.1 ≡ Some (pos 11)))
+    → is_one_map (use_by fs) ≡ true
+map_one [] fs z one maps = absurd (omega (arith, one))
+map_one (u ∷ v ∷ us) fs z one maps = absurd (omega (arith, one))
+map_one (u ∷ []) [] z one maps = absurd z
+map_one (u ∷ []) (f ∷ g ∷ fs) z one maps = absurd z.1
+map_one (u ∷ []) (f ∷ []) z one maps =
+    ap (λ b. is_one_map (Some (cond (is_equal f.label (pos 3) && not b) uses.OneMap uses.Other))) group
+    ∙ ap (λ a. is_one_map (Some (cond (a && not false) uses.OneMap uses.Other))) label where
+      is : (u.1.0 ≡ Some (pos 3)) × (u.1.1 ≡ Some (pos 11))
+      is = maps u (contains_here u [])
+
+      label : is_equal f.label (pos 3) ≡ true
+      label = ap (λ o. is_equal o (pos 3)) (sym z.0.label ∙ is.0)
+          ∙ (Decides-int_eq (pos 3) (pos 3)).1 refl
+
+      by : (o : Option ℤ) → f.field_type ≡ o → is_equal o (pos 10) ≡ false
+      by None e = refl
+      by (Some x) e =
+          let same : x ≡ pos 11 = cc (sym (z.0.given x e) ∙ is.1) in
+          ap (λ y. int_eq y (pos 10)) same
+
+      group : is_equal f.field_type (pos 10) ≡ false
+      group = by f.field_type refl
 
 ten_or_eleven : (n : ℕ) → ((n == 10) || (n == 11)) ≡ true → int_eq (pos n) (pos 10) ≡ false → n ≡ 11
 ten_or_eleven n e ten = by (n == 10) refl (n == 11) refl where
@@ -230,6 +265,7 @@ module _ (names : List FullName) (known : Known) (are : AreFound (found messages
           label = refl;
           type = type_is f.field_type f.type_name rest.0 (none_wrong f f.type_name rest.1)
               (resolved_type at v path scope f none) test;
+          given = filled_given v scope f.field_type f.type_name;
         }
 
   one_use : (u : WrittenUse) (f : FieldDescriptorProto) (us : List WrittenUse)

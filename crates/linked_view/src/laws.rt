@@ -4,7 +4,8 @@ ghost use Rattle.descriptor_records.specs.Content.{Text, FileContent, enum_view,
 ghost use Rattle.descriptor_records.specs.declared.enums.EnumDescriptorProto.{EnumDescriptorProto};
 ghost use Rattle.descriptor_records.specs.declared.file.FileDescriptorProto.{FileDescriptorProto};
 ghost use Rattle.reflect_build.specs.Accepted.{FaultlessFiles};
-ghost use Rattle.reflect_build.specs.Refusals.{FaultyReferences, IsOf, Linking, new_files, with_declared};
+ghost use Rattle.reflect_build.specs.Refusals.{Faulty, FaultyExtensions, FaultyNumbers, FaultyReferences};
+ghost use Rattle.reflect_build.specs.Refusals.{IsOf, Linking, new_files, with_declared};
 ghost use Rattle.reflect_known.specs.KnownNames.{known_of_files};
 ghost use Rattle.reflect_names.specs.Faults.{Fault};
 ghost use Rattle.reflect_names.specs.Names.{Places};
@@ -37,7 +38,7 @@ ghost use Rattle.schema_view.specs.Outlines.{Outline, outline_of};
 ghost use Rattle.schema_view.specs.References.{Want};
 ghost use Rattle.schema_view.specs.Rules.{HasFirst};
 ghost use Rattle.linked_view.specs.Enums.{IsNumbered};
-ghost use Rattle.linked_view.specs.Entries.{HaveOneUse, TellsEntries};
+ghost use Rattle.linked_view.specs.Entries.{AreMarked, HaveOneUse, TellsEntries};
 ghost use Rattle.linked_view.specs.Extended.{IsIndexed, TellsExtensions};
 ghost use Rattle.linked_messages.specs.Kept.{IsKept};
 ghost use Rattle.linked_view.specs.Alone.{AreLawfulAlone, AreSettledAlone, IsWellNamed, IsRecorded};
@@ -192,6 +193,29 @@ pub fn lawful_files_have_no_fault_of_names_and_references()
         (meanings : Meanings) → IsWellNamed old → IsOf old w
         → IsLawful (map file_view old.records) (map file_view new) meanings
         → (xs : List Fault) → FaultyReferences (with_declared w new) new xs → xs ≡ [] }
+{}
+
+/// Lawful files have no extension whose message and number are taken, behind those of a pool that
+/// batches built. No pass finds anything wrong with them where the messages that are stored as types
+/// of maps' entries are those that the pool's records declare as such, as in a pool without files.
+pub fn lawful_files_have_no_fault()
+    ensures extensions { (earlier : List (List FileContent)) (old : PoolType) (w : Linking)
+        (new : List FileDescriptorProto) (meanings : Meanings) → IsBuilt earlier old → IsKept old
+        → IsOf old w → IsLawful (map file_view old.records) (map file_view new) meanings
+        → (xs : List Fault) → FaultyExtensions (with_declared w new) new xs → xs ≡ [] }
+    ensures numbers { (earlier : List (List FileContent)) (old : PoolType) (w : Linking)
+        (new : List FileDescriptorProto) (meanings : Meanings) → IsBuilt earlier old → IsKept old
+        → IsOf old w → IsLawful (map file_view old.records) (map file_view new) meanings
+        → AreMarked old.records w.tables.messages.items → (xs : List Fault)
+        → FaultyNumbers (with_declared w new) new xs → xs ≡ [] }
+    ensures whole { (earlier : List (List FileContent)) (old : PoolType) (w : Linking)
+        (new : List FileDescriptorProto) (meanings : Meanings) → IsBuilt earlier old → IsKept old
+        → IsOf old w → IsLawful (map file_view old.records) (map file_view new) meanings
+        → AreMarked old.records w.tables.messages.items
+        → (xs : List Fault) → Faulty w new xs → xs ≡ [] }
+    ensures first { (w : Linking) (new : List FileDescriptorProto) (meanings : Meanings)
+        → IsOf empty_pool w → IsLawful [] (map file_view new) meanings
+        → (xs : List Fault) → Faulty w new xs → xs ≡ [] }
 {}
 
 /// Files that are lawful by themselves are added where they agree with the others: where numbers of

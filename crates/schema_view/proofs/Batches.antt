@@ -227,17 +227,21 @@ same_view batches others after last plain same built rebuilt =
     (files_there others batches last after (λ f i. plain f ((same f).1 i)) back rebuilt built)
     l.apart l.together.extended
 
+-- files are linked in one way by what their references mean
+pub linked_once : (os : List Outline) → AreApart os → (m n : Meanings) (fs : List FileContent)
+    → ((f : FileContent) (r : Reference) → Contains fs f → Contains (references f) r → Means os (outline_of f) r (m f r))
+    → ((f : FileContent) (r : Reference) → Contains fs f → Contains (references f) r → Means os (outline_of f) r (n f r))
+    → all_linked m fs ≡ all_linked n fs
+linked_once os apart m n [] first second = refl
+linked_once os apart m n (f ∷ fs) first second =
+    let here : linked (m f) f ≡ linked (n f) f = file_same (λ r. dotted (m f r)) (λ r. dotted (n f r)) f (λ r i.
+    let p = first f r (contains_here f fs) i in
+    let q = second f r (contains_here f fs) i in
+    one_target os apart (m f r) (n f r) (means_one
+    (IsWanted os (outline_of f) r.want) (Holds os) (IsWanted os (outline_of f) r.want) (Holds os) (λ x w. w) (λ x w. w) r.scope r.name (m f r).name (n f r).name
+    (λ c rest e other dot. (λ p v g. g, λ p w h. h)) p.named q.named) p.typed q.typed) in
+    ap (λ g. g ∷ all_linked m fs) here ∙ ap (λ gs. linked (n f) f ∷ gs) (linked_once os apart m n fs (λ g r i. first g r (contains_there f fs g i)) (λ g r i. second g r (contains_there f fs g i)))
+
 -- files are linked in one way
 pub one_linking : (old new after last : List FileContent) → Adds old new after → Adds old new last → after ≡ last
-one_linking old new after last (m, l, is) (n, k, be) = is ∙ ap (λ fs. old ++ fs) (each new (λ f i. i)) ∙ sym be where
-  each : (fs : List FileContent) → ((f : FileContent) → Contains fs f → Contains new f) → all_linked m fs ≡ all_linked n fs
-  each [] there = refl
-  each (f ∷ fs) there =
-      let os = outlines (old ++ new) in
-      let here : linked (m f) f ≡ linked (n f) f = file_same (λ r. dotted (m f r)) (λ r. dotted (n f r)) f (λ r i.
-      let p = l.means f r (there f (contains_here f fs)) i in
-      let q = k.means f r (there f (contains_here f fs)) i in
-      one_target os l.apart (m f r) (n f r) (means_one
-      (IsWanted os (outline_of f) r.want) (Holds os) (IsWanted os (outline_of f) r.want) (Holds os) (λ x w. w) (λ x w. w) r.scope r.name (m f r).name (n f r).name
-      (λ c rest e other dot. (λ p v g. g, λ p w h. h)) p.named q.named) p.typed q.typed) in
-      ap (λ g. g ∷ all_linked m fs) here ∙ ap (λ gs. linked (n f) f ∷ gs) (each fs (λ g i. there g (contains_there f fs g i)))
+one_linking old new after last (m, l, is) (n, k, be) = is ∙ ap (λ fs. old ++ fs) (linked_once (outlines (old ++ new)) l.apart m n new l.means k.means) ∙ sym be
