@@ -4,8 +4,9 @@ ghost use Rattle.descriptor_records.specs.Content.{Text, FileContent, enum_view,
 ghost use Rattle.descriptor_records.specs.declared.enums.EnumDescriptorProto.{EnumDescriptorProto};
 ghost use Rattle.descriptor_records.specs.declared.file.FileDescriptorProto.{FileDescriptorProto};
 ghost use Rattle.reflect_build.specs.Accepted.{FaultlessFiles};
-ghost use Rattle.reflect_build.specs.Refusals.{Faulty, FaultyExtensions, FaultyNumbers, FaultyReferences};
-ghost use Rattle.reflect_build.specs.Refusals.{IsOf, Linking, new_files, with_declared};
+ghost use Rattle.reflect_build.specs.Refusals.{Faulty, FaultyExtensions, FaultyNumbers};
+ghost use Rattle.reflect_build.specs.Refusals.{FaultyReferences, IsOf, Linking};
+ghost use Rattle.reflect_build.specs.Refusals.{new_files, with_declared};
 ghost use Rattle.reflect_known.specs.KnownNames.{known_of_files};
 ghost use Rattle.reflect_names.specs.Faults.{Fault};
 ghost use Rattle.reflect_names.specs.Names.{Places};
