@@ -1,1 +1,2 @@
 pub mod FieldGrammar
+pub mod PlainView

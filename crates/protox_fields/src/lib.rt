@@ -1,7 +1,7 @@
-//! Reads fields in which nothing nests, the labels of all fields and ranges of extensions off the
-//! tokens of a source.
+//! Reads fields in which nothing nests, what all fields have and ranges of extensions off the tokens
+//! of a source.
 #![tactic(auto)]
 
 mod field;
 
-pub use field::{extensions, label, plain_field};
+pub use field::{extensions, label, numbered_name, plain_field};

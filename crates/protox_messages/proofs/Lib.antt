@@ -1,3 +1,5 @@
-mod Choices
+mod Blocks
+mod Flat
 mod Parts
+mod Turns
 pub mod MessageLaws
