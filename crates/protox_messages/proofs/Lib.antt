@@ -1,5 +1,4 @@
 mod Blocks
-mod Flat
 mod Parts
 mod Turns
 pub mod MessageLaws

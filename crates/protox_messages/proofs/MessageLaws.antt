@@ -4,23 +4,16 @@ use Rattle.protox_fields.proofs.FieldLaws.{Local-here, Local-extensions, Moves-e
 use Rattle.protox_fields.specs.FieldGrammar.{Labelled}
 use Rattle.protox_lex.specs.Token.{ident, sign}
 use Rattle.protox_lex.specs.declared.span.Span.{Span}
-use Rattle.protox_messages.specs.MessageGrammar.{Block, flat_item, group_with, group_if, field_with, message_with, member_unless, member_with, members_with, oneof_with, added_unless, added_with, all_added_with, extend_with, item_unless, item_with, items_with, inside_with, block}
+use Rattle.protox_messages.specs.MessageGrammar.{Block, group_with, group_if, field_with, message_with, member_unless, member_with, members_with, oneof_with, added_unless, added_with, all_added_with, extend_with, item_unless, item_with, items_with, inside_with, block}
 use Rattle.protox_options.proofs.NameLaws.{Local-type_name, Local-int}
 use Rattle.protox_options.proofs.OptionLaws.{Local-option, Moves-option, Local-options}
 use Rattle.protox_options.proofs.RangeLaws.{Local-reserved, Moves-reserved}
-use Rattle.protox_tokens.proofs.Local.{Local, Local-bind, Local-pure, Local-choose, Local-until, Local-expect, Local-word, Local-eat, Local-loop, Local-too_deep, of_head-sees, Keeps, Keeps-local, Moves, Moves-first, Moves-later, Moves-expect, Moves-word, Moves-eat, Moves-choose, Moves-map, Shortens-when}
+use Rattle.protox_tokens.proofs.Local.{Local, Local-bind, Local-pure, Local-choose, Local-until, Local-expect, Local-word, Local-eat, Local-loop, Local-too_deep, of_head-sees, Keeps-local, Moves, Moves-first, Moves-later, Moves-expect, Moves-word, Moves-eat, Moves-choose, Moves-map, Shortens-when}
 use Rattle.protox_tokens.proofs.Loops.{Shortens}
 use Rattle.protox_tokens.specs.Parser.{Parser, until}
 use Rattle.std.proofs.Common.{ℕ, zero, suc, Option, Some, None}
 use Rattle.std.specs.Prelude.{codes}
 use Rattle.protox_lex.specs.declared.token.Sign.TheVariants as s
-
-pub Keeps-flat : Keeps flat_item
-unfolding flat_item
-Keeps-flat = Keeps-local
-    (Local-choose _ (of_head-sees _) _ _ (Local-bind Local-extensions (λ x. Local-pure _))
-    (Local-choose _ (of_head-sees _) _ _ (Local-bind Local-reserved (λ x. Local-pure _))
-    (Local-choose _ (of_head-sees _) _ _ (Local-bind Local-option (λ x. Local-pure _)) (Local-pure _))))
 
 module _ (inner : Parser Block) (local : Local inner) where
   Local-group : (p : Span) (l : Labelled) (w : Span) → Local (group_with inner p l w)

@@ -17,14 +17,6 @@ use Rattle.protox_lex.specs.declared.token.Sign.TheVariants as s
 abbrev pub Block : Type 0
 Block = List Item × Span
 
--- A statement that nothing nests in, if one begins here.
-unfoldable pub flat_item : Parser (Option Item)
-flat_item =
-    choose (sees (ident (codes "extensions"))) ((λ x. Some (item_extensions x)) <$> extensions)
-    (choose (sees (ident (codes "reserved"))) ((λ x. Some (item_reserved x)) <$> reserved)
-    (choose (sees (ident (codes "option"))) ((λ x. Some (item_option x)) <$> option)
-    (pure None)))
-
 -- the rules that hold with these blocks inside
 module _ (inner : Parser Block) where
   -- A group behind its word.

@@ -1,6 +1,6 @@
 //! Messages, and what may stand in them.
 
-ghost use Rattle.std.specs.Prelude.{◌≡◌, ◌<◌, ◌≤◌, OnOk, option_map};
+ghost use Rattle.std.specs.Prelude.{◌≡◌, ◌<◌, OnOk};
 ghost use Rattle.protox_messages.specs.MessageGrammar as spec;
 ghost use Rattle.protox_tokens.specs.Left.{left};
 ghost use Rattle.protox_tokens.specs.Reads.{Reads};
@@ -10,9 +10,9 @@ ghost use Rattle.protox_tree.specs.NestView.{kind_view, message_view, item_view,
 
 use descriptor_records::Label;
 use protox_declarations::enumeration;
-use protox_fields::{extensions, label, numbered_name, plain_field};
+use protox_fields::{extend_head, flat_item, label, numbered_name, oneof_head, plain_field};
 use protox_lex::{Sign, Span, token};
-use protox_options::{option, reserved, type_name};
+use protox_options::option;
 use protox_tokens::{Fault, Stop, Tokens, across};
 use protox_tree::{
     Extend, ExtendItem, Field, FieldKind, Group, Message, MessageItem, Oneof, OneofItem,
@@ -42,27 +42,6 @@ fn block<'a>(
     }
     let close = tokens.expect_sign(Sign::RightBrace)?;
     Ok((items, across(open, close)))
-}
-
-/// A statement that nothing nests in, if one begins here.
-fn flat_item<'a>(alloc: Global, tokens: &mut Tokens<'a>) -> Result<Option<MessageItem>, Stop<'a>>
-    ensures reads { Reads (λ i. option_map item_view i) (spec.flat_item (stream tokens.old))
-        result tokens.new }
-    ensures moves { OnOk result (left tokens.new ≤ left tokens.old) }
-{
-    if tokens.sees(token::EXTENSIONS) {
-        let extensions = extensions(alloc, tokens)?;
-        return Ok(Some(MessageItem::Extensions(extensions)));
-    }
-    if tokens.sees(token::RESERVED) {
-        let reserved = reserved(alloc, tokens)?;
-        return Ok(Some(MessageItem::Reserved(reserved)));
-    }
-    if tokens.sees(token::OPTION) {
-        let option = option(alloc, tokens)?;
-        return Ok(Some(MessageItem::Option(option)));
-    }
-    Ok(None)
 }
 
 /// A keyword that begins a statement of messages begins it wherever it comes first.
@@ -193,9 +172,7 @@ fn oneof<'a>(alloc: Global, tokens: &mut Tokens<'a>, levels: u8) -> Result<Oneof
         result tokens.new }
     ensures moves { OnOk result (left tokens.new < left tokens.old) }
 {
-    let first = tokens.expect(token::ONEOF)?;
-    let name = tokens.ident(alloc)?;
-    let open = tokens.expect_sign(Sign::LeftBrace)?;
+    let (first, name, open) = oneof_head(alloc, tokens)?;
     let mut items = Vec::new(alloc);
     'items: while !tokens.sees_sign(Sign::RightBrace) {
         let item = member(alloc, tokens, levels)?;
@@ -230,9 +207,7 @@ pub fn extend<'a>(alloc: Global, tokens: &mut Tokens<'a>, levels: u8) -> Result<
         result tokens.new }
     ensures moves { OnOk result (left tokens.new < left tokens.old) }
 {
-    let first = tokens.expect(token::EXTEND)?;
-    let extendee = type_name(alloc, tokens)?;
-    let open = tokens.expect_sign(Sign::LeftBrace)?;
+    let (first, extendee, open) = extend_head(alloc, tokens)?;
     let mut items = Vec::new(alloc);
     'items: while !tokens.sees_sign(Sign::RightBrace) {
         let item = added(alloc, tokens, levels)?;

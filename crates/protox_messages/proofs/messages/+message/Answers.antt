@@ -2,12 +2,14 @@ use Rattle.protox_declarations.specs.EnumGrammar.{enumeration}
 use Rattle.protox_fields.proofs.Behind.{Answers, behind, refused, last, moved}
 use Rattle.protox_fields.proofs.Choices.{chosen, passed}
 use Rattle.protox_fields.proofs.FieldParts.{field_parts}
+use Rattle.protox_fields.proofs.Flat.{flat_behind, flat_refused}
+use Rattle.protox_fields.proofs.Heads.{head_behind, head_refused}
 use Rattle.protox_fields.proofs.NumberedName.{numbered_behind, numbered_refused}
 use Rattle.protox_fields.specs.FieldGrammar.{label}
+use Rattle.protox_fields.specs.StatementGrammar.{oneof_head, extend_head}
 use Rattle.protox_lex.specs.Token.{ident, sign}
 use Rattle.protox_lex.specs.declared.span.Span.{Span}
 use Rattle.protox_messages.proofs.Blocks.{unopened, too_many, in_braces}
-use Rattle.protox_messages.proofs.Flat.{flat_behind, flat_refused}
 use Rattle.protox_messages.proofs.MessageLaws.{item_turns, member_turns, added_turns, Local-block, Moves-block, Moves-message, Moves-group, Moves-field, Moves-member, Moves-oneof, Moves-added, Moves-extend, Moves-item}
 use Rattle.protox_messages.proofs.Parts.{message_parts, oneof_parts, extend_parts, item_message_is, item_enum_is, item_extend_is, item_oneof_is, item_field_is, item_empty_is, member_field_is, member_option_is, member_empty_is, added_field_is, added_empty_is}
 use Rattle.protox_messages.specs.MessageGrammar.{block, group_with, field_with, message_with, item_with, items_with, inside_with, member_with, members_with, oneof_with, added_with, all_added_with, extend_with, group_if, Block}
@@ -159,30 +161,12 @@ group-returns t c =
     }
 
 pub oneof-returns-in_err-first : goal.oneof-returns-in_err-first
-unfolding oneof_with
+unfolding oneof_with oneof_head
 oneof-returns-in_err-first t c =
     let p = err_from_is_err_and c.from_residual.result c.from_residual.ensures.1 in
     let e = c.in_err-first.field-0.0 in
     let h : Answers (Fails e) (oneof_with (block c.args.levels)) (stream c.args.tokens.now) =
-    refused (expect (ident (codes "oneof"))) _ e c.in_err-first.ensures.reads in
-    rw (p.1, p.2) (record { reads = h.so; moves = tt })
-
-pub oneof-returns-in_err-name : goal.oneof-returns-in_err-name
-unfolding oneof_with
-oneof-returns-in_err-name t c =
-    let p = err_from_is_err_and c.from_residual-in_err-name.result c.from_residual-in_err-name.ensures.1 in
-    let e = c.in_err-name.field-0.0 in
-    let h : Answers (Fails e) (oneof_with (block c.args.levels)) (stream c.args.tokens.now) =
-    behind (expect (ident (codes "oneof"))) _ c.in_ok-first.ensures.reads (refused word _ e c.in_err-name.ensures.reads) in
-    rw (p.1, p.2) (record { reads = h.so; moves = tt })
-
-pub oneof-returns-in_err-open : goal.oneof-returns-in_err-open
-unfolding oneof_with
-oneof-returns-in_err-open t c =
-    let p = err_from_is_err_and c.from_residual-in_err-open.result c.from_residual-in_err-open.ensures.1 in
-    let e = c.in_err-open.field-0.0 in
-    let h : Answers (Fails e) (oneof_with (block c.args.levels)) (stream c.args.tokens.now) =
-    behind (expect (ident (codes "oneof"))) _ c.in_ok-first.ensures.reads (behind word _ c.in_ok-name.ensures.reads (refused (expect (sign s.LeftBrace)) _ e c.in_err-open.ensures.reads)) in
+    head_refused (ident (codes "oneof")) word _ e c.in_err-first.ensures.reads in
     rw (p.1, p.2) (record { reads = h.so; moves = tt })
 
 pub oneof-items-init : goal.oneof-items-init
@@ -201,61 +185,43 @@ oneof-items-preserved t c =
     }
 
 pub oneof-returns-in_err-item : goal.oneof-returns-in_err-item
-unfolding oneof_with
+unfolding oneof_with oneof_head
 oneof-returns-in_err-item t c =
     let l = c.items in
     let inner = block c.args.levels in
     let p = err_from_is_err_and c.from_residual-in_err-item.result c.from_residual-in_err-item.ensures.1 in
     let e = c.in_err-item.field-0.0 in
     let h : Answers (Fails e) (oneof_with (block c.args.levels)) (stream c.args.tokens.now) =
-    behind (expect (ident (codes "oneof"))) _ c.in_ok-first.ensures.reads (behind word _ c.in_ok-name.ensures.reads (behind (expect (sign s.LeftBrace)) _ c.in_ok-open.ensures.reads (refused (members_with inner) _ e (turn_stops (member_with inner) (member_turns inner (Local-block c.args.levels)) (members_view l.items.items) (stream l.tokens) l.invariant.so_far e (sym c.sees_sign.ensures ∙ c.items-test.true) c.in_err-item.ensures.reads)))) in
+    head_behind (ident (codes "oneof")) word _ c.in_ok-first.ensures.reads (refused (members_with inner) _ e (turn_stops (member_with inner) (member_turns inner (Local-block c.args.levels)) (members_view l.items.items) (stream l.tokens) l.invariant.so_far e (sym c.sees_sign.ensures ∙ c.items-test.true) c.in_err-item.ensures.reads)) in
     rw (p.1, p.2) (record { reads = h.so; moves = tt })
 
 pub oneof-returns-in_err-close : goal.oneof-returns-in_err-close
-unfolding oneof_with
+unfolding oneof_with oneof_head
 oneof-returns-in_err-close t c =
     let l = c.items in
     let inner = block c.args.levels in
     let p = err_from_is_err_and c.from_residual-in_err-close.result c.from_residual-in_err-close.ensures.1 in
     let e = c.in_err-close.field-0.0 in
     let h : Answers (Fails e) (oneof_with (block c.args.levels)) (stream c.args.tokens.now) =
-    behind (expect (ident (codes "oneof"))) _ c.in_ok-first.ensures.reads (behind word _ c.in_ok-name.ensures.reads (behind (expect (sign s.LeftBrace)) _ c.in_ok-open.ensures.reads (behind (members_with inner) _ (turns_end (member_with inner) (member_turns inner (Local-block c.args.levels)) (members_view l.items.items) (stream l.tokens) l.invariant.so_far (sym c.sees_sign.ensures ∙ c.items-test.false)) (refused (expect (sign s.RightBrace)) _ e c.in_err-close.ensures.reads)))) in
+    head_behind (ident (codes "oneof")) word _ c.in_ok-first.ensures.reads (behind (members_with inner) _ (turns_end (member_with inner) (member_turns inner (Local-block c.args.levels)) (members_view l.items.items) (stream l.tokens) l.invariant.so_far (sym c.sees_sign.ensures ∙ c.items-test.false)) (refused (expect (sign s.RightBrace)) _ e c.in_err-close.ensures.reads)) in
     rw (p.1, p.2) (record { reads = h.so; moves = tt })
 
 pub oneof-returns : goal.oneof-returns
-unfolding oneof_with
+unfolding oneof_with oneof_head
 oneof-returns t c =
     let l = c.items in
     let inner = block c.args.levels in
-    let h : Answers (λ o. o ≡ Ok (oneof (ident_view c.in_ok-name.name) (across c.in_ok-open.open c.in_ok-close.close) (members_of (members_view l.items.items)) (across c.in_ok-first.first c.in_ok-close.close), stream c.expect_sign-2.new.self)) (oneof_with (block c.args.levels)) (stream c.args.tokens.now) =
-    behind (expect (ident (codes "oneof"))) _ c.in_ok-first.ensures.reads (behind word _ c.in_ok-name.ensures.reads (behind (expect (sign s.LeftBrace)) _ c.in_ok-open.ensures.reads (behind (members_with inner) _ (turns_end (member_with inner) (member_turns inner (Local-block c.args.levels)) (members_view l.items.items) (stream l.tokens) l.invariant.so_far (sym c.sees_sign.ensures ∙ c.items-test.false)) (behind (expect (sign s.RightBrace)) _ c.in_ok-close.ensures.reads (last _ refl))))) in
-    record { reads = rw (c.across.ensures, c.across-2.ensures) (h.so ∙ ap (λ i. Ok (i, stream c.expect_sign-2.new.self)) (sym (oneof_parts _))); moves = (Moves-oneof (block c.args.levels) (Local-block c.args.levels)).at _ _ _ h.so }
+    let h : Answers (λ o. o ≡ Ok (oneof (ident_view c.in_ok-first.name) (across c.in_ok-first.open c.in_ok-close.close) (members_of (members_view l.items.items)) (across c.in_ok-first.first c.in_ok-close.close), stream c.expect_sign.new.self)) (oneof_with (block c.args.levels)) (stream c.args.tokens.now) =
+    head_behind (ident (codes "oneof")) word _ c.in_ok-first.ensures.reads (behind (members_with inner) _ (turns_end (member_with inner) (member_turns inner (Local-block c.args.levels)) (members_view l.items.items) (stream l.tokens) l.invariant.so_far (sym c.sees_sign.ensures ∙ c.items-test.false)) (behind (expect (sign s.RightBrace)) _ c.in_ok-close.ensures.reads (last _ refl))) in
+    record { reads = rw (c.across.ensures, c.across-2.ensures) (h.so ∙ ap (λ i. Ok (i, stream c.expect_sign.new.self)) (sym (oneof_parts _))); moves = (Moves-oneof (block c.args.levels) (Local-block c.args.levels)).at _ _ _ h.so }
 
 pub extend-returns-in_err-first : goal.extend-returns-in_err-first
-unfolding extend_with
+unfolding extend_with extend_head
 extend-returns-in_err-first t c =
     let p = err_from_is_err_and c.from_residual.result c.from_residual.ensures.1 in
     let e = c.in_err-first.field-0.0 in
     let h : Answers (Fails e) (extend_with (block c.args.levels)) (stream c.args.tokens.now) =
-    refused (expect (ident (codes "extend"))) _ e c.in_err-first.ensures.reads in
-    rw (p.1, p.2) (record { reads = h.so; moves = tt })
-
-pub extend-returns-in_err-extendee : goal.extend-returns-in_err-extendee
-unfolding extend_with
-extend-returns-in_err-extendee t c =
-    let p = err_from_is_err_and c.from_residual-in_err-extendee.result c.from_residual-in_err-extendee.ensures.1 in
-    let e = c.in_err-extendee.field-0.0 in
-    let h : Answers (Fails e) (extend_with (block c.args.levels)) (stream c.args.tokens.now) =
-    behind (expect (ident (codes "extend"))) _ c.in_ok-first.ensures.reads (refused type_name _ e c.in_err-extendee.ensures.reads) in
-    rw (p.1, p.2) (record { reads = h.so; moves = tt })
-
-pub extend-returns-in_err-open : goal.extend-returns-in_err-open
-unfolding extend_with
-extend-returns-in_err-open t c =
-    let p = err_from_is_err_and c.from_residual-in_err-open.result c.from_residual-in_err-open.ensures.1 in
-    let e = c.in_err-open.field-0.0 in
-    let h : Answers (Fails e) (extend_with (block c.args.levels)) (stream c.args.tokens.now) =
-    behind (expect (ident (codes "extend"))) _ c.in_ok-first.ensures.reads (behind type_name _ c.in_ok-extendee.ensures.reads (refused (expect (sign s.LeftBrace)) _ e c.in_err-open.ensures.reads)) in
+    head_refused (ident (codes "extend")) type_name _ e c.in_err-first.ensures.reads in
     rw (p.1, p.2) (record { reads = h.so; moves = tt })
 
 pub extend-items-init : goal.extend-items-init
@@ -274,35 +240,35 @@ extend-items-preserved t c =
     }
 
 pub extend-returns-in_err-item : goal.extend-returns-in_err-item
-unfolding extend_with
+unfolding extend_with extend_head
 extend-returns-in_err-item t c =
     let l = c.items in
     let inner = block c.args.levels in
     let p = err_from_is_err_and c.from_residual-in_err-item.result c.from_residual-in_err-item.ensures.1 in
     let e = c.in_err-item.field-0.0 in
     let h : Answers (Fails e) (extend_with (block c.args.levels)) (stream c.args.tokens.now) =
-    behind (expect (ident (codes "extend"))) _ c.in_ok-first.ensures.reads (behind type_name _ c.in_ok-extendee.ensures.reads (behind (expect (sign s.LeftBrace)) _ c.in_ok-open.ensures.reads (refused (all_added_with inner) _ e (turn_stops (added_with inner) (added_turns inner (Local-block c.args.levels)) (added_items_view l.items.items) (stream l.tokens) l.invariant.so_far e (sym c.sees_sign.ensures ∙ c.items-test.true) c.in_err-item.ensures.reads)))) in
+    head_behind (ident (codes "extend")) type_name _ c.in_ok-first.ensures.reads (refused (all_added_with inner) _ e (turn_stops (added_with inner) (added_turns inner (Local-block c.args.levels)) (added_items_view l.items.items) (stream l.tokens) l.invariant.so_far e (sym c.sees_sign.ensures ∙ c.items-test.true) c.in_err-item.ensures.reads)) in
     rw (p.1, p.2) (record { reads = h.so; moves = tt })
 
 pub extend-returns-in_err-close : goal.extend-returns-in_err-close
-unfolding extend_with
+unfolding extend_with extend_head
 extend-returns-in_err-close t c =
     let l = c.items in
     let inner = block c.args.levels in
     let p = err_from_is_err_and c.from_residual-in_err-close.result c.from_residual-in_err-close.ensures.1 in
     let e = c.in_err-close.field-0.0 in
     let h : Answers (Fails e) (extend_with (block c.args.levels)) (stream c.args.tokens.now) =
-    behind (expect (ident (codes "extend"))) _ c.in_ok-first.ensures.reads (behind type_name _ c.in_ok-extendee.ensures.reads (behind (expect (sign s.LeftBrace)) _ c.in_ok-open.ensures.reads (behind (all_added_with inner) _ (turns_end (added_with inner) (added_turns inner (Local-block c.args.levels)) (added_items_view l.items.items) (stream l.tokens) l.invariant.so_far (sym c.sees_sign.ensures ∙ c.items-test.false)) (refused (expect (sign s.RightBrace)) _ e c.in_err-close.ensures.reads)))) in
+    head_behind (ident (codes "extend")) type_name _ c.in_ok-first.ensures.reads (behind (all_added_with inner) _ (turns_end (added_with inner) (added_turns inner (Local-block c.args.levels)) (added_items_view l.items.items) (stream l.tokens) l.invariant.so_far (sym c.sees_sign.ensures ∙ c.items-test.false)) (refused (expect (sign s.RightBrace)) _ e c.in_err-close.ensures.reads)) in
     rw (p.1, p.2) (record { reads = h.so; moves = tt })
 
 pub extend-returns : goal.extend-returns
-unfolding extend_with
+unfolding extend_with extend_head
 extend-returns t c =
     let l = c.items in
     let inner = block c.args.levels in
-    let h : Answers (λ o. o ≡ Ok (extend (type_name_view c.in_ok-extendee.extendee) (across c.in_ok-open.open c.in_ok-close.close) (added_of (added_items_view l.items.items)) (across c.in_ok-first.first c.in_ok-close.close), stream c.expect_sign-2.new.self)) (extend_with (block c.args.levels)) (stream c.args.tokens.now) =
-    behind (expect (ident (codes "extend"))) _ c.in_ok-first.ensures.reads (behind type_name _ c.in_ok-extendee.ensures.reads (behind (expect (sign s.LeftBrace)) _ c.in_ok-open.ensures.reads (behind (all_added_with inner) _ (turns_end (added_with inner) (added_turns inner (Local-block c.args.levels)) (added_items_view l.items.items) (stream l.tokens) l.invariant.so_far (sym c.sees_sign.ensures ∙ c.items-test.false)) (behind (expect (sign s.RightBrace)) _ c.in_ok-close.ensures.reads (last _ refl))))) in
-    record { reads = rw (c.across.ensures, c.across-2.ensures) (h.so ∙ ap (λ i. Ok (i, stream c.expect_sign-2.new.self)) (sym (extend_parts _))); moves = (Moves-extend (block c.args.levels) (Local-block c.args.levels)).at _ _ _ h.so }
+    let h : Answers (λ o. o ≡ Ok (extend (type_name_view c.in_ok-first.extendee) (across c.in_ok-first.open c.in_ok-close.close) (added_of (added_items_view l.items.items)) (across c.in_ok-first.first c.in_ok-close.close), stream c.expect_sign.new.self)) (extend_with (block c.args.levels)) (stream c.args.tokens.now) =
+    head_behind (ident (codes "extend")) type_name _ c.in_ok-first.ensures.reads (behind (all_added_with inner) _ (turns_end (added_with inner) (added_turns inner (Local-block c.args.levels)) (added_items_view l.items.items) (stream l.tokens) l.invariant.so_far (sym c.sees_sign.ensures ∙ c.items-test.false)) (behind (expect (sign s.RightBrace)) _ c.in_ok-close.ensures.reads (last _ refl))) in
+    record { reads = rw (c.across.ensures, c.across-2.ensures) (h.so ∙ ap (λ i. Ok (i, stream c.expect_sign.new.self)) (sym (extend_parts _))); moves = (Moves-extend (block c.args.levels) (Local-block c.args.levels)).at _ _ _ h.so }
 
 pub item-returns-in-Some : goal.item-returns-in-Some
 unfolding item_with

@@ -1,22 +1,35 @@
 use Rattle.protox_fields.proofs.Behind.{Answers, behind, refused, last}
 use Rattle.protox_fields.proofs.Choices.{chosen, passed}
+use Rattle.protox_fields.proofs.StatementLaws.{Keeps-flat}
 use Rattle.protox_fields.specs.FieldGrammar.{extensions}
+use Rattle.protox_fields.specs.StatementGrammar.{flat_item}
 use Rattle.protox_lex.specs.Token.{ident}
-use Rattle.protox_messages.proofs.MessageLaws.{Keeps-flat}
-use Rattle.protox_messages.proofs.Parts.{item_extensions_is, item_reserved_is, item_option_is}
-use Rattle.protox_messages.specs.MessageGrammar.{flat_item}
 use Rattle.protox_options.specs.OptionGrammar.{option}
 use Rattle.protox_options.specs.RangeGrammar.{reserved}
 use Rattle.protox_tokens.specs.Parser.{sees}
 use Rattle.protox_tokens.specs.Reads.{Fails}
 use Rattle.protox_tokens.specs.Stream.{stream}
 use Rattle.protox_tree.specs.Nest.{item_extensions, item_reserved, item_option}
-use Rattle.protox_tree.specs.NestView.{extensions_view}
+use Rattle.protox_tree.specs.NestView.{extensions_view, item_view}
 use Rattle.protox_tree.specs.View.{option_view, reserved_view}
-use Rattle.std.proofs.Common.{◌≡◌, ◌∙◌, None, Some, Ok, ap, refl, sym}
+use Rattle.protox_tree.specs.declared.message.MessageItem.{the_lemmas}
+use Rattle.protox_tree.specs.declared.message.MessageItem.TheVariants as items
+use Rattle.protox_tree.specs.declared.option.OptionStatement.{OptionStatement}
+use Rattle.protox_tree.specs.declared.range.Extensions.{Extensions}
+use Rattle.protox_tree.specs.declared.range.Reserved.{Reserved}
+use Rattle.std.proofs.Common.{◌≡◌, ◌∙◌, None, Some, Ok, ap, refl, rules, sym}
 use Rattle.std.proofs.lemmas.Result.{err_from_is_err_and}
 use Rattle.std.specs.Prelude.{codes}
-use Rattle.protox_messages.proofs.messages.flat_item.Goals as goal
+use Rattle.protox_fields.proofs.statements.flat_item.Goals as goal
+
+item_extensions_is : (x : Extensions) → item_view (items.Extensions x) ≡ item_extensions (extensions_view x)
+item_extensions_is x = search (rules, the_lemmas)
+
+item_reserved_is : (x : Reserved) → item_view (items.Reserved x) ≡ item_reserved (reserved_view x)
+item_reserved_is x = search (rules, the_lemmas)
+
+item_option_is : (x : OptionStatement) → item_view (items.Option x) ≡ item_option (option_view x)
+item_option_is x = search (rules, the_lemmas)
 
 pub returns-in_err-extensions : goal.returns-in_err-extensions
 unfolding flat_item
