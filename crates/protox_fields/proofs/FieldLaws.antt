@@ -1,6 +1,6 @@
 -- The rules of fields look one token ahead, and those of which there are many take one.
 use Rattle.descriptor_records.specs.declared.field.FieldType.{FieldType}
-use Rattle.protox_fields.specs.FieldGrammar.{ty_of, ty_after, ty, map_type, map_by, map_or_name, field_type, extensions, Labelled, repeated_if, required_if, optional_if, label, plain_field}
+use Rattle.protox_fields.specs.FieldGrammar.{ty_of, ty_after, ty, map_type, map_by, map_or_name, field_type, extensions, Labelled, repeated_if, required_if, optional_if, label, numbered_name, plain_field}
 use Rattle.protox_lex.specs.declared.span.Span.{Span}
 use Rattle.protox_options.proofs.NameLaws.{Local-parts, Local-int}
 use Rattle.protox_options.proofs.OptionLaws.{Local-options}
@@ -36,7 +36,7 @@ Local-ty : Local ty
 unfolding ty
 Local-ty = Local-bind (Local-eat _) (λ o. Local-bind Local-word (Local-ty_after o))
 
-Moves-ty : Moves ty
+pub Moves-ty : Moves ty
 unfolding ty
 Moves-ty = Moves-later (Keeps-local (Local-eat _)) (λ o. Moves-first Moves-word (λ w. Keeps-local (Local-ty_after o w)))
 
@@ -44,6 +44,11 @@ Local-map_type : (p : Span) → Local (map_type p)
 unfolding map_type
 Local-map_type p = Local-bind Local-ty (λ k. Local-bind (Local-expect _) (λ c. Local-bind Local-ty (λ v.
     Local-bind (Local-expect _) (λ q. Local-pure _))))
+
+pub Moves-map_type : (p : Span) → Moves (map_type p)
+unfolding map_type
+Moves-map_type p = Moves-first Moves-ty (λ k. Keeps-local (Local-bind (Local-expect _) (λ c. Local-bind Local-ty (λ v.
+    Local-bind (Local-expect _) (λ q. Local-pure _)))))
 
 Local-map_by : (w : Word) (o : Option Span) → Local (map_by w o)
 Local-map_by w (Some p) = Local-bind (Local-map_type w.span) (λ m. Local-pure _)
@@ -62,7 +67,7 @@ unfolding field_type
 Local-field_type =
     Local-choose _ (of_head-sees _) _ _ Local-map_or_name (Local-bind Local-ty (λ t. Local-pure _))
 
-Moves-field_type : Moves field_type
+pub Moves-field_type : Moves field_type
 unfolding field_type
 Moves-field_type = Moves-choose _ Moves-map_or_name (Moves-map _ Moves-ty)
 
@@ -91,6 +96,11 @@ Local-optional None = Local-bind (Local-eat _) Local-required
 pub Local-label : Local label
 unfolding label
 Local-label = Local-bind (Local-eat _) Local-optional
+
+pub Moves-numbered : Moves numbered_name
+unfolding numbered_name
+Moves-numbered = Moves-first Moves-word (λ w. Keeps-local (Local-bind (Local-expect _) (λ e.
+    Local-bind Local-int (λ n. Local-bind Local-options (λ os. Local-pure _)))))
 
 pub Local-plain : (p : Span) (l : Labelled) → Local (plain_field p l)
 unfolding plain_field

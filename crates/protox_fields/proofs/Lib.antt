@@ -1,2 +1,8 @@
 pub mod Behind
+pub mod Choices
 pub mod FieldLaws
+pub mod FieldParts
+pub mod Flat
+pub mod Heads
+pub mod NumberedName
+mod StatementLaws

@@ -2,6 +2,7 @@
 use Rattle.descriptor_records.specs.declared.field.FieldType.{FieldType}
 use Rattle.descriptor_records.specs.declared.field.Label.{Label}
 use Rattle.protox_lex.specs.Token.{ident, sign}
+use Rattle.protox_lex.specs.declared.literal.Int.{Int}
 use Rattle.protox_lex.specs.declared.span.Span.{Span}
 use Rattle.protox_options.specs.NameGrammar.{parts_after, an_int}
 use Rattle.protox_options.specs.OptionGrammar.{options}
@@ -10,7 +11,7 @@ use Rattle.protox_tokens.specs.Parser.{Parser, ◌>>=◌, ◌>>◌, ◌<$>◌, p
 use Rattle.protox_tokens.specs.Span.{across}
 use Rattle.protox_tree.specs.Nest.{MapType, Extensions, Field, field, Kind, normal, map_kind}
 use Rattle.protox_tree.specs.Scalar.{scalar_of}
-use Rattle.protox_tree.specs.Tree.{Word, Ty, scalar, named}
+use Rattle.protox_tree.specs.Tree.{Word, Ty, scalar, named, OptionList}
 use Rattle.std.specs.Prelude.{List, Option, Some, None, codes}
 use Rattle.descriptor_records.specs.declared.field.Label.TheVariants as labels
 use Rattle.protox_lex.specs.declared.token.Sign.TheVariants as s
@@ -89,6 +90,15 @@ unfoldable pub label : Parser Labelled
 label = eat (ident (codes "optional")) >>= optional_if
 
 -- ---- fields
+
+-- What each field and each group has: a name, a number and the options behind it.
+unfoldable pub numbered_name : Parser (Word × Int × Option OptionList)
+numbered_name = do
+  name ← word
+  expect (sign s.Equals)
+  number ← an_int
+  os ← options
+  pure (name, number, os)
 
 -- A field or a map behind its label, from the place where the field begins.
 unfoldable pub plain_field : Span → Labelled → Parser Field

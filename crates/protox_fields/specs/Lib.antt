@@ -1,1 +1,3 @@
 pub mod FieldGrammar
+pub mod PlainView
+pub mod StatementGrammar

@@ -1,19 +1,38 @@
-//! What stands before a field's name.
+//! Fields that nothing nests in, and what all fields have.
 
-ghost use Rattle.std.specs.Prelude.{◌≡◌, ◌<◌, ◌≤◌, OnOk, Ok};
+ghost use Rattle.std.specs.Prelude.{◌≡◌, ◌<◌, ◌≤◌, OnOk, Ok, option_map};
 ghost use Rattle.protox_fields.specs.FieldGrammar as spec;
+ghost use Rattle.protox_fields.specs.PlainView.{plain_view};
 ghost use Rattle.protox_tokens.specs.Left.{left};
 ghost use Rattle.protox_tokens.specs.Reads.{Reads};
 ghost use Rattle.protox_tokens.specs.Stream.{stream};
 ghost use Rattle.protox_tree.specs.NestView.{map_view, kind_view, extensions_view, field_view};
-ghost use Rattle.protox_tree.specs.View.{ty_view};
+ghost use Rattle.protox_tree.specs.View.{ident_view, option_list_view, ty_view};
 
 use descriptor_records::Label;
-use protox_lex::{Sign, Span, token};
+use protox_lex::{Int, Sign, Span, token};
 use protox_options::{int, options, parts_after, ranges};
 use protox_tokens::{Stop, Tokens, across};
-use protox_tree::{Extensions, Field, FieldKind, Map, Ty, TypeName};
+use protox_tree::{Extensions, Field, FieldKind, Ident, Map, OptionList, Ty, TypeName};
 use std::alloc::Global;
+
+/// The type of a field that nothing nests in.
+#[derive(Drop)]
+enum PlainKind {
+    Normal(Ty),
+    Map(Map),
+}
+
+impl PlainKind {
+    fn into_kind(self) -> FieldKind
+        ensures { kind_view result ≡ plain_view self }
+    {
+        match self {
+            PlainKind::Normal(ty) => FieldKind::Normal(ty),
+            PlainKind::Map(map) => FieldKind::Map(map),
+        }
+    }
+}
 
 /// The type of a field: the word of a scalar type is always that type.
 #[tactic(auto, unfolding(crate::specs::FieldGrammar::ty))]
@@ -33,7 +52,6 @@ fn ty<'a>(alloc: Global, tokens: &mut Tokens<'a>) -> Result<Ty, Stop<'a>>
 }
 
 /// A map's types, behind its opening bracket, and the closing one.
-#[tactic(auto, unfolding(crate::specs::FieldGrammar::map_type))]
 fn map<'a>(alloc: Global, tokens: &mut Tokens<'a>, first: Span) -> Result<Map, Stop<'a>>
     ensures reads { Reads map_view (spec.map_type first (stream tokens.old)) result tokens.new }
     ensures moves { OnOk result (left tokens.new < left tokens.old) }
@@ -51,34 +69,32 @@ fn map<'a>(alloc: Global, tokens: &mut Tokens<'a>, first: Span) -> Result<Map, S
 
 /// Where a type begins with the word `map`: that begins a map before `<` alone.
 #[tactic(auto, unfolding(crate::specs::FieldGrammar::map_or_name))]
-fn map_or_name<'a>(alloc: Global, tokens: &mut Tokens<'a>) -> Result<FieldKind, Stop<'a>>
-    ensures reads { Reads kind_view (spec.map_or_name (stream tokens.old)) result tokens.new }
+fn map_or_name<'a>(alloc: Global, tokens: &mut Tokens<'a>) -> Result<PlainKind, Stop<'a>>
+    ensures reads { Reads plain_view (spec.map_or_name (stream tokens.old)) result tokens.new }
     ensures moves { OnOk result (left tokens.new < left tokens.old) }
 {
     let first = tokens.ident(alloc)?;
     if tokens.eat_sign(Sign::LeftAngleBracket).is_some() {
         let map = map(alloc, tokens, first.span)?;
-        return Ok(FieldKind::Map(map));
+        return Ok(PlainKind::Map(map));
     }
     let name = parts_after(alloc, tokens, first)?;
-    Ok(FieldKind::Normal(Ty::Named(TypeName {
+    Ok(PlainKind::Normal(Ty::Named(TypeName {
         leading_dot: None,
         name,
     })))
 }
 
 /// A field's type.
-#[tactic(auto, unfolding(crate::specs::FieldGrammar::field_type))]
-fn field_type<'a>(alloc: Global, tokens: &mut Tokens<'a>) -> Result<FieldKind, Stop<'a>>
-    ensures reads { Reads kind_view (spec.field_type (stream tokens.old)) result tokens.new }
+fn field_type<'a>(alloc: Global, tokens: &mut Tokens<'a>) -> Result<PlainKind, Stop<'a>>
+    ensures reads { Reads plain_view (spec.field_type (stream tokens.old)) result tokens.new }
     ensures moves { OnOk result (left tokens.new < left tokens.old) }
 {
     if tokens.sees(token::MAP) {
-        let kind = map_or_name(alloc, tokens)?;
-        return Ok(kind);
+        return map_or_name(alloc, tokens);
     }
     let ty = ty(alloc, tokens)?;
-    Ok(FieldKind::Normal(ty))
+    Ok(PlainKind::Normal(ty))
 }
 
 /// The label of a field, if it has one.
@@ -100,7 +116,6 @@ pub fn label(tokens: &mut Tokens<'_>) -> Option<(Label, Span)>
 }
 
 /// The statement `extensions .. ;`.
-#[tactic(auto, unfolding(crate::specs::FieldGrammar::extensions))]
 pub fn extensions<'a>(alloc: Global, tokens: &mut Tokens<'a>) -> Result<Extensions, Stop<'a>>
     ensures reads { Reads extensions_view (spec.extensions (stream tokens.old)) result tokens.new }
     ensures moves { OnOk result (left tokens.new < left tokens.old) }
@@ -116,9 +131,24 @@ pub fn extensions<'a>(alloc: Global, tokens: &mut Tokens<'a>) -> Result<Extensio
     })
 }
 
+/// What each field and each group has: a name, a number and the options behind it.
+pub fn numbered_name<'a>(
+    alloc: Global,
+    tokens: &mut Tokens<'a>,
+) -> Result<(Ident, Int, Option<OptionList>), Stop<'a>>
+    ensures reads { Reads (λ x. (ident_view x.0, x.1, option_map option_list_view x.2))
+        (spec.numbered_name (stream tokens.old)) result tokens.new }
+    ensures moves { OnOk result (left tokens.new < left tokens.old) }
+{
+    let name = tokens.ident(alloc)?;
+    tokens.expect_sign(Sign::Equals)?;
+    let number = int(tokens)?;
+    let options = options(alloc, tokens)?;
+    Ok((name, number, options))
+}
+
 /// A field or a map behind its label. The label, if there is one, began at `start`; the field
 /// begins there.
-#[tactic(auto, unfolding(crate::specs::FieldGrammar::plain_field))]
 pub fn plain_field<'a>(
     alloc: Global,
     tokens: &mut Tokens<'a>,
@@ -130,14 +160,11 @@ pub fn plain_field<'a>(
     ensures moves { OnOk result (left tokens.new < left tokens.old) }
 {
     let kind = field_type(alloc, tokens)?;
-    let name = tokens.ident(alloc)?;
-    tokens.expect_sign(Sign::Equals)?;
-    let number = int(tokens)?;
-    let options = options(alloc, tokens)?;
+    let (name, number, options) = numbered_name(alloc, tokens)?;
     let last = tokens.expect_sign(Sign::Semicolon)?;
     Ok(Field {
         label,
-        kind,
+        kind: kind.into_kind(),
         name,
         number,
         options,

@@ -1,3 +1,4 @@
-mod Choices
+mod Blocks
 mod Parts
+mod Turns
 pub mod MessageLaws

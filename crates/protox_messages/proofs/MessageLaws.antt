@@ -8,7 +8,7 @@ use Rattle.protox_messages.specs.MessageGrammar.{Block, group_with, group_if, fi
 use Rattle.protox_options.proofs.NameLaws.{Local-type_name, Local-int}
 use Rattle.protox_options.proofs.OptionLaws.{Local-option, Moves-option, Local-options}
 use Rattle.protox_options.proofs.RangeLaws.{Local-reserved, Moves-reserved}
-use Rattle.protox_tokens.proofs.Local.{Local, Local-bind, Local-pure, Local-choose, Local-until, Local-expect, Local-word, Local-eat, Local-loop, Local-too_deep, of_head-sees, Keeps-local, Moves, Moves-first, Moves-later, Moves-expect, Moves-eat, Moves-choose, Moves-map, Shortens-when}
+use Rattle.protox_tokens.proofs.Local.{Local, Local-bind, Local-pure, Local-choose, Local-until, Local-expect, Local-word, Local-eat, Local-loop, Local-too_deep, of_head-sees, Keeps-local, Moves, Moves-first, Moves-later, Moves-expect, Moves-word, Moves-eat, Moves-choose, Moves-map, Shortens-when}
 use Rattle.protox_tokens.proofs.Loops.{Shortens}
 use Rattle.protox_tokens.specs.Parser.{Parser, until}
 use Rattle.std.proofs.Common.{ℕ, zero, suc, Option, Some, None}
@@ -21,6 +21,11 @@ module _ (inner : Parser Block) (local : Local inner) where
   Local-group p l w = Local-bind Local-word (λ n. Local-bind (Local-expect _) (λ e. Local-bind Local-int (λ i.
       Local-bind Local-options (λ os. Local-bind local (λ b. Local-pure _)))))
 
+  pub Moves-group : (p : Span) (l : Labelled) (w : Span) → Moves (group_with inner p l w)
+  unfolding group_with
+  Moves-group p l w = Moves-first Moves-word (λ n. Keeps-local (Local-bind (Local-expect _) (λ e. Local-bind Local-int (λ i.
+      Local-bind Local-options (λ os. Local-bind local (λ b. Local-pure _))))))
+
   Local-group_if : (p : Span) (l : Labelled) (o : Option Span) → Local (group_if inner p l o)
   Local-group_if p l (Some w) = Local-group p l w
   Local-group_if p l None = Local-plain p l
@@ -30,7 +35,7 @@ module _ (inner : Parser Block) (local : Local inner) where
   Local-field = Local-bind Local-here (λ p. Local-bind Local-label (λ l.
       Local-bind (Local-eat (ident (codes "group"))) (Local-group_if p l)))
 
-  Moves-field : Moves (field_with inner)
+  pub Moves-field : Moves (field_with inner)
   unfolding field_with
   Moves-field = Moves-later (Keeps-local Local-here) (λ p. Moves-later (Keeps-local Local-label) (λ l.
       Moves-eat (ident (codes "group")) (group_if inner p l) (λ w. Keeps-local (Local-group p l w)) (Moves-plain p l)))
@@ -54,7 +59,7 @@ module _ (inner : Parser Block) (local : Local inner) where
   unfolding member_with
   Local-member = Local-bind (Local-eat _) Local-member_unless
 
-  Moves-member : Moves (member_with inner)
+  pub Moves-member : Moves (member_with inner)
   unfolding member_with
   Moves-member = Moves-eat _ (member_unless inner) (λ p. Keeps-local (Local-pure _))
       (Moves-choose _ (Moves-map _ Moves-option) (Moves-map _ Moves-field))
@@ -71,7 +76,7 @@ module _ (inner : Parser Block) (local : Local inner) where
   Local-oneof = Local-bind (Local-expect _) (λ p. Local-bind Local-word (λ w. Local-bind (Local-expect _) (λ b.
       Local-bind Local-members (λ ms. Local-bind (Local-expect _) (λ q. Local-pure _)))))
 
-  Moves-oneof : Moves (oneof_with inner)
+  pub Moves-oneof : Moves (oneof_with inner)
   unfolding oneof_with
   Moves-oneof = Moves-first (Moves-expect _) (λ p. Keeps-local (Local-bind Local-word (λ w.
       Local-bind (Local-expect _) (λ b. Local-bind Local-members (λ ms.
@@ -85,7 +90,7 @@ module _ (inner : Parser Block) (local : Local inner) where
   unfolding added_with
   Local-added = Local-bind (Local-eat _) Local-added_unless
 
-  Moves-added : Moves (added_with inner)
+  pub Moves-added : Moves (added_with inner)
   unfolding added_with
   Moves-added = Moves-eat _ (added_unless inner) (λ p. Keeps-local (Local-pure _)) (Moves-map _ Moves-field)
 
@@ -124,7 +129,7 @@ module _ (inner : Parser Block) (local : Local inner) where
   unfolding item_with
   Local-item = Local-bind (Local-eat _) Local-item_unless
 
-  Moves-item : Moves (item_with inner)
+  pub Moves-item : Moves (item_with inner)
   unfolding item_with
   Moves-item = Moves-eat _ (item_unless inner) (λ p. Keeps-local (Local-pure _))
       (Moves-choose _ (Moves-map _ Moves-message)
@@ -151,3 +156,9 @@ unfolding block
 Local-block zero = Local-bind (Local-expect _) (λ p. Local-too_deep p)
 Local-block (suc levels) =
     Local-bind (Local-expect _) (λ p. Local-bind (Local-inside (block levels) (Local-block levels)) (λ x. Local-pure _))
+
+pub Moves-block : (levels : ℕ) → Moves (block levels)
+unfolding block
+Moves-block zero = Moves-first (Moves-expect _) (λ p. Keeps-local (Local-too_deep p))
+Moves-block (suc levels) = Moves-first (Moves-expect _) (λ p.
+    Keeps-local (Local-bind (Local-inside (block levels) (Local-block levels)) (λ x. Local-pure _)))

@@ -1,8 +1,8 @@
 -- What stands in messages, seen as the tree.
 use Rattle.protox_lex.specs.declared.span.Span.{Span}
-use Rattle.protox_tree.specs.Nest.{Item, Member, AddedItem, message, items_of, item_field, item_oneof, item_message, item_enum, item_extend, item_extensions, item_reserved, item_option, item_empty, field, oneof, members_of, member_field, member_option, member_empty, extend, added_of, added_field, added_empty}
-use Rattle.protox_tree.specs.NestView.{extensions_view, message_view, item_view, items_view, field_view, kind_view, oneof_view, member_view, members_view, extend_view, added_view, added_items_view}
-use Rattle.protox_tree.specs.View.{ident_view, type_name_view, option_list_view, option_view, reserved_view, enum_view}
+use Rattle.protox_tree.specs.Nest.{Item, Member, AddedItem, message, items_of, item_field, item_oneof, item_message, item_enum, item_extend, item_empty, oneof, members_of, member_field, member_option, member_empty, extend, added_of, added_field, added_empty}
+use Rattle.protox_tree.specs.NestView.{message_view, item_view, items_view, field_view, oneof_view, member_view, members_view, extend_view, added_view, added_items_view}
+use Rattle.protox_tree.specs.View.{ident_view, type_name_view, option_view, enum_view}
 use Rattle.protox_tree.specs.declared.enumeration.Enum.{Enum}
 use Rattle.protox_tree.specs.declared.message.Extend.{Extend, the_lemmas}
 use Rattle.protox_tree.specs.declared.message.ExtendItem.TheVariants as added
@@ -12,16 +12,10 @@ use Rattle.protox_tree.specs.declared.message.MessageItem.TheVariants as items
 use Rattle.protox_tree.specs.declared.message.Oneof.{Oneof}
 use Rattle.protox_tree.specs.declared.message.OneofItem.TheVariants as members
 use Rattle.protox_tree.specs.declared.option.OptionStatement.{OptionStatement}
-use Rattle.protox_tree.specs.declared.range.Extensions.{Extensions}
-use Rattle.protox_tree.specs.declared.range.Reserved.{Reserved}
 use Rattle.std.proofs.Common.{◌≡◌, rules}
-use Rattle.std.specs.Prelude.{option_map}
 
 pub message_parts : (m : Message) → message_view m ≡ message (ident_view m.name) m.braces (items_of (items_view m.items.items)) m.span
 message_parts m = search (rules, the_lemmas)
-
-pub field_parts : (f : Field) → field_view f ≡ field f.label (kind_view f.kind) (ident_view f.name) f.number (option_map option_list_view f.options) f.span
-field_parts f = search (rules, the_lemmas)
 
 pub oneof_parts : (o : Oneof) → oneof_view o ≡ oneof (ident_view o.name) o.braces (members_of (members_view o.items.items)) o.span
 oneof_parts o = search (rules, the_lemmas)
@@ -37,15 +31,6 @@ item_enum_is x = search (rules, the_lemmas)
 
 pub item_extend_is : (x : Extend) → item_view (items.Extend x) ≡ item_extend (extend_view x)
 item_extend_is x = search (rules, the_lemmas)
-
-pub item_extensions_is : (x : Extensions) → item_view (items.Extensions x) ≡ item_extensions (extensions_view x)
-item_extensions_is x = search (rules, the_lemmas)
-
-pub item_reserved_is : (x : Reserved) → item_view (items.Reserved x) ≡ item_reserved (reserved_view x)
-item_reserved_is x = search (rules, the_lemmas)
-
-pub item_option_is : (x : OptionStatement) → item_view (items.Option x) ≡ item_option (option_view x)
-item_option_is x = search (rules, the_lemmas)
 
 pub item_oneof_is : (x : Oneof) → item_view (items.Oneof x) ≡ item_oneof (oneof_view x)
 item_oneof_is x = search (rules, the_lemmas)

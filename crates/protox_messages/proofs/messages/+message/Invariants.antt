@@ -5,63 +5,51 @@ use Rattle.protox_tokens.specs.Left.{left}
 use Rattle.protox_tokens.specs.Parser.{loop, until}
 use Rattle.protox_tokens.specs.Stream.{stream}
 use Rattle.protox_tree.specs.NestView.{items_view, members_view, added_items_view}
-use Rattle.std.proofs.Common.{◌≡◌, ◌≤◌, ◌*◌, ◌+◌}
+use Rattle.std.proofs.Common.{◌≡◌, ◌≤◌, ◌*◌, ◌+◌, ◌-◌}
 use Rattle.protox_lex.specs.declared.token.Sign.TheVariants as s
 use Rattle.protox_messages.proofs.messages.+message.Given as goal
 
 abbrev pub decreases-block : goal.decreases-block
-decreases-block l = 5 * left l.tokens.now
+decreases-block l = 2 * left l.tokens.now
 
 abbrev pub decreases-message : goal.decreases-message
-decreases-message l = 5 * left l.tokens.now
+decreases-message l = 2 * left l.tokens.now
 
 abbrev pub decreases-oneof : goal.decreases-oneof
-decreases-oneof l = 5 * left l.tokens.now
+decreases-oneof l = 2 * left l.tokens.now
 
 abbrev pub decreases-extend : goal.decreases-extend
-decreases-extend l = 5 * left l.tokens.now
+decreases-extend l = 2 * left l.tokens.now
 
 abbrev pub decreases-group : goal.decreases-group
-decreases-group l = 5 * left l.tokens.now
+decreases-group l = 2 * left l.tokens.now
 
 abbrev pub decreases-field : goal.decreases-field
-decreases-field l = 5 * left l.tokens.now + 1
+decreases-field l = 2 * left l.tokens.now
 
 abbrev pub decreases-item : goal.decreases-item
-decreases-item l = 5 * left l.tokens.now + 2
+decreases-item l = 2 * left l.tokens.now + 1
 
 abbrev pub decreases-member : goal.decreases-member
-decreases-member l = 5 * left l.tokens.now + 2
+decreases-member l = 2 * left l.tokens.now + 1
 
 abbrev pub decreases-added : goal.decreases-added
-decreases-added l = 5 * left l.tokens.now + 2
+decreases-added l = 2 * left l.tokens.now + 1
 
-abbrev pub decreases-items : goal.decreases-items
-decreases-items l = 5 * left l.tokens.now + 3
-
-abbrev pub decreases-members : goal.decreases-members
-decreases-members l = 5 * left l.tokens.now + 3
-
-abbrev pub decreases-all_added : goal.decreases-all_added
-decreases-all_added l = 5 * left l.tokens.now + 3
-
-abbrev pub decreases-inside : goal.decreases-inside
-decreases-inside l = 5 * left l.tokens.now + 4
-
-abbrev pub invariant-items-items : goal.invariant-items-items
-invariant-items-items l =
-    let rest = loop (until (sign s.RightBrace) (item_with (block l.levels))) in
+abbrev pub invariant-block-items : goal.invariant-block-items
+invariant-block-items l =
+    let inner = block (l.levels - 1) in
+    let rest = loop (until (sign s.RightBrace) (item_with inner)) in
     record {
       moves : left l.tokens ≤ left l.initial.tokens;
-      so_far : with_front (items_view l.items.items) (rest (stream l.tokens))
-          ≡ items_with (block l.levels) (stream l.initial.tokens);
+      so_far : with_front (items_view l.items.items) (rest (stream l.tokens)) ≡ items_with inner (stream l.initial.tokens);
     }
 
-abbrev pub decreases-items-items : goal.decreases-items-items
-decreases-items-items l = left l.tokens
+abbrev pub decreases-block-items : goal.decreases-block-items
+decreases-block-items l = left l.tokens
 
-abbrev pub invariant-members-items : goal.invariant-members-items
-invariant-members-items l =
+abbrev pub invariant-oneof-items : goal.invariant-oneof-items
+invariant-oneof-items l =
     let rest = loop (until (sign s.RightBrace) (member_with (block l.levels))) in
     record {
       moves : left l.tokens ≤ left l.initial.tokens;
@@ -69,11 +57,11 @@ invariant-members-items l =
           ≡ members_with (block l.levels) (stream l.initial.tokens);
     }
 
-abbrev pub decreases-members-items : goal.decreases-members-items
-decreases-members-items l = left l.tokens
+abbrev pub decreases-oneof-items : goal.decreases-oneof-items
+decreases-oneof-items l = left l.tokens
 
-abbrev pub invariant-all_added-items : goal.invariant-all_added-items
-invariant-all_added-items l =
+abbrev pub invariant-extend-items : goal.invariant-extend-items
+invariant-extend-items l =
     let rest = loop (until (sign s.RightBrace) (added_with (block l.levels))) in
     record {
       moves : left l.tokens ≤ left l.initial.tokens;
@@ -81,5 +69,5 @@ invariant-all_added-items l =
           ≡ all_added_with (block l.levels) (stream l.initial.tokens);
     }
 
-abbrev pub decreases-all_added-items : goal.decreases-all_added-items
-decreases-all_added-items l = left l.tokens
+abbrev pub decreases-extend-items : goal.decreases-extend-items
+decreases-extend-items l = left l.tokens
