@@ -16,7 +16,10 @@ use protox_tree::{Ident, MessageItem, TypeName};
 use std::alloc::Global;
 
 /// A statement that nothing nests in, if one begins here.
-pub fn flat_item<'a>(alloc: Global, tokens: &mut Tokens<'a>) -> Result<Option<MessageItem>, Stop<'a>>
+pub fn flat_item<'a>(
+    alloc: Global,
+    tokens: &mut Tokens<'a>,
+) -> Result<Option<MessageItem>, Stop<'a>>
     ensures reads { Reads (λ i. option_map item_view i) (spec.flat_item (stream tokens.old))
         result tokens.new }
     ensures moves { OnOk result (left tokens.new ≤ left tokens.old) }
