@@ -1,7 +1,7 @@
 // Measures what tools/bench.rattle measures, by the C++ library of protobuf. `tools/measure` builds and runs it.
 //
 // usage: peer FOLDER [SOURCE], where FOLDER holds the inputs that `tools/measure` wrote and SOURCE is a descriptor.proto.
-// peer count-look-ups LABEL SOURCE ROUNDS looks up the names of a source's messages in so many rounds and prints nothing.
+// peer SOURCE ROUNDS looks up the names of a source's messages in so many rounds and prints nothing.
 
 #include <google/protobuf/compiler/importer.h>
 #include <google/protobuf/compiler/parser.h>
@@ -258,8 +258,8 @@ void AllMessageRows(const std::string& folder) {
 }  // namespace
 
 int main(int argc, char** argv) {
-  if (argc == 5 && std::string(argv[1]) == "count-look-ups") {
-    LookUpRounds(ReadFile(argv[3]), std::atoi(argv[4]));
+  if (argc == 3 && std::atoi(argv[2]) > 0) {
+    LookUpRounds(ReadFile(argv[1]), std::atoi(argv[2]));
     return 0;
   }
   Require(argc == 2 || argc == 3, "usage: peer FOLDER [SOURCE]");
