@@ -24,7 +24,7 @@ swapped [] rs = []
 swapped (f ∷ fs) [] = f ∷ swapped fs []
 swapped (f ∷ fs) (r ∷ rs) = record { «record» = r; declared = f.declared } ∷ swapped fs rs
 
-swapped_long : (fs : List StoredFile) (rs : List FileDescriptorProto)
+pub swapped_long : (fs : List StoredFile) (rs : List FileDescriptorProto)
     → length (swapped fs rs) ≡ length fs
 swapped_long [] rs = refl
 swapped_long (f ∷ fs) [] = let rest = swapped_long fs [] in omega (arith, rest)
