@@ -9,7 +9,8 @@ use Rattle.reflect_tables.specs.Types.{PoolType}
 use Rattle.linked_messages.specs.Kept.{IsKept}
 use Rattle.linked_view.specs.Alone.{IsRecorded}
 use Rattle.linked_view.specs.Extended.{IsIndexed}
-use Rattle.linked_view.proofs.Together.{built_more, empty_built}
+use Rattle.linked_view.proofs.Together.{added_all, built_more, empty_built}
+use Rattle.schema_view.proofs.Road.{built_linked}
 use Rattle.settled_view.specs.BuiltBut.{IsBuiltBut, Settles}
 use Rattle.settled_view.proofs.Transfer.{recorded_before, indexed_before, kept_before}
 use Rattle.settled_view.proofs.Unsettled.{linking, is_before, added, batch_before, added_settles}
@@ -39,13 +40,33 @@ pub built_but_more : (earlier : List (List FileContent)) (old linked new : PoolT
 built_but_more earlier old linked new files is recorded index kept (w, of, (names, batch)) settles =
     let before = is.linked in
     let ns = new_files w.indexes files in
+    let v = linking before old is.settles w of in
+    let is_of = is_before before old is.settles w of in
+    let whole_batch = batch_before before old is.settles w of ns linked batch in
     let one = added before old is.settles w of ns linked batch in
     let whole = twice one linked new (added_settles before old is.settles w of ns linked batch) settles
     in
-    let more = built_more earlier before one files is.built (recorded_before one new whole recorded)
-    (indexed_before one new whole index) (kept_before one new whole kept) (
-      linking before old is.settles w of,
-      is_before before old is.settles w of,
-      (names, batch_before before old is.settles w of ns linked batch),
-    ) in
-    (w, of, record { linked = one; built = more.2; settles = whole })
+    let indexed = indexed_before one new whole index in
+    let parted = kept_before one new whole kept in
+    let more = (built_more earlier before one files is.built (recorded_before one new whole recorded)
+    indexed parted (v, is_of, (names, whole_batch))).2 in (
+      w,
+      of,
+      record {
+        linked = one;
+        built = record {
+          named = more.named;
+          extensions = more.extensions;
+          values = more.values;
+          entries = more.entries;
+          built = (
+            map file_view before.records,
+            is.built.built,
+            added_all before one ns v is_of is.built.named names whole_batch parted indexed
+                is.built.entries (built_linked earlier (map file_view before.records) is.built.built)
+                is.built.extensions is.built.values,
+          );
+        };
+        settles = whole;
+      },
+    )

@@ -142,7 +142,7 @@ module _ (before p : PoolType) (s : Settles before p) (w : Linking) (is : IsOf p
     abbrev pub added : PoolType
     added = record after { records = rs ++ more }
 
-    types : LinkedTypes
+    abbrev types : LinkedTypes
     types = record {
       old = record { ref_ptr = batch.types.old.ref_ptr; now = with_files rs batch.types.old.now };
       new = batch.types.new;
