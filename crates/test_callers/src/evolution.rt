@@ -19,28 +19,24 @@ pub fn pass_on(older: &Schema, type_name: &str, bytes: &[u8]) -> Result<Vec<u8>,
 mod tests {
     use crate::evolution::pass_on;
     use crate::files::link;
-    use crate::texts::{decoded, encoded};
-    use schema_core::SchemaError;
-    use std::alloc::Global;
 
     const OLDER: &str = "syntax = 'proto3'; package p; message M { int32 foo = 1; }";
 
-    const NEWER: &[(&str, &str)] = &[(
-        "a.proto",
-        "syntax = 'proto3'; package p; message M { int32 foo = 1; string bar = 2; }",
-    )];
-
-    fn passed(alloc: Global, bytes: &[u8]) -> Result<Vec<u8>, SchemaError> {
-        let older = link(alloc, &[("a.proto", OLDER)])?;
-        pass_on(&older, "p.M", bytes)
-    }
+    const NEWER: &str =
+        "syntax = 'proto3'; package p; message M { int32 foo = 1; string bar = 2; }";
 
     #[test]
     fn an_older_schema_keeps_what_it_does_not_know(rt: HostRuntime) {
-        let bytes = encoded(rt.alloc(), NEWER, "p.M", "bar: 'x' foo: 150").expect(&rt, "a text");
-        let passed = passed(rt.alloc(), bytes.as_slice()).expect(&rt, "a message");
+        let older = link(rt.alloc(), &[("a.proto", OLDER)]).expect(&rt, "a file");
+        let newer = link(rt.alloc(), &[("a.proto", NEWER)]).expect(&rt, "a file");
+        let bytes = newer
+            .encode("p.M", "bar: 'x' foo: 150")
+            .expect(&rt, "a text");
+        let passed = pass_on(&older, "p.M", bytes.as_slice()).expect(&rt, "a message");
         assert!(rt; passed.as_slice() == b"\x08\x96\x01\x12\x01x".as_slice());
-        let text = decoded(rt.alloc(), NEWER, "p.M", passed.as_slice()).expect(&rt, "a message");
+        let text = newer
+            .decode("p.M", passed.as_slice())
+            .expect(&rt, "a message");
         assert_eq!(rt; text.as_str(), "foo:150,bar:\"x\"");
     }
 }
