@@ -1,5 +1,5 @@
 -- Where no pass finds a fault in files, each new entry has its record in the pool.
-use Rattle.std.proofs.Common.{◌≡◌, inl, inr, ◌<◌, ◌+◌, ◌++◌, ℕ, ℤ, Bool, true, List, [], ◌∷◌, map, length, Option, None, Some, refl, sym, ap, ◌∙◌, subst, arith, slice_get, slice_index_or}
+use Rattle.std.proofs.Common.{◌≡◌, inl, inr, ◌<◌, ◌+◌, ◌++◌, ℕ, ℤ, Bool, true, List, map, length, Option, Some, refl, sym, ap, ◌∙◌, subst, arith, slice_get, slice_index_or}
 use Rattle.std.proofs.lemmas.List.{length-map}
 use Rattle.std.specs.List.{AllZip}
 use Rattle.descriptor_records.specs.declared.enums.EnumDescriptorProto.{EnumDescriptorProto}
@@ -10,7 +10,7 @@ use Rattle.descriptor_records.specs.declared.message.DescriptorProto.{Descriptor
 use Rattle.descriptor_records.specs.declared.service.MethodDescriptorProto.{MethodDescriptorProto}
 use Rattle.descriptor_records.specs.declared.service.ServiceDescriptorProto.{ServiceDescriptorProto}
 use Rattle.reflect_walk.specs.Batches.{batch_declarations}
-use Rattle.reflect_walk.specs.Declarations.{Declaration, Body, of_message, of_field, of_oneof, of_enum, of_enum_value, of_service, of_method, of_extension}
+use Rattle.reflect_walk.specs.Declarations.{Declaration, Body, of_message, of_oneof, of_enum, of_enum_value, of_service, of_method}
 use Rattle.reflect_walk.specs.Tree.{text_of, MessageParts}
 use Rattle.reflect_walk.specs.declared.visit_parts.Offsets.{Offsets}
 use Rattle.reflect_known.specs.GivenNames.{names_of_file}
@@ -20,7 +20,7 @@ use Rattle.reflect_index.specs.Entries.{OneofName, declared_oneof, IsOneofOf, de
 use Rattle.reflect_index.specs.Grown.{list_at, message_head, enum_head, service_head, oneof_name, stored_oneofs, stored_value_types, stored_methods}
 use Rattle.reflect_index.specs.declared.batch.Batch.{Batch}
 use Rattle.reflect_tables.specs.Types.{PoolType, FieldType, OneofType, ValueType, MethodType, MessageType, EnumType, ServiceType, ExtensionType, no_type, no_field, no_oneof, no_enum, no_extension, no_service}
-use Rattle.reflect_tables.specs.Views.{record_file, oneof_of, message_of, enum_of, extension_of, service_of, pool_of}
+use Rattle.reflect_tables.specs.Views.{record_file, oneof_of, message_of, enum_of, extension_of, service_of}
 use Rattle.reflect_tables.specs.declared.stored.StoredEnum.{StoredEnum}
 use Rattle.reflect_tables.specs.declared.stored.StoredMessage.{StoredMessage}
 use Rattle.reflect_tables.specs.declared.stored.StoredService.{StoredService}
@@ -39,8 +39,8 @@ use Rattle.linked_records.specs.AtPaths.{Stands, HaveRecords, message_name, fiel
 use Rattle.linked_records.specs.AtPaths as names
 use Rattle.linked_records.proofs.Alike.{Moves, AllMove, all_move}
 use Rattle.linked_records.proofs.Paths.{Leads, IsPartOf, HasWhole, IsDeclared, each_declared}
-use Rattle.linked_records.proofs.Stays.{KeepFiles, message_stays, field_stays, oneof_stays, enum_stays, value_stays, extension_stays, service_stays, method_stays}
-use Rattle.linked_records.proofs.Wholes.{AreCounted, batch_counted, Counts, messages_counted, enums_counted, services_counted, IsHeaded, headed, same_file}
+use Rattle.linked_records.proofs.Stays.{KeepFiles, stays}
+use Rattle.linked_records.proofs.Wholes.{AreCounted, batch_counted, messages_counted, enums_counted, services_counted, headed, same_file}
 
 -- ---- what a declaration leads to, by its sort
 
@@ -412,49 +412,49 @@ module _ (old new : PoolType) (ns : List FileDescriptorProto) (w : Linking) (is 
     fields_has : (i : ℕ) → i < length new.messages
         → FieldsStand (slice_index_or new.messages i no_type)
     fields_has = entry_by message_of old.messages new.messages b.messages.items no_type types_are
-        FieldsStand (λ i lt j less. field_stays old new old_files _ _ _ (has.fields i j lt less))
+        FieldsStand (λ i lt j less. stays old new old_files _ _ (λ f g m. m.fields) _ _ _ (has.fields i j lt less))
         (λ k m at j lt. new_field k m at j lt)
 
     oneofs_has : (i : ℕ) → i < length new.messages
         → OneofsStand (slice_index_or new.messages i no_type)
     oneofs_has = entry_by message_of old.messages new.messages b.messages.items no_type types_are
-        OneofsStand (λ i lt j less. oneof_stays old new old_files _ _ _ (has.oneofs i j lt less))
+        OneofsStand (λ i lt j less. stays old new old_files _ _ (λ f g m. m.oneofs) _ _ _ (has.oneofs i j lt less))
         (λ k m at j lt. new_oneof k m at j lt)
 
     values_has : (i : ℕ) → i < length new.enums → ValuesStand (slice_index_or new.enums i no_enum)
     values_has = entry_by enum_of old.enums new.enums b.enums.items no_enum enums_are ValuesStand
-        (λ i lt j less. value_stays old new old_files _ _ _ (has.values i j lt less))
+        (λ i lt j less. stays old new old_files _ _ (λ f g m. m.values) _ _ _ (has.values i j lt less))
         (λ k e at j lt. new_value k e at j lt)
 
     methods_has : (i : ℕ) → i < length new.services
         → MethodsStand (slice_index_or new.services i no_service)
     methods_has = entry_by service_of old.services new.services b.services.items no_service
         services_are MethodsStand
-        (λ i lt j less. method_stays old new old_files _ _ _ (has.methods i j lt less))
+        (λ i lt j less. stays old new old_files _ _ (λ f g m. m.methods) _ _ _ (has.methods i j lt less))
         (λ k s at j lt. new_method k s at j lt)
 
     pub added_has : HaveRecords new
     added_has = record {
       messages = entry_by message_of old.messages new.messages b.messages.items no_type types_are
           (λ t. Stands message_along message_name new t.file t.path t.name)
-          (λ i lt. message_stays old new old_files _ _ _ (has.messages i lt))
+          (λ i lt. stays old new old_files _ _ (λ f g m. m.messages) _ _ _ (has.messages i lt))
           (λ k m at. new_message k m at);
       fields = λ i j lt less. fields_has i lt j less;
       oneofs = λ i j lt less. oneofs_has i lt j less;
       enums = entry_by enum_of old.enums new.enums b.enums.items no_enum enums_are
           (λ e. Stands enum_along enum_name new e.file e.path e.name)
-          (λ i lt. enum_stays old new old_files _ _ _ (has.enums i lt))
+          (λ i lt. stays old new old_files _ _ (λ f g m. m.enums) _ _ _ (has.enums i lt))
           (λ k e at. new_enum k e at);
       values = λ i j lt less. values_has i lt j less;
       extensions = entry_by extension_of old.extensions new.extensions b.extensions.items
           no_extension extensions_are
           (λ x. Stands extension_along field_name new x.file x.field.path x.field.name)
-          (λ i lt. extension_stays old new old_files _ _ _ (has.extensions i lt))
+          (λ i lt. stays old new old_files _ _ (λ f g m. m.extensions) _ _ _ (has.extensions i lt))
           (λ k x at. new_extension (extension_of x)
           (in_map extension_of x b.extensions.items (of_place x b.extensions.items k at)));
       services = entry_by service_of old.services new.services b.services.items no_service
           services_are (λ s. Stands service_along service_name new s.file s.path s.name)
-          (λ i lt. service_stays old new old_files _ _ _ (has.services i lt))
+          (λ i lt. stays old new old_files _ _ (λ f g m. m.services) _ _ _ (has.services i lt))
           (λ k s at. new_service k s at);
       methods = λ i j lt less. methods_has i lt j less;
     }

@@ -1,18 +1,17 @@
 -- Entries keep their records where each record of a pool stays, or one that gives the same names
 -- stands in its place.
-use Rattle.std.proofs.Common.{◌≡◌, ℕ, ℤ, List, [], ◌∷◌, map, Option, Some, refl, sym, ap, ◌∙◌, subst, arith, slice_get}
+use Rattle.std.proofs.Common.{◌≡◌, ℕ, ℤ, List, map, Option, Some, refl, sym, ap, ◌∙◌, subst, arith, slice_get}
 use Rattle.descriptor_records.specs.Content.{FieldContent, OneofContent, EnumValueContent, EnumContent, MethodContent, ServiceContent, MessageContent, message, MessageContents, no_messages, more_messages, FileContent, file_view}
 use Rattle.descriptor_records.specs.declared.file.FileDescriptorProto.{FileDescriptorProto}
-use Rattle.reflect_known.specs.GivenNames.{EnumNames, ServiceNames, MessageNames, message_names, NestedNames, more_names, FileNames, names_of_file}
+use Rattle.reflect_known.specs.GivenNames.{EnumNames, ServiceNames, message_names, more_names, names_of_file}
 use Rattle.reflect_known.proofs.MessageNames.{nested_of}
 use Rattle.reflect_growth.specs.Settled.{bare_field, bare_oneof, bare_value, bare_enum, bare_method, bare_service, bare_message, bare_messages, bare_file, bare_of}
 use Rattle.reflect_growth.proofs.Told.{enum_told, service_told, message_told, messages_told, file_told, file_seen}
-use Rattle.reflect_link.specs.Records.{message_along, field_along, oneof_along, enum_along, value_along, extension_along, service_along, method_along}
 use Rattle.reflect_pool.specs.Linked.{empty_pool}
 use Rattle.reflect_tables.specs.Types.{PoolType, IsSettled}
 use Rattle.linked_messages.proofs.Among.{get_map, got_map}
 use Rattle.linked_names.proofs.Lists.{mapped}
-use Rattle.linked_records.specs.AtPaths.{Stands, HaveRecords, message_name, field_name, oneof_name, enum_name, value_name, service_name, method_name}
+use Rattle.linked_records.specs.AtPaths.{Stands, HaveRecords}
 use Rattle.linked_records.proofs.Alike.{Moves, AllMove, all_move}
 
 -- for each record of the first pool there is one in the second that gives the same names
@@ -25,8 +24,9 @@ abbrev pub KeepFiles : PoolType → PoolType → Type 0
 KeepFiles old new = (n : ℕ) (f : FileDescriptorProto) → slice_get old.records n ≡ Some f
     → IsKeptFile new n f
 
+-- a record of the one pool stands in the other, whatever sort it is of
 module _ (old new : PoolType) (kept : KeepFiles old new) where
-  stays : {X : Type 0} (along : FileDescriptorProto → List ℤ → Option X) (name_of : X → List ℕ)
+  pub stays : {X : Type 0} (along : FileDescriptorProto → List ℤ → Option X) (name_of : X → List ℕ)
       → ((f g : FileDescriptorProto) → AllMove f g → Moves along name_of f g)
       → (n : ℕ) (path : List ℤ) (name : List ℕ) → Stands along name_of old n path name
       → Stands along name_of new n path name
@@ -40,46 +40,6 @@ module _ (old new : PoolType) (kept : KeepFiles old new) where
         at = found.1;
         named = found.2 ∙ s.named;
       }
-
-  pub message_stays : (n : ℕ) (path : List ℤ) (name : List ℕ)
-      → Stands message_along message_name old n path name
-      → Stands message_along message_name new n path name
-  message_stays = stays message_along message_name (λ f g m. m.messages)
-
-  pub field_stays : (n : ℕ) (path : List ℤ) (name : List ℕ)
-      → Stands field_along field_name old n path name
-      → Stands field_along field_name new n path name
-  field_stays = stays field_along field_name (λ f g m. m.fields)
-
-  pub oneof_stays : (n : ℕ) (path : List ℤ) (name : List ℕ)
-      → Stands oneof_along oneof_name old n path name
-      → Stands oneof_along oneof_name new n path name
-  oneof_stays = stays oneof_along oneof_name (λ f g m. m.oneofs)
-
-  pub enum_stays : (n : ℕ) (path : List ℤ) (name : List ℕ)
-      → Stands enum_along enum_name old n path name
-      → Stands enum_along enum_name new n path name
-  enum_stays = stays enum_along enum_name (λ f g m. m.enums)
-
-  pub value_stays : (n : ℕ) (path : List ℤ) (name : List ℕ)
-      → Stands value_along value_name old n path name
-      → Stands value_along value_name new n path name
-  value_stays = stays value_along value_name (λ f g m. m.values)
-
-  pub extension_stays : (n : ℕ) (path : List ℤ) (name : List ℕ)
-      → Stands extension_along field_name old n path name
-      → Stands extension_along field_name new n path name
-  extension_stays = stays extension_along field_name (λ f g m. m.extensions)
-
-  pub service_stays : (n : ℕ) (path : List ℤ) (name : List ℕ)
-      → Stands service_along service_name old n path name
-      → Stands service_along service_name new n path name
-  service_stays = stays service_along service_name (λ f g m. m.services)
-
-  pub method_stays : (n : ℕ) (path : List ℤ) (name : List ℕ)
-      → Stands method_along method_name old n path name
-      → Stands method_along method_name new n path name
-  method_stays = stays method_along method_name (λ f g m. m.methods)
 
 -- ---- a pool without files
 
@@ -159,14 +119,14 @@ with_records old records same has =
     let new : PoolType = record old { records = records } in
     let kept = settled_files old new same in
     record {
-      messages = λ i lt. message_stays old new kept _ _ _ (has.messages i lt);
-      fields = λ i j lt less. field_stays old new kept _ _ _ (has.fields i j lt less);
-      oneofs = λ i j lt less. oneof_stays old new kept _ _ _ (has.oneofs i j lt less);
-      enums = λ i lt. enum_stays old new kept _ _ _ (has.enums i lt);
-      values = λ i j lt less. value_stays old new kept _ _ _ (has.values i j lt less);
-      extensions = λ i lt. extension_stays old new kept _ _ _ (has.extensions i lt);
-      services = λ i lt. service_stays old new kept _ _ _ (has.services i lt);
-      methods = λ i j lt less. method_stays old new kept _ _ _ (has.methods i j lt less);
+      messages = λ i lt. stays old new kept _ _ (λ f g m. m.messages) _ _ _ (has.messages i lt);
+      fields = λ i j lt less. stays old new kept _ _ (λ f g m. m.fields) _ _ _ (has.fields i j lt less);
+      oneofs = λ i j lt less. stays old new kept _ _ (λ f g m. m.oneofs) _ _ _ (has.oneofs i j lt less);
+      enums = λ i lt. stays old new kept _ _ (λ f g m. m.enums) _ _ _ (has.enums i lt);
+      values = λ i j lt less. stays old new kept _ _ (λ f g m. m.values) _ _ _ (has.values i j lt less);
+      extensions = λ i lt. stays old new kept _ _ (λ f g m. m.extensions) _ _ _ (has.extensions i lt);
+      services = λ i lt. stays old new kept _ _ (λ f g m. m.services) _ _ _ (has.services i lt);
+      methods = λ i j lt less. stays old new kept _ _ (λ f g m. m.methods) _ _ _ (has.methods i j lt less);
     }
 
 pub settled_has : (old new : PoolType) → IsSettled old new

@@ -1,9 +1,9 @@
 -- Which declaration of a batch an entry is of: the one that is counted so among those of its sort.
-use Rattle.std.proofs.Common.{◌≡◌, ◌⊎◌, inl, inr, ◌+◌, ℕ, zero, suc, Bool, true, false, cond, List, [], ◌∷◌, ◌++◌, Some, refl, sym, ap, ◌∙◌, subst, arith, slice_get}
+use Rattle.std.proofs.Common.{◌≡◌, ◌⊎◌, inl, inr, ◌+◌, ℕ, suc, Bool, true, false, cond, List, [], ◌∷◌, ◌++◌, Some, refl, sym, ap, ◌∙◌, subst, arith, slice_get}
 use Rattle.std.specs.List.{AllZip}
 use Rattle.descriptor_records.specs.declared.file.FileDescriptorProto.{FileDescriptorProto}
 use Rattle.reflect_walk.specs.Batches.{batch_declarations}
-use Rattle.reflect_walk.specs.Declarations.{Declaration, Body, of_file, of_message, of_field, of_oneof, of_enum, of_enum_value, of_service, of_method, of_extension, past_file, file_declarations}
+use Rattle.reflect_walk.specs.Declarations.{Declaration, Body, of_message, of_enum, of_service, past_file, file_declarations}
 use Rattle.reflect_walk.specs.declared.visit_parts.Offsets.{Offsets}
 use Rattle.reflect_index.specs.Along.{AtHand, Met, along, met, hand_behind, all_of, is_message, is_enum, is_service}
 use Rattle.reflect_index.specs.Entries.{Head, IsHeadOf, written_name}

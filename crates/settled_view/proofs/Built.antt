@@ -1,5 +1,5 @@
 -- Pools that are built but for their options.
-use Rattle.std.proofs.Common.{◌≡◌, ◌∙◌, List, [], ◌∷◌, map, ap, refl}
+use Rattle.std.proofs.Common.{◌∙◌, List, [], ◌∷◌, map, ap, refl}
 use Rattle.descriptor_records.specs.Content.{FileContent, file_view}
 use Rattle.descriptor_records.specs.declared.file.FileDescriptorProto.{FileDescriptorProto}
 use Rattle.reflect_build.specs.Accepted.{FaultlessFiles}

@@ -1,5 +1,5 @@
 -- Files that a settled pool accepts the pool before accepts too, and the new pools differ as these do.
-use Rattle.std.proofs.Common.{◌≡◌, ◌∙◌, ◌++◌, ℕ, List, [], ◌∷◌, map, length, drop, drop_at, sym, ap, subst, refl, arith}
+use Rattle.std.proofs.Common.{◌≡◌, ◌∙◌, ◌++◌, List, [], ◌∷◌, map, length, drop, drop_at, sym, ap, subst, refl, arith}
 use Rattle.std.proofs.lemmas.List.{map-append, length-map}
 use Rattle.std.specs.formers.vec.Vec.{holding, fits}
 use Rattle.descriptor_records.specs.Content.{FileContent, file_view}
