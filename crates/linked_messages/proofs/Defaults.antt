@@ -27,7 +27,7 @@ use Rattle.protobuf_model.specs.Scalars.{Suits}
 use Rattle.message_view.specs.Sound.{HasNumbers, HaveNumbers}
 use Rattle.reflect_message.specs.KindTypes.{IsScalarType}
 use Rattle.message_view.specs.Singles.{scalar_of, single_view}
-use Rattle.linked_messages.proofs.Among.{of_all, of_find}
+use Rattle.reflect_index.proofs.Among.{of_all, of_find}
 
 -- the value is one of the kind
 abbrev pub IsOfKind : KindType → Single → Type 0

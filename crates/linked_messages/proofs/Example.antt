@@ -16,7 +16,7 @@ use Rattle.reflect_scalar.specs.Defaults.{default_in}
 use Rattle.reflect_scalar.specs.Singles.{int32, int64}
 use Rattle.message_view.specs.Sound.{IsFieldNumber, IsSound}
 use Rattle.linked_messages.specs.Kept.{IsKept}
-use Rattle.linked_messages.proofs.Among.{Among, get_map}
+use Rattle.reflect_index.proofs.Among.{Among, get_map}
 use Rattle.linked_messages.proofs.Defaults.{HasOne}
 use Rattle.linked_messages.proofs.Fields.{IsList, HasParts}
 use Rattle.linked_messages.proofs.Ruled.{HasPart}

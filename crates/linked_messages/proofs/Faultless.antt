@@ -20,7 +20,7 @@ use Rattle.reflect_rules.specs.Rules.{Values, FaultsOf, entry_faults, is_one_map
 use Rattle.reflect_rules.specs.Walks.{Facts, Place, place_behind}
 use Rattle.reflect_references.specs.Meanings.{rest_behind}
 use Rattle.reflect_index.specs.Along.{AtHand, Met, along, met, before_files, hand_behind}
-use Rattle.linked_messages.proofs.Among.{Among}
+use Rattle.reflect_index.proofs.Among.{Among}
 
 pub none_both : {X : Type 0} (a b : List X) → a ++ b ≡ [] → (a ≡ []) × (b ≡ [])
 none_both [] b e = (refl, e)
@@ -50,13 +50,6 @@ is_met h [] d k = absurd k
 is_met h (e ∷ ds) d (inl same) = (met h e, inl refl, same)
 is_met h (e ∷ ds) d (inr later) = let found = is_met (hand_behind h e) ds d later in
     (found.0, inr found.1, found.2)
-
--- and what is met is one of them
-pub of_along : (h : AtHand) (ds : List Declaration) (m : Met) → Among m (along h ds)
-    → Among m.declaration ds
-of_along h [] m k = absurd k
-of_along h (d ∷ ds) m (inl same) = inl (ap (λ (x : Met). x.declaration) same)
-of_along h (d ∷ ds) m (inr later) = inr (of_along (hand_behind h d) ds m later)
 
 pub rules_at : (g : Facts) (values : Values) (at : ℕ → Places) (p : Place) (ds : List Declaration)
     (xs : List Fault) → FaultsAlong g values at p ds xs → xs ≡ [] → (d : Declaration) → Among d ds

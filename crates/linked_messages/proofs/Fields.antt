@@ -35,10 +35,10 @@ use Rattle.reflect_index.specs.Entry.{IsFieldAt, IsEntryOf, KeepsEntry}
 use Rattle.reflect_index.specs.declared.batch.Batch.{Batch}
 use Rattle.reflect_rules.specs.MapEntries.{is_key_type}
 use Rattle.reflect_decode.specs.Refused.{IsKeyKind}
-use Rattle.linked_messages.proofs.Among.{Among, of_all, of_place, get_at}
-use Rattle.linked_messages.proofs.Declared.{both_true, FieldDeclared, field_among, extension_declared}
+use Rattle.reflect_index.proofs.Among.{Among, of_all, of_place, get_at}
+use Rattle.reflect_index.proofs.Declared.{both_true, FieldDeclared, field_among, extension_declared, of_along}
 use Rattle.linked_messages.proofs.Defaults.{HasType, IsHeld, typed}
-use Rattle.linked_messages.proofs.Faultless.{of_along, references_at, named_suits, key_is_unnamed}
+use Rattle.linked_messages.proofs.Faultless.{references_at, named_suits, key_is_unnamed}
 use Rattle.linked_messages.proofs.Parts.{IsKey, IsPart}
 
 -- ---- lists

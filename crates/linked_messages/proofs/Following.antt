@@ -14,7 +14,7 @@ use Rattle.reflect_walk.specs.Declarations.{Declaration, Body, of_message, of_fi
 use Rattle.reflect_pool.proofs.Grown.{all_behind}
 use Rattle.reflect_index.specs.Along.{AtHand, Met, along, met, hand_behind, is_message, is_field, is_parent, parts}
 use Rattle.reflect_index.specs.OfDeclarations.{message_in, messages_in}
-use Rattle.linked_messages.proofs.Among.{Among}
+use Rattle.reflect_index.proofs.Among.{Among}
 
 -- ---- what is neither a message nor a field
 

@@ -1,4 +1,3 @@
-pub mod Among
 pub mod Following
 pub mod Declared
 pub mod Defaults

@@ -8,8 +8,8 @@ use Rattle.reflect_pool.specs.Shapes.{is_repeated}
 use Rattle.reflect_rules.specs.MapEntries.{is_equal, is_optional, is_key_type, is_part, has_name, are_key_and_value, has_entry_shape}
 use Rattle.reflect_tables.specs.Types.{FieldType, no_field}
 use Rattle.reflect_tables.specs.declared.stored.StoredEntry.{StoredEntry}
-use Rattle.linked_messages.proofs.Among.{Among}
-use Rattle.linked_messages.proofs.Declared.{both_true}
+use Rattle.reflect_index.proofs.Among.{Among}
+use Rattle.reflect_index.proofs.Declared.{both_true}
 
 -- ---- records
 

@@ -30,7 +30,7 @@ use Rattle.message_view.specs.Sound.{HaveNames, HaveEntryFields, IsPartAt, HaveE
 use Rattle.message_view.specs.Types.{kind_in}
 use Rattle.message_view.proofs.Entries.{key_scalar}
 use Rattle.message_view.proofs.Fields.{held_is}
-use Rattle.linked_messages.proofs.Among.{Among, of_all, of_find, of_place, get_at}
+use Rattle.reflect_index.proofs.Among.{Among, of_all, of_find, of_place, get_at}
 use Rattle.linked_messages.proofs.Defaults.{HasOne, IsOfKind}
 use Rattle.linked_messages.proofs.Fields.{IsList, HasParts}
 use Rattle.linked_messages.proofs.Ruled.{HasPart, IsNumbered, IsKeptIn}

@@ -25,14 +25,14 @@ use Rattle.text_model.specs.Printed.{parts}
 use Rattle.message_view.specs.Sound.{IsSound}
 use Rattle.text_view.specs.SourceNames.{HaveOwnNames, IsGroupField, HasPartNames}
 use Rattle.source_records.specs.SourceNames.{IsSourceFile}
-use Rattle.linked_messages.proofs.Declared.{field_declared}
-use Rattle.linked_messages.proofs.Among.{Among, of_all, all_of, of_filter, of_place, in_map, get_at, get_map}
+use Rattle.reflect_index.proofs.Among.{Among, of_all, all_of, of_filter, of_place, in_map, get_at, get_map}
 use Rattle.linked_names.specs.Presence.{HasMessagePresence, HasPresentMessages}
 use Rattle.linked_names.specs.SourcePools.{IsScoped, IsSourcePool}
 use Rattle.linked_names.proofs.Batch.{ds, known, types_are, extensions_are, extensions_found}
 use Rattle.linked_names.proofs.Entries.{entry_named}
 use Rattle.linked_names.proofs.Kept.{field_same, scope_stays, group_stays, parts_stay}
-use Rattle.linked_names.proofs.Lists.{which, IsLater}
+use Rattle.reflect_index.proofs.Behind.{which, IsLater}
+use Rattle.reflect_index.proofs.Declared.{field_declared}
 use Rattle.linked_names.proofs.Sourced.{IsSourced, batch_sourced}
 use Rattle.linked_names.proofs.Stored.{names_apart, enum_of_batch, values_apart, new_scoped, field_spelled, group_spelled, value_spelled, extension_spelled}
 

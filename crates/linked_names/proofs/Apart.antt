@@ -16,7 +16,7 @@ use Rattle.reflect_walk.specs.Tree.{text_of, Message, message, Messages, no_mess
 use Rattle.reflect_walk.specs.declared.visit_parts.Offsets.{Offsets}
 use Rattle.reflect_known.specs.KnownNames.{definition_of}
 use Rattle.reflect_pool.proofs.Grown.{all_behind}
-use Rattle.linked_messages.proofs.Among.{Among, in_first, in_second, of_all}
+use Rattle.reflect_index.proofs.Among.{Among, in_first, in_second, of_all}
 use Rattle.linked_view.proofs.Completes.{IsCompleteBody}
 use Rattle.linked_view.proofs.Counts.{one_if, bytes_refl}
 use Rattle.linked_view.proofs.Given.{other_in, other_at, others}

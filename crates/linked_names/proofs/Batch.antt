@@ -30,7 +30,7 @@ use Rattle.reflect_tables.specs.declared.stored.StoredFile.{StoredFile}
 use Rattle.reflect_link.specs.FileTypes.{no_file, file_type_at}
 use Rattle.reflect_build.specs.Accepted.{FaultlessBatch}
 use Rattle.reflect_build.specs.Refusals.{Linking, with_declared, IsOf}
-use Rattle.linked_messages.proofs.Among.{Among, of_all, in_second, get_at, get_map, got_map, index_is}
+use Rattle.reflect_index.proofs.Among.{Among, of_all, in_second, get_at, get_map, got_map, index_is}
 use Rattle.linked_view.proofs.Completes.{IsCompleteBody}
 use Rattle.linked_view.proofs.Faults.{none_both}
 use Rattle.linked_view.proofs.Found.{found_behind}
@@ -41,7 +41,7 @@ use Rattle.linked_names.specs.SourcePools.{scope_in, scope_of, IsScoped}
 use Rattle.linked_names.proofs.Apart.{IsApart, batch_apart}
 use Rattle.linked_names.proofs.Dots.{outer_join}
 use Rattle.linked_names.proofs.Known.{some_known, given_known, given_new, from_given, file_given, gives_name, in_gives, along_free, given_weight}
-use Rattle.linked_names.proofs.Lists.{index_none, get_in, mapped, which}
+use Rattle.reflect_index.proofs.Behind.{index_none, get_in, mapped, which}
 
 pub texts_same : (o : Option (String Global)) → views.text_of o ≡ text_of o
 texts_same None = refl

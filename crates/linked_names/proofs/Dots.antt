@@ -9,7 +9,7 @@ use Rattle.reflect_scope.proofs.Steps.{has_dot-append}
 use Rattle.text_model.specs.Identifiers.{is_identifier, is_full_name}
 use Rattle.text_model.specs.Printed.{parts}
 use Rattle.text_model.specs.Tree.{FullName}
-use Rattle.linked_messages.proofs.Declared.{both_true}
+use Rattle.reflect_index.proofs.Declared.{both_true}
 
 -- ---- no dot
 

@@ -29,7 +29,7 @@ use Rattle.reflect_pool.specs.Imports.{imported_places}
 use Rattle.reflect_build.specs.Accepted.{FaultlessBatch}
 use Rattle.reflect_build.specs.Refusals.{Linking, with_declared, IsOf}
 use Rattle.source_records.specs.SourceNames.{IsGroup}
-use Rattle.linked_messages.proofs.Among.{Among}
+use Rattle.reflect_index.proofs.Among.{Among}
 use Rattle.linked_view.specs.AtHand.{kind_by}
 use Rattle.linked_view.proofs.AtHand.{at_hand, resolved_type}
 use Rattle.linked_view.proofs.Extensions.{left_behind}
@@ -38,7 +38,7 @@ use Rattle.linked_view.proofs.Means.{resolved_to}
 use Rattle.linked_names.specs.SourcePools.{IsScoped}
 use Rattle.linked_names.proofs.Batch.{ds, known, message_known, messages_found, field_no_scope, first_is}
 use Rattle.linked_names.proofs.Dots.{identifier_undotted, outer_join, called_some}
-use Rattle.linked_names.proofs.Lists.{get_in}
+use Rattle.reflect_index.proofs.Behind.{get_in}
 use Rattle.linked_names.proofs.Sourced.{IsFileAt, IsGrouped, IsSourcedField, spelled_text}
 
 -- ---- the scope around the innermost one

@@ -15,7 +15,7 @@ use Rattle.reflect_known.specs.KnownNames.{definition_of, package_of, known_afte
 use Rattle.reflect_names.specs.Names.{Places, faults_at}
 use Rattle.reflect_names.specs.NamePass.{faults_along}
 use Rattle.reflect_names.proofs.Declared.{declared_new}
-use Rattle.linked_messages.proofs.Among.{Among, in_first, in_second}
+use Rattle.reflect_index.proofs.Among.{Among, in_first, in_second}
 use Rattle.linked_view.proofs.Completes.{packages_given, gives, known_gives, IsCompleteBody, good_to}
 use Rattle.linked_view.proofs.Counts.{bytes_same, bytes_refl}
 use Rattle.linked_view.proofs.Faults.{none_both}

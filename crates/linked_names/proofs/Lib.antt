@@ -1,5 +1,4 @@
 mod Dots
-pub mod Lists
 mod Sourced
 mod Known
 mod Apart

@@ -21,7 +21,7 @@ use Rattle.reflect_pool.proofs.Grown.{all_behind}
 use Rattle.text_model.specs.Identifiers.{is_identifier, is_full_name}
 use Rattle.text_model.specs.Printed as printed
 use Rattle.source_records.specs.SourceNames.{IsSpelled, IsWord, IsPackage, AreSpelled, HasSpelledValues, Declares, IsGroup, IsGroupField, AreParts, IsEntry, IsSourceMessage, AreSourceMessages, IsSourceFile}
-use Rattle.linked_messages.proofs.Among.{Among, in_first, in_second, of_all}
+use Rattle.reflect_index.proofs.Among.{Among, in_first, in_second, of_all}
 use Rattle.linked_view.proofs.Completes.{all_mapped}
 use Rattle.linked_view.proofs.Walked.{tree_content, trees_content, content_is}
 use Rattle.linked_names.proofs.Dots.{IsNaming, full_join, word_undotted, identifier_undotted}

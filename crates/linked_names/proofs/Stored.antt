@@ -39,16 +39,16 @@ use Rattle.text_model.specs.Identifiers.{is_identifier, is_full_name}
 use Rattle.text_model.specs.Printed.{parts}
 use Rattle.text_view.specs.SourceNames as pools
 use Rattle.source_records.specs.SourceNames.{IsSpelled, HasSpelledValues}
-use Rattle.linked_messages.proofs.Among.{Among, of_all, of_place, get_at, get_map, got_map, zip_place}
-use Rattle.linked_messages.proofs.Declared.{FieldDeclared, field_declared, extension_declared, InMessage, in_message, stands_in_batch}
+use Rattle.reflect_index.proofs.Among.{Among, of_all, of_place, get_at, get_map, got_map, zip_place}
+use Rattle.linked_messages.proofs.Declared.{InMessage, in_message, stands_in_batch}
 use Rattle.linked_messages.proofs.Defaults.{IsHeld}
-use Rattle.linked_messages.proofs.Faultless.{of_along}
 use Rattle.linked_view.proofs.Accepted.{kept_at}
 use Rattle.linked_names.specs.SourcePools.{scope_in, scope_of, IsScoped}
 use Rattle.linked_names.proofs.Apart.{IsApart, Apart, field_text, value_text}
 use Rattle.linked_names.proofs.Batch.{ds, known, b, are_apart, message_known, field_known, message_at, same_message, type_named, types_are, texts_same, first_is}
 use Rattle.linked_names.proofs.Groups.{group_meant}
-use Rattle.linked_names.proofs.Lists.{later_is}
+use Rattle.reflect_index.proofs.Behind.{later_is}
+use Rattle.reflect_index.proofs.Declared.{FieldDeclared, field_declared, extension_declared, of_along}
 use Rattle.linked_names.proofs.Sourced.{IsSourced, IsSourcedMessage, IsSourcedField, IsScopeOf, spelled_text, named_text}
 
 -- ---- declarations by their places

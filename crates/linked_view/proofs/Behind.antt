@@ -19,6 +19,7 @@ use Rattle.reflect_names.specs.ReferencePass.{AreSeen}
 use Rattle.reflect_tables.specs.Types.{PoolType}
 use Rattle.reflect_tables.specs.Views.{record_file}
 use Rattle.reflect_index.proofs.Batched.{known_on}
+use Rattle.reflect_index.proofs.Behind.{get_behind}
 use Rattle.reflect_pool.specs.Imports.{names_of_files, imported_places}
 use Rattle.reflect_pool.specs.Linked.{AreIndexed}
 use Rattle.reflect_build.specs.Refusals.{AreLinked, Linking, with_declared, IsOf}
@@ -81,13 +82,6 @@ named_all old new h k = record {
     | inr j ↦ k.complete f d j m
   ];
 }
-
-pub get_behind : {X : Type 0} (xs ys : List X) (k : ℕ) (x : X) → slice_get ys k ≡ Some x
-    → slice_get (xs ++ ys) (length xs + k) ≡ Some x
-get_behind [] ys k x e = let place : 0 + k ≡ k = omega arith in ap (slice_get ys) place ∙ e
-get_behind (y ∷ xs) ys k x e =
-    let place : length (y ∷ xs) + k ≡ suc (length xs + k) = omega arith in
-    ap (slice_get ((y ∷ xs) ++ ys)) place ∙ get_behind xs ys k x e
 
 module _ (old : PoolType) (ns : List FileDescriptorProto) (w : Linking) (is : IsOf old w)
     (has : IsWellNamed old) where

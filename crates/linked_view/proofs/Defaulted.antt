@@ -32,7 +32,7 @@ use Rattle.linked_view.specs.Extended.{IsIndexed}
 use Rattle.linked_view.specs.Passed.{facts_of}
 use Rattle.linked_view.specs.Valued.{NamedValues, values_in, written_values, kept_values, TellsValues, SuitEnums}
 use Rattle.linked_view.proofs.Accepted.{all_met, known, known_all, indexes, names_at, lawful_alone, meanings_alone}
-use Rattle.linked_view.proofs.Behind.{get_behind}
+use Rattle.reflect_index.proofs.Behind.{get_behind}
 use Rattle.linked_view.proofs.Found.{enum_place, found_place}
 use Rattle.linked_view.proofs.Linked.{meanings}
 use Rattle.linked_view.proofs.Places.{contains_get, get_contains, get_less, get_map, get_map_cases}

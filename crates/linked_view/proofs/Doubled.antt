@@ -26,7 +26,7 @@ use Rattle.schema_view.specs.Files.{is_proto3}
 use Rattle.schema_view.proofs.Lists.{contains_here, contains_there, contains_cases, contains_none, contains_map_cases, contains_flat_cases}
 use Rattle.schema_view.proofs.Road.{AreLinked}
 use Rattle.linked_view.specs.Extended.{WrittenKey, keys_of, written_keys, HasWritten}
-use Rattle.linked_view.proofs.Behind.{get_behind}
+use Rattle.reflect_index.proofs.Behind.{get_behind}
 use Rattle.linked_view.proofs.Counts.{bytes_refl}
 use Rattle.linked_view.proofs.Extended.{at_zip, one_place, times_written, writes_key}
 use Rattle.linked_view.proofs.Faults.{both_none, when_from}

@@ -11,7 +11,7 @@ use Rattle.reflect_walk.specs.Declarations.{Declaration, Body, of_file, of_messa
 use Rattle.reflect_walk.specs.Batches.{batch_declarations}
 use Rattle.reflect_known.specs.KnownNames.{kind_of, definition_of, nothing_before, known_of_files}
 use Rattle.reflect_index.specs.OfDeclarations.{messages_in}
-use Rattle.linked_messages.proofs.Among.{Among}
+use Rattle.reflect_index.proofs.Among.{Among}
 use Rattle.linked_messages.proofs.Declared.{stands_in_batch}
 use Rattle.schema_view.specs.Declarations as view
 use Rattle.schema_view.specs.Lawful.{outlines}

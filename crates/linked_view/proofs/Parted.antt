@@ -39,7 +39,7 @@ use Rattle.linked_view.specs.Alone.{IsWellNamed}
 use Rattle.linked_view.specs.Entries.{TellsEntries}
 use Rattle.linked_view.specs.Extended.{IsIndexed}
 use Rattle.linked_view.proofs.Accepted.{kept_at, lawful_alone}
-use Rattle.linked_view.proofs.Behind.{get_behind}
+use Rattle.reflect_index.proofs.Behind.{get_behind}
 use Rattle.linked_view.proofs.Entries.{IsAlong, are_found, knows_along, message_along, message_source}
 use Rattle.linked_view.proofs.Extended.{zip_at}
 use Rattle.linked_view.proofs.Indexed.{among}

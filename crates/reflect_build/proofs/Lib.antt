@@ -10,3 +10,9 @@ pub mod Settled
 pub mod Stands
 pub mod Recorded
 pub mod Stored
+pub mod Paths
+pub mod Alike
+pub mod Wholes
+pub mod Stays
+pub mod AtPaths
+pub mod CutPaths

@@ -18,6 +18,7 @@ use Rattle.reflect_build.proofs.Numbered.{numbered_back, numbered_cut, places_ke
 use Rattle.reflect_build.proofs.Indexed.{indexed_cut, indexed_back}
 use Rattle.reflect_build.proofs.Recorded.{known_cut, headers_cut, recorded_cut}
 use Rattle.reflect_build.proofs.Stored.{stored_cut}
+use Rattle.reflect_build.proofs.CutPaths.{cut_has}
 use Rattle.std.proofs.Math.Path.{fun_ext}
 use Rattle.std.proofs.Math.ListN.{length-map}
 use Rattle.reflect_tables.specs.Views.{file_of, extension_of, message_of, pool_of}
@@ -94,6 +95,7 @@ linked_cut p q mark m n f g u v ls ks ms ns e names first numbers links are left
       headers = headers_cut p mark linked.headers;
       entries = recorded_cut p mark (names_cut p mark) linked.entries;
       stored = stored_cut p mark ms are linked.entries linked.stored ns left;
+      placed = cut_has p mark linked.placed;
     })
 
 -- a refusal, behind which the names of the files that are there are left
@@ -119,4 +121,5 @@ linked_same t q m n f g h u v w ls mid ks ms mark start e left keeps first kept 
       headers = linked.headers;
       entries = linked.entries;
       stored = subst (AreStored (pool_of t).records) (sym stay) linked.stored;
+      placed = linked.placed;
     })

@@ -16,6 +16,7 @@ use Rattle.reflect_growth.specs.Settled.{bare_of}
 use Rattle.reflect_tables.specs.declared.stored.StoredMessage.{StoredMessage}
 use Rattle.reflect_pool.specs.Linked.{IsLinked}
 use Rattle.reflect_pool.specs.Stored.{AreStored}
+use Rattle.reflect_build.proofs.Stays.{settled_has}
 use Rattle.reflect_build.proofs.Stored.{stored_settled}
 
 abbrev with_records : PoolType → List FileDescriptorProto → PoolType
@@ -44,4 +45,5 @@ linked_settled p q names file_names places links ms ns settled same bare headers
       headers = headers;
       entries = λ s. h.entries s ∙ sym (names_told s [] nothing_before 0 q.records p.records same);
       stored = subst (AreStored q.records) (sym stay) (stored_settled p.records q.records ms bare h.stored);
+      placed = settled_has p q.records bare h.placed;
     })

@@ -31,6 +31,7 @@ use Rattle.reflect_index.proofs.Orders.{AreUpTo}
 use Rattle.reflect_index.proofs.Batched.{Stand, batch_stands, names_behind}
 use Rattle.reflect_tables.specs.ExtensionNumbers.{KeyType, numbers_of}
 use Rattle.reflect_pool.specs.Linked.{IsLinked, AreIndexed, AreNumbered, AreRecorded, key_of}
+use Rattle.reflect_pool.specs.AtPaths.{HaveRecords}
 use Rattle.reflect_pool.specs.Stored.{AreStored}
 use Rattle.reflect_build.specs.Accepted.{AddsRecords}
 use Rattle.reflect_build.specs.Refusals.{CountsOf}
@@ -113,9 +114,10 @@ pub linked_more : (old new : Tables) (were are : NameTable Definition) (had has 
     ≡ map link_view ls ++ map (links_to (indexes_of has)) fs
     → AddsRecords (pool_of old) fs (pool_of new)
     → AreStored (pool_of new).records new.messages.items
+    → HaveRecords (pool_of new)
     → IsLinked (pool_of new) are has marks ks new.messages.items
 linked_more old new were are had has marked marks ls ks at o first fs linked counts start indexes
-    single is none keeps pooled files goes numbered links adds stored =
+    single is none keeps pooled files goes numbered links adds stored placed =
     let olds : length (pool_of old).files ≡ length old.files.items = length-map old.files.items file_of in
     let count : length (pool_of new).files ≡ length (pool_of old).files + length fs = ap length files ∙ length-append (map file_of old.files.items) (map record_file fs) ∙ ap (λ n. length (pool_of old).files + n) (length-map fs record_file) in
     let from : first ≡ length (pool_of old).files = start ∙ sym olds in
@@ -149,4 +151,5 @@ linked_more old new were are had has marked marks ls ks at o first fs linked cou
           recorded_added (pool_of old) (pool_of new) fs o first adds same records linked.entries
           (all_go_on old new (batch_declarations o first fs) goes);
       stored = stored;
+      placed = placed;
     }

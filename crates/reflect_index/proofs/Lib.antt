@@ -10,3 +10,6 @@ pub mod Grown
 pub mod EntryRuns
 pub mod RewrittenMessages
 pub mod Writing
+pub mod Among
+pub mod Behind
+pub mod Declared

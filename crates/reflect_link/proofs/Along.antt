@@ -1,14 +1,28 @@
--- What is lent is the record at a path.
-use Rattle.std.proofs.Common.{◌≡◌, ℕ, ℤ, List, Option, None, Some, Bor, unwrap_or, slice_get, ap, subst}
+-- What is found at the path of an entry is its record.
+use Rattle.std.proofs.Common.{◌≡◌, ◌∙◌, ℕ, ℤ, List, Option, None, Some, IsSome, Bor, slice_get, ap, refl, sym}
 use Rattle.std.specs.Option.{option_copied}
 use Rattle.descriptor_records.specs.declared.file.FileDescriptorProto.{FileDescriptorProto}
 use Rattle.reflect_tables.specs.Types.{PoolType}
-use Rattle.reflect_link.specs.Lent.{IsWhereThere, IsAlong}
+use Rattle.reflect_pool.specs.AtPaths.{Stands, IsOwn}
 
-there : {X : Type 0} (o : Option (Bor X)) (d r : Bor X) (q : Option X) → option_copied o ≡ q → r ≡ unwrap_or o d → IsWhereThere q r.now
-there None d r q e u = subst (λ x. IsWhereThere x r.now) e tt
-there {X = X} (Some x) d r q e u = subst (λ y. IsWhereThere y r.now) e (ap (λ (b : Bor X). b.now) u)
+some : {X : Type 0} (o : Option (Bor X)) (x : X) → option_copied o ≡ Some x → IsSome o
+some None x e = absurd (cc e)
+some (Some b) x e = refl
 
-pub along : {X : Type 0} (al : FileDescriptorProto → List ℤ → Option X) (p : PoolType) (file : ℕ) (path seen : List ℤ) (f : FileDescriptorProto) (o : Option (Bor X)) (d r : Bor X)
-    → slice_get p.records file ≡ Some f → seen ≡ path → option_copied o ≡ al f seen → r ≡ unwrap_or o d → IsAlong al p file path r.now
-along al p file path seen f o d r stands same found is = (f, stands, subst (λ q. IsWhereThere (al f q) r.now) same (there o d r (al f seen) found is))
+module _ {X : Type 0} (along : FileDescriptorProto → List ℤ → Option X) (name_of : X → List ℕ)
+    (p : PoolType) (file : ℕ) (path : List ℤ) (name : List ℕ)
+    (s : Stands along name_of p file path name) (f : FileDescriptorProto)
+    (there : slice_get p.records file ≡ Some f) (seen : List ℤ) (same : seen ≡ path)
+    (o : Option (Bor X)) (found : option_copied o ≡ along f seen) where
+  is_own : option_copied o ≡ Some s.own
+  is_own =
+      let one : f ≡ s.of_file = cc (sym there ∙ s.there) in
+      found ∙ ap (along f) same ∙ ap (λ (g : FileDescriptorProto). along g path) one ∙ s.at
+
+  pub is_there : IsSome o
+  is_there = some o s.own is_own
+
+  pub lent : (r : Bor X) → o ≡ Some r → IsOwn along name_of p file path name r.now
+  lent r is =
+      let both : Some s.own ≡ Some r.now = sym is_own ∙ ap option_copied is in
+      (s, cc both)

@@ -2,7 +2,7 @@
 use Rattle.std.proofs.Common.{◌≡◌, ◌∙◌, ℤ, pos, List, [], ◌∷◌, None, Some, ap, sym, refl}
 use Rattle.descriptor_records.specs.declared.file.FileDescriptorProto.{FileDescriptorProto}
 use Rattle.descriptor_records.specs.declared.message.DescriptorProto.{DescriptorProto}
-use Rattle.reflect_link.specs.Records.{entry_of, nested_of, message_below, message_along}
+use Rattle.reflect_pool.specs.Records.{entry_of, nested_of, message_below, message_along}
 
 -- nothing is below what is not there
 below_none : (path : List ℤ) → message_below None path ≡ None

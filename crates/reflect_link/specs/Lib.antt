@@ -4,7 +4,6 @@ pub mod FindsDeclared
 pub mod Lent
 pub mod ListsLeft
 pub mod MethodsLeft
-pub mod Records
 pub mod Reserved
 pub mod Same
 pub mod TypesLeft

@@ -81,8 +81,8 @@ impl<'p> MessageReaders<'p> for MessageDescriptor<'p> {
     ghost place = { λ d. d.index };
 
     fn descriptor_proto(&self) -> &'p DescriptorProto {
-        let found = message_record(self.parent_file_descriptor_proto(), self.path());
-        found.unwrap_or(&self.parent_pool().blanks().message)
+        self.parent_pool().has_records();
+        message_record(self.parent_file_descriptor_proto(), self.path()).unwrap()
     }
 
     fn child_messages(&self) -> Messages<'p> {
@@ -127,7 +127,7 @@ impl<'p> MessageReaders<'p> for MessageDescriptor<'p> {
 
 /// Further readers of a field or an extension.
 pub trait FieldReaders<'p> {
-    /// It is the record of the field in its file's record, where that has one.
+    /// It is the record of the field in its file's record.
     ghost is_record: { Self → FieldDescriptorProto → Type 0 };
 
     /// The record of the field, with full names in place of references.
@@ -139,8 +139,8 @@ impl<'p> FieldReaders<'p> for FieldDescriptor<'p> {
     ghost is_record = { λ d f. IsFieldOf d.message.pool.now d.message.index d.index f };
 
     fn field_descriptor_proto(&self) -> &'p FieldDescriptorProto {
-        let found = field_record(self.parent_file_descriptor_proto(), self.path());
-        found.unwrap_or(&self.parent_pool().blanks().field)
+        self.parent_pool().has_records();
+        field_record(self.parent_file_descriptor_proto(), self.path()).unwrap()
     }
 }
 
@@ -148,14 +148,14 @@ impl<'p> FieldReaders<'p> for ExtensionDescriptor<'p> {
     ghost is_record = { λ d f. IsExtensionOf d.pool.now d.index f };
 
     fn field_descriptor_proto(&self) -> &'p FieldDescriptorProto {
-        let found = extension_record(self.parent_file_descriptor_proto(), self.path());
-        found.unwrap_or(&self.parent_pool().blanks().field)
+        self.parent_pool().has_records();
+        extension_record(self.parent_file_descriptor_proto(), self.path()).unwrap()
     }
 }
 
 /// Further readers of a oneof.
 pub trait OneofReaders<'p> {
-    /// It is the record of the oneof in its file's record, where that has one.
+    /// It is the record of the oneof in its file's record.
     ghost is_record: { Self → OneofDescriptorProto → Type 0 };
 
     /// The record of the oneof.
@@ -167,8 +167,8 @@ impl<'p> OneofReaders<'p> for OneofDescriptor<'p> {
     ghost is_record = { λ d o. IsOneofOf d.message.pool.now d.message.index d.index o };
 
     fn oneof_descriptor_proto(&self) -> &'p OneofDescriptorProto {
-        let found = oneof_record(self.parent_file_descriptor_proto(), self.path());
-        found.unwrap_or(&self.parent_pool().blanks().oneof)
+        self.parent_pool().has_records();
+        oneof_record(self.parent_file_descriptor_proto(), self.path()).unwrap()
     }
 }
 
@@ -176,7 +176,7 @@ impl<'p> OneofReaders<'p> for OneofDescriptor<'p> {
 pub trait EnumReaders<'p> {
     ghost use Rattle.reflect_link.specs.Reserved.{enum_bounds, enum_left, names_left};
 
-    /// It is the record of the type in its file's record, where that has one.
+    /// It is the record of the type in its file's record.
     ghost is_record: { Self → EnumDescriptorProto → Type 0 };
 
     /// The record of the type.
@@ -198,8 +198,8 @@ impl<'p> EnumReaders<'p> for EnumDescriptor<'p> {
     ghost is_record = { λ d e. IsEnumOf d.pool.now d.index e };
 
     fn enum_descriptor_proto(&self) -> &'p EnumDescriptorProto {
-        let found = enum_record(self.parent_file_descriptor_proto(), self.path());
-        found.unwrap_or(&self.parent_pool().blanks().enumeration)
+        self.parent_pool().has_records();
+        enum_record(self.parent_file_descriptor_proto(), self.path()).unwrap()
     }
 
     fn reserved_ranges(&self) -> EnumReservedRanges<'p> {
@@ -217,7 +217,7 @@ impl<'p> EnumReaders<'p> for EnumDescriptor<'p> {
 
 /// Further readers of an enum's value.
 pub trait EnumValueReaders<'p> {
-    /// It is the record of the value in its file's record, where that has one.
+    /// It is the record of the value in its file's record.
     ghost is_record: { Self → EnumValueDescriptorProto → Type 0 };
 
     /// The record of the value.
@@ -229,7 +229,7 @@ impl<'p> EnumValueReaders<'p> for EnumValueDescriptor<'p> {
     ghost is_record = { λ d v. IsValueOf d.enumeration.pool.now d.enumeration.index d.index v };
 
     fn enum_value_descriptor_proto(&self) -> &'p EnumValueDescriptorProto {
-        let found = value_record(self.parent_file_descriptor_proto(), self.path());
-        found.unwrap_or(&self.parent_pool().blanks().value)
+        self.parent_pool().has_records();
+        value_record(self.parent_file_descriptor_proto(), self.path()).unwrap()
     }
 }

@@ -2,7 +2,7 @@
 
 ghost use Rattle.std.specs.Prelude.{◌≡◌, ◌<◌, ◌∷◌, [], length, MatchOption};
 ghost use Rattle.std.specs.Option.{option_copied};
-ghost use Rattle.reflect_link.specs.Records.{entry_of, message_below, message_along, field_along, oneof_along, enum_along, value_along, extension_along, service_along, method_along, before_last, last_step};
+ghost use Rattle.reflect_pool.specs.Records.{entry_of, message_below, message_along, field_along, oneof_along, enum_along, value_along, extension_along, service_along, method_along, before_last, last_step};
 
 use descriptor_records::{
     DescriptorProto, EnumDescriptorProto, EnumValueDescriptorProto, FieldDescriptorProto,

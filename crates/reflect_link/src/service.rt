@@ -106,8 +106,8 @@ impl<'p> ServiceDescriptor<'p> {
     pub fn service_descriptor_proto(&self) -> &'p ServiceDescriptorProto
         ensures { IsServiceOf self.now.pool.now self.now.index result.now }
     {
-        let found = service_record(self.parent_file_descriptor_proto(), self.path());
-        found.unwrap_or(&self.pool.blanks().service)
+        self.pool.has_records();
+        service_record(self.parent_file_descriptor_proto(), self.path()).unwrap()
     }
 
     /// The methods, as they were declared.
@@ -304,8 +304,8 @@ impl<'p> MethodDescriptor<'p> {
         ensures { IsMethodOf self.now.service.pool.now self.now.service.index
             self.now.index result.now }
     {
-        let found = method_record(self.parent_file_descriptor_proto(), self.path());
-        found.unwrap_or(&self.service.pool.blanks().method)
+        self.service.pool.has_records();
+        method_record(self.parent_file_descriptor_proto(), self.path()).unwrap()
     }
 
     /// The message type that the method takes.

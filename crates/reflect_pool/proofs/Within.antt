@@ -44,6 +44,13 @@ pub type_there : (t : Tables) (pool : PoolType) (i : ℕ) (m : StoredMessage) �
 type_there t pool i m e lt is =
     subst (λ (p : PoolType). i < length p.messages → get_or p.messages i no_type ≡ message_of m) e (λ below. view_there message_of t.messages.items i m no_type below is) lt
 
+-- and the enum
+pub enum_there : (t : Tables) (pool : PoolType) (i : ℕ) (m : StoredEnum) → pool_of t ≡ pool
+    → i < length pool.enums → m ≡ get_or t.enums.items i m → get_or pool.enums i no_enum ≡ enum_of m
+enum_there t pool i m e lt is =
+    subst (λ (p : PoolType). i < length p.enums → get_or p.enums i no_enum ≡ enum_of m) e
+    (λ below. view_there enum_of t.enums.items i m no_enum below is) lt
+
 -- so is the oneof at a place of it
 pub oneof_there : (t : Tables) (pool : PoolType) (i k : ℕ) (m : StoredMessage) (o : StoredOneof) → pool_of t ≡ pool → i < length pool.messages → m ≡ get_or t.messages.items i m
     → k < length (get_or pool.messages i no_type).oneofs → o ≡ get_or m.oneofs.items k o → get_or (get_or pool.messages i no_type).oneofs k no_oneof ≡ oneof_of o

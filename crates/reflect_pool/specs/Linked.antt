@@ -15,6 +15,7 @@ use Rattle.reflect_walk.specs.Batches.{batch_declarations}
 use Rattle.reflect_known.specs.DeclaredNames.{with_names}
 use Rattle.reflect_known.specs.KnownNames.{nothing_before, known_of_files}
 use Rattle.reflect_tables.specs.declared.stored.StoredMessage.{StoredMessage}
+use Rattle.reflect_pool.specs.AtPaths.{HaveRecords}
 use Rattle.reflect_pool.specs.Imports.{ImportsAreThere, imported_places, names_of_files}
 use Rattle.reflect_pool.specs.Stored.{AreStored}
 
@@ -53,7 +54,7 @@ AreRecorded p =
 -- place, all names are of the pool's files, each file's name stands for the file, and each
 -- extension's message and number for the extension; what files import is there, and the links are
 -- to it; the files are those of the records, and what is known, the names of the entries, and what
--- is stored of the messages, is what the records give
+-- is stored of the messages, is what the records give; each entry has its record
 pub record IsLinked (p : PoolType) (names : NameTable Definition)
     (file_names : BTreeMap (String Global) ℕ) (places : BTreeMap KeyType ℕ)
     (links : List Links) (messages : List StoredMessage) : Type 0 where
@@ -68,3 +69,4 @@ pub record IsLinked (p : PoolType) (names : NameTable Definition)
   pub headers : p.files ≡ map record_file p.records
   pub entries : AreRecorded p
   pub stored : AreStored p.records messages
+  pub placed : HaveRecords p

@@ -7,11 +7,11 @@ ghost use Rattle.reflect_tables.specs.Finding.{IsFirst};
 ghost use Rattle.reflect_tables.specs.Names.{AreNamed, names_of};
 ghost use Rattle.reflect_scope.specs.FileIndexes.{link_view};
 ghost use Rattle.reflect_scope.specs.Known.{known_of};
+ghost use Rattle.reflect_pool.specs.AtPaths.{HaveRecords};
 ghost use Rattle.reflect_pool.specs.Dots.{without_dot};
 ghost use Rattle.reflect_pool.specs.Imports.{import_name, imported, imported_places, imported_publicly, name_at, place_named};
 ghost use Rattle.reflect_pool.specs.Parts.{type_of_method};
 
-use crate::blank::Blanks;
 use crate::enums::EnumDescriptor;
 use crate::extension::ExtensionDescriptor;
 use crate::message::MessageDescriptor;
@@ -131,9 +131,12 @@ impl DescriptorPool {
         }
     }
 
-    /// Records without content.
-    pub fn blanks(&self) -> &Blanks {
-        &self.blanks
+    /// Each entry has a record of its name at its path in the record of its file. Does nothing: the
+    /// readers that lend these records rest on it.
+    pub fn has_records(&self)
+        ensures { HaveRecords self.now }
+    {
+        let _tables = &self.tables;
     }
 
     /// The message type that a method takes.

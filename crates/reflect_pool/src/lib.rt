@@ -2,7 +2,6 @@
 #![tactic(auto)]
 
 mod access;
-mod blank;
 mod enums;
 mod extension;
 mod field;
@@ -13,7 +12,6 @@ mod parts;
 mod pool;
 mod reading;
 
-pub use blank::Blanks;
 pub use enums::{EnumDescriptor, EnumValueDescriptor, EnumValues};
 pub use extension::{ExtensionDescriptor, MessageExtensions};
 pub use field::FieldDescriptor;

@@ -4,7 +4,6 @@ ghost use Rattle.std.specs.Prelude.{◌≡◌};
 ghost use Rattle.reflect_tables.specs.Views.{pool_of};
 ghost use Rattle.reflect_pool.specs.Linked.{IsLinked};
 
-use crate::blank::Blanks;
 use crate::pool::DescriptorPool;
 use name_table::NameTable;
 use reflect_scope::{Definition, Links};
@@ -39,14 +38,12 @@ impl DescriptorPool {
             names,
             extension_numbers,
         } = parts;
-        let alloc = *tables.files.allocator();
         DescriptorPool {
             tables,
             links,
             file_names,
             names,
             extension_numbers,
-            blanks: Blanks::new(alloc),
         }
     }
 
@@ -62,7 +59,6 @@ impl DescriptorPool {
             file_names,
             names,
             extension_numbers,
-            blanks: _,
         } = self;
         PoolParts {
             tables,

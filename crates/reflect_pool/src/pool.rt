@@ -7,7 +7,6 @@ ghost use Rattle.reflect_scope.specs.Known.{known_of};
 ghost use Rattle.reflect_pool.specs.Dots.{without_dot};
 ghost use Rattle.reflect_pool.specs.Linked.{empty_pool};
 
-use crate::blank::Blanks;
 use crate::enums::EnumDescriptor;
 use crate::extension::ExtensionDescriptor;
 use crate::message::MessageDescriptor;
@@ -32,7 +31,6 @@ pub struct DescriptorPool {
     pub(crate) names: NameTable<Definition>,
     /// The places of the extensions, by the message that they extend and their number.
     pub(crate) extension_numbers: BTreeMap<(u32, u32), u32>,
-    pub(crate) blanks: Blanks,
 }
 
 impl Model for DescriptorPool {
@@ -89,7 +87,6 @@ impl DescriptorPool {
             file_names: BTreeMap::new(alloc),
             names: NameTable::new(alloc),
             extension_numbers: BTreeMap::new(alloc),
-            blanks: Blanks::new(alloc),
         }
     }
 

@@ -7,9 +7,9 @@ use Rattle.reflect_tables.specs.Types.{PoolType, FieldType, no_field, type_at}
 use Rattle.message_view.proofs.Fields.{held_is}
 use Rattle.message_view.specs.Sound.{IsSound}
 use Rattle.print_view.specs.Forms.{HaveMessagePresence}
-use Rattle.linked_messages.proofs.Among.{of_find, place_of, index_is}
+use Rattle.reflect_index.proofs.Among.{of_find, place_of, index_is}
 use Rattle.linked_names.proofs.Accepted.{accepted_present}
-use Rattle.linked_names.proofs.Lists.{get_in}
+use Rattle.reflect_index.proofs.Behind.{get_in}
 use Rattle.linked_names.proofs.Stays.{settled_present}
 use Rattle.linked_names.specs.Presence.{HasMessagePresence, HasPresentMessages}
 use Rattle.schema_core.specs.Refusals.{FilesLinked}

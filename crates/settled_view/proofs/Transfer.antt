@@ -12,7 +12,7 @@ use Rattle.reflect_tables.specs.Views.{record_file}
 use Rattle.linked_messages.specs.Kept.{IsKept}
 use Rattle.linked_view.specs.Alone.{IsRecorded}
 use Rattle.linked_view.specs.Extended.{IsIndexed}
-use Rattle.linked_records.proofs.Stays.{names_bare}
+use Rattle.reflect_build.proofs.Stays.{names_bare}
 use Rattle.settled_view.specs.BuiltBut.{Settles}
 
 -- what is told by the bare content of a record is told of all records of a list

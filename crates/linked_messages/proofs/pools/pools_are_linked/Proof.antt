@@ -32,7 +32,7 @@ use Rattle.reflect_scope.specs.Known.{known_of}
 use Rattle.reflect_tables.specs.Views.{enum_of, value_of, pool_of}
 use Rattle.message_view.proofs.Sound.{distinct}
 use Rattle.reflect_pool.specs.Linked.{AreNumbered, key_of}
-use Rattle.linked_messages.proofs.Among.{get_at, get_map}
+use Rattle.reflect_index.proofs.Among.{get_at, get_map}
 use Rattle.reflect_pool.specs.contracts.pool.DescriptorPool as pool
 use Rattle.reflect_pool.specs.contracts.pool.DescriptorPool.TheInside as inside
 use Rattle.message_view.specs.Sound.{HasNumbers}

@@ -1,6 +1,6 @@
 use Rattle.std.proofs.Common.{◌≡◌, ◌∙◌, ◌∷◌, pos, None, rules}
 use Rattle.std.specs.Option.{option_copied}
-use Rattle.reflect_link.specs.Records.{entry_of}
+use Rattle.reflect_pool.specs.Records.{entry_of}
 use Rattle.reflect_link.proofs.Steps.{nowhere}
 use Rattle.reflect_link.proofs.records.message_record.Goals as goal
 

@@ -1,11 +1,26 @@
+use Rattle.std.proofs.Common.{subst}
 use Rattle.reflect_tables.specs.Types.{type_at, type_of_field}
-use Rattle.reflect_link.specs.Records.{field_along}
-use Rattle.reflect_link.proofs.Along.{along}
+use Rattle.reflect_pool.specs.AtPaths.{HaveRecords, field_name}
+use Rattle.reflect_pool.specs.Records.{field_along}
+use Rattle.reflect_link.proofs.Along.{is_there, lent}
 use Rattle.reflect_link.proofs.readers.FieldDescriptorFieldReaders.field_descriptor_proto.Goals as goal
+
+pub unwrap-requires : goal.unwrap-requires
+unwrap-requires c =
+    let self = c.args.self.now in
+    let has = subst HaveRecords c.parent_pool.ensures c.has_records.ensures in
+    is_there field_along field_name self.message.pool.now (type_at self.message.pool.now self.message.index).file
+    (type_of_field self.message.pool.now self.message.index self.index).path
+    (type_of_field self.message.pool.now self.message.index self.index).name (has.fields self.message.index self.index self.message.in_range self.in_range)
+    c.parent_file_descriptor_proto.result.now c.parent_file_descriptor_proto.ensures.stands
+    c.path.result.now c.path.ensures c.field_record.result c.field_record.ensures
 
 pub returns : goal.returns
 returns c =
     let self = c.args.self.now in
-    along field_along self.message.pool.now (type_at self.message.pool.now self.message.index).file (type_of_field self.message.pool.now self.message.index self.index).path
-    c.path.result.now c.parent_file_descriptor_proto.result.now c.field_record-found.result _ c.unwrap_or.result
-    c.parent_file_descriptor_proto.ensures.stands c.path.ensures c.field_record-found.ensures c.unwrap_or.ensures
+    let has = subst HaveRecords c.parent_pool.ensures c.has_records.ensures in
+    lent field_along field_name self.message.pool.now (type_at self.message.pool.now self.message.index).file
+    (type_of_field self.message.pool.now self.message.index self.index).path
+    (type_of_field self.message.pool.now self.message.index self.index).name (has.fields self.message.index self.index self.message.in_range self.in_range)
+    c.parent_file_descriptor_proto.result.now c.parent_file_descriptor_proto.ensures.stands
+    c.path.result.now c.path.ensures c.field_record.result c.field_record.ensures c.unwrap.result c.unwrap.ensures

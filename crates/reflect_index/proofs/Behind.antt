@@ -3,7 +3,7 @@ use Rattle.std.proofs.Common.{◌≡◌, ◌⊎◌, inl, inr, ◌<◌, ◌≤◌
 use Rattle.std.proofs.lemmas.Bool.{cases_lt}
 use Rattle.std.proofs.Math.ListN.{get_or-append}
 use Rattle.std.proofs.Math.Seq.{get_or-append_right, get_or-append-add}
-use Rattle.linked_messages.proofs.Among.{get_map, index_is}
+use Rattle.reflect_index.proofs.Among.{get_map, index_is}
 
 pub index_none : {X : Type 0} (xs : List X) (i : ℕ) (d : X) → length xs ≤ i
     → slice_index_or xs i d ≡ d
@@ -78,3 +78,10 @@ later_is {X} {Y} g xs zs ys k x d whole at =
     ap (λ (l : List Y). slice_index_or l (length xs + k) d) whole
     ∙ get_or-append-add xs (map g ys) k d
     ∙ index_is (map g ys) k (g x) d (get_map g ys k x at)
+
+pub get_behind : {X : Type 0} (xs ys : List X) (k : ℕ) (x : X) → slice_get ys k ≡ Some x
+    → slice_get (xs ++ ys) (length xs + k) ≡ Some x
+get_behind [] ys k x e = let place : 0 + k ≡ k = omega arith in ap (slice_get ys) place ∙ e
+get_behind (y ∷ xs) ys k x e =
+    let place : length (y ∷ xs) + k ≡ suc (length xs + k) = omega arith in
+    ap (slice_get ((y ∷ xs) ++ ys)) place ∙ get_behind xs ys k x e

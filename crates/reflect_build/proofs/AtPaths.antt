@@ -1,4 +1,4 @@
--- Where no pass finds a fault in files, each new entry has its record in the pool.
+-- Where no pass finds a fault in files, each entry of the pool that they are added to has its record.
 use Rattle.std.proofs.Common.{◌≡◌, inl, inr, ◌<◌, ◌+◌, ◌++◌, ℕ, ℤ, Bool, true, List, map, length, Option, Some, refl, sym, ap, ◌∙◌, subst, arith, slice_get, slice_index_or}
 use Rattle.std.proofs.lemmas.List.{length-map}
 use Rattle.std.specs.List.{AllZip}
@@ -26,21 +26,18 @@ use Rattle.reflect_tables.specs.declared.stored.StoredMessage.{StoredMessage}
 use Rattle.reflect_tables.specs.declared.stored.StoredService.{StoredService}
 use Rattle.reflect_tables.proofs.Founds.{front}
 use Rattle.reflect_pool.specs.Parts.{no_value, no_method}
-use Rattle.reflect_link.specs.Records.{message_along, field_along, oneof_along, enum_along, value_along, extension_along, service_along, method_along}
-use Rattle.reflect_build.specs.Accepted.{FaultlessBatch, FaultlessFiles}
-use Rattle.reflect_build.specs.Refusals.{Linking, with_declared, IsOf, new_files}
-use Rattle.linked_messages.proofs.Among.{Among, of_filter, of_place, in_map, get_at, get_map, got_map, zip_place}
-use Rattle.linked_messages.proofs.Declared.{both_true, parent_is, list_of, field_declared, extension_declared}
-use Rattle.linked_messages.proofs.Faultless.{of_along}
-use Rattle.linked_names.proofs.Lists.{which}
-use Rattle.linked_view.specs.Alone.{IsRecorded}
-use Rattle.linked_view.proofs.Behind.{get_behind}
-use Rattle.linked_records.specs.AtPaths.{Stands, HaveRecords, message_name, field_name, enum_name, value_name, service_name, method_name}
-use Rattle.linked_records.specs.AtPaths as names
-use Rattle.linked_records.proofs.Alike.{Moves, AllMove, all_move}
-use Rattle.linked_records.proofs.Paths.{Leads, IsPartOf, HasWhole, IsDeclared, each_declared}
-use Rattle.linked_records.proofs.Stays.{KeepFiles, stays}
-use Rattle.linked_records.proofs.Wholes.{AreCounted, batch_counted, messages_counted, enums_counted, services_counted, headed, same_file}
+use Rattle.reflect_pool.specs.Records.{message_along, field_along, oneof_along, enum_along, value_along, extension_along, service_along, method_along}
+use Rattle.reflect_build.specs.Accepted.{FaultlessBatch}
+use Rattle.reflect_build.specs.Refusals.{Linking, with_declared, IsOf}
+use Rattle.reflect_index.proofs.Among.{Among, of_filter, of_place, in_map, get_at, get_map, got_map, zip_place}
+use Rattle.reflect_index.proofs.Behind.{get_behind, which}
+use Rattle.reflect_index.proofs.Declared.{both_true, parent_is, list_of, field_declared, extension_declared, of_along}
+use Rattle.reflect_pool.specs.AtPaths.{Stands, HaveRecords, message_name, field_name, enum_name, value_name, service_name, method_name}
+use Rattle.reflect_pool.specs.AtPaths as names
+use Rattle.reflect_build.proofs.Alike.{Moves, AllMove, all_move}
+use Rattle.reflect_build.proofs.Paths.{Leads, IsPartOf, HasWhole, IsDeclared, each_declared}
+use Rattle.reflect_build.proofs.Stays.{KeepFiles, stays}
+use Rattle.reflect_build.proofs.Wholes.{AreCounted, batch_counted, messages_counted, enums_counted, services_counted, headed, same_file}
 
 -- ---- what a declaration leads to, by its sort
 
@@ -89,7 +86,8 @@ method_body m (of_method r) x h = (r, refl, h)
 method_body m b x h = absurd h
 
 module _ (old new : PoolType) (ns : List FileDescriptorProto) (w : Linking) (is : IsOf old w)
-    (recorded : IsRecorded old) (batch : FaultlessBatch (with_declared w ns) ns new) where
+    (headers : old.files ≡ map record_file old.records)
+    (batch : FaultlessBatch (with_declared w ns) ns new) where
   abbrev all : List Declaration
   all = batch_declarations w.before w.first ns
 
@@ -118,7 +116,7 @@ module _ (old new : PoolType) (ns : List FileDescriptorProto) (w : Linking) (is 
       ∙ ap (λ (p : PoolType). p.records ++ more) is.tables
 
   first_is : w.first ≡ length old.records
-  first_is = is.first ∙ ap (λ (l : List _). length l) recorded.headers
+  first_is = is.first ∙ ap (λ (l : List _). length l) headers
       ∙ length-map old.records record_file
 
   old_files : KeepFiles old new
@@ -458,8 +456,3 @@ module _ (old new : PoolType) (ns : List FileDescriptorProto) (w : Linking) (is 
           (λ k s at. new_service k s at);
       methods = λ i j lt less. methods_has i lt j less;
     }
-
-pub accepted_has : (old new : PoolType) (files : List FileDescriptorProto) → IsRecorded old
-    → FaultlessFiles old files new → HaveRecords old → HaveRecords new
-accepted_has old new files recorded (w, is, (names, batch)) has =
-    added_has old new (new_files w.indexes files) w is recorded batch has

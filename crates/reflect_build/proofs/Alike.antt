@@ -13,8 +13,8 @@ use Rattle.reflect_known.specs.GivenNames.{Given, MessageNames, message_names, N
 use Rattle.reflect_known.specs.GivenNames as given
 use Rattle.reflect_known.proofs.MessageNames.{each_named, level_names, names-out}
 use Rattle.reflect_known.proofs.MessageNames as level
-use Rattle.reflect_link.specs.Records.{item_at, entry_of, entry_at, nested_of, message_below, message_along, before_last, last_step, entry_along, field_along, oneof_along, held_along, enum_along, value_along, extension_along, service_along, method_along}
-use Rattle.linked_records.specs.AtPaths.{message_name, field_name, oneof_name, enum_name, value_name, service_name, method_name}
+use Rattle.reflect_pool.specs.Records.{item_at, entry_of, entry_at, nested_of, message_below, message_along, before_last, last_step, entry_along, field_along, oneof_along, held_along, enum_along, value_along, extension_along, service_along, method_along}
+use Rattle.reflect_pool.specs.AtPaths.{message_name, field_name, oneof_name, enum_name, value_name, service_name, method_name}
 
 -- ---- what is seen of a list's entries
 

@@ -15,8 +15,8 @@ use Rattle.reflect_walk.specs.Declarations.{Declaration, Body, of_file, of_messa
 use Rattle.reflect_walk.specs.Tree.{text_of, MessageParts, Message, message, Messages, no_messages, more_messages, messages_of, message_step, parts_of, tree_of}
 use Rattle.reflect_walk.specs.declared.visit_parts.Offsets.{Offsets}
 use Rattle.reflect_index.specs.Along.{is_message, is_enum, is_service}
-use Rattle.reflect_link.specs.Records.{entry_of, entry_at, nested_of, message_below, message_along, before_last, last_step, entry_along, field_along, oneof_along, held_along, enum_along, value_along, extension_along, service_along, method_along}
-use Rattle.linked_messages.proofs.Among.{Among, in_first, in_second}
+use Rattle.reflect_pool.specs.Records.{entry_of, entry_at, nested_of, message_below, message_along, before_last, last_step, entry_along, field_along, oneof_along, held_along, enum_along, value_along, extension_along, service_along, method_along}
+use Rattle.reflect_index.proofs.Among.{Among, in_first, in_second}
 
 -- ---- lists
 

@@ -1,18 +1,17 @@
 -- Entries keep their records where each record of a pool stays, or one that gives the same names
 -- stands in its place.
-use Rattle.std.proofs.Common.{◌≡◌, ℕ, ℤ, List, map, Option, Some, refl, sym, ap, ◌∙◌, subst, arith, slice_get}
+use Rattle.std.proofs.Common.{◌≡◌, ℕ, ℤ, List, map, Option, Some, refl, sym, ap, ◌∙◌, slice_get}
 use Rattle.descriptor_records.specs.Content.{FieldContent, OneofContent, EnumValueContent, EnumContent, MethodContent, ServiceContent, MessageContent, message, MessageContents, no_messages, more_messages, FileContent, file_view}
 use Rattle.descriptor_records.specs.declared.file.FileDescriptorProto.{FileDescriptorProto}
 use Rattle.reflect_known.specs.GivenNames.{EnumNames, ServiceNames, message_names, more_names, names_of_file}
 use Rattle.reflect_known.proofs.MessageNames.{nested_of}
 use Rattle.reflect_growth.specs.Settled.{bare_field, bare_oneof, bare_value, bare_enum, bare_method, bare_service, bare_message, bare_messages, bare_file, bare_of}
 use Rattle.reflect_growth.proofs.Told.{enum_told, service_told, message_told, messages_told, file_told, file_seen}
-use Rattle.reflect_pool.specs.Linked.{empty_pool}
-use Rattle.reflect_tables.specs.Types.{PoolType, IsSettled}
-use Rattle.linked_messages.proofs.Among.{get_map, got_map}
-use Rattle.linked_names.proofs.Lists.{mapped}
-use Rattle.linked_records.specs.AtPaths.{Stands, HaveRecords}
-use Rattle.linked_records.proofs.Alike.{Moves, AllMove, all_move}
+use Rattle.reflect_tables.specs.Types.{PoolType}
+use Rattle.reflect_index.proofs.Among.{get_map, got_map}
+use Rattle.reflect_index.proofs.Behind.{mapped}
+use Rattle.reflect_pool.specs.AtPaths.{Stands, HaveRecords}
+use Rattle.reflect_build.proofs.Alike.{Moves, AllMove, all_move}
 
 -- for each record of the first pool there is one in the second that gives the same names
 pub record IsKeptFile (new : PoolType) (n : ℕ) (f : FileDescriptorProto) : Type 0 where
@@ -40,20 +39,6 @@ module _ (old new : PoolType) (kept : KeepFiles old new) where
         at = found.1;
         named = found.2 ∙ s.named;
       }
-
--- ---- a pool without files
-
-pub empty_has : HaveRecords empty_pool
-empty_has = record {
-  messages = λ i lt. absurd (omega (arith, lt));
-  fields = λ i j lt less. absurd (omega (arith, lt));
-  oneofs = λ i j lt less. absurd (omega (arith, lt));
-  enums = λ i lt. absurd (omega (arith, lt));
-  values = λ i j lt less. absurd (omega (arith, lt));
-  extensions = λ i lt. absurd (omega (arith, lt));
-  services = λ i lt. absurd (omega (arith, lt));
-  methods = λ i j lt less. absurd (omega (arith, lt));
-}
 
 -- ---- settled options, of which the names that a file gives say nothing
 
@@ -112,10 +97,10 @@ settled_files old new same n f at =
       moves = all_move f found.0 (names_bare f found.0 found.2);
     }
 
-with_records : (old : PoolType) (records : List FileDescriptorProto)
+pub settled_has : (old : PoolType) (records : List FileDescriptorProto)
     → map bare_of records ≡ map bare_of old.records → HaveRecords old
     → HaveRecords (record old { records = records })
-with_records old records same has =
+settled_has old records same has =
     let new : PoolType = record old { records = records } in
     let kept = settled_files old new same in
     record {
@@ -128,8 +113,3 @@ with_records old records same has =
       services = λ i lt. stays old new kept _ _ (λ f g m. m.services) _ _ _ (has.services i lt);
       methods = λ i j lt less. stays old new kept _ _ (λ f g m. m.methods) _ _ _ (has.methods i j lt less);
     }
-
-pub settled_has : (old new : PoolType) → IsSettled old new
-    → map bare_of new.records ≡ map bare_of old.records → HaveRecords old → HaveRecords new
-settled_has old new settled same has =
-    subst HaveRecords (sym settled) (with_records old new.records same has)

@@ -8,8 +8,8 @@ use Rattle.reflect_walk.specs.declared.visit_parts.Offsets.{Offsets}
 use Rattle.reflect_index.specs.Along.{AtHand, Met, along, met, hand_behind, all_of, is_message, is_enum, is_service}
 use Rattle.reflect_index.specs.Entries.{Head, IsHeadOf, written_name}
 use Rattle.reflect_index.proofs.Counted.{past_one, IsNext, AreNext, file_next}
-use Rattle.linked_messages.proofs.Among.{Among, of_filter, of_place, zip_place}
-use Rattle.linked_messages.proofs.Faultless.{of_along}
+use Rattle.reflect_index.proofs.Among.{Among, of_filter, of_place, zip_place}
+use Rattle.reflect_index.proofs.Declared.{of_along}
 
 -- the index of each declaration goes on from what is declared before it, whatever its file
 abbrev pub AreCounted : Offsets → List Declaration → Offsets → Type 0

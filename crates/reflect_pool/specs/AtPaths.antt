@@ -11,7 +11,7 @@ use Rattle.descriptor_records.specs.declared.service.ServiceDescriptorProto.{Ser
 use Rattle.reflect_walk.specs.Tree.{text_of, parts_of}
 use Rattle.reflect_tables.specs.Types.{PoolType, type_at, type_of_field, enum_at, extension_at, service_at}
 use Rattle.reflect_pool.specs.Parts.{type_of_oneof, type_of_value, type_of_method}
-use Rattle.reflect_link.specs.Records.{message_along, field_along, oneof_along, enum_along, value_along, extension_along, service_along, method_along}
+use Rattle.reflect_pool.specs.Records.{message_along, field_along, oneof_along, enum_along, value_along, extension_along, service_along, method_along}
 
 -- the record at a path of the record of a pool's file, which is called so
 pub record Stands {X : Type 0} (along : FileDescriptorProto → List ℤ → Option X)

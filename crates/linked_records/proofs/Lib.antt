@@ -1,6 +1,0 @@
-pub mod Paths
-pub mod Alike
-pub mod Wholes
-pub mod Stays
-pub mod Accepted
-pub mod Lending
