@@ -1,24 +1,18 @@
 -- Where the declarations of a batch's messages and of their fields stand.
-use Rattle.std.proofs.Common.{◌≡◌, ◌+◌, ◌&&◌, ℕ, zero, suc, Bool, true, false, List, [], ◌∷◌, map, Option, None, Some, refl, sym, ap, subst, arith, slice_get}
+use Rattle.std.proofs.Common.{◌≡◌, ◌+◌, ℕ, zero, suc, List, [], ◌∷◌, Some, subst, arith, slice_get}
 use Rattle.descriptor_records.specs.declared.field.FieldDescriptorProto.{FieldDescriptorProto}
 use Rattle.descriptor_records.specs.declared.file.FileDescriptorProto.{FileDescriptorProto}
 use Rattle.reflect_walk.specs.Batches.{batch_declarations}
-use Rattle.reflect_walk.specs.Declarations.{Declaration, Body, of_message, of_field, of_extension}
+use Rattle.reflect_walk.specs.Declarations.{Declaration, of_message}
 use Rattle.reflect_walk.specs.Tree.{MessageParts}
 use Rattle.reflect_walk.specs.declared.visit_parts.Offsets.{Offsets}
 use Rattle.reflect_names.specs.declared.resolve_visitor.Reference.{Reference}
-use Rattle.reflect_references.specs.Meanings.{meaning}
-use Rattle.reflect_fields.specs.Fields.{IsField}
-use Rattle.reflect_tables.specs.Types.{FieldType, KindType, ExtensionType}
-use Rattle.reflect_tables.specs.Views.{field_of, message_of, extension_of}
-use Rattle.reflect_tables.specs.declared.stored.StoredMessage.{StoredMessage}
-use Rattle.reflect_index.specs.Along.{Met, along, before_files, is_extension, is_field, is_parent, is_part, parts}
+use Rattle.reflect_tables.specs.Types.{FieldType}
+use Rattle.reflect_index.specs.Along.{before_files}
 use Rattle.reflect_index.specs.BatchEntries.{IsBatchOf}
-use Rattle.reflect_index.specs.Entries.{HasKind, DeclaredField, IsFieldBy, IsFieldOf, IsExtensionBy, IsExtensionOf}
-use Rattle.reflect_index.specs.Grown.{declared_field, stored_fields, list_at}
 use Rattle.reflect_index.specs.OfDeclarations.{RangesType, AreDeclared, AllDeclared, messages_in}
 use Rattle.reflect_index.specs.declared.batch.Batch.{Batch}
-use Rattle.reflect_index.proofs.Among.{Among, of_filter, of_zip, of_place, place_of, zip_place, get_map, got_map}
+use Rattle.reflect_index.proofs.Among.{Among}
 use Rattle.linked_messages.proofs.Following.{DeclaresAt, declared_in, all_stand, batch_follow, StandsAt}
 use Rattle.reflect_index.proofs.Declared.{FieldDeclared}
 

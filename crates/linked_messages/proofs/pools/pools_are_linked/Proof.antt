@@ -82,7 +82,7 @@ pool_known = view_known inside.the_row (declared_known inside.the_type (
       ),
     ),
   ),
-  (nothing_known _, (nothing_known _, (nothing_known _, (nothing_known _, (nothing_known _, tt))))),
+  (nothing_known _, (nothing_known _, (nothing_known _, (nothing_known _, tt)))),
 ))
     _ _ _ _
 

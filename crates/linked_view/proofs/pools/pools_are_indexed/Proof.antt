@@ -29,7 +29,7 @@ use Rattle.linked_view.proofs.pools.pools_are_indexed.Code as code
 
 abbrev pool_known : Known pool.the_row
 pool_known = view_known inside.the_row (declared_known inside.the_type
-    (nothing_known _, (nothing_known _, (nothing_known _, (nothing_known _, (nothing_known _, (nothing_known _, tt)))))))
+    (nothing_known _, (nothing_known _, (nothing_known _, (nothing_known _, (nothing_known _, tt))))))
     _ _ _ _
 
 one_place : (numbers : Numbers) (keys : List KeyType) → AreNumbered numbers keys → (k : KeyType)

@@ -24,7 +24,7 @@ use Rattle.linked_view.proofs.pools.pools_are_recorded.Code as code
 
 abbrev pool_known : Known pool.the_row
 pool_known = view_known inside.the_row (declared_known inside.the_type
-    (nothing_known _, (nothing_known _, (nothing_known _, (nothing_known _, (nothing_known _, (nothing_known _, tt)))))))
+    (nothing_known _, (nothing_known _, (nothing_known _, (nothing_known _, (nothing_known _, tt))))))
     _ _ _ _
 
 kept : (p : PoolType) → pool_known.Fact p → IsRecorded p
