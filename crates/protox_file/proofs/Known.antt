@@ -8,7 +8,7 @@ use Rattle.protox_tokens.specs.declared.fault.Stop.{Stop}
 use Rattle.protox_tokens.specs.declared.fault.Stop.TheVariants.{Memory, Refused}
 use Rattle.protox_tree.specs.Tree.{Word, joined, words_span}
 use Rattle.protox_tree.specs.declared.types.Syntax.{Syntax}
-use Rattle.std.proofs.Common.{◌≡◌, ◌∙◌, List, Some, Ok, Err, ap, sym}
+use Rattle.std.proofs.Common.{◌≡◌, ◌∙◌, List, Ok, Err, ap, sym}
 
 -- the rule that has the language of this literal
 abbrev pub named : List Word → Parser Syntax
