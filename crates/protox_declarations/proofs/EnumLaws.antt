@@ -16,7 +16,7 @@ unfolding an_enum_value
 Local-value = Local-bind Local-word (λ w. Local-bind (Local-expect _) (λ e. Local-bind Local-int (λ n.
     Local-bind Local-options (λ o. Local-bind (Local-expect _) (λ q. Local-pure _)))))
 
-Moves-value : Moves an_enum_value
+pub Moves-value : Moves an_enum_value
 unfolding an_enum_value
 Moves-value = Moves-first Moves-word (λ w. Keeps-local (Local-bind (Local-expect _) (λ e.
     Local-bind Local-int (λ n. Local-bind Local-options (λ o. Local-bind (Local-expect _) (λ q. Local-pure _))))))
@@ -32,7 +32,7 @@ Local-item : Local enum_item
 unfolding enum_item
 Local-item = Local-bind (Local-eat _) Local-item_unless
 
-Moves-item : Moves enum_item
+pub Moves-item : Moves enum_item
 unfolding enum_item
 Moves-item = Moves-eat _ enum_item_unless (λ p. Keeps-local (Local-pure _))
     (Moves-choose _ (Moves-map _ Moves-option)

@@ -17,6 +17,11 @@ unfolding method_type
 Local-method_type = Local-bind (Local-expect _) (λ p. Local-bind (Local-eat _) (λ o.
     Local-bind Local-type_name (λ t. Local-bind (Local-expect _) (λ q. Local-pure _))))
 
+pub Moves-method_type : Moves method_type
+unfolding method_type
+Moves-method_type = Moves-first (Moves-expect _) (λ p. Keeps-local (Local-bind (Local-eat _) (λ o.
+    Local-bind Local-type_name (λ t. Local-bind (Local-expect _) (λ q. Local-pure _)))))
+
 Local-method_item_unless : (o : Option Span) → Local (method_item_unless o)
 Local-method_item_unless (Some p) = Local-pure _
 Local-method_item_unless None = Local-bind Local-option (λ o. Local-pure _)
@@ -25,7 +30,7 @@ Local-method_item : Local method_item
 unfolding method_item
 Local-method_item = Local-bind (Local-eat _) Local-method_item_unless
 
-Moves-method_item : Moves method_item
+pub Moves-method_item : Moves method_item
 unfolding method_item
 Moves-method_item =
     Moves-eat _ method_item_unless (λ p. Keeps-local (Local-pure _)) (Moves-map _ Moves-option)
@@ -45,13 +50,18 @@ Local-method_body : Local method_body
 unfolding method_body
 Local-method_body = Local-bind (Local-eat _) Local-method_end
 
+pub Moves-method_body : Moves method_body
+unfolding method_body
+Moves-method_body = Moves-eat _ method_end (λ p. Keeps-local (Local-method_end (Some p)))
+    (Moves-first (Moves-expect _) (λ q. Keeps-local (Local-pure _)))
+
 Local-method : Local a_method
 unfolding a_method
 Local-method = Local-bind (Local-expect _) (λ p. Local-bind Local-word (λ w. Local-bind Local-method_type (λ i.
     Local-bind (Local-expect _) (λ r. Local-bind Local-method_type (λ o.
     Local-bind Local-method_body (λ b. Local-pure _))))))
 
-Moves-method : Moves a_method
+pub Moves-method : Moves a_method
 unfolding a_method
 Moves-method = Moves-first (Moves-expect _) (λ p. Keeps-local (Local-bind Local-word (λ w.
     Local-bind Local-method_type (λ i. Local-bind (Local-expect _) (λ r. Local-bind Local-method_type (λ o.
@@ -68,7 +78,7 @@ Local-item : Local service_item
 unfolding service_item
 Local-item = Local-bind (Local-eat _) Local-item_unless
 
-Moves-item : Moves service_item
+pub Moves-item : Moves service_item
 unfolding service_item
 Moves-item = Moves-eat _ service_item_unless (λ p. Keeps-local (Local-pure _))
     (Moves-choose _ (Moves-map _ Moves-option)

@@ -1,11 +1,11 @@
 //! Enums.
 
-ghost use Rattle.std.specs.Prelude.{◌<◌, ◌≤◌, OnOk};
+ghost use Rattle.std.specs.Prelude.{◌<◌, OnOk};
 ghost use Rattle.protox_declarations.specs.EnumGrammar as spec;
 ghost use Rattle.protox_tokens.specs.Left.{left};
 ghost use Rattle.protox_tokens.specs.Reads.{Reads};
 ghost use Rattle.protox_tokens.specs.Stream.{stream};
-ghost use Rattle.protox_tree.specs.View.{enum_value_view, enum_item_view, enum_items_view, enum_view};
+ghost use Rattle.protox_tree.specs.View.{enum_value_view, enum_item_view, enum_view};
 
 use protox_lex::{Sign, token};
 use protox_options::{int, option, options, reserved};
@@ -13,7 +13,6 @@ use protox_tokens::{Stop, Tokens, across};
 use protox_tree::{Enum, EnumItem, EnumValue};
 use std::alloc::Global;
 
-#[tactic(auto, unfolding(crate::specs::EnumGrammar::an_enum_value))]
 fn value<'a>(alloc: Global, tokens: &mut Tokens<'a>) -> Result<EnumValue, Stop<'a>>
     ensures reads { Reads enum_value_view (spec.an_enum_value (stream tokens.old))
         result tokens.new }
@@ -33,7 +32,6 @@ fn value<'a>(alloc: Global, tokens: &mut Tokens<'a>) -> Result<EnumValue, Stop<'
     })
 }
 
-#[tactic(auto, unfolding(crate::specs::EnumGrammar::enum_item))]
 fn item<'a>(alloc: Global, tokens: &mut Tokens<'a>) -> Result<EnumItem, Stop<'a>>
     ensures reads { Reads enum_item_view (spec.enum_item (stream tokens.old)) result tokens.new }
     ensures moves { OnOk result (left tokens.new < left tokens.old) }
@@ -53,22 +51,7 @@ fn item<'a>(alloc: Global, tokens: &mut Tokens<'a>) -> Result<EnumItem, Stop<'a>
     Ok(EnumItem::Value(value))
 }
 
-#[tactic(auto, unfolding(crate::specs::EnumGrammar::enum_items))]
-fn items<'a>(alloc: Global, tokens: &mut Tokens<'a>) -> Result<Vec<EnumItem>, Stop<'a>>
-    ensures reads { Reads (λ v. enum_items_view v.items) (spec.enum_items (stream tokens.old))
-        result tokens.new }
-    ensures moves { OnOk result (left tokens.new ≤ left tokens.old) }
-{
-    let mut items = Vec::new(alloc);
-    'items: while !tokens.sees_sign(Sign::RightBrace) {
-        let item = item(alloc, tokens)?;
-        items.push(item)?;
-    }
-    Ok(items)
-}
-
 /// An enum from its keyword on.
-#[tactic(auto, unfolding(crate::specs::EnumGrammar::enumeration))]
 pub fn enumeration<'a>(alloc: Global, tokens: &mut Tokens<'a>) -> Result<Enum, Stop<'a>>
     ensures reads { Reads enum_view (spec.enumeration (stream tokens.old)) result tokens.new }
     ensures moves { OnOk result (left tokens.new < left tokens.old) }
@@ -76,7 +59,11 @@ pub fn enumeration<'a>(alloc: Global, tokens: &mut Tokens<'a>) -> Result<Enum, S
     let first = tokens.expect(token::ENUM)?;
     let name = tokens.ident(alloc)?;
     let open = tokens.expect_sign(Sign::LeftBrace)?;
-    let items = items(alloc, tokens)?;
+    let mut items = Vec::new(alloc);
+    'items: while !tokens.sees_sign(Sign::RightBrace) {
+        let item = item(alloc, tokens)?;
+        items.push(item)?;
+    }
     let close = tokens.expect_sign(Sign::RightBrace)?;
     Ok(Enum {
         name,

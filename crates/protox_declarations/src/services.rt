@@ -1,11 +1,11 @@
 //! Services.
 
-ghost use Rattle.std.specs.Prelude.{◌<◌, ◌≤◌, OnOk, option_map};
+ghost use Rattle.std.specs.Prelude.{◌<◌, OnOk, option_map};
 ghost use Rattle.protox_declarations.specs.ServiceGrammar as spec;
 ghost use Rattle.protox_tokens.specs.Left.{left};
 ghost use Rattle.protox_tokens.specs.Reads.{Reads};
 ghost use Rattle.protox_tokens.specs.Stream.{stream};
-ghost use Rattle.protox_tree.specs.View.{method_type_view, method_item_view, method_items_view, method_body_view, method_view, service_item_view, service_items_view, service_view};
+ghost use Rattle.protox_tree.specs.View.{method_type_view, method_item_view, method_body_view, method_view, service_item_view, service_view};
 
 use protox_lex::{Sign, Span, token};
 use protox_options::{option, type_name};
@@ -16,7 +16,6 @@ use protox_tree::{
 use std::alloc::Global;
 
 /// What a method takes or gives: the word `stream` comes first where it is the keyword.
-#[tactic(auto, unfolding(crate::specs::ServiceGrammar::method_type))]
 fn method_type<'a>(alloc: Global, tokens: &mut Tokens<'a>) -> Result<MethodType, Stop<'a>>
     ensures reads { Reads method_type_view (spec.method_type (stream tokens.old))
         result tokens.new }
@@ -29,7 +28,6 @@ fn method_type<'a>(alloc: Global, tokens: &mut Tokens<'a>) -> Result<MethodType,
     Ok(MethodType { stream, name })
 }
 
-#[tactic(auto, unfolding(crate::specs::ServiceGrammar::method_item))]
 fn method_item<'a>(alloc: Global, tokens: &mut Tokens<'a>) -> Result<MethodItem, Stop<'a>>
     ensures reads { Reads method_item_view (spec.method_item (stream tokens.old))
         result tokens.new }
@@ -42,22 +40,7 @@ fn method_item<'a>(alloc: Global, tokens: &mut Tokens<'a>) -> Result<MethodItem,
     Ok(MethodItem::Option(option))
 }
 
-#[tactic(auto, unfolding(crate::specs::ServiceGrammar::method_items))]
-fn method_items<'a>(alloc: Global, tokens: &mut Tokens<'a>) -> Result<Vec<MethodItem>, Stop<'a>>
-    ensures reads { Reads (λ v. method_items_view v.items) (spec.method_items (stream tokens.old))
-        result tokens.new }
-    ensures moves { OnOk result (left tokens.new ≤ left tokens.old) }
-{
-    let mut items = Vec::new(alloc);
-    'items: while !tokens.sees_sign(Sign::RightBrace) {
-        let item = method_item(alloc, tokens)?;
-        items.push(item)?;
-    }
-    Ok(items)
-}
-
 /// What stands in the braces of a method, or the semicolon in their place, and where that ends.
-#[tactic(auto, unfolding(crate::specs::ServiceGrammar::method_body))]
 fn method_body<'a>(
     alloc: Global,
     tokens: &mut Tokens<'a>,
@@ -70,13 +53,16 @@ fn method_body<'a>(
         let last = tokens.expect_sign(Sign::Semicolon)?;
         return Ok((None, last.end));
     };
-    let items = method_items(alloc, tokens)?;
+    let mut items = Vec::new(alloc);
+    'items: while !tokens.sees_sign(Sign::RightBrace) {
+        let item = method_item(alloc, tokens)?;
+        items.push(item)?;
+    }
     let close = tokens.expect_sign(Sign::RightBrace)?;
     let braces = across(open, close);
     Ok((Some(MethodBody { braces, items }), close.end))
 }
 
-#[tactic(auto, unfolding(crate::specs::ServiceGrammar::a_method))]
 fn method<'a>(alloc: Global, tokens: &mut Tokens<'a>) -> Result<Method, Stop<'a>>
     ensures reads { Reads method_view (spec.a_method (stream tokens.old)) result tokens.new }
     ensures moves { OnOk result (left tokens.new < left tokens.old) }
@@ -99,7 +85,6 @@ fn method<'a>(alloc: Global, tokens: &mut Tokens<'a>) -> Result<Method, Stop<'a>
     })
 }
 
-#[tactic(auto, unfolding(crate::specs::ServiceGrammar::service_item))]
 fn item<'a>(alloc: Global, tokens: &mut Tokens<'a>) -> Result<ServiceItem, Stop<'a>>
     ensures reads { Reads service_item_view (spec.service_item (stream tokens.old))
         result tokens.new }
@@ -119,22 +104,7 @@ fn item<'a>(alloc: Global, tokens: &mut Tokens<'a>) -> Result<ServiceItem, Stop<
     Err(tokens.refuse(ExpectedToken::ServiceItem))
 }
 
-#[tactic(auto, unfolding(crate::specs::ServiceGrammar::service_items))]
-fn items<'a>(alloc: Global, tokens: &mut Tokens<'a>) -> Result<Vec<ServiceItem>, Stop<'a>>
-    ensures reads { Reads (λ v. service_items_view v.items) (spec.service_items (stream tokens.old))
-        result tokens.new }
-    ensures moves { OnOk result (left tokens.new ≤ left tokens.old) }
-{
-    let mut items = Vec::new(alloc);
-    'items: while !tokens.sees_sign(Sign::RightBrace) {
-        let item = item(alloc, tokens)?;
-        items.push(item)?;
-    }
-    Ok(items)
-}
-
 /// A service from its keyword on.
-#[tactic(auto, unfolding(crate::specs::ServiceGrammar::service))]
 pub fn service<'a>(alloc: Global, tokens: &mut Tokens<'a>) -> Result<Service, Stop<'a>>
     ensures reads { Reads service_view (spec.service (stream tokens.old)) result tokens.new }
     ensures moves { OnOk result (left tokens.new < left tokens.old) }
@@ -142,7 +112,11 @@ pub fn service<'a>(alloc: Global, tokens: &mut Tokens<'a>) -> Result<Service, St
     let first = tokens.expect(token::SERVICE)?;
     let name = tokens.ident(alloc)?;
     let open = tokens.expect_sign(Sign::LeftBrace)?;
-    let items = items(alloc, tokens)?;
+    let mut items = Vec::new(alloc);
+    'items: while !tokens.sees_sign(Sign::RightBrace) {
+        let item = item(alloc, tokens)?;
+        items.push(item)?;
+    }
     let close = tokens.expect_sign(Sign::RightBrace)?;
     Ok(Service {
         name,

@@ -1,8 +1,8 @@
 -- A statement that nothing nests in, read by one rule or by the choices of a message.
-use Rattle.protox_fields.proofs.Behind.{Answers, behind, refused}
 use Rattle.protox_fields.specs.FieldGrammar.{extensions}
 use Rattle.protox_lex.specs.Token.{ident}
 use Rattle.protox_fields.specs.StatementGrammar.{flat_item}
+use Rattle.protox_options.proofs.Behind.{Answers, behind, refused}
 use Rattle.protox_options.specs.OptionGrammar.{option}
 use Rattle.protox_options.specs.RangeGrammar.{reserved}
 use Rattle.protox_tokens.specs.Parser.{Outcome, Parser, and_then, ◌>>=◌, ◌<$>◌, pure, sees, choose}

@@ -1,8 +1,8 @@
 -- What a statement begins with, read by one rule or step by step.
-use Rattle.protox_fields.proofs.Behind.{Answers, behind, refused}
 use Rattle.protox_fields.specs.StatementGrammar.{head}
 use Rattle.protox_lex.specs.Token.{Token, sign}
 use Rattle.protox_lex.specs.declared.span.Span.{Span}
+use Rattle.protox_options.proofs.Behind.{Answers, behind, refused}
 use Rattle.protox_tokens.specs.Parser.{Outcome, Parser, and_then, ◌>>=◌, pure, expect}
 use Rattle.protox_tokens.specs.Reads.{Fails}
 use Rattle.protox_tokens.specs.Stream.{Stream}

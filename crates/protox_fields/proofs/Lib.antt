@@ -1,5 +1,3 @@
-pub mod Behind
-pub mod Choices
 pub mod FieldLaws
 pub mod FieldParts
 pub mod Flat

@@ -1,9 +1,9 @@
 -- A name, its number and the options behind it, read by one rule or step by step.
-use Rattle.protox_fields.proofs.Behind.{Answers, behind, refused}
 use Rattle.protox_fields.specs.FieldGrammar.{numbered_name}
 use Rattle.protox_lex.specs.Token.{sign}
 use Rattle.protox_lex.specs.declared.literal.Int.{Int}
 use Rattle.protox_lex.specs.declared.span.Span.{Span}
+use Rattle.protox_options.proofs.Behind.{Answers, behind, refused}
 use Rattle.protox_options.specs.NameGrammar.{an_int}
 use Rattle.protox_options.specs.OptionGrammar.{options}
 use Rattle.protox_tokens.specs.Parser.{Outcome, Parser, and_then, ◌>>=◌, ◌>>◌, pure, expect, word}

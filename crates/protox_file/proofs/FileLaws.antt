@@ -27,6 +27,11 @@ unfolding syntax_behind
 Local-syntax_behind p = Local-bind (Local-expect _) (λ e. Local-bind Local-strings (λ v.
     Local-bind (Local-known _ _) (λ x. Local-bind (Local-expect _) (λ q. Local-pure _))))
 
+pub Moves-syntax_behind : (p : Span) → Moves (syntax_behind p)
+unfolding syntax_behind
+Moves-syntax_behind p = Moves-first (Moves-expect _) (λ e. Keeps-local (Local-bind Local-strings (λ v.
+    Local-bind (Local-known _ _) (λ x. Local-bind (Local-expect _) (λ q. Local-pure _)))))
+
 Local-syntax_if : (o : Option Span) → Local (syntax_if o)
 Local-syntax_if None = Local-pure _
 Local-syntax_if (Some p) = Local-bind (Local-syntax_behind p) (λ x. Local-pure _)
@@ -35,7 +40,7 @@ Local-unless_edition : (o : Option Span) → Local (unless_edition o)
 Local-unless_edition (Some at) = Local-unknown at
 Local-unless_edition None = Local-bind (Local-eat _) Local-syntax_if
 
-Local-syntax : Local syntax
+pub Local-syntax : Local syntax
 unfolding syntax
 Local-syntax = Local-bind (Local-eat _) Local-unless_edition
 
@@ -47,7 +52,7 @@ Local-weak_if : (o : Option Span) → Local (weak_if o)
 Local-weak_if (Some p) = Local-pure _
 Local-weak_if None = Local-bind (Local-eat _) Local-public_if
 
-Local-import_kind : Local import_kind
+pub Local-import_kind : Local import_kind
 unfolding import_kind
 Local-import_kind = Local-bind (Local-eat _) Local-weak_if
 
@@ -56,7 +61,7 @@ unfolding an_import
 Local-import = Local-bind (Local-expect _) (λ p. Local-bind Local-import_kind (λ k.
     Local-bind Local-strings (λ v. Local-bind (Local-expect _) (λ q. Local-pure _))))
 
-Moves-import : Moves an_import
+pub Moves-import : Moves an_import
 unfolding an_import
 Moves-import = Moves-first (Moves-expect _) (λ p. Keeps-local (Local-bind Local-import_kind (λ k.
     Local-bind Local-strings (λ v. Local-bind (Local-expect _) (λ q. Local-pure _)))))
@@ -66,7 +71,7 @@ unfolding a_package
 Local-package =
     Local-bind (Local-expect _) (λ p. Local-bind Local-full (λ n. Local-bind (Local-expect _) (λ q. Local-pure _)))
 
-Moves-package : Moves a_package
+pub Moves-package : Moves a_package
 unfolding a_package
 Moves-package = Moves-first (Moves-expect _) (λ p.
     Keeps-local (Local-bind Local-full (λ n. Local-bind (Local-expect _) (λ q. Local-pure _))))
@@ -87,7 +92,7 @@ Local-item : Local file_item
 unfolding file_item
 Local-item = Local-bind (Local-eat _) Local-item_unless
 
-Moves-item : Moves file_item
+pub Moves-item : Moves file_item
 unfolding file_item
 Moves-item = Moves-eat _ file_item_unless (λ p. Keeps-local (Local-pure _))
     (Moves-choose _ (Moves-map _ Moves-import)

@@ -1,4 +1,5 @@
 pub mod FileLaws
+mod Known
 pub mod Spans
 pub mod Texts
 pub mod OlderSources

@@ -11,8 +11,8 @@ use Rattle.protox_messages.specs.MessageGrammar.{Block, group_with, group_if, fi
 use Rattle.protox_options.specs.NameGrammar.{type_name, an_int}
 use Rattle.protox_options.specs.OptionGrammar.{option, options_after, options}
 use Rattle.protox_options.specs.RangeGrammar.{ranges, reserved}
-use Rattle.protox_tokens.specs.Parser.{Outcome, Parser, and_then, ◌>>=◌, ◌<$>◌, pure, same, is, value_of, saw, sees, eaten, eat_in, eat, taken, one, expect_in, expect, goes_on, loop_from, loop, when, until, choose, word, here}
-use Rattle.protox_tokens.specs.Refusal.{this, refusal}
+use Rattle.protox_tokens.specs.Parser.{Outcome, Parser, and_then, ◌>>=◌, ◌<$>◌, pure, same, is, value_of, sees, eat, taken, expect_in, expect, goes_on, loop_from, loop, when, choose, word, here}
+use Rattle.protox_tokens.specs.Refusal.{this}
 use Rattle.protox_tokens.specs.Stream.{Stream, Seen, source, peek, is_over}
 use Rattle.protox_tokens.specs.Span.{across}
 use Rattle.protox_tokens.proofs.Steps.{same_is, eat_none}
@@ -20,7 +20,7 @@ use Rattle.protox_tree.specs.FileTree.{FileItem, file_message, file_extend, File
 use Rattle.protox_tree.specs.Nest.{Extensions, Item, item_message, item_extend, item_extensions, item_oneof, item_field, item_enum, item_reserved, item_option, member_field, member_option, added_field}
 use Rattle.protox_tree.specs.Tree.{OptionList}
 use Rattle.protox_tree.specs.declared.range.ReservedRange.{ReservedRange}
-use Rattle.std.proofs.Common.{◌≡◌, ℕ, zero, suc, Bool, true, false, not, List, [], ◌∷◌, length, Option, Some, None, Ok, Err, refl, ap, sym, subst, ◌∙◌}
+use Rattle.std.proofs.Common.{◌≡◌, ℕ, zero, suc, Bool, true, false, not, List, [], ◌∷◌, length, Option, Some, None, Ok, Err, refl, ap, sym, ◌∙◌}
 use Rattle.std.specs.Prelude.{if◌then◌else◌, codes, is_some}
 use Rattle.protox_lex.specs.declared.token.Sign.TheVariants as s
 

@@ -1,9 +1,8 @@
 //! Files.
 
-ghost use Rattle.std.specs.Prelude.{◌≡◌, ◌≤◌, [], OnOk, option_map};
+ghost use Rattle.std.specs.Prelude.{◌≡◌, [], OnOk, option_map};
 ghost use Rattle.protox_file.specs.FileGrammar as spec;
 ghost use Rattle.protox_file.specs.Sources.{IsTree};
-ghost use Rattle.protox_tokens.specs.Left.{left};
 ghost use Rattle.protox_tokens.specs.Reads.{Reads};
 ghost use Rattle.protox_tokens.specs.Stream.{stream};
 ghost use Rattle.protox_tree.specs.FileTree as tree;
@@ -14,21 +13,6 @@ use protox_lex::Span;
 use protox_tokens::{Stop, Tokens, across};
 use protox_tree::{File, FileItem, SyntaxStatement};
 use std::alloc::Global;
-
-#[tactic(auto, unfolding(crate::specs::FileGrammar::file_items))]
-fn items<'a>(alloc: Global, tokens: &mut Tokens<'a>) -> Result<Vec<FileItem>, Stop<'a>>
-    ensures reads { Reads (λ v. file_items_view v.items) (spec.file_items (stream tokens.old))
-        result tokens.new }
-    ensures moves { OnOk result (left tokens.new ≤ left tokens.old) }
-    ensures over { OnOk result (stream tokens.new ≡ []) }
-{
-    let mut items = Vec::new(alloc);
-    'items: while !tokens.is_over() {
-        let item = item(alloc, tokens)?;
-        items.push(item)?;
-    }
-    Ok(items)
-}
 
 /// From the first statement to the last; of a file without statements the start of the source.
 #[tactic(auto, using(crate::proofs::Spans::statements_cover, crate::proofs::Spans::syntax_covers))]
@@ -45,13 +29,16 @@ fn file_span(syntax: &Option<SyntaxStatement>, items: &[FileItem]) -> Span
 }
 
 /// What is left of a source as a tree.
-#[tactic(auto, unfolding(crate::specs::FileGrammar::file))]
 fn file<'a>(alloc: Global, tokens: &mut Tokens<'a>) -> Result<File, Stop<'a>>
     ensures reads { Reads file_view (spec.file (stream tokens.old)) result tokens.new }
     ensures over { OnOk result (stream tokens.new ≡ []) }
 {
     let syntax = syntax(alloc, tokens)?;
-    let items = items(alloc, tokens)?;
+    let mut items = Vec::new(alloc);
+    'items: while !tokens.is_over() {
+        let item = item(alloc, tokens)?;
+        items.push(item)?;
+    }
     let span = file_span(&syntax, items.as_slice());
     Ok(File {
         syntax,

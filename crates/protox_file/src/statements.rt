@@ -56,7 +56,6 @@ fn known_language<'a>(alloc: Global, value: &Strings) -> Result<Syntax, Stop<'a>
 }
 
 /// What stands behind the word `syntax`.
-#[tactic(auto, unfolding(crate::specs::FileGrammar::syntax_behind))]
 fn syntax_behind<'a>(
     alloc: Global,
     tokens: &mut Tokens<'a>,
@@ -79,7 +78,6 @@ fn syntax_behind<'a>(
 
 /// The statement `syntax`, if the file begins with it. A file that begins with `edition` has
 /// another syntax.
-#[tactic(auto, unfolding(crate::specs::FileGrammar::syntax))]
 pub fn syntax<'a>(
     alloc: Global,
     tokens: &mut Tokens<'a>,
@@ -99,7 +97,6 @@ pub fn syntax<'a>(
 }
 
 /// The word behind `import`, if there is one.
-#[tactic(auto, unfolding(crate::specs::FileGrammar::import_kind))]
 fn import_kind(tokens: &mut Tokens<'_>) -> Option<(ImportKind, Span)>
     ensures reads { spec.import_kind (stream tokens.old) ≡ Ok (result, stream tokens.new) }
     ensures moves { left tokens.new ≤ left tokens.old }
@@ -113,7 +110,6 @@ fn import_kind(tokens: &mut Tokens<'_>) -> Option<(ImportKind, Span)>
     None
 }
 
-#[tactic(auto, unfolding(crate::specs::FileGrammar::an_import))]
 fn import<'a>(alloc: Global, tokens: &mut Tokens<'a>) -> Result<Import, Stop<'a>>
     ensures reads { Reads import_view (spec.an_import (stream tokens.old)) result tokens.new }
     ensures moves { OnOk result (left tokens.new < left tokens.old) }
@@ -129,7 +125,6 @@ fn import<'a>(alloc: Global, tokens: &mut Tokens<'a>) -> Result<Import, Stop<'a>
     })
 }
 
-#[tactic(auto, unfolding(crate::specs::FileGrammar::a_package))]
 fn package<'a>(alloc: Global, tokens: &mut Tokens<'a>) -> Result<Package, Stop<'a>>
     ensures reads { Reads package_view (spec.a_package (stream tokens.old)) result tokens.new }
     ensures moves { OnOk result (left tokens.new < left tokens.old) }
@@ -144,7 +139,6 @@ fn package<'a>(alloc: Global, tokens: &mut Tokens<'a>) -> Result<Package, Stop<'
 }
 
 /// One statement of a file.
-#[tactic(auto, unfolding(crate::specs::FileGrammar::file_item))]
 pub fn item<'a>(alloc: Global, tokens: &mut Tokens<'a>) -> Result<FileItem, Stop<'a>>
     ensures reads { Reads file_item_view (spec.file_item (stream tokens.old)) result tokens.new }
     ensures moves { OnOk result (left tokens.new < left tokens.old) }

@@ -1,8 +1,8 @@
 -- How the block of a message or a group is read, step by step.
-use Rattle.protox_fields.proofs.Behind.{Answers, behind, refused}
 use Rattle.protox_lex.specs.Token.{sign}
 use Rattle.protox_lex.specs.declared.span.Span.{Span}
 use Rattle.protox_messages.specs.MessageGrammar.{Block, inside_with, block}
+use Rattle.protox_options.proofs.Behind.{Answers, behind, refused}
 use Rattle.protox_tokens.specs.Parser.{Outcome, Parser, ◌>>=◌, pure, expect}
 use Rattle.protox_tokens.specs.Reads.{Fails}
 use Rattle.protox_tokens.specs.Refusal.{too_deep}

@@ -1,4 +1,3 @@
 mod Blocks
 mod Parts
-mod Turns
 pub mod MessageLaws

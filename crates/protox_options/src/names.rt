@@ -31,17 +31,14 @@ pub fn parts_after<'a>(
     Ok(FullIdent::from_idents(list))
 }
 
-#[tactic(auto, unfolding(crate::specs::NameGrammar::full_ident))]
 pub fn full_ident<'a>(alloc: Global, tokens: &mut Tokens<'a>) -> Result<FullIdent, Stop<'a>>
     ensures reads { Reads full_view (spec.full_ident (stream tokens.old)) result tokens.new }
     ensures moves { OnOk result (left tokens.new < left tokens.old) }
 {
     let first = tokens.ident(alloc)?;
-    let name = parts_after(alloc, tokens, first)?;
-    Ok(name)
+    parts_after(alloc, tokens, first)
 }
 
-#[tactic(auto, unfolding(crate::specs::NameGrammar::type_name))]
 pub fn type_name<'a>(alloc: Global, tokens: &mut Tokens<'a>) -> Result<TypeName, Stop<'a>>
     ensures reads { Reads type_name_view (spec.type_name (stream tokens.old)) result tokens.new }
     ensures moves { OnOk result (left tokens.new < left tokens.old) }
@@ -61,7 +58,6 @@ fn from_sign(minus: Option<Span>, digits: Span) -> Span
 }
 
 /// An integer, which may have a sign.
-#[tactic(auto, unfolding(crate::specs::NameGrammar::an_int))]
 pub fn int<'a>(tokens: &mut Tokens<'a>) -> Result<Int, Stop<'a>>
     ensures reads { Reads (λ n. n) (spec.an_int (stream tokens.old)) result tokens.new }
     ensures moves { OnOk result (left tokens.new < left tokens.old) }
@@ -76,7 +72,6 @@ pub fn int<'a>(tokens: &mut Tokens<'a>) -> Result<Int, Stop<'a>>
 }
 
 /// String literals, one or more.
-#[tactic(auto, unfolding(crate::specs::NameGrammar::strings))]
 pub fn strings<'a>(alloc: Global, tokens: &mut Tokens<'a>) -> Result<Strings, Stop<'a>>
     ensures reads { Reads strings_view (spec.strings (stream tokens.old)) result tokens.new }
     ensures moves { OnOk result (left tokens.new < left tokens.old) }

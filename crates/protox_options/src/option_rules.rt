@@ -20,7 +20,6 @@ use protox_tree::{
 };
 use std::alloc::Global;
 
-#[tactic(auto, unfolding(crate::specs::OptionGrammar::name_part, crate::specs::OptionGrammar::in_parens))]
 fn name_part<'a>(alloc: Global, tokens: &mut Tokens<'a>) -> Result<OptionNamePart, Stop<'a>>
     ensures reads { Reads name_part_view (spec.name_part (stream tokens.old)) result tokens.new }
     ensures moves { OnOk result (left tokens.new < left tokens.old) }
@@ -34,7 +33,6 @@ fn name_part<'a>(alloc: Global, tokens: &mut Tokens<'a>) -> Result<OptionNamePar
     Ok(OptionNamePart::Extension(name, across(open, close)))
 }
 
-#[tactic(auto, unfolding(crate::specs::OptionGrammar::name))]
 fn name<'a>(alloc: Global, tokens: &mut Tokens<'a>) -> Result<Vec<OptionNamePart>, Stop<'a>>
     ensures reads { Reads (λ v. name_view v.items) (spec.name (stream tokens.old))
         result tokens.new }
@@ -116,7 +114,6 @@ fn negative_value<'a>(
 }
 
 /// What stands behind a minus: an integer of at least -2^63, a float, or the word `inf` or `nan`.
-#[tactic(auto, unfolding(crate::specs::OptionGrammar::negative))]
 fn negative<'a>(
     alloc: Global,
     tokens: &mut Tokens<'a>,
@@ -132,8 +129,7 @@ fn negative<'a>(
         return Err(tokens.refuse(ExpectedToken::Number));
     };
     tokens.advance();
-    let value = negative_value(alloc, negated, across(minus, span))?;
-    Ok(value)
+    negative_value(alloc, negated, across(minus, span))
 }
 
 /// A word, or a number without a sign.
@@ -180,7 +176,6 @@ fn plain_value<'a>(alloc: Global, tokens: &mut Tokens<'a>) -> Result<OptionValue
     }
 }
 
-#[tactic(auto, unfolding(crate::specs::OptionGrammar::value))]
 fn value<'a>(alloc: Global, tokens: &mut Tokens<'a>) -> Result<OptionValue, Stop<'a>>
     ensures reads { Reads value_view (spec.value (stream tokens.old)) result tokens.new }
     ensures moves { OnOk result (left tokens.new < left tokens.old) }
@@ -190,18 +185,15 @@ fn value<'a>(alloc: Global, tokens: &mut Tokens<'a>) -> Result<OptionValue, Stop
         return Ok(OptionValue::String(strings));
     }
     if let Some(minus) = tokens.eat_sign(Sign::Minus) {
-        let value = negative(alloc, tokens, minus)?;
-        return Ok(value);
+        return negative(alloc, tokens, minus);
     }
     if tokens.sees_sign(Sign::LeftBrace) {
         let aggregate = aggregate(alloc, tokens)?;
         return Ok(OptionValue::Aggregate(aggregate));
     }
-    let value = plain_value(alloc, tokens)?;
-    Ok(value)
+    plain_value(alloc, tokens)
 }
 
-#[tactic(auto, unfolding(crate::specs::OptionGrammar::body))]
 fn body<'a>(alloc: Global, tokens: &mut Tokens<'a>) -> Result<OptionBody, Stop<'a>>
     ensures reads { Reads body_view (spec.body (stream tokens.old)) result tokens.new }
     ensures moves { OnOk result (left tokens.new < left tokens.old) }
@@ -213,7 +205,6 @@ fn body<'a>(alloc: Global, tokens: &mut Tokens<'a>) -> Result<OptionBody, Stop<'
 }
 
 /// The statement `option .. ;`.
-#[tactic(auto, unfolding(crate::specs::OptionGrammar::option))]
 pub fn option<'a>(alloc: Global, tokens: &mut Tokens<'a>) -> Result<OptionStatement, Stop<'a>>
     ensures reads { Reads option_view (spec.option (stream tokens.old)) result tokens.new }
     ensures moves { OnOk result (left tokens.new < left tokens.old) }
@@ -227,7 +218,6 @@ pub fn option<'a>(alloc: Global, tokens: &mut Tokens<'a>) -> Result<OptionStatem
     })
 }
 
-#[tactic(auto, unfolding(crate::specs::OptionGrammar::bodies))]
 fn bodies<'a>(alloc: Global, tokens: &mut Tokens<'a>) -> Result<Vec<OptionBody>, Stop<'a>>
     ensures reads { Reads (λ v. bodies_view v.items) (spec.bodies (stream tokens.old))
         result tokens.new }
@@ -243,7 +233,6 @@ fn bodies<'a>(alloc: Global, tokens: &mut Tokens<'a>) -> Result<Vec<OptionBody>,
 }
 
 /// Options in brackets, if there are any.
-#[tactic(auto, unfolding(crate::specs::OptionGrammar::options, crate::specs::OptionGrammar::in_brackets))]
 pub fn options<'a>(alloc: Global, tokens: &mut Tokens<'a>) -> Result<Option<OptionList>, Stop<'a>>
     ensures reads { Reads (λ o. option_map option_list_view o) (spec.options (stream tokens.old))
         result tokens.new }

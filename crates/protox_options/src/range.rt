@@ -13,14 +13,13 @@ use protox_tokens::{Stop, Tokens, across, one};
 use protox_tree::{RangeEnd, Reserved, ReservedItems, ReservedRange, Strings};
 use std::alloc::Global;
 
-#[tactic(auto, unfolding(crate::specs::RangeGrammar::range_end))]
 fn end<'a>(tokens: &mut Tokens<'a>) -> Result<RangeEnd, Stop<'a>>
     ensures reads { Reads (λ e. e) (spec.range_end (stream tokens.old)) result tokens.new }
     ensures moves { OnOk result (left tokens.new ≤ left tokens.old) }
 {
-    if tokens.eat(token::TO).is_none() {
+    let Some(_) = tokens.eat(token::TO) else {
         return Ok(RangeEnd::None);
-    }
+    };
     if let Some(span) = tokens.eat(token::MAX) {
         return Ok(RangeEnd::Max(span));
     }
@@ -28,7 +27,6 @@ fn end<'a>(tokens: &mut Tokens<'a>) -> Result<RangeEnd, Stop<'a>>
     Ok(RangeEnd::Int(int))
 }
 
-#[tactic(auto, unfolding(crate::specs::RangeGrammar::range))]
 fn range<'a>(tokens: &mut Tokens<'a>) -> Result<ReservedRange, Stop<'a>>
     ensures reads { Reads (λ r. r) (spec.range (stream tokens.old)) result tokens.new }
     ensures moves { OnOk result (left tokens.new < left tokens.old) }
@@ -38,7 +36,6 @@ fn range<'a>(tokens: &mut Tokens<'a>) -> Result<ReservedRange, Stop<'a>>
     Ok(ReservedRange { start, end })
 }
 
-#[tactic(auto, unfolding(crate::specs::RangeGrammar::ranges))]
 pub fn ranges<'a>(alloc: Global, tokens: &mut Tokens<'a>) -> Result<Vec<ReservedRange>, Stop<'a>>
     ensures reads { Reads (λ v. v.items) (spec.ranges (stream tokens.old)) result tokens.new }
     ensures moves { OnOk result (left tokens.new < left tokens.old) }
@@ -52,7 +49,6 @@ pub fn ranges<'a>(alloc: Global, tokens: &mut Tokens<'a>) -> Result<Vec<Reserved
     Ok(list)
 }
 
-#[tactic(auto, unfolding(crate::specs::RangeGrammar::names))]
 fn names<'a>(alloc: Global, tokens: &mut Tokens<'a>) -> Result<Vec<Strings>, Stop<'a>>
     ensures reads { Reads (λ v. names_view v.items) (spec.names (stream tokens.old))
         result tokens.new }
@@ -67,7 +63,6 @@ fn names<'a>(alloc: Global, tokens: &mut Tokens<'a>) -> Result<Vec<Strings>, Sto
     Ok(list)
 }
 
-#[tactic(auto, unfolding(crate::specs::RangeGrammar::reserved_items))]
 fn reserved_items<'a>(alloc: Global, tokens: &mut Tokens<'a>) -> Result<ReservedItems, Stop<'a>>
     ensures reads { Reads reserved_items_view (spec.reserved_items (stream tokens.old))
         result tokens.new }
@@ -82,7 +77,6 @@ fn reserved_items<'a>(alloc: Global, tokens: &mut Tokens<'a>) -> Result<Reserved
 }
 
 /// The statement `reserved .. ;`.
-#[tactic(auto, unfolding(crate::specs::RangeGrammar::reserved))]
 pub fn reserved<'a>(alloc: Global, tokens: &mut Tokens<'a>) -> Result<Reserved, Stop<'a>>
     ensures reads { Reads reserved_view (spec.reserved (stream tokens.old)) result tokens.new }
     ensures moves { OnOk result (left tokens.new < left tokens.old) }

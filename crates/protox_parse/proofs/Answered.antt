@@ -11,7 +11,7 @@ use Rattle.protox_lex.specs.Class.{Text}
 use Rattle.protox_lex.specs.Lines.{feeds_of}
 use Rattle.protox_locate.specs.Files.{AreLocations}
 use Rattle.protox_parse.specs.Answers.{HasFaults, IsAnswered, IsRecordOf}
-use Rattle.protox_parse.specs.Refusals.{faults_of}
+use Rattle.protox_parse.specs.Refusals.{faults_of, first_span, resolved, place_among, place_in, IsRefusalOf}
 use Rattle.protox_parse.specs.declared.error.ParseError.{ParseError}
 use Rattle.protox_parse.specs.declared.error.Refusal.{Refusal}
 use Rattle.protox_parse.specs.declared.error.ParseError.TheVariants.{Memory, Refused}
@@ -20,10 +20,17 @@ use Rattle.protox_tokens.specs.Refusal.{Fault}
 use Rattle.protox_tokens.specs.Told.{IsToldAs}
 use Rattle.protox_tree.specs.FileTree.{File}
 use Rattle.protox_tree.specs.FileView.{file_view}
+use Rattle.protox_tree.specs.Spans.{span_of}
 use Rattle.protox_tree.specs.declared.file.File as trees
 use Rattle.protox_tree.specs.declared.error.ParseErrorKind.{ParseErrorKind}
-use Rattle.std.proofs.Common.{◌≡◌, ◌⊎◌, ◌∙◌, ℕ, List, inl, inr, [], ◌∷◌, Some, Result, Ok, Err, ap, arith, length, refl, subst}
-use Rattle.std.specs.Prelude.{IfErr, IfOk}
+use Rattle.protox_tree.specs.declared.error.ParseErrorKind.TheVariants.{FileTooLarge}
+use Rattle.std.proofs.Common.{◌≡◌, ◌⊎◌, ◌∙◌, ℕ, Bool, true, List, inl, inr, [], ◌∷◌, Some, None, Result, Ok, Err, ap, sym, arith, length, refl, subst}
+use Rattle.std.specs.Option.{option_and_then}
+use Rattle.std.proofs.lemmas.Bool.Decides.{nat_tests}
+use Rattle.std.proofs.lemmas.List.{nil_from_length}
+use Rattle.std.specs.Prelude.{◌==◌, IfErr, IfOk, slice_get, string_bytes, vec_len}
+use Rattle.std.specs.declared.alloc.Global.{Global}
+use Rattle.std.specs.declared.vec.Vec.{Vec}
 
 -- the name of a record of a file
 pub named : (name : Text) (tree : trees.File) (made : FileContent) → IsFile name tree made → made.name ≡ Some name
@@ -71,3 +78,25 @@ not_refused name z tree r s none h = by r.faults.items (all_told name z r tree (
 pub same_record : (name z : Text) (tree : File) (made : FileDescriptorProto) → SpellsOlder z tree → IsAnswered name z (Ok made)
     → (t : trees.File) × (file_view t ≡ tree) × IsRecordOf name z t (records.file_view made)
 same_record name z tree made s h = (h.0, same_tree z (file_view h.0) tree h.1 (older_spells z tree s), h.3)
+
+-- ---- what a refusal tells
+
+-- where its first fault begins, by the lines of the source
+pub refused_there : (name source : Text) (feeds : List ℕ) (r : Refusal) → feeds ≡ feeds_of source
+    → string_bytes r.file ≡ name → r.position ≡ option_and_then (place_among feeds) (first_span (Refused r)) → IsRefusalOf name source (Refused r)
+refused_there name source feeds r same file position =
+    (file, position ∙ ap (λ f. option_and_then (place_among f) (first_span (Refused r))) same)
+
+-- that it is too large has no place
+pub refused_nowhere : (name source : Text) (r : Refusal) → r.faults.items ≡ FileTooLarge ∷ []
+    → string_bytes r.file ≡ name → r.position ≡ resolved None (first_span (Refused r)) → IsRefusalOf name source (Refused r)
+refused_nowhere name source r alone file position =
+    let nowhere : first_span (Refused r) ≡ None = ap (λ fs. option_and_then span_of (slice_get fs 0)) alone in
+    (file, position ∙ ap (resolved None) nowhere ∙ sym (ap (option_and_then (place_in source)) nowhere))
+
+-- ---- whether there are faults
+
+pub none_there : (faults : Vec ParseErrorKind Global) (b : Bool) → b ≡ (vec_len faults == 0) → b ≡ true → faults.items ≡ []
+none_there faults b is so =
+    let n : length faults.items ≡ 0 = grind (arith, nat_tests, faults.ok.0) in
+    nil_from_length faults.items n

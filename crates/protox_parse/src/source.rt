@@ -75,7 +75,8 @@ fn described(
     if !faults.is_empty() {
         return Err(ParseError::Refused(Refusal::new(alloc, name, Some(lines), faults)?));
     }
+    let info = source_info(alloc, source, lines, file)?;
     let mut record = file_record(alloc, name, file)?;
-    record.source_code_info = Some(source_info(alloc, source, lines, file)?);
+    record.source_code_info = Some(info);
     Ok(record)
 }

@@ -1,7 +1,7 @@
-use Rattle.protox_fields.proofs.Behind.{Answers, behind, refused, last}
 use Rattle.protox_fields.proofs.FieldLaws.{Moves-extensions}
 use Rattle.protox_fields.specs.FieldGrammar.{extensions}
 use Rattle.protox_lex.specs.Token.{ident, sign}
+use Rattle.protox_options.proofs.Behind.{Answers, behind, refused, last}
 use Rattle.protox_options.specs.OptionGrammar.{options}
 use Rattle.protox_options.specs.RangeGrammar.{ranges}
 use Rattle.protox_tokens.specs.Parser.{expect}

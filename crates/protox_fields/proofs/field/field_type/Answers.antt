@@ -1,9 +1,9 @@
-use Rattle.protox_fields.proofs.Behind.{Answers, behind, refused, last}
-use Rattle.protox_fields.proofs.Choices.{chosen, passed}
 use Rattle.protox_fields.proofs.FieldLaws.{Moves-field_type}
 use Rattle.protox_fields.specs.FieldGrammar.{ty, field_type}
 use Rattle.protox_fields.specs.PlainView.{plain_view}
 use Rattle.protox_lex.specs.Token.{ident}
+use Rattle.protox_options.proofs.Behind.{Answers, behind, refused, last}
+use Rattle.protox_options.proofs.Choices.{chosen, passed}
 use Rattle.protox_tokens.specs.Parser.{sees}
 use Rattle.protox_tokens.specs.Reads.{Fails, Reads}
 use Rattle.protox_tokens.specs.Stream.{stream}

@@ -1,7 +1,7 @@
-use Rattle.protox_fields.proofs.Behind.{Answers, behind, refused, last}
 use Rattle.protox_fields.proofs.FieldLaws.{Moves-map_type}
 use Rattle.protox_fields.specs.FieldGrammar.{ty, map_type}
 use Rattle.protox_lex.specs.Token.{sign}
+use Rattle.protox_options.proofs.Behind.{Answers, behind, refused, last}
 use Rattle.protox_tokens.specs.Parser.{expect}
 use Rattle.protox_tokens.specs.Reads.{Fails}
 use Rattle.protox_tokens.specs.Span.{across}

@@ -1,8 +1,8 @@
-use Rattle.protox_fields.proofs.Behind.{Answers, behind, refused, last}
 use Rattle.protox_fields.proofs.FieldLaws.{Moves-numbered}
 use Rattle.protox_fields.specs.FieldGrammar.{numbered_name}
 use Rattle.protox_lex.specs.Token.{sign}
 use Rattle.protox_lex.specs.declared.literal.Int.{Int}
+use Rattle.protox_options.proofs.Behind.{Answers, behind, refused, last}
 use Rattle.protox_options.specs.NameGrammar.{an_int}
 use Rattle.protox_options.specs.OptionGrammar.{options}
 use Rattle.protox_tokens.specs.Parser.{expect, word}

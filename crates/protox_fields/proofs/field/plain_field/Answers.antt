@@ -1,10 +1,10 @@
-use Rattle.protox_fields.proofs.Behind.{Answers, behind, refused, last}
 use Rattle.protox_fields.proofs.FieldLaws.{Moves-plain}
 use Rattle.protox_fields.proofs.FieldParts.{field_parts}
 use Rattle.protox_fields.proofs.NumberedName.{numbered_behind, numbered_refused}
 use Rattle.protox_fields.specs.FieldGrammar.{field_type, plain_field}
 use Rattle.protox_fields.specs.PlainView.{plain_view}
 use Rattle.protox_lex.specs.Token.{sign}
+use Rattle.protox_options.proofs.Behind.{Answers, behind, refused, last}
 use Rattle.protox_tokens.specs.Parser.{expect}
 use Rattle.protox_tokens.specs.Reads.{Fails}
 use Rattle.protox_tokens.specs.Span.{across}

@@ -1,9 +1,9 @@
-use Rattle.protox_fields.proofs.Behind.{Answers, behind, refused, last}
-use Rattle.protox_fields.proofs.Choices.{chosen, passed}
 use Rattle.protox_fields.proofs.StatementLaws.{Keeps-flat}
 use Rattle.protox_fields.specs.FieldGrammar.{extensions}
 use Rattle.protox_fields.specs.StatementGrammar.{flat_item}
 use Rattle.protox_lex.specs.Token.{ident}
+use Rattle.protox_options.proofs.Behind.{Answers, behind, refused, last}
+use Rattle.protox_options.proofs.Choices.{chosen, passed}
 use Rattle.protox_options.specs.OptionGrammar.{option}
 use Rattle.protox_options.specs.RangeGrammar.{reserved}
 use Rattle.protox_tokens.specs.Parser.{sees}

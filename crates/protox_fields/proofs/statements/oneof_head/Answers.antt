@@ -1,8 +1,8 @@
-use Rattle.protox_fields.proofs.Behind.{Answers, behind, refused, last}
 use Rattle.protox_fields.proofs.StatementLaws.{Moves-oneof_head}
 use Rattle.protox_fields.specs.StatementGrammar.{oneof_head}
 use Rattle.protox_lex.specs.Token.{ident, sign}
 use Rattle.protox_lex.specs.declared.span.Span.{Span}
+use Rattle.protox_options.proofs.Behind.{Answers, behind, refused, last}
 use Rattle.protox_tokens.specs.Parser.{expect, word}
 use Rattle.protox_tokens.specs.Reads.{Fails}
 use Rattle.protox_tokens.specs.Stream.{stream}

@@ -1,6 +1,4 @@
 use Rattle.protox_declarations.specs.EnumGrammar.{enumeration}
-use Rattle.protox_fields.proofs.Behind.{Answers, behind, refused, last, moved}
-use Rattle.protox_fields.proofs.Choices.{chosen, passed}
 use Rattle.protox_fields.proofs.FieldParts.{field_parts}
 use Rattle.protox_fields.proofs.Flat.{flat_behind, flat_refused}
 use Rattle.protox_fields.proofs.Heads.{head_behind, head_refused}
@@ -13,7 +11,9 @@ use Rattle.protox_messages.proofs.Blocks.{unopened, too_many, in_braces}
 use Rattle.protox_messages.proofs.MessageLaws.{item_turns, member_turns, added_turns, Local-block, Moves-block, Moves-message, Moves-group, Moves-field, Moves-member, Moves-oneof, Moves-added, Moves-extend, Moves-item}
 use Rattle.protox_messages.proofs.Parts.{message_parts, oneof_parts, extend_parts, item_message_is, item_enum_is, item_extend_is, item_oneof_is, item_field_is, item_empty_is, member_field_is, member_option_is, member_empty_is, added_field_is, added_empty_is}
 use Rattle.protox_messages.specs.MessageGrammar.{block, group_with, field_with, message_with, item_with, items_with, inside_with, member_with, members_with, oneof_with, added_with, all_added_with, extend_with, group_if, Block}
-use Rattle.protox_messages.proofs.Turns.{turn_goes, turns_end, turn_stops}
+use Rattle.protox_options.proofs.Behind.{Answers, behind, refused, last, moved}
+use Rattle.protox_options.proofs.Choices.{chosen, passed}
+use Rattle.protox_options.proofs.Turns.{turn_goes, turns_end, turn_stops}
 use Rattle.protox_options.specs.NameGrammar.{type_name}
 use Rattle.protox_options.specs.OptionGrammar.{option}
 use Rattle.protox_tokens.proofs.Loops.{none_before}

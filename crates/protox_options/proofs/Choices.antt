@@ -1,5 +1,5 @@
 -- What a rule reads that chooses by what comes next: what holds of the way that it takes holds of it.
-use Rattle.protox_fields.proofs.Behind.{Answers}
+use Rattle.protox_options.proofs.Behind.{Answers}
 use Rattle.protox_tokens.specs.Parser.{Outcome, Parser, choose}
 use Rattle.protox_tokens.specs.Stream.{Stream}
 use Rattle.std.proofs.Common.{◌≡◌, Bool, true, false, sym, subst}

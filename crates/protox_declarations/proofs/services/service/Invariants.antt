@@ -7,14 +7,14 @@ use Rattle.protox_tokens.specs.Stream.{stream}
 use Rattle.protox_tree.specs.View.{service_items_view}
 use Rattle.std.proofs.Common.{◌≡◌, ◌≤◌}
 use Rattle.protox_lex.specs.declared.token.Sign.TheVariants as s
-use Rattle.protox_declarations.proofs.services.items.Given as goal
+use Rattle.protox_declarations.proofs.services.service.Given as goal
 
 abbrev pub invariant-items : goal.invariant-items
 invariant-items l =
     let rest = loop (until (sign s.RightBrace) service_item) in
     record {
       moves : left l.tokens ≤ left l.initial.tokens;
-      so_far : with_front (service_items_view l.items.items) (rest (stream l.tokens)) ≡ service_items (stream l.fn.tokens);
+      so_far : with_front (service_items_view l.items.items) (rest (stream l.tokens)) ≡ service_items (stream l.initial.tokens);
     }
 
 abbrev pub decreases-items : goal.decreases-items
