@@ -84,6 +84,9 @@ use Rattle.linked_view.proofs.Unused.{map_right_only, unused_before}
 use Rattle.linked_view.proofs.Used.{gives_uses, map_one, used, uses_along, uses_by, uses_of}
 use Rattle.linked_view.proofs.Valued.{all_values}
 use Rattle.linked_view.proofs.Walked.{facts_in, seen_body}
+use Rattle.reflect_pool.specs.Linked.{empty_pool}
+use Rattle.linked_view.proofs.Together.{empty_built}
+use Rattle.linked_messages.proofs.Stays.{empty_sound}
 
 module _ (old : PoolType) (w : Linking) (ns : List FileDescriptorProto) (meanings : Meanings)
     (has : IsWellNamed old) (is : IsOf old w)
@@ -415,3 +418,10 @@ module _ (earlier : List (List FileContent)) (old : PoolType) (w : Linking)
       no_reference_faults old w ns meanings built.named is lawful xs h
   no_faults xs (inr (no_names, inr (inl h))) = no_number_faults xs h
   no_faults xs (inr (no_names, inr (inr h))) = no_extension_faults xs h
+
+-- a pool without files is one that no batch built
+pub no_first_faults : (w : Linking) (ns : List FileDescriptorProto) (meanings : Meanings)
+    → IsOf empty_pool w → IsLawful [] (map file_view ns) meanings
+    → (xs : List Fault) → Faulty w ns xs → xs ≡ []
+no_first_faults w ns meanings is lawful =
+    no_faults [] empty_pool w ns meanings empty_built empty_sound.pooled is lawful

@@ -198,7 +198,7 @@ pub fn lawful_files_have_no_fault_of_names_and_references()
 
 /// Behind the files of a pool that batches built no pass finds anything wrong with lawful files: no
 /// extension whose message and number are taken, nothing by the rules of numbers, and so no fault
-/// at all.
+/// at all; so it is in a pool without files.
 pub fn lawful_files_have_no_fault()
     ensures extensions { (earlier : List (List FileContent)) (old : PoolType) (w : Linking)
         (new : List FileDescriptorProto) (meanings : Meanings) → IsBuilt earlier old → IsKept old
@@ -211,6 +211,9 @@ pub fn lawful_files_have_no_fault()
     ensures whole { (earlier : List (List FileContent)) (old : PoolType) (w : Linking)
         (new : List FileDescriptorProto) (meanings : Meanings) → IsBuilt earlier old → IsKept old
         → IsOf old w → IsLawful (map file_view old.records) (map file_view new) meanings
+        → (xs : List Fault) → Faulty w new xs → xs ≡ [] }
+    ensures first { (w : Linking) (new : List FileDescriptorProto) (meanings : Meanings)
+        → IsOf empty_pool w → IsLawful [] (map file_view new) meanings
         → (xs : List Fault) → Faulty w new xs → xs ≡ [] }
 {}
 
