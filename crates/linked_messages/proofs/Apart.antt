@@ -7,7 +7,7 @@ use Rattle.reflect_walk.specs.Declarations.{each}
 use Rattle.reflect_names.specs.Faults.{Fault, Place}
 use Rattle.reflect_names.specs.Names.{Places}
 use Rattle.reflect_rules.specs.Repeats.{is_number, repeat_at, repeats, listed, repeat_faults}
-use Rattle.linked_messages.proofs.Faultless.{none_both}
+use Rattle.reflect_build.proofs.Rules.{none_both}
 
 -- where nothing is found of elements, nothing is found of the one at a place
 none_at : {A X : Type 0} (one : ℕ → A → List X) (k : ℕ) (xs : List A) (j n : ℕ) (x : A)

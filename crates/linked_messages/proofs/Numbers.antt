@@ -14,7 +14,8 @@ use Rattle.reflect_rules.specs.Walks.{Facts, Place}
 use Rattle.reflect_tables.specs.Ranges.{Range, IsRangeOf}
 use Rattle.reflect_walk.specs.Declarations.{Declaration, of_field, of_extension}
 use Rattle.message_view.specs.Sound.{IsFieldNumber}
-use Rattle.linked_messages.proofs.Faultless.{none_both, unfaulted}
+use Rattle.reflect_build.proofs.Rules.{none_both}
+use Rattle.linked_messages.proofs.Faultless.{unfaulted}
 
 -- the record has the number, which is one of fields
 pub record HasNumber (r : FieldDescriptorProto) (n : ℕ) : Type 0 where

@@ -1,15 +1,15 @@
 -- The fields of a map's entries: a key and a value, each of one value, and where they stand.
-use Rattle.std.proofs.Common.{◌≡◌, ◌⊎◌, inl, inr, ◌<◌, ◌&&◌, ◌||◌, ℕ, ℤ, pos, Bool, true, false, List, [], ◌∷◌, length, Option, None, Some, refl, sym, ap, ◌∙◌, subst, codes, slice_index_or}
+use Rattle.std.proofs.Common.{◌≡◌, ◌⊎◌, inl, inr, ◌<◌, ℕ, ℤ, pos, Bool, true, false, List, length, Option, None, Some, refl, sym, ◌∙◌, subst, slice_index_or}
 use Rattle.std.proofs.lemmas.Bool.Decides.{Decides-int_eq}
 use Rattle.descriptor_records.specs.declared.field.FieldDescriptorProto.{FieldDescriptorProto}
 use Rattle.reflect_fields.specs.Fields.{label_of}
 use Rattle.reflect_index.specs.Entry.{IsFieldAt, IsEntryOf}
 use Rattle.reflect_pool.specs.Shapes.{is_repeated}
-use Rattle.reflect_rules.specs.MapEntries.{is_equal, is_optional, is_key_type, is_part, has_name, are_key_and_value, has_entry_shape}
+use Rattle.reflect_rules.specs.MapEntries.{is_optional, is_key_type, has_entry_shape}
 use Rattle.reflect_tables.specs.Types.{FieldType, no_field}
 use Rattle.reflect_tables.specs.declared.stored.StoredEntry.{StoredEntry}
 use Rattle.reflect_index.proofs.Among.{Among}
-use Rattle.reflect_index.proofs.Declared.{both_true}
+use Rattle.reflect_build.proofs.Shaped.{entry_shaped}
 
 -- ---- records
 
@@ -23,50 +23,19 @@ pub record IsPart (r : FieldDescriptorProto) : Type 0 where
   pub optional : is_optional r.label ≡ true
   pub which : IsKey r ⊎ (r.number ≡ Some (pos 2))
 
-equal_number : (o : Option ℤ) (n : ℤ) → is_equal o n ≡ true → o ≡ Some n
-equal_number None n e = absurd (cc e)
-equal_number (Some m) n e = ap Some ((Decides-int_eq m n).0 e)
-
-part_read : (r : FieldDescriptorProto) (name : List ℕ) (n : ℤ) → is_part r name n ≡ true
-    → (r.number ≡ Some n) × (is_optional r.label ≡ true)
-part_read r name n e =
-    let first = both_true (has_name r name && is_equal r.number n) (is_optional r.label) e in
-    (equal_number r.number n (both_true (has_name r name) _ first.0).1, first.1)
-
-key_and_value : (a b : FieldDescriptorProto) → are_key_and_value a b ≡ true → IsPart a × IsPart b
-key_and_value a b e =
-    let k = is_part a (codes "key") (pos 1) in
-    let v = is_part b (codes "value") (pos 2) in
-    let t = is_key_type a.field_type in
-    let first = both_true (k && v && t) _ e in
-    let second = both_true (k && v) t first.0 in
-    let third = both_true k v second.0 in
-    let key = part_read a _ _ third.0 in
-    let value = part_read b _ _ third.1 in (
-      record { optional = key.1; which = inl (record { number = key.0; type = second.1 }) },
-      record { optional = value.1; which = inr value.0 },
-    )
-
-one_true : (a b : Bool) → (a || b) ≡ true → (a ≡ true) ⊎ (b ≡ true)
-one_true true b e = inl refl
-one_true false b e = inr e
-
-both_parts : (a b : FieldDescriptorProto)
-    → (are_key_and_value a b ≡ true) ⊎ (are_key_and_value b a ≡ true) → IsPart a × IsPart b
-both_parts a b (inl e) = key_and_value a b e
-both_parts a b (inr e) = let parts = key_and_value b a e in (parts.1, parts.0)
-
 pub entry_part : (rs : List FieldDescriptorProto) (r : FieldDescriptorProto)
     → has_entry_shape rs ≡ true → Among r rs → IsPart r
-entry_part [] r e h = absurd h
-entry_part (a ∷ []) r e h = absurd (cc e)
-entry_part (a ∷ b ∷ c ∷ rs) r e h = absurd (cc e)
-entry_part (a ∷ b ∷ []) r e h =
-    of_two h (both_parts a b (one_true (are_key_and_value a b) (are_key_and_value b a) e)) where
-      of_two : (a ≡ r) ⊎ ((b ≡ r) ⊎ ⊥) → IsPart a × IsPart b → IsPart r
-      of_two (inl same) parts = subst IsPart same parts.0
-      of_two (inr (inl same)) parts = subst IsPart same parts.1
-      of_two (inr (inr none)) parts = absurd none
+entry_part rs r e h = let both = entry_shaped rs e in
+    elim (both.only r h) [
+      | inl same ↦ subst IsPart same (record {
+        optional = both.are.first.optional;
+        which = inl (record { number = both.are.first.number; type = both.are.type });
+      })
+      | inr same ↦ subst IsPart same (record {
+        optional = both.are.second.optional;
+        which = inr both.are.second.number;
+      })
+    ]
 
 -- such a record is of no list
 pub one_value : (label : Option ℤ) → is_optional label ≡ true → is_repeated (label_of label) ≡ false

@@ -1,5 +1,5 @@
 -- New files behind those of a pool: what is known of all of them, and which files each of them sees.
-use Rattle.std.proofs.Common.{◌≡◌, ◌∙◌, ◌+◌, ◌≤◌, ◌<◌, inl, inr, ℕ, suc, Bool, List, [], ◌∷◌, ◌++◌, Some, map, length, slice_get, append_assoc, zero-add, ap, sym, subst, refl, arith}
+use Rattle.std.proofs.Common.{◌≡◌, ◌∙◌, ◌+◌, ◌≤◌, ◌<◌, inl, inr, ℕ, Bool, List, [], ◌∷◌, ◌++◌, Some, map, length, slice_get, append_assoc, zero-add, ap, sym, subst, refl, arith}
 use Rattle.std.specs.List.{Contains}
 use Rattle.std.proofs.lemmas.List.{map-append, length-map}
 use Rattle.std.proofs.lemmas.List.Elements.{Contains-append_left, Contains-append_cases}

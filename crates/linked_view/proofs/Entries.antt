@@ -111,7 +111,7 @@ module _ (old new : PoolType) (ns : List FileDescriptorProto) (w : Linking) (is 
   ds = batch_declarations w.before w.first ns
 
   -- a message of the linked files, as it was before
-  pub message_source : (meanings : Meanings) (f : FileContent) (d : Declaration)
+  message_source : (meanings : Meanings) (f : FileContent) (d : Declaration)
       (m : view.MessageFacts)
       → Contains (all_linked meanings more) f → Contains (declarations f) d → d.body ≡ of_message m
       → (c : FileContent) × (x : Declaration) × Contains more c × Contains (declarations c) x

@@ -22,7 +22,6 @@ use Rattle.reflect_passes.specs.Linked.{linked_says, linked_values}
 use Rattle.reflect_passes.specs.NameFaults.{name_faults}
 use Rattle.reflect_passes.specs.NumberFaults.{NumberFaults, doubled}
 use Rattle.reflect_passes.specs.declared.linked_types.LinkedTypes.{LinkedTypes}
-use Rattle.reflect_pool.specs.Linked.{empty_pool}
 use Rattle.reflect_rules.specs.Rules.{is_one_map}
 use Rattle.reflect_rules.specs.Uses.{users}
 use Rattle.reflect_rules.specs.Walks.{Facts}
@@ -31,16 +30,14 @@ use Rattle.reflect_scope.specs.Known.{Known}
 use Rattle.reflect_scope.specs.declared.definition.DefinitionKind.TheVariants as kind
 use Rattle.reflect_tables.specs.Names.{FullName, AreFound, found, enum_name, enums, messages, names_of}
 use Rattle.reflect_tables.specs.Types.{ArePooled, ExtensionType, PoolType}
-use Rattle.reflect_tables.specs.Views.{enum_of, extension_of, message_of}
+use Rattle.reflect_tables.specs.Views.{enum_of, extension_of}
 use Rattle.reflect_tables.specs.declared.stored.StoredEnum.{StoredEnum}
-use Rattle.reflect_tables.specs.declared.stored.StoredMessage.{StoredMessage}
 use Rattle.reflect_tables.specs.declared.tables.Tables.{Tables}
 use Rattle.reflect_walk.specs.Batches.{batch_declarations}
 use Rattle.reflect_walk.specs.Declarations as walk
 use Rattle.reflect_walk.specs.Declarations.{Declaration}
 use Rattle.reflect_walk.specs.MapEntries.{says_entry}
 use Rattle.reflect_walk.specs.Tree.{MessageParts}
-use Rattle.linked_messages.proofs.Stays.{empty_sound}
 use Rattle.schema_view.specs.Declarations as view
 use Rattle.schema_view.specs.Files.{is_proto3}
 use Rattle.schema_view.specs.Lawful.{outlines, all_linked, IsLawful, IsOneMap, Keeps, Meanings}
@@ -54,7 +51,6 @@ use Rattle.schema_view.proofs.Road.{AreLinked, built_linked, outlines_linked}
 use Rattle.linked_view.specs.Alone.{IsWellNamed}
 use Rattle.linked_view.specs.AtHand.{AreMetBy, IsMetBy}
 use Rattle.linked_view.specs.Built.{IsBuilt}
-use Rattle.linked_view.specs.Entries.{AreMarked}
 use Rattle.linked_view.specs.Extended.{keys_of, written_keys, HasWritten}
 use Rattle.linked_view.specs.Known.{AreKnown}
 use Rattle.linked_view.specs.Named.{AreWellNamed}
@@ -75,21 +71,22 @@ use Rattle.linked_view.proofs.Found.{found_behind}
 use Rattle.linked_view.proofs.Linked as pass
 use Rattle.linked_view.proofs.Linked.{AreAt, files_mean, sees_at}
 use Rattle.linked_view.proofs.Listed.{batch_listed}
-use Rattle.linked_view.proofs.Marked.{DeclaresEntry, entry_once, older_unused}
+use Rattle.linked_view.proofs.Marked.{declares_behind, declares_linked, entry_once, older_unused}
 use Rattle.linked_view.proofs.Named.{all_in, in_all, named_from}
 use Rattle.linked_view.proofs.Once.{names_it, times_used, used_as_map, written_uses}
 use Rattle.linked_view.proofs.Places.{get_contains}
 use Rattle.linked_view.proofs.Ranged.{known_message, number_told}
 use Rattle.linked_view.proofs.References.{referred_from}
-use Rattle.linked_view.proofs.Shapes.{entry_to}
 use Rattle.linked_view.proofs.Shown.{IsShown, shown_in}
 use Rattle.linked_view.proofs.Sound.{sound_parts}
 use Rattle.linked_view.proofs.Telling.{zip_more}
-use Rattle.linked_view.proofs.Together.{empty_built}
 use Rattle.linked_view.proofs.Unused.{map_right_only, unused_before}
 use Rattle.linked_view.proofs.Used.{gives_uses, map_one, used, uses_along, uses_by, uses_of}
 use Rattle.linked_view.proofs.Valued.{all_values}
 use Rattle.linked_view.proofs.Walked.{facts_in, seen_body}
+use Rattle.reflect_pool.specs.Linked.{empty_pool}
+use Rattle.linked_view.proofs.Together.{empty_built}
+use Rattle.linked_messages.proofs.Stays.{empty_sound}
 
 module _ (old : PoolType) (w : Linking) (ns : List FileDescriptorProto) (meanings : Meanings)
     (has : IsWellNamed old) (is : IsOf old w)
@@ -318,9 +315,8 @@ module _ (earlier : List (List FileContent)) (old : PoolType) (w : Linking)
     abbrev Agreed : view.Body → Type 0
     Agreed = IsAgreed all known known_all indexes sees t facts (outlines after)
 
-    agreed : (marked : AreMarked old.records w.tables.messages.items) (b : view.Body)
-        → seen_body d.body ≡ Some b → Agreed (rename_body namings d.name b)
-    agreed marked b e =
+    agreed : (b : view.Body) → seen_body d.body ≡ Some b → Agreed (rename_body namings d.name b)
+    agreed b e =
         let x = s.shown b e in
         let own = linked_after.each own_file in_after in
         let v = renamed namings x.0 in
@@ -329,7 +325,7 @@ module _ (earlier : List (List FileContent)) (old : PoolType) (w : Linking)
           proto3 = is_proto3 own_file;
           sound = own.sound v inside;
           settled = own.settled v inside;
-          unused = λ full e. older_unused old w is built.named marked t declared.old
+          unused = λ full e. older_unused old w is built.declared t declared.old
               (with_names messages [] ds) known messages_found new linked_before linked_after e.index
               full e.definition e.knows e.is_message e.is_entry own_file v in_new inside;
         } in
@@ -341,16 +337,8 @@ module _ (earlier : List (List FileContent)) (old : PoolType) (w : Linking)
         → says_entry own.options ≡ true → IsOneMap new d.name
     entry_map own body says =
         let x = s.shown (view.of_message (facts_in own)) (ap seen_body body) in
-        let entry : DeclaresEntry after d.name = record {
-          file = own_file;
-          message = renamed namings x.0;
-          facts = facts_in own;
-          there = in_after;
-          inside = declared_in x.0 x.1;
-          name = x.2;
-          body = ap (rename_body namings x.0.name) x.3;
-          says = entry_to own.options says;
-        } in
+        let entry = declares_behind given new d.name
+        (declares_linked meant w.first ns d s own body says) in
         let there : IsDeclared (outlines more) d.name (sort_of x.0.body) = (
           outline_of content,
           head_of x.0,
@@ -390,28 +378,27 @@ module _ (earlier : List (List FileContent)) (old : PoolType) (w : Linking)
       used_as_map d.name new one.map u
       (subst (λ us. Contains (filter (names_it d.name) us) u) uses i))
 
-  module _ (marked : AreMarked old.records w.tables.messages.items) where
-    all_met : AreMetBy facts (linked_values t) views ds
-    all_met = all_in (λ (d : Declaration). IsMetBy facts (linked_values t) (views d.file) d) ds (λ d h.
-        let s = shown_in w.before w.first ns d h in
-        let at = batch_places ns w.first in
-        let same = view_is d s in
-        subst (λ v. IsMetBy facts (linked_values t) v d) (sym same)
-        (met_seen all known known_all indexes sees t facts (outlines after) tell (content d s)
-        (at d.file) d d.body
-        (subst (λ v. reference_faults_at (at d.file) v d ≡ []) same (none_at at views ds none d h))
-        (agreed d s marked) (λ own body says. entry_used d own h body says)))
+  all_met : AreMetBy facts (linked_values t) views ds
+  all_met = all_in (λ (d : Declaration). IsMetBy facts (linked_values t) (views d.file) d) ds
+      (λ d h. let s = shown_in w.before w.first ns d h in
+      let at = batch_places ns w.first in
+      let same = view_is d s in
+      subst (λ v. IsMetBy facts (linked_values t) v d) (sym same)
+      (met_seen all known known_all indexes sees t facts (outlines after) tell (content d s)
+      (at d.file) d d.body
+      (subst (λ v. reference_faults_at (at d.file) v d ≡ []) same (none_at at views ds none d h))
+      (agreed d s) (λ own body says. entry_used d own h body says)))
 
-    pub no_faulty_numbers : (xs : List Fault) → NumberFaults t w.before w.first ns rs xs → xs ≡ []
-    no_faulty_numbers xs h =
-        let at = batch_places ns w.first in
-        let parts = sound_parts more lawful.sound in
-        ruled_only facts (linked_values t) at (start_of rs) w.before w.first ns parts.0 parts.1 told
-        (λ i text suits has decides. decides.1 (has.0 refl)) (
-          parts.3,
-          met_by_to facts (linked_values t) views at (start_of rs) ds none means.right.targets
-              all_met,
-        ) xs h
+  pub no_faulty_numbers : (xs : List Fault) → NumberFaults t w.before w.first ns rs xs → xs ≡ []
+  no_faulty_numbers xs h =
+      let at = batch_places ns w.first in
+      let parts = sound_parts more lawful.sound in
+      ruled_only facts (linked_values t) at (start_of rs) w.before w.first ns parts.0 parts.1 told
+      (λ i text suits has decides. decides.1 (has.0 refl)) (
+        parts.3,
+        met_by_to facts (linked_values t) views at (start_of rs) ds none means.right.targets
+            all_met,
+      ) xs h
 
 module _ (earlier : List (List FileContent)) (old : PoolType) (w : Linking)
     (ns : List FileDescriptorProto) (meanings : Meanings) (built : IsBuilt earlier old)
@@ -421,26 +408,20 @@ module _ (earlier : List (List FileContent)) (old : PoolType) (w : Linking)
   no_extension_faults xs (rs, t, means, declared, numbers, same) =
       same ∙ no_doubled earlier old w ns meanings built pooled is lawful rs t means declared
 
-  module _ (marked : AreMarked old.records w.tables.messages.items) where
-    pub no_number_faults : (xs : List Fault) → FaultyNumbers (with_declared w ns) ns xs → xs ≡ []
-    no_number_faults xs (rs, t, means, declared, h) =
-        no_faulty_numbers earlier old w ns meanings built pooled is lawful rs t means declared marked xs h
+  pub no_number_faults : (xs : List Fault) → FaultyNumbers (with_declared w ns) ns xs → xs ≡ []
+  no_number_faults xs (rs, t, means, declared, h) =
+      no_faulty_numbers earlier old w ns meanings built pooled is lawful rs t means declared xs h
 
-    pub no_faults : (xs : List Fault) → Faulty w ns xs → xs ≡ []
-    no_faults xs (inl same) = same ∙ no_name_faults old w ns meanings built.named is lawful
-    no_faults xs (inr (no_names, inl h)) =
-        no_reference_faults old w ns meanings built.named is lawful xs h
-    no_faults xs (inr (no_names, inr (inl h))) = no_number_faults xs h
-    no_faults xs (inr (no_names, inr (inr h))) = no_extension_faults xs h
+  pub no_faults : (xs : List Fault) → Faulty w ns xs → xs ≡ []
+  no_faults xs (inl same) = same ∙ no_name_faults old w ns meanings built.named is lawful
+  no_faults xs (inr (no_names, inl h)) =
+      no_reference_faults old w ns meanings built.named is lawful xs h
+  no_faults xs (inr (no_names, inr (inl h))) = no_number_faults xs h
+  no_faults xs (inr (no_names, inr (inr h))) = no_extension_faults xs h
 
--- in a pool without files
-none_marked : (ms : List StoredMessage) → map message_of ms ≡ [] → AreMarked [] ms
-none_marked [] e = refl
-none_marked (m ∷ ms) e = absurd (cc e)
-
+-- a pool without files is one that no batch built
 pub no_first_faults : (w : Linking) (ns : List FileDescriptorProto) (meanings : Meanings)
     → IsOf empty_pool w → IsLawful [] (map file_view ns) meanings
     → (xs : List Fault) → Faulty w ns xs → xs ≡ []
 no_first_faults w ns meanings is lawful =
     no_faults [] empty_pool w ns meanings empty_built empty_sound.pooled is lawful
-    (none_marked w.tables.messages.items (ap (λ (p : PoolType). p.messages) is.tables))

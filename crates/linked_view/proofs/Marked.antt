@@ -1,58 +1,49 @@
--- Older types of maps' entries, by what is stored of them, are declared as such, and new files do not
--- use them where all are linked.
-use Rattle.std.proofs.Common.{◌≡◌, ◌<◌, ◌∙◌, ◌&&◌, inl, inr, ℕ, Bool, true, false, nat_lt, List, ◌++◌, Option, Some, None, map, slice_get, ap, sym, subst, arith}
+-- Which types of maps' entries files declare where they are linked: older ones are declared by
+-- older files, by what is stored of them, and new files do not use them.
+use Rattle.std.proofs.Common.{◌≡◌, ◌<◌, ◌∙◌, ◌&&◌, inl, inr, ℕ, Bool, true, false, is_some, nat_lt, List, ◌++◌, Option, Some, None, map, slice_get, ap, sym, subst, arith}
 use Rattle.std.specs.List.{Contains}
 use Rattle.std.proofs.lemmas.List.{length-map}
-use Rattle.std.proofs.lemmas.List.Elements.{Contains-append_left}
+use Rattle.std.proofs.lemmas.List.Elements.{Contains-append_left, Contains-append_right}
 use Rattle.descriptor_records.specs.Content.{Text, FileContent, file_view}
+use Rattle.descriptor_records.specs.declared.file.FileDescriptorProto.{FileDescriptorProto}
 use Rattle.reflect_build.specs.Refusals.{Linking, IsOf}
-use Rattle.reflect_index.specs.OfDeclarations.{messages_in}
-use Rattle.reflect_known.specs.KnownNames.{nothing_before}
 use Rattle.reflect_passes.specs.Linked.{linked_says, message_at}
 use Rattle.reflect_passes.specs.declared.linked_types.LinkedTypes.{LinkedTypes}
+use Rattle.reflect_pool.specs.Stored.{SaysEntry as MarksEntry}
 use Rattle.reflect_scope.specs.Known.{Known}
 use Rattle.reflect_scope.specs.declared.definition.Definition.{Definition}
 use Rattle.reflect_scope.specs.declared.definition.DefinitionKind.TheVariants as kind
 use Rattle.reflect_tables.specs.Names.{FullName, AreFound, found, message_name, messages, names_of, place_in, place_of, with_file}
-use Rattle.reflect_tables.specs.Types.{PoolType}
+use Rattle.reflect_tables.specs.Types.{MessageType, PoolType}
+use Rattle.reflect_tables.specs.Views.{message_of}
 use Rattle.reflect_tables.specs.declared.stored.StoredMessage.{StoredMessage}
 use Rattle.reflect_tables.specs.declared.tables.Tables.{Tables}
-use Rattle.reflect_walk.specs.Batches.{batch_declarations}
+use Rattle.reflect_walk.specs.Declarations as walk
 use Rattle.reflect_walk.specs.MapEntries.{says_entry}
 use Rattle.reflect_walk.specs.Tree.{MessageParts}
-use Rattle.schema_view.specs.Declarations.{MessageFacts, of_message, Declaration, declarations}
-use Rattle.schema_view.specs.Lawful.{IsOneMap}
-use Rattle.schema_view.specs.Rules.{SaysEntry}
+use Rattle.schema_view.specs.Declarations.{of_message, declarations}
+use Rattle.schema_view.specs.Lawful.{IsOneMap, Meanings, all_linked}
+use Rattle.schema_view.specs.References.{Reference, Target, dotted, linked}
+use Rattle.schema_view.proofs.Lists.{contains_map}
+use Rattle.schema_view.proofs.Renames.{rename_body, renamed, declarations_renamed}
 use Rattle.schema_view.proofs.Road.{AreLinked}
-use Rattle.linked_view.specs.Alone.{IsWellNamed}
-use Rattle.linked_view.specs.Entries.{AreMarked}
+use Rattle.linked_view.specs.Entries.{DeclaresEntry, HasDeclaredEntries}
 use Rattle.linked_view.proofs.Defaulted.{both_at, split_at}
-use Rattle.linked_view.proofs.Found.{found_place, message_place}
-use Rattle.linked_view.proofs.Indexed.{message_known}
+use Rattle.linked_view.proofs.Named.{in_all}
 use Rattle.linked_view.proofs.Numbers.{and_to}
-use Rattle.linked_view.proofs.Places.{get_map, get_map_cases}
+use Rattle.linked_view.proofs.Places.{get_contains, get_map_cases}
 use Rattle.linked_view.proofs.Shapes.{entry_to}
+use Rattle.linked_view.proofs.Shown.{IsShown}
 use Rattle.linked_view.proofs.Telling.{get_before}
 use Rattle.linked_view.proofs.Unused.{Unused, map_left_only}
-use Rattle.linked_view.proofs.Walked.{facts_in}
-
--- the files declare the type of a map's entries under the name
-pub record DeclaresEntry (fs : List FileContent) (full : Text) : Type 0 where
-  pub file : FileContent
-  pub message : Declaration
-  pub facts : MessageFacts
-  pub there : Contains fs file
-  pub inside : Contains (declarations file) message
-  pub name : message.name ≡ full
-  pub body : message.body ≡ of_message facts
-  pub says : SaysEntry facts.options
+use Rattle.linked_view.proofs.Walked.{facts_in, seen_body}
 
 pub entry_once : (fs : List FileContent) → AreLinked fs → (full : Text) → DeclaresEntry fs full
     → IsOneMap fs full
 entry_once fs linked full e = subst (IsOneMap fs) e.name
     (linked.together.entries e.file e.message e.facts e.there e.inside e.body e.says)
 
-declares_more : (a b : List FileContent) (full : Text) → DeclaresEntry a full
+pub declares_more : (a b : List FileContent) (full : Text) → DeclaresEntry a full
     → DeclaresEntry (a ++ b) full
 declares_more a b full e = record {
   file = e.file;
@@ -65,8 +56,41 @@ declares_more a b full e = record {
   says = e.says;
 }
 
-abbrev marks : StoredMessage → Bool
-marks m = m.is_entry
+pub declares_behind : (a b : List FileContent) (full : Text) → DeclaresEntry b full
+    → DeclaresEntry (a ++ b) full
+declares_behind a b full e = record {
+  file = e.file;
+  message = e.message;
+  facts = e.facts;
+  there = Contains-append_right a b e.file e.there;
+  inside = e.inside;
+  name = e.name;
+  body = e.body;
+  says = e.says;
+}
+
+-- what files declare so is declared in the linked files too
+pub declares_linked : (meanings : Meanings) (first : ℕ) (fs : List FileDescriptorProto)
+    (d : walk.Declaration) → IsShown first fs d → (own : MessageParts)
+    → d.body ≡ walk.of_message own → says_entry own.options ≡ true
+    → DeclaresEntry (all_linked meanings (map file_view fs)) d.name
+declares_linked meanings first fs d s own body says =
+    let content = file_view s.own in
+    let namings : Reference → Target = λ r. dotted (meanings content r) in
+    let x = s.shown (of_message (facts_in own)) (ap seen_body body) in
+    record {
+      file = linked (meanings content) content;
+      message = renamed namings x.0;
+      facts = facts_in own;
+      there = contains_map (λ (f : FileContent). linked (meanings f) f) (map file_view fs) content
+          (contains_map file_view fs s.own (get_contains fs s.place s.own s.at));
+      inside = subst (λ l. Contains l (renamed namings x.0))
+          (sym (declarations_renamed namings content))
+          (contains_map (renamed namings) (declarations content) x.0 x.1);
+      name = x.2;
+      body = ap (rename_body namings x.0.name) x.3;
+      says = entry_to own.options says;
+    }
 
 abbrev pub marks_by : Option StoredMessage → Bool
 marks_by o = elim o [ None ↦ false | Some m ↦ m.is_entry ]
@@ -80,9 +104,8 @@ older_at w t tables i m e =
     both_at olds news i m (get_before olds news i m
     (ap (λ (x : Tables). slice_get x.messages.items i) tables ∙ e))
 
-module _ (old : PoolType) (w : Linking) (is : IsOf old w) (has : IsWellNamed old)
-    (marked : AreMarked old.records w.tables.messages.items) (t : LinkedTypes)
-    (tables : t.old.now ≡ w.tables) where
+module _ (old : PoolType) (w : Linking) (is : IsOf old w) (declared : HasDeclaredEntries old)
+    (t : LinkedTypes) (tables : t.old.now ≡ w.tables) where
   abbrev given : List FileContent
   given = map file_view old.records
 
@@ -91,26 +114,16 @@ module _ (old : PoolType) (w : Linking) (is : IsOf old w) (has : IsWellNamed old
       → (linked_says t).is_entry i ≡ true → DeclaresEntry given full
   older_declared i file full named entry =
       let stored = w.tables.messages.items in
-      let d = found_place messages (w.known full) i file ((is.named.found messages full i file).1 named)
-      in
-      let m = message_known old.records has.named full d.0 i
-      (ap (λ (k : Known). k full) (sym is.known) ∙ d.1) (message_place d.0.kind i d.2) in
-      let parts = messages_in (batch_declarations nothing_before 0 old.records) in
-      let s = get_map_cases marks stored i (says_entry m.own.options)
-      (ap (λ bs. slice_get bs i) marked
-      ∙ get_map (λ (p : MessageParts). says_entry p.options) parts i m.own m.place) in
-      let says : says_entry m.own.options ≡ true = sym s.2
-      ∙ sym (ap marks_by (older_at w t tables i s.0 s.1)) ∙ entry in
-      record {
-        file = m.file;
-        message = m.message;
-        facts = facts_in m.own;
-        there = m.there;
-        inside = m.inside;
-        name = m.name;
-        body = m.body;
-        says = entry_to m.own.options says;
-      }
+      let m = get_map_cases message_name old.messages i (full, file) named in
+      let s = get_map_cases message_of stored i m.0
+      (ap (λ (p : PoolType). slice_get p.messages i) is.tables ∙ m.1) in
+      let says : s.0.is_entry ≡ true = sym (ap marks_by (older_at w t tables i s.0 s.1)) ∙ entry in
+      let marks : s.0.is_entry ≡ is_some s.0.entry =
+      in_all MarksEntry stored is.stored.entries s.0 (get_contains stored i s.0 s.1) in
+      let parts : is_some m.0.entry ≡ true =
+      sym (ap (λ (x : MessageType). is_some x.entry) s.2) ∙ sym marks ∙ says in
+      subst (DeclaresEntry given) (ap (λ (n : FullName). n.0) m.2)
+      (declared m.0 (get_contains old.messages i m.0 m.1) parts)
 
   -- and no new file uses it
   pub older_unused : (more : List FullName) (known : Known)

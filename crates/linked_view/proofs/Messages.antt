@@ -1,8 +1,7 @@
 -- The fields of a message stand behind its declaration: what is asked of each field by the message
 -- that was declared last is asked of the fields of each message.
-use Rattle.std.proofs.Common.{◌≡◌, ◌+◌, ℕ, ℤ, pos, List, [], ◌∷◌, ◌++◌, Option, Some, None, length, refl}
-use Rattle.std.proofs.lemmas.List.Elements.{Contains-append_left, Contains-append_right}
-use Rattle.std.specs.List.{AllByRecursion, Contains}
+use Rattle.std.proofs.Common.{◌+◌, ℕ, ℤ, pos, List, [], ◌∷◌, ◌++◌, Option, Some, None, length}
+use Rattle.std.specs.List.{AllByRecursion}
 use Rattle.descriptor_records.specs.declared.enums.EnumDescriptorProto.{EnumDescriptorProto}
 use Rattle.descriptor_records.specs.declared.field.FieldDescriptorProto.{FieldDescriptorProto}
 use Rattle.descriptor_records.specs.declared.file.FileDescriptorProto.{FileDescriptorProto}
@@ -10,11 +9,9 @@ use Rattle.descriptor_records.specs.declared.service.ServiceDescriptorProto.{Ser
 use Rattle.reflect_scope.specs.Means.{join}
 use Rattle.reflect_walk.specs.declared.visit_parts.Offsets.{Offsets}
 use Rattle.reflect_walk.specs.Tree.{text_of, MessageParts, Message, message, Messages, no_messages, more_messages}
-use Rattle.reflect_walk.specs.Declarations.{Declaration, Body, of_file, of_message, of_field, of_oneof, of_enum, of_enum_value, of_service, of_method, of_extension, each, entry, one_field, one_oneof, one_value, one_enum, one_method, one_service, one_extension, past_message, past_file, past_tree, past_trees, trees_of, file_declaration, file_declarations, tree_declarations, trees_declarations}
-use Rattle.reflect_walk.specs.Batches.{batch_declarations}
+use Rattle.reflect_walk.specs.Declarations.{Declaration, Body, of_file, of_message, of_field, of_oneof, of_enum, of_enum_value, of_service, of_method, of_extension, each, entry, one_field, one_oneof, one_value, one_enum, one_method, one_service, one_extension, past_message, past_tree, past_trees, trees_of, tree_declarations, trees_declarations}
 use Rattle.reflect_rules.specs.Rules.{parent_of}
 use Rattle.reflect_rules.specs.Walks.{oneofs_behind}
-use Rattle.schema_view.proofs.Lists.{contains_here, contains_there}
 use Rattle.linked_view.proofs.Walked.{inner_declarations}
 
 -- neither a message nor a field
@@ -292,110 +289,3 @@ module _ (Q : ℕ → ℕ → FieldDescriptorProto → Type 0) where
         in_joined k trees outer
         (trees_from [] (pos 4) (text_of f.package) file None 0 o k (trees_of f) parts.0)
         (plain_in (oneofs_after k trees) outer outer_plain)
-
--- a field names the message that it is in
-abbrev HasParent : Declaration → Type 0
-HasParent d = elim d.body [
-  | of_file f ↦ Unit {0}
-  | of_message m ↦ Unit {0}
-  | of_field f ↦ d.parent ≡ Some (parent_of d)
-  | of_oneof o ↦ Unit {0}
-  | of_enum e ↦ Unit {0}
-  | of_enum_value v ↦ Unit {0}
-  | of_service s ↦ Unit {0}
-  | of_method m ↦ Unit {0}
-  | of_extension x ↦ Unit {0}
-]
-
-abbrev HaveParents : List Declaration → Type 0
-HaveParents ds = AllByRecursion HasParent ds
-
-parents_both : (a b : List Declaration) → HaveParents a → HaveParents b → HaveParents (a ++ b)
-parents_both [] b h k = k
-parents_both (d ∷ a) b h k = (h.0, parents_both a b h.1 k)
-
-plain_parent : (d : Declaration) (b : Body) → IsPlain b → HasParent (record d { body = b })
-plain_parent d (of_file f) h = tt
-plain_parent d (of_message m) h = absurd h
-plain_parent d (of_field f) h = absurd h
-plain_parent d (of_oneof o) h = tt
-plain_parent d (of_enum e) h = tt
-plain_parent d (of_enum_value v) h = tt
-plain_parent d (of_service s) h = tt
-plain_parent d (of_method m) h = tt
-plain_parent d (of_extension x) h = tt
-
-plain_parents : (ds : List Declaration) → ArePlain ds → HaveParents ds
-plain_parents [] h = tt
-plain_parents (d ∷ ds) h = (plain_parent d d.body h.0, plain_parents ds h.1)
-
-fields_parents : (path : List ℤ) (scope : List ℕ) (file parent k : ℕ)
-    (fs : List FieldDescriptorProto) → HaveParents (each (one_field path scope file parent) k fs)
-fields_parents path scope file parent k [] = tt
-fields_parents path scope file parent k (f ∷ fs) =
-    (refl, fields_parents path scope file parent (k + 1) fs)
-
-mutual
-  tree_parents : (path : List ℤ) (scope : List ℕ) (file : ℕ) (parent : Option ℕ) (o : Offsets)
-      (m : Message) → HaveParents (tree_declarations path scope file parent o m)
-  tree_parents path scope file parent o (message own nested) =
-      let n = join scope (text_of own.name) in (
-        tt,
-        parents_both _ _ (fields_parents path n file o.messages 0 own.field)
-            (parents_both _ _
-            (trees_parents path (pos 3) n file (Some o.messages) 0 (past_message o) nested)
-            (plain_parents _ (others_plain (λ k i f. Unit {0}) path file o own nested scope))),
-      )
-
-  trees_parents : (path : List ℤ) (tag : ℤ) (scope : List ℕ) (file : ℕ) (parent : Option ℕ) (i : ℕ)
-      (o : Offsets) (ms : Messages)
-      → HaveParents (trees_declarations path tag scope file parent i o ms)
-  trees_parents path tag scope file parent i o no_messages = tt
-  trees_parents path tag scope file parent i o (more_messages m ms) =
-      parents_both _ _ (tree_parents (entry path tag i) scope file parent o m)
-      (trees_parents path tag scope file parent (i + 1) (past_tree o m) ms)
-
--- a field of the message of the index is declared there
-abbrev pub IsDeclaredIn : List Declaration → ℕ → ℕ → FieldDescriptorProto → Type 0
-IsDeclaredIn whole oneofs i f =
-    (d : Declaration) × Contains whole d × (d.body ≡ of_field f) × (d.parent ≡ Some i)
-
-one_in : (whole : List Declaration) (k : ℕ) (d : Declaration) (b : Body) → d.body ≡ b
-    → HasParent (record d { body = b }) → Contains whole d
-    → IsIn (IsDeclaredIn whole) k (record d { body = b })
-one_in whole k d (of_file f) is h there = tt
-one_in whole k d (of_message m) is h there = tt
-one_in whole k d (of_field f) is h there = (d, there, is, h)
-one_in whole k d (of_oneof o) is h there = tt
-one_in whole k d (of_enum e) is h there = tt
-one_in whole k d (of_enum_value v) is h there = tt
-one_in whole k d (of_service s) is h there = tt
-one_in whole k d (of_method m) is h there = tt
-one_in whole k d (of_extension x) is h there = tt
-
-each_in : (whole : List Declaration) (k : ℕ) (ds : List Declaration) → HaveParents ds
-    → ((d : Declaration) → Contains ds d → Contains whole d) → AreIn (IsDeclaredIn whole) k ds
-each_in whole k [] h there = tt
-each_in whole k (d ∷ ds) h there = (
-  one_in whole k d d.body refl h.0 (there d (contains_here d ds)),
-  each_in whole (oneofs_behind d k) ds h.1 (λ e i. there e (contains_there d ds e i)),
-)
-
--- so are all fields of the messages of a batch
-pub batch_fields : (whole : List Declaration) (o : Offsets) (i : ℕ) (fs : List FileDescriptorProto)
-    → ((d : Declaration) → Contains (batch_declarations o i fs) d → Contains whole d)
-    → HaveFields (IsDeclaredIn whole) (batch_declarations o i fs)
-batch_fields whole o i [] there = tt
-batch_fields whole o i (f ∷ fs) there =
-    let here = file_declarations o i f in
-    let rest = batch_declarations (past_file o f) (i + 1) fs in
-    let inner = inner_declarations o i f in
-    let parents = parents_both _ _
-    (trees_parents [] (pos 4) (text_of f.package) i None 0 o (trees_of f))
-    (plain_parents _ (outer_plain (IsDeclaredIn whole) o i f)) in
-    have_joined (IsDeclaredIn whole) here rest (
-      tt,
-      inner_to (IsDeclaredIn whole) o i f 0 (each_in whole 0 inner parents (λ d k.
-          there d (Contains-append_left here rest d (contains_there (file_declaration [] i f) inner d k)))),
-    )
-    (batch_fields whole (past_file o f) (i + 1) fs (λ d k. there d (Contains-append_right here rest d k)))

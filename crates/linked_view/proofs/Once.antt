@@ -31,7 +31,7 @@ sum_filter {X} test (x ∷ xs) =
           ap (λ b. length (cond b (x ∷ filter test xs) (filter test xs))) is in
           omega (arith, sum, rest, here, all)
 
-pub filter_contains : {X : Type 0} (test : X → Bool) (xs : List X) (x : X) → Contains xs x
+filter_contains : {X : Type 0} (test : X → Bool) (xs : List X) (x : X) → Contains xs x
     → test x ≡ true → Contains (filter test xs) x
 filter_contains test [] x h e = absurd (contains_none x h)
 filter_contains {X} test (y ∷ xs) x h e =

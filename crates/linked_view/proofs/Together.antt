@@ -44,7 +44,7 @@ use Rattle.linked_view.proofs.Kept.{empty_has_names, pool_keeps}
 use Rattle.linked_view.proofs.Linked.{meanings}
 use Rattle.linked_view.proofs.Marked.{marks_by, older_at}
 use Rattle.linked_view.proofs.Named.{in_all}
-use Rattle.linked_view.proofs.Parted.{empty_entries, pool_entries}
+use Rattle.linked_view.proofs.Parted.{empty_declared, empty_entries, pool_declared, pool_entries}
 use Rattle.linked_view.proofs.Places.{contains_get, get_contains, get_less, get_map, get_map_cases}
 use Rattle.linked_view.proofs.Ranged.{numbers_keep}
 use Rattle.linked_view.proofs.Settling.{all_good, batch_holds}
@@ -97,9 +97,10 @@ module _ (old new : PoolType) (ns : List FileDescriptorProto) (w : Linking) (is 
     older_entry i t e parts =
         let x = get_map_cases message_of stored i t
         (ap (λ (p : PoolType). slice_get p.messages i) is.tables ∙ e) in
-        let marks = in_all MarksEntry stored is.stored.entries x.0 (get_contains stored i x.0 x.1) in
+        let marks : x.0.is_entry ≡ is_some x.0.entry =
+        in_all MarksEntry stored is.stored.entries x.0 (get_contains stored i x.0 x.1) in
         let says : x.0.is_entry ≡ true =
-        marks (ap (λ (y : MessageType). is_some y.entry) x.2 ∙ parts) in
+        marks ∙ ap (λ (y : MessageType). is_some y.entry) x.2 ∙ parts in
         ap marks_by (older_at w batch.types batch.declared.old i x.0 x.1) ∙ says
 
     -- new files do not use an older type of entries
@@ -214,6 +215,7 @@ built_more earlier old new fs is recorded index kept faultless =
         extensions = pool_tells old new fs is.named index kept is.extensions faultless;
         values = pool_values old new fs is.named kept is.values faultless;
         entries = pool_entries old new fs is.named index kept is.entries faultless;
+        declared = pool_declared old new fs is.named index kept is.declared faultless;
         built = (map file_view old.records, is.built, r.2);
       },
     )
@@ -225,5 +227,6 @@ empty_built = record {
   extensions = tt;
   values = refl;
   entries = empty_entries;
+  declared = empty_declared;
   built = refl;
 }

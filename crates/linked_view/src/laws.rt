@@ -39,7 +39,7 @@ ghost use Rattle.schema_view.specs.Outlines.{Outline, outline_of};
 ghost use Rattle.schema_view.specs.References.{Want};
 ghost use Rattle.schema_view.specs.Rules.{HasFirst};
 ghost use Rattle.linked_view.specs.Enums.{IsNumbered};
-ghost use Rattle.linked_view.specs.Entries.{AreMarked, HaveOneUse, TellsEntries};
+ghost use Rattle.linked_view.specs.Entries.{HasDeclaredEntries, HaveOneUse, TellsEntries};
 ghost use Rattle.linked_view.specs.Extended.{IsIndexed, TellsExtensions};
 ghost use Rattle.linked_messages.specs.Kept.{IsKept};
 ghost use Rattle.linked_view.specs.Alone.{AreLawfulAlone, AreSettledAlone, IsWellNamed, IsRecorded};
@@ -196,9 +196,9 @@ pub fn lawful_files_have_no_fault_of_names_and_references()
         → (xs : List Fault) → FaultyReferences (with_declared w new) new xs → xs ≡ [] }
 {}
 
-/// Lawful files have no extension whose message and number are taken, behind those of a pool that
-/// batches built. No pass finds anything wrong with them where the messages that are stored as types
-/// of maps' entries are those that the pool's records declare as such, as in a pool without files.
+/// Behind the files of a pool that batches built no pass finds anything wrong with lawful files: no
+/// extension whose message and number are taken, nothing by the rules of numbers, and so no fault
+/// at all; so it is in a pool without files.
 pub fn lawful_files_have_no_fault()
     ensures extensions { (earlier : List (List FileContent)) (old : PoolType) (w : Linking)
         (new : List FileDescriptorProto) (meanings : Meanings) → IsBuilt earlier old → IsKept old
@@ -207,12 +207,10 @@ pub fn lawful_files_have_no_fault()
     ensures numbers { (earlier : List (List FileContent)) (old : PoolType) (w : Linking)
         (new : List FileDescriptorProto) (meanings : Meanings) → IsBuilt earlier old → IsKept old
         → IsOf old w → IsLawful (map file_view old.records) (map file_view new) meanings
-        → AreMarked old.records w.tables.messages.items → (xs : List Fault)
-        → FaultyNumbers (with_declared w new) new xs → xs ≡ [] }
+        → (xs : List Fault) → FaultyNumbers (with_declared w new) new xs → xs ≡ [] }
     ensures whole { (earlier : List (List FileContent)) (old : PoolType) (w : Linking)
         (new : List FileDescriptorProto) (meanings : Meanings) → IsBuilt earlier old → IsKept old
         → IsOf old w → IsLawful (map file_view old.records) (map file_view new) meanings
-        → AreMarked old.records w.tables.messages.items
         → (xs : List Fault) → Faulty w new xs → xs ≡ [] }
     ensures first { (w : Linking) (new : List FileDescriptorProto) (meanings : Meanings)
         → IsOf empty_pool w → IsLawful [] (map file_view new) meanings
@@ -289,6 +287,15 @@ pub fn pools_tell_of_entries()
     ensures kept { (old new : PoolType) (files : List FileDescriptorProto) → IsWellNamed old
         → IsIndexed new → IsKept new → TellsEntries old
         → FaultlessFiles old files new → TellsEntries new }
+{}
+
+/// A pool without files has no type with the parts of a map's entry, and where files are accepted
+/// it has none that its records do not declare as the type of a map's entries.
+pub fn pools_have_declared_entries()
+    ensures empty { HasDeclaredEntries empty_pool }
+    ensures kept { (old new : PoolType) (files : List FileDescriptorProto) → IsWellNamed old
+        → IsIndexed new → IsKept new → HasDeclaredEntries old
+        → FaultlessFiles old files new → HasDeclaredEntries new }
 {}
 
 /// Behind a pool that batches built, accepted files are added: they are lawful behind the pool's own,

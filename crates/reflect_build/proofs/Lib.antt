@@ -16,3 +16,6 @@ pub mod Wholes
 pub mod Stays
 pub mod AtPaths
 pub mod CutPaths
+pub mod Rules
+pub mod Shaped
+pub mod Marked

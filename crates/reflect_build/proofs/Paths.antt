@@ -1,4 +1,5 @@
--- What files declare stands at its path in the record of its file, and in what declares it.
+-- What files declare stands at its path in the record of its file, and in what declares it; and the
+-- fields of each message are declared.
 use Rattle.std.proofs.Common.{◌≡◌, ◌⊎◌, inl, inr, ◌+◌, ◌-◌, ℕ, suc, ℤ, pos, Bool, true, cond, List, [], ◌∷◌, ◌++◌, map, length, length-append, take_at, drop_at, Option, None, Some, refl, sym, ap, ◌∙◌, subst, arith, slice_get}
 use Rattle.std.specs.Option.{option_and_then}
 use Rattle.std.specs.Ordering.{int_eq}
@@ -11,7 +12,7 @@ use Rattle.descriptor_records.specs.declared.message.DescriptorProto.TheViews.{o
 use Rattle.descriptor_records.specs.declared.service.ServiceDescriptorProto.{ServiceDescriptorProto}
 use Rattle.reflect_scope.specs.Means.{join}
 use Rattle.reflect_walk.specs.Batches.{batch_declarations}
-use Rattle.reflect_walk.specs.Declarations.{Declaration, Body, of_file, of_message, of_field, of_oneof, of_enum, of_enum_value, of_service, of_method, of_extension, each, entry, file_declaration, one_field, one_oneof, one_value, one_enum, one_method, one_service, one_extension, message_declaration, enum_declaration, service_declaration, past_message, past_tree, past_trees, past_file, trees_of, tree_declarations, trees_declarations, file_declarations}
+use Rattle.reflect_walk.specs.Declarations.{Declaration, Body, of_file, of_message, of_field, of_oneof, of_enum, of_enum_value, of_service, of_method, of_extension, each, entry, file_declaration, field_declaration, one_field, one_oneof, one_value, one_enum, one_method, one_service, one_extension, message_declaration, enum_declaration, service_declaration, past_message, past_tree, past_trees, past_file, trees_of, tree_declarations, trees_declarations, file_declarations}
 use Rattle.reflect_walk.specs.Tree.{text_of, MessageParts, Message, message, Messages, no_messages, more_messages, messages_of, message_step, parts_of, tree_of}
 use Rattle.reflect_walk.specs.declared.visit_parts.Offsets.{Offsets}
 use Rattle.reflect_index.specs.Along.{is_message, is_enum, is_service}
@@ -138,11 +139,26 @@ HasWhole file all parent body = elim body [
   | _ ↦ Unit {0}
 ]
 
+-- a field is declared in the message of the index
+pub record IsFieldIn (all : List Declaration) (index : ℕ) (r : FieldDescriptorProto) : Type 0 where
+  pub declaration : Declaration
+  pub among : Among declaration all
+  pub body : declaration.body ≡ of_field r
+  pub parent : declaration.parent ≡ Some index
+
+-- so are all fields of a message
+abbrev pub HasFields : List Declaration → ℕ → Body → Type 0
+HasFields all index body = elim body [
+  | of_message own ↦ (r : FieldDescriptorProto) → Among r own.field → IsFieldIn all index r
+  | _ ↦ Unit {0}
+]
+
 pub record IsPlaced (f : FileDescriptorProto) (file : ℕ) (all : List Declaration)
     (d : Declaration) : Type 0 where
   pub file_is : d.file ≡ file
   pub leads : Leads f d.path d.body
   pub whole : HasWhole file all d.parent d.body
+  pub fields : HasFields all d.index d.body
 
 -- ---- the declarations of a file
 
@@ -226,6 +242,7 @@ module _ (f : FileDescriptorProto) (i : ℕ) (all : List Declaration) where
             (λ (x : EnumDescriptorProto). entry_at (pos 2) x.value.items (step (pos 2) j))) leads
             ∙ found_at (pos 2) e.value.items j v refl at;
         whole = part_of is_enum index w;
+        fields = tt;
       }))
 
   methods_placed : (path : List ℤ) (scope : List ℕ) (s : ServiceDescriptorProto) (index : ℕ)
@@ -245,6 +262,7 @@ module _ (f : FileDescriptorProto) (i : ℕ) (all : List Declaration) where
             leads
             ∙ found_at (pos 2) s.method.items j m refl at;
         whole = part_of is_service index w;
+        fields = tt;
       }))
 
   -- enums with their values
@@ -259,7 +277,7 @@ module _ (f : FileDescriptorProto) (i : ℕ) (all : List Declaration) where
       let at_path = entry path tag j in
       let d = enum_declaration at_path (join scope (text_of e.name)) i parent (start + j) e in
       first d (each (one_value at_path scope i (start + j)) 0 e.value.items)
-      (record { file_is = refl; leads = leads j e at; whole = tt })
+      (record { file_is = refl; leads = leads j e at; whole = tt; fields = tt })
       (values_placed at_path scope e (start + j)
       (record { whole = d; among = inside d (inl refl); is = refl; file = refl; index = refl })
       (leads j e at) (λ x h. inside x (inr h))))
@@ -275,7 +293,7 @@ module _ (f : FileDescriptorProto) (i : ℕ) (all : List Declaration) where
       let full = join scope (text_of s.name) in
       let d = service_declaration path full i (start + j) s in
       first d (each (one_method path full i (start + j)) 0 s.method.items)
-      (record { file_is = refl; leads = leads j s at; whole = tt })
+      (record { file_is = refl; leads = leads j s at; whole = tt; fields = tt })
       (methods_placed path full s (start + j)
       (record { whole = d; among = inside d (inl refl); is = refl; file = refl; index = refl })
       (leads j s at) (λ x h. inside x (inr h))))
@@ -288,9 +306,24 @@ module _ (f : FileDescriptorProto) (i : ℕ) (all : List Declaration) where
       → AllPlaced (each (one_extension path tag scope i parent start) 0 xs)
   extensions_placed path tag scope parent start xs leads =
       each_placed (one_extension path tag scope i parent start) xs (λ j x at inside.
-      one _ (record { file_is = refl; leads = leads j x at; whole = tt }))
+      one _ (record { file_is = refl; leads = leads j x at; whole = tt; fields = tt }))
 
   -- ---- messages
+
+  fields_declared : (path : List ℤ) (scope : List ℕ) (index k : ℕ)
+      (rs : List FieldDescriptorProto) → AreAll (each (one_field path scope i index) k rs)
+      → (r : FieldDescriptorProto) → Among r rs → IsFieldIn all index r
+  fields_declared path scope index k [] inside r h = absurd h
+  fields_declared path scope index k (x ∷ rs) inside r (inl same) =
+      let d = field_declaration (entry path (pos 2) k) (join scope (text_of x.name)) i index k x in
+      record {
+        declaration = d;
+        among = inside d (inl refl);
+        body = ap of_field same;
+        parent = refl;
+      }
+  fields_declared path scope index k (x ∷ rs) inside r (inr later) =
+      fields_declared path scope index (k + 1) rs (λ d h. inside d (inr h)) r later
 
   mutual
     tree_placed : (path : List ℤ) (scope : List ℕ) (parent : Option ℕ) (o : Offsets) (t : Message)
@@ -326,13 +359,20 @@ module _ (f : FileDescriptorProto) (i : ℕ) (all : List Declaration) where
           index = refl;
         } in
         first d (fields ++ (inner ++ (enums ++ (others ++ oneofs))))
-        (record { file_is = refl; leads = (m, leads, parts); whole = tt })
+        (record {
+          file_is = refl;
+          leads = (m, leads, parts);
+          whole = tt;
+          fields = fields_declared path full o.messages 0 own.field
+              (in_left fields (inner ++ (enums ++ (others ++ oneofs))) rest);
+        })
         (both Placed fields (inner ++ (enums ++ (others ++ oneofs)))
         (each_placed (one_field path full i o.messages) own.field (λ j r at all_in. one _ (record {
           file_is = refl;
           leads = entry_leads f (pos 2) (λ x. (out-DescriptorProto x).field.items) path m j r refl
               leads (subst (λ (p : MessageParts). slice_get p.field j ≡ Some r) (sym parts) at);
           whole = part_of is_message o.messages w;
+          fields = tt;
         })) (in_left fields (inner ++ (enums ++ (others ++ oneofs))) rest))
         (both Placed inner (enums ++ (others ++ oneofs))
         (trees_placed path (pos 3) full (Some o.messages) 0 (past_message o) nested (nested_of m)
@@ -356,6 +396,7 @@ module _ (f : FileDescriptorProto) (i : ℕ) (all : List Declaration) where
               refl leads
               (subst (λ (p : MessageParts). slice_get p.oneof_decl j ≡ Some r) (sym parts) at);
           whole = part_of is_message o.messages w;
+          fields = tt;
         })) (in_right others oneofs behind_enums))))))
 
     trees_placed : (path : List ℤ) (tag : ℤ) (scope : List ℕ) (parent : Option ℕ) (k : ℕ)
@@ -395,7 +436,7 @@ module _ (f : FileDescriptorProto) (i : ℕ) (all : List Declaration) where
       let behind_types = in_right types (enums ++ (services ++ others)) rest in
       let behind_enums = in_right enums (services ++ others) behind_types in
       first (file_declaration [] i f) (types ++ (enums ++ (services ++ others)))
-      (record { file_is = refl; leads = tt; whole = tt })
+      (record { file_is = refl; leads = tt; whole = tt; fields = tt })
       (both Placed types (enums ++ (services ++ others))
       (trees_placed [] (pos 4) scope None 0 o (trees_of f) f.message_type.items refl
       (λ j m at. subst (λ n. slice_get f.message_type.items n ≡ Some m) (start j) at)

@@ -1,5 +1,5 @@
 -- What is stored of a pool's messages, by the records of its files.
-use Rattle.std.proofs.Common.{◌≡◌, ◌≤◌, ◌<◌, ◌+◌, ℕ, ℤ, pos, List, [], ◌∷◌, ◌++◌, map, take, drop, length, Bool, true, false, nat_lt, Option, Some, None, is_some, unwrap_or, arith, ap, sym, subst, ◌∙◌, refl}
+use Rattle.std.proofs.Common.{◌≡◌, ◌≤◌, ◌<◌, ◌+◌, ℕ, ℤ, pos, List, [], ◌∷◌, ◌++◌, map, take, drop, length, nat_lt, Option, Some, None, unwrap_or, arith, ap, sym, subst, ◌∙◌, refl}
 use Rattle.std.proofs.Math.Seq.{take-append_seam}
 use Rattle.std.proofs.Math.ListN.{length-map}
 use Rattle.std.proofs.lemmas.List.{append-nil, length-append, take-append-drop}
@@ -19,7 +19,6 @@ use Rattle.descriptor_records.specs.declared.message.DescriptorProto.TheOpen.{De
 use Rattle.descriptor_records.specs.declared.service.ServiceDescriptorProto.{ServiceDescriptorProto}
 use Rattle.reflect_growth.proofs.Filters.{map_map}
 use Rattle.reflect_growth.specs.Settled.{bare_message, bare_messages, bare_of, bare_range}
-use Rattle.reflect_index.specs.Entry.{IsEntryOf, KeepsEntry}
 use Rattle.reflect_index.specs.OfDeclarations.{AllDeclared, message_in, messages_in, stored_ranges}
 use Rattle.reflect_index.specs.Rewriting.{write_each, write_file, write_message, write_messages, write_type, written}
 use Rattle.reflect_known.specs.DeclaredNames.{with_name, with_names}
@@ -27,15 +26,14 @@ use Rattle.reflect_known.specs.KnownNames.{nothing_before}
 use Rattle.reflect_names.specs.References.{Target}
 use Rattle.reflect_names.specs.ReferenceSteps.{target_of}
 use Rattle.reflect_names.specs.declared.resolve_visitor.Reference.{Reference}
-use Rattle.reflect_pool.proofs.Grown.{all_behind, all_through}
+use Rattle.reflect_pool.proofs.Grown.{all_behind}
 use Rattle.reflect_pool.specs.Linked.{AreRecorded}
 use Rattle.reflect_pool.specs.Stored.{AreStored, HasRanges, MessageRanges, SaysEntry, declared_ranges, ranges_in}
 use Rattle.reflect_scope.specs.Means.{join}
 use Rattle.reflect_tables.specs.Names.{FullName, message_name, messages}
 use Rattle.reflect_tables.specs.Ranges.{Range, reserved_range}
-use Rattle.reflect_tables.specs.Types.{FieldType, PoolType}
-use Rattle.reflect_tables.specs.Views.{field_of, message_of}
-use Rattle.reflect_tables.specs.declared.stored.StoredEntry.{StoredEntry}
+use Rattle.reflect_tables.specs.Types.{PoolType}
+use Rattle.reflect_tables.specs.Views.{message_of}
 use Rattle.reflect_tables.specs.declared.stored.StoredMessage.{StoredMessage}
 use Rattle.reflect_walk.specs.Batches.{batch_declarations}
 use Rattle.reflect_walk.specs.Declarations.{Declaration, Body, of_file, of_message, of_field, of_oneof, of_enum, of_enum_value, of_service, of_method, of_extension, each, entry, one_enum, one_extension, one_field, one_method, one_oneof, one_service, one_value, past_file, past_message, past_tree, past_trees, file_declarations, tree_declarations, trees_declarations, trees_of}
@@ -351,20 +349,11 @@ all_declared [] [] h = tt
 all_declared [] (s ∷ ms) h = absurd h
 all_declared (d ∷ ds) ms h = one_declared d d.body ds (all_declared ds) ms h
 
--- what has a key and a value is the type of a map's entries
-is_entry : (b : Bool) (fields : List FieldType) (e : Option StoredEntry) → IsEntryOf b fields e
-    → is_some e ≡ true → b ≡ true
-is_entry true fields e h is = refl
-is_entry false fields e h is = absurd (cc (sym is ∙ ap is_some h))
-
-says_entry : (m : StoredMessage) → KeepsEntry m → SaysEntry m
-says_entry m h = is_entry m.is_entry (map field_of m.fields.list.items) m.entry h
-
 -- the messages of further files behind those of others, with the names written that references mean
 pub stored_more : (fs gs hs all : List FileDescriptorProto) (rs : List Reference) (o : Offsets)
     (i : ℕ) (olds news ms : List StoredMessage) → AreStored fs olds
     → AllDeclared (messages_in (batch_declarations o i gs)) (map stored_ranges news)
-    → AllByRecursion KeepsEntry news → map file_view hs ≡ written rs (map file_view gs)
+    → AllByRecursion SaysEntry news → map file_view hs ≡ written rs (map file_view gs)
     → all ≡ fs ++ hs → ms ≡ olds ++ news → AreStored all ms
 stored_more fs gs hs all rs o i olds news ms h declared entries views files stands =
     let e : recorded fs ++ among (batch_declarations o i gs) ≡ recorded all =
@@ -374,8 +363,7 @@ stored_more fs gs hs all rs o i olds news ms h declared entries views files stan
     subst (AreStored all) (sym stands) (record {
       ranges = subst (λ l. AllZip HasRanges l (olds ++ news)) e
           (zip_both HasRanges (recorded fs) (among (batch_declarations o i gs)) olds news h.ranges more);
-      entries = all_behind SaysEntry olds news h.entries
-          (all_through KeepsEntry SaysEntry news says_entry entries);
+      entries = all_behind SaysEntry olds news h.entries entries;
     })
 
 -- a message more, and its name

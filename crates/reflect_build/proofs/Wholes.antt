@@ -1,15 +1,23 @@
 -- Which declaration of a batch an entry is of: the one that is counted so among those of its sort.
-use Rattle.std.proofs.Common.{◌≡◌, ◌⊎◌, inl, inr, ◌+◌, ℕ, suc, Bool, true, false, cond, List, [], ◌∷◌, ◌++◌, Some, refl, sym, ap, ◌∙◌, subst, arith, slice_get}
+use Rattle.std.proofs.Common.{◌≡◌, ◌⊎◌, inl, inr, ◌+◌, ℕ, zero, suc, Bool, true, false, cond, List, [], ◌∷◌, ◌++◌, Some, refl, sym, ap, ◌∙◌, subst, arith, slice_get}
 use Rattle.std.specs.List.{AllZip}
 use Rattle.descriptor_records.specs.declared.file.FileDescriptorProto.{FileDescriptorProto}
 use Rattle.reflect_walk.specs.Batches.{batch_declarations}
 use Rattle.reflect_walk.specs.Declarations.{Declaration, Body, of_message, of_enum, of_service, past_file, file_declarations}
+use Rattle.reflect_walk.specs.Tree.{MessageParts}
 use Rattle.reflect_walk.specs.declared.visit_parts.Offsets.{Offsets}
 use Rattle.reflect_index.specs.Along.{AtHand, Met, along, met, hand_behind, all_of, is_message, is_enum, is_service}
 use Rattle.reflect_index.specs.Entries.{Head, IsHeadOf, written_name}
+use Rattle.reflect_index.specs.OfDeclarations.{message_in, messages_in}
 use Rattle.reflect_index.proofs.Counted.{past_one, IsNext, AreNext, file_next}
 use Rattle.reflect_index.proofs.Among.{Among, of_filter, of_place, zip_place}
 use Rattle.reflect_index.proofs.Declared.{of_along}
+
+zeroth : (n : ℕ) → n ≡ n + 0
+zeroth n = omega arith
+
+next : (n k : ℕ) → n + 1 + k ≡ n + suc k
+next n k = omega arith
 
 -- the index of each declaration goes on from what is declared before it, whatever its file
 abbrev pub AreCounted : Offsets → List Declaration → Offsets → Type 0
@@ -110,12 +118,6 @@ module _ (sort : Body → Bool) (count : Offsets → ℕ) (counts : Counts sort 
       listed : Bool → List Met
       listed b = cond b (met h e ∷ rest) rest
 
-      zeroth : (n : ℕ) → n ≡ n + 0
-      zeroth n = omega arith
-
-      next : (n k : ℕ) → n + 1 + k ≡ n + suc k
-      next n k = omega arith
-
       by : (Among d ds → IsAt (count (past_one o e.body)) rest d) → (b : Bool) → sort e.body ≡ b
           → (e ≡ d) ⊎ Among d ds → IsAt (count o) (listed (sort e.body)) d
       by later true on (inl same) = record {
@@ -183,3 +185,44 @@ module _ (sort : Body → Bool) (count : Offsets → ℕ) (counts : Counts sort 
         cc (sym zipped.1 ∙ ap (slice_get (all_of sort (along h ds))) (sym same) ∙ its.at) in
         ap (λ (y : Head). y.file) zipped.2 ∙ ap (λ (m : Met). m.declaration.file) one
         ∙ ap (λ (d : Declaration). d.file) its.is
+
+-- ---- message types
+
+-- a message type is declared with the index
+pub record DeclaresMessage (ds : List Declaration) (index : ℕ) (own : MessageParts) : Type 0 where
+  pub declaration : Declaration
+  pub among : Among declaration ds
+  pub body : declaration.body ≡ of_message own
+  pub is : declaration.index ≡ index
+
+-- so is each of those among declarations, with the index that its place tells
+pub message_declared : (o : Offsets) (ds : List Declaration) (p : Offsets) → AreCounted o ds p
+    → (k : ℕ) (own : MessageParts) → slice_get (messages_in ds) k ≡ Some own
+    → DeclaresMessage ds (o.messages + k) own
+message_declared o [] p c k own at = absurd (cc at)
+message_declared o (d ∷ ds) p c k own at =
+    by d.body refl c.0 (λ j e. message_declared (past_one o d.body) ds p c.1 j own e) k at where
+      later : (i j : ℕ) → i ≡ j → DeclaresMessage ds i own → DeclaresMessage (d ∷ ds) j own
+      later i j same r = record {
+        declaration = r.declaration;
+        among = inr r.among;
+        body = r.body;
+        is = r.is ∙ same;
+      }
+
+      by : (b : Body) → d.body ≡ b → IsNext o d.index b
+          → ((j : ℕ) → slice_get (messages_in ds) j ≡ Some own
+          → DeclaresMessage ds ((past_one o b).messages + j) own)
+          → (j : ℕ) → slice_get (message_in b ++ messages_in ds) j ≡ Some own
+          → DeclaresMessage (d ∷ ds) (o.messages + j) own
+      by (of_message m) is index rest zero e =
+          let same : m ≡ own = cc e in
+          record {
+            declaration = d;
+            among = inl refl;
+            body = is ∙ ap of_message same;
+            is = index ∙ zeroth o.messages;
+          }
+      by (of_message m) is index rest (suc j) e =
+          later (o.messages + 1 + j) (o.messages + suc j) (next o.messages j) (rest j e)
+      by b is index rest j e = later (o.messages + j) (o.messages + j) refl (rest j e)

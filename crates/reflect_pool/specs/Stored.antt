@@ -1,6 +1,6 @@
 -- What is stored of messages beside what their types tell: ranges of numbers, and which of them say
 -- that they are the types of maps' entries.
-use Rattle.std.specs.Prelude.{◌≡◌, List, [], ◌∷◌, map, true, IsPermutation, is_some}
+use Rattle.std.specs.Prelude.{◌≡◌, List, [], ◌∷◌, map, IsPermutation, is_some}
 use Rattle.std.specs.List.{AllByRecursion, AllZip, flat_map}
 use Rattle.descriptor_records.specs.declared.file.FileDescriptorProto.{FileDescriptorProto}
 use Rattle.reflect_known.specs.KnownNames.{nothing_before}
@@ -31,12 +31,12 @@ pub record HasRanges (r : MessageRanges) (m : StoredMessage) : Type 0 where
   pub reserved : IsPermutation r.reserved (ranges_of m.reserved_numbers)
   pub extensions : IsPermutation r.extensions (ranges_of m.extension_numbers)
 
--- what has the parts of a map's entry says that it is the type of one
+-- a message says that it is the type of a map's entries exactly where it has the parts of one
 abbrev pub SaysEntry : StoredMessage → Type 0
-SaysEntry m = is_some m.entry ≡ true → m.is_entry ≡ true
+SaysEntry m = m.is_entry ≡ is_some m.entry
 
 -- stored messages have the ranges that the records of files declare, and say that they are entries
--- where they have the parts
+-- exactly where they have the parts
 pub record AreStored (records : List FileDescriptorProto)
     (messages : List StoredMessage) : Type 0 where
   pub ranges : AllZip HasRanges (flat_map ranges_in (batch_declarations nothing_before 0 records))

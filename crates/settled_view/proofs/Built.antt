@@ -59,6 +59,7 @@ built_but_more earlier old linked new files is recorded index kept (w, of, (name
           extensions = more.extensions;
           values = more.values;
           entries = more.entries;
+          declared = more.declared;
           built = (
             map file_view before.records,
             is.built.built,

@@ -12,8 +12,8 @@ use Rattle.reflect_passes.specs.NumberFaults.{NumberFaults, doubled}
 use Rattle.reflect_passes.proofs.Listed.{places}
 use Rattle.reflect_build.specs.Refusals.{linking}
 use Rattle.reflect_build.proofs.Accepting.{added_behind, goes_behind, records_behind, records_written, faultless}
+use Rattle.reflect_build.proofs.Marked.{all_say}
 use Rattle.reflect_build.proofs.Stored.{stored_more}
-use Rattle.reflect_index.specs.OfDeclarations.{AllDeclared, messages_in, stored_ranges}
 use Rattle.reflect_build.proofs.Refused.{mapped, before_mapped, types_with, types_of, means_of, refused_numbers, refused_extensions, refused_walk, refused_last}
 use Rattle.reflect_walk.specs.Batches.{batch_declarations}
 use Rattle.reflect_tables.specs.Names.{FullName, messages, enums, extensions, services}
@@ -85,22 +85,23 @@ returns-clause-records c =
 pub returns-clause-stored : goal.returns-clause-stored
 returns-clause-stored c =
     let olds = c.args.tables.now.messages.items in
+    let w = linking c.args.file_names.now c.args.names.now c.args.links.now.items c.args.tables.now c.args.extension_numbers.now c.args.before c.args.first in
     let fs = c.args.files.items in
-    let made = c.index_files.ensures in
-    let same : c.as_slice-4.result.now ≡ fs = search rules in
+    let rs = c.in_ok-references.references.items in
     let batch = c.in_ok-batch.batch in
-    let ranges = mapped _ _ c.index_files.result c.map_err-2.result c.map_err-2.ensures.cases made.ranges batch c.in_ok-batch.was in
-    let entries = mapped _ _ c.index_files.result c.map_err-2.result c.map_err-2.ensures.cases made.entries batch c.in_ok-batch.was in
+    let made = c.index_files.ensures in
+    let types = types_of w fs c.as_slice-4.result.now rs c.as_slice-5.result.now _ c.index_files.result c.map_err-2.result c.as_slice-4.ensures.value c.as_slice-5.ensures.value c.map_err-2.ensures.cases made.messages made.ranges made.enums made.values made.extensions made.entries batch c.in_ok-batch.was in
+    let t = types_with w batch in
+    let none = subst (λ l. NumberFaults t w.before w.first l rs []) c.as_slice-6.ensures.value
+    (subst (λ l. NumberFaults t w.before w.first c.as_slice-6.result.now l []) c.as_slice-7.ensures.value c.in_ok-check_numbers.ensures.ok) in
     let records = mapped _ _ c.with_records.result c.map_err-3.result c.map_err-3.ensures.cases
     c.with_records.ensures.records c.in_ok-more.more c.in_ok-more.was in
     let more = mapped _ _ c.with_records.result c.map_err-3.result c.map_err-3.ensures.cases c.with_records.ensures.messages c.in_ok-more.more c.in_ok-more.was in
-    let declared = subst (λ l. AllDeclared (messages_in (batch_declarations c.args.before c.args.first l))
-    (map stored_ranges batch.messages.items)) same ranges in
     on_mapped _ _ c.add.result c.map_err-4.result c.map_err-4.ensures.variant
     (λ a. stored_more (pool_of c.args.tables.now).records fs c.rewritten.result.items
-    (pool_of c.add.new.tables).records c.in_ok-references.references.items c.args.before c.args.first
-    olds batch.messages.items c.add.new.tables.messages.items c.requires.stored declared
-    entries.entries c.rewritten.ensures.records
+    (pool_of c.add.new.tables).records rs c.args.before c.args.first olds batch.messages.items
+    c.add.new.tables.messages.items c.requires.stored types.ranges (all_say w fs rs t types none)
+    c.rewritten.ensures.records
     (goes_behind record_of c.args.tables.now.files.items c.in_ok-more.more.files.items
     c.add.new.tables.files.items c.rewritten.result.items a.files records)
     (a.messages ∙ ap (λ l. olds ++ l) more))
