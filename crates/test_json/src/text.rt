@@ -53,13 +53,6 @@ impl Text {
         }
     }
 
-    /// Writes what stands between two items of a list, unless nothing stands in front.
-    pub fn gap(&mut self, gap: &str) {
-        if !self.written.is_empty() {
-            self.push_str(gap);
-        }
-    }
-
     /// The whole text, if there was room for it.
     pub fn into_string(self) -> Result<String, AllocError> {
         let Text { written, has_room } = self;
