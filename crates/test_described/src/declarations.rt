@@ -7,34 +7,40 @@ use reflect_link::{
     Syntax,
 };
 use std::alloc::{AllocError, Global};
-use test_fields::{or_dash, record_name, write_extension, write_names, write_path};
+use test_fields::{
+    found_or_dash, listed_or_dash, record_name, write_extension, write_names, write_path,
+    write_truth,
+};
+use test_json::Text;
 
 /// What all readers of the pool's descriptors answer.
 pub fn described(alloc: Global, pool: &DescriptorPool) -> Result<String, AllocError> {
-    let mut text = String::new(alloc);
-    let out = &mut text;
-    write_files(out, pool)?;
-    write_messages(out, pool)?;
-    write_enums(out, pool)?;
-    for extension in pool.all_extensions() {
-        write_extension(out, extension)?;
-    }
-    write_services(out, pool)?;
-    Ok(text)
+    let mut out = Text::new(alloc);
+    write_files(&mut out, pool);
+    write_messages(&mut out, pool);
+    write_enums(&mut out, pool);
+    write_extensions(&mut out, pool);
+    write_services(&mut out, pool);
+    out.into_string()
 }
 
-fn write_files(out: &mut String, pool: &DescriptorPool) -> Result<(), AllocError> {
+fn write_files(out: &mut Text, pool: &DescriptorPool) {
     for file in pool.files() {
-        write_file(out, file)?;
+        write_file(out, file);
     }
-    Ok(())
 }
 
-fn write_services(out: &mut String, pool: &DescriptorPool) -> Result<(), AllocError> {
-    for service in pool.services() {
-        write_service(out, service)?;
+fn write_extensions(out: &mut Text, pool: &DescriptorPool) {
+    for extension in pool.all_extensions() {
+        write_extension(out, extension);
     }
-    Ok(())
+}
+
+fn write_services(out: &mut Text, pool: &DescriptorPool) {
+    for service in pool.services() {
+        write_service(out, service);
+        write_methods(out, service);
+    }
 }
 
 fn syntax_name(syntax: Syntax) -> &'static str {
@@ -44,85 +50,66 @@ fn syntax_name(syntax: Syntax) -> &'static str {
     }
 }
 
-fn write_file(out: &mut String, file: FileDescriptor<'_>) -> Result<(), AllocError> {
+fn write_file(out: &mut Text, file: FileDescriptor<'_>) {
+    out.push_pair("file ", file.name());
+    write!(out, " index={}", file.index());
+    out.push_pair(" package=", file.package_name());
+    out.push_pair(" syntax=", syntax_name(file.syntax()));
+    out.push_pair(" record=", record_name(&file.file_descriptor_proto().name));
     let found = file.parent_pool().get_file_by_name(file.name());
-    write!(
-        out,
-        "file {} index={} package={} syntax={} record={} found={}",
-        file.name(),
-        file.index(),
-        file.package_name(),
-        syntax_name(file.syntax()),
-        record_name(&file.file_descriptor_proto().name),
-        or_dash(found.map(|file| file.name())),
-    )?;
-    write_names(out, " imports", file.dependencies().map(|file| file.name()))?;
-    write_names(
-        out,
-        " public",
-        file.public_dependencies().map(|file| file.name()),
-    )?;
-    write_names(out, " messages", file.messages().map(|part| part.name()))?;
-    write_names(out, " enums", file.enums().map(|part| part.name()))?;
-    write_names(
-        out,
-        " extensions",
-        file.extensions().map(|part| part.name()),
-    )?;
-    write_names(out, " services", file.services().map(|part| part.name()))?;
-    out.push_str("\n")
+    out.push_pair(" found=", listed_or_dash(found));
+    write_file_parts(out, file);
+    out.push_str("\n");
 }
 
-fn write_service(out: &mut String, service: ServiceDescriptor<'_>) -> Result<(), AllocError> {
-    let found = service
-        .parent_pool()
-        .get_service_by_name(service.full_name());
-    write!(
-        out,
-        "service {} name={} index={}",
-        service.full_name(),
-        service.name(),
-        service.index(),
-    )?;
-    write_path(out, service.path())?;
-    write!(
-        out,
-        " file={} package={} record={} found={}",
-        service.parent_file().name(),
-        service.package_name(),
+/// The names of what a file imports and declares.
+fn write_file_parts(out: &mut Text, file: FileDescriptor<'_>) {
+    write_names(out, " imports=", file.dependencies());
+    write_names(out, " public=", file.public_dependencies());
+    write_names(out, " messages=", file.messages());
+    write_names(out, " enums=", file.enums());
+    write_names(out, " extensions=", file.extensions());
+    write_names(out, " services=", file.services());
+}
+
+fn write_service(out: &mut Text, service: ServiceDescriptor<'_>) {
+    out.push_pair("service ", service.full_name());
+    out.push_pair(" name=", service.name());
+    write!(out, " index={}", service.index());
+    write_path(out, service.path());
+    out.push_pair(" file=", service.parent_file().name());
+    out.push_pair(" package=", service.package_name());
+    out.push_pair(
+        " record=",
         record_name(&service.service_descriptor_proto().name),
-        or_dash(found.map(|service| service.full_name())),
-    )?;
-    write_names(
-        out,
-        " methods",
-        service.methods().map(|method| method.name()),
-    )?;
-    out.push_str("\n")?;
-    for method in service.methods() {
-        write_method(out, method)?;
-    }
-    Ok(())
+    );
+    let pool = service.parent_pool();
+    let found = pool.get_service_by_name(service.full_name());
+    out.push_pair(" found=", found_or_dash(found));
+    write_names(out, " methods=", service.methods());
+    out.push_str("\n");
 }
 
-fn write_method(out: &mut String, method: MethodDescriptor<'_>) -> Result<(), AllocError> {
-    write!(
-        out,
-        "method {} name={} index={}",
-        method.full_name(),
-        method.name(),
-        method.index(),
-    )?;
-    write_path(out, method.path())?;
-    writeln!(
-        out,
-        " file={} in={} record={} input={} output={} streams={},{}",
-        method.parent_file().name(),
-        method.parent_service().full_name(),
+fn write_methods(out: &mut Text, service: ServiceDescriptor<'_>) {
+    for method in service.methods() {
+        write_method(out, method);
+    }
+}
+
+fn write_method(out: &mut Text, method: MethodDescriptor<'_>) {
+    out.push_pair("method ", method.full_name());
+    out.push_pair(" name=", method.name());
+    write!(out, " index={}", method.index());
+    write_path(out, method.path());
+    out.push_pair(" file=", method.parent_file().name());
+    out.push_pair(" in=", method.parent_service().full_name());
+    out.push_pair(
+        " record=",
         record_name(&method.method_descriptor_proto().name),
-        method.input().full_name(),
-        method.output().full_name(),
-        method.is_client_streaming(),
-        method.is_server_streaming(),
-    )
+    );
+    out.push_pair(" input=", method.input().full_name());
+    out.push_pair(" output=", method.output().full_name());
+    write_truth(out, " streams=", method.is_client_streaming());
+    write_truth(out, ",", method.is_server_streaming());
+    out.push_str("\n");
 }

@@ -1,87 +1,72 @@
 //! Lines of fields and extensions.
 
-use crate::parts::{or_dash, record_name, write_path};
+use crate::parts::{found_or_dash, listed_or_dash, or_dash, record_name, write_path, write_truth};
 use reflect_dynamic::{AnyField, FieldDescriptorLike};
 use reflect_link::{
     Cardinality, DefaultValue, ExtensionDescriptor, FieldDescriptor, FieldReaders, InFile, Kind,
 };
-use std::alloc::AllocError;
+use test_json::Text;
 
 /// A field's name, and what finds it again.
-pub fn write_field(out: &mut String, field: FieldDescriptor<'_>) -> Result<(), AllocError> {
+pub fn write_field(out: &mut Text, field: FieldDescriptor<'_>) {
+    out.push_pair("field ", field.full_name());
+    out.push_pair(" name=", field.name());
+    out.push_pair(" json=", or_dash(field.json_name()));
+    write_path(out, field.path());
+    out.push_pair(" in=", field.parent_message().full_name());
+    out.push_pair(
+        " record=",
+        record_name(&field.field_descriptor_proto().name),
+    );
+    write_field_lookups(out, field);
+    write_truth(out, " required=", field.is_required());
+    out.push_pair(" oneof=", listed_or_dash(field.containing_oneof()));
+    write_form(out, AnyField::Field(field), field.cardinality());
+}
+
+/// The field of its message that has its number, its name and its JSON name.
+fn write_field_lookups(out: &mut Text, field: FieldDescriptor<'_>) {
     let message = field.parent_message();
     let by_number = message.get_field(field.number());
+    out.push_pair(" found=", listed_or_dash(by_number));
     let by_name = message.get_field_by_name(field.name());
+    out.push_pair(",", listed_or_dash(by_name));
     let by_json_name = message.get_field_by_json_name(or_dash(field.json_name()));
-    write!(
-        out,
-        "field {} name={} json={}",
-        field.full_name(),
-        field.name(),
-        or_dash(field.json_name()),
-    )?;
-    write_path(out, field.path())?;
-    write!(
-        out,
-        " in={} record={} found={},{},{} required={} oneof={}",
-        message.full_name(),
-        record_name(&field.field_descriptor_proto().name),
-        or_dash(by_number.map(|field| field.name())),
-        or_dash(by_name.map(|field| field.name())),
-        or_dash(by_json_name.map(|field| field.name())),
-        field.is_required(),
-        or_dash(field.containing_oneof().map(|oneof| oneof.name())),
-    )?;
-    write_form(out, AnyField::Field(field), field.cardinality())
+    out.push_pair(",", listed_or_dash(by_json_name));
 }
 
 /// An extension's name, and what finds it again.
-pub fn write_extension(
-    out: &mut String,
-    extension: ExtensionDescriptor<'_>,
-) -> Result<(), AllocError> {
-    write!(
-        out,
-        "extension {} name={} json={}",
-        extension.full_name(),
-        extension.name(),
-        extension.json_name(),
-    )?;
-    write_path(out, extension.path())?;
-    write!(
-        out,
-        " file={} package={} in={} of={} record={}",
-        extension.parent_file().name(),
-        extension.package_name(),
-        or_dash(extension.parent_message().map(|holder| holder.full_name())),
-        extension.containing_message().full_name(),
+pub fn write_extension(out: &mut Text, extension: ExtensionDescriptor<'_>) {
+    out.push_pair("extension ", extension.full_name());
+    out.push_pair(" name=", extension.name());
+    out.push_pair(" json=", extension.json_name());
+    write_path(out, extension.path());
+    out.push_pair(" file=", extension.parent_file().name());
+    out.push_pair(" package=", extension.package_name());
+    out.push_pair(" in=", found_or_dash(extension.parent_message()));
+    out.push_pair(" of=", extension.containing_message().full_name());
+    out.push_pair(
+        " record=",
         record_name(&extension.field_descriptor_proto().name),
-    )?;
-    write_extension_lookups(out, extension)?;
-    write_form(out, AnyField::Extension(extension), extension.cardinality())
+    );
+    write_extension_lookups(out, extension);
+    write_form(out, AnyField::Extension(extension), extension.cardinality());
 }
 
 /// The extension of its message that has its number, its full name, its JSON name, and that of the
 /// pool with its full name.
-fn write_extension_lookups(
-    out: &mut String,
-    extension: ExtensionDescriptor<'_>,
-) -> Result<(), AllocError> {
+fn write_extension_lookups(out: &mut Text, extension: ExtensionDescriptor<'_>) {
     let message = extension.containing_message();
     let by_number = message.get_extension(extension.number());
+    out.push_pair(" found=", found_or_dash(by_number));
     let by_name = message.get_extension_by_full_name(extension.full_name());
+    out.push_pair(",", found_or_dash(by_name));
     let by_json_name = message.get_extension_by_json_name(extension.json_name());
+    out.push_pair(",", found_or_dash(by_json_name));
     let in_pool = extension
         .parent_pool()
         .get_extension_by_name(extension.full_name());
-    write!(
-        out,
-        " found={},{},{},{}",
-        or_dash(by_number.map(|it| it.full_name())),
-        or_dash(by_name.map(|it| it.full_name())),
-        or_dash(by_json_name.map(|it| it.full_name())),
-        or_dash(in_pool.map(|it| it.full_name())),
-    )
+    out.push_pair(",", found_or_dash(in_pool));
 }
 
 fn cardinality_name(cardinality: Cardinality) -> &'static str {
@@ -93,28 +78,17 @@ fn cardinality_name(cardinality: Cardinality) -> &'static str {
 }
 
 /// What fields and extensions have in common.
-fn write_form(
-    out: &mut String,
-    field: AnyField<'_>,
-    cardinality: Cardinality,
-) -> Result<(), AllocError> {
-    write!(
-        out,
-        " number={} {} kind={}",
-        field.number(),
-        cardinality_name(cardinality),
-        kind_name(field.kind()),
-    )?;
-    write_default(out, field.default())?;
-    writeln!(
-        out,
-        " group={} list={} map={} packed={} presence={}",
-        field.is_group(),
-        field.is_list(),
-        field.is_map(),
-        field.is_packed(),
-        field.supports_presence(),
-    )
+fn write_form(out: &mut Text, field: AnyField<'_>, cardinality: Cardinality) {
+    write!(out, " number={} ", field.number());
+    out.push_str(cardinality_name(cardinality));
+    out.push_pair(" kind=", kind_name(field.kind()));
+    write_default(out, field.default());
+    write_truth(out, " group=", field.is_group());
+    write_truth(out, " list=", field.is_list());
+    write_truth(out, " map=", field.is_map());
+    write_truth(out, " packed=", field.is_packed());
+    write_truth(out, " presence=", field.supports_presence());
+    out.push_str("\n");
 }
 
 /// The keyword of a kind, or the full name of its type.
@@ -140,22 +114,15 @@ fn kind_name<'p>(kind: Kind<'p>) -> &'p str {
     }
 }
 
-fn write_hex(out: &mut String, bytes: &[u8]) -> Result<(), AllocError> {
-    for byte in bytes {
-        write!(out, "{byte:02x}")?;
-    }
-    Ok(())
-}
-
-fn write_default(out: &mut String, default: Option<DefaultValue<'_>>) -> Result<(), AllocError> {
-    out.push_str(" default=")?;
+fn write_default(out: &mut Text, default: Option<DefaultValue<'_>>) {
+    out.push_str(" default=");
     match default {
-        None => Ok(()),
+        None => {}
         Some(DefaultValue::I64(number)) => write!(out, "{number}"),
         Some(DefaultValue::U64(number)) => write!(out, "{number}"),
         Some(DefaultValue::Bool(truth)) => write!(out, "{truth}"),
-        Some(DefaultValue::Text(text)) => write_hex(out, text.as_bytes()),
-        Some(DefaultValue::Bytes(bytes)) => write_hex(out, bytes),
+        Some(DefaultValue::Text(text)) => out.push_hex(text.as_bytes()),
+        Some(DefaultValue::Bytes(bytes)) => out.push_hex(bytes),
         Some(DefaultValue::Enum(number)) => write!(out, "enum {number}"),
         Some(DefaultValue::Float(text)) => write!(out, "float {text}"),
     }

@@ -2,7 +2,9 @@
 #![tactic(auto)]
 
 mod fields;
+mod listed;
 mod parts;
 
 pub use fields::{write_extension, write_field};
-pub use parts::{or_dash, record_name, write_names, write_path};
+pub use listed::{Found, Listed};
+pub use parts::{found_or_dash, listed_or_dash, record_name, write_names, write_path, write_truth};

@@ -2,6 +2,8 @@
 #![tactic(auto)]
 
 pub mod members;
+mod text;
 mod told;
 
+pub use text::Text;
 pub use told::Told;

@@ -3,9 +3,10 @@
 use rand_core::utils::NextWord;
 use rand_pcg::Pcg32;
 use reflect_dynamic::{DynamicMessage, FieldsByNumber, MapKey, Value};
-use reflect_link::{FieldDescriptor, Kind};
+use reflect_link::{FieldDescriptor, Kind, MessageDescriptor};
 use std::alloc::{AllocError, Global};
 use std::collections::BTreeMap;
+use test_json::Text;
 
 /// The kinds of fields that messages hold, by their words in a source.
 const SCALARS: [&str; 13] = [
@@ -15,8 +16,8 @@ const SCALARS: [&str; 13] = [
 
 const KEYS: [&str; 4] = ["int32", "uint64", "bool", "string"];
 
-/// How many message types a source has.
-const TYPES: u32 = 4;
+/// The message types of a source.
+const TYPES: [&str; 4] = ["M0", "M1", "M2", "M3"];
 
 /// A stream of numbers that follows from its seed.
 #[derive(Drop)]
@@ -59,57 +60,59 @@ impl Random {
     }
 
     /// The word of a kind: a scalar, the enum or one of the messages.
-    fn kind(&mut self) -> Result<String, AllocError> {
+    fn kind(&mut self) -> &'static str {
         match self.below(8) {
-            0 => String::from_str(self.alloc, "E"),
-            1 => {
-                let place = self.below(TYPES);
-                format!(in self.alloc; "M{place}")
-            }
-            _ => String::from_str(self.alloc, self.one_of(&SCALARS)),
+            0 => "E",
+            1 => self.one_of(&TYPES),
+            _ => self.one_of(&SCALARS),
         }
     }
 
-    /// The declaration of a field of this number.
-    fn field(&mut self, is_proto3: bool, number: u32) -> Result<String, AllocError> {
-        let alloc = self.alloc;
-        let kind = self.kind()?;
+    /// Writes the declaration of a field of this number.
+    fn write_field(&mut self, source: &mut Text, is_proto3: bool, number: u32) {
+        let kind = self.kind();
         match self.below(6) {
             0 => {
                 let key = self.one_of(&KEYS);
-                format!(in alloc; " map<{key}, {kind}> f{number} = {number};")
+                write!(source, " map<{key}, {kind}> f{number} = {number};");
             }
-            1 => format!(in alloc; " repeated {kind} f{number} = {number};"),
-            2 => format!(in alloc;
+            1 => write!(source, " repeated {kind} f{number} = {number};"),
+            2 => write!(
+                source,
                 " oneof o{number} {{ {kind} f{number} = {number}; int32 g{number} = {number}00; }}"
             ),
-            3 if !is_proto3 => {
-                format!(in alloc;
-                    " optional group G{number} = {number} {{ optional {kind} a = 1; }}"
-                )
-            }
-            4 if is_proto3 => format!(in alloc; " {kind} f{number} = {number};"),
-            _ => format!(in alloc; " optional {kind} f{number} = {number};"),
+            3 if !is_proto3 => write!(
+                source,
+                " optional group G{number} = {number} {{ optional {kind} a = 1; }}"
+            ),
+            4 if is_proto3 => write!(source, " {kind} f{number} = {number};"),
+            _ => write!(source, " optional {kind} f{number} = {number};"),
         }
+    }
+
+    /// Writes the declaration of a message type of this name.
+    fn write_type(&mut self, source: &mut Text, is_proto3: bool, name: &str) {
+        write!(source, "message {name} {{");
+        for number in 1..9 {
+            self.write_field(source, is_proto3, number);
+        }
+        source.push_str(" }");
     }
 
     /// A source of message types `r.M0`, `r.M1` and so on, whose fields have any kind but the
     /// floating-point ones.
     pub fn source(&mut self) -> Result<String, AllocError> {
-        let alloc = self.alloc;
         let is_proto3 = self.below(2) == 0;
         let syntax = if is_proto3 { "proto3" } else { "proto2" };
-        let mut source = format!(in alloc;
+        let mut source = Text::new(self.alloc);
+        write!(
+            source,
             "syntax = \"{syntax}\"; package r; enum E {{ A = 0; B = 1; C = -5; }}"
-        )?;
-        for place in 0..TYPES {
-            source.push_str(format!(in alloc; "message M{place} {{")?.as_str())?;
-            for number in 1..9 {
-                source.push_str(self.field(is_proto3, number)?.as_str())?;
-            }
-            source.push_str(" }")?;
+        );
+        for name in TYPES {
+            self.write_type(&mut source, is_proto3, name);
         }
-        Ok(source)
+        source.into_string()
     }
 
     fn text(&mut self) -> Result<String, AllocError> {
@@ -195,7 +198,7 @@ impl Random {
 
     /// Sets some of the message's fields.
     #[cycle(fill)]
-    pub fn fill<'p>(
+    fn fill<'p>(
         &mut self,
         message: &mut DynamicMessage<'p>,
         levels: u32,
@@ -213,5 +216,16 @@ impl Random {
             }
         }
         Ok(())
+    }
+
+    /// A message of a type, whose messages nest so many levels.
+    pub fn message<'p>(
+        &mut self,
+        descriptor: MessageDescriptor<'p>,
+        levels: u32,
+    ) -> Result<DynamicMessage<'p>, AllocError> {
+        let mut message = DynamicMessage::new(self.alloc, descriptor);
+        self.fill(&mut message, levels)?;
+        Ok(message)
     }
 }
