@@ -1,3 +1,4 @@
 pub mod Transfer
 pub mod Unsettled
 pub mod Built
+pub mod Faults

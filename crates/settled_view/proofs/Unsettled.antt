@@ -1,4 +1,5 @@
--- Files that a settled pool accepts the pool before accepts too, and the new pools differ as these do.
+-- Files that a settled pool accepts the pool before accepts too, and the new pools differ as these do:
+-- what references mean, and the types of a batch, are the same behind both.
 use Rattle.std.proofs.Common.{◌≡◌, ◌∙◌, ◌++◌, List, [], ◌∷◌, map, length, drop, drop_at, sym, ap, subst, refl, arith}
 use Rattle.std.proofs.lemmas.List.{map-append, length-map}
 use Rattle.std.specs.formers.vec.Vec.{holding, fits}
@@ -6,13 +7,14 @@ use Rattle.descriptor_records.specs.Content.{FileContent, file_view}
 use Rattle.descriptor_records.specs.declared.file.FileDescriptorProto.{FileDescriptorProto}
 use Rattle.reflect_growth.specs.Settled.{bare_of}
 use Rattle.reflect_index.specs.Rewriting.{written}
+use Rattle.reflect_names.specs.declared.resolve_visitor.Reference.{Reference}
 use Rattle.reflect_passes.specs.declared.linked_types.LinkedTypes.{LinkedTypes}
 use Rattle.reflect_tables.specs.Types.{PoolType}
 use Rattle.reflect_tables.specs.Views.{record_file, file_of, record_of, declared_of, places_of, pool_of}
 use Rattle.reflect_tables.specs.declared.stored.StoredFile.{StoredFile}
 use Rattle.reflect_tables.specs.declared.tables.Tables.{Tables}
 use Rattle.reflect_build.specs.Accepted.{FaultlessBatch}
-use Rattle.reflect_build.specs.Refusals.{Linking, with_declared, IsOf}
+use Rattle.reflect_build.specs.Refusals.{Linking, with_declared, IsOf, Means, AreTypes}
 use Rattle.reflect_build.proofs.Stored.{stored_settled}
 use Rattle.settled_view.specs.BuiltBut.{Settles}
 use Rattle.settled_view.proofs.Transfer.{headers_same, known_same, counts_same}
@@ -132,6 +134,30 @@ module _ (before p : PoolType) (s : Settles before p) (w : Linking) (is : IsOf p
     stored = stored_settled p.records rs w.tables.messages.items (sym s.bare) its.stored;
   }
 
+  -- the types of a batch, behind those of the pool before
+  abbrev pub types_before : LinkedTypes → LinkedTypes
+  types_before t = record {
+    old = record { ref_ptr = t.old.ref_ptr; now = with_files rs t.old.now };
+    new = t.new;
+  }
+
+  module _ (ns : List FileDescriptorProto) (references : List Reference) where
+    pub means_before : Means (with_declared w ns) ns references
+        → Means (with_declared linking ns) ns references
+    means_before m = record { links = m.links; linked = m.linked; right = m.right }
+
+    pub are_types_before : (t : LinkedTypes) → AreTypes (with_declared w ns) ns references t
+        → AreTypes (with_declared linking ns) ns references (types_before t)
+    are_types_before t declared = record {
+      old = ap (with_files rs) declared.old;
+      messages = declared.messages;
+      ranges = declared.ranges;
+      enums = declared.enums;
+      values = declared.values;
+      extensions = declared.extensions;
+      entries = declared.entries;
+    }
+
   -- a batch that the settled pool accepts
   module _ (ns : List FileDescriptorProto) (after : PoolType)
       (batch : FaultlessBatch (with_declared w ns) ns after) where
@@ -141,12 +167,6 @@ module _ (before p : PoolType) (s : Settles before p) (w : Linking) (is : IsOf p
     -- the pool that it makes of the pool before
     abbrev pub added : PoolType
     added = record after { records = rs ++ more }
-
-    abbrev types : LinkedTypes
-    types = record {
-      old = record { ref_ptr = batch.types.old.ref_ptr; now = with_files rs batch.types.old.now };
-      new = batch.types.new;
-    }
 
     pub after_records : after.records ≡ p.records ++ more
     after_records = batch.added.records.records ∙ ap (λ l. l ++ more) records_seen
@@ -161,21 +181,9 @@ module _ (before p : PoolType) (s : Settles before p) (w : Linking) (is : IsOf p
     pub batch_before : FaultlessBatch (with_declared linking ns) ns added
     batch_before = record {
       references = batch.references;
-      types = types;
-      means = record {
-        links = batch.means.links;
-        linked = batch.means.linked;
-        right = batch.means.right;
-      };
-      declared = record {
-        old = ap (with_files rs) batch.declared.old;
-        messages = batch.declared.messages;
-        ranges = batch.declared.ranges;
-        enums = batch.declared.enums;
-        values = batch.declared.values;
-        extensions = batch.declared.extensions;
-        entries = batch.declared.entries;
-      };
+      types = types_before batch.types;
+      means = means_before ns batch.references batch.means;
+      declared = are_types_before ns batch.references batch.types batch.declared;
       added = record {
         files = batch.added.files ∙ ap (λ l. l ++ map record_file ns) (sym files_are);
         declared = batch.added.declared
