@@ -1,5 +1,5 @@
 -- What a refusal of a later pass lists.
-use Rattle.std.proofs.Common.{◌≡◌, ◌++◌, ℕ, String, length, List, [], ◌∷◌, inl, inr, Result, Ok, Err, IfOk, IfErr, OnOk, IsErrAnd, MatchResult, is_ok, map, ap, sym, subst, ◌∙◌, ⊎_elim, refl}
+use Rattle.std.proofs.Common.{◌≡◌, ◌⊎◌, ◌++◌, ℕ, String, length, List, [], ◌∷◌, inl, inr, Result, Ok, Err, IfOk, IfErr, OnOk, IsErrAnd, MatchResult, is_ok, map, ap, sym, subst, ◌∙◌, ⊎_elim, refl}
 use Rattle.std.proofs.Math.ListN.{length-map}
 use Rattle.std.specs.declared.alloc.Global.{Global}
 use Rattle.std.specs.BTreeMap.{BTreeMap}
@@ -161,3 +161,9 @@ pub refused_files : {T : Type 0} (p : PoolType) (w : Linking) (fs news : List Fi
 refused_files p w fs news r of same h =
     IfErr-weaker r (λ x. Refuses (Faulty w news) x) (λ x. Refuses (FaultyFiles p fs) x)
     (λ e n. refuses_as {P = Faulty w news} {Q = FaultyFiles p fs} e (λ xs b. (w, of, subst (λ l. Faulty w l xs) same b)) n) h
+
+-- what is refused as such, or for want of memory, is refused
+pub still_refused : (P : List Fault → Type 0) (e f : DescriptorError)
+    → (f ≡ e) ⊎ (faults_of f ≡ another ∷ []) → Refuses P e → Refuses P f
+still_refused P e f (inl same) h = subst (Refuses P) (sym same) h
+still_refused P e f (inr few) h = inl few

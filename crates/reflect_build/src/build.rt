@@ -1,23 +1,27 @@
 //! The calls that change a pool.
 
-ghost use Rattle.std.specs.Prelude.{◌≡◌, OnOk, OnErr, IfErr, fold, length, map};
+ghost use Rattle.std.specs.Prelude.{◌≡◌, ◌⊎◌, ◌∷◌, [], false, OnOk, OnErr, IfErr, fold, length, map};
 ghost use Rattle.descriptor_records.specs.Content.{file_view};
 ghost use Rattle.reflect_scope.specs.FileIndexes.{indexes_of};
+ghost use Rattle.reflect_names.specs.Faults.{another};
 ghost use Rattle.reflect_known.specs.GivenNames.{names_of_file};
 ghost use Rattle.reflect_tables.specs.Types.{PoolType, IsSettled};
 ghost use Rattle.reflect_growth.specs.Cut.{cut_to};
 ghost use Rattle.reflect_growth.specs.Put.{edited};
 ghost use Rattle.reflect_growth.specs.Settled.{bare_of};
-ghost use Rattle.reflect_passes.specs.Errors.{Refuses};
+ghost use Rattle.reflect_passes.specs.Errors.{Refuses, is_too_many, faults_of};
 ghost use Rattle.reflect_pool.specs.Imports.{StandsAlone};
 ghost use Rattle.reflect_build.specs.Accepted.{FaultlessFiles, AddsFiles};
 ghost use Rattle.reflect_build.specs.Parts.{AreParts, holds_of};
+ghost use Rattle.reflect_build.specs.Many.{AreRefused};
 ghost use Rattle.reflect_build.specs.Refusals.{is_unknown, FaultyFiles};
 
 use crate::batch::{link, next_place, offsets};
 use crate::forget::{forget_files, forget_names, forget_numbers};
+use crate::many::are_too_many;
 use descriptor_records::FileDescriptorProto;
 use reflect_growth::{Edit, cut, settle_all};
+use reflect_names::DescriptorErrorKind;
 use reflect_passes::{DescriptorError, walk_error};
 use reflect_pool::{DescriptorPool, PoolParts};
 use std::alloc::Global;
@@ -25,7 +29,7 @@ use std::collections::BTreeMap;
 use std::mem;
 
 /// No known file has the file's name.
-fn is_new(known: &BTreeMap<String, u32>, file: &FileDescriptorProto) -> bool
+pub fn is_new(known: &BTreeMap<String, u32>, file: &FileDescriptorProto) -> bool
     ensures { result ≡ is_unknown (indexes_of known.now) file.now }
 {
     match &file.name {
@@ -77,6 +81,46 @@ fn add_files(
     outcome
 }
 
+/// The same refusal, but for one that there is too much of something, which is want of memory: where
+/// each has an index, a walk ends early for nothing else.
+fn not_of_many(alloc: Global, error: DescriptorError) -> DescriptorError
+    ensures kept { (result ≡ error) ⊎ (faults_of result ≡ another ∷ []) }
+    ensures few { is_too_many result.first ≡ false }
+{
+    if error.is_too_many() {
+        DescriptorError::new(alloc, DescriptorErrorKind::Memory)
+    } else {
+        error
+    }
+}
+
+/// Adds files as `add_files` does, but where they are too many.
+fn add_counted(
+    alloc: Global,
+    parts: &mut PoolParts,
+    files: Vec<FileDescriptorProto>,
+) -> Result<(), DescriptorError>
+    requires fit { AreParts parts.old }
+    ensures fit { AreParts parts.new }
+    ensures unchanged { OnErr result (holds_of parts.new ≡ holds_of parts.old) }
+    ensures grown { OnOk result (cut_to (holds_of parts.new) (length (holds_of parts.old).files)
+        ≡ holds_of parts.old) }
+    ensures can_cut { OnOk result (StandsAlone
+        (cut_to (holds_of parts.new) (length (holds_of parts.old).files))) }
+    ensures added { OnOk result (AddsFiles (holds_of parts.old) files.items (holds_of parts.new)) }
+    ensures accepted { OnOk result
+        (FaultlessFiles (holds_of parts.old) files.items (holds_of parts.new)) }
+    ensures refused { IfErr result (AreRefused (holds_of parts.old) files.items) }
+{
+    if are_too_many(&parts.tables, &parts.file_names, files.as_slice()) {
+        return Err(DescriptorError::new(alloc, DescriptorErrorKind::TooMany));
+    }
+    match add_files(alloc, parts, files) {
+        Ok(()) => Ok(()),
+        Err(error) => Err(not_of_many(alloc, error)),
+    }
+}
+
 /// Leaves the parts of the first so many files.
 fn cut_parts(parts: &mut PoolParts, mark: u32)
     requires fit { AreParts parts.old }
@@ -111,7 +155,8 @@ pub trait BuildFiles {
     /// has are passed over.
     ///
     /// Files are accepted only where no pass finds a fault. The error lists exactly the faults of
-    /// the first faulty pass; `Memory` and `TooMany` may come in any pass. After a refusal the pool
+    /// the first faulty pass; `TooMany` where the pool's files, types, extensions and services, and all
+    /// that files declare which it has not, are 2^31 or more; or `Memory`. After a refusal the pool
     /// is as it was.
     fn build_files(
         &mut self,
@@ -126,8 +171,7 @@ pub trait BuildFiles {
         ensures added { OnOk result (AddsFiles (holds self.old) files.items (holds self.new)) }
         ensures accepted { OnOk result
             (FaultlessFiles (holds self.old) files.items (holds self.new)) }
-        ensures refused { IfErr result
-            (λ e. Refuses (FaultyFiles (holds self.old) files.items) e) };
+        ensures refused { IfErr result (AreRefused (holds self.old) files.items) };
 
     /// Leaves the first so many files as they stand, and their names. Takes no memory.
     ///
@@ -160,7 +204,7 @@ impl BuildFiles for DescriptorPool {
         files: Vec<FileDescriptorProto>,
     ) -> Result<(), DescriptorError> {
         let mut parts = take_parts(self);
-        let outcome = add_files(alloc, &mut parts, files);
+        let outcome = add_counted(alloc, &mut parts, files);
         *self = DescriptorPool::from_parts(parts);
         outcome
     }

@@ -5,6 +5,7 @@
 mod batch;
 mod build;
 mod forget;
+mod many;
 
 pub use build::BuildFiles;
 pub use reflect_growth::Edit;

@@ -5,15 +5,14 @@ use Rattle.reflect_wire.specs.declared.wire_error.WireError.{WireError}
 use Rattle.reflect_wire.specs.declared.wire_error.WireError.TheVariants as wire
 use Rattle.reflect_codec.specs.Reading.{Rejects}
 use Rattle.reflect_tables.specs.Types.{PoolType}
-use Rattle.reflect_passes.specs.Errors.{Refuses}
 use Rattle.reflect_passes.specs.declared.error.DescriptorError.{DescriptorError}
-use Rattle.reflect_build.specs.Refusals.{FaultyFiles}
+use Rattle.reflect_build.specs.Many.{AreRefused}
 use Rattle.reflect_bytes.specs.declared.pool_ext.PoolError.{PoolError}
 use Rattle.reflect_bytes.specs.declared.pool_ext.PoolError.TheVariants.{Wire, Link, Memory}
 use Rattle.reflect_bytes.specs.Spelled.{of_wire, RecordsRefused, BytesRefused}
 
 -- a linker's refusal of records is one of files
-pub of_link : (p : PoolType) (files : List FileDescriptorProto) (d : DescriptorError) (e : PoolError) → Refuses (FaultyFiles p files) d → (e ≡ Memory) ⊎ (e ≡ Link d) → RecordsRefused p files e
+pub of_link : (p : PoolType) (files : List FileDescriptorProto) (d : DescriptorError) (e : PoolError) → AreRefused p files d → (e ≡ Memory) ⊎ (e ≡ Link d) → RecordsRefused p files e
 of_link p files d e r (inl m) = rw m tt
 of_link p files d e r (inr l) = rw l r
 

@@ -6,9 +6,8 @@ use Rattle.reflect_wire.specs.declared.wire_error.WireError.{WireError}
 use Rattle.reflect_wire.specs.declared.wire_error.WireError.TheVariants as wire
 use Rattle.reflect_codec.specs.Meaning.{IsFileBytes, IsSetBytes}
 use Rattle.reflect_tables.specs.Types.{PoolType}
-use Rattle.reflect_passes.specs.Errors.{Refuses}
 use Rattle.reflect_build.specs.Accepted.{AddsFiles, FaultlessFiles}
-use Rattle.reflect_build.specs.Refusals.{FaultyFiles}
+use Rattle.reflect_build.specs.Many.{AreRefused}
 use Rattle.reflect_bytes.specs.declared.pool_ext.PoolError.{PoolError}
 use Rattle.reflect_bytes.specs.declared.pool_ext.PoolError.TheVariants.{Wire, Link, Memory}
 
@@ -29,10 +28,11 @@ of_wire e = Wire e
 abbrev pub RecordsLinked : PoolType → List FileDescriptorProto → PoolType → Type 0
 RecordsLinked p files new = AddsFiles p files new × FaultlessFiles p files new
 
--- records are refused where they do not fit together, with the faults of the first faulty pass
+-- records are refused where they do not fit together, with the faults of the first faulty pass, or
+-- where there are more of them than indexes tell
 abbrev pub RecordsRefused : PoolType → List FileDescriptorProto → PoolError → Type 0
 RecordsRefused p files (Wire e) = ⊥
-RecordsRefused p files (Link e) = Refuses (FaultyFiles p files) e
+RecordsRefused p files (Link e) = AreRefused p files e
 RecordsRefused p files Memory = Unit {0}
 
 -- bytes spell files that fit together
@@ -45,5 +45,5 @@ BytesLinked Spelled p new = (files : List FileDescriptorProto) × Spelled files
 abbrev pub BytesRefused : (List FileDescriptorProto → Type 0) → PoolType → PoolError → Type 0
 BytesRefused Spelled p (Wire e) = (files : List FileDescriptorProto) → Spelled files → ⊥
 BytesRefused Spelled p (Link e) = (files : List FileDescriptorProto) × Spelled files
-    × Refuses (FaultyFiles p files) e
+    × AreRefused p files e
 BytesRefused Spelled p Memory = Unit {0}

@@ -28,6 +28,11 @@ abbrev pub is_memory : DescriptorErrorKind → Bool
 is_memory kind.Memory = true
 is_memory k = false
 
+-- it tells that there are too many declarations
+abbrev pub is_too_many : DescriptorErrorKind → Bool
+is_too_many kind.TooMany = true
+is_too_many k = false
+
 -- all that it lists
 abbrev pub kinds_of : DescriptorError → List DescriptorErrorKind
 kinds_of e = e.first ∷ e.others.items

@@ -27,13 +27,15 @@ impl DescriptorError {
       first_place,
       first_span,
       is_memory,
+      is_too_many,
       kinds_of,
       sourced,
     };
 
     /// The error of one fault. Takes no memory.
     pub fn new(alloc: Global, first: DescriptorErrorKind) -> DescriptorError
-        ensures { faults_of result ≡ fault_view first ∷ [] }
+        ensures faults { faults_of result ≡ fault_view first ∷ [] }
+        ensures first { result.first ≡ first }
     {
         DescriptorError {
             first,
@@ -68,6 +70,13 @@ impl DescriptorError {
         ensures { result ≡ is_memory self.now.first }
     {
         matches!(self.first, DescriptorErrorKind::Memory)
+    }
+
+    /// There are more declarations than indexes tell.
+    pub fn is_too_many(&self) -> bool
+        ensures { result ≡ is_too_many self.now.first }
+    {
+        matches!(self.first, DescriptorErrorKind::TooMany)
     }
 
     /// The name of the file that the first fault is in.

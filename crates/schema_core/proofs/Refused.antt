@@ -15,9 +15,8 @@ use Rattle.protox_parse.specs.declared.error.ParseError.{ParseError}
 use Rattle.protox_parse.specs.declared.error.ParseError.TheVariants as parsed
 use Rattle.reflect_tables.specs.Types.{PoolType}
 use Rattle.reflect_names.specs.Faults.{Place, place_of}
-use Rattle.reflect_passes.specs.Errors.{Refuses}
 use Rattle.reflect_passes.specs.declared.error.DescriptorError.{DescriptorError}
-use Rattle.reflect_build.specs.Refusals.{FaultyFiles}
+use Rattle.reflect_build.specs.Many.{AreRefused}
 use Rattle.reflect_bytes.specs.Spelled.{SpellsSet}
 use Rattle.reflect_format.specs.Truth.{TrueOf}
 use Rattle.text_error.specs.declared.error.ParseError as text
@@ -36,7 +35,7 @@ use Rattle.schema_core.specs.Serving.{IsPayload, PayloadRefused, of_schema}
 use Rattle.schema_core.specs.Refusals.{of_source, of_wire, of_text, IsKnown, IsNoText, BytesRefused, TextRefused, FilesFit, FilesRefused, sources_of, IsFileOf, AreFilesOf, SourcesLinked, SourcesRefused, SetRefused}
 
 -- a linker's refusal is one of files
-pub of_link : (p : PoolType) (files typed : List FileDescriptorProto) (d : DescriptorError) (e : SchemaError) → TypedFiles files typed → Refuses (FaultyFiles p typed) d → (e ≡ Memory) ⊎ (e ≡ Link d) → FilesRefused p files e
+pub of_link : (p : PoolType) (files typed : List FileDescriptorProto) (d : DescriptorError) (e : SchemaError) → TypedFiles files typed → AreRefused p typed d → (e ≡ Memory) ⊎ (e ≡ Link d) → FilesRefused p files e
 of_link p files typed d e t r (inl m) = rw m tt
 of_link p files typed d e t r (inr l) = rw l (typed, t, r)
 

@@ -8,10 +8,9 @@ use Rattle.protox_parse.specs.declared.error.ParseError.TheVariants as parsed
 use Rattle.reflect_tables.specs.Finding.{IsFirst}
 use Rattle.reflect_tables.specs.Types.{PoolType, IsSettled}
 use Rattle.descriptor_records.specs.declared.file.FileDescriptorProto.{FileDescriptorProto}
-use Rattle.reflect_passes.specs.Errors.{Refuses}
 use Rattle.reflect_growth.specs.Settled.{bare_of}
 use Rattle.reflect_pool.specs.Dots.{without_dot}
-use Rattle.reflect_build.specs.Refusals.{FaultyFiles}
+use Rattle.reflect_build.specs.Many.{AreRefused}
 use Rattle.reflect_wire.specs.declared.wire_error.WireError.{WireError}
 use Rattle.reflect_wire.specs.declared.wire_error.WireError.TheVariants as wire
 use Rattle.reflect_bytes.specs.Spelled.{SpellsSet, RecordsLinked}
@@ -96,11 +95,11 @@ abbrev pub FilesLinked : PoolType → List FileDescriptorProto → PoolType → 
 FilesLinked p files new = (linked : PoolType) × FilesFit p files linked × IsSettled linked new
     × (map bare_of new.records ≡ map bare_of linked.records)
 
--- of files: they do not fit together; or they do and options of one of them, where the fault
--- stands, do not suit their types
+-- of files: they do not fit together, or are too many; or they fit and options of one of them,
+-- where the fault stands, do not suit their types
 abbrev pub FilesRefused : PoolType → List FileDescriptorProto → SchemaError → Type 0
 FilesRefused p files (Link e) = (typed : List FileDescriptorProto) × TypedFiles files typed
-    × Refuses (FaultyFiles p typed) e
+    × AreRefused p typed e
 FilesRefused p files (Options e) = (new : PoolType) × FilesFit p files new
     × IfSome (option_place e) (StandsFrom new.records (length p.files))
 FilesRefused p files Memory = Unit {0}

@@ -21,41 +21,28 @@ pub fn add_set(schema: &mut Schema, set: &[u8]) -> Result<(), SchemaError>
     schema.add_descriptor_set(set)
 }
 
-#[cfg(test)]
-mod tests {
-    use crate::files::{add_set, link};
-    use schema_core::SchemaError;
+const USER: &str = "syntax = 'proto3'; package p; import 'date.proto';
+    message User { string name = 1; Date born = 2; }";
 
-    const USER: &str = "syntax = 'proto3'; package p; import 'date.proto';
-        message User { string name = 1; Date born = 2; }";
+const DATE: &str = "syntax = 'proto3'; package p; message Date { int32 year = 1; }";
 
-    const DATE: &str = "syntax = 'proto3'; package p; message Date { int32 year = 1; }";
+/// A file stands before the one that it imports.
+pub fn in_any_order(alloc: Global) -> Result<String, SchemaError> {
+    let schema = link(alloc, &[("user.proto", USER), ("date.proto", DATE)])?;
+    schema.decode("p.User", b"\x12\x03\x08\x97\x0e")
+}
 
-    #[test]
-    fn sources_stand_in_any_order(rt: HostRuntime) {
-        let sources = [("user.proto", USER), ("date.proto", DATE)];
-        let schema = link(rt.alloc(), &sources).expect(&rt, "they fit together");
-        let bytes = schema
-            .encode("p.User", "born { year: 1815 }")
-            .expect(&rt, "a user");
-        assert!(rt; bytes.as_slice() == b"\x12\x03\x08\x97\x0e".as_slice());
-    }
+/// What it imports is not there.
+pub fn with_one_missing(alloc: Global) -> Result<String, SchemaError> {
+    let schema = link(alloc, &[("user.proto", USER)])?;
+    schema.decode("p.User", b"")
+}
 
-    #[test]
-    fn what_is_missing_is_told(rt: HostRuntime) {
-        let refused = link(rt.alloc(), &[("user.proto", USER)]);
-        assert!(rt; matches!(refused, Err(SchemaError::Link(_))));
-    }
-
-    #[test]
-    fn sets_are_added(rt: HostRuntime) {
-        let dates = link(rt.alloc(), &[("date.proto", DATE)]).expect(&rt, "a file");
-        let set = dates.to_descriptor_set().expect(&rt, "room");
-        let mut schema = link(rt.alloc(), &[]).expect(&rt, "nothing to refuse");
-        add_set(&mut schema, set.as_slice()).expect(&rt, "the same file");
-        let text = schema
-            .decode("p.Date", b"\x08\x97\x0e")
-            .expect(&rt, "a date");
-        assert_eq!(rt; text.as_str(), "year:1815");
-    }
+/// The set of one schema is added to another.
+pub fn as_a_set(alloc: Global) -> Result<String, SchemaError> {
+    let dates = link(alloc, &[("date.proto", DATE)])?;
+    let set = dates.to_descriptor_set()?;
+    let mut schema = link(alloc, &[])?;
+    add_set(&mut schema, set.as_slice())?;
+    schema.decode("p.Date", b"\x08\x97\x0e")
 }

@@ -1,8 +1,10 @@
 //! A message is read, changed and written, of a type that is named at run time.
 
+use crate::files::link;
 use reflect_dynamic::{DecodeMessage, DynamicMessage, EncodeMessage, FieldsByName, Value};
 use reflect_link::MessageDescriptor;
 use reflect_wire::WireError;
+use schema_core::{Schema, SchemaError};
 use std::alloc::Global;
 
 /// The bytes of a message in which the number `foo` counts one more. Where the type has no such
@@ -23,31 +25,27 @@ pub fn raise_foo(
     message.encode_to_vec()
 }
 
-#[cfg(test)]
-mod tests {
-    use crate::files::link;
-    use crate::messages::raise_foo;
-    use reflect_wire::WireError;
+const SOURCE: &str = "syntax = 'proto3'; package p; message M { int32 foo = 1; }";
 
-    const SOURCE: &str = "syntax = 'proto3'; package p; message M { int32 foo = 1; }";
-
-    #[test]
-    fn a_field_is_changed(rt: HostRuntime) {
-        let schema = link(rt.alloc(), &[("a.proto", SOURCE)]).expect(&rt, "a file");
-        let m = schema
-            .pool()
-            .get_message_by_name("p.M")
-            .expect(&rt, "a type");
-        // 150 becomes 151, a field that is not set 1, and what the type does not declare stays.
-        for (bytes, raised) in [
-            (b"\x08\x96\x01".as_slice(), b"\x08\x97\x01".as_slice()),
-            (b"", b"\x08\x01"),
-            (b"\x10\x05", b"\x08\x01\x10\x05"),
-        ] {
-            let written = raise_foo(rt.alloc(), m, bytes).expect(&rt, "a message");
-            assert!(rt; written.as_slice() == raised);
-        }
-        let refused = raise_foo(rt.alloc(), m, b"\x08");
-        assert!(rt; matches!(refused, Err(WireError::BadVarint | WireError::Truncated)));
+/// The bytes with `foo` raised, or none where the schema has no type of the name.
+fn raised(alloc: Global, schema: &Schema, bytes: &[u8]) -> Result<Vec<u8>, SchemaError> {
+    match schema.pool().get_message_by_name("p.M") {
+        Some(descriptor) => Ok(raise_foo(alloc, descriptor, bytes)?),
+        None => Ok(Vec::new(alloc)),
     }
+}
+
+/// 150 becomes 151, a field that is not set 1, and what the type does not declare stays.
+pub fn changed(alloc: Global) -> Result<String, SchemaError> {
+    let schema = link(alloc, &[("a.proto", SOURCE)])?;
+    let set = raised(alloc, &schema, b"\x08\x96\x01")?;
+    let unset = raised(alloc, &schema, b"\x10\x05")?;
+    Ok(format!(in alloc; "{:?} {:?}", set.as_slice(), unset.as_slice())?)
+}
+
+/// Bytes that end within a field's number.
+pub fn cut_short(alloc: Global) -> Result<String, SchemaError> {
+    let schema = link(alloc, &[("a.proto", SOURCE)])?;
+    let bytes = raised(alloc, &schema, b"\x08")?;
+    schema.decode("p.M", bytes.as_slice())
 }

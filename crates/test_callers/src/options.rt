@@ -1,7 +1,9 @@
 //! What options say of a declaration.
 
+use crate::files::link;
 use reflect_link::MessageReaders;
 use schema_core::{Schema, SchemaError};
+use std::alloc::Global;
 
 /// The options of a message type as text, if it has some. The schema has to know the type of
 /// options, which `google/protobuf/descriptor.proto` declares.
@@ -18,34 +20,28 @@ pub fn options_of(schema: &Schema, type_name: &str) -> Result<Option<String>, Sc
     }
 }
 
-#[cfg(test)]
-mod tests {
-    use crate::files::link;
-    use crate::options::options_of;
+const TYPES: &str = "syntax = 'proto2'; package google.protobuf;
+    message MessageOptions {
+        optional bool map_entry = 7;
+        repeated UninterpretedOption uninterpreted_option = 999;
+        extensions 1000 to max;
+    }
+    message UninterpretedOption {}";
 
-    const TYPES: &str = "syntax = 'proto2'; package google.protobuf;
-        message MessageOptions {
-            optional bool map_entry = 7;
-            repeated UninterpretedOption uninterpreted_option = 999;
-            extensions 1000 to max;
-        }
-        message UninterpretedOption {}";
+const SOURCE: &str = "syntax = 'proto2'; package p; import 'google/protobuf/descriptor.proto';
+    extend google.protobuf.MessageOptions { optional string owner = 50000; }
+    message M { option (owner) = 'a team'; }
+    message N {}";
 
-    const SOURCE: &str = "syntax = 'proto2'; package p; import 'google/protobuf/descriptor.proto';
-        extend google.protobuf.MessageOptions { optional string owner = 50000; }
-        message M { option (owner) = 'a team'; }
-        message N {}";
-
-    #[test]
-    fn options_are_read_by_their_types(rt: HostRuntime) {
-        let sources = [
-            ("google/protobuf/descriptor.proto", TYPES),
-            ("a.proto", SOURCE),
-        ];
-        let schema = link(rt.alloc(), &sources).expect(&rt, "they fit together");
-        let options = options_of(&schema, "p.M").expect(&rt, "a type");
-        assert_eq!(rt; options.as_deref(), Some("[p.owner]:\"a team\""));
-        let none = options_of(&schema, "p.N").expect(&rt, "a type");
-        assert!(rt; none.is_none());
+/// One message has an option of the source's own, another none.
+pub fn of_a_message(alloc: Global) -> Result<String, SchemaError> {
+    let sources = [
+        ("google/protobuf/descriptor.proto", TYPES),
+        ("a.proto", SOURCE),
+    ];
+    let schema = link(alloc, &sources)?;
+    match (options_of(&schema, "p.M")?, options_of(&schema, "p.N")?) {
+        (Some(options), None) => Ok(options),
+        _ => Ok(String::new(alloc)),
     }
 }

@@ -1,8 +1,10 @@
 //! Messages as text.
 
+use crate::files::link;
 use reflect_dynamic::DynamicMessage;
 use reflect_link::MessageDescriptor;
 use reflect_text::{FormatOptions, ParseError, TextFormat, WriteError};
+use schema_core::{Schema, SchemaError};
 use std::alloc::Global;
 
 /// The message of a type that a text spells, or the text's first fault with its place.
@@ -20,38 +22,34 @@ pub fn show(alloc: Global, message: &DynamicMessage<'_>) -> Result<String, Write
     message.to_text_format_with_options(alloc, &options)
 }
 
-#[cfg(test)]
-mod tests {
-    use crate::files::link;
-    use crate::texts::{read_text, show};
+const SOURCE: &str = "syntax = 'proto3'; package p;
+    message M { int32 foo = 1; N nested = 3; } message N { int32 bar = 2; }";
 
-    const SOURCE: &str = "syntax = 'proto3'; package p;
-        message M { int32 foo = 1; N nested = 3; } message N { int32 bar = 2; }";
-
-    #[test]
-    fn texts_are_read_and_shown(rt: HostRuntime) {
-        let schema = link(rt.alloc(), &[("a.proto", SOURCE)]).expect(&rt, "a file");
-        let m = schema
-            .pool()
-            .get_message_by_name("p.M")
-            .expect(&rt, "a type");
-        let message = read_text(rt.alloc(), m, "foo: 150 nested <bar: 0x42>").expect(&rt, "a text");
-        let text = show(rt.alloc(), &message).expect(&rt, "room");
-        assert_eq!(rt; text.as_str(), "foo: 150\nnested {\n  bar: 66\n}");
+/// What is read of a text, on lines of its own.
+fn shown(alloc: Global, schema: &Schema, text: &str) -> Result<String, SchemaError> {
+    let Some(descriptor) = schema.pool().get_message_by_name("p.M") else {
+        return Ok(String::new(alloc));
+    };
+    let message = read_text(alloc, descriptor, text)?;
+    match show(alloc, &message) {
+        Ok(text) => Ok(text),
+        Err(WriteError::Format | WriteError::Memory) => Err(SchemaError::Memory),
     }
+}
 
-    #[test]
-    fn a_fault_has_a_place(rt: HostRuntime) {
-        let schema = link(rt.alloc(), &[("a.proto", SOURCE)]).expect(&rt, "a file");
-        let m = schema
-            .pool()
-            .get_message_by_name("p.M")
-            .expect(&rt, "a type");
-        let refused = read_text(rt.alloc(), m, "foo: 1 fob: 2");
-        let span = match &refused {
-            Ok(_) => None,
-            Err(fault) => fault.span(),
-        };
-        assert!(rt; matches!(span, Some(span) if span.start == 7 && span.end == 10));
+pub fn read_and_shown(alloc: Global) -> Result<String, SchemaError> {
+    let schema = link(alloc, &[("a.proto", SOURCE)])?;
+    shown(alloc, &schema, "foo: 150 nested <bar: 0x42>")
+}
+
+/// A fault has a place: here its bytes, from the first to behind the last.
+pub fn with_a_fault(alloc: Global) -> Result<String, SchemaError> {
+    let schema = link(alloc, &[("a.proto", SOURCE)])?;
+    match shown(alloc, &schema, "foo: 1 fob: 2") {
+        Err(SchemaError::Text(fault)) => match fault.span() {
+            Some(span) => Ok(format!(in alloc; "{}..{} {fault}", span.start, span.end)?),
+            None => Ok(String::new(alloc)),
+        },
+        other => other,
     }
 }
