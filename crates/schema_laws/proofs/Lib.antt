@@ -3,3 +3,4 @@ pub mod Encoding
 pub mod Naming
 pub mod PresentMessages
 pub mod AddedBatches
+pub mod RefusedBatches

@@ -1,2 +1,3 @@
 pub mod Schemas
 pub mod Reprints
+pub mod Batches

@@ -7,12 +7,16 @@ ghost use Rattle.descriptor_records.specs.declared.file.FileDescriptorProto.{Fil
 ghost use Rattle.option_parts.specs.TypedOptions.{TypedFiles};
 ghost use Rattle.reflect_build.specs.Refusals.{IsOf, Linking, new_files};
 ghost use Rattle.reflect_bytes.specs.Spelled.{SpellsSet};
+ghost use Rattle.reflect_passes.specs.declared.error.DescriptorError.{DescriptorError};
 ghost use Rattle.linked_messages.specs.Kept.{IsKept};
 ghost use Rattle.linked_view.specs.Alone.{IsRecorded};
 ghost use Rattle.linked_view.specs.Extended.{IsIndexed};
 ghost use Rattle.settled_view.specs.BuiltBut.{IsBuiltBut};
-ghost use Rattle.schema_core.specs.Refusals.{AreFilesOf, SetLinked, SourcesLinked};
+ghost use Rattle.schema_core.specs.Refusals.{AreFilesOf, SetLinked, SetRefused};
+ghost use Rattle.schema_core.specs.Refusals.{SourcesLinked, SourcesRefused};
+ghost use Rattle.schema_core.specs.declared.error.SchemaError.TheVariants.{Link};
 ghost use Rattle.schema_core.specs.declared.schema.Schema.{Schema};
+ghost use Rattle.schema_laws.specs.Batches.{AreNoBatch};
 
 /// Sources that are added are one batch more. What is asked of the new schema's pool each pool has,
 /// as `pools_are_recorded`, `pools_are_indexed` and `pools_are_linked` say.
@@ -35,4 +39,25 @@ pub fn added_sets_are_a_batch()
         → (files typed : List FileDescriptorProto) × (w : Linking) × SpellsSet bytes files
         × TypedFiles files typed × IsOf old.pool w
         × IsBuiltBut (map file_view (new_files w.indexes typed) ∷ earlier) new.pool }
+{}
+
+/// Where sources are refused for how they link, the files that they are are no batch behind the
+/// schema's: those that it has not yet are not lawful there, whatever their references mean; or
+/// they are too many, or memory ran out. So lawful sources link.
+pub fn sources_that_do_not_link_are_no_batch()
+    ensures { (earlier : List (List FileContent)) (old : Schema)
+        (sources : List (List ℕ × List ℕ)) (e : DescriptorError)
+        → (is : IsBuiltBut earlier old.pool) → IsKept old.pool
+        → SourcesRefused old.pool sources (Link e)
+        → (files typed : List FileDescriptorProto) × AreFilesOf sources files
+        × TypedFiles files typed × AreNoBatch is.linked old.pool typed e }
+{}
+
+/// And so it is of descriptor sets.
+pub fn sets_that_do_not_link_are_no_batch()
+    ensures { (earlier : List (List FileContent)) (old : Schema) (bytes : List ℕ)
+        (e : DescriptorError) → (is : IsBuiltBut earlier old.pool) → IsKept old.pool
+        → SetRefused old.pool bytes (Link e)
+        → (files typed : List FileDescriptorProto) × SpellsSet bytes files
+        × TypedFiles files typed × AreNoBatch is.linked old.pool typed e }
 {}
