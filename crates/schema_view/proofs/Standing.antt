@@ -9,12 +9,15 @@ use Rattle.schema_view.specs.Files.{join, text_of, is_proto3}
 use Rattle.schema_view.specs.Declarations.{MessageFacts, Body, of_message, of_field, of_oneof, of_enum, of_value, of_service, of_method, of_extension, Declaration, declarations}
 use Rattle.schema_view.specs.References.{a_type, Reference, to_message, to_type, references_of, references}
 use Rattle.schema_view.specs.Outlines.{Sort, Outline, outline_of, head_of, IsDeclared}
+use Rattle.schema_view.specs.Means.{HasType as HasSortType}
 use Rattle.schema_view.specs.Rules.{IsField, HasType, IsSound}
 use Rattle.schema_view.specs.Lawful.{outlines, has_key}
 use Rattle.schema_view.specs.Views.{Held, View, when, extension_at, view_of}
 use Rattle.schema_view.specs.Fields.{is_repeated, is_packed}
 use Rattle.schema_view.specs.Types.{undotted, type_name, message_in, field_in, message_at, field_at, is_proto3_at, scalar_of, kind_by, part_of, named_in, name_of_field, names_entry, entry_part, key_of, map_field, plain_field, held_field, extension_named}
 use Rattle.schema_view.proofs.Lists.{contains_here, contains_map_cases, contains_flat, first_from}
+use Rattle.schema_view.proofs.Agreeing.{IsTyped}
+use Rattle.schema_view.proofs.Targets.{type_in}
 use Rattle.schema_view.proofs.Road.{AreLinked, after_dot}
 use Rattle.schema_view.proofs.Orders.{when_true}
 use Rattle.schema_view.proofs.Looking.{Declared, looked_up, from_there, fields_declared}
@@ -62,13 +65,23 @@ refers n (of_value v) c t e h = let no : None ≡ Some c = e in absurd (cc)
 refers n (of_service s) c t e h = let no : None ≡ Some c = e in absurd (cc)
 refers n (of_method m) c t e h = let no : None ≡ Some c = e in absurd (cc)
 
--- the type of a field is declared, where it has a name
-pub type_declared : (fs : List FileContent) → AreLinked fs → (c : FieldContent) → StandsIn fs c → (t : Text) → c.type_name ≡ Some t → Declared fs (undotted t)
-type_declared fs l c s t e =
+-- the type of a field is declared, where it has a name, as one of the number that the field gives
+pub record IsTypeOf (fs : List FileContent) (c : FieldContent) (full : Text) : Type 0 where
+  pub sort : Sort
+  pub declared : IsDeclared (outlines fs) full sort
+  pub number : HasSortType sort (type_in (a_type c.field_type))
+  pub typed : IsTyped (a_type c.field_type)
+
+pub type_there : (fs : List FileContent) → AreLinked fs → (c : FieldContent) → StandsIn fs c → (t : Text) → c.type_name ≡ Some t → IsTypeOf fs c (undotted t)
+type_there fs l c s t e =
     let r : Reference = record { want = a_type c.field_type; scope = s.declaration.name; name = t } in
     let i : Contains (references s.file) r = contains_flat references_of (declarations s.file) s.declaration r s.inside (refers s.declaration.name s.declaration.body c t s.is e) in
-    let n = (l.each s.file s.there).numbers r i in
-    subst (Declared fs) (after_is t) (declared_in fs (after_dot t) n.0 n.1)
+    let own = l.each s.file s.there in
+    let n = own.numbers r i in
+    subst (IsTypeOf fs c) (after_is t) (record { sort = n.0; declared = n.1; number = n.2; typed = own.typed r i })
+
+pub type_declared : (fs : List FileContent) → AreLinked fs → (c : FieldContent) → StandsIn fs c → (t : Text) → c.type_name ≡ Some t → Declared fs (undotted t)
+type_declared fs l c s t e = let x = type_there fs l c s t e in declared_in fs (undotted t) x.sort x.declared
 
 pub and_false : (b : Bool) → (b && false) ≡ false
 and_false true = refl
