@@ -1,5 +1,5 @@
 -- The entries of accepted files tell of their fields.
-use Rattle.std.proofs.Common.{◌≡◌, ◌∙◌, ◌⊎◌, inl, inr, ◌+◌, ℕ, zero, suc, ℤ, pos, Bool, true, false, cond, List, [], ◌∷◌, ◌++◌, Option, Some, None, is_some, String, Global, string_bytes, map, slice_get, unwrap_or, append_assoc, ap, sym, subst, refl, arith}
+use Rattle.std.proofs.Common.{◌≡◌, ◌∙◌, inl, inr, ◌+◌, ℕ, suc, ℤ, pos, Bool, true, false, List, [], ◌∷◌, ◌++◌, Option, Some, None, is_some, map, slice_get, unwrap_or, append_assoc, ap, sym, subst, refl, arith}
 use Rattle.std.specs.List.{AllZip, Contains, flat_map}
 use Rattle.std.proofs.lemmas.List.{map-append}
 use Rattle.std.proofs.lemmas.List.Concat.{flat_map-append}
@@ -14,18 +14,17 @@ use Rattle.reflect_fields.specs.Fields as fields
 use Rattle.reflect_fields.specs.Fields.{natural}
 use Rattle.reflect_index.proofs.Among.{Among}
 use Rattle.reflect_index.proofs.Declared.{ExtensionDeclared, FieldDeclared, extension_declared, field_among, list_of, of_along}
-use Rattle.reflect_index.specs.Along.{AtHand, Met, along, all_of, before_files, hand_behind, is_field, is_message, met, parts}
+use Rattle.reflect_index.specs.Along.{AtHand, Met, along, all_of, before_files, hand_behind, is_field, is_message, parts}
 use Rattle.reflect_index.specs.Entries.{DeclaredField, HasKind, Head, IsFieldBy, IsFieldOf, IsHeadOf}
 use Rattle.reflect_index.specs.Grown.{declared_field, list_at, message_head, stored_fields}
 use Rattle.reflect_names.specs.Faults.{batch_places}
 use Rattle.reflect_names.specs.Names.{Places}
 use Rattle.reflect_names.specs.ReferencePass.{views_of}
-use Rattle.reflect_names.specs.References.{Target, View, name_targets, reference_faults, reference_faults_at, targets_of}
+use Rattle.reflect_names.specs.References.{View, name_targets, reference_faults, reference_faults_at, targets_of}
 use Rattle.reflect_names.specs.ReferenceSteps.{target_of}
-use Rattle.reflect_names.specs.declared.resolve_visitor.Reference.{Reference}
 use Rattle.reflect_passes.specs.NameFaults.{name_faults}
 use Rattle.reflect_pool.specs.Linked.{empty_pool}
-use Rattle.reflect_references.specs.Meanings.{behind, meaning}
+use Rattle.reflect_references.specs.Meanings.{behind}
 use Rattle.reflect_scope.specs.FileIndexes.{Indexes}
 use Rattle.reflect_scope.specs.Known.{Known}
 use Rattle.reflect_scope.specs.declared.definition.DefinitionKind.TheVariants as kind
@@ -45,7 +44,6 @@ use Rattle.schema_view.specs.Files.{is_proto3}
 use Rattle.schema_view.specs.Lawful.{Meanings, all_linked}
 use Rattle.schema_view.specs.References as linking
 use Rattle.schema_view.specs.References.{fill_type, linked, rename_message_type, rename_type}
-use Rattle.schema_view.specs.Types.{field_number}
 use Rattle.schema_view.proofs.Lists.{contains_map, contains_map_cases, contains_none}
 use Rattle.schema_view.proofs.Renames.{declarations_renamed, rename_body, renamed}
 use Rattle.linked_view.specs.Alone.{IsWellNamed}
@@ -62,10 +60,10 @@ use Rattle.linked_view.proofs.Places.{contains_get, get_contains}
 use Rattle.linked_view.proofs.Shown.{IsShown, shown_in}
 use Rattle.linked_view.proofs.Telling.{get_before, known_new}
 use Rattle.linked_view.proofs.Walked.{facts_in, name_seen, seen, seen_body}
-use Rattle.types_view.specs.Fields.{Holds, IsEntryOf, IsListed, IsTold, IsToldExtension, IsWrittenAt, ListsFields, NamedMessage, TellsFields, messages_in, written_messages}
+use Rattle.types_view.specs.Fields.{Holds, IsListed, IsTold, IsToldExtension, IsWrittenAt, ListsFields, NamedMessage, TellsFields, messages_in, written_messages}
 use Rattle.types_view.proofs.Entered as entered
 use Rattle.types_view.proofs.Entered.{extension_entered, field_entered, linked_extendee, linked_group, linked_holds, linked_unnamed, syntax_is}
-use Rattle.types_view.proofs.Walk.{HasNext, HasSyntax, IsOwn, Pending, batch_pending, contains_among, fields_own, has_next, has_syntax, past_files}
+use Rattle.types_view.proofs.Walk.{HasNext, IsOwn, Pending, batch_pending, contains_among, fields_own, has_next, has_syntax, past_files}
 
 -- ---- more names, and more files
 
@@ -194,36 +192,36 @@ module _ (views : ℕ → View) where
   messages_zipped n full fs h [] k (y ∷ ys) a z have = absurd z
   messages_zipped n full fs h (d ∷ ds) k ys a z have =
       by (λ m g gs hand xs b y more. messages_zipped m g gs hand ds k xs b y more) d.body ys a z have
-      where
-        by : ((m : ℕ) (g : List ℕ) (gs : List FieldDescriptorProto) (hand : AtHand)
-            (xs : List StoredMessage) → Pending m g gs ds k
-            → AllZip IsHeadOf (all_of is_message (along hand ds)) (map message_head xs)
-            → HaveFields m ds xs
-            → AllZip ListsFields (messages_along views ds) (map message_of xs))
-            → (b : Body) (ys : List StoredMessage)
-            → Pending n full fs (record d { body = b } ∷ ds) k
-            → AllZip IsHeadOf (all_of is_message (along h (record d { body = b } ∷ ds)))
-            (map message_head ys)
-            → HaveFields n (record d { body = b } ∷ ds) ys
-            → AllZip ListsFields (messages_along views (record d { body = b } ∷ ds))
-            (map message_of ys)
-        by rest (of_message own) [] a z have = absurd z
-        by rest (of_message own) (y ∷ ys) a z have =
-            let here = record d { body = of_message own } in
-            let index = a.1 in (
-              record {
-                name = ap (λ (x : Head). x.full_name) z.0;
-                fields = have here own 0 y (inl refl) refl (omega (arith, index)) refl;
-              },
-              rest (n + 1) d.name own.field (hand_behind h here) ys a.2 z.1
-                  (λ e x j q k is at get. have e x (suc j) q (inr k) is (omega (arith, at)) get),
-            )
-        by rest (of_field r) ys a z have =
-            rest n full a.0 (hand_behind h (record d { body = of_field r })) ys a.6 z
-            (λ e x j q k is at get. have e x j q (inr k) is at get)
-        by rest b ys a z have =
-            rest n full fs (hand_behind h (record d { body = b })) ys a z
-            (λ e x j q k is at get. have e x j q (inr k) is at get)
+    where
+      by : ((m : ℕ) (g : List ℕ) (gs : List FieldDescriptorProto) (hand : AtHand)
+          (xs : List StoredMessage) → Pending m g gs ds k
+          → AllZip IsHeadOf (all_of is_message (along hand ds)) (map message_head xs)
+          → HaveFields m ds xs
+          → AllZip ListsFields (messages_along views ds) (map message_of xs))
+          → (b : Body) (ys : List StoredMessage)
+          → Pending n full fs (record d { body = b } ∷ ds) k
+          → AllZip IsHeadOf (all_of is_message (along h (record d { body = b } ∷ ds)))
+          (map message_head ys)
+          → HaveFields n (record d { body = b } ∷ ds) ys
+          → AllZip ListsFields (messages_along views (record d { body = b } ∷ ds))
+          (map message_of ys)
+      by rest (of_message own) [] a z have = absurd z
+      by rest (of_message own) (y ∷ ys) a z have =
+          let here = record d { body = of_message own } in
+          let index = a.1 in (
+            record {
+              name = ap (λ (x : Head). x.full_name) z.0;
+              fields = have here own 0 y (inl refl) refl (omega (arith, index)) refl;
+            },
+            rest (n + 1) d.name own.field (hand_behind h here) ys a.2 z.1
+                (λ e x j q k is at get. have e x (suc j) q (inr k) is (omega (arith, at)) get),
+          )
+      by rest (of_field r) ys a z have =
+          rest n full a.0 (hand_behind h (record d { body = of_field r })) ys a.6 z
+          (λ e x j q k is at get. have e x j q (inr k) is at get)
+      by rest b ys a z have =
+          rest n full fs (hand_behind h (record d { body = b })) ys a z
+          (λ e x j q k is at get. have e x j q (inr k) is at get)
 
 -- ---- a batch
 
@@ -544,29 +542,29 @@ module _ (old new : PoolType) (ns : List FileDescriptorProto) (w : Linking) (is 
       → IsTold ms es (map file_view new.records) false e
   fields_new m e i j = elim (Contains-append_cases old.messages (map message_of items) m
       (subst (λ xs. Contains xs m) messages_are i)) [
-    | inl k ↦ grown (λ xs ys fs. IsTold xs ys fs false e)
-        (told_more (names_of old messages) (names_of old enums) more_names more_enums given after
-        false e (tells.fields m e k j))
-    | inr k ↦ (
-        let y = contains_map_cases message_of items m k in
-        let place = contains_get items y.0 y.1 in
-        let f = field_among batch.references w.before w.first ns batch.types.new.now
-        batch.declared.entries place.0 y.0 e place.1
-        (among (message_of y.0).fields e
-        (subst (λ (q : MessageType). Contains q.fields e) (sym y.2) j)) in
-        field_told e (w.before.messages + place.0) f.0 f.1)
-  ]
+        | inl k ↦ grown (λ xs ys fs. IsTold xs ys fs false e)
+            (told_more (names_of old messages) (names_of old enums) more_names more_enums given after
+            false e (tells.fields m e k j))
+        | inr k ↦ (
+            let y = contains_map_cases message_of items m k in
+            let place = contains_get items y.0 y.1 in
+            let f = field_among batch.references w.before w.first ns batch.types.new.now
+            batch.declared.entries place.0 y.0 e place.1
+            (among (message_of y.0).fields e
+            (subst (λ (q : MessageType). Contains q.fields e) (sym y.2) j)) in
+            field_told e (w.before.messages + place.0) f.0 f.1)
+      ]
 
   extensions_new : (x : ExtensionType) → Contains new.extensions x
       → IsToldExtension ms es (map file_view new.records) x
   extensions_new x i = elim (Contains-append_cases old.extensions new_extensions x
       (subst (λ xs. Contains xs x) extensions_are i)) [
-    | inl k ↦ grown (λ xs ys fs. IsToldExtension xs ys fs x)
-        (extension_more (names_of old messages) (names_of old enums) more_names more_enums given after
-        x (tells.extensions x k))
-    | inr k ↦ extension_told x (extension_declared batch.references w.before w.first ns
-        batch.types.new.now batch.declared.entries x (among new_extensions x k))
-  ]
+        | inl k ↦ grown (λ xs ys fs. IsToldExtension xs ys fs x)
+            (extension_more (names_of old messages) (names_of old enums) more_names more_enums given after
+            x (tells.extensions x k))
+        | inr k ↦ extension_told x (extension_declared batch.references w.before w.first ns
+            batch.types.new.now batch.declared.entries x (among new_extensions x k))
+      ]
 
   pub fields_tell : TellsFields new
   fields_tell = record { listed = listed_new; fields = fields_new; extensions = extensions_new }

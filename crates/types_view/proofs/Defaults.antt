@@ -14,18 +14,17 @@ use Rattle.protobuf_model.specs.Types.{Kind, nested, scalar}
 use Rattle.protobuf_model.specs.Types as kinds
 use Rattle.protobuf_model.specs.Values as model
 use Rattle.protobuf_model.specs.Values.{Single, enumerated}
-use Rattle.reflect_defaults.specs.Defaults.{IsRead, Says}
+use Rattle.reflect_defaults.specs.Defaults.{Says}
 use Rattle.reflect_defaults.specs.declared.default.DefaultText.{DefaultText}
 use Rattle.reflect_defaults.specs.declared.default.DefaultText.TheVariants as says
-use Rattle.reflect_fields.specs.FieldDefaults.{IsDefaultOf, IsNumbered, IsScalarDefault, IsWritten, default_type}
-use Rattle.reflect_fields.specs.Fields.{is_message, scalar_type}
-use Rattle.reflect_tables.specs.Names.{FullName, enums, messages, names_of}
+use Rattle.reflect_fields.specs.FieldDefaults.{IsDefaultOf, IsNumbered, IsScalarDefault, default_type}
+use Rattle.reflect_fields.specs.Fields.{scalar_type}
+use Rattle.reflect_tables.specs.Names.{enums, messages, names_of}
 use Rattle.reflect_tables.specs.Types.{DefaultType, EnumType, FieldType, KindType, MessageType, PoolType, ValueType, named, no_enum}
 use Rattle.reflect_tables.specs.Types as types
 use Rattle.schema_view.specs.Declarations.{Body, MessageFacts, of_message, of_field, of_oneof, of_enum, of_value, of_service, of_method, of_extension}
 use Rattle.schema_view.specs.Lawful.{HasNamedDefault, IsSettled, outlines}
-use Rattle.schema_view.specs.Outlines.{IsDeclared, Outline, Sort, enum_sort, sort_of, value_name}
-use Rattle.schema_view.specs.Rules.{SuitsScalar}
+use Rattle.schema_view.specs.Outlines.{IsDeclared, Outline, enum_sort, sort_of, value_name}
 use Rattle.schema_view.specs.Scalars.{IsDefault, is_scalar}
 use Rattle.schema_view.specs.Types as said
 use Rattle.schema_view.specs.Types.{enum_in, field_in, first_number, number_in, said_of, type_at, value_number, values_of, zero_of}
@@ -36,14 +35,14 @@ use Rattle.schema_view.proofs.Standing.{StandsIn, field_sound}
 use Rattle.reflect_scalar.specs.Defaults.{declared_in, kind_default, narrow, narrow_unsigned}
 use Rattle.reflect_scalar.specs.Singles as held
 use Rattle.reflect_message.specs.Known.{is_float}
-use Rattle.reflect_pool.specs.Parts.{no_value, type_of_value}
+use Rattle.reflect_pool.specs.Parts.{no_value}
 use Rattle.message_view.specs.Singles.{scalar_of, single_view}
-use Rattle.message_view.specs.Types.{default_of, kind_in}
+use Rattle.message_view.specs.Types.{kind_in}
 use Rattle.linked_view.specs.Valued.{NumberedValue, TellsValues, numbered_value}
 use Rattle.reflect_index.proofs.Among.{index_is}
 use Rattle.linked_view.proofs.Defaults.{one_type, says_from, type_only}
-use Rattle.types_view.specs.Fields.{HasDefault, HoldsScalar, IsEntryOf, IsGiven, TellsFields}
-use Rattle.types_view.proofs.KindNumbers.{Sorted, a_message, a_scalar, an_enum, each_scalar, some_kind}
+use Rattle.types_view.specs.Fields.{HasDefault, IsGiven, TellsFields}
+use Rattle.types_view.proofs.KindNumbers.{Sorted, a_message, a_scalar, an_enum, each_scalar, scalar_kind, some_kind}
 use Rattle.types_view.proofs.Told.{EnumTold, IsDeclaredAs, V, enum_at, enum_told, message_at, message_told, of_sort, one_body, type_is}
 
 -- the default of a kind, where this is declared
@@ -316,18 +315,12 @@ module _ (p : PoolType) (l : AreLinked (map file_view p.records)) (tells : Tells
               (kind_default p (types.enumeration i))) as (λ _. Single)
               [ None ↦ model.text [] | Some v ↦ single_view v ]
 
-  scalar_kind : (group : Bool) (t : TypeNumber) (k : KindType) → scalar_type t ≡ Some k
-      → kind_in p group k ≡ scalar (scalar_of k)
-  scalar_kind group =
-      each_scalar (λ k. kind_in p group k ≡ scalar (scalar_of k)) refl refl refl refl refl refl refl
-      refl refl refl refl refl refl refl refl
-
   pub default_same : (group : Bool) (k : KindType) (d : Option DefaultType)
       → Sorted (names_of p messages) (names_of p enums) c k → HasDefault k c d → is_float k ≡ false
       → default_by p k d ≡ said.default_of vs c.default_value (kind_in p group k)
   default_same group k d (a_scalar h) given held_kind =
       scalar_same h.type k d c.default_value h.number h.holds held_kind refl given
-      ∙ sym (ap (said.default_of vs c.default_value) (scalar_kind group h.type k h.holds))
+      ∙ sym (ap (said.default_of vs c.default_value) (scalar_kind p group h.type k h.holds))
   default_same group _ d (a_message {i} w) given held_kind =
       let m = message_at p c.type_name i w in
       let told = message_told p l tells i m.type m.at in

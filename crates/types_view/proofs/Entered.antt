@@ -1,14 +1,13 @@
 -- The entry of a field's record is that of the record as it is linked.
-use Rattle.std.proofs.Common.{◌≡◌, ◌∙◌, ◌⊎◌, inl, inr, ℕ, ℤ, pos, Bool, true, false, not, ◌&&◌, ◌||◌, cond, bytes_eq, codes, List, [], ◌∷◌, Option, Some, None, String, Global, string_bytes, is_some, option_map, slice_get, unwrap_or, ap, sym, subst, refl}
+use Rattle.std.proofs.Common.{◌≡◌, ◌∙◌, ℕ, ℤ, pos, Bool, true, false, not, ◌&&◌, ◌||◌, cond, bytes_eq, codes, List, [], ◌∷◌, Option, Some, None, String, Global, string_bytes, is_some, option_map, slice_get, unwrap_or, ap, sym, subst, refl}
 use Rattle.std.specs.Ordering.{int_eq}
 use Rattle.std.proofs.lemmas.Bool.Decides.{Decides-int_eq}
 use Rattle.descriptor_records.specs.Content.{Text, FieldContent, FileContent, field_view, file_view, options_view, text_view}
-use Rattle.descriptor_records.specs.FieldNumbers.{type_number}
 use Rattle.descriptor_records.specs.declared.field.FieldDescriptorProto.{FieldDescriptorProto}
 use Rattle.descriptor_records.specs.declared.field.FieldType.{FieldType as TypeNumber}
 use Rattle.descriptor_records.specs.declared.file.FileDescriptorProto.{FileDescriptorProto}
 use Rattle.descriptor_records.specs.declared.options.Options.{Options}
-use Rattle.reflect_fields.specs.FieldDefaults.{IsDefault, IsWritten}
+use Rattle.reflect_fields.specs.FieldDefaults.{IsWritten}
 use Rattle.reflect_fields.specs.Fields as fields
 use Rattle.reflect_fields.specs.Fields.{IsExtension, IsField, Says, is_message, is_packable, label_of, natural, scalar_type}
 use Rattle.reflect_index.specs.Entries.{HasKind, IsMeant, IsTyped}
@@ -16,11 +15,10 @@ use Rattle.reflect_names.specs.References.{View, kind_meant, meaning_of}
 use Rattle.reflect_pool.specs.Shapes as shapes
 use Rattle.reflect_scope.specs.FileIndexes.{Indexes}
 use Rattle.reflect_scope.specs.Known.{Known}
-use Rattle.reflect_scope.specs.Means.{Meaning, means}
+use Rattle.reflect_scope.specs.Means.{means}
 use Rattle.reflect_scope.specs.declared.definition.Definition.{Definition}
 use Rattle.reflect_scope.specs.declared.definition.DefinitionKind.{DefinitionKind}
 use Rattle.reflect_scope.specs.declared.definition.DefinitionKind.TheVariants as kind
-use Rattle.reflect_scope.specs.declared.definition.ResolveNameFilter.{ResolveNameFilter}
 use Rattle.reflect_scope.specs.declared.definition.ResolveNameFilter.TheVariants as filter
 use Rattle.reflect_tables.specs.Names.{AreFound, FullName, Sort, enums, found, messages, place_in, place_of, with_file}
 use Rattle.reflect_tables.specs.Types.{DefaultType, FieldType, KindType}
@@ -30,7 +28,7 @@ use Rattle.reflect_tables.specs.declared.kind.Cardinality.{Cardinality}
 use Rattle.reflect_tables.specs.declared.kind.Cardinality.TheVariants.{Optional, Required, Repeated}
 use Rattle.reflect_tables.specs.declared.kind.Syntax.{Syntax}
 use Rattle.reflect_tables.specs.declared.kind.Syntax.TheVariants.{Proto2, Proto3}
-use Rattle.schema_view.specs.Fields.{asks_packed, is_group, is_repeated, packed_option}
+use Rattle.schema_view.specs.Fields.{asks_packed, is_repeated, packed_option}
 use Rattle.schema_view.specs.Files.{is_proto3}
 use Rattle.schema_view.specs.References.{Reference, Target, a_type, dotted, fill_type, rename_message_type, rename_type}
 use Rattle.schema_view.specs.Rules.{is_number}
@@ -291,9 +289,9 @@ module _ (files : List FileDescriptorProto) (known : Known) (are : AreKnown file
   linked_group scope None (Some name) =
       by (found_by (meaning_in known (sees_of files known are indexes sees f)
       (record { want = a_type None; scope = scope; name = name }))).1.kind where
-    by : (k : DefinitionKind) → false ≡ is_number (pos 10) (Some (type_of k))
-    by (kind.Enum i) = refl
-    by k = refl
+        by : (k : DefinitionKind) → false ≡ is_number (pos 10) (Some (type_of k))
+        by (kind.Enum i) = refl
+        by k = refl
 
   -- and what has no name keeps its number
   pub linked_unnamed : (scope : Text) (o : Option ℤ) (name : Option Text)

@@ -1,21 +1,22 @@
 -- The extensions of a message and a number, by the view of records and by a pool's entries.
-use Rattle.std.proofs.Common.{◌≡◌, ◌≤◌, ◌∙◌, ◌⊎◌, inl, inr, ℕ, ℤ, pos, negsuc, Bool, true, false, ◌&&◌, ◌==◌, cond, bytes_eq, List, [], ◌∷◌, Option, Some, None, length, map, slice_get, sum_by, unwrap_or, ap, sym, subst, refl, arith}
+use Rattle.std.proofs.Common.{◌≡◌, ◌≤◌, ◌∙◌, ◌⊎◌, inl, inr, ℕ, ℤ, pos, negsuc, Bool, true, false, ◌&&◌, ◌==◌, cond, List, [], ◌∷◌, Option, Some, None, length, map, slice_get, sum_by, unwrap_or, ap, sym, subst, refl, arith}
 use Rattle.std.specs.List.{Contains, find, flat_map}
 use Rattle.std.specs.Option.{option_and_then, option_map}
-use Rattle.std.specs.Ordering.{int_eq}
 use Rattle.std.proofs.lemmas.Bool.Decides.{Decides-int_eq}
 use Rattle.std.proofs.lemmas.Slice.Eq.{bytes_eq-Decides}
 use Rattle.descriptor_records.specs.Content.{Text, FieldContent, FileContent, file_view}
 use Rattle.reflect_fields.specs.Fields.{natural}
+use Rattle.reflect_index.proofs.Among.{of_find}
+use Rattle.reflect_index.proofs.Declared.{both_true}
 use Rattle.reflect_tables.specs.Names.{FullName, enums, message_name, messages, names_of}
 use Rattle.reflect_tables.specs.Types.{ExtensionType, FieldType, MessageType, PoolType}
 use Rattle.schema_view.specs.Declarations.{Body, Declaration, declarations, of_message, of_field, of_oneof, of_enum, of_value, of_service, of_method, of_extension}
 use Rattle.schema_view.specs.Files.{is_proto3}
 use Rattle.schema_view.specs.Lawful.{Key, has_key, is_dotted}
 use Rattle.schema_view.specs.Rules.{HasFieldNumber, is_number}
-use Rattle.schema_view.specs.Types.{extension_named, field_at, field_in, held_field, is_proto3_at}
+use Rattle.schema_view.specs.Types.{extension_named, field_in, held_field, is_proto3_at}
 use Rattle.schema_view.specs.Views.{View, extension_at, first, when, view_of}
-use Rattle.schema_view.proofs.Lists.{contains_cases, contains_flat, contains_here, contains_none, contains_there, first_from, first_some, one_of, sum_some}
+use Rattle.schema_view.proofs.Lists.{contains_cases, contains_flat, contains_here, contains_none, first_from, first_some, one_of, sum_some}
 use Rattle.schema_view.proofs.Orders.{when_true}
 use Rattle.schema_view.proofs.Road.{AreLinked}
 use Rattle.schema_view.proofs.Standing.{StandsIn, field_sound}
@@ -25,32 +26,22 @@ use Rattle.reflect_message.specs.Known.{if_held, known_extension}
 use Rattle.message_view.specs.Sound.{HaveNames}
 use Rattle.message_view.specs.Types.{field_of}
 use Rattle.linked_view.specs.Valued.{TellsValues}
-use Rattle.linked_view.proofs.Extended.{dotted_is, zip_at}
+use Rattle.linked_view.proofs.Extended.{dotted_is, number_is, zip_at}
 use Rattle.linked_view.proofs.Places.{contains_get, get_contains, get_less, get_map_cases}
 use Rattle.types_view.specs.Fields.{IsToldExtension, TellsFields}
 use Rattle.types_view.proofs.Found.{body_found, proto3_found}
 use Rattle.types_view.proofs.Held.{held_same, same_type}
 use Rattle.types_view.proofs.Told.{message_at}
+use Rattle.types_view.proofs.Walk.{contains_among}
 
 -- ---- lists
 
 -- what is found stands there and passes, and where nothing is found nothing passes
-pub found_there : {X : Type 0} (test : X → Bool) (xs : List X) (x : X) → find test xs ≡ Some x
+found_there : {X : Type 0} (test : X → Bool) (xs : List X) (x : X) → find test xs ≡ Some x
     → Contains xs x × (test x ≡ true)
-found_there test [] x e = absurd (cc e)
-found_there {X} test (y ∷ xs) x e = by (test y) refl (found_there test xs x) where
-  by : (b : Bool) → test y ≡ b → (find test xs ≡ Some x → Contains xs x × (test x ≡ true))
-      → Contains (y ∷ xs) x × (test x ≡ true)
-  by true is later =
-      let same : y ≡ x = cc (sym (ap (λ b. cond b (Some y) (find test xs)) is) ∙ e) in (
-        subst (Contains (y ∷ xs)) same (contains_here y xs),
-        subst (λ z. test z ≡ true) same is,
-      )
-  by false is later =
-      let r = later (sym (ap (λ b. cond b (Some y) (find test xs)) is) ∙ e) in
-      (contains_there y xs x r.0, r.1)
+found_there test xs x e = let r = of_find test x xs e in (contains_among xs x r.0, r.1)
 
-pub none_found : {X : Type 0} (test : X → Bool) (xs : List X) (x : X) → find test xs ≡ None
+none_found : {X : Type 0} (test : X → Bool) (xs : List X) (x : X) → find test xs ≡ None
     → Contains xs x → test x ≡ true → ⊥
 none_found test [] x e h is = contains_none x h
 none_found test (y ∷ xs) x e h is =
@@ -62,10 +53,6 @@ none_found test (y ∷ xs) x e h is =
       by false own (inr j) later =
           later (sym (ap (λ b. cond b (Some y) (find test xs)) own) ∙ e) j
 
-both_true : (a b : Bool) → (a && b) ≡ true → (a ≡ true) × (b ≡ true)
-both_true true b e = (refl, e)
-both_true false b e = absurd (cc e)
-
 -- ---- keys
 
 pub record HasKey (k : Key) (b : Body) : Type 0 where
@@ -73,10 +60,6 @@ pub record HasKey (k : Key) (b : Body) : Type 0 where
   pub body : b ≡ of_extension content
   pub extendee : content.extendee ≡ Some (46 ∷ k.0)
   pub number : content.number ≡ Some k.1
-
-number_is : (n : ℤ) (o : Option ℤ) → is_number n o ≡ true → o ≡ Some n
-number_is n None e = absurd (cc e)
-number_is n (Some m) e = ap Some ((Decides-int_eq m n).0 e)
 
 key_is : (k : Key) (b : Body) → has_key k b ≡ true → HasKey k b
 key_is k (of_extension x) e =

@@ -1,5 +1,5 @@
 -- What a view finds of linked files where it is declared, and where a pool has its entry.
-use Rattle.std.proofs.Common.{◌≡◌, ◌≤◌, ◌∙◌, ℕ, zero, suc, Bool, true, false, cond, bytes_eq, List, [], ◌∷◌, ◌⊎◌, inl, inr, Option, Some, None, length, slice_get, sum_by, ap, sym, subst, refl, arith}
+use Rattle.std.proofs.Common.{◌≡◌, ◌≤◌, ◌∙◌, ℕ, suc, Bool, true, false, cond, bytes_eq, List, [], ◌∷◌, ◌⊎◌, inl, inr, Option, Some, None, length, slice_get, ap, sym, subst, refl, arith}
 use Rattle.std.specs.List.{Contains}
 use Rattle.std.specs.Option.{option_and_then, option_map}
 use Rattle.std.proofs.lemmas.Slice.Eq.{bytes_eq-Decides}
@@ -11,7 +11,7 @@ use Rattle.schema_view.specs.Outlines.{Outline, outline_of}
 use Rattle.schema_view.specs.Types.{body_at, is_proto3_at, says_proto3}
 use Rattle.schema_view.specs.Views.{FileFacts, Held, file_at, facts_of, when, view_of}
 use Rattle.schema_view.proofs.Lists.{contains_cases, contains_none, first_from, one_of, sum_map}
-use Rattle.schema_view.proofs.Looking.{file_there, held_by, looked_up}
+use Rattle.schema_view.proofs.Looking.{file_there, looked_up}
 use Rattle.schema_view.proofs.Orders.{when_true}
 use Rattle.schema_view.proofs.Road.{AreLinked}
 use Rattle.message_view.specs.Types.{place_in}

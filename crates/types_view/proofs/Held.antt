@@ -1,5 +1,5 @@
 -- Fields as messages hold them, by their records and by their entries.
-use Rattle.std.proofs.Common.{◌≡◌, ◌∙◌, ◌⊎◌, inl, inr, ◌<◌, ℕ, ℤ, pos, Bool, true, false, not, ◌&&◌, ◌||◌, ◌==◌, cond, List, [], ◌∷◌, Option, Some, None, is_some, length, map, slice_get, unwrap_or, ap, sym, subst, refl}
+use Rattle.std.proofs.Common.{◌≡◌, ◌∙◌, ◌⊎◌, inl, inr, ℕ, ℤ, pos, Bool, true, false, not, ◌&&◌, ◌||◌, ◌==◌, cond, List, [], ◌∷◌, Option, Some, None, is_some, map, slice_get, unwrap_or, ap, sym, subst, refl}
 use Rattle.std.specs.List.{Contains, find}
 use Rattle.std.specs.Option.{option_and_then, option_map}
 use Rattle.descriptor_records.specs.Content.{Text, FieldContent, FileContent, OptionsContent, file_view}
@@ -8,18 +8,17 @@ use Rattle.descriptor_records.specs.declared.field.FieldType.{FieldType as TypeN
 use Rattle.descriptor_records.specs.declared.field.FieldType.TheVariants as numbers
 use Rattle.protobuf_model.specs.Types.{Field, Key, Kind, Part, keyed, many, nested, one, scalar}
 use Rattle.reflect_fields.specs.Fields.{is_message, scalar_type}
-use Rattle.reflect_fields.specs.Fields as fields
 use Rattle.reflect_tables.specs.Names.{FullName, enums, messages, names_of}
 use Rattle.reflect_tables.specs.Types.{FieldType, KindType, MessageType, PoolType, no_field, no_type, type_at}
 use Rattle.reflect_tables.specs.Types as types
 use Rattle.schema_view.specs.Declarations.{Declaration, FieldFacts, MessageFacts, declarations, facts_of, of_field, of_message}
-use Rattle.schema_view.specs.Fields.{asks_packed, has_presence, holds_message, is_group, is_packed, is_repeated, packed_option}
+use Rattle.schema_view.specs.Fields.{asks_packed, has_presence, is_group, is_packed, is_repeated, packed_option}
 use Rattle.schema_view.specs.Files.{join, text_of}
-use Rattle.schema_view.specs.Rules.{HasFieldNumber, IsEntry, IsEntryType, IsMessage, IsSound, SaysEntry, is_number}
+use Rattle.schema_view.specs.Rules.{HasFieldNumber, IsEntry, IsEntryType, IsMessage, SaysEntry, is_number}
 use Rattle.schema_view.specs.Scalars as view
 use Rattle.schema_view.specs.Types as said
 use Rattle.schema_view.specs.Types.{field_at, field_in, held_field, is_proto3_at, map_field, message_at, message_in, name_of_field, names_entry, plain_field, type_name, undotted}
-use Rattle.schema_view.specs.Views.{View, view_of, when}
+use Rattle.schema_view.specs.Views.{View, when}
 use Rattle.schema_view.proofs.Lists.{contains_cases, contains_here, contains_none, contains_there, first_some}
 use Rattle.schema_view.proofs.Looking.{fields_declared}
 use Rattle.schema_view.proofs.Road.{AreLinked}
@@ -36,9 +35,9 @@ use Rattle.linked_view.specs.Valued.{TellsValues}
 use Rattle.linked_view.proofs.Places.{contains_get, get_contains, get_less}
 use Rattle.reflect_index.proofs.Among.{index_is}
 use Rattle.types_view.specs.Fields.{IsEntryOf, TellsFields}
-use Rattle.types_view.proofs.Defaults.{default_by, default_same}
+use Rattle.types_view.proofs.Defaults.{default_same}
 use Rattle.types_view.proofs.Found.{body_found, proto3_found}
-use Rattle.types_view.proofs.KindNumbers.{IsSuited, Sorted, a_message, a_scalar, an_enum, each_scalar, number_of_message, some_kind, sorted, suited}
+use Rattle.types_view.proofs.KindNumbers.{IsSuited, Sorted, a_message, a_scalar, an_enum, each_scalar, number_of_message, scalar_kind, some_kind, sorted, suited}
 use Rattle.types_view.proofs.Listed as listed
 use Rattle.types_view.proofs.Listed.{HasNone, HasNumber, one_bit}
 use Rattle.types_view.proofs.Told as told
@@ -134,12 +133,6 @@ float_key numbers.Group k e h = absurd (cc e)
 float_key numbers.Message k e h = absurd (cc e)
 float_key numbers.Enum k e h = absurd (cc e)
 float_key t k e h = subst (λ j. is_float j ≡ false) (some_kind _ k e) refl
-
-scalar_kind : (p : PoolType) (group : Bool) (t : TypeNumber) (k : KindType) → scalar_type t ≡ Some k
-    → kind_in p group k ≡ scalar (scalar_of k)
-scalar_kind p group =
-    each_scalar (λ k. kind_in p group k ≡ scalar (scalar_of k)) refl refl refl refl refl refl refl
-    refl refl refl refl refl refl refl refl
 
 key_kind : (p : PoolType) (group : Bool) (ms es : List FullName) (c : FieldContent) (k : KindType)
     → Sorted ms es c k → view.is_key_type (view.scalar_type c.field_type c.type_name) ≡ true
@@ -555,10 +548,10 @@ module _ (p : PoolType) (l : AreLinked (map file_view p.records)) (tells : Tells
         key_same : said.key_of (pool.part_of p k) ≡ Some (pool.key_of p k)
         key_same = ap (λ j. elim j as (λ _. Option Key) [
           | scalar s ↦ Some (record {
-              kind = s;
-              presence = k.presence;
-              default = pool.default_of p k;
-            })
+            kind = s;
+            presence = k.presence;
+            default = pool.default_of p k;
+          })
           | nested frame t ↦ None
         ]) keyed_by.1
 

@@ -1,11 +1,10 @@
 -- The kinds of fields by the numbers of their types, and by what their entries hold.
-use Rattle.std.proofs.Common.{◌≡◌, ◌∙◌, ◌⊎◌, inl, inr, ℕ, ℤ, pos, Bool, true, false, cond, ◌||◌, List, [], ◌∷◌, Option, Some, None, map, slice_get, slice_index_or, ap, sym, subst, refl}
-use Rattle.std.specs.List.{Contains}
-use Rattle.descriptor_records.specs.Content.{Text, FieldContent, FileContent, file_view}
+use Rattle.std.proofs.Common.{◌≡◌, ◌∙◌, inl, inr, ℕ, pos, Bool, cond, ◌||◌, List, [], ◌∷◌, Some, None, map, slice_get, ap, sym, subst, refl}
+use Rattle.descriptor_records.specs.Content.{Text, FieldContent, file_view}
 use Rattle.descriptor_records.specs.FieldNumbers.{type_number}
 use Rattle.descriptor_records.specs.declared.field.FieldType.{FieldType as TypeNumber}
 use Rattle.descriptor_records.specs.declared.field.FieldType.TheVariants as numbers
-use Rattle.protobuf_model.specs.Types.{Kind, nested, sized, tagged, scalar}
+use Rattle.protobuf_model.specs.Types.{nested, sized, tagged, scalar}
 use Rattle.reflect_fields.specs.Fields.{is_message, scalar_type}
 use Rattle.reflect_fields.specs.Fields as fields
 use Rattle.reflect_tables.specs.Names.{FullName, names_of, messages, enums}
@@ -18,6 +17,7 @@ use Rattle.schema_view.specs.Types.{kind_by, kind_of, type_name, undotted}
 use Rattle.schema_view.proofs.Road.{AreLinked}
 use Rattle.schema_view.proofs.Standing.{StandsIn}
 use Rattle.reflect_message.specs.Known.{is_float}
+use Rattle.message_view.specs.Singles.{scalar_of}
 use Rattle.message_view.specs.Types.{frame_of, kind_in, name_at}
 use Rattle.linked_view.specs.Valued.{TellsValues}
 use Rattle.reflect_index.proofs.Among.{index_is}
@@ -64,6 +64,12 @@ each_scalar P d f i64 u64 i32 f64 f32 b s bs u32 sf32 sf64 s32 s64 t k e = by t 
   by numbers.Group e = absurd (cc e)
   by numbers.Message e = absurd (cc e)
   by numbers.Enum e = absurd (cc e)
+
+pub scalar_kind : (p : PoolType) (group : Bool) (t : TypeNumber) (k : KindType) → scalar_type t ≡ Some k
+    → kind_in p group k ≡ scalar (scalar_of k)
+scalar_kind p group =
+    each_scalar (λ k. kind_in p group k ≡ scalar (scalar_of k)) refl refl refl refl refl refl refl
+    refl refl refl refl refl refl refl refl
 
 module _ (p : PoolType) (group : Bool) (c : FieldContent) where
   made : (t : TypeNumber) (j k : KindType) → c.field_type ≡ Some (type_number t) → Some j ≡ Some k

@@ -18,7 +18,7 @@ use Rattle.linked_messages.specs.Kept.{IsKept}
 use Rattle.linked_view.specs.Alone.{IsRecorded}
 use Rattle.linked_view.specs.Built.{IsBuilt}
 use Rattle.linked_view.specs.Extended.{IsIndexed}
-use Rattle.settled_view.specs.BuiltBut.{IsBuiltBut, Settles}
+use Rattle.settled_view.specs.BuiltBut.{Settles}
 use Rattle.linked_view.proofs.Together.{empty_built}
 use Rattle.settled_view.proofs.Built.{itself, linked_more}
 use Rattle.settled_view.proofs.Transfer.{kept_before}

@@ -12,14 +12,14 @@ use Rattle.schema_view.specs.Lawful.{outlines}
 use Rattle.schema_view.specs.Means.{HasType}
 use Rattle.schema_view.specs.Outlines.{Head, IsDeclared, Outline, Sort, head_of, outline_of, sort_of}
 use Rattle.schema_view.specs.References.{a_type}
-use Rattle.schema_view.specs.Types.{body_at, field_in, type_at, undotted}
+use Rattle.schema_view.specs.Types.{body_at, type_at, undotted}
 use Rattle.schema_view.specs.Views.{View, view_of}
 use Rattle.schema_view.proofs.Agreeing.{IsTyped}
 use Rattle.schema_view.proofs.Lists.{contains_cases, contains_flat_cases, contains_map_cases, contains_none}
 use Rattle.schema_view.proofs.Road.{AreLinked}
 use Rattle.schema_view.proofs.Standing.{StandsIn, type_there}
 use Rattle.schema_view.proofs.Targets.{type_in}
-use Rattle.linked_view.specs.Valued.{NamedValues, NumberedValue, TellsValues, kept_values, numbered_value, values_in, written_values}
+use Rattle.linked_view.specs.Valued.{NamedValues, TellsValues, kept_values, numbered_value, values_in, written_values}
 use Rattle.linked_view.proofs.Extended.{at_zip}
 use Rattle.linked_view.proofs.Places.{get_contains, get_map, get_map_cases}
 use Rattle.types_view.specs.Fields.{IsListed, IsWrittenAt, ListsFields, NamedMessage, TellsFields, messages_in, written_messages}
@@ -54,11 +54,11 @@ enum_declared : (n : Text) (b : Body) (w : NamedValues)
 enum_declared n (of_enum e) w h =
     elim (contains_cases (n, map numbered_value e.value) [] w h) [
       | inl same ↦ record {
-          content = e;
-          body = refl;
-          name = ap (λ (v : NamedValues). v.0) same;
-          values = ap (λ (v : NamedValues). v.1) same;
-        }
+        content = e;
+        body = refl;
+        name = ap (λ (v : NamedValues). v.0) same;
+        values = ap (λ (v : NamedValues). v.1) same;
+      }
       | inr none ↦ absurd (contains_none w none)
     ]
 enum_declared n (of_message m) w h = absurd (contains_none w h)
@@ -181,13 +181,6 @@ module _ (p : PoolType) (l : AreLinked (map file_view p.records)) where
         declared = subst (λ n. IsDeclaredAs n (of_message w.0.1)) (sym w.2.name) declared;
         fields = subst (λ n. AllZip (IsListed n) w.0.1.fields m.fields) (sym w.2.name) w.2.fields;
       }
-
-  -- what is declared as a message has its entry
-  pub record HasMessage (full : Text) : Type 0 where
-    pub place : ℕ
-    pub type : MessageType
-    pub at : slice_get p.messages place ≡ Some type
-    pub name : type.full_name ≡ full
 
   -- ---- enums
 

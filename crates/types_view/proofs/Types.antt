@@ -1,12 +1,12 @@
 -- The types of a pool are those that the view of its records has.
 use Rattle.std.proofs.Common.{◌≡◌, ◌∙◌, ◌⊎◌, inl, inr, ℕ, suc, ℤ, pos, negsuc, Bool, true, false, ◌==◌, cond, List, [], ◌∷◌, Option, Some, None, length, map, slice_get, slice_index_or, ap, sym, subst, refl, arith}
-use Rattle.std.specs.List.{Contains, filter, find, flat_map}
+use Rattle.std.specs.List.{filter, find, flat_map}
 use Rattle.std.specs.Option.{option_and_then, option_map, option_or}
-use Rattle.descriptor_records.specs.Content.{Text, FieldContent, FileContent, file_view}
+use Rattle.descriptor_records.specs.Content.{FieldContent, FileContent, file_view}
 use Rattle.protobuf_model.specs.Types.{Field, Name}
 use Rattle.reflect_fields.specs.Fields.{natural}
 use Rattle.reflect_tables.specs.Types.{FieldType, MessageType, PoolType, is_member, no_type, type_at}
-use Rattle.schema_view.specs.Declarations.{Declaration, MessageFacts, declarations, of_message}
+use Rattle.schema_view.specs.Declarations.{MessageFacts, declarations, of_message}
 use Rattle.schema_view.specs.Types as said
 use Rattle.schema_view.specs.Types.{extension_named, field_at, first_member, held_field, is_proto3_at, message_at, name_of_field, oneof_in, own_named}
 use Rattle.schema_view.specs.Views.{View, view_of}
@@ -15,7 +15,7 @@ use Rattle.schema_view.proofs.Road.{AreLinked}
 use Rattle.schema_view.proofs.Standing.{message_there}
 use Rattle.linked_view.specs.Entries.{HasDeclaredEntries, TellsEntries}
 use Rattle.linked_view.specs.Extended.{TellsExtensions}
-use Rattle.reflect_message.specs.Known.{if_held, known_extension, known_field, numbered_field}
+use Rattle.reflect_message.specs.Known.{if_held, known_extension, known_field}
 use Rattle.reflect_entries.specs.Members.{first_number}
 use Rattle.reflect_pool.specs.Parts.{members_of}
 use Rattle.message_view.specs.Sound.{HaveNames}

@@ -1,7 +1,7 @@
 -- What a walk over a batch meets: behind each message its fields, in their order and under its name;
 -- at each declaration the syntax of its file and its references.
-use Rattle.std.proofs.Common.{◌≡◌, ◌∙◌, ◌⊎◌, inl, inr, ◌+◌, ◌<◌, ◌≤◌, ◌==◌, ℕ, zero, suc, ℤ, pos, Bool, true, false, cond, List, [], ◌∷◌, ◌++◌, Option, Some, None, is_some, map, slice_get, ap, sym, subst, refl, arith}
-use Rattle.std.specs.List.{AllByRecursion, AllZip, Contains, filter}
+use Rattle.std.proofs.Common.{◌≡◌, ◌∙◌, ◌⊎◌, inl, inr, ◌+◌, ◌<◌, ◌≤◌, ◌==◌, ℕ, suc, ℤ, pos, Bool, true, false, cond, List, [], ◌∷◌, ◌++◌, Option, Some, None, is_some, map, slice_get, ap, sym, subst, refl, arith}
+use Rattle.std.specs.List.{AllByRecursion, AllZip, Contains}
 use Rattle.descriptor_records.specs.declared.field.FieldDescriptorProto.{FieldDescriptorProto}
 use Rattle.descriptor_records.specs.declared.file.FileDescriptorProto.{FileDescriptorProto}
 use Rattle.reflect_index.specs.Along.{AtHand, Met, along, hand_behind, is_field, is_parent, is_part, met, parts, syntax_behind}
@@ -18,7 +18,7 @@ use Rattle.reflect_tables.specs.Names.{AreFound, FullName, found, messages}
 use Rattle.reflect_tables.specs.Views.{syntax_type}
 use Rattle.reflect_tables.specs.declared.kind.Syntax.{Syntax}
 use Rattle.reflect_walk.specs.Batches.{batch_declarations}
-use Rattle.reflect_walk.specs.Declarations.{Body, Declaration, each, entry, of_file, of_message, of_field, of_oneof, of_enum, of_enum_value, of_service, of_method, of_extension, file_declaration, file_declarations, one_enum, one_extension, one_field, one_oneof, one_service, past_file, past_message, past_tree, past_trees, tree_declarations, trees_declarations, trees_of}
+use Rattle.reflect_walk.specs.Declarations.{Body, Declaration, each, entry, of_file, of_message, of_field, file_declaration, file_declarations, one_enum, one_extension, one_field, one_oneof, one_service, past_file, past_message, past_tree, past_trees, tree_declarations, trees_declarations, trees_of}
 use Rattle.reflect_walk.specs.Tree.{Message, MessageParts, Messages, message, more_messages, no_messages, text_of}
 use Rattle.reflect_walk.specs.declared.visit_parts.Offsets.{Offsets}
 use Rattle.schema_view.proofs.Lists.{contains_here, contains_there}
@@ -323,17 +323,17 @@ module _ (full_names : List FullName) (known : Known)
   has_next h (d ∷ ds) none e m k =
       by k (has_next (hand_behind h d) ds parts.1
       (left_behind full_names known are sees at h.rest d d.body (targets_along views ds) parts.0 e) m)
-      where
-        parts : (reference_faults_at (at d.file) (views d.file) d ≡ [])
-            × (reference_faults_along at views ds ≡ [])
-        parts = none_both (reference_faults_at (at d.file) (views d.file) d)
-            (reference_faults_along at views ds) none
+    where
+      parts : (reference_faults_at (at d.file) (views d.file) d ≡ [])
+          × (reference_faults_along at views ds ≡ [])
+      parts = none_both (reference_faults_at (at d.file) (views d.file) d)
+          (reference_faults_along at views ds) none
 
-        by : (met h d ≡ m) ⊎ Among m (along (hand_behind h d) ds)
-            → (Among m (along (hand_behind h d) ds) → HasNext m) → HasNext m
-        by (inl same) later =
-            subst HasNext same (record { none = parts.0; more = targets_along views ds; next = e })
-        by (inr j) later = later j
+      by : (met h d ≡ m) ⊎ Among m (along (hand_behind h d) ds)
+          → (Among m (along (hand_behind h d) ds) → HasNext m) → HasNext m
+      by (inl same) later =
+          subst HasNext same (record { none = parts.0; more = targets_along views ds; next = e })
+      by (inr j) later = later j
 
 -- ---- the syntax at hand
 

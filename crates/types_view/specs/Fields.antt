@@ -1,5 +1,5 @@
 -- What the entries of a pool's messages, fields and extensions tell of its records.
-use Rattle.std.specs.Prelude.{◌≡◌, ℕ, ℤ, pos, List, [], ◌∷◌, Bool, true, false, not, ◌&&◌, ◌||◌, cond, is_some, Option, None, Some, map, unwrap_or, slice_get, Contains}
+use Rattle.std.specs.Prelude.{◌≡◌, ℕ, ℤ, List, [], ◌∷◌, Bool, true, false, not, ◌&&◌, ◌||◌, cond, is_some, Option, None, Some, map, unwrap_or, slice_get, Contains}
 use Rattle.std.specs.List.{AllZip, flat_map}
 use Rattle.descriptor_records.specs.Content.{Text, FieldContent, FileContent, file_view}
 use Rattle.descriptor_records.specs.FieldNumbers.{type_number}

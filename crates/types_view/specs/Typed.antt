@@ -2,7 +2,6 @@
 use Rattle.std.specs.Prelude.{List}
 use Rattle.descriptor_records.specs.Content.{FileContent}
 use Rattle.reflect_tables.specs.Types.{PoolType}
-use Rattle.linked_view.specs.Built.{IsBuilt}
 use Rattle.settled_view.specs.BuiltBut.{IsBuiltBut}
 use Rattle.types_view.specs.Fields.{TellsFields}
 
