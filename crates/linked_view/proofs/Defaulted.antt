@@ -2,7 +2,7 @@
 use Rattle.std.proofs.Common.{◌≡◌, ◌∙◌, ◌⊎◌, ◌+◌, ◌-◌, inl, inr, ℕ, zero, suc, Bool, true, false, cond, nat_lt, List, [], ◌∷◌, ◌++◌, Option, Some, None, map, length, slice_get, ap, sym, subst, refl, arith}
 use Rattle.std.specs.List.{Contains, flat_map}
 use Rattle.std.proofs.lemmas.List.{map-append}
-use Rattle.descriptor_records.specs.Content.{Text, FileContent, file_view}
+use Rattle.descriptor_records.specs.Content.{Text, EnumValueContent, FileContent, file_view}
 use Rattle.descriptor_records.specs.declared.file.FileDescriptorProto.{FileDescriptorProto}
 use Rattle.reflect_scope.specs.declared.definition.Definition.{Definition}
 use Rattle.reflect_scope.specs.declared.definition.DefinitionKind.TheVariants as kind
@@ -30,7 +30,8 @@ use Rattle.schema_view.proofs.Road.{outlines_linked}
 use Rattle.linked_view.specs.Alone.{IsWellNamed, AreLawfulAlone}
 use Rattle.linked_view.specs.Extended.{IsIndexed}
 use Rattle.linked_view.specs.Passed.{facts_of}
-use Rattle.linked_view.specs.Valued.{NamedValues, values_in, written_values, kept_values, TellsValues, SuitEnums}
+use Rattle.schema_view.proofs.Renames.{map_same}
+use Rattle.linked_view.specs.Valued.{NamedValues, NumberedValue, called, kept_value, kept_values, numbered_value, values_in, written_values, TellsValues, SuitEnums}
 use Rattle.linked_view.proofs.Accepted.{all_met, known, known_all, indexes, names_at, lawful_alone, meanings_alone}
 use Rattle.reflect_index.proofs.Behind.{get_behind}
 use Rattle.linked_view.proofs.Found.{enum_place, found_place}
@@ -41,12 +42,21 @@ use Rattle.linked_view.proofs.Suited.{IsValueOf, suits_seen}
 use Rattle.linked_view.proofs.Telling.{get_before, known_new}
 use Rattle.linked_view.proofs.Valued.{values_new}
 
+-- the names of values, by their records and by their entries
+called_values : (vs : List EnumValueContent) → called (map numbered_value vs) ≡ map value_name vs
+called_values = map_same (λ (v : NumberedValue). v.0) numbered_value value_name (λ v. refl)
+
+called_types : (vs : List ValueType) → called (map kept_value vs)
+    ≡ map (λ (v : ValueType). v.name) vs
+called_types =
+    map_same (λ (v : NumberedValue). v.0) kept_value (λ (v : ValueType). v.name) (λ v. refl)
+
 -- what is declared as an enum with these values
 in_values : (n : Text) (b : Body) (p : NamedValues)
     → Contains (values_in (record { name = n; body = b })) p
-    → (values : List Text) × (sort_of b ≡ enum_sort values) × ((n, values) ≡ p)
-in_values n (of_enum e) p h = elim (contains_cases (n, map value_name e.value) [] p h) [
-  | inl same ↦ (map value_name e.value, refl, same)
+    → (vs : List NumberedValue) × (sort_of b ≡ enum_sort (called vs)) × ((n, vs) ≡ p)
+in_values n (of_enum e) p h = elim (contains_cases (n, map numbered_value e.value) [] p h) [
+  | inl same ↦ (map numbered_value e.value, ap enum_sort (sym (called_values e.value)), same)
   | inr none ↦ absurd (contains_none p none)
 ]
 in_values n (of_message m) p h = absurd (contains_none p h)
@@ -124,7 +134,7 @@ written_value p index tells i e full text file at named has =
     let f = contains_flat_cases (λ f. flat_map values_in (declarations f)) fs (kept_values e) there in
     let d = contains_flat_cases values_in (declarations f.0) (kept_values e) f.2 in
     let v = in_values d.0.name d.0.body (kept_values e) d.2 in (
-      v.0,
+      called v.0,
       (
         outline_of f.0,
         head_of d.0,
@@ -133,16 +143,25 @@ written_value p index tells i e full text file at named has =
         ap (λ (n : NamedValues). n.0) v.2 ∙ name,
         v.1,
       ),
-      subst (λ vs. Contains vs text) (sym (ap (λ (n : NamedValues). n.1) v.2)) has,
+      subst (λ vs. Contains vs text)
+          (sym (ap (λ (n : NamedValues). called n.1) v.2 ∙ called_types e.values)) has,
     )
 
 -- and back: an enum that is declared with values has them among what is written
+record AreThere (ps : List NamedValues) (full : Text) (values : List Text) : Type 0 where
+  numbered : List NumberedValue
+  there : Contains ps (full, numbered)
+  names : called numbered ≡ values
+
 values_there : (n : Text) (b : Body) (values : List Text) → sort_of b ≡ enum_sort values
-    → Contains (values_in (record { name = n; body = b })) (n, values)
+    → AreThere (values_in (record { name = n; body = b })) n values
 values_there n (of_enum e) values is =
     let same : map value_name e.value ≡ values = cc is in
-    let own : NamedValues = (n, map value_name e.value) in
-    subst (λ vs. Contains (own ∷ []) (n, vs)) same (contains_here own [])
+    record {
+      numbered = map numbered_value e.value;
+      there = contains_here (n, map numbered_value e.value) [];
+      names = called_values e.value ∙ same;
+    }
 values_there n (of_message m) values is = absurd (cc is)
 values_there n (of_field f) values is = absurd (cc is)
 values_there n (of_oneof o) values is = absurd (cc is)
@@ -152,17 +171,21 @@ values_there n (of_method m) values is = absurd (cc is)
 values_there n (of_extension x) values is = absurd (cc is)
 
 values_written : (fs : List FileContent) (full : Text) (values : List Text)
-    → IsDeclared (outlines fs) full (enum_sort values) → Contains (written_values fs) (full, values)
+    → IsDeclared (outlines fs) full (enum_sort values) → AreThere (written_values fs) full values
 values_written fs full values (o, h, i, j, name, is) =
     let f = contains_map_cases outline_of fs o i in
     let d = contains_map_cases head_of (declarations f.0) h
     (subst (λ (p : Outline). Contains p.heads h) (sym f.2) j) in
     let own : d.0.name ≡ full = ap (λ (x : Head). x.name) d.2 ∙ name in
     let sort : sort_of d.0.body ≡ enum_sort values = ap (λ (x : Head). x.sort) d.2 ∙ is in
-    subst (λ n. Contains (written_values fs) (n, values)) own
-    (contains_flat (λ f. flat_map values_in (declarations f)) fs f.0 (d.0.name, values) f.1
-    (contains_flat values_in (declarations f.0) d.0 (d.0.name, values) d.1
-    (values_there d.0.name d.0.body values sort)))
+    let v = values_there d.0.name d.0.body values sort in
+    record {
+      numbered = v.numbered;
+      there = subst (λ n. Contains (written_values fs) (n, v.numbered)) own
+          (contains_flat (λ f. flat_map values_in (declarations f)) fs f.0 (d.0.name, v.numbered) f.1
+          (contains_flat values_in (declarations f.0) d.0 (d.0.name, v.numbered) d.1 v.there));
+      names = v.names;
+    }
 
 -- its entry has them, where entries and names are those of the records
 module _ (t : LinkedTypes) (fs : List FileContent) (known : Known) (names : List FullName)
@@ -175,10 +198,10 @@ module _ (t : LinkedTypes) (fs : List FileContent) (known : Known) (names : List
       (d : Definition) → known full ≡ Some d → IsValueOf (outlines fs) full text
       → (i : ℕ) × (d.kind ≡ kind.Enum i) × HasValue (enum_at t i) text
   value_told named written full text d knows (values, declared, has) =
-      let k = contains_get (map kept_values (map enum_of stored)) (full, values)
-      (subst (λ vs. Contains vs (full, values)) (sym written) (values_written fs full values declared))
-      in
-      let e = get_map_cases kept_values (map enum_of stored) k.0 (full, values) k.1 in
+      let v = values_written fs full values declared in
+      let k = contains_get (map kept_values (map enum_of stored)) (full, v.numbered)
+      (subst (λ vs. Contains vs (full, v.numbered)) (sym written) v.there) in
+      let e = get_map_cases kept_values (map enum_of stored) k.0 (full, v.numbered) k.1 in
       let s = get_map_cases enum_of stored k.0 e.0 e.1 in
       let own : slice_get names k.0 ≡ Some (full, e.0.file) =
       ap (λ ns. slice_get ns k.0) named
@@ -190,13 +213,13 @@ module _ (t : LinkedTypes) (fs : List FileContent) (known : Known) (names : List
       let there : Contains (map (λ (v : ValueType). v.name) (enum_of s.0).values) text =
       subst (λ vs. Contains vs text)
       (sym (ap (λ (x : EnumType). map (λ (v : ValueType). v.name) x.values) s.2
-      ∙ ap (λ (v : NamedValues). v.1) e.2)) has in
-      let v = contains_map_cases (λ (v : ValueType). v.name) (enum_of s.0).values text there in (
+      ∙ sym (called_types e.0.values) ∙ ap (λ (v : NamedValues). called v.1) e.2 ∙ v.names)) has in
+      let x = contains_map_cases (λ (v : ValueType). v.name) (enum_of s.0).values text there in (
         k.0,
         ap (λ (x : Definition). x.kind) same ∙ enum_place place.0.kind k.0 place.2,
         subst (λ o. HasValue o text)
             (sym (both_at t.old.now.enums.items t.new.now.enums.items k.0 s.0 s.1))
-            (v.1.0, v.0, v.1.1, v.1.2, v.2),
+            (x.1.0, x.0, x.1.1, x.1.2, x.2),
       )
 
 module _ (old new : PoolType) (ns : List FileDescriptorProto) (w : Linking) (is : IsOf old w)

@@ -58,7 +58,7 @@ says_to types.Group s d h = absurd h
 says_to types.Message s d h = absurd h
 says_to types.Enum s d h = absurd h
 
-says_from : (t : FieldType) (text : List ℕ) → IsDefault t text → (d : DefaultText) × Says t text d
+pub says_from : (t : FieldType) (text : List ℕ) → IsDefault t text → (d : DefaultText) × Says t text d
 says_from types.Int32 text h = (_, (signed_from _ text h, refl))
 says_from types.Sint32 text h = (_, (signed_from _ text h, refl))
 says_from types.Sfixed32 text h = (_, (signed_from _ text h, refl))
@@ -89,10 +89,10 @@ pub suited_from : (z : ℤ) (text : List ℕ) → IsScalarDefault z text
 suited_from z text (t, e, h) = (Some t, e, ((λ is. says_from t text h), λ x. refl))
 
 -- no two types have one number
-one_type : (t u : FieldType) → type_number t ≡ type_number u → t ≡ u
+pub one_type : (t u : FieldType) → type_number t ≡ type_number u → t ≡ u
 one_type t u e = grind (arith, e)
 
-type_only : (n : ℤ) (t u : Option FieldType) → IsTypeOf n t → IsTypeOf n u → t ≡ u
+pub type_only : (n : ℤ) (t u : Option FieldType) → IsTypeOf n t → IsTypeOf n u → t ≡ u
 type_only n None None e f = refl
 type_only n None (Some b) e f = absurd (e b f)
 type_only n (Some a) None e f = absurd (f a e)

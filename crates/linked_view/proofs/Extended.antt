@@ -102,7 +102,7 @@ pub dotted_is : (full : Text) (o : Option Text) → is_dotted full o ≡ true �
 dotted_is full None e = absurd (cc e)
 dotted_is full (Some t) e = ap Some (bytes_same t (46 ∷ full) e)
 
-number_is : (n : ℤ) (o : Option ℤ) → is_number n o ≡ true → o ≡ Some n
+pub number_is : (n : ℤ) (o : Option ℤ) → is_number n o ≡ true → o ≡ Some n
 number_is n None e = absurd (cc e)
 number_is n (Some m) e = ap Some ((Decides-int_eq m n).0 e)
 

@@ -15,31 +15,31 @@ use Rattle.reflect_rules.specs.Walks.{oneofs_behind}
 use Rattle.linked_view.proofs.Walked.{inner_declarations}
 
 -- neither a message nor a field
-abbrev IsPlain : Body → Type 0
+abbrev pub IsPlain : Body → Type 0
 IsPlain (of_message m) = ⊥
 IsPlain (of_field f) = ⊥
 IsPlain _ = Unit {0}
 
-abbrev ArePlain : List Declaration → Type 0
+abbrev pub ArePlain : List Declaration → Type 0
 ArePlain ds = AllByRecursion (λ (d : Declaration). IsPlain d.body) ds
 
-plain_both : (a b : List Declaration) → ArePlain a → ArePlain b → ArePlain (a ++ b)
+pub plain_both : (a b : List Declaration) → ArePlain a → ArePlain b → ArePlain (a ++ b)
 plain_both [] b h k = k
 plain_both (d ∷ a) b h k = (h.0, plain_both a b h.1 k)
 
-plain_each : {A : Type 0} (one : ℕ → A → List Declaration) → ((k : ℕ) (x : A) → ArePlain (one k x))
+pub plain_each : {A : Type 0} (one : ℕ → A → List Declaration) → ((k : ℕ) (x : A) → ArePlain (one k x))
     → (k : ℕ) (xs : List A) → ArePlain (each one k xs)
 plain_each one h k [] = tt
 plain_each one h k (x ∷ xs) = plain_both (one k x) (each one (k + 1) xs) (h k x) (plain_each one h (k + 1) xs)
 
-enum_plain : (path : List ℤ) (tag : ℤ) (scope : List ℕ) (file : ℕ) (parent : Option ℕ) (first k : ℕ)
+pub enum_plain : (path : List ℤ) (tag : ℤ) (scope : List ℕ) (file : ℕ) (parent : Option ℕ) (first k : ℕ)
     (e : EnumDescriptorProto) → ArePlain (one_enum path tag scope file parent first k e)
 enum_plain path tag scope file parent first k e = (
   tt,
   plain_each (one_value (entry path tag k) scope file (first + k)) (λ j v. (tt, tt)) 0 e.value.items,
 )
 
-service_plain : (scope : List ℕ) (file first k : ℕ) (s : ServiceDescriptorProto)
+pub service_plain : (scope : List ℕ) (file first k : ℕ) (s : ServiceDescriptorProto)
     → ArePlain (one_service scope file first k s)
 service_plain scope file first k s = (
   tt,

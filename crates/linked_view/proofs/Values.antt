@@ -1,5 +1,5 @@
 -- The entries of a batch's enums are those of its records.
-use Rattle.std.proofs.Common.{◌≡◌, ◌∙◌, ◌+◌, ℕ, List, [], ◌∷◌, ◌++◌, Some, None, map, cond, append_assoc, ap, sym, refl}
+use Rattle.std.proofs.Common.{◌≡◌, ◌∙◌, ◌+◌, ℕ, ℤ, pos, List, [], ◌∷◌, ◌++◌, Option, Some, None, map, unwrap_or, cond, append_assoc, ap, sym, refl}
 use Rattle.std.specs.List.{AllZip, flat_map}
 use Rattle.descriptor_records.specs.Content.{Text, enum_view, enum_value_view, file_view}
 use Rattle.descriptor_records.specs.declared.enums.EnumDescriptorProto.{EnumDescriptorProto}
@@ -11,16 +11,15 @@ use Rattle.reflect_walk.specs.Batches.{batch_declarations}
 use Rattle.reflect_index.specs.Along.{AtHand, Met, along, all_of, hand_behind, met, is_enum}
 use Rattle.reflect_index.specs.Entries.{Head, IsHeadOf}
 use Rattle.reflect_index.specs.Grown.{enum_head}
-use Rattle.reflect_index.specs.OfDeclarations.{NamedNumber, stored_value, stored_values, declared_value, declared_values, enum_in, enums_in}
-use Rattle.reflect_tables.specs.Types.{ValueType}
+use Rattle.reflect_index.specs.OfDeclarations.{stored_value, stored_values, declared_value, declared_values, enum_in, enums_in}
 use Rattle.reflect_tables.specs.Views.{enum_of, value_of}
 use Rattle.reflect_tables.specs.declared.stored.StoredEnum.{StoredEnum}
 use Rattle.schema_view.specs.Declarations as view
 use Rattle.schema_view.specs.Lawful.{Meanings, all_linked}
-use Rattle.schema_view.specs.Outlines.{value_name}
 use Rattle.schema_view.specs.References.{Reference, Target, dotted, linked}
+use Rattle.schema_view.specs.Types.{number_in}
 use Rattle.schema_view.proofs.Renames.{map_same, renamed, declarations_renamed}
-use Rattle.linked_view.specs.Valued.{NamedValues, values_in, written_values, kept_values}
+use Rattle.linked_view.specs.Valued.{NamedValues, NumberedValue, kept_value, kept_values, numbered_value, values_in, written_values}
 use Rattle.linked_view.proofs.Walked.{Seen, seen, told, text_seen, inner_declarations, file_seen}
 
 -- of a declaration along a batch
@@ -30,7 +29,7 @@ values_by d = elim d.body [
   | of_message m ↦ []
   | of_field f ↦ []
   | of_oneof o ↦ []
-  | of_enum e ↦ (d.name, map value_name (enum_view e).value) ∷ []
+  | of_enum e ↦ (d.name, map numbered_value (enum_view e).value) ∷ []
   | of_enum_value x ↦ []
   | of_service s ↦ []
   | of_method m ↦ []
@@ -41,18 +40,22 @@ abbrev pub values_along : List Declaration → List NamedValues
 values_along [] = []
 values_along (d ∷ ds) = values_by d ++ values_along ds
 
+number_seen : (o : Option ℤ) → elim o [ None ↦ pos 0 | Some z ↦ z ] ≡ unwrap_or o (pos 0)
+number_seen None = refl
+number_seen (Some z) = refl
+
+value_seen : (v : EnumValueDescriptorProto) → numbered_value (enum_value_view v) ≡ declared_value v
+value_seen v =
+    ap (λ (n : Text). (n, number_in (enum_value_view v))) (text_seen v.name)
+    ∙ ap (λ (z : ℤ). ((declared_value v).0, z)) (number_seen v.number)
+
 -- an enum's values by its entry and by its record
-names_kept : (e : EnumDescriptorProto) (y : StoredEnum) → stored_values y ≡ declared_values e
-    → map (λ (v : ValueType). v.name) (enum_of y).values ≡ map value_name (enum_view e).value
-names_kept e y is =
-    let first : NamedNumber → Text = λ p. p.0 in
-    map_same (λ (v : ValueType). v.name) value_of (λ v. (stored_value v).0) (λ v. refl)
-    y.values.list.items
-    ∙ sym (map_same first stored_value (λ v. (stored_value v).0) (λ v. refl) y.values.list.items)
-    ∙ ap (map first) is
-    ∙ map_same first declared_value (λ v. (declared_value v).0) (λ v. refl) e.value.items
-    ∙ sym (map_same value_name enum_value_view (λ v. (declared_value v).0)
-    (λ (v : EnumValueDescriptorProto). text_seen v.name) e.value.items)
+same_values : (e : EnumDescriptorProto) (y : StoredEnum) → stored_values y ≡ declared_values e
+    → map kept_value (enum_of y).values ≡ map numbered_value (enum_view e).value
+same_values e y is =
+    map_same kept_value value_of stored_value (λ v. refl) y.values.list.items
+    ∙ is
+    ∙ sym (map_same numbered_value enum_value_view declared_value value_seen e.value.items)
 
 abbrev kept_by : StoredEnum → NamedValues
 kept_by y = kept_values (enum_of y)
@@ -73,10 +76,10 @@ one_kept h d (of_enum k) ms es ks [] later z e = absurd z
 one_kept h d (of_enum k) ms es ks (y ∷ ys) later z e =
     let first : stored_values y ≡ declared_values k = cc e in
     let rest : map stored_values ys ≡ map declared_values es = cc e in
-    ap (λ (n : Text). (n, map (λ (v : ValueType). v.name) (enum_of y).values) ∷ map kept_by ys)
+    ap (λ (n : Text). (n, map kept_value (enum_of y).values) ∷ map kept_by ys)
     (ap (λ (x : Head). x.full_name) z.0)
-    ∙ ap (λ (vs : List Text). (d.name, vs) ∷ map kept_by ys) (names_kept k y first)
-    ∙ ap (λ xs. (d.name, map value_name (enum_view k).value) ∷ xs) (later ys z.1 rest)
+    ∙ ap (λ (vs : List NumberedValue). (d.name, vs) ∷ map kept_by ys) (same_values k y first)
+    ∙ ap (λ xs. (d.name, map numbered_value (enum_view k).value) ∷ xs) (later ys z.1 rest)
 one_kept h d (of_enum_value x) ms es ks ys later z e = later ys z e
 one_kept h d (of_service s) ms es ks ys later z e = later ys z e
 one_kept h d (of_method m) ms es ks ys later z e = later ys z e

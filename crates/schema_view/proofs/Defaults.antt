@@ -22,8 +22,7 @@ use Rattle.schema_view.specs.Rules.{HasValueNumber, IsSound}
 use Rattle.schema_view.specs.Lawful.{Adds, Builds}
 use Rattle.schema_view.specs.Views.{Held, View, or_else, when, view_of}
 use Rattle.schema_view.specs.Fields.{is_repeated, is_packed, has_presence}
-use Rattle.schema_view.specs.Types as said
-use Rattle.schema_view.specs.Types.{undotted, type_name, message_at, enum_in, field_in, body_at, field_at, type_at, is_proto3_at, number_in, value_number, first_number, values_of, scalar_numbers, scalar_of, kind_by, kind_of, zero_of, said_of, default_of, part_of, name_of_field, names_entry, entry_part, key_of, map_field, plain_field, held_field, field_named, types_of}
+use Rattle.schema_view.specs.Types.{undotted, type_name, message_at, body_at, field_at, type_at, is_proto3_at, number_in, value_number, first_number, values_of, scalar_numbers, scalar_of, kind_by, kind_of, zero_of, said_of, default_of, part_of, name_of_field, names_entry, entry_part, key_of, map_field, oneof_in, plain_field, held_field, field_named, own_named, extension_named, types_of}
 use Rattle.schema_view.proofs.Lists.{contains_none, contains_cases, first_from}
 use Rattle.schema_view.proofs.Road.{AreLinked, built_linked}
 use Rattle.schema_view.proofs.Looking.{from_there}
@@ -202,48 +201,48 @@ module _ (fs : List FileContent) (l : AreLinked fs) where
     by None i j = let no : None ≡ Some q = j in absurd (cc)
     by (Some name) i j = let c = field_there fs l t n name i in at name c.0 c.1 j
 
-  label_suits : (p x : Bool) (c : FieldContent) → StandsIn fs c → (f : Field) → held_field V p x c ≡ Some f → HasEntryDefaults f.part f.label
-  label_suits p x c s f e = by (is_repeated c && names_entry V c) e where
-    plain : (o : Option Part) → (b : Bool) → option_map (λ q. record { part = q; label = cond b (many (is_packed p c)) one; oneof = said.oneof_of x c; extension = x }) o ≡ Some f → HasEntryDefaults f.part f.label
+  label_suits : (p x : Bool) (n : Option ℕ) (c : FieldContent) → StandsIn fs c → (f : Field) → held_field V p x n c ≡ Some f → HasEntryDefaults f.part f.label
+  label_suits p x n c s f e = by (is_repeated c && names_entry V c) e where
+    plain : (o : Option Part) → (b : Bool) → option_map (λ q. record { part = q; label = cond b (many (is_packed p c)) one; oneof = n; extension = x }) o ≡ Some f → HasEntryDefaults f.part f.label
     plain None b j = let no : None ≡ Some f = j in absurd (cc)
     plain (Some q) true j = subst (λ (o : Option Field). elim o as (λ _. Type 0) [ None ↦ Unit {0} | Some g ↦ HasEntryDefaults g.part g.label ]) j tt
     plain (Some q) false j = subst (λ (o : Option Field). elim o as (λ _. Type 0) [ None ↦ Unit {0} | Some g ↦ HasEntryDefaults g.part g.label ]) j tt
 
     keyed_by : (q : Part) (kind : Kind) (r : Part) → r.kind ≡ kind → HasDefault r.kind r.default → HasDefault q.kind q.default
-        → option_map (λ k. record { part = q; label = keyed k; oneof = said.oneof_of x c; extension = x }) (elim kind [ scalar k ↦ Some (record { kind = k; presence = r.presence; default = r.default }) | nested frame t ↦ None ]) ≡ Some f → HasEntryDefaults f.part f.label
+        → option_map (λ k. record { part = q; label = keyed k; oneof = n; extension = x }) (elim kind [ scalar k ↦ Some (record { kind = k; presence = r.presence; default = r.default }) | nested frame t ↦ None ]) ≡ Some f → HasEntryDefaults f.part f.label
     keyed_by q (nested frame t) r i h g j = let no : None ≡ Some f = j in absurd (cc)
     keyed_by q (scalar k) r i h g j =
         subst (λ (o : Option Field). elim o as (λ _. Type 0) [ None ↦ Unit {0} | Some g ↦ HasEntryDefaults g.part g.label ]) j (subst (λ m. HasDefault m r.default) i h, g)
 
     under : (q : Part) (o : Option Part) → entry_part V (type_name c) 1 ≡ o → HasDefault q.kind q.default
-        → option_map (λ k. record { part = q; label = keyed k; oneof = said.oneof_of x c; extension = x }) (option_and_then key_of o) ≡ Some f → HasEntryDefaults f.part f.label
+        → option_map (λ k. record { part = q; label = keyed k; oneof = n; extension = x }) (option_and_then key_of o) ≡ Some f → HasEntryDefaults f.part f.label
     under q None i g j = let no : None ≡ Some f = j in absurd (cc)
     under q (Some r) i g j = keyed_by q r.kind r refl (entry_suits (type_name c) 1 r i) g j
 
     mapped : (o : Option Part) → entry_part V (type_name c) 2 ≡ o
-        → option_and_then (λ q. option_map (λ k. record { part = q; label = keyed k; oneof = said.oneof_of x c; extension = x }) (option_and_then key_of (entry_part V (type_name c) 1))) o ≡ Some f → HasEntryDefaults f.part f.label
+        → option_and_then (λ q. option_map (λ k. record { part = q; label = keyed k; oneof = n; extension = x }) (option_and_then key_of (entry_part V (type_name c) 1))) o ≡ Some f → HasEntryDefaults f.part f.label
     mapped None i j = let no : None ≡ Some f = j in absurd (cc)
     mapped (Some q) i j = under q (entry_part V (type_name c) 1) refl (entry_suits (type_name c) 2 q i) j
 
-    by : (b : Bool) → cond b (map_field V x c) (plain_field V p x c) ≡ Some f → HasEntryDefaults f.part f.label
+    by : (b : Bool) → cond b (map_field V x n c) (plain_field V p x n c) ≡ Some f → HasEntryDefaults f.part f.label
     by true j = mapped (entry_part V (type_name c) 2) refl j
     by false j = plain (part_of V p x c) (is_repeated c) j
 
-  field_suits : (x : Bool) (name : Text) (c : FieldContent) → NamesField fs name c → (f : Field) → field_named V x name ≡ Some f → HasEntryDefaults f.part f.label
-  field_suits x name c s f e =
-      label_suits (is_proto3_at V name) x c (stands fs name c s) f (sym (ap (option_and_then (held_field V (is_proto3_at V name) x)) (found fs l name c s)) ∙ e)
+  field_suits : (x : Bool) (g : FieldContent → Option ℕ) (name : Text) (c : FieldContent) → NamesField fs name c → (f : Field) → field_named V x g name ≡ Some f → HasEntryDefaults f.part f.label
+  field_suits x g name c s f e =
+      label_suits (is_proto3_at V name) x (g c) c (stands fs name c s) f (sym (ap (option_and_then (λ f. held_field V (is_proto3_at V name) x (g f) f)) (found fs l name c s)) ∙ e)
 
   types_suit : (t : Text) (n : ℕ) (f : Field) → types_of V t n ≡ Some f → HasEntryDefaults f.part f.label
-  types_suit t n f e = by (option_and_then (field_named V false) (name_of_field V t n)) refl e where
-    own : (o : Option Text) → name_of_field V t n ≡ o → option_and_then (field_named V false) o ≡ Some f → HasEntryDefaults f.part f.label
+  types_suit t n f e = by (option_and_then (own_named V t) (name_of_field V t n)) refl e where
+    own : (o : Option Text) → name_of_field V t n ≡ o → option_and_then (own_named V t) o ≡ Some f → HasEntryDefaults f.part f.label
     own None i j = let no : None ≡ Some f = j in absurd (cc)
-    own (Some name) i j = let c = field_there fs l t n name i in field_suits false name c.0 c.1 f j
+    own (Some name) i j = let c = field_there fs l t n name i in field_suits false (oneof_in (message_at V t)) name c.0 c.1 f j
 
-    other : (o : Option Text) → V.extensions (t, pos n) ≡ o → option_and_then (field_named V true) o ≡ Some f → HasEntryDefaults f.part f.label
+    other : (o : Option Text) → V.extensions (t, pos n) ≡ o → option_and_then (extension_named V) o ≡ Some f → HasEntryDefaults f.part f.label
     other None i j = let no : None ≡ Some f = j in absurd (cc)
-    other (Some name) i j = let c = extension_there fs l t (pos n) name i in field_suits true name c.0 c.1 f j
+    other (Some name) i j = let c = extension_there fs l t (pos n) name i in field_suits true (λ f. None) name c.0 c.1 f j
 
-    by : (o : Option Field) → option_and_then (field_named V false) (name_of_field V t n) ≡ o → option_or o (option_and_then (field_named V true) (V.extensions (t, pos n))) ≡ Some f → HasEntryDefaults f.part f.label
+    by : (o : Option Field) → option_and_then (own_named V t) (name_of_field V t n) ≡ o → option_or o (option_and_then (extension_named V) (V.extensions (t, pos n))) ≡ Some f → HasEntryDefaults f.part f.label
     by None i j = other (V.extensions (t, pos n)) refl j
     by (Some g) i j = own (name_of_field V t n) refl (i ∙ j)
 

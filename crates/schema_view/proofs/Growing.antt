@@ -11,8 +11,7 @@ use Rattle.schema_view.specs.Rules.{is_number, HasType}
 use Rattle.schema_view.specs.Lawful.{Adds, Builds}
 use Rattle.schema_view.specs.Views.{FileFacts, Held, View, Grows, view_of}
 use Rattle.schema_view.specs.Fields.{is_repeated, is_packed, has_presence}
-use Rattle.schema_view.specs.Types as said
-use Rattle.schema_view.specs.Types.{undotted, type_name, message_in, field_in, body_at, message_at, field_at, type_at, says_proto3, is_proto3_at, scalar_of, kind_by, kind_of, values_of, default_of, part_of, named_in, name_of_field, is_entry, names_entry, entry_part, key_of, map_field, plain_field, held_field, field_named, types_of}
+use Rattle.schema_view.specs.Types.{undotted, type_name, message_in, field_in, body_at, message_at, field_at, type_at, says_proto3, is_proto3_at, kind_of, values_of, default_of, part_of, named_in, name_of_field, is_entry, names_entry, entry_part, key_of, map_field, oneof_in, plain_field, held_field, field_named, own_named, extension_named, types_of}
 use Rattle.schema_view.proofs.Lists.{contains_map, contains_map_cases, contains_flat, contains_flat_cases}
 use Rattle.schema_view.proofs.Road.{AreLinked, built_linked}
 use Rattle.schema_view.proofs.Orders.{views_stay}
@@ -83,88 +82,91 @@ module _ (fs gs : List FileContent) (l : AreLinked fs) (grow : Grows (view_of fs
         let c = field_there fs l t n name e in
         ap (option_and_then (part_in V)) e ∙ part_in_same name c.0 c.1 ∙ sym (ap (option_and_then (part_in W)) e)
 
-  abbrev map_by : Bool → FieldContent → Option Part → Option Part → Option Field
-  map_by x c key value =
-      option_and_then (λ part. option_map (λ k. record { part = part; label = keyed k; oneof = said.oneof_of x c; extension = x }) (option_and_then key_of key)) value
+  abbrev map_by : Bool → Option ℕ → Option Part → Option Part → Option Field
+  map_by x g key value =
+      option_and_then (λ part. option_map (λ k. record { part = part; label = keyed k; oneof = g; extension = x }) (option_and_then key_of key)) value
 
-  abbrev plain_by : Bool → Bool → FieldContent → Option Part → Option Field
-  plain_by p x c part = option_map (λ q. record { part = q; label = cond (is_repeated c) (many (is_packed p c)) one; oneof = said.oneof_of x c; extension = x }) part
+  abbrev plain_by : Bool → Bool → Option ℕ → FieldContent → Option Part → Option Field
+  plain_by p x g c part = option_map (λ q. record { part = q; label = cond (is_repeated c) (many (is_packed p c)) one; oneof = g; extension = x }) part
 
   names_same : (c : FieldContent) → StandsIn fs c → names_entry V c ≡ names_entry W c
   names_same c s = ap (λ b. is_number (pos 11) c.field_type && elim (option_and_then message_in b) [ None ↦ false | Some m ↦ is_entry m ]) (type_same c s)
 
   -- without a name for its type a field is no map
-  no_map : (v : View) (p x : Bool) (c : FieldContent) → c.type_name ≡ None → held_field v p x c ≡ plain_field v p x c
-  no_map v p x c e =
+  no_map : (v : View) (p x : Bool) (g : Option ℕ) (c : FieldContent) → c.type_name ≡ None → held_field v p x g c ≡ plain_field v p x g c
+  no_map v p x g c e =
       let type : type_at v c ≡ None = ap (option_and_then (λ t. body_at v (undotted t))) e in
       let entry : names_entry v c ≡ false = ap (λ b. is_number (pos 11) c.field_type && elim (option_and_then message_in b) [ None ↦ false | Some m ↦ is_entry m ]) type ∙ and_false (is_number (pos 11) c.field_type) in
-      ap (λ b. cond (is_repeated c && b) (map_field v x c) (plain_field v p x c)) entry ∙ ap (λ b. cond b (map_field v x c) (plain_field v p x c)) (and_false (is_repeated c))
+      ap (λ b. cond (is_repeated c && b) (map_field v x g c) (plain_field v p x g c)) entry ∙ ap (λ b. cond b (map_field v x g c) (plain_field v p x g c)) (and_false (is_repeated c))
 
-  plain_same : (p x : Bool) (c : FieldContent) → StandsIn fs c → plain_field V p x c ≡ plain_field W p x c
-  plain_same p x c s = ap (plain_by p x c) (part_same p x c s)
+  plain_same : (p x : Bool) (g : Option ℕ) (c : FieldContent) → StandsIn fs c → plain_field V p x g c ≡ plain_field W p x g c
+  plain_same p x g c s = ap (plain_by p x g c) (part_same p x c s)
 
-  map_same : (x : Bool) (c : FieldContent) → Declared fs (type_name c) → map_field V x c ≡ map_field W x c
-  map_same x c h =
-      ap (λ k. map_by x c k (entry_part V (type_name c) 2)) (entry_part_same (type_name c) 1 h)
-      ∙ ap (map_by x c (entry_part W (type_name c) 1)) (entry_part_same (type_name c) 2 h)
+  map_same : (x : Bool) (g : Option ℕ) (c : FieldContent) → Declared fs (type_name c) → map_field V x g c ≡ map_field W x g c
+  map_same x g c h =
+      ap (λ k. map_by x g k (entry_part V (type_name c) 2)) (entry_part_same (type_name c) 1 h)
+      ∙ ap (map_by x g (entry_part W (type_name c) 1)) (entry_part_same (type_name c) 2 h)
 
-  held_same : (p x : Bool) (c : FieldContent) → StandsIn fs c → held_field V p x c ≡ held_field W p x c
-  held_same p x c s = by c.type_name refl where
-    by : (o : Option Text) → c.type_name ≡ o → held_field V p x c ≡ held_field W p x c
-    by None e = no_map V p x c e ∙ plain_same p x c s ∙ sym (no_map W p x c e)
+  held_same : (p x : Bool) (g : Option ℕ) (c : FieldContent) → StandsIn fs c → held_field V p x g c ≡ held_field W p x g c
+  held_same p x g c s = by c.type_name refl where
+    by : (o : Option Text) → c.type_name ≡ o → held_field V p x g c ≡ held_field W p x g c
+    by None e = no_map V p x g c e ∙ plain_same p x g c s ∙ sym (no_map W p x g c e)
     by (Some t) e =
         let there : Declared fs (type_name c) = subst (λ o. Declared fs (elim o [ None ↦ [] | Some t ↦ undotted t ])) (sym e) (type_declared fs l c s t e) in
-        ap (λ b. cond (is_repeated c && b) (map_field V x c) (plain_field V p x c)) (names_same c s)
-        ∙ ap (λ f. cond (is_repeated c && names_entry W c) f (plain_field V p x c)) (map_same x c there)
-        ∙ ap (λ f. cond (is_repeated c && names_entry W c) (map_field W x c) f) (plain_same p x c s)
+        ap (λ b. cond (is_repeated c && b) (map_field V x g c) (plain_field V p x g c)) (names_same c s)
+        ∙ ap (λ f. cond (is_repeated c && names_entry W c) f (plain_field V p x g c)) (map_same x g c there)
+        ∙ ap (λ f. cond (is_repeated c && names_entry W c) (map_field W x g c) f) (plain_same p x g c s)
 
-  field_named_same : (x : Bool) (name : Text) (c : FieldContent) → NamesField fs name c → field_named V x name ≡ field_named W x name
-  field_named_same x name c s =
+  field_named_same : (x : Bool) (g : FieldContent → Option ℕ) (name : Text) (c : FieldContent) → NamesField fs name c → field_named V x g name ≡ field_named W x g name
+  field_named_same x g name c s =
       let here = found fs l name c s in
       let there : field_at W name ≡ Some c = sym (ap (option_and_then field_in) (body_same name (named name c s))) ∙ here in
-      ap (option_and_then (held_field V (is_proto3_at V name) x)) here
-      ∙ ap (λ p. held_field V p x c) (proto3_same name (named name c s))
-      ∙ held_same (is_proto3_at W name) x c (stands fs name c s)
-      ∙ sym (ap (option_and_then (held_field W (is_proto3_at W name) x)) there)
+      ap (option_and_then (λ f. held_field V (is_proto3_at V name) x (g f) f)) here
+      ∙ ap (λ p. held_field V p x (g c) c) (proto3_same name (named name c s))
+      ∙ held_same (is_proto3_at W name) x (g c) c (stands fs name c s)
+      ∙ sym (ap (option_and_then (λ f. held_field W (is_proto3_at W name) x (g f) f)) there)
 
   -- the fields that a declared message has itself
-  own_same : (t : Text) (n : ℕ) → Declared fs t → option_and_then (field_named V false) (name_of_field V t n) ≡ option_and_then (field_named W false) (name_of_field W t n)
-  own_same t n h = by (name_of_field V t n) refl ∙ ap (option_and_then (field_named W false)) (name_same t n h) where
-    by : (o : Option Text) → name_of_field V t n ≡ o → option_and_then (field_named V false) (name_of_field V t n) ≡ option_and_then (field_named W false) (name_of_field V t n)
-    by None e = ap (option_and_then (field_named V false)) e ∙ sym (ap (option_and_then (field_named W false)) e)
+  own_same : (t : Text) (n : ℕ) → Declared fs t → option_and_then (own_named V t) (name_of_field V t n) ≡ option_and_then (own_named W t) (name_of_field W t n)
+  own_same t n h = by (name_of_field V t n) refl ∙ ap (option_and_then (own_named W t)) (name_same t n h) where
+    by : (o : Option Text) → name_of_field V t n ≡ o → option_and_then (own_named V t) (name_of_field V t n) ≡ option_and_then (own_named W t) (name_of_field V t n)
+    by None e = ap (option_and_then (own_named V t)) e ∙ sym (ap (option_and_then (own_named W t)) e)
     by (Some name) e =
         let c = field_there fs l t n name e in
-        ap (option_and_then (field_named V false)) e ∙ field_named_same false name c.0 c.1 ∙ sym (ap (option_and_then (field_named W false)) e)
+        ap (option_and_then (own_named V t)) e
+        ∙ field_named_same false (oneof_in (message_at V t)) name c.0 c.1
+        ∙ ap (λ b. field_named W false (oneof_in (option_and_then message_in b)) name) (body_same t h)
+        ∙ sym (ap (option_and_then (own_named W t)) e)
 
   -- a field that a declared message has it keeps
   pub kept : (t : Text) (n : ℕ) → Declared fs t → (types_of V t n ≡ None) ⊎ (types_of V t n ≡ types_of W t n)
-  kept t n h = by (option_and_then (field_named V false) (name_of_field V t n)) refl where
-    rest : (o : Option Text) → V.extensions (t, pos n) ≡ o → (option_and_then (field_named V true) o ≡ None) ⊎ (option_and_then (field_named V true) o ≡ option_and_then (field_named W true) (W.extensions (t, pos n)))
+  kept t n h = by (option_and_then (own_named V t) (name_of_field V t n)) refl where
+    rest : (o : Option Text) → V.extensions (t, pos n) ≡ o → (option_and_then (extension_named V) o ≡ None) ⊎ (option_and_then (extension_named V) o ≡ option_and_then (extension_named W) (W.extensions (t, pos n)))
     rest None e = inl refl
     rest (Some name) e =
         let c = extension_there fs l t (pos n) name e in
-        inr (field_named_same true name c.0 c.1 ∙ sym (ap (option_and_then (field_named W true)) (grow.extensions (t, pos n) name e)))
+        inr (field_named_same true (λ f. None) name c.0 c.1 ∙ sym (ap (option_and_then (extension_named W)) (grow.extensions (t, pos n) name e)))
 
-    by : (o : Option Field) → option_and_then (field_named V false) (name_of_field V t n) ≡ o → (types_of V t n ≡ None) ⊎ (types_of V t n ≡ types_of W t n)
+    by : (o : Option Field) → option_and_then (own_named V t) (name_of_field V t n) ≡ o → (types_of V t n ≡ None) ⊎ (types_of V t n ≡ types_of W t n)
     by (Some f) e =
-        inr (ap (λ o. option_or o (option_and_then (field_named V true) (V.extensions (t, pos n)))) e
-        ∙ sym (ap (λ o. option_or o (option_and_then (field_named W true) (W.extensions (t, pos n)))) (sym (own_same t n h) ∙ e)))
+        inr (ap (λ o. option_or o (option_and_then (extension_named V) (V.extensions (t, pos n)))) e
+        ∙ sym (ap (λ o. option_or o (option_and_then (extension_named W) (W.extensions (t, pos n)))) (sym (own_same t n h) ∙ e)))
     by None e =
-        let old : types_of V t n ≡ option_and_then (field_named V true) (V.extensions (t, pos n)) = ap (λ o. option_or o (option_and_then (field_named V true) (V.extensions (t, pos n)))) e in
-        let new : types_of W t n ≡ option_and_then (field_named W true) (W.extensions (t, pos n)) = ap (λ o. option_or o (option_and_then (field_named W true) (W.extensions (t, pos n)))) (sym (own_same t n h) ∙ e) in
+        let old : types_of V t n ≡ option_and_then (extension_named V) (V.extensions (t, pos n)) = ap (λ o. option_or o (option_and_then (extension_named V) (V.extensions (t, pos n)))) e in
+        let new : types_of W t n ≡ option_and_then (extension_named W) (W.extensions (t, pos n)) = ap (λ o. option_or o (option_and_then (extension_named W) (W.extensions (t, pos n)))) (sym (own_same t n h) ∙ e) in
         elim (rest (V.extensions (t, pos n)) refl) [ inl k ↦ inl (old ∙ k) | inr k ↦ inr (old ∙ k ∙ sym new) ]
 
   -- one that it has not is in no oneof later
   pub joins_no_oneof : (t : Text) (n : ℕ) → Declared fs t → types_of V t n ≡ None → oneof_of (types_of W t n) ≡ None
   joins_no_oneof t n h e =
-      let own : option_and_then (field_named V false) (name_of_field V t n) ≡ None = first_none (option_and_then (field_named V false) (name_of_field V t n)) (option_and_then (field_named V true) (V.extensions (t, pos n))) e in
-      let new : types_of W t n ≡ option_and_then (field_named W true) (W.extensions (t, pos n)) = ap (λ o. option_or o (option_and_then (field_named W true) (W.extensions (t, pos n)))) (sym (own_same t n h) ∙ own) in
+      let own : option_and_then (own_named V t) (name_of_field V t n) ≡ None = first_none (option_and_then (own_named V t) (name_of_field V t n)) (option_and_then (extension_named V) (V.extensions (t, pos n))) e in
+      let new : types_of W t n ≡ option_and_then (extension_named W) (W.extensions (t, pos n)) = ap (λ o. option_or o (option_and_then (extension_named W) (W.extensions (t, pos n)))) (sym (own_same t n h) ∙ own) in
       ap oneof_of new ∙ by (W.extensions (t, pos n)) where
         first_none : (a b : Option Field) → option_or a b ≡ None → a ≡ None
         first_none None b e = refl
         first_none (Some f) b e = let no : Some f ≡ None = e in absurd (cc)
 
-        by : (o : Option Text) → oneof_of (option_and_then (field_named W true) o) ≡ None
+        by : (o : Option Text) → oneof_of (option_and_then (extension_named W) o) ≡ None
         by None = refl
         by (Some name) = named_none W name
 
@@ -191,39 +193,39 @@ module _ (fs gs : List FileContent) (l : AreLinked fs) (grow : Grows (view_of fs
         let c = field_there fs l t n name i in
         part_declared (is_proto3_at V name) false c.0 (stands fs name c.0 c.1) q (sym (ap (option_and_then (part_of V (is_proto3_at V name) false)) (found fs l name c.0 c.1)) ∙ j) frame u h
 
-  held_declared : (p x : Bool) (c : FieldContent) → StandsIn fs c → (f : Field) → held_field V p x c ≡ Some f → (frame : Frame) (u : Text) → f.part.kind ≡ nested frame u → Declared fs u
-  held_declared p x c s f e frame u h = by (is_repeated c && names_entry V c) e where
-    plain : (o : Option Part) → part_of V p x c ≡ o → plain_by p x c o ≡ Some f → Declared fs u
+  held_declared : (p x : Bool) (g : Option ℕ) (c : FieldContent) → StandsIn fs c → (f : Field) → held_field V p x g c ≡ Some f → (frame : Frame) (u : Text) → f.part.kind ≡ nested frame u → Declared fs u
+  held_declared p x g c s f e frame u h = by (is_repeated c && names_entry V c) e where
+    plain : (o : Option Part) → part_of V p x c ≡ o → plain_by p x g c o ≡ Some f → Declared fs u
     plain None i j = let no : None ≡ Some f = j in absurd (cc)
-    plain (Some q) i j = part_declared p x c s q i frame u (ap (λ (o : Option Field). elim o [ None ↦ q.kind | Some g ↦ g.part.kind ]) j ∙ h)
+    plain (Some q) i j = part_declared p x c s q i frame u (ap (λ (o : Option Field). elim o [ None ↦ q.kind | Some y ↦ y.part.kind ]) j ∙ h)
 
-    under : (q : Part) (o : Option Key) → option_map (λ k. record { part = q; label = keyed k; oneof = said.oneof_of x c; extension = x }) o ≡ Some f → q ≡ f.part
+    under : (q : Part) (o : Option Key) → option_map (λ k. record { part = q; label = keyed k; oneof = g; extension = x }) o ≡ Some f → q ≡ f.part
     under q None j = let no : None ≡ Some f = j in absurd (cc)
-    under q (Some k) j = ap (λ (o : Option Field). elim o [ None ↦ q | Some g ↦ g.part ]) j
+    under q (Some k) j = ap (λ (o : Option Field). elim o [ None ↦ q | Some y ↦ y.part ]) j
 
-    mapped : (o : Option Part) → entry_part V (type_name c) 2 ≡ o → map_by x c (entry_part V (type_name c) 1) o ≡ Some f → Declared fs u
+    mapped : (o : Option Part) → entry_part V (type_name c) 2 ≡ o → map_by x g (entry_part V (type_name c) 1) o ≡ Some f → Declared fs u
     mapped None i j = let no : None ≡ Some f = j in absurd (cc)
     mapped (Some q) i j = entry_declared (type_name c) 2 q i frame u (ap (λ (r : Part). r.kind) (under q (option_and_then key_of (entry_part V (type_name c) 1)) j) ∙ h)
 
-    by : (b : Bool) → cond b (map_field V x c) (plain_field V p x c) ≡ Some f → Declared fs u
+    by : (b : Bool) → cond b (map_field V x g c) (plain_field V p x g c) ≡ Some f → Declared fs u
     by true j = mapped (entry_part V (type_name c) 2) refl j
     by false j = plain (part_of V p x c) refl j
 
-  named_declared : (x : Bool) (name : Text) (c : FieldContent) → NamesField fs name c → (f : Field) → field_named V x name ≡ Some f → (frame : Frame) (u : Text) → f.part.kind ≡ nested frame u → Declared fs u
-  named_declared x name c s f e frame u h =
-      held_declared (is_proto3_at V name) x c (stands fs name c s) f (sym (ap (option_and_then (held_field V (is_proto3_at V name) x)) (found fs l name c s)) ∙ e) frame u h
+  named_declared : (x : Bool) (g : FieldContent → Option ℕ) (name : Text) (c : FieldContent) → NamesField fs name c → (f : Field) → field_named V x g name ≡ Some f → (frame : Frame) (u : Text) → f.part.kind ≡ nested frame u → Declared fs u
+  named_declared x g name c s f e frame u h =
+      held_declared (is_proto3_at V name) x (g c) c (stands fs name c s) f (sym (ap (option_and_then (λ f. held_field V (is_proto3_at V name) x (g f) f)) (found fs l name c s)) ∙ e) frame u h
 
   pub kinds_declared : (t : Text) (n : ℕ) (f : Field) → types_of V t n ≡ Some f → (frame : Frame) (u : Text) → f.part.kind ≡ nested frame u → Declared fs u
-  kinds_declared t n f e frame u h = by (option_and_then (field_named V false) (name_of_field V t n)) refl e where
-    own : (o : Option Text) → name_of_field V t n ≡ o → option_and_then (field_named V false) o ≡ Some f → Declared fs u
+  kinds_declared t n f e frame u h = by (option_and_then (own_named V t) (name_of_field V t n)) refl e where
+    own : (o : Option Text) → name_of_field V t n ≡ o → option_and_then (own_named V t) o ≡ Some f → Declared fs u
     own None i j = let no : None ≡ Some f = j in absurd (cc)
-    own (Some name) i j = let c = field_there fs l t n name i in named_declared false name c.0 c.1 f j frame u h
+    own (Some name) i j = let c = field_there fs l t n name i in named_declared false (oneof_in (message_at V t)) name c.0 c.1 f j frame u h
 
-    other : (o : Option Text) → V.extensions (t, pos n) ≡ o → option_and_then (field_named V true) o ≡ Some f → Declared fs u
+    other : (o : Option Text) → V.extensions (t, pos n) ≡ o → option_and_then (extension_named V) o ≡ Some f → Declared fs u
     other None i j = let no : None ≡ Some f = j in absurd (cc)
-    other (Some name) i j = let c = extension_there fs l t (pos n) name i in named_declared true name c.0 c.1 f j frame u h
+    other (Some name) i j = let c = extension_there fs l t (pos n) name i in named_declared true (λ f. None) name c.0 c.1 f j frame u h
 
-    by : (o : Option Field) → option_and_then (field_named V false) (name_of_field V t n) ≡ o → option_or o (option_and_then (field_named V true) (V.extensions (t, pos n))) ≡ Some f → Declared fs u
+    by : (o : Option Field) → option_and_then (own_named V t) (name_of_field V t n) ≡ o → option_or o (option_and_then (extension_named V) (V.extensions (t, pos n))) ≡ Some f → Declared fs u
     by None i j = other (V.extensions (t, pos n)) refl j
     by (Some g) i j = own (name_of_field V t n) refl (i ∙ j)
 

@@ -9,13 +9,15 @@ use Rattle.schema_view.specs.Files.{join, text_of, is_proto3}
 use Rattle.schema_view.specs.Declarations.{MessageFacts, Body, of_message, of_field, of_oneof, of_enum, of_value, of_service, of_method, of_extension, Declaration, declarations}
 use Rattle.schema_view.specs.References.{a_type, Reference, to_message, to_type, references_of, references}
 use Rattle.schema_view.specs.Outlines.{Sort, Outline, outline_of, head_of, IsDeclared}
+use Rattle.schema_view.specs.Means.{HasType as HasSortType}
 use Rattle.schema_view.specs.Rules.{IsField, HasType, IsSound}
 use Rattle.schema_view.specs.Lawful.{outlines, has_key}
 use Rattle.schema_view.specs.Views.{Held, View, when, extension_at, view_of}
 use Rattle.schema_view.specs.Fields.{is_repeated, is_packed}
-use Rattle.schema_view.specs.Types as said
-use Rattle.schema_view.specs.Types.{undotted, type_name, message_in, field_in, body_at, message_at, field_at, type_at, says_proto3, is_proto3_at, scalar_of, kind_by, kind_of, values_of, default_of, part_of, named_in, name_of_field, is_entry, names_entry, entry_part, key_of, map_field, plain_field, held_field, field_named, types_of}
+use Rattle.schema_view.specs.Types.{undotted, type_name, message_in, field_in, message_at, field_at, is_proto3_at, scalar_of, kind_by, part_of, named_in, name_of_field, names_entry, entry_part, key_of, map_field, plain_field, held_field, extension_named}
 use Rattle.schema_view.proofs.Lists.{contains_here, contains_map_cases, contains_flat, first_from}
+use Rattle.schema_view.proofs.Agreeing.{IsTyped}
+use Rattle.schema_view.proofs.Targets.{type_in}
 use Rattle.schema_view.proofs.Road.{AreLinked, after_dot}
 use Rattle.schema_view.proofs.Orders.{when_true}
 use Rattle.schema_view.proofs.Looking.{Declared, looked_up, from_there, fields_declared}
@@ -63,41 +65,51 @@ refers n (of_value v) c t e h = let no : None ≡ Some c = e in absurd (cc)
 refers n (of_service s) c t e h = let no : None ≡ Some c = e in absurd (cc)
 refers n (of_method m) c t e h = let no : None ≡ Some c = e in absurd (cc)
 
--- the type of a field is declared, where it has a name
-pub type_declared : (fs : List FileContent) → AreLinked fs → (c : FieldContent) → StandsIn fs c → (t : Text) → c.type_name ≡ Some t → Declared fs (undotted t)
-type_declared fs l c s t e =
+-- the type of a field is declared, where it has a name, as one of the number that the field gives
+pub record IsTypeOf (fs : List FileContent) (c : FieldContent) (full : Text) : Type 0 where
+  pub sort : Sort
+  pub declared : IsDeclared (outlines fs) full sort
+  pub number : HasSortType sort (type_in (a_type c.field_type))
+  pub typed : IsTyped (a_type c.field_type)
+
+pub type_there : (fs : List FileContent) → AreLinked fs → (c : FieldContent) → StandsIn fs c → (t : Text) → c.type_name ≡ Some t → IsTypeOf fs c (undotted t)
+type_there fs l c s t e =
     let r : Reference = record { want = a_type c.field_type; scope = s.declaration.name; name = t } in
     let i : Contains (references s.file) r = contains_flat references_of (declarations s.file) s.declaration r s.inside (refers s.declaration.name s.declaration.body c t s.is e) in
-    let n = (l.each s.file s.there).numbers r i in
-    subst (Declared fs) (after_is t) (declared_in fs (after_dot t) n.0 n.1)
+    let own = l.each s.file s.there in
+    let n = own.numbers r i in
+    subst (IsTypeOf fs c) (after_is t) (record { sort = n.0; declared = n.1; number = n.2; typed = own.typed r i })
+
+pub type_declared : (fs : List FileContent) → AreLinked fs → (c : FieldContent) → StandsIn fs c → (t : Text) → c.type_name ≡ Some t → Declared fs (undotted t)
+type_declared fs l c s t e = let x = type_there fs l c s t e in declared_in fs (undotted t) x.sort x.declared
 
 pub and_false : (b : Bool) → (b && false) ≡ false
 and_false true = refl
 and_false false = refl
 
 -- extensions are in no oneof
-pub plain_none : (p : Bool) (c : FieldContent) (o : Option Part) → oneof_of (option_map (λ q. record { part = q; label = cond (is_repeated c) (many (is_packed p c)) one; oneof = said.oneof_of true c; extension = true }) o) ≡ None
+pub plain_none : (p : Bool) (c : FieldContent) (o : Option Part) → oneof_of (option_map (λ q. record { part = q; label = cond (is_repeated c) (many (is_packed p c)) one; oneof = None; extension = true }) o) ≡ None
 plain_none p c None = refl
 plain_none p c (Some q) = refl
 
-pub keyed_none : (c : FieldContent) (q : Part) (o : Option Key) → oneof_of (option_map (λ k. record { part = q; label = keyed k; oneof = said.oneof_of true c; extension = true }) o) ≡ None
-keyed_none c q None = refl
-keyed_none c q (Some k) = refl
+pub keyed_none : (q : Part) (o : Option Key) → oneof_of (option_map (λ k. record { part = q; label = keyed k; oneof = None; extension = true }) o) ≡ None
+keyed_none q None = refl
+keyed_none q (Some k) = refl
 
-pub map_none : (c : FieldContent) (key value : Option Part) → oneof_of (option_and_then (λ q. option_map (λ k. record { part = q; label = keyed k; oneof = said.oneof_of true c; extension = true }) (option_and_then key_of key)) value) ≡ None
-map_none c key None = refl
-map_none c key (Some q) = keyed_none c q (option_and_then key_of key)
+pub map_none : (key value : Option Part) → oneof_of (option_and_then (λ q. option_map (λ k. record { part = q; label = keyed k; oneof = None; extension = true }) (option_and_then key_of key)) value) ≡ None
+map_none key None = refl
+map_none key (Some q) = keyed_none q (option_and_then key_of key)
 
 pub either_none : (b : Bool) (f g : Option Field) → oneof_of f ≡ None → oneof_of g ≡ None → oneof_of (cond b f g) ≡ None
 either_none true f g e h = e
 either_none false f g e h = h
 
-pub named_none : (v : View) (name : Text) → oneof_of (field_named v true name) ≡ None
+pub named_none : (v : View) (name : Text) → oneof_of (extension_named v name) ≡ None
 named_none v name = by (field_at v name) where
-  by : (o : Option FieldContent) → oneof_of (option_and_then (held_field v (is_proto3_at v name) true) o) ≡ None
+  by : (o : Option FieldContent) → oneof_of (option_and_then (held_field v (is_proto3_at v name) true None) o) ≡ None
   by None = refl
-  by (Some c) = either_none (is_repeated c && names_entry v c) (map_field v true c) (plain_field v (is_proto3_at v name) true c)
-      (map_none c (entry_part v (type_name c) 1) (entry_part v (type_name c) 2)) (plain_none (is_proto3_at v name) c (part_of v (is_proto3_at v name) true c))
+  by (Some c) = either_none (is_repeated c && names_entry v c) (map_field v true None c) (plain_field v (is_proto3_at v name) true None c)
+      (map_none (entry_part v (type_name c) 1) (entry_part v (type_name c) 2)) (plain_none (is_proto3_at v name) c (part_of v (is_proto3_at v name) true c))
 
 -- a message is named by the type's name, and its number is 10 or 11
 abbrev pub IsMessageType : Option ℤ → Type 0

@@ -47,7 +47,7 @@ enum_e = record {
   reserved_name = [];
 }
 
--- message A { optional int32 a = 1 [default = -5]; repeated int32 xs = 2; optional group Foo = 3 { } map<int32, string> m = 4; oneof o { int32 x = 5; }
+-- message A { optional int32 a = 1 [default = -5]; repeated int32 xs = 2; optional group Foo = 3 { } map<int32, string> m = 4; oneof o { int32 x = 5; int32 z = 6; }
 -- optional float f = 7; optional E e = 8; optional E d = 9 [default = ONE]; repeated int32 ps = 10 [packed = true]; }
 abbrev message_a : MessageContent
 message_a = message (Some (codes "A"))
@@ -56,6 +56,7 @@ message_a = message (Some (codes "A"))
     ∷ record (field (codes "foo") (pos 3) (pos 1) (pos 10)) { type_name = Some (codes ".p.A.Foo") }
     ∷ record (field (codes "m") (pos 4) (pos 3) (pos 11)) { type_name = Some (codes ".p.A.MEntry") }
     ∷ record (field (codes "x") (pos 5) (pos 1) (pos 5)) { oneof_index = Some (pos 0) }
+    ∷ record (field (codes "z") (pos 6) (pos 1) (pos 5)) { oneof_index = Some (pos 0) }
     ∷ field (codes "f") (pos 7) (pos 1) (pos 2)
     ∷ record (field (codes "e") (pos 8) (pos 1) (pos 14)) { type_name = Some (codes ".p.E") }
     ∷ record (field (codes "d") (pos 9) (pos 1) (pos 14)) { type_name = Some (codes ".p.E"); default_value = Some (codes "ONE") }
@@ -118,8 +119,11 @@ a_map : types_of three name_a 4 ≡ Some (record {
 })
 a_map = refl
 
-a_member : types_of three name_a 5 ≡ Some (record { part = record { kind = scalar kinds.int32; presence = true; default = int32 (pos 0) }; label = one; oneof = Some 0; extension = false })
+a_member : types_of three name_a 5 ≡ Some (record { part = record { kind = scalar kinds.int32; presence = true; default = int32 (pos 0) }; label = one; oneof = Some 5; extension = false })
 a_member = refl
+
+its_rival : types_of three name_a 6 ≡ Some (record { part = record { kind = scalar kinds.int32; presence = true; default = int32 (pos 0) }; label = one; oneof = Some 5; extension = false })
+its_rival = refl
 
 no_float : types_of two name_a 7 ≡ None
 no_float = refl

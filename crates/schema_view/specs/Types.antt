@@ -177,43 +177,58 @@ key_of p = elim p.kind [
   | nested frame t ↦ None
 ]
 
--- an extension is in no oneof
-abbrev pub oneof_of : Bool → FieldContent → Option ℕ
-oneof_of true f = None
-oneof_of false f = elim f.oneof_index [ Some (pos k) ↦ Some k | _ ↦ None ]
+-- a field's number, which is there where its message is lawful
+abbrev pub field_number : FieldFacts → ℕ
+field_number f = elim f.number [ Some (pos n) ↦ n | _ ↦ 0 ]
 
-abbrev pub map_field : View → Bool → FieldContent → Option Field
-map_field v extension f =
+-- the number of the first of a message's fields that are in the oneof of the index
+abbrev pub first_member : ℕ → MessageFacts → Option ℕ
+first_member k m =
+    first (λ (f : FieldFacts). when (is_number (pos k) f.oneof) (field_number f)) m.fields
+
+-- a oneof is told by the number of its first member
+abbrev pub oneof_in : Option MessageFacts → FieldContent → Option ℕ
+oneof_in m f = elim f.oneof_index [ Some (pos k) ↦ option_and_then (first_member k) m | _ ↦ None ]
+
+abbrev pub map_field : View → (extension : Bool) → (oneof : Option ℕ) → FieldContent → Option Field
+map_field v extension oneof f =
     option_and_then (λ part. option_map
-    (λ k. record {
-      part = part;
-      label = keyed k;
-      oneof = oneof_of extension f;
-      extension = extension;
-    })
+    (λ k. record { part = part; label = keyed k; oneof = oneof; extension = extension })
     (option_and_then key_of (entry_part v (type_name f) 1))) (entry_part v (type_name f) 2)
 
-abbrev pub plain_field : View → (proto3 extension : Bool) → FieldContent → Option Field
-plain_field v proto3 extension f =
+abbrev pub plain_field : View → (proto3 extension : Bool) → (oneof : Option ℕ) → FieldContent
+    → Option Field
+plain_field v proto3 extension oneof f =
     option_map (λ p. record {
       part = p;
       label = cond (is_repeated f) (many (is_packed proto3 f)) one;
-      oneof = oneof_of extension f;
+      oneof = oneof;
       extension = extension;
     }) (part_of v proto3 extension f)
 
 -- a field or an extension as messages hold it; floats and maps of floats are held by none
-abbrev pub held_field : View → (proto3 extension : Bool) → FieldContent → Option Field
-held_field v proto3 extension f =
-    cond (is_repeated f && names_entry v f) (map_field v extension f)
-    (plain_field v proto3 extension f)
+abbrev pub held_field : View → (proto3 extension : Bool) → (oneof : Option ℕ) → FieldContent
+    → Option Field
+held_field v proto3 extension oneof f =
+    cond (is_repeated f && names_entry v f) (map_field v extension oneof f)
+    (plain_field v proto3 extension oneof f)
 
-abbrev pub field_named : View → Bool → Text → Option Field
-field_named v extension name =
-    option_and_then (held_field v (is_proto3_at v name) extension) (field_at v name)
+-- what stands under a name, by the oneof that each field is in
+abbrev pub field_named : View → (extension : Bool) → (FieldContent → Option ℕ) → Text
+    → Option Field
+field_named v extension oneof name = option_and_then
+    (λ f. held_field v (is_proto3_at v name) extension (oneof f) f) (field_at v name)
+
+-- the field of a name that the message declares
+abbrev pub own_named : View → Text → Text → Option Field
+own_named v t = field_named v false (oneof_in (message_at v t))
+
+-- an extension is in no oneof
+abbrev pub extension_named : View → Text → Option Field
+extension_named v = field_named v true (λ f. None)
 
 -- the field of a number, or else the extension
 abbrev pub types_of : View → Types
 types_of v t n =
-    option_or (option_and_then (field_named v false) (name_of_field v t n))
-    (option_and_then (field_named v true) (v.extensions (t, pos n)))
+    option_or (option_and_then (own_named v t) (name_of_field v t n))
+    (option_and_then (extension_named v) (v.extensions (t, pos n)))

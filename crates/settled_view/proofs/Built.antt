@@ -8,6 +8,7 @@ use Rattle.reflect_pool.specs.Linked.{empty_pool}
 use Rattle.reflect_tables.specs.Types.{PoolType}
 use Rattle.linked_messages.specs.Kept.{IsKept}
 use Rattle.linked_view.specs.Alone.{IsRecorded}
+use Rattle.linked_view.specs.Built.{IsBuilt}
 use Rattle.linked_view.specs.Extended.{IsIndexed}
 use Rattle.linked_view.proofs.Together.{added_all, built_more, empty_built}
 use Rattle.schema_view.proofs.Road.{built_linked}
@@ -15,7 +16,7 @@ use Rattle.settled_view.specs.BuiltBut.{IsBuiltBut, Settles}
 use Rattle.settled_view.proofs.Transfer.{recorded_before, indexed_before, kept_before}
 use Rattle.settled_view.proofs.Unsettled.{linking, is_before, added, batch_before, added_settles}
 
-itself : (p : PoolType) → Settles p p
+pub itself : (p : PoolType) → Settles p p
 itself p = record { settled = refl; bare = refl }
 
 pub empty_built_but : IsBuiltBut [] empty_pool
@@ -32,12 +33,24 @@ twice a b c s t = record {
   bare = t.bare ∙ s.bare;
 }
 
-pub built_but_more : (earlier : List (List FileContent)) (old linked new : PoolType)
-    (files : List FileDescriptorProto) → IsBuiltBut earlier old → IsRecorded new → IsIndexed new
-    → IsKept new → FaultlessFiles old files linked → Settles linked new
-    → (w : Linking) × IsOf old w
-    × IsBuiltBut (map file_view (new_files w.indexes files) ∷ earlier) new
-built_but_more earlier old linked new files is recorded index kept (w, of, (names, batch)) settles =
+-- files that are linked behind a settled pool, as they are linked behind the pool that the batches
+-- build
+pub record IsLinkedMore (earlier : List (List FileContent)) (old before new : PoolType)
+    (files : List FileDescriptorProto) : Type 0 where
+  pub linking : Linking
+  pub of : IsOf old linking
+  pub linked : PoolType
+  pub indexed : IsIndexed linked
+  pub kept : IsKept linked
+  pub faultless : FaultlessFiles before files linked
+  pub built : IsBuilt (map file_view (new_files linking.indexes files) ∷ earlier) linked
+  pub settles : Settles linked new
+
+pub linked_more : (earlier : List (List FileContent)) (old linked new : PoolType)
+    (files : List FileDescriptorProto) (is : IsBuiltBut earlier old) → IsRecorded new
+    → IsIndexed new → IsKept new → FaultlessFiles old files linked → Settles linked new
+    → IsLinkedMore earlier old is.linked new files
+linked_more earlier old linked new files is recorded index kept (w, of, (names, batch)) settles =
     let before = is.linked in
     let ns = new_files w.indexes files in
     let v = linking before old is.settles w of in
@@ -48,26 +61,38 @@ built_but_more earlier old linked new files is recorded index kept (w, of, (name
     in
     let indexed = indexed_before one new whole index in
     let parted = kept_before one new whole kept in
+    let faultless : FaultlessFiles before files one = (v, is_of, (names, whole_batch)) in
     let more = (built_more earlier before one files is.built (recorded_before one new whole recorded)
-    indexed parted (v, is_of, (names, whole_batch))).2 in (
-      w,
-      of,
-      record {
-        linked = one;
-        built = record {
-          named = more.named;
-          extensions = more.extensions;
-          values = more.values;
-          entries = more.entries;
-          declared = more.declared;
-          built = (
-            map file_view before.records,
-            is.built.built,
-            added_all before one ns v is_of is.built.named names whole_batch parted indexed
-                is.built.entries (built_linked earlier (map file_view before.records) is.built.built)
-                is.built.extensions is.built.values,
-          );
-        };
-        settles = whole;
-      },
-    )
+    indexed parted faultless).2 in
+    record {
+      linking = w;
+      of = of;
+      linked = one;
+      indexed = indexed;
+      kept = parted;
+      faultless = faultless;
+      built = record {
+        named = more.named;
+        extensions = more.extensions;
+        values = more.values;
+        entries = more.entries;
+        declared = more.declared;
+        built = (
+          map file_view before.records,
+          is.built.built,
+          added_all before one ns v is_of is.built.named names whole_batch parted indexed
+              is.built.entries (built_linked earlier (map file_view before.records) is.built.built)
+              is.built.extensions is.built.values,
+        );
+      };
+      settles = whole;
+    }
+
+pub built_but_more : (earlier : List (List FileContent)) (old linked new : PoolType)
+    (files : List FileDescriptorProto) → IsBuiltBut earlier old → IsRecorded new → IsIndexed new
+    → IsKept new → FaultlessFiles old files linked → Settles linked new
+    → (w : Linking) × IsOf old w
+    × IsBuiltBut (map file_view (new_files w.indexes files) ∷ earlier) new
+built_but_more earlier old linked new files is recorded index kept faultless settles =
+    let m = linked_more earlier old linked new files is recorded index kept faultless settles in
+    (m.linking, m.of, record { linked = m.linked; built = m.built; settles = m.settles })

@@ -1,0 +1,12 @@
+pub mod Batch
+pub mod Defaults
+pub mod Entered
+pub mod Extended
+pub mod Found
+pub mod Held
+pub mod KindNumbers
+pub mod Listed
+pub mod Settled
+pub mod Told
+pub mod Types
+pub mod Walk
