@@ -8,8 +8,8 @@ use Rattle.reflect_tables.specs.Types.{PoolType}
 use Rattle.linked_messages.specs.Kept.{IsKept}
 use Rattle.linked_view.specs.Alone.{IsRecorded}
 use Rattle.linked_view.specs.Extended.{IsIndexed}
-use Rattle.settled_view.specs.BuiltBut.{IsBuiltBut}
-use Rattle.settled_view.proofs.Built.{built_but_more}
+use Rattle.types_view.specs.Typed.{IsTyped}
+use Rattle.types_view.proofs.Settled.{typed_more}
 use Rattle.schema_core.specs.Refusals.{FilesLinked}
 
 pub record IsBatch (earlier : List (List FileContent)) (old : PoolType)
@@ -18,12 +18,12 @@ pub record IsBatch (earlier : List (List FileContent)) (old : PoolType)
   pub linking : Linking
   pub types : TypedFiles files typed
   pub of : IsOf old linking
-  pub built : IsBuiltBut (map file_view (new_files linking.indexes typed) ∷ earlier) new
+  pub built : IsTyped (map file_view (new_files linking.indexes typed) ∷ earlier) new
 
 pub linked_batch : (earlier : List (List FileContent)) (old new : PoolType)
-    (files : List FileDescriptorProto) → IsBuiltBut earlier old → IsRecorded new → IsIndexed new
+    (files : List FileDescriptorProto) → IsTyped earlier old → IsRecorded new → IsIndexed new
     → IsKept new → FilesLinked old files new → IsBatch earlier old files new
 linked_batch earlier old new files is recorded index kept (linked, fit, settled, bare) =
-    let r = built_but_more earlier old linked new fit.0 is recorded index kept fit.2.1
+    let r = typed_more earlier old linked new fit.0 is recorded index kept fit.2.1
     (record { settled = settled; bare = bare }) in
     record { typed = fit.0; linking = r.0; types = fit.1; of = r.1; built = r.2 }

@@ -107,3 +107,14 @@ one_normal_form new ss older bytes out x y b h k l =
     same_as_direct types (without_dot new.1) (defaults new.0.pool new.0.sound) (map type_of ss) older
     bytes out x y (direct.1.0, direct.1.1) chain.0
     (recodes new.0.pool new.0.sound new.1 out x chain.1 k) direct
+
+-- schemas with the same types recode alike
+pub recoded_alike : (p q : PoolType) → IsSound p → IsSound q → types_of p ≡ types_of q
+    → (name bytes a b : List ℕ) → AreBytes bytes → Recoded p name bytes a → Recoded q name bytes b
+    → a ≡ b
+recoded_alike p q sound also same name bytes a b small first second =
+    let types = types_of q in
+    let t = without_dot name in
+    let x = subst (λ ts. IsRecoded ts t bytes a) same (recodes p sound name bytes a small first) in
+    let y = recodes q also name bytes b small second in
+    sym x.2 ∙ ap (bytes_of types t) (one_meaning types t nothing bytes x.0 y.0 x.1 y.1) ∙ y.2

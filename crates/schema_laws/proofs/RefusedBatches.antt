@@ -50,6 +50,10 @@ no_batch earlier p fs e is kept (inl few, many) = by (without_place e.first (cc 
   by (inl memory) = inl memory
   by (inr told) = inr (inl (many told))
 no_batch earlier p fs e is kept (inr (w, of, faulty), many) =
-    inr (inr (w, of, λ meanings lawful.
-    absurd (cc (no_faults earlier p w (new_files w.indexes fs) meanings is kept of lawful
-    (faults_of e) faulty))))
+    inr (inr (
+      w,
+      of,
+      λ meanings lawful.
+          absurd (cc (no_faults earlier p w (new_files w.indexes fs) meanings is kept of lawful
+          (faults_of e) faulty)),
+    ))

@@ -1,44 +1,51 @@
 //! Laws of the batches that a schema is built of, each the contract of a function that does
 //! nothing. With them the laws of `schema_view` speak of schemas: a batch is what was added, without
 //! the files that were there, and with the options that linking reads where it reads them.
-ghost use Rattle.std.specs.Prelude.{◌∷◌, ℕ, List, map};
+ghost use Rattle.std.specs.Prelude.{◌≡◌, ◌∷◌, ℕ, List, map, Contains};
 ghost use Rattle.descriptor_records.specs.Content.{FileContent, file_view};
 ghost use Rattle.descriptor_records.specs.declared.file.FileDescriptorProto.{FileDescriptorProto};
 ghost use Rattle.option_parts.specs.TypedOptions.{TypedFiles};
 ghost use Rattle.reflect_build.specs.Refusals.{IsOf, Linking, new_files};
 ghost use Rattle.reflect_bytes.specs.Spelled.{SpellsSet};
 ghost use Rattle.reflect_passes.specs.declared.error.DescriptorError.{DescriptorError};
+ghost use Rattle.reflect_wire.specs.Written.{AreBytes};
+ghost use Rattle.schema_view.specs.Lawful.{SameFiles, sources};
+ghost use Rattle.schema_view.specs.Plain.{IsPlainFile};
+ghost use Rattle.message_view.specs.Types.{types_of};
 ghost use Rattle.linked_messages.specs.Kept.{IsKept};
 ghost use Rattle.linked_view.specs.Alone.{IsRecorded};
 ghost use Rattle.linked_view.specs.Extended.{IsIndexed};
 ghost use Rattle.settled_view.specs.BuiltBut.{IsBuiltBut};
+ghost use Rattle.types_view.specs.Typed.{IsTyped};
+ghost use Rattle.schema_core.specs.Payloads.{Recoded};
 ghost use Rattle.schema_core.specs.Refusals.{AreFilesOf, SetLinked, SetRefused};
 ghost use Rattle.schema_core.specs.Refusals.{SourcesLinked, SourcesRefused};
 ghost use Rattle.schema_core.specs.declared.error.SchemaError.TheVariants.{Link};
 ghost use Rattle.schema_core.specs.declared.schema.Schema.{Schema};
 ghost use Rattle.schema_laws.specs.Batches.{AreNoBatch};
 
-/// Sources that are added are one batch more. What is asked of the new schema's pool each pool has,
-/// as `pools_are_recorded`, `pools_are_indexed` and `pools_are_linked` say.
+/// Sources that are added are one batch more, and the schema's pool still tells of its fields. What
+/// is asked of the new schema's pool each pool has, as `pools_are_recorded`, `pools_are_indexed` and
+/// `pools_are_linked` say.
 pub fn added_sources_are_a_batch()
     ensures { (earlier : List (List FileContent)) (old new : Schema)
-        (sources : List (List ℕ × List ℕ)) → IsBuiltBut earlier old.pool
+        (sources : List (List ℕ × List ℕ)) → IsTyped earlier old.pool
         → IsRecorded new.pool → IsIndexed new.pool → IsKept new.pool
         → SourcesLinked old.pool sources new.pool
         → (files typed : List FileDescriptorProto) × (w : Linking) × AreFilesOf sources files
         × TypedFiles files typed × IsOf old.pool w
-        × IsBuiltBut (map file_view (new_files w.indexes typed) ∷ earlier) new.pool }
+        × IsTyped (map file_view (new_files w.indexes typed) ∷ earlier) new.pool }
 {}
 
 /// And so are descriptor sets.
 pub fn added_sets_are_a_batch()
     ensures { (earlier : List (List FileContent)) (old new : Schema) (bytes : List ℕ)
-        → IsBuiltBut earlier old.pool
+        → IsTyped earlier old.pool
         → IsRecorded new.pool → IsIndexed new.pool → IsKept new.pool
         → SetLinked old.pool bytes new.pool
         → (files typed : List FileDescriptorProto) × (w : Linking) × SpellsSet bytes files
         × TypedFiles files typed × IsOf old.pool w
-        × IsBuiltBut (map file_view (new_files w.indexes typed) ∷ earlier) new.pool }
+        × IsTyped (map file_view (new_files w.indexes typed) ∷ earlier) new.pool }
 {}
 
 /// Where sources are refused for how they link, the files that they are are no batch behind the
@@ -60,4 +67,24 @@ pub fn sets_that_do_not_link_are_no_batch()
         → SetRefused old.pool bytes (Link e)
         → (files typed : List FileDescriptorProto) × SpellsSet bytes files
         × TypedFiles files typed × AreNoBatch is.linked old.pool typed e }
+{}
+
+/// Two schemas that the same files were added to, in whatever batches and order, have the same types,
+/// where the files' names have no dots.
+pub fn schemas_have_one_order()
+    ensures { (batches others : List (List FileContent)) (s t : Schema)
+        → ((f : FileContent) → Contains (sources batches) f → IsPlainFile f)
+        → SameFiles (sources batches) (sources others)
+        → IsTyped batches s.pool → IsTyped others t.pool → IsKept s.pool → IsKept t.pool
+        → types_of s.pool ≡ types_of t.pool }
+{}
+
+/// And so what both recode is the same bytes.
+pub fn schemas_of_the_same_files_recode_alike()
+    ensures { (batches others : List (List FileContent)) (s t : Schema)
+        → ((f : FileContent) → Contains (sources batches) f → IsPlainFile f)
+        → SameFiles (sources batches) (sources others)
+        → IsTyped batches s.pool → IsTyped others t.pool → IsKept s.pool → IsKept t.pool
+        → (name bytes a b : List ℕ) → AreBytes bytes → Recoded s.pool name bytes a
+        → Recoded t.pool name bytes b → a ≡ b }
 {}

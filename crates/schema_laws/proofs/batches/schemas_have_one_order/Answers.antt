@@ -1,0 +1,5 @@
+use Rattle.types_view.proofs.Settled.{types_stay}
+use Rattle.schema_laws.proofs.batches.schemas_have_one_order.Goals as goal
+
+pub returns : goal.returns
+returns c = λ batches others s t. types_stay batches others s.pool t.pool
