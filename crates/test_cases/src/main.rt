@@ -6,17 +6,12 @@
 //! `protoc` or from an independent model. docs/TESTS.md says what each file asserts.
 #![tactic(auto)]
 
-mod runs;
-mod streams;
-
-use runs::tell_run;
 use serde_json::Value;
 use std::alloc::{AllocError, Global};
 use std::io;
 use std::process::ExitCode;
 use test_files::{Replays, replay_files};
 use test_json::Told;
-use test_json::members::text;
 use test_schema_cases::Replay;
 
 /// How many random sources the laws of messages are tried on.
@@ -42,10 +37,7 @@ impl Replays for Cases {
             return String::from_str(self.alloc, "nothing is wanted ");
         };
         let mut told = Told::new(self.alloc, wanted);
-        match text(case, "op") {
-            "run" => tell_run(self.alloc, case, &mut told)?,
-            _ => self.replay.run(case, &mut told)?,
-        }
+        self.replay.run(case, &mut told)?;
         told.into_difference()
     }
 }
