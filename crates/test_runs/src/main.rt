@@ -15,13 +15,13 @@ use test_json::Told;
 
 /// The runs of a file: none has to do with another.
 #[derive(Drop)]
-struct Runs {
+struct RunCases {
     alloc: Global,
 }
 
-impl Replays for Runs {
-    fn new(alloc: Global) -> Runs {
-        Runs { alloc }
+impl Replays for RunCases {
+    fn new(alloc: Global) -> RunCases {
+        RunCases { alloc }
     }
 
     fn difference(&mut self, case: &Value) -> Result<String, AllocError> {
@@ -36,7 +36,7 @@ impl Replays for Runs {
 
 /// Replays the runs of the files that the words name.
 fn status(rt: &HostRuntime) -> io::Result<u8> {
-    Ok(if replay_files::<Runs>(rt)? { 0 } else { 1 })
+    Ok(if replay_files::<RunCases>(rt)? { 0 } else { 1 })
 }
 
 fn main(rt: HostRuntime) -> ExitCode {
