@@ -118,3 +118,12 @@ recoded_alike p q sound also same name bytes a b small first second =
     let x = subst (λ ts. IsRecoded ts t bytes a) same (recodes p sound name bytes a small first) in
     let y = recodes q also name bytes b small second in
     sym x.2 ∙ ap (bytes_of types t) (one_meaning types t nothing bytes x.0 y.0 x.1 y.1) ∙ y.2
+
+-- what the one recodes the other does not refuse
+pub accepted_alike : (p q : PoolType) → IsSound p → IsSound q → types_of p ≡ types_of q
+    → (name bytes out : List ℕ) (e : WireError) → (e ≡ Memory → ⊥) → AreBytes bytes
+    → Recoded p name bytes out → IsNoMessage q name bytes e → ⊥
+accepted_alike p q sound also same name bytes out e other small first none =
+    let r = recodes p sound name bytes out small first in
+    refused q also name bytes e other none
+    (subst (λ ts. IsAccepted ts (without_dot name) bytes) same (r.1.0, r.1.1))

@@ -9,6 +9,8 @@ ghost use Rattle.reflect_build.specs.Refusals.{IsOf, Linking, new_files};
 ghost use Rattle.reflect_bytes.specs.Spelled.{SpellsSet};
 ghost use Rattle.reflect_passes.specs.declared.error.DescriptorError.{DescriptorError};
 ghost use Rattle.reflect_wire.specs.Written.{AreBytes};
+ghost use Rattle.reflect_wire.specs.declared.wire_error.WireError.{WireError};
+ghost use Rattle.reflect_wire.specs.declared.wire_error.WireError.TheVariants.{Memory};
 ghost use Rattle.schema_view.specs.Lawful.{SameFiles, sources};
 ghost use Rattle.schema_view.specs.Plain.{IsPlainFile};
 ghost use Rattle.message_view.specs.Types.{types_of};
@@ -18,7 +20,7 @@ ghost use Rattle.linked_view.specs.Extended.{IsIndexed};
 ghost use Rattle.settled_view.specs.BuiltBut.{IsBuiltBut};
 ghost use Rattle.types_view.specs.Typed.{IsTyped};
 ghost use Rattle.schema_core.specs.Payloads.{Recoded};
-ghost use Rattle.schema_core.specs.Refusals.{AreFilesOf, SetLinked, SetRefused};
+ghost use Rattle.schema_core.specs.Refusals.{AreFilesOf, IsNoMessage, SetLinked, SetRefused};
 ghost use Rattle.schema_core.specs.Refusals.{SourcesLinked, SourcesRefused};
 ghost use Rattle.schema_core.specs.declared.error.SchemaError.TheVariants.{Link};
 ghost use Rattle.schema_core.specs.declared.schema.Schema.{Schema};
@@ -87,4 +89,14 @@ pub fn schemas_of_the_same_files_recode_alike()
         → IsTyped batches s.pool → IsTyped others t.pool → IsKept s.pool → IsKept t.pool
         → (name bytes a b : List ℕ) → AreBytes bytes → Recoded s.pool name bytes a
         → Recoded t.pool name bytes b → a ≡ b }
+{}
+
+/// Nor does the one refuse what the other recodes, unless memory runs out.
+pub fn schemas_of_the_same_files_accept_alike()
+    ensures { (batches others : List (List FileContent)) (s t : Schema)
+        → ((f : FileContent) → Contains (sources batches) f → IsPlainFile f)
+        → SameFiles (sources batches) (sources others)
+        → IsTyped batches s.pool → IsTyped others t.pool → IsKept s.pool → IsKept t.pool
+        → (name bytes out : List ℕ) (e : WireError) → (e ≡ Memory → ⊥) → AreBytes bytes
+        → Recoded s.pool name bytes out → IsNoMessage t.pool name bytes e → ⊥ }
 {}

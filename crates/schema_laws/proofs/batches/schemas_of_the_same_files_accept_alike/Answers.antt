@@ -1,0 +1,8 @@
+use Rattle.types_view.proofs.Settled.{types_stay}
+use Rattle.schema_laws.proofs.Recoding.{accepted_alike}
+use Rattle.schema_laws.proofs.batches.schemas_of_the_same_files_accept_alike.Goals as goal
+
+pub returns : goal.returns
+returns c = λ batches others s t plain same a b kept also.
+    accepted_alike s.pool t.pool s.sound t.sound
+    (types_stay batches others s.pool t.pool plain same a b kept also)
