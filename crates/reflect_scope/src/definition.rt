@@ -1,3 +1,6 @@
+ghost use Rattle.std.specs.Prelude.{◌≡◌, Some};
+ghost use Rattle.reflect_scope.specs.Words.{wanted_words};
+
 use std::fmt;
 
 /// What kind of thing a full name stands for. The numbers are indexes among all messages, enums,
@@ -36,7 +39,9 @@ pub enum ResolveNameFilter {
 
 impl ResolveNameFilter {
     /// What is wanted, as a refusal says it.
-    pub fn text(self) -> &'static str {
+    pub fn text(self) -> &'static str
+        ensures { result.now ≡ wanted_words self }
+    {
         match self {
             ResolveNameFilter::Message => "a message type",
             ResolveNameFilter::FieldType => "a message or enum type",
@@ -46,6 +51,8 @@ impl ResolveNameFilter {
 }
 
 impl fmt::Display for ResolveNameFilter {
+    ghost output = { λ f. Some (wanted_words f) };
+
     fn fmt<W: fmt::Write>(&self, f: &mut fmt::Formatter<W>) -> fmt::Result {
         f.write_str(self.text())
     }
