@@ -1,8 +1,10 @@
 -- What a public kind says.
-use Rattle.std.specs.Prelude.{◌≡◌}
+use Rattle.std.specs.Prelude.{◌≡◌, Option, None, Some}
 use Rattle.reflect_tables.specs.Types.{KindType, PoolType, double, float, int32, int64, uint32, uint64, sint32, sint64, fixed32, fixed64, sfixed32, sfixed64, bool, string, bytes, message, enumeration}
+use Rattle.reflect_pool.specs.declared.enums.EnumDescriptor.{EnumDescriptor}
 use Rattle.reflect_pool.specs.declared.kind.Kind.{Kind}
 use Rattle.reflect_pool.specs.declared.kind.Kind.TheVariants as kinds
+use Rattle.reflect_pool.specs.declared.message.MessageDescriptor.{MessageDescriptor}
 
 -- the kind is the one of the type, with a descriptor into the same pool
 abbrev pub IsKind : PoolType → Kind → KindType → Type 0
@@ -23,3 +25,12 @@ IsKind pool kinds.String k = k ≡ string
 IsKind pool kinds.Bytes k = k ≡ bytes
 IsKind pool (kinds.Message d) k = (d.pool.now ≡ pool) × (k ≡ message d.index)
 IsKind pool (kinds.Enum d) k = (d.pool.now ≡ pool) × (k ≡ enumeration d.index)
+
+-- the message type, and the enum, of a kind that is one
+abbrev pub message_in : Kind → Option MessageDescriptor
+message_in (kinds.Message d) = Some d
+message_in _ = None
+
+abbrev pub enum_in : Kind → Option EnumDescriptor
+enum_in (kinds.Enum d) = Some d
+enum_in _ = None

@@ -24,8 +24,13 @@ pub enum Kind<'p> {
 }
 
 impl<'p> Kind<'p> {
+    ghost use Rattle.std.specs.Prelude.{◌≡◌};
+    ghost use Rattle.reflect_pool.specs.Kinds.{message_in, enum_in};
+
     /// The message type, of a kind that is one.
-    pub fn as_message(&self) -> Option<MessageDescriptor<'p>> {
+    pub fn as_message(&self) -> Option<MessageDescriptor<'p>>
+        ensures { result ≡ message_in self.now }
+    {
         match self {
             Kind::Message(message) => Some(*message),
             _ => None,
@@ -33,7 +38,9 @@ impl<'p> Kind<'p> {
     }
 
     /// The enum type, of a kind that is one.
-    pub fn as_enum(&self) -> Option<EnumDescriptor<'p>> {
+    pub fn as_enum(&self) -> Option<EnumDescriptor<'p>>
+        ensures { result ≡ enum_in self.now }
+    {
         match self {
             Kind::Enum(kind) => Some(*kind),
             _ => None,

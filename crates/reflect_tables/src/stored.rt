@@ -4,7 +4,6 @@ use crate::kind::Cardinality;
 use crate::lists::{FieldList, ValueList};
 use crate::ranges::NumberRanges;
 use descriptor_records::FileDescriptorProto;
-use std::alloc::{AllocError, Global};
 
 /// What a field holds, with a message or an enum by its place in the pool.
 #[derive(Clone, Copy)]
@@ -49,27 +48,6 @@ pub struct Children {
     pub messages: Vec<u32>,
     pub enums: Vec<u32>,
     pub extensions: Vec<u32>,
-}
-
-impl Children {
-    /// Nothing declared. Takes no memory.
-    pub fn new(alloc: Global) -> Children {
-        Children {
-            messages: Vec::new(alloc),
-            enums: Vec::new(alloc),
-            extensions: Vec::new(alloc),
-        }
-    }
-
-    /// Adds one behind the others of its sort. A refusal leaves them.
-    pub fn push(&mut self, child: Child) -> Result<(), AllocError> {
-        match child {
-            Child::Message(place) => self.messages.push(place)?,
-            Child::Enum(place) => self.enums.push(place)?,
-            Child::Extension(place) => self.extensions.push(place)?,
-        }
-        Ok(())
-    }
 }
 
 /// A type or an extension by its place in the pool.
