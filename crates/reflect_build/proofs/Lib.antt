@@ -19,3 +19,4 @@ pub mod CutPaths
 pub mod Rules
 pub mod Shaped
 pub mod Marked
+pub mod Parted

@@ -1,18 +1,12 @@
--- How many declarations there are, when there are more than indexes tell, and how files are refused.
-use Rattle.std.specs.Prelude.{◌≡◌, ℕ, ◌+◌, ◌^◌, ◌≤◌, List, length, sum, sum_by, true}
+-- How much files declare, and how much a pool has.
+use Rattle.std.specs.Prelude.{ℕ, ◌+◌, ◌-◌, ◌^◌, min, length, sum, sum_by}
 use Rattle.descriptor_records.specs.declared.enums.EnumDescriptorProto.{EnumDescriptorProto}
 use Rattle.descriptor_records.specs.declared.file.FileDescriptorProto.{FileDescriptorProto}
 use Rattle.descriptor_records.specs.declared.message.DescriptorProto.{DescriptorProto}
 use Rattle.descriptor_records.specs.declared.message.DescriptorProto.TheFolds.{fold-DescriptorProto}
 use Rattle.descriptor_records.specs.declared.message.DescriptorProto.TheOpen.{DescriptorProto-F}
 use Rattle.descriptor_records.specs.declared.service.ServiceDescriptorProto.{ServiceDescriptorProto}
-use Rattle.reflect_passes.specs.Errors.{Refuses, is_too_many}
-use Rattle.reflect_passes.specs.declared.error.DescriptorError.{DescriptorError}
-use Rattle.reflect_scope.specs.FileIndexes.{Indexes}
 use Rattle.reflect_tables.specs.Types.{PoolType}
-use Rattle.reflect_pool.specs.Imports.{names_of_files}
-use Rattle.reflect_pool.specs.Linked.{AreIndexed}
-use Rattle.reflect_build.specs.Refusals.{new_files, FaultyFiles}
 
 -- an enum and its values
 abbrev pub in_enum : EnumDescriptorProto → ℕ
@@ -43,12 +37,6 @@ entries_of p =
     length p.files + (length p.messages + (length p.enums
     + (length p.extensions + length p.services)))
 
--- these, and what files declare that the pool has not yet, are more than an index of 31 bits tells
-abbrev pub AreTooMany : PoolType → List FileDescriptorProto → Type 0
-AreTooMany p fs = (indexes : Indexes) × AreIndexed indexes (names_of_files p.files)
-    × (2 ^ 31 ≤ entries_of p + sum_by in_file (new_files indexes fs))
-
--- files are refused for the faults of the first pass that finds any, since they are too many, or
--- for want of memory
-abbrev pub AreRefused : PoolType → List FileDescriptorProto → DescriptorError → Type 0
-AreRefused p fs e = Refuses (FaultyFiles p fs) e × (is_too_many e.first ≡ true → AreTooMany p fs)
+-- a count, as far as a `u64` tells it
+abbrev pub as_u64 : ℕ → ℕ
+as_u64 n = min n (2 ^ 64 - 1)

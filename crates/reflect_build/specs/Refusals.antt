@@ -1,5 +1,5 @@
 -- Why files are refused: the faults of the first pass that finds any.
-use Rattle.std.specs.Prelude.{◌≡◌, ◌⊎◌, ◌++◌, ℕ, List, [], Bool, true, not, Some, None, is_some, map, length, filter, string_bytes, String}
+use Rattle.std.specs.Prelude.{◌≡◌, ◌⊎◌, ◌++◌, ℕ, ◌+◌, ◌^◌, ◌≤◌, sum_by, List, [], Bool, true, not, Some, None, is_some, map, length, filter, string_bytes, String}
 use Rattle.std.specs.declared.alloc.Global.{Global}
 use Rattle.std.specs.BTreeMap.{BTreeMap}
 use Rattle.std.specs.Bool.{Decides}
@@ -28,13 +28,16 @@ use Rattle.reflect_tables.specs.Views.{pool_of}
 use Rattle.reflect_index.specs.OfDeclarations.{AllDeclared, messages_in, enums_in, stored_ranges, stored_values, declared_values}
 use Rattle.reflect_tables.specs.declared.tables.Tables.{Tables}
 use Rattle.reflect_tables.specs.ExtensionNumbers.{KeyType}
+use Rattle.reflect_passes.specs.Errors.{Refuses, is_too_many}
 use Rattle.reflect_passes.specs.Extensions.{is_known}
 use Rattle.reflect_passes.specs.NameFaults.{name_faults, ReferenceFaults}
 use Rattle.reflect_passes.specs.NumberFaults.{NumberFaults, doubled}
+use Rattle.reflect_passes.specs.declared.error.DescriptorError.{DescriptorError}
 use Rattle.reflect_passes.specs.declared.linked_types.LinkedTypes.{LinkedTypes}
 use Rattle.reflect_pool.specs.Imports.{imported_places, names_of_files}
 use Rattle.reflect_pool.specs.Linked.{AreIndexed, key_of}
 use Rattle.reflect_pool.specs.Stored.{AreStored}
+use Rattle.reflect_build.specs.Many.{in_file, entries_of}
 
 -- how many of each sort there are
 pub record CountsOf (p : PoolType) (o : Offsets) : Type 0 where
@@ -158,3 +161,14 @@ new_files indexes fs = filter (is_unknown indexes) fs
 -- the faults of files that a pool has not yet
 abbrev pub FaultyFiles : PoolType → List FileDescriptorProto → List Fault → Type 0
 FaultyFiles p fs xs = (w : Linking) × IsOf p w × Faulty w (new_files w.indexes fs) xs
+
+-- what a pool has, and what the files declare that it has not yet, is more than an index of 31 bits
+-- tells
+abbrev pub AreTooMany : PoolType → List FileDescriptorProto → Type 0
+AreTooMany p fs = (w : Linking) × IsOf p w
+    × (2 ^ 31 ≤ entries_of p + sum_by in_file (new_files w.indexes fs))
+
+-- files are refused for the faults of the first pass that finds any, since they are too many, or
+-- for want of memory
+abbrev pub AreRefused : PoolType → List FileDescriptorProto → DescriptorError → Type 0
+AreRefused p fs e = Refuses (FaultyFiles p fs) e × (is_too_many e.first ≡ true → AreTooMany p fs)

@@ -1,6 +1,6 @@
 //! The calls that change a pool.
 
-ghost use Rattle.std.specs.Prelude.{◌≡◌, ◌⊎◌, ◌∷◌, [], false, OnOk, OnErr, IfErr, fold, length, map};
+ghost use Rattle.std.specs.Prelude.{◌≡◌, ◌⊎◌, ◌∷◌, [], true, false, OnOk, OnErr, IfErr, IsErrAnd, fold, length, map};
 ghost use Rattle.descriptor_records.specs.Content.{file_view};
 ghost use Rattle.reflect_scope.specs.FileIndexes.{indexes_of};
 ghost use Rattle.reflect_names.specs.Faults.{another};
@@ -11,10 +11,9 @@ ghost use Rattle.reflect_growth.specs.Put.{edited};
 ghost use Rattle.reflect_growth.specs.Settled.{bare_of};
 ghost use Rattle.reflect_passes.specs.Errors.{Refuses, is_too_many, faults_of};
 ghost use Rattle.reflect_pool.specs.Imports.{StandsAlone};
-ghost use Rattle.reflect_build.specs.Accepted.{FaultlessFiles, AddsFiles};
-ghost use Rattle.reflect_build.specs.Parts.{AreParts, holds_of};
-ghost use Rattle.reflect_build.specs.Many.{AreRefused};
-ghost use Rattle.reflect_build.specs.Refusals.{is_unknown, FaultyFiles};
+ghost use Rattle.reflect_build.specs.Accepted.{Faultless, FaultlessFiles, AddsNames, AddsFiles};
+ghost use Rattle.reflect_build.specs.Parts.{AreParts, StaysOrGrows, holds_of, linking_of};
+ghost use Rattle.reflect_build.specs.Refusals.{is_unknown, Faulty, AreTooMany, AreRefused};
 
 use crate::batch::{link, next_place, offsets};
 use crate::forget::{forget_files, forget_names, forget_numbers};
@@ -29,7 +28,7 @@ use std::collections::BTreeMap;
 use std::mem;
 
 /// No known file has the file's name.
-pub fn is_new(known: &BTreeMap<String, u32>, file: &FileDescriptorProto) -> bool
+fn is_new(known: &BTreeMap<String, u32>, file: &FileDescriptorProto) -> bool
     ensures { result ≡ is_unknown (indexes_of known.now) file.now }
 {
     match &file.name {
@@ -38,26 +37,23 @@ pub fn is_new(known: &BTreeMap<String, u32>, file: &FileDescriptorProto) -> bool
     }
 }
 
-/// Adds files to the parts of a pool, and leaves parts of the same entries where they are refused.
-fn add_files(
+/// Adds files that a pool has not yet to its parts, and leaves parts of the same entries where they
+/// are refused.
+fn add_new(
     alloc: Global,
     parts: &mut PoolParts,
-    mut files: Vec<FileDescriptorProto>,
+    files: Vec<FileDescriptorProto>,
 ) -> Result<(), DescriptorError>
     requires fit { AreParts parts.old }
     ensures fit { AreParts parts.new }
-    ensures unchanged { OnErr result (holds_of parts.new ≡ holds_of parts.old) }
-    ensures grown { OnOk result (cut_to (holds_of parts.new) (length (holds_of parts.old).files)
-        ≡ holds_of parts.old) }
-    ensures can_cut { OnOk result (StandsAlone
-        (cut_to (holds_of parts.new) (length (holds_of parts.old).files))) }
-    ensures added { OnOk result (AddsFiles (holds_of parts.old) files.items (holds_of parts.new)) }
-    ensures accepted { OnOk result
-        (FaultlessFiles (holds_of parts.old) files.items (holds_of parts.new)) }
-    ensures refused { IfErr result (λ e. Refuses (FaultyFiles (holds_of parts.old) files.items) e) }
+    ensures held { StaysOrGrows result (holds_of parts.old) (holds_of parts.new) }
+    ensures added { OnOk result (AddsNames (linking_of parts.old) files.items
+        (holds_of parts.new)) }
+    ensures accepted { OnOk result (Faultless (linking_of parts.old) files.items
+        (holds_of parts.new)) }
+    ensures refused { IfErr result
+        (λ e. Refuses (Faulty (linking_of parts.old) files.items) e) }
 {
-    let known = &parts.file_names;
-    files.retain(|file| is_new(known, file));
     let before = offsets(&parts.tables).map_err(|error| walk_error(alloc, error))?;
     let first = next_place(parts.tables.files.len()).map_err(|error| walk_error(alloc, error))?;
     let outcome = link(
@@ -94,28 +90,29 @@ fn not_of_many(alloc: Global, error: DescriptorError) -> DescriptorError
     }
 }
 
-/// Adds files as `add_files` does, but where they are too many.
-fn add_counted(
+/// Adds those files that a pool has not yet, unless they are too many, and leaves parts of the same
+/// entries where they are refused.
+fn add_files(
     alloc: Global,
     parts: &mut PoolParts,
-    files: Vec<FileDescriptorProto>,
+    mut files: Vec<FileDescriptorProto>,
 ) -> Result<(), DescriptorError>
     requires fit { AreParts parts.old }
     ensures fit { AreParts parts.new }
-    ensures unchanged { OnErr result (holds_of parts.new ≡ holds_of parts.old) }
-    ensures grown { OnOk result (cut_to (holds_of parts.new) (length (holds_of parts.old).files)
-        ≡ holds_of parts.old) }
-    ensures can_cut { OnOk result (StandsAlone
-        (cut_to (holds_of parts.new) (length (holds_of parts.old).files))) }
+    ensures held { StaysOrGrows result (holds_of parts.old) (holds_of parts.new) }
     ensures added { OnOk result (AddsFiles (holds_of parts.old) files.items (holds_of parts.new)) }
     ensures accepted { OnOk result
         (FaultlessFiles (holds_of parts.old) files.items (holds_of parts.new)) }
     ensures refused { IfErr result (AreRefused (holds_of parts.old) files.items) }
+    ensures too_many { AreTooMany (holds_of parts.old) files.items
+        → IsErrAnd result (λ e. is_too_many e.first ≡ true) }
 {
-    if are_too_many(&parts.tables, &parts.file_names, files.as_slice()) {
+    let known = &parts.file_names;
+    files.retain(|file| is_new(known, file));
+    if are_too_many(&parts.tables, files.as_slice()) {
         return Err(DescriptorError::new(alloc, DescriptorErrorKind::TooMany));
     }
-    match add_files(alloc, parts, files) {
+    match add_new(alloc, parts, files) {
         Ok(()) => Ok(()),
         Err(error) => Err(not_of_many(alloc, error)),
     }
@@ -154,10 +151,10 @@ pub trait BuildFiles {
     /// Adds files, linked with each other and with those that are there. Files whose names the pool
     /// has are passed over.
     ///
-    /// Files are accepted only where no pass finds a fault. The error lists exactly the faults of
-    /// the first faulty pass; `TooMany` where the pool's files, types, extensions and services, and all
-    /// that files declare which it has not, are 2^31 or more; or `Memory`. After a refusal the pool
-    /// is as it was.
+    /// Files are accepted only where no pass finds a fault. The error is `TooMany` exactly where the
+    /// pool's files, types, extensions and services, and all that files declare which it has not,
+    /// are 2^31 or more; else it lists exactly the faults of the first faulty pass, or is `Memory`.
+    /// After a refusal the pool is as it was.
     fn build_files(
         &mut self,
         alloc: Global,
@@ -171,7 +168,9 @@ pub trait BuildFiles {
         ensures added { OnOk result (AddsFiles (holds self.old) files.items (holds self.new)) }
         ensures accepted { OnOk result
             (FaultlessFiles (holds self.old) files.items (holds self.new)) }
-        ensures refused { IfErr result (AreRefused (holds self.old) files.items) };
+        ensures refused { IfErr result (AreRefused (holds self.old) files.items) }
+        ensures too_many { AreTooMany (holds self.old) files.items
+            → IsErrAnd result (λ e. is_too_many e.first ≡ true) };
 
     /// Leaves the first so many files as they stand, and their names. Takes no memory.
     ///
@@ -204,7 +203,7 @@ impl BuildFiles for DescriptorPool {
         files: Vec<FileDescriptorProto>,
     ) -> Result<(), DescriptorError> {
         let mut parts = take_parts(self);
-        let outcome = add_counted(alloc, &mut parts, files);
+        let outcome = add_files(alloc, &mut parts, files);
         *self = DescriptorPool::from_parts(parts);
         outcome
     }

@@ -1,21 +1,17 @@
 //! Counts what files declare, before they are linked: there has to be an index for each.
 
-ghost use Rattle.std.specs.Prelude.{◌≡◌, ◌≤◌, ◌+◌, ◌^◌, true, sum_by};
-ghost use Rattle.reflect_scope.specs.FileIndexes.{indexes_of};
+ghost use Rattle.std.specs.Prelude.{◌≡◌, ◌+◌, ◌^◌, nat_le, sum_by};
 ghost use Rattle.reflect_tables.specs.Views.{pool_of};
-ghost use Rattle.reflect_build.specs.Many.{in_enum, in_service, in_message, in_file, entries_of};
-ghost use Rattle.reflect_build.specs.Refusals.{new_files};
+ghost use Rattle.reflect_build.specs.Many.{in_enum, in_service, in_message, in_file, entries_of, as_u64};
 
-use crate::build::is_new;
 use descriptor_records::{
     DescriptorProto, EnumDescriptorProto, FileDescriptorProto, ServiceDescriptorProto,
 };
 use reflect_tables::Tables;
-use std::collections::BTreeMap;
 
 /// Enums and their values. No count passes what a `u64` holds.
 fn count_enums(enums: &[EnumDescriptorProto]) -> u64
-    ensures { result ≤ sum_by in_enum enums.now }
+    ensures { result ≡ as_u64 (sum_by in_enum enums.now) }
 {
     let mut count: u64 = 0;
     'enums: for enumeration in enums {
@@ -28,7 +24,7 @@ fn count_enums(enums: &[EnumDescriptorProto]) -> u64
 
 /// Services and their methods.
 fn count_services(services: &[ServiceDescriptorProto]) -> u64
-    ensures { result ≤ sum_by in_service services.now }
+    ensures { result ≡ as_u64 (sum_by in_service services.now) }
 {
     let mut count: u64 = 0;
     'services: for service in services {
@@ -42,7 +38,7 @@ fn count_services(services: &[ServiceDescriptorProto]) -> u64
 /// Messages, with all that is declared in them.
 #[cycle(messages)]
 fn count_messages(messages: &[DescriptorProto]) -> u64
-    ensures { result ≤ sum_by in_message messages.now }
+    ensures { result ≡ as_u64 (sum_by in_message messages.now) }
 {
     let mut count: u64 = 0;
     'messages: for message in messages {
@@ -54,7 +50,7 @@ fn count_messages(messages: &[DescriptorProto]) -> u64
 /// A message, with all that is declared in it.
 #[cycle(messages)]
 fn count_message(message: &DescriptorProto) -> u64
-    ensures { result ≤ in_message message.now }
+    ensures { result ≡ as_u64 (in_message message.now) }
 {
     let nested = count_messages(message.nested_type.as_slice());
     nested
@@ -67,7 +63,7 @@ fn count_message(message: &DescriptorProto) -> u64
 
 /// A file, with all that is declared in it.
 fn count_file(file: &FileDescriptorProto) -> u64
-    ensures { result ≤ in_file file.now }
+    ensures { result ≡ as_u64 (in_file file.now) }
 {
     count_messages(file.message_type.as_slice())
         .saturating_add(1)
@@ -76,22 +72,20 @@ fn count_file(file: &FileDescriptorProto) -> u64
         .saturating_add(count_services(file.service.as_slice()))
 }
 
-/// The files that have no known file's name, with all that is declared in them.
-fn count_new(known: &BTreeMap<String, u32>, files: &[FileDescriptorProto]) -> u64
-    ensures { result ≤ sum_by in_file (new_files (indexes_of known.now) files.now) }
+/// Files, with all that is declared in them.
+fn count_files(files: &[FileDescriptorProto]) -> u64
+    ensures { result ≡ as_u64 (sum_by in_file files.now) }
 {
     let mut count: u64 = 0;
     'files: for file in files {
-        if is_new(known, file) {
-            count = count.saturating_add(count_file(file));
-        }
+        count = count.saturating_add(count_file(file));
     }
     count
 }
 
 /// What the tables have.
 fn count_entries(tables: &Tables) -> u64
-    ensures { result ≤ entries_of (pool_of tables.now) }
+    ensures { result ≡ as_u64 (entries_of (pool_of tables.now)) }
 {
     (tables.files.len() as u64)
         .saturating_add(tables.messages.len() as u64)
@@ -100,15 +94,10 @@ fn count_entries(tables: &Tables) -> u64
         .saturating_add(tables.services.len() as u64)
 }
 
-/// What the tables have, and what files declare whose names are not known, is more than an index
-/// tells.
-pub fn are_too_many(
-    tables: &Tables,
-    known: &BTreeMap<String, u32>,
-    files: &[FileDescriptorProto],
-) -> bool
-    ensures { result ≡ true → 2 ^ 31 ≤ entries_of (pool_of tables.now)
-        + sum_by in_file (new_files (indexes_of known.now) files.now) }
+/// What the tables have, and what the files declare, is more than an index tells.
+pub fn are_too_many(tables: &Tables, files: &[FileDescriptorProto]) -> bool
+    ensures { result ≡ nat_le (2 ^ 31)
+        (entries_of (pool_of tables.now) + sum_by in_file files.now) }
 {
-    count_entries(tables).saturating_add(count_new(known, files)) > 0x7fff_ffff
+    count_entries(tables).saturating_add(count_files(files)) > 0x7fff_ffff
 }

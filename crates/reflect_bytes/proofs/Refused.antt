@@ -6,7 +6,7 @@ use Rattle.reflect_wire.specs.declared.wire_error.WireError.TheVariants as wire
 use Rattle.reflect_codec.specs.Reading.{Rejects}
 use Rattle.reflect_tables.specs.Types.{PoolType}
 use Rattle.reflect_passes.specs.declared.error.DescriptorError.{DescriptorError}
-use Rattle.reflect_build.specs.Many.{AreRefused}
+use Rattle.reflect_build.specs.Refusals.{AreRefused}
 use Rattle.reflect_bytes.specs.declared.pool_ext.PoolError.{PoolError}
 use Rattle.reflect_bytes.specs.declared.pool_ext.PoolError.TheVariants.{Wire, Link, Memory}
 use Rattle.reflect_bytes.specs.Spelled.{of_wire, RecordsRefused, BytesRefused}

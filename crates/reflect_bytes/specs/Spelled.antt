@@ -7,7 +7,7 @@ use Rattle.reflect_wire.specs.declared.wire_error.WireError.TheVariants as wire
 use Rattle.reflect_codec.specs.Meaning.{IsFileBytes, IsSetBytes}
 use Rattle.reflect_tables.specs.Types.{PoolType}
 use Rattle.reflect_build.specs.Accepted.{AddsFiles, FaultlessFiles}
-use Rattle.reflect_build.specs.Many.{AreRefused}
+use Rattle.reflect_build.specs.Refusals.{AreRefused}
 use Rattle.reflect_bytes.specs.declared.pool_ext.PoolError.{PoolError}
 use Rattle.reflect_bytes.specs.declared.pool_ext.PoolError.TheVariants.{Wire, Link, Memory}
 

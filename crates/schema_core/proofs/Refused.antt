@@ -16,7 +16,7 @@ use Rattle.protox_parse.specs.declared.error.ParseError.TheVariants as parsed
 use Rattle.reflect_tables.specs.Types.{PoolType}
 use Rattle.reflect_names.specs.Faults.{Place, place_of}
 use Rattle.reflect_passes.specs.declared.error.DescriptorError.{DescriptorError}
-use Rattle.reflect_build.specs.Many.{AreRefused}
+use Rattle.reflect_build.specs.Refusals.{AreRefused}
 use Rattle.reflect_bytes.specs.Spelled.{SpellsSet}
 use Rattle.reflect_format.specs.Truth.{TrueOf}
 use Rattle.text_error.specs.declared.error.ParseError as text

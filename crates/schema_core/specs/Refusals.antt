@@ -10,7 +10,7 @@ use Rattle.reflect_tables.specs.Types.{PoolType, IsSettled}
 use Rattle.descriptor_records.specs.declared.file.FileDescriptorProto.{FileDescriptorProto}
 use Rattle.reflect_growth.specs.Settled.{bare_of}
 use Rattle.reflect_pool.specs.Dots.{without_dot}
-use Rattle.reflect_build.specs.Many.{AreRefused}
+use Rattle.reflect_build.specs.Refusals.{AreRefused}
 use Rattle.reflect_wire.specs.declared.wire_error.WireError.{WireError}
 use Rattle.reflect_wire.specs.declared.wire_error.WireError.TheVariants as wire
 use Rattle.reflect_bytes.specs.Spelled.{SpellsSet, RecordsLinked}

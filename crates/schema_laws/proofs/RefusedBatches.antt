@@ -5,8 +5,7 @@ use Rattle.descriptor_records.specs.declared.file.FileDescriptorProto.{FileDescr
 use Rattle.reflect_names.specs.Faults.{another, fault_view}
 use Rattle.reflect_names.specs.declared.error.DescriptorErrorKind.{DescriptorErrorKind}
 use Rattle.reflect_names.specs.declared.error.DescriptorErrorKind.TheVariants as kind
-use Rattle.reflect_build.specs.Many.{AreRefused}
-use Rattle.reflect_build.specs.Refusals.{new_files}
+use Rattle.reflect_build.specs.Refusals.{AreRefused, new_files}
 use Rattle.reflect_passes.specs.Errors.{is_memory, is_too_many, faults_of}
 use Rattle.reflect_passes.specs.declared.error.DescriptorError.{DescriptorError}
 use Rattle.reflect_tables.specs.Types.{PoolType}

@@ -2,8 +2,7 @@
 use Rattle.std.specs.Prelude.{◌≡◌, ◌⊎◌, List, true, map}
 use Rattle.descriptor_records.specs.Content.{file_view}
 use Rattle.descriptor_records.specs.declared.file.FileDescriptorProto.{FileDescriptorProto}
-use Rattle.reflect_build.specs.Many.{AreTooMany}
-use Rattle.reflect_build.specs.Refusals.{IsOf, Linking, new_files}
+use Rattle.reflect_build.specs.Refusals.{AreTooMany, IsOf, Linking, new_files}
 use Rattle.reflect_passes.specs.Errors.{is_memory}
 use Rattle.reflect_passes.specs.declared.error.DescriptorError.{DescriptorError}
 use Rattle.reflect_tables.specs.Types.{PoolType}

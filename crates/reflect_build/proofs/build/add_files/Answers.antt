@@ -1,61 +1,78 @@
-use Rattle.std.proofs.Common.{rules, of_calls, arith, ◌≡◌, ◌∙◌, length, map, nat_lt, subst, sym, refl}
-use Rattle.std.proofs.Math.ListN.{length-map}
-use Rattle.std.specs.List.{filter}
+-- The files that a pool has not yet are added, and are too many exactly where this is told.
+use Rattle.std.proofs.Common.{rules, of_calls, ◌≡◌, ◌∙◌, Err, Unit, ap, false, inl, subst, sym, true}
 use Rattle.std.proofs.lemmas.Fn.{filter_same}
-use Rattle.std.proofs.lemmas.Grind.{common_steps}
-use Rattle.reflect_names.proofs.Declared.{err_from}
-use Rattle.reflect_tables.specs.Views.{extension_of, pool_of}
-use Rattle.reflect_build.specs.Refusals.{CountsOf, linking, is_unknown}
-use Rattle.reflect_build.proofs.Refused.{mapped, is_of, refused_files}
-use Rattle.reflect_build.proofs.Accepting.{faultless_files, adds_files}
-use Rattle.reflect_build.proofs.Named.{FirstNumbers, linked_same}
+use Rattle.reflect_passes.specs.Errors.{is_too_many}
+use Rattle.reflect_build.specs.Accepted.{AddsNames, Faultless}
+use Rattle.reflect_build.specs.Parts.{StaysOrGrows, holds_of, linking_of}
+use Rattle.reflect_build.specs.Refusals.{FaultyFiles, is_unknown}
+use Rattle.reflect_build.proofs.Parted.{is_of_parts, many_told, told_many}
+use Rattle.reflect_build.proofs.Refused.{refused_files, still_refused}
 use Rattle.reflect_build.proofs.build.add_files.Goals as goal
 
-pub returns-then-is_err-clause-fit : goal.returns-then-is_err-clause-fit
-returns-then-is_err-clause-fit c =
-    let tables = c.args.parts.now.tables in
-    let first = c.in_ok-first.first in
-    let start : first ≡ length tables.files.items = grind (arith, common_steps, c.in_ok-first.ensures.cases, c.len.ensures) in
-    let same : pool_of c.link-outcome.new.tables ≡ pool_of tables = err_from _ c.link-outcome.result (search rules) c.link-outcome.ensures.unchanged in
-    let items = c.link-outcome.new.tables.extensions.items in
-    let v = c.link-outcome.new.extension_numbers in
-    let w = c.forget_numbers.new.numbers in
-    let here : c.len-extensions.result ≡ length items = search rules in
-    let count : c.len-extensions.result ≡ length (map extension_of items) = here ∙ sym (length-map items extension_of) in
-    let few : FirstNumbers (length (map extension_of items)) v w = (c.forget_numbers.ensures.was_ordered, subst (λ n. w.entries ≡ filter (λ e. nat_lt e.1 n) v.entries) count c.forget_numbers.ensures.entries) in
-    linked_same tables (pool_of c.link-outcome.new.tables) c.args.parts.now.names c.forget_names.new.names c.args.parts.now.file_names c.link-outcome.new.file_names c.forget_files.new.file_names c.args.parts.now.extension_numbers v w
-    c.args.parts.now.links.items c.link-outcome.new.links.items c.truncate.new.self.items c.link-outcome.new.tables.messages.items first start same (λ t. c.forget_names.ensures t ∙ c.link-outcome.ensures.kept t) c.link-outcome.ensures.kept_files (c.forget_files.ensures.was_ordered, c.forget_files.ensures.entries) c.link-outcome.ensures.kept_numbers few
-    c.link-outcome.ensures.kept_links (search rules) (err_from _ c.link-outcome.result (search rules) c.link-outcome.ensures.same_messages) c.requires.fit
-
-pub returns-then-is_err-clause-refused : goal.returns-then-is_err-clause-refused
-returns-then-is_err-clause-refused c =
+pub returns-then-are_too_many-clause-refused : goal.returns-then-are_too_many-clause-refused
+returns-then-are_too_many-clause-refused c =
     let self = c.args.parts.now in
-    let first = c.in_ok-first.first in
-    let w = linking self.file_names self.names self.links.items self.tables self.extension_numbers c.in_ok-before.before first in
-    let start : first ≡ length self.tables.files.items = grind (arith, common_steps, c.in_ok-first.ensures.cases, c.len.ensures) in
-    let counts = mapped (CountsOf (pool_of self.tables)) _ c.offsets.result c.map_err.result c.map_err.ensures.cases c.offsets.ensures c.in_ok-before.before c.in_ok-before.was in
-    let of = is_of self.tables self.names self.file_names self.links.items self.extension_numbers c.in_ok-before.before first (pool_of self.tables) c.requires.fit counts start refl in
-    let news = filter_same _ (is_unknown w.indexes) _ (λ x b g h. search (rules, of_calls)) _ _ c.retain.ensures.filtered in
-    refused_files (pool_of self.tables) w c.args.files.items c.retain.new.self.items c.link-outcome.result of news c.link-outcome.ensures.refused
+    let w = linking_of self in
+    let news = filter_same _ (is_unknown w.indexes) _ (λ x b g h. search (rules, of_calls)) _ _ c.retain.ensures.filtered in (
+      inl c.new.ensures.faults,
+      λ yes. told_many self c.requires.fit c.args.files.items c.as_slice.result.now c.are_too_many.result
+          (c.as_slice.ensures.value ∙ news) c.are_too_many.ensures c.if-are_too_many.true,
+    )
 
-pub returns-else-is_err-clause-accepted : goal.returns-else-is_err-clause-accepted
-returns-else-is_err-clause-accepted c =
-    let self = c.args.parts.now in
-    let first = c.in_ok-first.first in
-    let w = linking self.file_names self.names self.links.items self.tables self.extension_numbers c.in_ok-before.before first in
-    let start : first ≡ length self.tables.files.items = grind (arith, common_steps, c.in_ok-first.ensures.cases, c.len.ensures) in
-    let counts = mapped (CountsOf (pool_of self.tables)) _ c.offsets.result c.map_err.result c.map_err.ensures.cases c.offsets.ensures c.in_ok-before.before c.in_ok-before.was in
-    let of = is_of self.tables self.names self.file_names self.links.items self.extension_numbers c.in_ok-before.before first (pool_of self.tables) c.requires.fit counts start refl in
-    let news = filter_same _ (is_unknown w.indexes) _ (λ x b g h. search (rules, of_calls)) _ _ c.retain.ensures.filtered in
-    faultless_files (pool_of self.tables) w c.args.files.items c.retain.new.self.items (pool_of c.link-outcome.new.tables) c.link-outcome.result of news c.link-outcome.ensures.accepted
+pub returns-then-are_too_many-clause-too_many : goal.returns-then-are_too_many-clause-too_many
+returns-then-are_too_many-clause-too_many c = λ many. ap is_too_many c.new.ensures.first
 
-pub returns-else-is_err-clause-added : goal.returns-else-is_err-clause-added
-returns-else-is_err-clause-added c =
+pub returns-in-Ok-clause-held : goal.returns-in-Ok-clause-held
+returns-in-Ok-clause-held c =
+    let old = holds_of c.args.parts.now in
+    let held = subst (λ r. StaysOrGrows r old (holds_of c.add_new.new.parts)) c.in-Ok.is c.add_new.ensures.held in
+    record { unchanged = tt; grown = held.grown; can_cut = held.can_cut }
+
+pub returns-in-Ok-clause-added : goal.returns-in-Ok-clause-added
+returns-in-Ok-clause-added c =
     let self = c.args.parts.now in
-    let first = c.in_ok-first.first in
-    let w = linking self.file_names self.names self.links.items self.tables self.extension_numbers c.in_ok-before.before first in
-    let start : first ≡ length self.tables.files.items = grind (arith, common_steps, c.in_ok-first.ensures.cases, c.len.ensures) in
-    let counts = mapped (CountsOf (pool_of self.tables)) _ c.offsets.result c.map_err.result c.map_err.ensures.cases c.offsets.ensures c.in_ok-before.before c.in_ok-before.was in
-    let of = is_of self.tables self.names self.file_names self.links.items self.extension_numbers c.in_ok-before.before first (pool_of self.tables) c.requires.fit counts start refl in
+    let w = linking_of self in
     let news = filter_same _ (is_unknown w.indexes) _ (λ x b g h. search (rules, of_calls)) _ _ c.retain.ensures.filtered in
-    adds_files (pool_of self.tables) w c.args.files.items c.retain.new.self.items (pool_of c.link-outcome.new.tables) c.link-outcome.result of news c.link-outcome.ensures.added
+    (w, is_of_parts self c.requires.fit, subst (λ l. AddsNames w l (holds_of c.add_new.new.parts)) news c.in-Ok.ensures.added)
+
+pub returns-in-Ok-clause-accepted : goal.returns-in-Ok-clause-accepted
+returns-in-Ok-clause-accepted c =
+    let self = c.args.parts.now in
+    let w = linking_of self in
+    let news = filter_same _ (is_unknown w.indexes) _ (λ x b g h. search (rules, of_calls)) _ _ c.retain.ensures.filtered in
+    (w, is_of_parts self c.requires.fit, subst (λ l. Faultless w l (holds_of c.add_new.new.parts)) news c.in-Ok.ensures.accepted)
+
+pub returns-in-Ok-clause-too_many : goal.returns-in-Ok-clause-too_many
+returns-in-Ok-clause-too_many c = λ many.
+    let self = c.args.parts.now in
+    let w = linking_of self in
+    let news = filter_same _ (is_unknown w.indexes) _ (λ x b g h. search (rules, of_calls)) _ _ c.retain.ensures.filtered in
+    let yes = many_told self c.requires.fit c.args.files.items c.as_slice.result.now c.are_too_many.result
+    (c.as_slice.ensures.value ∙ news) c.are_too_many.ensures many in
+    absurd (cc (sym yes ∙ c.if-are_too_many.false))
+
+pub returns-in-Err-clause-held : goal.returns-in-Err-clause-held
+returns-in-Err-clause-held c =
+    let old = holds_of c.args.parts.now in
+    let held = subst (λ r. StaysOrGrows r old (holds_of c.add_new.new.parts)) c.in-Err.is c.add_new.ensures.held in
+    record { unchanged = held.unchanged; grown = tt; can_cut = tt }
+
+pub returns-in-Err-clause-refused : goal.returns-in-Err-clause-refused
+returns-in-Err-clause-refused c =
+    let self = c.args.parts.now in
+    let w = linking_of self in
+    let news = filter_same _ (is_unknown w.indexes) _ (λ x b g h. search (rules, of_calls)) _ _ c.retain.ensures.filtered in
+    let refused = refused_files {T = Unit {0}} (holds_of self) w c.args.files.items c.retain.new.self.items (Err c.in-Err.error) (is_of_parts self c.requires.fit) news c.in-Err.ensures.refused in (
+      still_refused (FaultyFiles (holds_of self) c.args.files.items) c.in-Err.error c.not_of_many.result
+          c.not_of_many.ensures.kept refused,
+      λ many. absurd (cc (sym many ∙ c.not_of_many.ensures.few)),
+    )
+
+pub returns-in-Err-clause-too_many : goal.returns-in-Err-clause-too_many
+returns-in-Err-clause-too_many c = λ many.
+    let self = c.args.parts.now in
+    let w = linking_of self in
+    let news = filter_same _ (is_unknown w.indexes) _ (λ x b g h. search (rules, of_calls)) _ _ c.retain.ensures.filtered in
+    let yes = many_told self c.requires.fit c.args.files.items c.as_slice.result.now c.are_too_many.result
+    (c.as_slice.ensures.value ∙ news) c.are_too_many.ensures many in
+    absurd (cc (sym yes ∙ c.if-are_too_many.false))

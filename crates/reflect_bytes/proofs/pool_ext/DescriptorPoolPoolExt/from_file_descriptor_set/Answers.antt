@@ -1,7 +1,7 @@
 use Rattle.std.proofs.Common.{subst}
 use Rattle.std.proofs.lemmas.Result.{err_from_is_err_and}
 use Rattle.reflect_pool.specs.Linked.{empty_pool}
-use Rattle.reflect_build.specs.Many.{AreRefused}
+use Rattle.reflect_build.specs.Refusals.{AreRefused}
 use Rattle.reflect_bytes.specs.Spelled.{RecordsLinked}
 use Rattle.reflect_bytes.proofs.Refused.{of_link}
 use Rattle.reflect_bytes.proofs.pool_ext.DescriptorPoolPoolExt.from_file_descriptor_set.Goals as goal
