@@ -267,7 +267,7 @@ written_suits pool k name number m s d h u p kind is =
     plain_suits pool k number s d u p (plain_type name number m k tt kind) is
 
 -- the default that a text gives, if there is a text
-abbrev IsGiven : Option (String Global) → KindType → Option ℤ → Option DefaultType → Type 0
+abbrev pub IsGiven : Option (String Global) → KindType → Option ℤ → Option DefaultType → Type 0
 IsGiven written k number d =
     elim written [ None ↦ d ≡ None | Some s ↦ IsWritten k number (string_bytes s) d ]
 

@@ -1,5 +1,5 @@
 -- The parts of maps' entries, by their records.
-use Rattle.std.proofs.Common.{◌≡◌, ◌⊎◌, inl, inr, ◌<◌, ◌&&◌, ◌==◌, not, ℕ, zero, suc, ℤ, pos, Bool, true, false, List, [], ◌∷◌, map, length, Option, None, Some, unwrap_or, option_map, String, Global, string_bytes, codes, slice_get, refl, sym, ap, ◌∙◌, subst, arith}
+use Rattle.std.proofs.Common.{◌≡◌, ◌⊎◌, inl, inr, ◌<◌, ◌&&◌, ◌==◌, not, ℕ, zero, suc, ℤ, pos, Bool, true, false, List, [], ◌∷◌, map, length, Option, None, Some, unwrap_or, option_map, String, Global, codes, slice_get, refl, sym, ap, ◌∙◌, subst, arith}
 use Rattle.std.specs.Option.{option_and_then}
 use Rattle.descriptor_records.specs.Content.{Text, FieldContent, text_view, field_view, options_view}
 use Rattle.descriptor_records.specs.FieldNumbers.{type_number}
@@ -10,7 +10,7 @@ use Rattle.descriptor_records.specs.declared.options.Options.{Options}
 use Rattle.reflect_walk.specs.Declarations.{Declaration}
 use Rattle.reflect_walk.specs.MapEntries.{says_entry, is_true}
 use Rattle.reflect_fields.specs.Fields.{natural}
-use Rattle.reflect_fields.specs.FieldDefaults.{IsDefault, IsWritten}
+use Rattle.reflect_fields.specs.FieldDefaults.{IsDefault}
 use Rattle.reflect_passes.specs.NameFaults.{name_faults}
 use Rattle.reflect_index.specs.Entry.{KeepsEntry}
 use Rattle.reflect_index.specs.OfDeclarations.{messages_in, stored_ranges}
@@ -30,6 +30,7 @@ use Rattle.text_view.specs.SourceNames.{HasPartNames}
 use Rattle.source_records.specs.SourceNames.{IsPart, AreParts, IsEntry}
 use Rattle.reflect_index.proofs.Among.{Among, of_all, of_find, of_place, place_of, index_is, get_map}
 use Rattle.linked_messages.proofs.Declared.{declared_at}
+use Rattle.linked_messages.proofs.Defaults.{IsGiven}
 use Rattle.linked_messages.proofs.Parts.{HasNumberAt, has_places}
 use Rattle.linked_names.proofs.Batch.{ds}
 use Rattle.reflect_index.proofs.Behind.{get_in}
@@ -108,11 +109,6 @@ pub record IsPlainPart (name : Text) (f : FieldType) : Type 0 where
 untexted : (o : Option (String Global)) → text_view o ≡ None → o ≡ None
 untexted None e = refl
 untexted (Some s) e = absurd (cc e)
-
--- the default that a text gives, if there is a text
-abbrev IsGiven : Option (String Global) → KindType → Option ℤ → Option DefaultType → Type 0
-IsGiven written k number d = elim written
-    [ None ↦ d ≡ None | Some s ↦ IsWritten k number (string_bytes s) d ]
 
 no_default : (k : KindType) (r : FieldDescriptorProto) (d : Option DefaultType)
     → text_view r.default_value ≡ None → IsDefault k r d → d ≡ None

@@ -1,5 +1,5 @@
 -- What names are known for behind declarations in which no fault of names is found.
-use Rattle.std.proofs.Common.{◌≡◌, ◌∙◌, ◌⊎◌, inl, inr, ℕ, Bool, true, false, cond, List, [], ◌∷◌, Option, Some, None, is_some, bytes_eq, sum_by, ap, sym, subst, refl, arith}
+use Rattle.std.proofs.Common.{◌≡◌, ◌∙◌, ◌⊎◌, inl, inr, ℕ, true, false, cond, List, [], ◌∷◌, Option, Some, None, is_some, sum_by, ap, sym, subst, refl, arith}
 use Rattle.std.specs.List.{AllByRecursion}
 use Rattle.std.proofs.lemmas.List.Sums.{sum_by-cons, sum_by-append}
 use Rattle.descriptor_records.specs.Content.{Text}
@@ -17,31 +17,14 @@ use Rattle.reflect_names.specs.NamePass.{faults_along}
 use Rattle.reflect_names.proofs.Declared.{declared_new}
 use Rattle.reflect_index.proofs.Among.{Among, in_first, in_second}
 use Rattle.linked_view.proofs.Completes.{packages_given, gives, known_gives, IsCompleteBody, good_to}
-use Rattle.linked_view.proofs.Counts.{bytes_same, bytes_refl}
+use Rattle.linked_view.proofs.Counts.{bytes_refl}
 use Rattle.linked_view.proofs.Faults.{none_both}
-use Rattle.linked_view.proofs.Given.{Giving, known_by, Free, both_free, other_at, others, taken_is, stays, repeats}
+use Rattle.linked_view.proofs.Given.{Giving, known_by, Free, both_free, other_at, others, taken_is, repeats}
+use Rattle.linked_view.proofs.Known.{declared_keeps, keeps}
 use Rattle.linked_view.proofs.Named.{given, gives_one}
 use Rattle.linked_view.proofs.Walked.{seen_body}
 
 -- ---- names that are given
-
--- what is known stays
-declared_keeps : (known : Known) (m : Text) (d : Definition) (n : Text) (e : Definition)
-    → known n ≡ Some e → declared known m d n ≡ Some e
-declared_keeps known m d n e h = by (known m) refl (bytes_eq m n) refl where
-  by : (o : Option Definition) → known m ≡ o → (b : Bool) → bytes_eq m n ≡ b
-      → declared known m d n ≡ Some e
-  by (Some x) is b _ = ap (λ (k : Known). k n) (stays known m d x is) ∙ h
-  by None is true same = absurd (cc (sym is ∙ ap known (bytes_same m n same) ∙ h))
-  by None is false other =
-      ap (λ (k : Known). k n) (declared_new known m d is)
-      ∙ ap (λ b. cond b (Some d) (known n)) other ∙ h
-
-keeps : (known : Known) (gs : List Giving) (n : Text) (e : Definition) → known n ≡ Some e
-    → known_by known gs n ≡ Some e
-keeps known [] n e h = h
-keeps known (g ∷ gs) n e h =
-    keeps (declared known g.0 g.1) gs n e (declared_keeps known g.0 g.1 n e h)
 
 declared_there : (known : Known) (n : Text) (d : Definition) → known n ≡ None
     → declared known n d n ≡ Some d

@@ -1,6 +1,5 @@
 -- What the types of a batch say of names, by their declarations.
 use Rattle.std.proofs.Common.{◌≡◌, inl, inr, ◌<◌, ◌+◌, ◌++◌, ℕ, zero, suc, ℤ, Bool, true, false, cond, List, [], ◌∷◌, map, length, Option, None, Some, String, Global, slice_get, slice_index_or, refl, sym, ap, ◌∙◌, subst}
-use Rattle.std.proofs.lemmas.Bool.Decides.{Decides-int_eq}
 use Rattle.std.specs.Char.{to_ascii_lowercase}
 use Rattle.descriptor_records.specs.Content.{Text, enum_view, enum_value_view}
 use Rattle.descriptor_records.specs.FieldNumbers.{type_number}
@@ -26,7 +25,7 @@ use Rattle.reflect_index.specs.Entries.{Head, IsHeadOf, HasKind, IsMeant, writte
 use Rattle.reflect_index.specs.Grown.{message_head}
 use Rattle.reflect_index.specs.OfDeclarations.{NamedNumber, message_in, messages_in, enum_in, enums_in, stored_ranges, stored_value, stored_values, declared_value, declared_values}
 use Rattle.reflect_index.specs.declared.batch.Batch.{Batch}
-use Rattle.reflect_tables.specs.Types.{PoolType, FieldType, KindType, MessageType, ValueType, EnumType, ExtensionType, FileType, ArePooled, no_field, no_type, type_at, type_of_field}
+use Rattle.reflect_tables.specs.Types.{PoolType, KindType, MessageType, ValueType, EnumType, ExtensionType, FileType, ArePooled, no_field, no_type, type_at, type_of_field}
 use Rattle.reflect_tables.specs.Types as types
 use Rattle.reflect_tables.specs.Views.{message_of, enum_of, value_of, extension_of, record_file}
 use Rattle.reflect_tables.specs.declared.stored.StoredEnum.{StoredEnum}
@@ -43,6 +42,7 @@ use Rattle.reflect_index.proofs.Among.{Among, of_all, of_place, get_at, get_map,
 use Rattle.linked_messages.proofs.Declared.{InMessage, in_message, stands_in_batch}
 use Rattle.linked_messages.proofs.Defaults.{IsHeld}
 use Rattle.linked_view.proofs.Accepted.{kept_at}
+use Rattle.linked_view.proofs.Extended.{number_is}
 use Rattle.linked_names.specs.SourcePools.{scope_in, scope_of, IsScoped}
 use Rattle.linked_names.proofs.Apart.{IsApart, Apart, field_text, value_text}
 use Rattle.linked_names.proofs.Batch.{ds, known, b, are_apart, message_known, field_known, message_at, same_message, type_named, types_are, texts_same, first_is}
@@ -101,11 +101,6 @@ met_message h (d ∷ xs) k m e =
       by (of_message own) is (suc j) e more =
           let r = more j e in (r.own, inr r.here, r.body, r.place)
       by b is j e more = let r = more j e in (r.own, inr r.here, r.body, r.place)
-
--- the number is written
-number_is : (n : ℤ) (o : Option ℤ) → is_number n o ≡ true → o ≡ Some n
-number_is n None e = absurd (cc e)
-number_is n (Some m) e = ap Some ((Decides-int_eq m n).0 e)
 
 pub number_other : (n : ℤ) (o : Option ℤ) → (o ≡ Some n → ⊥) → is_number n o ≡ false
 number_other n o none = by (is_number n o) refl where

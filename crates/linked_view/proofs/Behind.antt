@@ -1,5 +1,5 @@
 -- New files behind those of a pool: what is known of all of them, and which files each of them sees.
-use Rattle.std.proofs.Common.{◌≡◌, ◌∙◌, ◌+◌, ◌≤◌, ◌<◌, inl, inr, ℕ, Bool, List, [], ◌∷◌, ◌++◌, Some, map, length, slice_get, append_assoc, zero-add, ap, sym, subst, refl, arith}
+use Rattle.std.proofs.Common.{◌≡◌, ◌∙◌, ◌+◌, ◌≤◌, ◌<◌, inl, inr, ℕ, Bool, List, [], ◌++◌, Some, map, length, slice_get, zero-add, ap, sym, subst, refl, arith}
 use Rattle.std.specs.List.{Contains}
 use Rattle.std.proofs.lemmas.List.{map-append, length-map}
 use Rattle.std.proofs.lemmas.List.Elements.{Contains-append_left, Contains-append_cases}
@@ -7,10 +7,8 @@ use Rattle.descriptor_records.specs.Content.{FileContent, file_view}
 use Rattle.descriptor_records.specs.declared.file.FileDescriptorProto.{FileDescriptorProto}
 use Rattle.reflect_scope.specs.FileIndexes.{Indexes, link_view}
 use Rattle.reflect_scope.specs.declared.seen.Links.{Links}
-use Rattle.reflect_walk.specs.declared.visit_parts.Offsets.{Offsets}
 use Rattle.reflect_walk.specs.Tree.{text_of}
-use Rattle.reflect_walk.specs.Declarations.{Declaration, file_declarations, past_file}
-use Rattle.reflect_walk.specs.Batches.{batch_declarations, past_files}
+use Rattle.reflect_walk.specs.Batches.{batch_declarations}
 use Rattle.reflect_known.specs.KnownNames.{known_behind, nothing_known, nothing_before, known_of_files, counts_of_files}
 use Rattle.reflect_names.specs.Faults.{batch_places}
 use Rattle.reflect_names.specs.FileNames.{with_files, files_faults}
@@ -25,6 +23,7 @@ use Rattle.reflect_pool.specs.Linked.{AreIndexed}
 use Rattle.reflect_build.specs.Refusals.{AreLinked, Linking, with_declared, IsOf}
 use Rattle.reflect_build.proofs.Indexed.{indexed_more}
 use Rattle.reflect_build.proofs.Imported.{links_as, links_more}
+use Rattle.reflect_build.proofs.Recorded.{batch_on}
 use Rattle.schema_view.specs.Outlines.{outline_of}
 use Rattle.schema_view.specs.Files.{file_name}
 use Rattle.schema_view.specs.Lawful.{outlines}
@@ -40,19 +39,6 @@ use Rattle.linked_view.proofs.NamedFiles.{names_recorded}
 use Rattle.linked_view.proofs.Places.{get_map, get_less}
 use Rattle.linked_view.proofs.Walked.{text_seen}
 use Rattle.linked_view.proofs.Sees.{sees_to, sees_from}
-
--- the declarations of files, and of further ones behind them
-pub batch_on : (o : Offsets) (i : ℕ) (fs gs : List FileDescriptorProto)
-    → batch_declarations o i (fs ++ gs)
-    ≡ batch_declarations o i fs ++ batch_declarations (past_files o fs) (i + length fs) gs
-batch_on o i [] gs = let e : i ≡ i + 0 = omega arith in ap (λ n. batch_declarations o n gs) e
-batch_on o i (f ∷ fs) gs =
-    let here = file_declarations o i f in
-    let rest = batch_declarations (past_file o f) (i + 1) fs in
-    let later : ℕ → List Declaration = λ n. batch_declarations (past_files o (f ∷ fs)) n gs in
-    let count : i + 1 + length fs ≡ i + length (f ∷ fs) = omega arith in
-    ap (λ ds. here ++ ds) (batch_on (past_file o f) (i + 1) fs gs ∙ ap (λ n. rest ++ later n) count)
-    ∙ sym (append_assoc here rest (later (i + length (f ∷ fs))))
 
 known_more : (fs gs : List FileDescriptorProto) → known_of_files (fs ++ gs)
     ≡ known_behind (known_of_files fs) (batch_declarations (counts_of_files fs) (length fs) gs)

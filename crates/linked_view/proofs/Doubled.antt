@@ -5,6 +5,7 @@ use Rattle.std.specs.List.{AllZip, Contains, flat_map}
 use Rattle.std.proofs.lemmas.Bool.Decides.{Decides-int_eq}
 use Rattle.descriptor_records.specs.Content.{Text, FileContent}
 use Rattle.reflect_build.specs.Refusals.{Linking, IsOf}
+use Rattle.reflect_build.proofs.Numbered.{stored_key}
 use Rattle.reflect_fields.specs.Fields.{natural}
 use Rattle.reflect_names.specs.Names.{Places}
 use Rattle.reflect_passes.specs.Extensions.{double_faults, extension_faults}
@@ -117,9 +118,6 @@ module _ (names : List FullName) (fs : List FileContent) (linked : AreLinked fs)
       itself
 
 -- ---- the pass
-
-abbrev stored_key : StoredExtension → KeyType
-stored_key x = (x.extendee, x.field.number)
 
 same_key : (k : KeyType) (x : StoredExtension) → pass.has_key k x ≡ true → stored_key x ≡ k
 same_key k x e =

@@ -2,11 +2,8 @@
 use Rattle.std.proofs.Common.{◌≡◌, ◌+◌, ◌∙◌, inl, inr, ℕ, Bool, true, false, cond, List, [], ◌∷◌, ◌++◌, ap, subst, refl}
 use Rattle.std.specs.List.{Contains}
 use Rattle.reflect_walk.specs.Declarations.{each}
+pub use Rattle.reflect_build.proofs.Rules.{none_both}
 use Rattle.schema_view.proofs.Lists.{contains_here, contains_there, contains_cases, contains_none}
-
-pub none_both : {X : Type 0} (a b : List X) → a ++ b ≡ [] → (a ≡ []) × (b ≡ [])
-none_both [] b e = (refl, e)
-none_both (x ∷ a) b e = absurd (cc e)
 
 pub both_none : {X : Type 0} (a b : List X) → a ≡ [] → b ≡ [] → a ++ b ≡ []
 both_none a b e f = ap (λ xs. xs ++ b) e ∙ f

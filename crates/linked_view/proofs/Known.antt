@@ -32,7 +32,7 @@ use Rattle.linked_view.proofs.Scopes.{scopes_are, are_scopes}
 use Rattle.linked_view.proofs.Walked.{Seen, seen, seen_body, told, text_seen, inner_declarations, file_seen}
 
 -- what is known stays
-declared_keeps : (known : Known) (m : Text) (d : Definition) (n : Text) (e : Definition)
+pub declared_keeps : (known : Known) (m : Text) (d : Definition) (n : Text) (e : Definition)
     → known n ≡ Some e → declared known m d n ≡ Some e
 declared_keeps known m d n e h = by (known m) refl (bytes_eq m n) refl where
   by : (o : Option Definition) → known m ≡ o → (b : Bool) → bytes_eq m n ≡ b
@@ -44,7 +44,7 @@ declared_keeps known m d n e h = by (known m) refl (bytes_eq m n) refl where
       ap (λ (k : Known). k n) (declared_new known m d is)
       ∙ ap (λ b. cond b (Some d) (known n)) other ∙ h
 
-keeps : (known : Known) (gs : List Giving) (n : Text) (e : Definition) → known n ≡ Some e
+pub keeps : (known : Known) (gs : List Giving) (n : Text) (e : Definition) → known n ≡ Some e
     → known_by known gs n ≡ Some e
 keeps known [] n e h = h
 keeps known (g ∷ gs) n e h =

@@ -1,30 +1,20 @@
 -- What a name means to the pass over references, by what is known and seen, is what it means by
 -- the statement on prefixes.
-use Rattle.std.proofs.Common.{◌≡◌, ◌≤◌, ◌<◌, ◌∙◌, ◌⊎◌, inl, inr, ℕ, Bool, true, false, ◌||◌, eqb, [], ◌∷◌, Option, Some, None, length, take, ap, sym, subst, refl, arith, one-add}
+use Rattle.std.proofs.Common.{◌≡◌, ◌≤◌, ◌<◌, ◌∙◌, ◌⊎◌, inl, inr, ℕ, Bool, true, false, ◌||◌, eqb, [], ◌∷◌, Option, Some, None, length, ap, sym, subst, refl, arith, one-add}
 use Rattle.std.specs.Prelude.{MatchBool}
 use Rattle.std.proofs.lemmas.Bool.{cases_lt}
-use Rattle.std.proofs.Math.Seq.{take-append_seam, take-length}
 use Rattle.reflect_scope.specs.declared.definition.Definition.{Definition}
 use Rattle.reflect_scope.specs.declared.definition.ResolveNameFilter.{ResolveNameFilter}
 use Rattle.reflect_scope.specs.Known.{Known}
 use Rattle.reflect_scope.specs.Means.{Meaning, means, not_found, wrong_kind, shadowed, is_wanted, is_seen, standing, is_holder, settled, rooted, resolve}
 use Rattle.reflect_scope.specs.Means as scope
-use Rattle.reflect_scope.specs.Says.{IsScope, SaysUndotted, SaysDotted, SaysPlain, Means}
+use Rattle.reflect_scope.specs.Says.{SaysUndotted, SaysDotted, SaysPlain, Means}
 use Rattle.reflect_scope.proofs.Says.{resolve_means}
 use Rattle.descriptor_records.specs.Content.{Text}
 use Rattle.schema_view.specs.Files.{join}
 use Rattle.schema_view.specs.Means.{has_dot, first_part, MeansUndotted, MeansDotted, MeansPlain, MeansBy}
+use Rattle.schema_view.proofs.OneMeaning.{one_scope}
 use Rattle.linked_view.proofs.Walked.{join_seen}
-
-scope_take : (s p : Text) → IsScope s p → take (length p) s ≡ p
-scope_take s p (inl e) = subst (λ x. take (length p) x ≡ p) e (take-length p)
-scope_take s p (inr (inl e)) = subst (λ x. take (length x) s ≡ x) (sym e) refl
-scope_take s p (inr (inr (rest, is))) =
-    subst (λ x. take (length p) x ≡ p) (sym is) (take-append_seam p (46 ∷ rest))
-
--- scopes of one length are one scope
-one_scope : (s p q : Text) → IsScope s p → IsScope s q → length p ≡ length q → p ≡ q
-one_scope s p q u v e = sym (scope_take s p u) ∙ ap (λ n. take n s) e ∙ scope_take s q v
 
 dots_same : (name : Text) → scope.has_dot name ≡ has_dot name
 dots_same [] = refl

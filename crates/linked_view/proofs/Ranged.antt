@@ -49,11 +49,12 @@ use Rattle.reflect_walk.specs.Tree.{MessageParts}
 use Rattle.schema_view.specs.Declarations as view
 use Rattle.schema_view.specs.Lawful.{Keeps, KeepsNumber}
 use Rattle.schema_view.specs.Rules.{IsIn, HasBounds}
+use Rattle.reflect_build.proofs.Recorded.{batch_on}
 use Rattle.reflect_build.proofs.Stored.{all_declared, zip_both}
 use Rattle.linked_view.specs.Ranged.{KeepNumbers}
 use Rattle.linked_view.specs.Ruled.{IsExtensionNumber}
 use Rattle.linked_view.proofs.Along.{range_in, in_range}
-use Rattle.linked_view.proofs.Behind.{batch_on, first_is}
+use Rattle.linked_view.proofs.Behind.{first_is}
 use Rattle.linked_view.proofs.Defaulted.{at_both, both_at}
 use Rattle.linked_view.proofs.Extended.{zip_at}
 use Rattle.linked_view.proofs.Indexed.{IsMessageAt, message_index, message_known}

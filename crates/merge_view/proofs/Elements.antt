@@ -1,37 +1,33 @@
 -- Records of single values, of messages and of lists behind what a field held before.
 use Rattle.std.proofs.Common.{◌≡◌, ℕ, Bool, List, [], ◌∷◌, ◌++◌, map, Option, Some, None, option_map, refl, sym, ap, ◌∙◌, subst, append-nil}
 use Rattle.std.specs.List.{flat_map}
-use Rattle.reflect_tables.specs.Types.{PoolType, FieldType, KindType}
+use Rattle.reflect_tables.specs.Types.{PoolType, FieldType}
 use Rattle.reflect_pool.specs.Kinds.{IsKind}
-use Rattle.reflect_pool.specs.declared.kind.Kind.{Kind}
 use Rattle.reflect_pool.specs.declared.kind.Kind.TheVariants as publics
 use Rattle.reflect_pool.specs.declared.message.MessageDescriptor.{MessageDescriptor}
 use Rattle.reflect_wire.specs.Records.{Payload}
 use Rattle.reflect_scalar.specs.Singles as held
-use Rattle.reflect_scalar.proofs.Defaulted.{kind_is}
 use Rattle.reflect_message.specs.Contents.{Content, content_of}
 use Rattle.reflect_message.specs.KindTypes.{IsScalarType}
 use Rattle.reflect_message.specs.Lists.{items_held}
-use Rattle.reflect_message.specs.Singles as singles
 use Rattle.reflect_message.specs.declared.message.DynamicMessage.{DynamicMessage}
 use Rattle.reflect_message.specs.declared.value.Value.{Value}
-use Rattle.reflect_decode.specs.Messages.{Takes, IsMade, MergesMessage}
-use Rattle.reflect_decode.specs.Scalars.{AreValues, ContinuesWith, HoldsLast}
+use Rattle.reflect_decode.specs.Messages.{Takes, MergesMessage}
+use Rattle.reflect_decode.specs.Scalars.{ContinuesWith, HoldsLast}
 use Rattle.reflect_decode.specs.Suits.{Suiting, IsSuiting}
-use Rattle.reflect_decode.specs.Taking.{AreMade, AddsMessages}
+use Rattle.reflect_decode.specs.Taking.{AddsMessages}
 use Rattle.protobuf_model.specs.Values as model
-use Rattle.protobuf_model.specs.Values.{Held, Message, single, message, content}
-use Rattle.protobuf_model.specs.Types.{Name, Part, Label, one, scalar, nested}
+use Rattle.protobuf_model.specs.Values.{Held, Message, message, content}
+use Rattle.protobuf_model.specs.Types.{Name, Part, Label, one, nested}
 use Rattle.protobuf_model.specs.Scalars.{meant}
-use Rattle.protobuf_model.specs.Reader.{inside_of}
-use Rattle.protobuf_model.specs.Meaning.{Merge, last_set, taken, joined, packed_or_one, elements, items, if_any}
+use Rattle.protobuf_model.specs.Meaning.{Merge, last_set, taken, joined, elements, items, if_any}
 use Rattle.protobuf_model.specs.Typed.{IsOf, IsHeldOf}
 use Rattle.protobuf_model.proofs.Bridge.{last_is}
 use Rattle.protobuf_model.proofs.Pieces.{map_append, items-if_any}
 use Rattle.message_view.specs.Singles.{scalar_of, single_view}
 use Rattle.message_view.specs.Types.{name_at, frame_of, kind_in, part_of}
 use Rattle.message_view.specs.Views.{held_in, content_view, view_of}
-use Rattle.message_view.proofs.Elements.{kind_scalar, kind_message, meant_in, elements_are, singly, list_held, Nests, seen_in}
+use Rattle.message_view.proofs.Elements.{kind_scalar, kind_message, meant_in, values_are, singles_seen, made_are, list_held, Nests, seen_in}
 use Rattle.message_view.proofs.Seen.{single_seen, message_seen}
 
 -- the last value is held, whatever was before
@@ -43,26 +39,6 @@ single_behind inner pool f h new ps type (v, w, put, is, (kind, lead, p, kind_of
     ∙ ap (λ ps. last_set (part_of pool f) h (flat_map (meant s) ps)) ends
     ∙ last_is (part_of pool f) s h lead p (single_view w) (meant_in pool kind f.kind p w kind_of means)
     ∙ sym (ap (λ o. held_in pool f (option_map content_view o)) put ∙ ap (λ c. held_in pool f (Some c)) (single_seen v w is))
-
--- the values of records
-map_twice : (vs : List held.Single) → map single (map single_view vs) ≡ map singly vs
-map_twice [] = refl
-map_twice (v ∷ vs) = ap (λ l. singly v ∷ l) (map_twice vs)
-
-values_are : (inner : Merge) (pool : PoolType) (t : KindType) (ps : List Payload) (vs : List held.Single) → AreValues pool t ps vs → flat_map (elements inner (scalar (scalar_of t))) ps ≡ map singly vs
-values_are inner pool t [] vs h = sym (ap (map singly) h)
-values_are inner pool t (p ∷ ps) vs (kind, here, behind, is, some, rest, whole) =
-    ap (λ cs. cs ++ flat_map (elements inner (scalar (scalar_of t))) ps) (ap (λ t. map single (packed_or_one (scalar_of t) p)) (kind_is pool kind t is) ∙ ap (map single) (elements_are kind p here some) ∙ map_twice here)
-    ∙ ap (λ cs. map singly here ++ cs) (values_are inner pool t ps behind rest) ∙ sym (map_append singly here behind) ∙ sym (ap (map singly) whole)
-
-singles_seen : (added : List Value) (vs : List held.Single) → map singles.single added ≡ map Some vs → map content_view added ≡ map singly vs
-singles_seen [] [] e = refl
-singles_seen [] (v ∷ vs) e = absurd (cc e)
-singles_seen (a ∷ added) [] e = absurd (cc e)
-singles_seen (a ∷ added) (v ∷ vs) e =
-    let here : singles.single a ≡ Some v = cc e in
-    let rest : map singles.single added ≡ map Some vs = cc e in
-    ap (λ c. c ∷ map content_view added) (single_seen a v here) ∙ ap (λ cs. singly v ∷ cs) (singles_seen added vs rest)
 
 -- behind the items of a list stand those of the records
 pub items_are : (pool : PoolType) (f : FieldType) (old : Option Value) (before : List Value) → items_held old ≡ Some before → items (held_in pool f (option_map content_view old)) ≡ map content_view before
@@ -84,22 +60,9 @@ values_behind inner pool f old new ps type (before, after, vs, at, stands, value
     ∙ behind pool f old new before after added _ at stands is (values_are inner pool f.kind ps vs values ∙ sym (singles_seen added vs seen))
 
 module _ (pool : PoolType) (inner : Merge) (takes : Takes) (nests : Nests pool inner takes) where
-  made_is : (group : Bool) (t : KindType) (kind : Kind) (p : Payload) (v : Value) → IsKind pool kind t → IsMade (takes.message group) kind p v → elements inner (kind_in pool group t) p ≡ content_view v ∷ []
-  made_is group t (publics.Message d) p v is (m, there, type, takes_it) =
-      ap (λ k. elements inner k p) (kind_message pool group t d.index is.1)
-      ∙ ap (λ m. message m ∷ []) (ap (inner (name_at pool d.index) model.nothing) (sym (append-nil (inside_of p))) ∙ nests.messages group d is.0 (content_of m) (p ∷ []) takes_it ∙ sym (seen_in pool d m type is.0))
-      ∙ ap (λ c. c ∷ []) (sym (message_seen v m there))
-  made_is group t kind p v is h = absurd h
-
-  made_are : (group : Bool) (t : KindType) (ps : List Payload) (vs : List Value) → AreMade (takes.message group) pool t ps vs → flat_map (elements inner (kind_in pool group t)) ps ≡ map content_view vs
-  made_are group t [] vs h = sym (ap (map content_view) h)
-  made_are group t (p ∷ ps) vs (kind, v, behind, is, made, rest, whole) =
-      ap (λ cs. cs ++ flat_map (elements inner (kind_in pool group t)) ps) (made_is group t kind p v is made)
-      ∙ ap (λ cs. content_view v ∷ cs) (made_are group t ps behind rest) ∙ sym (ap (map content_view) whole)
-
   pub messages_behind : (f : FieldType) (old new : Option Value) (ps : List Payload) → AddsMessages (takes.message f.group) pool f.kind old new ps
       → if_any (items (held_in pool f (option_map content_view old)) ++ flat_map (elements inner (kind_in pool f.group f.kind)) ps) ≡ held_in pool f (option_map content_view new)
-  messages_behind f old new ps (before, after, added, at, stands, made, is) = behind pool f old new before after added _ at stands is (made_are f.group f.kind ps added made)
+  messages_behind f old new ps (before, after, added, at, stands, made, is) = behind pool f old new before after added _ at stands is (made_are pool inner takes nests f.group f.kind ps added made)
 
 -- what is known of messages one level below that hold something before
 pub record GoesOn (pool : PoolType) (inner : Merge) (takes : Takes) (suits : Suiting) (typed : Name → Message → Type 0) : Type 0 where

@@ -1,111 +1,31 @@
 -- Records of maps behind the entries that a map held before.
-use Rattle.std.proofs.Common.{◌≡◌, ℕ, Bool, true, false, true≢false, List, [], ◌∷◌, map, Option, Some, None, option_map, refl, sym, ap, ◌∙◌, subst}
-use Rattle.std.specs.BTreeMap.{insert_entry}
-use Rattle.std.specs.List.{AllByRecursion, flat_map}
+use Rattle.std.proofs.Common.{◌≡◌, ℕ, Bool, true, false, List, [], ◌∷◌, map, Option, Some, option_map, sym, ap, ◌∙◌, subst}
+use Rattle.std.specs.List.{AllByRecursion}
 use Rattle.reflect_tables.specs.Types.{PoolType, FieldType}
 use Rattle.reflect_pool.specs.Shapes.{holds_map}
-use Rattle.reflect_wire.specs.Records.{Payload, varint, fixed64, delimited, fixed32}
-use Rattle.reflect_scalar.specs.Keys.{key_view}
-use Rattle.reflect_scalar.specs.Singles as held
+use Rattle.reflect_wire.specs.Records.{Payload}
 use Rattle.reflect_scalar.specs.declared.map_key.MapKey.{MapKey}
-use Rattle.reflect_message.specs.Known.{entry_field, holds_floats}
-use Rattle.reflect_message.specs.Maps.{entries_held, key_order}
-use Rattle.reflect_message.specs.Singles as singles
+use Rattle.reflect_message.specs.Known.{holds_floats}
+use Rattle.reflect_message.specs.Maps.{entries_held}
 use Rattle.reflect_message.specs.declared.value.Value.{Value}
-use Rattle.reflect_decode.specs.Keeps as keeps
-use Rattle.reflect_decode.specs.Maps.{LeavesSingle, LeavesValue, IsEntry, PutEntries, ContinuesMap}
+use Rattle.reflect_decode.specs.Maps.{ContinuesMap}
 use Rattle.reflect_decode.specs.Messages.{Takes}
-use Rattle.protobuf_model.specs.Values as model
-use Rattle.protobuf_model.specs.Values.{Single, Content, Message, single, dictionary, entries_of, pairs_of}
-use Rattle.protobuf_model.specs.Types.{Name, Scalar, Part, Key, keyed}
-use Rattle.protobuf_model.specs.Types as kinds
-use Rattle.protobuf_model.specs.Scalars.{meant, Suits}
+use Rattle.protobuf_model.specs.Values.{Message, entries_of, pairs_of}
+use Rattle.protobuf_model.specs.Types.{Name, Part, Key, keyed}
 use Rattle.protobuf_model.specs.Keys.{put}
-use Rattle.protobuf_model.specs.Reader.{inside_of}
-use Rattle.protobuf_model.specs.Meaning.{Merge, payloads, last_or, entry_value, entry, pairs, if_some, put_all}
+use Rattle.protobuf_model.specs.Meaning.{Merge, entry, pairs, if_some, put_all}
 use Rattle.protobuf_model.specs.Typed.{IsEntryOf}
-use Rattle.protobuf_model.proofs.Pieces.{paired}
+use Rattle.protobuf_model.proofs.Pieces.{pairs-if_some}
 use Rattle.message_laws.specs.MapKeys.{HaveMapKeys}
-use Rattle.message_view.specs.Singles.{scalar_of, single_view}
+use Rattle.message_view.specs.Singles.{scalar_of}
 use Rattle.message_view.specs.Sound.{HaveEntryDefaults}
-use Rattle.message_view.specs.Types.{default_of, part_of, key_of, entry_part}
+use Rattle.message_view.specs.Types.{part_of, key_of, entry_part}
 use Rattle.message_view.specs.Views.{held_in, content_view}
-use Rattle.message_view.proofs.Elements.{kind_scalar, kind_message, meant_in, last_or_is, Nests, merged_is}
-use Rattle.message_view.proofs.Entries.{form_at, some_default, default_is, key_scalar, Sort, plain, floating, message_type, sort_of, no_float_values, entry_of_map, part_is}
-use Rattle.message_view.proofs.Keys.{form_of, key_single, entry_put, forms_stay}
-use Rattle.message_view.proofs.Oneofs.{payloads_same}
-use Rattle.message_view.proofs.Seen.{single_seen, map_seen, pairs_view}
+use Rattle.message_view.proofs.Elements.{Nests}
+use Rattle.message_view.proofs.Entries.{entries_are, form_at, map_held, suited_form}
+use Rattle.message_view.proofs.Keys.{form_of, key_single}
+use Rattle.message_view.proofs.Seen.{pairs_view}
 use Rattle.merge_view.proofs.Elements.{SuitsPart}
-
--- values that suit a kind have its form
-suited_form : (s : Scalar) (v : Single) → Suits s v → form_of v ≡ form_at s
-suited_form kinds.int32 (model.int32 z) h = refl
-suited_form kinds.sint32 (model.int32 z) h = refl
-suited_form kinds.sfixed32 (model.int32 z) h = refl
-suited_form kinds.int64 (model.int64 z) h = refl
-suited_form kinds.sint64 (model.int64 z) h = refl
-suited_form kinds.sfixed64 (model.int64 z) h = refl
-suited_form kinds.uint32 (model.uint32 n) h = refl
-suited_form kinds.fixed32 (model.uint32 n) h = refl
-suited_form kinds.uint64 (model.uint64 n) h = refl
-suited_form kinds.fixed64 (model.uint64 n) h = refl
-suited_form kinds.bool (model.truth b) h = refl
-suited_form kinds.string (model.text t) h = refl
-suited_form kinds.bytes (model.blob b) h = refl
-suited_form kinds.enumeration (model.enumerated z) h = refl
-suited_form s v h = absurd h
-
--- and so have those that payloads mean
-abbrev first_form : ℕ → List Single → ℕ
-first_form n [] = n
-first_form n (v ∷ vs) = form_of v
-
-forms : (s : Scalar) (p : Payload) → first_form (form_at s) (meant s p) ≡ form_at s
-forms kinds.int32 (varint n) = refl
-forms kinds.int64 (varint n) = refl
-forms kinds.uint32 (varint n) = refl
-forms kinds.uint64 (varint n) = refl
-forms kinds.sint32 (varint n) = refl
-forms kinds.sint64 (varint n) = refl
-forms kinds.bool (varint n) = refl
-forms kinds.enumeration (varint n) = refl
-forms kinds.fixed32 (fixed32 n) = refl
-forms kinds.sfixed32 (fixed32 n) = refl
-forms kinds.fixed64 (fixed64 n) = refl
-forms kinds.sfixed64 (fixed64 n) = refl
-forms kinds.string (delimited t) = refl
-forms kinds.bytes (delimited b) = refl
-forms s p = refl
-
-meant_form : (s : Scalar) (p : Payload) (v : Single) → meant s p ≡ v ∷ [] → form_of v ≡ form_at s
-meant_form s p v e = ap (first_form (form_at s)) (sym e) ∙ forms s p
-
--- what records leave as a single value
-single_of : (pool : PoolType) (f : FieldType) (v : held.Single) (ps : List Payload) → LeavesSingle pool f (Some v) ps → last_or (default_of pool f) (flat_map (meant (scalar_of f.kind)) ps) ≡ single_view v
-single_of pool f v [] h = default_is pool f v (sym h)
-single_of pool f v (p ∷ ps) (w, is, (kind, lead, last, kind_of, ends, means)) =
-    let same : w ≡ v = cc is in
-    ap (λ ps. last_or (default_of pool f) (flat_map (meant (scalar_of f.kind)) ps)) ends
-    ∙ last_or_is f.kind (default_of pool f) lead last (single_view w) (meant_in pool kind f.kind last w kind_of means) ∙ ap single_view same
-
-left_form : (pool : PoolType) (f : FieldType) (v : held.Single) (ps : List Payload) → Suits (scalar_of f.kind) (default_of pool f) → LeavesSingle pool f (Some v) ps → form_of (single_view v) ≡ form_at (scalar_of f.kind)
-left_form pool f v [] suits h = ap form_of (sym (default_is pool f v (sym h))) ∙ suited_form (scalar_of f.kind) (default_of pool f) suits
-left_form pool f v (p ∷ ps) suits (w, is, (kind, lead, last, kind_of, ends, means)) =
-    let same : w ≡ v = cc is in
-    ap (λ w. form_of (single_view w)) (sym same) ∙ meant_form (scalar_of f.kind) last (single_view w) (meant_in pool kind f.kind last w kind_of means)
-
--- a map as it is held
-some_map : (pool : PoolType) (f : FieldType) (es : List (Single × Content)) → if_some es ≡ held_in pool f (Some (dictionary (entries_of es)))
-some_map pool f [] = refl
-some_map pool f (e ∷ es) = refl
-
-map_held : (pool : PoolType) (f : FieldType) (new : Option Value) (after : List (MapKey × Value)) → entries_held new ≡ Some after → if_some (pairs_view after) ≡ held_in pool f (option_map content_view new)
-map_held pool f None after e = let none : after ≡ [] = cc e in ap (λ l. if_some (pairs_view l)) none
-map_held pool f (Some v) after e = some_map pool f (pairs_view after) ∙ sym (ap (λ c. held_in pool f (Some c)) (map_seen v after e))
-
-pairs-if_some : (es : List (Single × Content)) → pairs (if_some es) ≡ es
-pairs-if_some [] = refl
-pairs-if_some (e ∷ es) = paired (e ∷ es)
 
 pairs_are : (pool : PoolType) (f : FieldType) (old : Option Value) (before : List (MapKey × Value)) → entries_held old ≡ Some before → pairs (held_in pool f (option_map content_view old)) ≡ pairs_view before
 pairs_are pool f old before e = ap pairs (sym (map_held pool f old before e)) ∙ pairs-if_some (pairs_view before)
@@ -120,51 +40,8 @@ module _ (pool : PoolType) (keyed_maps : HaveMapKeys pool) (defaults : HaveEntry
   abbrev the_value : Part
   the_value = part_of pool (entry_part pool f 2)
 
-  -- the value of an entry
-  value_is : (values : FieldType) (v : Value) (ps : List Payload) → entry_field pool f.kind 2 ≡ Some values → LeavesValue takes pool values v ps → entry_value inner the_value the_value.kind ps ≡ content_view v
-  value_is values v ps there h = ap (λ g. entry_value inner (part_of pool g) (part_of pool g).kind ps) (part_is pool f 2 values there) ∙ by (sort_of values.kind) where
-    by : Sort values.kind → entry_value inner (part_of pool values) (part_of pool values).kind ps ≡ content_view v
-    by (floating e) = absurd (true≢false (sym e ∙ no_float_values pool f values whole is_map there))
-    by (message_type type) =
-        let is = merged_is pool inner takes nests values.group values.kind v ps (h.1 type) in
-        ap (λ k. entry_value inner (part_of pool values) k ps) (kind_message pool values.group values.kind is.0 is.1) ∙ is.2
-    by (plain type) = ap (λ k. entry_value inner (part_of pool values) k ps) (kind_scalar pool values.group values.kind type) ∙ within (singles.single v) refl (h.0 type) where
-      within : (o : Option held.Single) → singles.single v ≡ o → LeavesSingle pool values o ps → single (last_or (default_of pool values) (flat_map (meant (scalar_of values.kind)) ps)) ≡ content_view v
-      within (Some w) is k = ap single (single_of pool values w ps k) ∙ sym (single_seen v w is)
-      within None is k = absurd (none ps k) where
-        none : (ps : List Payload) → LeavesSingle pool values None ps → ⊥
-        none [] k = cc (k ∙ (some_default pool values type).1)
-        none (p ∷ ps) k = cc k.1
-
-  abbrev key_form : ℕ
-  key_form = form_at (scalar_of (entry_part pool f 1).kind)
-
-  -- an entry
-  entry_is : (p : Payload) (k : MapKey) (v : Value) → IsEntry takes pool f.kind p k v → (entry inner the_key the_value p ≡ (key_single k, content_view v)) × (form_of (key_single k) ≡ key_form)
-  entry_is p k v (keys, values, rs, one, two, inside, key_left, value_left) =
-      let type = key_scalar keys.kind (keyed_maps f.kind keys (entry_of_map pool f is_map) one).0 in
-      let suits = defaults f.kind 1 keys (entry_of_map pool f is_map) one type in
-      let body = nests.entries p rs inside in
-      let key : last_or the_key.default (flat_map (meant the_key.kind) (payloads 1 (inside_of p))) ≡ key_single k =
-      ap (λ g. last_or (default_of pool g) (flat_map (meant (scalar_of g.kind)) (payloads 1 (inside_of p)))) (part_is pool f 1 keys one)
-      ∙ ap (λ ps. last_or (default_of pool keys) (flat_map (meant (scalar_of keys.kind)) ps)) (ap (payloads 1) body ∙ sym (payloads_same 1 rs))
-      ∙ single_of pool keys (key_view k) (keeps.payloads 1 rs) (key_left type) in
-      let value : entry_value inner the_value the_value.kind (payloads 2 (inside_of p)) ≡ content_view v =
-      ap (entry_value inner the_value the_value.kind) (ap (payloads 2) body ∙ sym (payloads_same 2 rs)) ∙ value_is values v (keeps.payloads 2 rs) two value_left in (
-        ap (λ a. (a, entry_value inner the_value the_value.kind (payloads 2 (inside_of p)))) key ∙ ap (λ b. (key_single k, b)) value,
-        left_form pool keys (key_view k) (keeps.payloads 1 rs) suits (key_left type) ∙ ap (λ (g : FieldType). form_at (scalar_of g.kind)) (sym (part_is pool f 1 keys one)),
-      )
-
   abbrev Formed : List (MapKey × Value) → Type 0
-  Formed es = AllByRecursion (λ e. form_of (key_single e.0) ≡ key_form) es
-
-  entries_are : (old new : List (MapKey × Value)) (ps : List Payload) → Formed old → PutEntries takes pool f.kind old new ps → put_all (pairs_view old) (map (entry inner the_key the_value) ps) ≡ pairs_view new
-  entries_are old new [] formed h = sym (ap pairs_view h)
-  entries_are old new (p ∷ ps) formed (k, v, one, rest) =
-      let is = entry_is p k v one in
-      ap (λ (e : Single × Content). put_all (put e.0 e.1 (pairs_view old)) (map (entry inner the_key the_value) ps)) is.0
-      ∙ ap (λ es. put_all es (map (entry inner the_key the_value) ps)) (sym (entry_put content_view key_form old k v formed is.1))
-      ∙ entries_are (insert_entry key_order old k v) new ps (forms_stay content_view key_form old k v formed is.1) rest
+  Formed es = AllByRecursion (λ e. form_of (key_single e.0) ≡ form_at (scalar_of (entry_part pool f 1).kind)) es
 
   -- the keys of a map that suits the field have the form of its keys
   formed_keys : (typed : Name → Message → Type 0) (es : List (MapKey × Value)) → AllByRecursion (IsEntryOf typed the_key the_value) (pairs_of (entries_of (pairs_view es))) → Formed es
@@ -181,4 +58,5 @@ module _ (pool : PoolType) (keyed_maps : HaveMapKeys pool) (defaults : HaveEntry
   map_behind typed levels o x old new ps suits (before, after, at, stands, puts) =
       let formed = formed_by typed levels o x before (subst (SuitsPart typed levels o x the_value (keyed the_key)) (sym (map_held pool f old before at)) suits) in
       ap (λ es. if_some (put_all es (map (entry inner the_key the_value) ps))) (pairs_are pool f old before at)
-      ∙ ap if_some (entries_are before after ps formed puts) ∙ map_held pool f new after stands
+      ∙ ap if_some (entries_are pool keyed_maps defaults inner takes nests f whole is_map before after ps formed puts)
+      ∙ map_held pool f new after stands

@@ -8,7 +8,7 @@ use Rattle.reflect_pool.specs.Shapes.{is_repeated, holds_list, holds_map}
 use Rattle.reflect_pool.specs.declared.message.MessageDescriptor.{MessageDescriptor}
 use Rattle.reflect_pool.specs.declared.field.FieldDescriptor.{FieldDescriptor}
 use Rattle.reflect_pool.specs.declared.extension.ExtensionDescriptor.{ExtensionDescriptor}
-use Rattle.reflect_wire.specs.Records.{Payload, delimited, group}
+use Rattle.reflect_wire.specs.Records.{Payload, group}
 use Rattle.reflect_entries.specs.Entries.{value_at}
 use Rattle.reflect_scalar.specs.FieldTypes.{extension_type}
 use Rattle.reflect_message.specs.Contents.{Content}
@@ -20,7 +20,7 @@ use Rattle.reflect_message.specs.declared.value.Value.{Value}
 use Rattle.reflect_decode.specs.Fields.{LeavesField}
 use Rattle.reflect_decode.specs.Keeps as keeps
 use Rattle.reflect_decode.specs.Levels.{TakenAt, TakesAt, MergesAt}
-use Rattle.reflect_decode.specs.Messages.{Takes, AreInside, IsInside, IsEntryBody}
+use Rattle.reflect_decode.specs.Messages.{Takes}
 use Rattle.reflect_decode.specs.Scalars.{LeavesAs}
 use Rattle.reflect_decode.specs.Spares.{Merges}
 use Rattle.reflect_decode.specs.Suits.{Suiting, SuitsAs, HeldSuits, SuitsBy, SuitsBelow, Suits}
@@ -30,17 +30,16 @@ use Rattle.protobuf_model.specs.Values as model
 use Rattle.protobuf_model.specs.Values.{Held, Message, records, absent}
 use Rattle.protobuf_model.specs.Types.{Name, Field, Types, one, many, keyed, oneof_of, rival}
 use Rattle.protobuf_model.specs.Types as kinds
-use Rattle.protobuf_model.specs.Reader.{inside_of}
-use Rattle.protobuf_model.specs.Meaning.{Merge, is_in, payloads, standing, left_of, joined, taken, kept, held_by, held, meaning_by, meaning}
+use Rattle.protobuf_model.specs.Meaning.{Merge, is_in, payloads, standing, left_of, taken, kept, held_by, held, meaning_by, meaning}
 use Rattle.protobuf_model.specs.Typed.{IsHeldOf, IsTyped}
-use Rattle.protobuf_model.proofs.Bridge.{stands_alone, stands_behind, inside_is}
+use Rattle.protobuf_model.proofs.Bridge.{stands_alone, stands_behind}
 use Rattle.message_view.specs.Sound.{HaveEntryDefaults}
 use Rattle.message_view.specs.Types.{name_at, part_of, key_of, entry_part, values_of, label_of, field_of, oneof_at, either_field, field_at}
 use Rattle.message_view.specs.Views.{held_in, held_either, content_view, contents_view, view_of}
 use Rattle.message_view.proofs.Elements.{Nests}
 use Rattle.message_view.proofs.Entries.{Sort, plain, floating, message_type, sort_of}
 use Rattle.message_view.proofs.Fields.{owned, known, owned_whole, extension_owned, extension_whole, known_extension_is, none_owned, not_declared}
-use Rattle.message_view.proofs.Left.{list_is, field_left, inner_of, meaning_at, leaves_meaning, merged_left}
+use Rattle.message_view.proofs.Left.{list_is, entry_at, field_left, inner_of, joined_at, meaning_at, leaves_meaning, merged_left}
 use Rattle.message_view.proofs.Oneofs.{payloads_same, sibling_is_rival, no_rivals, no_self, no_oneof}
 use Rattle.message_view.proofs.Accepting.{not_float}
 use Rattle.message_view.proofs.Seen.{value_at-view}
@@ -220,20 +219,6 @@ module _ (d : MessageDescriptor) (keyed_maps : HaveMapKeys d.pool.now) (defaults
         let number : (extension_type h.0).number ≡ n = ap (λ (t : FieldType). t.number) h.2 ∙ h.3 in
         subst Stands number (at_extension h.0 h.1 (ap (known_field d.pool.now d.index) number ∙ none))
     by n None none None also = at_neither n none also
-
--- the records inside payloads
-inside_at : (grouped : Bool) (levels : ℕ) (p : Payload) (rs : List (ℕ × Payload)) → IsInside grouped levels p rs → inside_of p ≡ rs
-inside_at false levels (delimited body) rs h = inside_is levels (delimited body) rs h
-inside_at true levels (group within) rs h = inside_is levels (group within) rs h
-inside_at grouped levels p rs h = absurd h
-
-joined_at : (grouped : Bool) (levels : ℕ) (ps : List Payload) (rs : List (ℕ × Payload)) → AreInside grouped levels ps rs → joined ps ≡ rs
-joined_at grouped levels [] rs h = sym h
-joined_at grouped levels (p ∷ ps) rs h = ap (λ here. here ++ joined ps) (inside_at grouped levels p h.0 h.2) ∙ ap (λ behind. h.0 ++ behind) (joined_at grouped levels ps h.1 h.3) ∙ sym h.4
-
-entry_at : (levels : ℕ) (p : Payload) (rs : List (ℕ × Payload)) → IsEntryBody levels p rs → inside_of p ≡ rs
-entry_at levels (delimited body) rs h = inside_is levels (delimited body) rs h
-entry_at levels p rs h = absurd h
 
 -- which messages stand one level below
 abbrev typed_of : ℕ → Types → Name → Message → Type 0

@@ -129,13 +129,13 @@ map_twice : (vs : List held.Single) → map single (map single_view vs) ≡ map 
 map_twice [] = refl
 map_twice (v ∷ vs) = ap (λ l. singly v ∷ l) (map_twice vs)
 
-values_are : (inner : Merge) (pool : PoolType) (t : KindType) (ps : List Payload) (vs : List held.Single) → AreValues pool t ps vs → flat_map (elements inner (scalar (scalar_of t))) ps ≡ map singly vs
+pub values_are : (inner : Merge) (pool : PoolType) (t : KindType) (ps : List Payload) (vs : List held.Single) → AreValues pool t ps vs → flat_map (elements inner (scalar (scalar_of t))) ps ≡ map singly vs
 values_are inner pool t [] vs h = sym (ap (map singly) h)
 values_are inner pool t (p ∷ ps) vs (kind, here, behind, is, some, rest, whole) =
     ap (λ cs. cs ++ flat_map (elements inner (scalar (scalar_of t))) ps) (ap (λ t. map single (packed_or_one (scalar_of t) p)) (kind_is pool kind t is) ∙ ap (map single) (elements_are kind p here some) ∙ map_twice here)
     ∙ ap (λ cs. map singly here ++ cs) (values_are inner pool t ps behind rest) ∙ sym (map_append singly here behind) ∙ sym (ap (map singly) whole)
 
-singles_seen : (added : List Value) (vs : List held.Single) → map singles.single added ≡ map Some vs → map content_view added ≡ map singly vs
+pub singles_seen : (added : List Value) (vs : List held.Single) → map singles.single added ≡ map Some vs → map content_view added ≡ map singly vs
 singles_seen [] [] e = refl
 singles_seen [] (v ∷ vs) e = absurd (cc e)
 singles_seen (a ∷ added) [] e = absurd (cc e)
@@ -181,7 +181,7 @@ module _ (pool : PoolType) (inner : Merge) (takes : Takes) (nests : Nests pool i
       ∙ ap (λ c. c ∷ []) (sym (message_seen v m there))
   made_is group t kind p v is h = absurd h
 
-  made_are : (group : Bool) (t : KindType) (ps : List Payload) (vs : List Value) → AreMade (takes.message group) pool t ps vs → flat_map (elements inner (kind_in pool group t)) ps ≡ map content_view vs
+  pub made_are : (group : Bool) (t : KindType) (ps : List Payload) (vs : List Value) → AreMade (takes.message group) pool t ps vs → flat_map (elements inner (kind_in pool group t)) ps ≡ map content_view vs
   made_are group t [] vs h = sym (ap (map content_view) h)
   made_are group t (p ∷ ps) vs (kind, v, behind, is, one, rest, whole) =
       ap (λ cs. cs ++ flat_map (elements inner (kind_in pool group t)) ps) (made_is group t kind p v is one)

@@ -55,7 +55,8 @@ form_at kinds.string = 5
 form_at kinds.bytes = 6
 form_at kinds.enumeration = 7
 
-suited_form : (s : Scalar) (v : Single) → Suits s v → form_of v ≡ form_at s
+-- values that suit a kind have its form
+pub suited_form : (s : Scalar) (v : Single) → Suits s v → form_of v ≡ form_at s
 suited_form kinds.int32 (model.int32 z) h = refl
 suited_form kinds.sint32 (model.int32 z) h = refl
 suited_form kinds.sfixed32 (model.int32 z) h = refl
@@ -72,6 +73,7 @@ suited_form kinds.bytes (model.blob b) h = refl
 suited_form kinds.enumeration (model.enumerated z) h = refl
 suited_form s v h = absurd h
 
+-- and so have those that payloads mean
 abbrev first_form : ℕ → List Single → ℕ
 first_form n [] = n
 first_form n (v ∷ vs) = form_of v
@@ -175,7 +177,7 @@ some_map : (pool : PoolType) (f : FieldType) (es : List (Single × Content)) →
 some_map pool f [] = refl
 some_map pool f (e ∷ es) = refl
 
-map_held : (pool : PoolType) (f : FieldType) (new : Option Value) (after : List (MapKey × Value)) → entries_held new ≡ Some after → if_some (pairs_view after) ≡ held_in pool f (option_map content_view new)
+pub map_held : (pool : PoolType) (f : FieldType) (new : Option Value) (after : List (MapKey × Value)) → entries_held new ≡ Some after → if_some (pairs_view after) ≡ held_in pool f (option_map content_view new)
 map_held pool f None after e = let none : after ≡ [] = cc e in ap (λ l. if_some (pairs_view l)) none
 map_held pool f (Some v) after e = some_map pool f (pairs_view after) ∙ sym (ap (λ c. held_in pool f (Some c)) (map_seen v after e))
 
@@ -237,10 +239,11 @@ module _ (pool : PoolType) (keyed : HaveMapKeys pool) (defaults : HaveEntryDefau
         left_form pool keys (key_view k) (keeps.payloads 1 rs) suits (key_left type) ∙ ap (λ (g : FieldType). form_at (scalar_of g.kind)) (sym (part_is pool f 1 keys one)),
       )
 
+  -- the keys have the form of the map's
   abbrev Formed : List (MapKey × Value) → Type 0
   Formed es = AllByRecursion (λ e. form_of (key_single e.0) ≡ form_at (scalar_of (entry_part pool f 1).kind)) es
 
-  entries_are : (old new : List (MapKey × Value)) (ps : List Payload) → Formed old → PutEntries takes pool f.kind old new ps → put_all (pairs_view old) (map (entry inner the_key the_value) ps) ≡ pairs_view new
+  pub entries_are : (old new : List (MapKey × Value)) (ps : List Payload) → Formed old → PutEntries takes pool f.kind old new ps → put_all (pairs_view old) (map (entry inner the_key the_value) ps) ≡ pairs_view new
   entries_are old new [] formed h = sym (ap pairs_view h)
   entries_are old new (p ∷ ps) formed (k, v, one, rest) =
       let is = entry_is p k v one in

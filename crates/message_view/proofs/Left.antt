@@ -182,16 +182,17 @@ nothing_chosen d = record { member = λ first n e. absurd (cc e); noted = λ f o
 pub merged_left : (takes : Takes) (d : MessageDescriptor) (c : Content) (rs : List (ℕ × Payload)) → Merges takes d nothing c rs → AreLeft takes d c rs
 merged_left takes d c rs h = record { unknown = h.unknown; fields = (h.filled (nothing_chosen d)).each; extensions = h.extended.each }
 
+-- the records inside payloads
 inside_at : (grouped : Bool) (levels : ℕ) (p : Payload) (rs : List (ℕ × Payload)) → IsInside grouped levels p rs → inside_of p ≡ rs
 inside_at false levels (delimited body) rs h = inside_is levels (delimited body) rs h
 inside_at true levels (group within) rs h = inside_is levels (group within) rs h
 inside_at grouped levels p rs h = absurd h
 
-joined_at : (grouped : Bool) (levels : ℕ) (ps : List Payload) (rs : List (ℕ × Payload)) → AreInside grouped levels ps rs → joined ps ≡ rs
+pub joined_at : (grouped : Bool) (levels : ℕ) (ps : List Payload) (rs : List (ℕ × Payload)) → AreInside grouped levels ps rs → joined ps ≡ rs
 joined_at grouped levels [] rs h = sym h
 joined_at grouped levels (p ∷ ps) rs h = ap (λ here. here ++ joined ps) (inside_at grouped levels p h.0 h.2) ∙ ap (λ behind. h.0 ++ behind) (joined_at grouped levels ps h.1 h.3) ∙ sym h.4
 
-entry_at : (levels : ℕ) (p : Payload) (rs : List (ℕ × Payload)) → IsEntryBody levels p rs → inside_of p ≡ rs
+pub entry_at : (levels : ℕ) (p : Payload) (rs : List (ℕ × Payload)) → IsEntryBody levels p rs → inside_of p ≡ rs
 entry_at levels (delimited body) rs h = inside_is levels (delimited body) rs h
 entry_at levels p rs h = absurd h
 

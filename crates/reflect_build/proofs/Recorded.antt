@@ -29,7 +29,7 @@ use Rattle.reflect_build.specs.Accepted.{AddsRecords}
 use Rattle.reflect_build.proofs.Back.{filter_below, filter_from}
 
 -- the declarations of files, and of further ones behind them
-batch_on : (o : Offsets) (i : ℕ) (fs gs : List FileDescriptorProto)
+pub batch_on : (o : Offsets) (i : ℕ) (fs gs : List FileDescriptorProto)
     → batch_declarations o i (fs ++ gs)
     ≡ batch_declarations o i fs ++ batch_declarations (past_files o fs) (i + length fs) gs
 batch_on o i [] gs = let e : i ≡ i + 0 = omega arith in ap (λ n. batch_declarations o n gs) e

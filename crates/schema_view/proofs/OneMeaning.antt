@@ -14,7 +14,7 @@ scope_take s p (inr (inl e)) = subst (λ x. take (length x) s ≡ x) (sym e) ref
 scope_take s p (inr (inr (rest, is))) = subst (λ x. take (length p) x ≡ p) (sym is) (take-append_seam p (46 ∷ rest))
 
 -- scopes of one length are one scope
-one_scope : (s p q : Text) → IsScope s p → IsScope s q → length p ≡ length q → p ≡ q
+pub one_scope : (s p q : Text) → IsScope s p → IsScope s q → length p ≡ length q → p ≡ q
 one_scope s p q u v e = sym (scope_take s p u) ∙ ap (λ n. take n s) e ∙ scope_take s q v
 
 module _ (W H V G : Text → Type 0) (to : (n : Text) → W n → V n) (from : (n : Text) → V n → W n) where
