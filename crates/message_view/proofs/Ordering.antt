@@ -71,7 +71,8 @@ ascend_filter test l h m high (r ∷ rs) a le t = by (test r) refl
       by true e first later = first e
       by false e first later = later
 
-apart : (q n : ℕ) → (q ≡ n → ⊥) → (q == n) ≡ false
+-- numbers that differ are told apart
+pub apart : (q n : ℕ) → (q ≡ n → ⊥) → (q == n) ≡ false
 apart q n h = by (q == n) refl where
   by : (b : Bool) → (q == n) ≡ b → (q == n) ≡ false
   by true e = absurd (h (grind (arith, e)))

@@ -9,11 +9,11 @@ use Rattle.protobuf_model.specs.Types.{Name}
 use Rattle.message_view.specs.Sound.{HaveNames}
 use Rattle.message_view.specs.Types.{name_at, field_at, place_in, types_of}
 
-abbrev name_in : List MessageType → ℕ → Name
+abbrev pub name_in : List MessageType → ℕ → Name
 name_in ms i = (slice_index_or ms i no_type).full_name
 
 -- where no two names are the same, a name stands for its place
-found_at : (ms : List MessageType) (i : ℕ) → i < length ms → ((k : ℕ) → k < length ms → name_in ms i ≡ name_in ms k → i ≡ k) → place_in ms (name_in ms i) ≡ i
+pub found_at : (ms : List MessageType) (i : ℕ) → i < length ms → ((k : ℕ) → k < length ms → name_in ms i ≡ name_in ms k → i ≡ k) → place_in ms (name_in ms i) ≡ i
 found_at [] i lt apart = absurd (omega (arith, lt))
 found_at (m ∷ ms) zero lt apart = ap (λ b. cond b 0 (suc (place_in ms m.full_name))) ((bytes_decides m.full_name m.full_name).1 refl)
 found_at (m ∷ ms) (suc i) lt apart = by (bytes_eq m.full_name (name_in ms i)) refl (found_at ms i (omega (arith, lt)) (λ k less e. let same = apart (suc k) (omega (arith, less)) e in omega (arith, same))) where

@@ -3,13 +3,7 @@ use Rattle.std.proofs.Common.{◌≡◌, ◌⊎◌, inl, inr, ◌≤◌, ℕ, ze
 use Rattle.std.specs.List.{filter, flat_map}
 use Rattle.reflect_entries.specs.Entries.{value_at}
 use Rattle.protobuf_model.specs.Bytes.{count_from, field_numbers}
-use Rattle.message_view.proofs.Ordering.{Rise, missing}
-
-apart : (q n : ℕ) → (q ≡ n → ⊥) → (q == n) ≡ false
-apart q n h = by (q == n) refl where
-  by : (b : Bool) → (q == n) ≡ b → (q == n) ≡ false
-  by true e = absurd (h (grind (arith, e)))
-  by false e = e
+use Rattle.message_view.proofs.Ordering.{Rise, apart, missing}
 
 module _ {X : Type 0} where
   pub none : (k low : ℕ) (g : ℕ → List X) → ((n : ℕ) → low ≤ n → g n ≡ []) → flat_map g (count_from low k) ≡ []

@@ -28,7 +28,7 @@ use Rattle.text_view.proofs.Entries.{part_found, scalar_whole, whole_field}
 use Rattle.text_view.proofs.Places.{plain_called}
 use Rattle.text_view.proofs.Puts.{one_part}
 use Rattle.text_view.proofs.Rivals.{no_many}
-use Rattle.text_view.proofs.Shapes.{placed}
+use Rattle.message_view.proofs.Sound.{found_at}
 
 -- a type that has entries is there
 pub entry_there : (ms : List MessageType) (c : ℕ) (e : StoredEntry) → (slice_index_or ms c no_type).entry ≡ Some e → c < length ms
@@ -149,7 +149,7 @@ module _ (pool : PoolType) (sound : IsSound pool) (f : FieldType) (whole : holds
   placed_there : place_in pool.messages (kind_name pool f.kind) ≡ its.0
   placed_there =
       let lt = entry_there pool.messages its.0 its.2 its.3 in
-      ap (λ t. place_in pool.messages (kind_name pool t)) its.1 ∙ placed pool.messages its.0 lt (λ k less e. sound.names its.0 k lt less e)
+      ap (λ t. place_in pool.messages (kind_name pool t)) its.1 ∙ found_at pool.messages its.0 lt (λ k less e. sound.names its.0 k lt less e)
 
   key_is : part_of pool keys ≡ key_part (key_of pool (entry_part pool f 1))
   key_is =
