@@ -49,8 +49,8 @@ unfaulted false x e = absurd (cc e)
 
 is_meant : (at : Places) (path : List ℤ) (number : Option ℤ) (m : Meaning) (name : List ℕ)
     (place : Spot)
-    → unmet m name place ++ mismatch at path number (kind_meant m) ≡ [] → (k : DefinitionKind)
-    × (suits number k ≡ true)
+    → unmet filter.FieldType m name place ++ mismatch at path name number (kind_meant m) ≡ []
+    → (k : DefinitionKind) × (suits number k ≡ true)
 is_meant at path number (means full d) name place none =
     (d.kind, unfaulted (suits number d.kind) _ none)
 is_meant at path number not_found name place none = absurd (cc none)

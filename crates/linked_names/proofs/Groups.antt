@@ -88,12 +88,12 @@ suits_meant at v d r s full e none named is =
     subst (λ o. type_name_faults at v d.path d.name (record r { type_name = o }) ≡ []) named
     types.1 in
     let other = (none_both
-    (unmet (meaning_of v filter.FieldType d.name (string_bytes s)) (string_bytes s)
+    (unmet filter.FieldType (meaning_of v filter.FieldType d.name (string_bytes s)) (string_bytes s)
     (at (d.path ++ (pos 6 ∷ []))))
-    (mismatch at d.path r.field_type
+    (mismatch at d.path (string_bytes s) r.field_type
     (kind_meant (meaning_of v filter.FieldType d.name (string_bytes s)))) whole).1 in
-    let now : mismatch at d.path r.field_type (Some e.kind) ≡ [] =
-    subst (λ m. mismatch at d.path r.field_type (kind_meant m) ≡ []) is other in
+    let now : mismatch at d.path (string_bytes s) r.field_type (Some e.kind) ≡ [] =
+    subst (λ m. mismatch at d.path (string_bytes s) r.field_type (kind_meant m) ≡ []) is other in
     unless_to (suits r.field_type e.kind) _ now
 
 no_group : (number : Option ℤ) (i : ℕ) → number ≡ Some (pos 10) → suits number (kind.Enum i) ≡ true

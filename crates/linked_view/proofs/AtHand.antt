@@ -52,17 +52,20 @@ module _ (at : Places) (v : View) (path : List ℤ) (scope : List ℕ) where
   pub resolved_one : (f : ResolveNameFilter) (tag : ℤ) (o : Option (String Global))
       → reference_faults at v f path scope tag o ≡ [] → IsResolved v f scope o
   resolved_one f tag None e = tt
-  resolved_one f tag (Some s) e = met_to (meaning_of v f scope (string_bytes s)) (string_bytes s) _ e
+  resolved_one f tag (Some s) e =
+      met_to f (meaning_of v f scope (string_bytes s)) (string_bytes s) _ e
 
   resolved_name : (f : FieldDescriptorProto) (o : Option (String Global))
       → type_name_faults at v path scope (record f { type_name = o }) ≡ []
       → IsResolved v filter.FieldType scope o
   resolved_name f None e = tt
   resolved_name f (Some s) e =
-      met_to (meaning_of v filter.FieldType scope (string_bytes s)) (string_bytes s) _
-      (none_both (unmet (meaning_of v filter.FieldType scope (string_bytes s)) (string_bytes s) _)
-      (mismatch at path f.field_type (kind_meant (meaning_of v filter.FieldType scope (string_bytes s))))
-      e).0
+      met_to filter.FieldType (meaning_of v filter.FieldType scope (string_bytes s)) (string_bytes s) _
+      (none_both
+      (unmet filter.FieldType (meaning_of v filter.FieldType scope (string_bytes s))
+      (string_bytes s) _)
+      (mismatch at path (string_bytes s) f.field_type
+      (kind_meant (meaning_of v filter.FieldType scope (string_bytes s)))) e).0
 
   pub resolved_type : (f : FieldDescriptorProto) → field_reference_faults at v path scope f ≡ []
       → IsResolved v filter.FieldType scope f.type_name

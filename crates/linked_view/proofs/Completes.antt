@@ -1,6 +1,6 @@
 -- A declaration has no fault of names exactly where what must be there is there, and its name is
 -- not taken.
-use Rattle.std.proofs.Common.{◌≡◌, ◌∙◌, inl, inr, ◌+◌, eqb, ℕ, ℤ, pos, negsuc, Bool, true, false, cond, not, ◌||◌, List, [], ◌∷◌, ◌++◌, Option, Some, None, is_some, String, Global, string_bytes, map, length, ap, sym, refl, arith}
+use Rattle.std.proofs.Common.{◌≡◌, ◌∙◌, inl, inr, ◌+◌, eqb, ℕ, ℤ, pos, negsuc, Bool, true, false, cond, not, ◌||◌, List, [], ◌∷◌, ◌++◌, Option, Some, None, is_some, String, Global, string_bytes, codes, map, length, ap, sym, refl, arith}
 use Rattle.std.specs.List.{Contains, AllByRecursion}
 use Rattle.descriptor_records.specs.Content.{Text, text_view, extension_range_view}
 use Rattle.descriptor_records.specs.declared.enums.EnumReservedRange.{EnumReservedRange}
@@ -27,13 +27,15 @@ use Rattle.linked_view.proofs.Given.{Giving, known_by, Free}
 use Rattle.linked_view.proofs.NamedFiles.{name_to, name_from, syntax_to, syntax_from, one_import, one_public, all_imports}
 use Rattle.linked_view.proofs.Walked.{seen_body}
 
-lacks_to : (at : Places) (path : List ℤ) (tag : ℤ) (b : Bool) → lacks at path tag b ≡ [] → b ≡ true
-lacks_to at path tag true e = refl
-lacks_to at path tag false e = absurd (cc e)
+lacks_to : (at : Places) (path : List ℤ) (tag : ℤ) (field : Text) (b : Bool)
+    → lacks at path tag field b ≡ [] → b ≡ true
+lacks_to at path tag field true e = refl
+lacks_to at path tag field false e = absurd (cc e)
 
-lacks_from : (at : Places) (path : List ℤ) (tag : ℤ) (b : Bool) → b ≡ true → lacks at path tag b ≡ []
-lacks_from at path tag true e = refl
-lacks_from at path tag false e = absurd (cc e)
+lacks_from : (at : Places) (path : List ℤ) (tag : ℤ) (field : Text) (b : Bool) → b ≡ true
+    → lacks at path tag field b ≡ []
+lacks_from at path tag field true e = refl
+lacks_from at path tag field false e = absurd (cc e)
 
 there_to : {A : Type 0} (o : Option A) → is_some o ≡ true → IsThere o
 there_to None e = absurd (cc e)
@@ -72,17 +74,18 @@ all_mapped v P (x ∷ xs) all = (all.0, all_mapped v P xs all.1)
 bounds_to : (at : Places) (path : List ℤ) (start end : Option ℤ)
     → bound_faults at path start end ≡ [] → IsThere start × IsThere end
 bounds_to at path start end e =
-    let parts = none_both (lacks at path (pos 1) (is_some start)) _ e in (
-      there_to start (lacks_to at path (pos 1) _ parts.0),
-      there_to end (lacks_to at path (pos 2) _ parts.1),
+    let parts = none_both (lacks at path (pos 1) (codes "start") (is_some start)) _ e in (
+      there_to start (lacks_to at path (pos 1) (codes "start") _ parts.0),
+      there_to end (lacks_to at path (pos 2) (codes "end") _ parts.1),
     )
 
 bounds_from : (at : Places) (path : List ℤ) (start end : Option ℤ) → IsThere start × IsThere end
     → bound_faults at path start end ≡ []
 bounds_from at path start end h =
-    both_none (lacks at path (pos 1) (is_some start)) (lacks at path (pos 2) (is_some end))
-    (lacks_from at path (pos 1) _ (there_from start h.0))
-    (lacks_from at path (pos 2) _ (there_from end h.1))
+    both_none (lacks at path (pos 1) (codes "start") (is_some start))
+    (lacks at path (pos 2) (codes "end") (is_some end))
+    (lacks_from at path (pos 1) (codes "start") _ (there_from start h.0))
+    (lacks_from at path (pos 2) (codes "end") _ (there_from end h.1))
 
 named_type : (z : ℤ) → IsNamedType z → is_named_type (Some z) ≡ true
 named_type z (inl e) = ap (λ n. is_named_type (Some n)) e
@@ -228,24 +231,27 @@ pub record IsGood (files : Indexes) (known : Known) (d : Declaration) : Type 0 w
 field_to : (at : Places) (path : List ℤ) (f : FieldDescriptorProto) → is_some f.name ≡ true
     → field_faults at path f ≡ [] → IsGivenField (field_view f)
 field_to at path f named e =
-    let number = none_both (lacks at path (pos 3) (is_some f.number)) _ e in
-    let types = none_both (lacks at path (pos 5) (is_some f.type_name || is_some f.field_type)) _
+    let number = none_both (lacks at path (pos 3) (codes "number") (is_some f.number)) _ e in
+    let types = none_both
+    (lacks at path (pos 5) (codes "type") (is_some f.type_name || is_some f.field_type)) _
     number.1 in
     record {
       name = name_to f.name named;
-      number = there_to f.number (lacks_to at path (pos 3) _ number.0);
-      type = type_to f.field_type f.type_name (lacks_to at path (pos 5) _ types.0)
-          (lacks_to at path (pos 6) _ types.1);
+      number = there_to f.number (lacks_to at path (pos 3) (codes "number") _ number.0);
+      type = type_to f.field_type f.type_name (lacks_to at path (pos 5) (codes "type") _ types.0)
+          (lacks_to at path (pos 6) (codes "type_name") _ types.1);
     }
 
 field_from : (at : Places) (path : List ℤ) (f : FieldDescriptorProto) → IsGivenField (field_view f)
     → field_faults at path f ≡ []
 field_from at path f h =
     let types = type_from f.field_type f.type_name h.type in
-    both_none (lacks at path (pos 3) (is_some f.number)) _
-    (lacks_from at path (pos 3) _ (there_from f.number h.number))
-    (both_none (lacks at path (pos 5) (is_some f.type_name || is_some f.field_type)) _
-    (lacks_from at path (pos 5) _ types.0) (lacks_from at path (pos 6) _ types.1))
+    both_none (lacks at path (pos 3) (codes "number") (is_some f.number)) _
+    (lacks_from at path (pos 3) (codes "number") _ (there_from f.number h.number))
+    (both_none
+    (lacks at path (pos 5) (codes "type") (is_some f.type_name || is_some f.field_type)) _
+    (lacks_from at path (pos 5) (codes "type") _ types.0)
+    (lacks_from at path (pos 6) (codes "type_name") _ types.1))
 
 module _ (at : Places) (known : Known) (files : Indexes) (d : Declaration) where
   abbrev with_body : Body → Declaration
@@ -312,7 +318,7 @@ module _ (at : Places) (known : Known) (files : Indexes) (d : Declaration) where
         own = tt;
         complete = (
           name_to v.name first.0.0,
-          there_to v.number (lacks_to at d.path (pos 2) _ first.1),
+          there_to v.number (lacks_to at d.path (pos 2) (codes "number") _ first.1),
         );
         free = first.0.1;
       }
@@ -321,13 +327,15 @@ module _ (at : Places) (known : Known) (files : Indexes) (d : Declaration) where
       record { own = tt; complete = name_to s.name first.0; free = first.1 }
   body_to (of_method m) none =
       let first = named_first (is_some m.name) _ _ none in
-      let types = none_both (lacks at d.path (pos 2) (is_some m.input_type)) _ first.1 in
+      let types = none_both (lacks at d.path (pos 2) (codes "input_type") (is_some m.input_type)) _
+      first.1 in
       record {
         own = tt;
         complete = record {
           name = name_to m.name first.0.0;
-          input = name_to m.input_type (lacks_to at d.path (pos 2) _ types.0);
-          output = name_to m.output_type (lacks_to at d.path (pos 3) _ types.1);
+          input = name_to m.input_type (lacks_to at d.path (pos 2) (codes "input_type") _ types.0);
+          output =
+              name_to m.output_type (lacks_to at d.path (pos 3) (codes "output_type") _ types.1);
         };
         free = first.0.1;
       }
@@ -338,7 +346,7 @@ module _ (at : Places) (known : Known) (files : Indexes) (d : Declaration) where
         own = tt;
         complete = (
           field_to at d.path x first.0.0 parts.0,
-          name_to x.extendee (lacks_to at d.path (pos 2) _ parts.1),
+          name_to x.extendee (lacks_to at d.path (pos 2) (codes "extendee") _ parts.1),
         );
         free = first.0.1;
       }
@@ -382,23 +390,25 @@ module _ (at : Places) (known : Known) (files : Indexes) (d : Declaration) where
       both_none (name_faults at known d.path d.name (is_some v.name)
       (definition_of (with_body (of_enum_value v)))) _
       (named_from at known d.path d.name (is_some v.name) _ (name_from v.name h.complete.0) h.free)
-      (lacks_from at d.path (pos 2) _ (there_from v.number h.complete.1))
+      (lacks_from at d.path (pos 2) (codes "number") _ (there_from v.number h.complete.1))
   body_from (of_service s) h =
       named_from at known d.path d.name (is_some s.name) _ (name_from s.name h.complete) h.free
   body_from (of_method m) h =
       both_none (name_faults at known d.path d.name (is_some m.name)
       (definition_of (with_body (of_method m)))) _
       (named_from at known d.path d.name (is_some m.name) _ (name_from m.name h.complete.name) h.free)
-      (both_none (lacks at d.path (pos 2) (is_some m.input_type)) _
-      (lacks_from at d.path (pos 2) _ (name_from m.input_type h.complete.input))
-      (lacks_from at d.path (pos 3) _ (name_from m.output_type h.complete.output)))
+      (both_none (lacks at d.path (pos 2) (codes "input_type") (is_some m.input_type)) _
+      (lacks_from at d.path (pos 2) (codes "input_type") _
+      (name_from m.input_type h.complete.input))
+      (lacks_from at d.path (pos 3) (codes "output_type") _
+      (name_from m.output_type h.complete.output)))
   body_from (of_extension x) h =
       both_none (name_faults at known d.path d.name (is_some x.name)
       (definition_of (with_body (of_extension x)))) _
       (named_from at known d.path d.name (is_some x.name) _ (name_from x.name h.complete.0.name)
       h.free)
       (both_none (field_faults at d.path x) _ (field_from at d.path x h.complete.0)
-      (lacks_from at d.path (pos 2) _ (name_from x.extendee h.complete.1)))
+      (lacks_from at d.path (pos 2) (codes "extendee") _ (name_from x.extendee h.complete.1)))
 
 pub good_to : (at : Places) (known : Known) (files : Indexes) (d : Declaration)
     → faults_at at known files d ≡ [] → IsGood files known d

@@ -9,6 +9,7 @@ use Rattle.descriptor_records.specs.declared.file.FileDescriptorProto.{FileDescr
 use Rattle.reflect_scope.specs.declared.definition.Definition.{Definition}
 use Rattle.reflect_scope.specs.declared.definition.DefinitionKind.{DefinitionKind}
 use Rattle.reflect_scope.specs.declared.definition.DefinitionKind.TheVariants as kind
+use Rattle.reflect_scope.specs.declared.definition.ResolveNameFilter.{ResolveNameFilter}
 use Rattle.reflect_scope.specs.declared.definition.ResolveNameFilter.TheVariants as filter
 use Rattle.reflect_scope.specs.Known.{Known, is_package}
 use Rattle.reflect_scope.specs.Means.{Meaning, means, not_found, wrong_kind, shadowed, is_wanted, resolve}
@@ -336,16 +337,16 @@ type_from None o at path h = refl
 type_from (Some z) None at path h = unless_from (is_in z 18) _ (scalar_in z h)
 type_from (Some z) (Some s) at path h = unless_from (is_in z 18) _ (named_in z h)
 
-pub met_to : (m : Meaning) (name : Text) (place : Place) → unmet m name place ≡ []
-    → (full : Text) × (d : Definition) × (m ≡ means full d)
-met_to (means full d) name place e = (full, d, refl)
-met_to not_found name place e = absurd (cc e)
-met_to wrong_kind name place e = absurd (cc e)
-met_to (shadowed full) name place e = absurd (cc e)
+pub met_to : (f : ResolveNameFilter) (m : Meaning) (name : Text) (place : Place)
+    → unmet f m name place ≡ [] → (full : Text) × (d : Definition) × (m ≡ means full d)
+met_to f (means full d) name place e = (full, d, refl)
+met_to f not_found name place e = absurd (cc e)
+met_to f wrong_kind name place e = absurd (cc e)
+met_to f (shadowed full) name place e = absurd (cc e)
 
-met_from : (m : Meaning) (name : Text) (place : Place) (full : Text) (d : Definition)
-    → m ≡ means full d → unmet m name place ≡ []
-met_from m name place full d e = ap (λ x. unmet x name place) e
+met_from : (f : ResolveNameFilter) (m : Meaning) (name : Text) (place : Place) (full : Text)
+    (d : Definition) → m ≡ means full d → unmet f m name place ≡ []
+met_from f m name place full d e = ap (λ x. unmet f x name place) e
 
 module _ (files : List FileDescriptorProto) (known : Known) (are : AreKnown files known)
     (from : Outline) (sees : ℕ → Bool) (those : SeesThose files from sees) where
@@ -417,7 +418,8 @@ module _ (files : List FileDescriptorProto) (known : Known) (are : AreKnown file
       → Contains (to_message scope (text_view o)) r → HasMeaning os from r
   message_to at path scope tag None e r h = absurd (contains_none r h)
   message_to at path scope tag (Some s) e r h =
-      let m = met_to (meaning_of see filter.Message scope (string_bytes s)) (string_bytes s) _ e in
+      let m = met_to filter.Message (meaning_of see filter.Message scope (string_bytes s))
+      (string_bytes s) _ e in
       elim (contains_cases _ [] r h) [
         | inl same ↦ subst (HasMeaning os from) same
             (reference_to a_message scope (string_bytes s) m.0 m.1 m.2 tt)
@@ -430,7 +432,8 @@ module _ (files : List FileDescriptorProto) (known : Known) (are : AreKnown file
   message_from at path scope tag None h = refl
   message_from at path scope tag (Some s) h =
       let m = reference_from a_message scope (string_bytes s) (h _ (contains_here _ [])) in
-      met_from (meaning_of see filter.Message scope (string_bytes s)) (string_bytes s) _ m.0 m.1 m.2
+      met_from filter.Message (meaning_of see filter.Message scope (string_bytes s)) (string_bytes s) _
+      m.0 m.1 m.2
 
   fits_of : (t : Option ℤ) (k : DefinitionKind) (at : Places) (path : List ℤ)
       → type_faults at path t ≡ [] → suits t k ≡ true → Fits (a_type t) k
@@ -456,11 +459,12 @@ module _ (files : List FileDescriptorProto) (known : Known) (are : AreKnown file
         → Contains (to_type scope f.field_type (text_view o)) r → HasMeaning os from r)
     name_to None e = ((λ s is. absurd (cc is)), λ t r h. absurd (contains_none r h))
     name_to (Some s) e =
-        let parts = none_both (unmet (meaning_by s) (string_bytes s) _)
-        (mismatch at path f.field_type (kind_meant (meaning_by s))) e in
-        let m = met_to (meaning_by s) (string_bytes s) _ parts.0 in
+        let name = string_bytes s in
+        let parts = none_both (unmet filter.FieldType (meaning_by s) name _)
+        (mismatch at path name f.field_type (kind_meant (meaning_by s))) e in
+        let m = met_to filter.FieldType (meaning_by s) name _ parts.0 in
         let suit : suits f.field_type m.1.kind ≡ true = unless_to (suits f.field_type m.1.kind) _
-        (sym (ap (λ x. mismatch at path f.field_type (kind_meant x)) m.2) ∙ parts.1) in (
+        (sym (ap (λ x. mismatch at path name f.field_type (kind_meant x)) m.2) ∙ parts.1) in (
           (λ t is. (m.1.kind, suit)),
           λ typed r h. elim (contains_cases _ [] r h) [
             | inl same ↦ subst (HasMeaning os from) same
@@ -476,10 +480,11 @@ module _ (files : List FileDescriptorProto) (known : Known) (are : AreKnown file
     name_from None h = refl
     name_from (Some s) h =
         let m = reference_from (a_type f.field_type) scope (string_bytes s) (h _ (contains_here _ [])) in
-        both_none (unmet (meaning_by s) (string_bytes s) _)
-        (mismatch at path f.field_type (kind_meant (meaning_by s)))
-        (met_from (meaning_by s) (string_bytes s) _ m.0 m.1 m.2)
-        (ap (λ x. mismatch at path f.field_type (kind_meant x)) m.2
+        let name = string_bytes s in
+        both_none (unmet filter.FieldType (meaning_by s) name _)
+        (mismatch at path name f.field_type (kind_meant (meaning_by s)))
+        (met_from filter.FieldType (meaning_by s) name _ m.0 m.1 m.2)
+        (ap (λ x. mismatch at path name f.field_type (kind_meant x)) m.2
         ∙ unless_from (suits f.field_type m.1.kind) _ (suits_of f.field_type m.1.kind m.3))
 
     field_to : GivesType f.field_type (text_view f.type_name)

@@ -219,7 +219,7 @@ module _ (names : List FullName) (known : Known) (are : AreFound (found messages
     abbrev NoneWrong : Option ℤ → Option (String Global) → Type 0
     NoneWrong t o = elim o [
       | None ↦ Unit {0}
-      | Some s ↦ mismatch at path t
+      | Some s ↦ mismatch at path (string_bytes s) t
           (kind_meant (meaning_of v filter.FieldType scope (string_bytes s))) ≡ []
     ]
 
@@ -242,9 +242,10 @@ module _ (names : List FullName) (known : Known) (are : AreFound (found messages
         ap (λ m. Some (type_of (found_by m).1.kind)) is
         ∙ ap (λ k. Some (type_of k)) (means_it s n d is test)
     type_is (Some z) (Some s) a b (n, d, is) test ten =
-        let here : mismatch at path (Some z) (Some (kind.Message i)) ≡ [] =
-        ap (λ k. mismatch at path (Some z) (Some k)) (sym (means_it s n d is test))
-        ∙ ap (λ m. mismatch at path (Some z) (kind_meant m)) (sym is) ∙ b in
+        let name = string_bytes s in
+        let here : mismatch at path name (Some z) (Some (kind.Message i)) ≡ [] =
+        ap (λ k. mismatch at path name (Some z) (Some k)) (sym (means_it s n d is test))
+        ∙ ap (λ m. mismatch at path name (Some z) (kind_meant m)) (sym is) ∙ b in
         ap Some (message_type z i (unless_to (suits (Some z) (kind.Message i)) _ here)
         (unless_to (is_in z 18) _ a) ten)
 
@@ -253,7 +254,8 @@ module _ (names : List FullName) (known : Known) (are : AreFound (found messages
         → NoneWrong f.field_type o
     none_wrong f None e = tt
     none_wrong f (Some s) e = (none_both
-        (unmet (meaning_of v filter.FieldType scope (string_bytes s)) (string_bytes s) _) _ e).1
+        (unmet filter.FieldType (meaning_of v filter.FieldType scope (string_bytes s))
+        (string_bytes s) _) _ e).1
 
     -- a field that means the entries' type
     use_is : (f : FieldDescriptorProto) → field_reference_faults at v path scope f ≡ []

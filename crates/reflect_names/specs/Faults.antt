@@ -21,9 +21,9 @@ pub data Fault : Type 0 where
   duplicate_name : List ℕ → Place → Fault
   name_not_found : List ℕ → Place → Fault
   name_shadowed : List ℕ → List ℕ → Place → Fault
-  invalid_type : Place → Fault
+  invalid_type : List ℕ → List ℕ → Place → Fault
   unknown_syntax : List ℕ → Place → Fault
-  missing : Place → Fault
+  missing : List ℕ → Place → Fault
   bad_import_index : ℤ → Place → Fault
   invalid_number : ℤ → Place → Fault
   duplicate_number : ℤ → Place → Fault
@@ -49,9 +49,10 @@ fault_view (kind.DuplicateName name found) = duplicate_name (string_bytes name) 
 fault_view (kind.NameNotFound name found) = name_not_found (string_bytes name) (place_of found)
 fault_view (kind.NameShadowed name full found) =
     name_shadowed (string_bytes name) (string_bytes full) (place_of found)
-fault_view (kind.InvalidType name expected found) = invalid_type (place_of found)
+fault_view (kind.InvalidType name expected found) =
+    invalid_type (string_bytes name) expected.now (place_of found)
 fault_view (kind.UnknownSyntax syntax found) = unknown_syntax (string_bytes syntax) (place_of found)
-fault_view (kind.MissingRequiredField field found) = missing (place_of found)
+fault_view (kind.MissingRequiredField field found) = missing field.now (place_of found)
 fault_view (kind.InvalidImportIndex index found) = bad_import_index index (place_of found)
 fault_view (kind.InvalidFieldNumber number found) = invalid_number number (place_of found)
 fault_view (kind.DuplicateFieldNumber number found) = duplicate_number number (place_of found)
@@ -79,9 +80,9 @@ place_of_fault (file_not_found n p) = Some p
 place_of_fault (duplicate_name n p) = Some p
 place_of_fault (name_not_found n p) = Some p
 place_of_fault (name_shadowed n m p) = Some p
-place_of_fault (invalid_type p) = Some p
+place_of_fault (invalid_type n e p) = Some p
 place_of_fault (unknown_syntax n p) = Some p
-place_of_fault (missing p) = Some p
+place_of_fault (missing n p) = Some p
 place_of_fault (bad_import_index i p) = Some p
 place_of_fault (invalid_number i p) = Some p
 place_of_fault (duplicate_number i p) = Some p

@@ -1,6 +1,6 @@
 -- The names of files, and what is wrong with them.
 use Rattle.std.specs.declared.alloc.Global.{Global}
-use Rattle.std.specs.Prelude.{ℕ, pos, ◌+◌, List, [], ◌∷◌, ◌++◌, cond, Option, Some, None, is_some, string_bytes, String}
+use Rattle.std.specs.Prelude.{ℕ, pos, ◌+◌, List, [], ◌∷◌, ◌++◌, cond, Option, Some, None, is_some, string_bytes, codes, String}
 use Rattle.std.specs.Map.{update}
 use Rattle.std.specs.Str.{bytes_eq}
 use Rattle.descriptor_records.specs.declared.file.FileDescriptorProto.{FileDescriptorProto}
@@ -10,7 +10,7 @@ use Rattle.reflect_names.specs.Names.{Places}
 
 -- a file without a name, or with that of an earlier one
 abbrev pub file_faults : Places → Indexes → Option (String Global) → List Fault
-file_faults at known None = missing (at (pos 1 ∷ [])) ∷ []
+file_faults at known None = missing (codes "name") (at (pos 1 ∷ [])) ∷ []
 file_faults at known (Some s) =
     cond (is_some (known (string_bytes s)))
     (duplicate_file (string_bytes s) (at (pos 1 ∷ [])) ∷ []) []

@@ -21,10 +21,10 @@ use Rattle.reflect_names.specs.Faults.{Place, Fault, file_not_found, duplicate_n
 abbrev pub Places : Type 0
 Places = List ℤ → Place
 
--- a fault unless the field with this number is present
-abbrev pub lacks : Places → List ℤ → ℤ → Bool → List Fault
-lacks at path tag true = []
-lacks at path tag false = missing (at (path ++ (tag ∷ []))) ∷ []
+-- a fault unless the field with this number and this name is present
+abbrev pub lacks : Places → List ℤ → ℤ → List ℕ → Bool → List Fault
+lacks at path tag field true = []
+lacks at path tag field false = missing field (at (path ++ (tag ∷ []))) ∷ []
 
 -- a fault where the name is taken
 abbrev pub taken : Places → Known → List ℤ → ℤ → List ℕ → Definition → List Fault
@@ -34,7 +34,7 @@ taken at known path tag name d =
 -- a declaration's name: taken, or missing
 abbrev pub name_faults : Places → Known → List ℤ → List ℕ → Bool → Definition → List Fault
 name_faults at known path name named d =
-    cond named (taken at known path (pos 1) name d) (lacks at path (pos 1) false)
+    cond named (taken at known path (pos 1) name d) (lacks at path (pos 1) (codes "name") false)
 
 abbrev pub package_faults : Places → Known → ℕ → List (List ℕ) → List Fault
 package_faults at known file [] = []
@@ -52,17 +52,18 @@ is_named_type (Some (negsuc n)) = false
 
 abbrev pub field_faults : Places → List ℤ → FieldDescriptorProto → List Fault
 field_faults at path f =
-    lacks at path (pos 3) (is_some f.number)
-    ++ (lacks at path (pos 5) (is_some f.type_name || is_some f.field_type)
-    ++ lacks at path (pos 6) (is_some f.type_name || not (is_named_type f.field_type)))
+    lacks at path (pos 3) (codes "number") (is_some f.number)
+    ++ (lacks at path (pos 5) (codes "type") (is_some f.type_name || is_some f.field_type)
+    ++ lacks at path (pos 6) (codes "type_name")
+    (is_some f.type_name || not (is_named_type f.field_type)))
 
 abbrev pub method_faults : Places → List ℤ → MethodDescriptorProto → List Fault
-method_faults at path m = lacks at path (pos 2) (is_some m.input_type)
-    ++ lacks at path (pos 3) (is_some m.output_type)
+method_faults at path m = lacks at path (pos 2) (codes "input_type") (is_some m.input_type)
+    ++ lacks at path (pos 3) (codes "output_type") (is_some m.output_type)
 
 abbrev pub bound_faults : Places → List ℤ → Option ℤ → Option ℤ → List Fault
-bound_faults at path start end = lacks at path (pos 1) (is_some start)
-    ++ lacks at path (pos 2) (is_some end)
+bound_faults at path start end = lacks at path (pos 1) (codes "start") (is_some start)
+    ++ lacks at path (pos 2) (codes "end") (is_some end)
 
 abbrev pub extension_range_faults : Places → List ℤ → ℕ → ExtensionRange → List Fault
 extension_range_faults at path k r = bound_faults at (entry path (pos 5) k) r.start r.end
@@ -108,10 +109,11 @@ faults_at at known files d = elim d.body [
   | of_enum e ↦ name_faults at known d.path d.name (is_some e.name) (definition_of d)
       ++ each (enum_range_faults at d.path) 0 e.reserved_range.items
   | of_enum_value v ↦ name_faults at known d.path d.name (is_some v.name) (definition_of d)
-      ++ lacks at d.path (pos 2) (is_some v.number)
+      ++ lacks at d.path (pos 2) (codes "number") (is_some v.number)
   | of_service s ↦ name_faults at known d.path d.name (is_some s.name) (definition_of d)
   | of_method m ↦ name_faults at known d.path d.name (is_some m.name) (definition_of d)
       ++ method_faults at d.path m
   | of_extension x ↦ name_faults at known d.path d.name (is_some x.name) (definition_of d)
-      ++ (field_faults at d.path x ++ lacks at d.path (pos 2) (is_some x.extendee))
+      ++ (field_faults at d.path x
+      ++ lacks at d.path (pos 2) (codes "extendee") (is_some x.extendee))
 ]

@@ -1,6 +1,7 @@
 -- What references mean, and what the second pass finds wrong with them.
 use Rattle.std.specs.declared.alloc.Global.{Global}
-use Rattle.std.specs.Prelude.{ℕ, ℤ, pos, negsuc, List, [], ◌∷◌, ◌++◌, Bool, true, false, not, ◌||◌, ◌&&◌, ◌==◌, cond, nat_le, Option, Some, None, string_bytes, String}
+use Rattle.std.specs.Prelude.{ℕ, ℤ, pos, negsuc, List, [], ◌∷◌, ◌++◌, Bool, true, false, not, ◌||◌, ◌&&◌, ◌==◌, cond, nat_le, Option, Some, None, string_bytes, codes, String}
+use Rattle.std.specs.Fmt.{signed_decimal}
 use Rattle.descriptor_records.specs.declared.field.FieldDescriptorProto.{FieldDescriptorProto}
 use Rattle.reflect_scope.specs.declared.definition.Definition.{Definition}
 use Rattle.reflect_scope.specs.declared.definition.DefinitionKind.{DefinitionKind}
@@ -8,6 +9,7 @@ use Rattle.reflect_scope.specs.declared.definition.DefinitionKind.TheVariants as
 use Rattle.reflect_scope.specs.declared.definition.ResolveNameFilter.{ResolveNameFilter}
 use Rattle.reflect_scope.specs.declared.definition.ResolveNameFilter.TheVariants as filter
 use Rattle.reflect_scope.specs.Means.{Meaning, means, not_found, wrong_kind, shadowed, resolve}
+use Rattle.reflect_scope.specs.Words.{wanted_words}
 use Rattle.reflect_walk.specs.Declarations.{Declaration, of_file, of_message, of_field, of_oneof, of_enum, of_enum_value, of_service, of_method, of_extension}
 use Rattle.reflect_scope.specs.Known.{Known}
 use Rattle.reflect_names.specs.Faults.{Place, Fault, name_not_found, name_shadowed, invalid_type}
@@ -31,11 +33,12 @@ targets not_found = []
 targets wrong_kind = []
 targets (shadowed full) = []
 
-abbrev pub unmet : Meaning → List ℕ → Place → List Fault
-unmet (means full d) name place = []
-unmet not_found name place = name_not_found name place ∷ []
-unmet wrong_kind name place = invalid_type place ∷ []
-unmet (shadowed full) name place = name_shadowed name full place ∷ []
+-- a fault where a name does not mean what is wanted
+abbrev pub unmet : ResolveNameFilter → Meaning → List ℕ → Place → List Fault
+unmet f (means full d) name place = []
+unmet f not_found name place = name_not_found name place ∷ []
+unmet f wrong_kind name place = invalid_type name (wanted_words f) place ∷ []
+unmet f (shadowed full) name place = name_shadowed name full place ∷ []
 
 -- the number is one of 1 to the last
 abbrev pub is_in : ℤ → ℕ → Bool
@@ -68,31 +71,34 @@ abbrev pub reference_faults : Places → View → ResolveNameFilter → List ℤ
     → Option (String Global) → List Fault
 reference_faults at v f path scope tag None = []
 reference_faults at v f path scope tag (Some name) =
-    unmet (meaning_of v f scope (string_bytes name)) (string_bytes name) (at (path ++ (tag ∷ [])))
+    unmet f (meaning_of v f scope (string_bytes name)) (string_bytes name) (at (path ++ (tag ∷ [])))
 
 -- the kind that a field's type name means does not suit its type
-abbrev pub mismatch : Places → List ℤ → Option ℤ → Option DefinitionKind → List Fault
-mismatch at path field_type None = []
-mismatch at path field_type (Some k) =
-    cond (suits field_type k) [] (invalid_type (at (path ++ (pos 6 ∷ []))) ∷ [])
+abbrev pub mismatch : Places → List ℤ → List ℕ → Option ℤ → Option DefinitionKind → List Fault
+mismatch at path name field_type None = []
+mismatch at path name field_type (Some k) = cond (suits field_type k) []
+    (invalid_type name (codes "of the field's type") (at (path ++ (pos 6 ∷ []))) ∷ [])
 
 abbrev pub type_name_faults : Places → View → List ℤ → List ℕ → FieldDescriptorProto → List Fault
 type_name_faults at v path scope f = elim f.type_name [
   | None ↦ []
-  | Some name ↦ unmet (meaning_of v filter.FieldType scope (string_bytes name)) (string_bytes name)
-      (at (path ++ (pos 6 ∷ [])))
-      ++ mismatch at path f.field_type
+  | Some name ↦ unmet filter.FieldType (meaning_of v filter.FieldType scope (string_bytes name))
+      (string_bytes name) (at (path ++ (pos 6 ∷ [])))
+      ++ mismatch at path (string_bytes name) f.field_type
       (kind_meant (meaning_of v filter.FieldType scope (string_bytes name)))
 ]
 
+-- no label has the number, of which the fault tells the digits
 abbrev pub label_faults : Places → List ℤ → Option ℤ → List Fault
 label_faults at path None = []
-label_faults at path (Some n) = cond (is_in n 3) [] (invalid_type (at (path ++ (pos 4 ∷ []))) ∷ [])
+label_faults at path (Some n) = cond (is_in n 3) []
+    (invalid_type (signed_decimal n) (codes "a field label") (at (path ++ (pos 4 ∷ []))) ∷ [])
 
 -- no type has the number
 abbrev pub type_faults : Places → List ℤ → Option ℤ → List Fault
 type_faults at path None = []
-type_faults at path (Some n) = cond (is_in n 18) [] (invalid_type (at (path ++ (pos 5 ∷ []))) ∷ [])
+type_faults at path (Some n) = cond (is_in n 18) []
+    (invalid_type (signed_decimal n) (codes "a field type") (at (path ++ (pos 5 ∷ []))) ∷ [])
 
 abbrev pub field_reference_faults : Places → View → List ℤ → List ℕ → FieldDescriptorProto
     → List Fault

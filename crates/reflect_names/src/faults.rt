@@ -110,6 +110,7 @@ impl<'a> Faults<'a> {
     /// The place at `path` of the file at index `file`. The list of faults stays as it is.
     pub fn label(&mut self, alloc: Global, file: u32, path: &[i32]) -> Result<Label, AllocError>
         ensures place { IfOk result (λ l. place_of l ≡ place_at self.old file path.now) }
+        ensures bytes { IfOk result (λ l. l.bytes ≡ None) }
         ensures same { Adds self.old self.new [] }
     {
         let path = Vec::from_slice(alloc, path)?;
@@ -127,6 +128,7 @@ impl<'a> Faults<'a> {
     ) -> Result<Label, AllocError>
         ensures place { IfOk result (λ l. place_of l
             ≡ place_at self.old file (path.now ++ (tag ∷ []))) }
+        ensures bytes { IfOk result (λ l. l.bytes ≡ None) }
         ensures same { Adds self.old self.new [] }
     {
         let path = join_path(alloc, path, &[tag])?;

@@ -1,5 +1,5 @@
 ghost use Rattle.reflect_names.specs.SourceBytes.{bytes_at, first_of_line, offset_at};
-ghost use Rattle.std.specs.Prelude.{◌≡◌, IfOk, option_map};
+ghost use Rattle.std.specs.Prelude.{◌≡◌, IfOk, None, option_map};
 
 use std::alloc::{AllocError, Global};
 use std::ops::Range;
@@ -61,15 +61,16 @@ impl Label {
     ghost use Rattle.reflect_names.specs.Faults.{place_of};
 
     /// The place at `path` in the file named `file`, which stands at `span` of its source, where
-    /// that is known.
+    /// that is known. Its bytes are not, as long as no one looks for them in the source.
     pub fn new(
         alloc: Global,
         file: &str,
         path: Vec<i32>,
         span: Option<SourceSpan>,
     ) -> Result<Label, AllocError>
-        ensures { IfOk result (λ l. place_of l
+        ensures place { IfOk result (λ l. place_of l
             ≡ record { file = file.now; path = path.items; span = span }) }
+        ensures bytes { IfOk result (λ l. l.bytes ≡ None) }
     {
         Ok(Label {
             file: String::from_str(alloc, file)?,

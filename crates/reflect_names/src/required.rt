@@ -26,7 +26,7 @@ pub fn require(
     is_present: bool,
 ) -> Result<(), AllocError>
     ensures { OnOk result (Adds faults.old faults.new
-        (lacks (place_at faults.old file) path.now tag is_present)) }
+        (lacks (place_at faults.old file) path.now tag field.now is_present)) }
 {
     if is_present {
         return Ok(());

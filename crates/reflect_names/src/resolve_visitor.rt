@@ -158,7 +158,8 @@ impl<'a> ResolveVisitor<'a> {
         expected: &'static str,
     ) -> Result<(), AllocError>
         ensures finds { OnOk result (Finds self.old self.new []
-            (invalid_type (place_at self.old.faults file (path.now ++ (tag ∷ []))) ∷ [])) }
+            (invalid_type name.now expected.now
+            (place_at self.old.faults file (path.now ++ (tag ∷ []))) ∷ [])) }
         ensures same { IsSame self.old self.new }
     {
         let found = self.faults.label_at(alloc, file, path, tag)?;
@@ -184,7 +185,7 @@ impl<'a> ResolveVisitor<'a> {
     ) -> Result<(), AllocError>
         ensures finds { OnOk result ((m : Meaning) → Answers (Err error) m
             → Finds self.old self.new (targets m)
-            (unmet m name.now (place_at self.old.faults file (path.now ++ (tag ∷ []))))) }
+            (unmet filter m name.now (place_at self.old.faults file (path.now ++ (tag ∷ []))))) }
         ensures none { OnOk result ((m : Meaning) → Answers (Err error) m → kind_meant m ≡ None) }
         ensures same { IsSame self.old self.new }
     {
@@ -225,7 +226,7 @@ impl<'a> ResolveVisitor<'a> {
     ) -> Result<Option<DefinitionKind>, AllocError>
         ensures finds { OnOk result (let m =
             meaning_of (view_of self.old) filter scope.now name.now in Finds self.old self.new
-            (targets m) (unmet m name.now (place_at self.old.faults file
+            (targets m) (unmet filter m name.now (place_at self.old.faults file
             (path.now ++ (tag ∷ []))))) }
         ensures kind { IfOk result (λ k. k
             ≡ kind_meant (meaning_of (view_of self.old) filter scope.now name.now)) }
@@ -314,7 +315,7 @@ impl<'a> ResolveVisitor<'a> {
         kind: Option<DefinitionKind>,
     ) -> Result<(), AllocError>
         ensures finds { OnOk result (Finds self.old self.new []
-            (mismatch (place_at self.old.faults file) path.now field_type kind)) }
+            (mismatch (place_at self.old.faults file) path.now name.now field_type kind)) }
         ensures same { IsSame self.old self.new }
     {
         let Some(kind) = kind else {

@@ -1,6 +1,13 @@
 -- The faults that an error lists.
 use Rattle.std.specs.Prelude.{◌≡◌, ◌⊎◌, ℕ, List, [], ◌∷◌, map, Bool, true, false, Option, None, Some, string_bytes}
+use Rattle.std.specs.Borrow.{Bor}
+use Rattle.std.specs.Iterator.{AlwaysYields}
+use Rattle.std.specs.Iterator.Adapters.{chain_steps, once_steps}
 use Rattle.std.specs.Option.{option_and_then}
+use Rattle.std.specs.Slice.Iter.{iter_steps}
+use Rattle.std.specs.declared.iter.Chain.{Chain}
+use Rattle.std.specs.declared.iter.Once.{Once}
+use Rattle.std.specs.declared.slice.Iter.{Iter}
 use Rattle.reflect_names.specs.FaultPlaces.{label_of, located_of, moved}
 use Rattle.reflect_names.specs.Faults.{Fault, Place, fault_view, place_of_fault, another}
 use Rattle.reflect_names.specs.declared.label.SourceSpan.{SourceSpan}
@@ -36,6 +43,11 @@ is_too_many k = false
 -- all that it lists
 abbrev pub kinds_of : DescriptorError → List DescriptorErrorKind
 kinds_of e = e.first ∷ e.others.items
+
+-- calls of the iterator lend these faults, one behind the other, and then none
+abbrev pub Lends : Chain (Once (Bor DescriptorErrorKind)) (Iter DescriptorErrorKind)
+    → List DescriptorErrorKind → Type 0
+Lends faults ks = AlwaysYields (chain_steps once_steps iter_steps) (λ k. k.now) faults ks
 
 -- the same where the bytes of its faults were looked for in the source of the first one's file
 abbrev pub sourced : List ℕ → DescriptorError → List DescriptorErrorKind

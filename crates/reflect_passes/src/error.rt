@@ -29,6 +29,7 @@ impl DescriptorError {
       is_memory,
       is_too_many,
       kinds_of,
+      Lends,
       sourced,
     };
 
@@ -61,7 +62,9 @@ impl DescriptorError {
     /// The faults, the first of them first.
     pub fn errors(
         &self,
-    ) -> Chain<Once<&DescriptorErrorKind>, slice::Iter<'_, DescriptorErrorKind>> {
+    ) -> Chain<Once<&DescriptorErrorKind>, slice::Iter<'_, DescriptorErrorKind>>
+        ensures { Lends result (kinds_of self.now) }
+    {
         once(&self.first).chain(self.others.iter())
     }
 
