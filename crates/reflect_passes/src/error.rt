@@ -60,9 +60,7 @@ impl DescriptorError {
     }
 
     /// The faults, the first of them first.
-    pub fn errors(
-        &self,
-    ) -> Chain<Once<&DescriptorErrorKind>, slice::Iter<'_, DescriptorErrorKind>>
+    pub fn errors(&self) -> Chain<Once<&DescriptorErrorKind>, slice::Iter<'_, DescriptorErrorKind>>
         ensures { Lends result (kinds_of self.now) }
     {
         once(&self.first).chain(self.others.iter())

@@ -1,4 +1,4 @@
-use Rattle.std.proofs.Common.{◌≡◌, List, [], ◌∷◌, map, length, Option, Some, None, option_to_list, ap, sym, subst, ◌∙◌}
+use Rattle.std.proofs.Common.{List, [], ◌∷◌, map, length, Option, option_to_list, ap, sym, subst, ◌∙◌}
 use Rattle.std.specs.Borrow.{Bor}
 use Rattle.std.specs.Iterator.Adapters.{once_item, once_steps}
 use Rattle.std.specs.declared.iter.Once.{Once}
@@ -8,7 +8,7 @@ use Rattle.reflect_names.specs.declared.error.DescriptorErrorKind.{DescriptorErr
 use Rattle.reflect_passes.proofs.error.DescriptorError.errors.Goals as goal
 
 -- what is lent of the one that is left
-lent : Option (Bor DescriptorErrorKind) → List DescriptorErrorKind
+abbrev lent : Option (Bor DescriptorErrorKind) → List DescriptorErrorKind
 lent o = map (λ k. k.now) (option_to_list o)
 
 the_first : (s : Once (Bor DescriptorErrorKind)) → YieldsList once_steps (λ k. k.now) s (lent (once_item s))
