@@ -55,11 +55,11 @@ module _ (q : PoolParts) (fit : AreParts q) (fs kept : List FileDescriptorProto)
     (new : kept ≡ new_files (linking_of q).indexes fs)
     (is : told ≡ nat_le (2 ^ 31) (entries_of (holds_of q) + sum_by in_file kept)) where
   pub told_many : told ≡ true → AreTooMany (holds_of q) fs
-  told_many yes = (
+  told_many is_so = (
     linking_of q,
     is_of_parts q fit,
     subst (λ xs. 2 ^ 31 ≤ entries_of (holds_of q) + sum_by in_file xs) new
-        (leb-true _ _ (sym is ∙ yes)),
+        (leb-true _ _ (sym is ∙ is_so)),
   )
 
   pub many_told : AreTooMany (holds_of q) fs → told ≡ true

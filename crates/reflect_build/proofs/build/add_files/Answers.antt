@@ -1,5 +1,5 @@
 -- The files that a pool has not yet are added, and are too many exactly where this is told.
-use Rattle.std.proofs.Common.{rules, of_calls, ◌≡◌, ◌∙◌, Err, Unit, ap, false, inl, subst, sym, true}
+use Rattle.std.proofs.Common.{rules, of_calls, ◌≡◌, ◌∙◌, Err, ap, false, inl, subst, sym, true}
 use Rattle.std.proofs.lemmas.Fn.{filter_same}
 use Rattle.reflect_passes.specs.Errors.{is_too_many}
 use Rattle.reflect_build.specs.Accepted.{AddsNames, Faultless}
@@ -15,7 +15,7 @@ returns-then-are_too_many-clause-refused c =
     let w = linking_of self in
     let news = filter_same _ (is_unknown w.indexes) _ (λ x b g h. search (rules, of_calls)) _ _ c.retain.ensures.filtered in (
       inl c.new.ensures.faults,
-      λ yes. told_many self c.requires.fit c.args.files.items c.as_slice.result.now c.are_too_many.result
+      λ told. told_many self c.requires.fit c.args.files.items c.as_slice.result.now c.are_too_many.result
           (c.as_slice.ensures.value ∙ news) c.are_too_many.ensures c.if-are_too_many.true,
     )
 
@@ -47,9 +47,9 @@ returns-in-Ok-clause-too_many c = λ many.
     let self = c.args.parts.now in
     let w = linking_of self in
     let news = filter_same _ (is_unknown w.indexes) _ (λ x b g h. search (rules, of_calls)) _ _ c.retain.ensures.filtered in
-    let yes = many_told self c.requires.fit c.args.files.items c.as_slice.result.now c.are_too_many.result
+    let told = many_told self c.requires.fit c.args.files.items c.as_slice.result.now c.are_too_many.result
     (c.as_slice.ensures.value ∙ news) c.are_too_many.ensures many in
-    absurd (cc (sym yes ∙ c.if-are_too_many.false))
+    absurd (cc (sym told ∙ c.if-are_too_many.false))
 
 pub returns-in-Err-clause-held : goal.returns-in-Err-clause-held
 returns-in-Err-clause-held c =
@@ -73,6 +73,6 @@ returns-in-Err-clause-too_many c = λ many.
     let self = c.args.parts.now in
     let w = linking_of self in
     let news = filter_same _ (is_unknown w.indexes) _ (λ x b g h. search (rules, of_calls)) _ _ c.retain.ensures.filtered in
-    let yes = many_told self c.requires.fit c.args.files.items c.as_slice.result.now c.are_too_many.result
+    let told = many_told self c.requires.fit c.args.files.items c.as_slice.result.now c.are_too_many.result
     (c.as_slice.ensures.value ∙ news) c.are_too_many.ensures many in
-    absurd (cc (sym yes ∙ c.if-are_too_many.false))
+    absurd (cc (sym told ∙ c.if-are_too_many.false))
