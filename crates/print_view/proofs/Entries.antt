@@ -51,7 +51,7 @@ use Rattle.text_view.specs.Names.{name_in, names_of, printed_name, value_kind}
 use Rattle.text_view.specs.Schemas.{schema_of}
 use Rattle.text_view.proofs.Apart.{only_one}
 use Rattle.text_view.proofs.Numbered.{listed, numbered_once}
-use Rattle.message_view.proofs.Sound.{found_at}
+use Rattle.message_view.proofs.Sound.{found_at as placed}
 use Rattle.text_view.proofs.Set.{list_repeats, list_set, map_repeats, map_set}
 use Rattle.print_view.specs.Forms.{form_of, HaveMessagePresence}
 use Rattle.print_view.proofs.Sorting.{all_at, of_number, all_sorted, sorted_is}
@@ -656,7 +656,7 @@ module _ (p skip as_declared : Bool) (m : DynamicMessage) (present : skip ≡ fa
       let all = arranged as_declared skip refl ds are in (
         all.1,
         extensions_fit (extensions_of m) found_extensions,
-        ap placed_at (found_at pool.messages i m.descriptor.in_range (λ k less e. names i k m.descriptor.in_range less e))
+        ap placed_at (placed pool.messages i m.descriptor.in_range (λ k less e. names i k m.descriptor.in_range less e))
             ∙ flat_map-append printed_at (cond as_declared (numbers (type_at pool i).fields) (filter declared field_numbers)) (filter (λ n. not (declared n)) field_numbers)
             ∙ ap (λ l. l ++ flat_map printed_at (filter (λ n. not (declared n)) field_numbers)) all.0
             ∙ ap (λ l. map pair ds ++ l)
