@@ -4,3 +4,4 @@ pub mod Naming
 pub mod PresentMessages
 pub mod AddedBatches
 pub mod RefusedBatches
+pub mod TextsAlike

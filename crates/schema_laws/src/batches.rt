@@ -11,6 +11,8 @@ ghost use Rattle.reflect_passes.specs.declared.error.DescriptorError.{Descriptor
 ghost use Rattle.reflect_wire.specs.Written.{AreBytes};
 ghost use Rattle.reflect_wire.specs.declared.wire_error.WireError.{WireError};
 ghost use Rattle.reflect_wire.specs.declared.wire_error.WireError.TheVariants.{Memory};
+ghost use Rattle.text_error.specs.declared.error.ParseErrorKind.{ParseErrorKind};
+ghost use Rattle.text_error.specs.declared.error.ParseErrorKind.TheVariants as kinds;
 ghost use Rattle.schema_view.specs.Lawful.{SameFiles, sources};
 ghost use Rattle.schema_view.specs.Plain.{IsPlainFile};
 ghost use Rattle.message_view.specs.Types.{types_of};
@@ -19,9 +21,9 @@ ghost use Rattle.linked_view.specs.Alone.{IsRecorded};
 ghost use Rattle.linked_view.specs.Extended.{IsIndexed};
 ghost use Rattle.settled_view.specs.BuiltBut.{IsBuiltBut};
 ghost use Rattle.types_view.specs.Typed.{IsTyped};
-ghost use Rattle.schema_core.specs.Payloads.{Recoded};
-ghost use Rattle.schema_core.specs.Refusals.{AreFilesOf, IsNoMessage, SetLinked, SetRefused};
-ghost use Rattle.schema_core.specs.Refusals.{SourcesLinked, SourcesRefused};
+ghost use Rattle.schema_core.specs.Payloads.{Decoded, Encoded, Recoded};
+ghost use Rattle.schema_core.specs.Refusals.{AreFilesOf, IsNoMessage, IsNoText, SetLinked};
+ghost use Rattle.schema_core.specs.Refusals.{SetRefused, SourcesLinked, SourcesRefused};
 ghost use Rattle.schema_core.specs.declared.error.SchemaError.TheVariants.{Link};
 ghost use Rattle.schema_core.specs.declared.schema.Schema.{Schema};
 ghost use Rattle.schema_laws.specs.Batches.{AreNoBatch};
@@ -99,4 +101,34 @@ pub fn schemas_of_the_same_files_accept_alike()
         → IsTyped batches s.pool → IsTyped others t.pool → IsKept s.pool → IsKept t.pool
         → (name bytes out : List ℕ) (e : WireError) → (e ≡ Memory → ⊥) → AreBytes bytes
         → Recoded s.pool name bytes out → IsNoMessage t.pool name bytes e → ⊥ }
+{}
+
+/// What both encode a text to is the same bytes too.
+pub fn schemas_of_the_same_files_encode_alike()
+    ensures { (batches others : List (List FileContent)) (s t : Schema)
+        → ((f : FileContent) → Contains (sources batches) f → IsPlainFile f)
+        → SameFiles (sources batches) (sources others)
+        → IsTyped batches s.pool → IsTyped others t.pool → IsKept s.pool → IsKept t.pool
+        → (name text a b : List ℕ) → Encoded s.pool name text a → Encoded t.pool name text b
+        → a ≡ b }
+{}
+
+/// And the one refuses no text that the other encodes, unless memory runs out.
+pub fn schemas_of_the_same_files_take_texts_alike()
+    ensures { (batches others : List (List FileContent)) (s t : Schema)
+        → ((f : FileContent) → Contains (sources batches) f → IsPlainFile f)
+        → SameFiles (sources batches) (sources others)
+        → IsTyped batches s.pool → IsTyped others t.pool → IsKept s.pool → IsKept t.pool
+        → (name text out : List ℕ) (kind : ParseErrorKind) → (kind ≡ kinds.Memory → ⊥)
+        → Encoded s.pool name text out → IsNoText t.pool name text kind → ⊥ }
+{}
+
+/// What both print of bytes is the same text.
+pub fn schemas_of_the_same_files_decode_alike()
+    ensures { (batches others : List (List FileContent)) (s t : Schema)
+        → ((f : FileContent) → Contains (sources batches) f → IsPlainFile f)
+        → SameFiles (sources batches) (sources others)
+        → IsTyped batches s.pool → IsTyped others t.pool → IsKept s.pool → IsKept t.pool
+        → (name bytes a b : List ℕ) → AreBytes bytes → Decoded s.pool name bytes a
+        → Decoded t.pool name bytes b → a ≡ b }
 {}

@@ -1,6 +1,6 @@
 -- The entries of accepted files tell of their fields.
-use Rattle.std.proofs.Common.{◌≡◌, ◌∙◌, inl, inr, ◌+◌, ℕ, suc, ℤ, pos, Bool, true, false, List, [], ◌∷◌, ◌++◌, Option, Some, None, is_some, map, slice_get, unwrap_or, append_assoc, ap, sym, subst, refl, arith}
-use Rattle.std.specs.List.{AllZip, Contains, flat_map}
+use Rattle.std.proofs.Common.{◌≡◌, ◌∙◌, inl, inr, ◌+◌, ◌<◌, ◌&&◌, ◌==◌, ℕ, suc, ℤ, pos, Bool, true, false, List, [], ◌∷◌, ◌++◌, Option, Some, None, is_some, length, map, slice_get, slice_index_or, unwrap_or, append_assoc, ap, sym, subst, refl, arith}
+use Rattle.std.specs.List.{AllZip, Contains, filter, flat_map}
 use Rattle.std.proofs.lemmas.List.{map-append}
 use Rattle.std.proofs.lemmas.List.Concat.{flat_map-append}
 use Rattle.std.proofs.lemmas.List.Elements.{Contains-append_cases, Contains-append_left, Contains-append_right}
@@ -12,11 +12,12 @@ use Rattle.reflect_build.specs.Accepted.{FaultlessBatch, FaultlessFiles}
 use Rattle.reflect_build.specs.Refusals.{IsOf, Linking, new_files, with_declared}
 use Rattle.reflect_fields.specs.Fields as fields
 use Rattle.reflect_fields.specs.Fields.{natural}
-use Rattle.reflect_index.proofs.Among.{Among}
-use Rattle.reflect_index.proofs.Declared.{ExtensionDeclared, FieldDeclared, extension_declared, field_among, list_of, of_along}
+use Rattle.reflect_index.proofs.Among.{Among, got_map, of_all, of_place, place_of}
+use Rattle.reflect_index.proofs.Declared.{ExtensionDeclared, FieldDeclared, extension_declared, field_declared, list_of, of_along}
 use Rattle.reflect_index.specs.Along.{AtHand, Met, along, all_of, before_files, hand_behind, is_field, is_message, parts}
 use Rattle.reflect_index.specs.Entries.{DeclaredField, HasKind, Head, IsFieldBy, IsFieldOf, IsHeadOf}
 use Rattle.reflect_index.specs.Grown.{declared_field, list_at, message_head, stored_fields}
+use Rattle.reflect_index.specs.Members.{MarksOneofs}
 use Rattle.reflect_names.specs.Faults.{batch_places}
 use Rattle.reflect_names.specs.Names.{Places}
 use Rattle.reflect_names.specs.ReferencePass.{views_of}
@@ -30,7 +31,7 @@ use Rattle.reflect_scope.specs.Known.{Known}
 use Rattle.reflect_scope.specs.declared.definition.DefinitionKind.TheVariants as kind
 use Rattle.reflect_scope.specs.declared.definition.ResolveNameFilter.TheVariants as filter
 use Rattle.reflect_tables.specs.Names.{AreFound, FullName, enum_name, enums, found, message_name, messages, names_of}
-use Rattle.reflect_tables.specs.Types.{ExtensionType, FieldType, KindType, MessageType, PoolType}
+use Rattle.reflect_tables.specs.Types.{ExtensionType, FieldType, IsAmong, KindType, ListsMembers, MessageType, MessageWithin, PoolType, counts_of, is_member, no_oneof}
 use Rattle.reflect_tables.specs.Types as types
 use Rattle.reflect_tables.specs.Views.{enum_of, extension_of, field_of, message_of, syntax_type}
 use Rattle.reflect_tables.specs.declared.stored.StoredField.{StoredField}
@@ -52,17 +53,20 @@ use Rattle.linked_view.specs.Extended.{IsIndexed}
 use Rattle.linked_view.specs.Known.{AreKnown}
 use Rattle.linked_view.proofs.Accepted.{indexes, known, known_all, names_at, stand_linked}
 use Rattle.linked_view.proofs.AtHand.{IsResolved, at_hand, resolved_one, resolved_type}
+use Rattle.linked_view.proofs.Extended.{at_zip}
 use Rattle.linked_view.proofs.Faults.{none_both}
 use Rattle.linked_view.proofs.Indexed.{among}
 use Rattle.linked_view.proofs.Linked.{meanings, sees_at}
 use Rattle.linked_view.proofs.Listed.{batch_listed, listed_along, listed_seen, see}
-use Rattle.linked_view.proofs.Places.{contains_get, get_contains}
+use Rattle.linked_view.proofs.Places.{contains_get, get_contains, get_map}
 use Rattle.linked_view.proofs.Shown.{IsShown, shown_in}
 use Rattle.linked_view.proofs.Telling.{get_before, known_new}
-use Rattle.linked_view.proofs.Walked.{facts_in, name_seen, seen, seen_body}
-use Rattle.types_view.specs.Fields.{Holds, IsListed, IsTold, IsToldExtension, IsWrittenAt, ListsFields, NamedMessage, TellsFields, messages_in, written_messages}
+use Rattle.linked_view.proofs.Walked.{facts_in, name_seen, seen, seen_body, text_seen}
+use Rattle.types_view.specs.Fields.{Holds, IsListed, IsTold, IsToldExtension, IsToldField, IsWrittenAt, ListsFields, NamedMessage, TellsFields, messages_in, written_messages}
 use Rattle.types_view.proofs.Entered as entered
 use Rattle.types_view.proofs.Entered.{extension_entered, field_entered, linked_extendee, linked_group, linked_holds, linked_unnamed, syntax_is}
+use Rattle.types_view.proofs.Listed.{number_same}
+use Rattle.types_view.proofs.Lone.{marked}
 use Rattle.types_view.proofs.Walk.{HasNext, IsOwn, Pending, batch_pending, contains_among, fields_own, has_next, has_syntax, past_files}
 
 -- ---- more names, and more files
@@ -102,6 +106,15 @@ told_more ms es more others fs gs extension e t = record {
   };
 }
 
+field_more : (ms es more others : List FullName) (fs gs : List FileContent) (m : MessageType)
+    (e : FieldType) → IsToldField ms es fs m e
+    → IsToldField (ms ++ more) (es ++ others) (fs ++ gs) m e
+unfolding told_more
+field_more ms es more others fs gs m e t = record {
+  field = told_more ms es more others fs gs false e t.field;
+  synthetic = t.synthetic;
+}
+
 extension_more : (ms es more others : List FullName) (fs gs : List FileContent) (x : ExtensionType)
     → IsToldExtension ms es fs x
     → IsToldExtension (ms ++ more) (es ++ others) (fs ++ gs) x
@@ -124,11 +137,6 @@ through R S T t (x ∷ xs) (y ∷ ys) [] a b = absurd b
 through R S T t (x ∷ xs) (y ∷ ys) (z ∷ zs) a b =
     (t x y z a.0 b.0, through R S T t xs ys zs a.1 b.1)
 
-number_same : (o : Option ℤ) → unwrap_or (natural o) 0 ≡ elim o [ Some (pos n) ↦ n | _ ↦ 0 ]
-number_same None = refl
-number_same (Some (pos n)) = refl
-number_same (Some z) = refl
-
 abbrev Lists : List ℕ → FieldDescriptorProto → DeclaredField → Type 0
 Lists full r f = IsListed full (view.facts_of (field_view r)) f.field
 
@@ -140,7 +148,8 @@ field_listed : (full : List ℕ) (r : FieldDescriptorProto) (m : Met) (f : Decla
 field_listed full r m f own is =
     let by : IsFieldBy m r f = subst (λ b. IsFieldFrom m b f) own.body is in
     record {
-      name = by.2.says.full_name ∙ own.name ∙ sym (name_seen full r.name);
+      full_name = by.2.says.full_name ∙ own.name ∙ sym (name_seen full r.name);
+      name = by.2.says.name ∙ sym (text_seen r.name);
       number = by.2.says.number ∙ number_same r.number;
       oneof = by.2.oneof;
     }
@@ -210,7 +219,8 @@ module _ (views : ℕ → View) where
           let here = record d { body = of_message own } in
           let index = a.1 in (
             record {
-              name = ap (λ (x : Head). x.full_name) z.0;
+              full_name = ap (λ (x : Head). x.full_name) z.0;
+              name = ap (λ (x : Head). x.name) z.0 ∙ sym (text_seen own.name);
               fields = have here own 0 y (inl refl) refl (omega (arith, index)) refl;
             },
             rest (n + 1) d.name own.field (hand_behind h here) ys a.2 z.1
@@ -373,9 +383,15 @@ module _ (old new : PoolType) (ns : List FileDescriptorProto) (w : Linking) (is 
 
   -- ---- fields
 
-  field_told : (e : FieldType) (i j : ℕ) → FieldDeclared batch.references ds i j e
-      → IsTold ms es (map file_view new.records) false e
-  field_told e i j f =
+  -- of a message of the batch an entry's field, whose oneof is called so
+  abbrev CallsOneof : MessageType → FieldType → FieldDescriptorProto → Type 0
+  CallsOneof m e r = (k : ℕ) → e.oneof ≡ Some k → (slice_index_or m.oneofs k no_oneof).synthetic
+      ≡ (unwrap_or r.proto3_optional false && (length (filter (is_member k) m.fields) == 1))
+
+  field_told : (x : MessageType) (e : FieldType) (i j : ℕ)
+      (f : FieldDeclared batch.references ds i j e) → CallsOneof x e f.own
+      → IsToldField ms es (map file_view new.records) x e
+  field_told x e i j f called =
       let m = f.met in
       let d = m.declaration in
       let r = f.own in
@@ -397,23 +413,65 @@ module _ (old new : PoolType) (ns : List FileDescriptorProto) (w : Linking) (is 
       (subst (λ v. HasKind r (kind_by v filter.FieldType d.name r.type_name) f.holds) same
       (subst (λ k. HasKind r k f.holds) hands.kind f.kind)) in
       record {
-        file = file m f.here (view.of_field (field_view r)) sight;
-        content = _;
-        there = file_there m f.here (view.of_field (field_view r)) sight;
-        inside = subst (λ n. Contains (view.declarations
-            (file m f.here (view.of_field (field_view r)) sight))
-            (record { name = n; body = rename_body names d.name (view.of_field (field_view r)) }))
-            (sym f.says.says.full_name) (inside m f.here (view.of_field (field_view r)) sight);
-        entry = field_entered ms es m.hand.syntax
-            (is_proto3 (file m f.here (view.of_field (field_view r)) sight))
-            (syntax m f.here (view.of_field (field_view r)) sight) r f.holds (text_view r.extendee)
-            (rename_type names d.name r.field_type (text_view r.type_name))
-            (fill_type names d.name r.field_type (text_view r.type_name)) held
-            (linked_group all all_known are ixs sees ms es ms_stand es_stand c d.name r.field_type
-            (text_view r.type_name))
-            (linked_unnamed all all_known are ixs sees ms es ms_stand es_stand c d.name r.field_type
-            (text_view r.type_name)) d.path d.name e f.says;
+        field = record {
+          file = file m f.here (view.of_field (field_view r)) sight;
+          content = _;
+          there = file_there m f.here (view.of_field (field_view r)) sight;
+          inside = subst (λ n. Contains (view.declarations
+              (file m f.here (view.of_field (field_view r)) sight))
+              (record { name = n; body = rename_body names d.name (view.of_field (field_view r)) }))
+              (sym f.says.says.full_name) (inside m f.here (view.of_field (field_view r)) sight);
+          entry = field_entered ms es m.hand.syntax
+              (is_proto3 (file m f.here (view.of_field (field_view r)) sight))
+              (syntax m f.here (view.of_field (field_view r)) sight) r f.holds (text_view r.extendee)
+              (rename_type names d.name r.field_type (text_view r.type_name))
+              (fill_type names d.name r.field_type (text_view r.type_name)) held
+              (linked_group all all_known are ixs sees ms es ms_stand es_stand c d.name r.field_type
+              (text_view r.type_name))
+              (linked_unnamed all all_known are ixs sees ms es ms_stand es_stand c d.name r.field_type
+              (text_view r.type_name)) d.path d.name e f.says;
+        };
+        synthetic = called;
       }
+
+  -- the entry of the field, as it is kept
+  abbrev Kept : StoredMessage → ℕ → FieldType → Type 0
+  Kept y j e = (s : StoredField) × (slice_get y.fields.list.items j ≡ Some s) × (field_of s ≡ e)
+
+  optional_is : (y : StoredMessage) (e : FieldType) (k j : ℕ)
+      (f : FieldDeclared batch.references ds (w.before.messages + k) j e) → slice_get items k ≡ Some y
+      → (s : Kept y j e) → s.0.is_proto3_optional ≡ unwrap_or f.own.proto3_optional false
+  optional_is y e k j f get s =
+      let fields = parts is_field (w.before.messages + k) (along hand ds) in
+      let zipped = subst (AllZip IsFieldOf fields) (list_of stored_fields items k y get)
+      (batch.declared.entries.fields k) in
+      let z = at_zip IsFieldOf fields (stored_fields y) j (declared_field s.0) zipped
+      (get_map declared_field y.fields.list.items j s.0 s.1) in
+      let same : z.0 ≡ f.met = cc (sym z.1 ∙ f.place) in
+      let by : IsFieldBy f.met f.own (declared_field s.0) =
+      subst (λ b. IsFieldFrom f.met b (declared_field s.0)) f.body
+      (subst (λ m. IsFieldOf m (declared_field s.0)) same z.2) in
+      by.3
+
+  calls_oneof : (y : StoredMessage) (e : FieldType) (k j : ℕ)
+      (f : FieldDeclared batch.references ds (w.before.messages + k) j e) → slice_get items k ≡ Some y
+      → slice_get (message_of y).fields j ≡ Some e → Contains new.messages (message_of y) → Contains (message_of y).fields e
+      → CallsOneof (message_of y) e f.own
+  calls_oneof y e k j f get place there inside n is =
+      let x = message_of y in
+      let s : Kept y j e = got_map field_of y.fields.list.items j e place in
+      let within = of_all (MessageWithin (counts_of new)) x new.messages kept.pooled.messages
+      (among new.messages x there) in
+      let less : n < length x.oneofs =
+      subst (IsAmong (length x.oneofs)) is
+      (of_all (λ (g : FieldType). IsAmong (length x.oneofs) g.oneof) e x.fields within.oneofs
+      (among x.fields e inside)) in
+      marked y j n s.0 (of_all MarksOneofs y items batch.declared.entries.synthetic
+      (of_place y items k get))
+      (of_all ListsMembers x new.messages kept.pooled.listed (among new.messages x there))
+      s.1 (get_map field_of y.fields.list.items j s.0 s.1) (ap (λ (g : FieldType). g.oneof) s.2 ∙ is)
+      less
+      ∙ ap (λ b. b && (length (filter (is_member n) x.fields) == 1)) (optional_is y e k j f get s)
 
   -- ---- extensions
 
@@ -539,20 +597,23 @@ module _ (old new : PoolType) (ns : List FileDescriptorProto) (w : Linking) (is 
       h))
 
   fields_new : (m : MessageType) (e : FieldType) → Contains new.messages m → Contains m.fields e
-      → IsTold ms es (map file_view new.records) false e
+      → IsToldField ms es (map file_view new.records) m e
   fields_new m e i j = elim (Contains-append_cases old.messages (map message_of items) m
       (subst (λ xs. Contains xs m) messages_are i)) [
-        | inl k ↦ grown (λ xs ys fs. IsTold xs ys fs false e)
-            (told_more (names_of old messages) (names_of old enums) more_names more_enums given after
-            false e (tells.fields m e k j))
+        | inl k ↦ grown (λ xs ys fs. IsToldField xs ys fs m e)
+            (field_more (names_of old messages) (names_of old enums) more_names more_enums given after
+            m e (tells.fields m e k j))
         | inr k ↦ (
             let y = contains_map_cases message_of items m k in
             let place = contains_get items y.0 y.1 in
-            let f = field_among batch.references w.before w.first ns batch.types.new.now
-            batch.declared.entries place.0 y.0 e place.1
-            (among (message_of y.0).fields e
-            (subst (λ (q : MessageType). Contains q.fields e) (sym y.2) j)) in
-            field_told e (w.before.messages + place.0) f.0 f.1)
+            let inside = subst (λ (q : MessageType). Contains q.fields e) (sym y.2) j in
+            let own = place_of e (message_of y.0).fields (among (message_of y.0).fields e inside) in
+            let f = field_declared batch.references w.before w.first ns batch.types.new.now
+            batch.declared.entries place.0 y.0 own.0 e place.1 own.1 in
+            subst (λ (q : MessageType). IsToldField ms es (map file_view new.records) q e) y.2
+            (field_told (message_of y.0) e (w.before.messages + place.0) own.0 f
+            (calls_oneof y.0 e place.0 own.0 f place.1 own.1
+            (subst (Contains new.messages) (sym y.2) i) inside)))
       ]
 
   extensions_new : (x : ExtensionType) → Contains new.extensions x

@@ -37,11 +37,11 @@ use Rattle.types_view.proofs.Walk.{contains_among}
 -- ---- lists
 
 -- what is found stands there and passes, and where nothing is found nothing passes
-found_there : {X : Type 0} (test : X → Bool) (xs : List X) (x : X) → find test xs ≡ Some x
+pub found_there : {X : Type 0} (test : X → Bool) (xs : List X) (x : X) → find test xs ≡ Some x
     → Contains xs x × (test x ≡ true)
 found_there test xs x e = let r = of_find test x xs e in (contains_among xs x r.0, r.1)
 
-none_found : {X : Type 0} (test : X → Bool) (xs : List X) (x : X) → find test xs ≡ None
+pub none_found : {X : Type 0} (test : X → Bool) (xs : List X) (x : X) → find test xs ≡ None
     → Contains xs x → test x ≡ true → ⊥
 none_found test [] x e h is = contains_none x h
 none_found test (y ∷ xs) x e h is =
@@ -78,7 +78,7 @@ key_is k (of_value v) e = absurd (cc e)
 key_is k (of_service s) e = absurd (cc e)
 key_is k (of_method m) e = absurd (cc e)
 
-is_key : (k : Key) (x : FieldContent) → x.extendee ≡ Some (46 ∷ k.0) → x.number ≡ Some k.1
+pub is_key : (k : Key) (x : FieldContent) → x.extendee ≡ Some (46 ∷ k.0) → x.number ≡ Some k.1
     → has_key k (of_extension x) ≡ true
 is_key k x e n =
     let dotted : is_dotted k.0 x.extendee ≡ true =
@@ -186,7 +186,7 @@ module _ (p : PoolType) (l : AreLinked (map file_view p.records)) (tells : Tells
     pub name : type.full_name ≡ t
     pub number : entry.field.number ≡ n
 
-  has_extension : (t : Text) (n : ℕ) (name : Text) → W.extensions (t, pos n) ≡ Some name
+  pub has_extension : (t : Text) (n : ℕ) (name : Text) → W.extensions (t, pos n) ≡ Some name
       → HasExtension t n
   has_extension t n name e =
       let k = key_there fs l (t, pos n) name e in
@@ -219,16 +219,16 @@ module _ (p : PoolType) (l : AreLinked (map file_view p.records)) (tells : Tells
 
   -- an entry's extension stands under its name
   module _ (x : ExtensionType) (there : Contains p.extensions x) where
-    own : IsToldExtension ms (names_of p enums) fs x
+    pub own : IsToldExtension ms (names_of p enums) fs x
     own = tells.extensions x there
 
-    abbrev content : FieldContent
+    abbrev pub content : FieldContent
     content = own.field.content
 
-    abbrev declaration : Declaration
+    abbrev pub declaration : Declaration
     declaration = record { name = x.field.full_name; body = of_extension content }
 
-    stands : StandsIn fs content
+    pub stands : StandsIn fs content
     stands = record {
       file = own.field.file;
       declaration = declaration;
@@ -237,7 +237,7 @@ module _ (p : PoolType) (l : AreLinked (map file_view p.records)) (tells : Tells
       is = refl;
     }
 
-    extends : (i : ℕ) (m : MessageType) → slice_get p.messages i ≡ Some m → x.extendee ≡ i
+    pub extends : (i : ℕ) (m : MessageType) → slice_get p.messages i ≡ Some m → x.extendee ≡ i
         → content.extendee ≡ Some (46 ∷ m.full_name)
     extends i m at is =
         let w = message_at p content.extendee x.extendee own.extendee in
@@ -265,16 +265,9 @@ module _ (p : PoolType) (l : AreLinked (map file_view p.records)) (tells : Tells
         ∙ held_same p l tells values entries declared names (is_proto3 f) true content x.field
         (record { stands = stands; entry = own.field.entry }) None
 
-    extendee_there : (m : MessageType) × (slice_get p.messages x.extendee ≡ Some m)
+    pub extendee_there : (m : MessageType) × (slice_get p.messages x.extendee ≡ Some m)
     extendee_there =
         let w = message_at p content.extendee x.extendee own.extendee in (w.type, w.at)
-
-  abbrev IsSame : Text → ℕ → ℕ → Type 0
-  IsSame t i n = option_and_then (extension_named W) (W.extensions (t, pos n))
-      ≡ option_map (λ f. field_of p None true f) (known_extension p i n)
-
-  abbrev held_of : Option ExtensionType → Option FieldType
-  held_of o = option_and_then (λ (x : ExtensionType). if_held p x.field) o
 
   parts : (i n : ℕ) (x : ExtensionType) → is_sought i n x ≡ true
       → (x.extendee ≡ i) × (x.field.number ≡ n)
@@ -291,50 +284,61 @@ module _ (p : PoolType) (l : AreLinked (map file_view p.records)) (tells : Tells
       let second : (x.field.number == n) ≡ true = grind (arith, b) in
       ap (λ c. c && (x.field.number == n)) first ∙ second
 
-  pub extension_same : (i : ℕ) (m : MessageType) (n : ℕ) → slice_get p.messages i ≡ Some m
-      → IsSame m.full_name i n
-  extension_same i m n at = by (find (is_sought i n) p.extensions) refl where
-    none : find (is_sought i n) p.extensions ≡ None → (o : Option Text)
-        → W.extensions (m.full_name, pos n) ≡ o → o ≡ None
-    none e None is = refl
-    none e (Some name) is =
-        let x = has_extension m.full_name n name is in
-        let place = same_type p l tells values entries declared names x.entry.extendee i x.type m x.at
-        at x.name in
-        absurd (none_found (is_sought i n) p.extensions x.entry e x.there
-        (sought i n x.entry place x.number))
+  -- what is so of each extension by its full name and by its entry is so of the extension of a
+  -- message and a number
+  module _ {Y : Type 0} (by_name : Text → Option Y) (by_entry : FieldType → Y)
+      (each : (x : ExtensionType) → Contains p.extensions x
+      → by_name x.field.full_name ≡ option_map by_entry (if_held p x.field)) where
+    abbrev IsSame : Text → ℕ → ℕ → Type 0
+    IsSame t i n = option_and_then by_name (W.extensions (t, pos n))
+        ≡ option_map by_entry (known_extension p i n)
 
-    by : (o : Option ExtensionType) → find (is_sought i n) p.extensions ≡ o
+    abbrev held_of : Option ExtensionType → Option Y
+    held_of o = option_map by_entry (option_and_then (λ (x : ExtensionType). if_held p x.field) o)
+
+    pub extension_same : (i : ℕ) (m : MessageType) (n : ℕ) → slice_get p.messages i ≡ Some m
         → IsSame m.full_name i n
-    by (Some x) e =
-        let h = found_there (is_sought i n) p.extensions x e in
-        let s = parts i n x h.1 in
-        ap (option_and_then (extension_named W)) (called x h.0 i m n at s.0 s.1)
-        ∙ named_same x h.0
-        ∙ sym (ap (λ o. option_map (λ f. field_of p None true f) (held_of o)) e)
-    by None e =
-        ap (option_and_then (extension_named W))
-        (none e (W.extensions (m.full_name, pos n)) refl)
-        ∙ sym (ap (λ o. option_map (λ f. field_of p None true f) (held_of o)) e)
+    extension_same i m n at = by (find (is_sought i n) p.extensions) refl where
+      none : find (is_sought i n) p.extensions ≡ None → (o : Option Text)
+          → W.extensions (m.full_name, pos n) ≡ o → o ≡ None
+      none e None is = refl
+      none e (Some name) is =
+          let x = has_extension m.full_name n name is in
+          let place = same_type p l tells values entries declared names x.entry.extendee i x.type m x.at
+          at x.name in
+          absurd (none_found (is_sought i n) p.extensions x.entry e x.there
+          (sought i n x.entry place x.number))
 
-  -- what is no message has no extensions
-  pub no_extension_same : (t : Text) (i n : ℕ) → i ≡ length p.messages
-      → ((m : MessageType) → Contains p.messages m → m.full_name ≡ t → ⊥) → IsSame t i n
-  no_extension_same t i n end other = by (find (is_sought i n) p.extensions) refl where
-    none : (o : Option Text) → W.extensions (t, pos n) ≡ o → o ≡ None
-    none None is = refl
-    none (Some name) is =
-        let x = has_extension t n name is in
-        absurd (other x.type (get_contains p.messages x.entry.extendee x.type x.at) x.name)
+      by : (o : Option ExtensionType) → find (is_sought i n) p.extensions ≡ o
+          → IsSame m.full_name i n
+      by (Some x) e =
+          let h = found_there (is_sought i n) p.extensions x e in
+          let s = parts i n x h.1 in
+          ap (option_and_then by_name) (called x h.0 i m n at s.0 s.1)
+          ∙ each x h.0
+          ∙ sym (ap held_of e)
+      by None e =
+          ap (option_and_then by_name) (none e (W.extensions (m.full_name, pos n)) refl)
+          ∙ sym (ap held_of e)
 
-    by : (o : Option ExtensionType) → find (is_sought i n) p.extensions ≡ o → IsSame t i n
-    by (Some x) e =
-        let h = found_there (is_sought i n) p.extensions x e in
-        let s = parts i n x h.1 in
-        let m = extendee_there x h.0 in
-        let less = get_less p.messages x.extendee m.0 m.1 in
-        let place = s.0 in
-        absurd (omega (arith, less, place, end))
-    by None e =
-        ap (option_and_then (extension_named W)) (none (W.extensions (t, pos n)) refl)
-        ∙ sym (ap (λ o. option_map (λ f. field_of p None true f) (held_of o)) e)
+    -- what is no message has no extensions
+    pub no_extension_same : (t : Text) (i n : ℕ) → i ≡ length p.messages
+        → ((m : MessageType) → Contains p.messages m → m.full_name ≡ t → ⊥) → IsSame t i n
+    no_extension_same t i n end other = by (find (is_sought i n) p.extensions) refl where
+      none : (o : Option Text) → W.extensions (t, pos n) ≡ o → o ≡ None
+      none None is = refl
+      none (Some name) is =
+          let x = has_extension t n name is in
+          absurd (other x.type (get_contains p.messages x.entry.extendee x.type x.at) x.name)
+
+      by : (o : Option ExtensionType) → find (is_sought i n) p.extensions ≡ o → IsSame t i n
+      by (Some x) e =
+          let h = found_there (is_sought i n) p.extensions x e in
+          let s = parts i n x h.1 in
+          let m = extendee_there x h.0 in
+          let less = get_less p.messages x.extendee m.0 m.1 in
+          let place = s.0 in
+          absurd (omega (arith, less, place, end))
+      by None e =
+          ap (option_and_then by_name) (none (W.extensions (t, pos n)) refl)
+          ∙ sym (ap held_of e)

@@ -1,6 +1,6 @@
 -- Fields as messages hold them, by their records and by their entries.
-use Rattle.std.proofs.Common.{◌≡◌, ◌∙◌, ◌⊎◌, inl, inr, ℕ, ℤ, pos, Bool, true, false, not, ◌&&◌, ◌||◌, ◌==◌, cond, List, [], ◌∷◌, Option, Some, None, is_some, map, slice_get, unwrap_or, ap, sym, subst, refl}
-use Rattle.std.specs.List.{Contains, find}
+use Rattle.std.proofs.Common.{◌≡◌, ◌∙◌, ◌⊎◌, inl, inr, ℕ, ℤ, pos, Bool, true, false, not, ◌&&◌, ◌||◌, ◌==◌, cond, List, [], ◌∷◌, Option, Some, None, is_some, length, map, slice_get, slice_index_or, unwrap_or, ap, sym, subst, refl}
+use Rattle.std.specs.List.{Contains, filter, find}
 use Rattle.std.specs.Option.{option_and_then, option_map}
 use Rattle.descriptor_records.specs.Content.{Text, FieldContent, FileContent, OptionsContent, file_view}
 use Rattle.descriptor_records.specs.FieldNumbers.{type_number}
@@ -9,7 +9,7 @@ use Rattle.descriptor_records.specs.declared.field.FieldType.TheVariants as numb
 use Rattle.protobuf_model.specs.Types.{Field, Key, Kind, Part, keyed, many, nested, one, scalar}
 use Rattle.reflect_fields.specs.Fields.{is_message, scalar_type}
 use Rattle.reflect_tables.specs.Names.{FullName, enums, messages, names_of}
-use Rattle.reflect_tables.specs.Types.{FieldType, KindType, MessageType, PoolType, no_field, no_type, type_at}
+use Rattle.reflect_tables.specs.Types.{FieldType, KindType, MessageType, PoolType, is_member, no_field, no_oneof, no_type, type_at}
 use Rattle.reflect_tables.specs.Types as types
 use Rattle.schema_view.specs.Declarations.{Declaration, FieldFacts, MessageFacts, declarations, facts_of, of_field, of_message}
 use Rattle.schema_view.specs.Fields.{asks_packed, has_presence, is_group, is_packed, is_repeated, packed_option}
@@ -18,7 +18,7 @@ use Rattle.schema_view.specs.Rules.{HasFieldNumber, IsEntry, IsEntryType, IsMess
 use Rattle.schema_view.specs.Scalars as view
 use Rattle.schema_view.specs.Types as said
 use Rattle.schema_view.specs.Types.{field_at, field_in, held_field, is_proto3_at, map_field, message_at, message_in, name_of_field, names_entry, plain_field, type_name, undotted}
-use Rattle.schema_view.specs.Views.{View, when}
+use Rattle.schema_view.specs.Views.{View, first, when}
 use Rattle.schema_view.proofs.Lists.{contains_cases, contains_here, contains_none, contains_there, first_some}
 use Rattle.schema_view.proofs.Looking.{fields_declared}
 use Rattle.schema_view.proofs.Road.{AreLinked}
@@ -34,12 +34,11 @@ use Rattle.message_view.specs.Types.{field_of, kind_in, label_of, name_at, value
 use Rattle.linked_view.specs.Valued.{TellsValues}
 use Rattle.linked_view.proofs.Places.{contains_get, get_contains, get_less}
 use Rattle.reflect_index.proofs.Among.{index_is}
-use Rattle.types_view.specs.Fields.{IsEntryOf, TellsFields}
+use Rattle.types_view.specs.Fields.{IsEntryOf, IsListed, TellsFields, is_optional}
 use Rattle.types_view.proofs.Defaults.{default_same}
 use Rattle.types_view.proofs.Found.{body_found, proto3_found}
 use Rattle.types_view.proofs.KindNumbers.{IsSuited, Sorted, a_message, a_scalar, an_enum, each_scalar, number_of_message, scalar_kind, some_kind, sorted, suited}
-use Rattle.types_view.proofs.Listed as listed
-use Rattle.types_view.proofs.Listed.{HasNone, HasNumber, one_bit}
+use Rattle.types_view.proofs.Listed.{Agree, HasFirst, HasNone, first_or_none, numbers_agree, one_bit}
 use Rattle.types_view.proofs.Told as told
 use Rattle.types_view.proofs.Told.{IsDeclaredAs, IsMessageNumber, MessageTold, V, body_is, message_told, one_body, type_is}
 
@@ -213,22 +212,48 @@ module _ (p : PoolType) (l : AreLinked (map file_view p.records)) (tells : Tells
 
   -- ---- the fields of a message by their numbers
 
-  -- a field that the type at a place has
-  pub record OwnField (i : ℕ) (m : MessageType) (xs : List FieldFacts) (n : ℕ) : Type 0 where
+  -- the full name of the first field that passes
+  abbrev pub first_by : Text → (FieldFacts → Bool) → MessageFacts → Option Text
+  first_by t test x =
+      first (λ (f : FieldFacts). when (test f) (join t (text_of f.name))) x.fields
+
+  -- the first field of the type at a place that passes, by its record and by its entry
+  pub record OwnField (i : ℕ) (m : MessageType) (xs : List FieldFacts) (test : FieldFacts → Bool)
+      (passes : FieldType → Bool) : Type 0 where
     pub content : FieldContent
     pub entry : FieldType
     pub proto3 : Bool
     pub both : IsBoth proto3 false content entry
-    pub found : numbered_field p i n ≡ Some entry
-    pub called : name_of_field W m.full_name n ≡ Some entry.full_name
+    pub found : find passes (type_at p i).fields ≡ Some entry
+    pub called : option_and_then (first_by m.full_name test) (message_at W m.full_name)
+        ≡ Some entry.full_name
     pub at : field_at W entry.full_name ≡ Some content
     pub syntax : is_proto3_at W entry.full_name ≡ proto3
     pub there : Contains xs (facts_of content)
-    pub number : is_number (pos n) (facts_of content).number ≡ true
+    pub stands : IsListed m.full_name (facts_of content) entry
+    pub is : test (facts_of content) ≡ true
+    pub synthetic : (k : ℕ) → entry.oneof ≡ Some k
+        → (slice_index_or m.oneofs k no_oneof).synthetic
+        ≡ (is_optional content && (length (filter (is_member k) m.fields) == 1))
 
-  pub record NoField (i : ℕ) (m : MessageType) (n : ℕ) : Type 0 where
-    pub found : numbered_field p i n ≡ None
-    pub called : name_of_field W m.full_name n ≡ None
+  -- or none passes
+  pub record NoField (i : ℕ) (m : MessageType) (test : FieldFacts → Bool)
+      (passes : FieldType → Bool) : Type 0 where
+    pub found : find passes (type_at p i).fields ≡ None
+    pub called : option_and_then (first_by m.full_name test) (message_at W m.full_name) ≡ None
+
+  -- the field of a number
+  abbrev pub has_number : ℕ → FieldFacts → Bool
+  has_number n f = is_number (pos n) f.number
+
+  abbrev pub is_numbered : ℕ → FieldType → Bool
+  is_numbered n e = e.number == n
+
+  abbrev pub NumberedField : (i : ℕ) → MessageType → List FieldFacts → ℕ → Type 0
+  NumberedField i m xs n = OwnField i m xs (has_number n) (is_numbered n)
+
+  abbrev pub NoNumber : (i : ℕ) → MessageType → ℕ → Type 0
+  NoNumber i m n = NoField i m (has_number n) (is_numbered n)
 
   module _ (i : ℕ) (m : MessageType) (at : slice_get p.messages i ≡ Some m) where
     pub own : MessageTold p l m
@@ -269,27 +294,33 @@ module _ (p : PoolType) (l : AreLinked (map file_view p.records)) (tells : Tells
           is = refl;
         })).number
 
-    field_by : (n : ℕ) → HasNumber m.full_name n own.facts.fields m.fields
-        ⊎ HasNone m.full_name n own.facts.fields m.fields
-        → OwnField i m own.facts.fields n ⊎ NoField i m n
-    field_by n (inr h) = inr (record {
-      found = ap (λ (x : MessageType). find (λ f. f.number == n) x.fields) type_there ∙ h.found;
-      called = ap (option_and_then (said.named_in m.full_name n)) message_is ∙ h.called;
-    })
-    field_by n (inl h) =
-        let t = tells.fields m h.entry (get_contains p.messages i m at) h.there in
-        let d : Declaration = record { name = h.entry.full_name; body = of_field t.content } in
-        let c = content_of h.facts h.inside in
-        let here : IsDeclaredAs p l h.entry.full_name (of_field t.content) =
+    -- a field that is listed, by its record and by its entry
+    pub record IsListedAs (f : FieldFacts) (e : FieldType) : Type 0 where
+      pub content : FieldContent
+      pub proto3 : Bool
+      pub both : IsBoth proto3 false content e
+      pub here : field_at W e.full_name ≡ Some content
+      pub syntax : is_proto3_at W e.full_name ≡ proto3
+      pub facts : facts_of content ≡ f
+      pub synthetic : (k : ℕ) → e.oneof ≡ Some k → (slice_index_or m.oneofs k no_oneof).synthetic
+          ≡ (is_optional content && (length (filter (is_member k) m.fields) == 1))
+
+    pub listed_as : (f : FieldFacts) (e : FieldType) → Contains own.facts.fields f
+        → Contains m.fields e → IsListed m.full_name f e → IsListedAs f e
+    listed_as f e inside there stands =
+        let whole = tells.fields m e (get_contains p.messages i m at) there in
+        let t = whole.field in
+        let d : Declaration = record { name = e.full_name; body = of_field t.content } in
+        let c = content_of f inside in
+        let here : IsDeclaredAs p l e.full_name (of_field t.content) =
         record { file = t.file; there = t.there; inside = t.inside } in
         let bodies : of_field c.content ≡ of_field t.content =
-        one_body p l h.entry.full_name (of_field c.content) (of_field t.content)
-        (subst (λ n. IsDeclaredAs p l n (of_field c.content)) (sym h.stands.name) c.declared) here in
+        one_body p l e.full_name (of_field c.content) (of_field t.content)
+        (subst (λ n. IsDeclaredAs p l n (of_field c.content)) (sym stands.full_name) c.declared)
+        here in
         let same : c.content ≡ t.content = cc bodies in
-        let facts : facts_of t.content ≡ h.facts = ap facts_of (sym same) ∙ c.facts in
-        inl (record {
+        record {
           content = t.content;
-          entry = h.entry;
           proto3 = _;
           both = record {
             stands = record {
@@ -301,19 +332,47 @@ module _ (p : PoolType) (l : AreLinked (map file_view p.records)) (tells : Tells
             };
             entry = t.entry;
           };
-          found = ap (λ (x : MessageType). find (λ f. f.number == n) x.fields) type_there ∙ h.found;
-          called = ap (option_and_then (said.named_in m.full_name n)) message_is ∙ h.called;
-          at = ap (option_and_then field_in) (body_found fs l t.file d t.there t.inside);
+          here = ap (option_and_then field_in) (body_found fs l t.file d t.there t.inside);
           syntax = proto3_found fs l t.file d t.there t.inside;
-          there = subst (Contains own.facts.fields) (sym facts) h.inside;
-          number = ap (λ (x : FieldFacts). is_number (pos n) x.number) facts ∙ h.is;
-        })
+          facts = ap facts_of (sym same) ∙ c.facts;
+          synthetic = whole.synthetic;
+        }
 
-    pub own_field : (n : ℕ) → OwnField i m own.facts.fields n ⊎ NoField i m n
-    own_field n =
-        field_by n (listed.numbers m.full_name n own.facts.fields m.fields own.fields numbered)
+    module _ (test : FieldFacts → Bool) (passes : FieldType → Bool) where
+      field_by : HasFirst m.full_name test passes own.facts.fields m.fields
+          ⊎ HasNone m.full_name test passes own.facts.fields m.fields
+          → OwnField i m own.facts.fields test passes ⊎ NoField i m test passes
+      field_by (inr h) = inr (record {
+        found = ap (λ (x : MessageType). find passes x.fields) type_there ∙ h.found;
+        called = ap (option_and_then (first_by m.full_name test)) message_is ∙ h.called;
+      })
+      field_by (inl h) =
+          let o = listed_as h.facts h.entry h.inside h.there h.stands in
+          inl (record {
+            content = o.content;
+            entry = h.entry;
+            proto3 = o.proto3;
+            both = o.both;
+            found = ap (λ (x : MessageType). find passes x.fields) type_there ∙ h.found;
+            called = ap (option_and_then (first_by m.full_name test)) message_is ∙ h.called;
+            at = o.here;
+            syntax = o.syntax;
+            there = subst (Contains own.facts.fields) (sym o.facts) h.inside;
+            stands = subst (λ x. IsListed m.full_name x h.entry) (sym o.facts) h.stands;
+            is = ap test o.facts ∙ h.is;
+            synthetic = o.synthetic;
+          })
 
-    pub entry_same : (n : ℕ) (o : OwnField i m own.facts.fields n)
+      pub first_field : Agree m.full_name test passes own.facts.fields m.fields
+          → OwnField i m own.facts.fields test passes ⊎ NoField i m test passes
+      first_field agree =
+          field_by (first_or_none m.full_name test passes own.facts.fields m.fields own.fields agree)
+
+    pub own_field : (n : ℕ) → NumberedField i m own.facts.fields n ⊎ NoNumber i m n
+    own_field n = first_field (has_number n) (is_numbered n)
+        (numbers_agree m.full_name n own.facts.fields m.fields numbered)
+
+    pub entry_same : (n : ℕ) (o : NumberedField i m own.facts.fields n)
         → said.entry_part W m.full_name n
         ≡ cond (is_float o.entry.kind) None (Some (pool.part_of p o.entry))
     entry_same n o =
@@ -327,9 +386,10 @@ module _ (p : PoolType) (l : AreLinked (map file_view p.records)) (tells : Tells
     -- ---- a map's entries
 
     some_field : (n : ℕ) (x : FieldFacts) → Contains own.facts.fields x → x.number ≡ Some (pos n)
-        → is_number (pos n) (Some (pos n)) ≡ true → OwnField i m own.facts.fields n
+        → is_number (pos n) (Some (pos n)) ≡ true → NumberedField i m own.facts.fields n
     some_field n x h e is = by (own_field n) where
-      by : OwnField i m own.facts.fields n ⊎ NoField i m n → OwnField i m own.facts.fields n
+      by : NumberedField i m own.facts.fields n ⊎ NoNumber i m n
+          → NumberedField i m own.facts.fields n
       by (inl o) = o
       by (inr none) =
           let name = join m.full_name (text_of x.name) in
@@ -340,8 +400,8 @@ module _ (p : PoolType) (l : AreLinked (map file_view p.records)) (tells : Tells
           ∙ sym (ap (option_and_then (said.named_in m.full_name n)) message_is) ∙ none.called))
 
     pub record IsKeyed : Type 0 where
-      pub key : OwnField i m own.facts.fields 1
-      pub value : OwnField i m own.facts.fields 2
+      pub key : NumberedField i m own.facts.fields 1
+      pub value : NumberedField i m own.facts.fields 2
       pub is_key : view.is_key_type
           (view.scalar_type key.content.field_type key.content.type_name) ≡ true
 
@@ -362,7 +422,7 @@ module _ (p : PoolType) (l : AreLinked (map file_view p.records)) (tells : Tells
             | inr same ↦ (
                 let no : false ≡ true =
                 sym (ap (is_number (pos 1)) e.is.value.number)
-                ∙ sym (ap (λ (x : FieldFacts). is_number (pos 1) x.number) same) ∙ key.number in
+                ∙ sym (ap (λ (x : FieldFacts). is_number (pos 1) x.number) same) ∙ key.is in
                 absurd (cc no))
           ];
         }
@@ -456,7 +516,7 @@ module _ (p : PoolType) (l : AreLinked (map file_view p.records)) (tells : Tells
           [ None ↦ false | Some m ↦ said.is_entry m ]))
           (type_is p l c m.full_name (of_message (own i m at).facts) written (own i m at).declared)
 
-      map_same : (k : KindType) → e.kind ≡ k → Sorted ms es c k → holds_map p e ≡ says_map c
+      pub map_same : (k : KindType) → e.kind ≡ k → Sorted ms es c k → holds_map p e ≡ says_map c
       map_same k is (a_scalar s) =
           plain_map k is (each_scalar (λ j. shapes.is_entry p j ≡ false) refl refl refl refl refl refl
           refl refl refl refl refl refl refl refl refl s.type k s.holds)
@@ -616,28 +676,76 @@ module _ (p : PoolType) (l : AreLinked (map file_view p.records)) (tells : Tells
 
       -- ---- each
 
-      some_map : (oneof : Option ℕ) (j : KindType) → e.kind ≡ j → Sorted ms es c j
-          → holds_map p e ≡ true
-          → map_field W extension oneof c ≡ option_map (field_of p oneof extension) (if_held p e)
-      some_map oneof j is (a_scalar s) mapped =
+      -- the type of a map's entries
+      record HasEntryType : Type 0 where
+        place : ℕ
+        type : MessageType
+        there : slice_get p.messages place ≡ Some type
+        kind : e.kind ≡ types.message place
+        written : c.type_name ≡ Some (46 ∷ type.full_name)
+        parts : IsKeyed place type there
+
+      entry_type : (j : KindType) → e.kind ≡ j → Sorted ms es c j → holds_map p e ≡ true
+          → HasEntryType
+      entry_type j is (a_scalar s) mapped =
           let none : shapes.is_entry p j ≡ false =
           each_scalar (λ j. shapes.is_entry p j ≡ false) refl refl refl refl refl refl
           refl refl refl refl refl refl refl refl refl s.type j s.holds in
           absurd (cc (sym mapped ∙ ap (λ b. b && (shapes.is_repeated e.cardinality && not e.group))
           (ap (shapes.is_entry p) is ∙ none)))
-      some_map oneof _ is (an_enum w) mapped =
+      entry_type _ is (an_enum w) mapped =
           absurd (cc (sym mapped ∙ ap (λ b. shapes.is_entry p b
           && (shapes.is_repeated e.cardinality && not e.group)) is))
-      some_map oneof _ is (a_message {i} w) mapped =
+      entry_type _ is (a_message {i} w) mapped =
           let m = told.message_at p c.type_name i w in
           let both = sym (message_map i m.type m.at is m.written) ∙ mapped in
-          mapped_same i m.type m.at is m.written mapped
-          (is_keyed i m.type m.at (last (is_repeated c) (is_number (pos 11) c.field_type)
-          (said.is_entry (own i m.type m.at).facts) both)) oneof where
+          record {
+            place = i;
+            type = m.type;
+            there = m.at;
+            kind = is;
+            written = m.written;
+            parts = is_keyed i m.type m.at (last (is_repeated c) (is_number (pos 11) c.field_type)
+                (said.is_entry (own i m.type m.at).facts) both);
+          } where
             last : (a b x : Bool) → (a && (b && x)) ≡ true → x ≡ true
             last true true x e = e
             last true false x e = absurd (cc e)
             last false b x e = absurd (cc e)
+
+      typed_map : holds_map p e ≡ true → HasEntryType
+      typed_map = entry_type e.kind refl (sort proto3 extension c e h)
+
+      -- the values of a map, by the record and by the entry of the field that they are
+      pub record HasValues : Type 0 where
+        pub content : FieldContent
+        pub entry : FieldType
+        pub syntax : Bool
+        pub both : IsBoth syntax false content entry
+        pub is : pool.entry_part p e 2 ≡ entry
+        pub at : option_and_then (field_at W) (name_of_field W (type_name c) 2) ≡ Some content
+
+      pub map_values : holds_map p e ≡ true → HasValues
+      map_values mapped =
+          let t = typed_map mapped in
+          let v = t.parts.value in
+          record {
+            content = v.content;
+            entry = v.entry;
+            syntax = v.proto3;
+            both = v.both;
+            is = value_entry t.place t.type t.there t.kind t.written mapped t.parts;
+            at = ap (λ n. option_and_then (field_at W) (name_of_field W n 2))
+                (ap (λ o. elim o as (λ _. Text) [ None ↦ [] | Some x ↦ undotted x ]) t.written)
+                ∙ ap (option_and_then (field_at W)) v.called
+                ∙ v.at;
+          }
+
+      some_map : (oneof : Option ℕ) → holds_map p e ≡ true
+          → map_field W extension oneof c ≡ option_map (field_of p oneof extension) (if_held p e)
+      some_map oneof mapped =
+          let t = typed_map mapped in
+          mapped_same t.place t.type t.there t.kind t.written mapped t.parts oneof
 
       pub held_same : (oneof : Option ℕ) → held_field W proto3 extension oneof c
           ≡ option_map (field_of p oneof extension) (if_held p e)
@@ -648,5 +756,5 @@ module _ (p : PoolType) (l : AreLinked (map file_view p.records)) (tells : Tells
             by : (b : Bool) → holds_map p e ≡ b
                 → cond b (map_field W extension oneof c) (plain_field W proto3 extension oneof c)
                 ≡ option_map (field_of p oneof extension) (if_held p e)
-            by true mapped = some_map oneof e.kind refl (sort proto3 extension c e h) mapped
+            by true mapped = some_map oneof mapped
             by false plain = plain_same oneof plain

@@ -6,6 +6,7 @@ pub mod Found
 pub mod Held
 pub mod KindNumbers
 pub mod Listed
+pub mod Lone
 pub mod Settled
 pub mod Told
 pub mod Types

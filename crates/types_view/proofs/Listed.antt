@@ -1,5 +1,5 @@
 -- Fields that a message lists, and the entries that stand for them.
-use Rattle.std.proofs.Common.{◌≡◌, ◌∙◌, ℕ, ℤ, pos, negsuc, Bool, true, false, cond, ◌==◌, List, [], ◌∷◌, ◌⊎◌, inl, inr, Option, Some, None, ap, sym, refl, arith}
+use Rattle.std.proofs.Common.{◌≡◌, ◌∙◌, ℕ, suc, ℤ, pos, negsuc, Bool, true, false, cond, ◌==◌, List, [], ◌∷◌, ◌⊎◌, inl, inr, Option, Some, None, length, map, unwrap_or, ap, sym, refl, arith}
 use Rattle.std.specs.List.{AllZip, Contains, filter, find}
 use Rattle.std.specs.Ordering.{int_eq}
 use Rattle.std.proofs.lemmas.Bool.Decides.{Decides-int_eq}
@@ -26,6 +26,12 @@ same_natural k n = one_bit (k == n) (int_eq (pos k) (pos n))
     (λ e. let same : k ≡ n = grind (arith, e) in (Decides-int_eq (pos k) (pos n)).1 (ap pos same))
     (λ e. let same : k ≡ n = cc ((Decides-int_eq (pos k) (pos n)).0 e) in grind (arith, same))
 
+-- the number of a record, which is a field's, is told as it is and as the natural number that it is
+pub number_same : (o : Option ℤ) → unwrap_or (natural o) 0 ≡ elim o [ Some (pos n) ↦ n | _ ↦ 0 ]
+number_same None = refl
+number_same (Some (pos n)) = refl
+number_same (Some z) = refl
+
 -- a number is that of an entry where it is the one of the record
 same_number : (n : ℕ) (f : FieldFacts) (o : Option ℤ) → f.number ≡ o → HasFieldNumber o
     → (field_number f == n) ≡ is_number (pos n) f.number
@@ -39,70 +45,104 @@ module _ (full : Text) where
   abbrev Zipped : List FieldFacts → List FieldType → Type 0
   Zipped xs es = AllZip (IsListed full) xs es
 
-  abbrev named : ℕ → List FieldFacts → Option Text
-  named n xs = first (λ (f : FieldFacts). when (is_number (pos n) f.number)
-      (join full (text_of f.name))) xs
+  -- both tests say the same of fields that stand for each other
+  abbrev pub Agree : (FieldFacts → Bool) → (FieldType → Bool) → List FieldFacts → List FieldType
+      → Type 0
+  Agree test own xs es = (f : FieldFacts) (e : FieldType) → Contains xs f → Contains es e
+      → IsListed full f e → own e ≡ test f
 
-  abbrev numbered : ℕ → List FieldType → Option FieldType
-  numbered n es = find (λ (e : FieldType). e.number == n) es
-
-  -- the field of a number is there, or there is none
-  pub record HasNumber (n : ℕ) (xs : List FieldFacts) (es : List FieldType) : Type 0 where
-    pub facts : FieldFacts
-    pub entry : FieldType
-    pub inside : Contains xs facts
-    pub there : Contains es entry
-    pub stands : IsListed full facts entry
-    pub is : is_number (pos n) facts.number ≡ true
-    pub found : numbered n es ≡ Some entry
-    pub called : named n xs ≡ Some entry.full_name
-
-  pub record HasNone (n : ℕ) (xs : List FieldFacts) (es : List FieldType) : Type 0 where
-    pub found : numbered n es ≡ None
-    pub called : named n xs ≡ None
-
-  pub numbers : (n : ℕ) (xs : List FieldFacts) (es : List FieldType) → Zipped xs es
+  pub numbers_agree : (n : ℕ) (xs : List FieldFacts) (es : List FieldType)
       → ((f : FieldFacts) → Contains xs f → HasFieldNumber f.number)
-      → HasNumber n xs es ⊎ HasNone n xs es
-  numbers n [] [] z good = inr (record { found = refl; called = refl })
-  numbers n [] (e ∷ es) z good = absurd z
-  numbers n (f ∷ xs) [] z good = absurd z
-  numbers n (f ∷ xs) (e ∷ es) z good =
-      by (is_number (pos n) f.number) refl
-      (numbers n xs es z.1 (λ g i. good g (contains_there f xs g i))) where
-        test : (e.number == n) ≡ is_number (pos n) f.number
-        test = ap (λ k. k == n) z.0.number
-            ∙ same_number n f f.number refl (good f (contains_here f xs))
+      → Agree (λ f. is_number (pos n) f.number) (λ e. e.number == n) xs es
+  numbers_agree n xs es good f e i j stands =
+      ap (λ k. k == n) stands.number ∙ same_number n f f.number refl (good f i)
 
-        by : (b : Bool) → is_number (pos n) f.number ≡ b → HasNumber n xs es ⊎ HasNone n xs es
-            → HasNumber n (f ∷ xs) (e ∷ es) ⊎ HasNone n (f ∷ xs) (e ∷ es)
-        by true is rest = inl (record {
-          facts = f;
-          entry = e;
-          inside = contains_here f xs;
-          there = contains_here e es;
-          stands = z.0;
-          is = is;
-          found = ap (λ b. cond b (Some e) (numbered n es)) (test ∙ is);
-          called = ap (λ b. or_else (when b (join full (text_of f.name))) (named n xs)) is
-              ∙ ap Some (sym z.0.name);
-        })
-        by false is (inl h) = inl (record {
-          facts = h.facts;
-          entry = h.entry;
-          inside = contains_there f xs h.facts h.inside;
-          there = contains_there e es h.entry h.there;
-          stands = h.stands;
-          is = h.is;
-          found = ap (λ b. cond b (Some e) (numbered n es)) (test ∙ is) ∙ h.found;
-          called = ap (λ b. or_else (when b (join full (text_of f.name))) (named n xs)) is ∙ h.called;
-        })
-        by false is (inr h) = inr (record {
-          found = ap (λ b. cond b (Some e) (numbered n es)) (test ∙ is) ∙ h.found;
-          called = ap (λ b. or_else (when b (join full (text_of f.name))) (named n xs)) is ∙ h.called;
-        })
+  -- what passes of more passes of these
+  fewer : (test : FieldFacts → Bool) (own : FieldType → Bool) (f : FieldFacts) (e : FieldType)
+      (xs : List FieldFacts) (es : List FieldType) → Agree test own (f ∷ xs) (e ∷ es)
+      → Agree test own xs es
+  fewer test own f e xs es agree g h i j =
+      agree g h (contains_there f xs g i) (contains_there e es h j)
 
-  -- the first member of a oneof
+  module _ (test : FieldFacts → Bool) (own : FieldType → Bool) where
+    abbrev named : List FieldFacts → Option Text
+    named xs = first (λ (f : FieldFacts). when (test f) (join full (text_of f.name))) xs
+
+    -- the first field that passes is there, or none passes
+    pub record HasFirst (xs : List FieldFacts) (es : List FieldType) : Type 0 where
+      pub facts : FieldFacts
+      pub entry : FieldType
+      pub inside : Contains xs facts
+      pub there : Contains es entry
+      pub stands : IsListed full facts entry
+      pub is : test facts ≡ true
+      pub found : find own es ≡ Some entry
+      pub called : named xs ≡ Some entry.full_name
+
+    pub record HasNone (xs : List FieldFacts) (es : List FieldType) : Type 0 where
+      pub found : find own es ≡ None
+      pub called : named xs ≡ None
+
+    pub first_or_none : (xs : List FieldFacts) (es : List FieldType) → Zipped xs es
+        → Agree test own xs es → HasFirst xs es ⊎ HasNone xs es
+    first_or_none [] [] z agree = inr (record { found = refl; called = refl })
+    first_or_none [] (e ∷ es) z agree = absurd z
+    first_or_none (f ∷ xs) [] z agree = absurd z
+    first_or_none (f ∷ xs) (e ∷ es) z agree =
+        by (test f) refl (first_or_none xs es z.1 (fewer test own f e xs es agree)) where
+          same : own e ≡ test f
+          same = agree f e (contains_here f xs) (contains_here e es) z.0
+
+          by : (b : Bool) → test f ≡ b → HasFirst xs es ⊎ HasNone xs es
+              → HasFirst (f ∷ xs) (e ∷ es) ⊎ HasNone (f ∷ xs) (e ∷ es)
+          by true is rest = inl (record {
+            facts = f;
+            entry = e;
+            inside = contains_here f xs;
+            there = contains_here e es;
+            stands = z.0;
+            is = is;
+            found = ap (λ b. cond b (Some e) (find own es)) (same ∙ is);
+            called = ap (λ b. or_else (when b (join full (text_of f.name))) (named xs)) is
+                ∙ ap Some (sym z.0.full_name);
+          })
+          by false is (inl h) = inl (record {
+            facts = h.facts;
+            entry = h.entry;
+            inside = contains_there f xs h.facts h.inside;
+            there = contains_there e es h.entry h.there;
+            stands = h.stands;
+            is = h.is;
+            found = ap (λ b. cond b (Some e) (find own es)) (same ∙ is) ∙ h.found;
+            called = ap (λ b. or_else (when b (join full (text_of f.name))) (named xs)) is ∙ h.called;
+          })
+          by false is (inr h) = inr (record {
+            found = ap (λ b. cond b (Some e) (find own es)) (same ∙ is) ∙ h.found;
+            called = ap (λ b. or_else (when b (join full (text_of f.name))) (named xs)) is ∙ h.called;
+          })
+
+    -- and those that pass have the same numbers
+    pub numbers_kept : (xs : List FieldFacts) (es : List FieldType) → Zipped xs es
+        → Agree test own xs es
+        → map (λ (e : FieldType). e.number) (filter own es) ≡ map field_number (filter test xs)
+    numbers_kept [] [] z agree = refl
+    numbers_kept [] (e ∷ es) z agree = absurd z
+    numbers_kept (f ∷ xs) [] z agree = absurd z
+    numbers_kept (f ∷ xs) (e ∷ es) z agree =
+        ap (λ b. numbers_of (cond b (e ∷ filter own es) (filter own es)))
+        (agree f e (contains_here f xs) (contains_here e es) z.0)
+        ∙ by (test f) (numbers_kept xs es z.1 (fewer test own f e xs es agree)) where
+          numbers_of : List FieldType → List ℕ
+          numbers_of = map (λ (x : FieldType). x.number)
+
+          by : (b : Bool) → numbers_of (filter own es) ≡ map field_number (filter test xs)
+              → numbers_of (cond b (e ∷ filter own es) (filter own es))
+              ≡ map field_number (cond b (f ∷ filter test xs) (filter test xs))
+          by true h = ap (λ n. n ∷ numbers_of (filter own es)) z.0.number
+              ∙ ap (λ ns. field_number f ∷ ns) h
+          by false h = h
+
+  -- ---- the members of a oneof
 
   same_member : (k : ℕ) (e : FieldType) (o : Option ℤ) → e.oneof ≡ natural o
       → is_member k e ≡ is_number (pos k) o
@@ -140,3 +180,23 @@ module _ (full : Text) where
         (test ∙ is)
         ∙ later
         ∙ sym (ap (λ b. or_else (when b (field_number f)) rest) is)
+
+  -- there are as many
+  pub member_count : (k : ℕ) (xs : List FieldFacts) (es : List FieldType) → Zipped xs es
+      → length (filter (is_member k) es)
+      ≡ length (filter (λ (f : FieldFacts). is_number (pos k) f.oneof) xs)
+  member_count k [] [] z = refl
+  member_count k [] (e ∷ es) z = absurd z
+  member_count k (f ∷ xs) [] z = absurd z
+  member_count k (f ∷ xs) (e ∷ es) z =
+      ap (λ b. length (cond b (e ∷ filter (is_member k) es) (filter (is_member k) es)))
+      (same_member k e f.oneof z.0.oneof)
+      ∙ by (is_number (pos k) f.oneof) (member_count k xs es z.1) where
+        rest : List FieldFacts
+        rest = filter (λ (g : FieldFacts). is_number (pos k) g.oneof) xs
+
+        by : (b : Bool) → length (filter (is_member k) es) ≡ length rest
+            → length (cond b (e ∷ filter (is_member k) es) (filter (is_member k) es))
+            ≡ length (cond b (f ∷ rest) rest)
+        by true h = ap suc h
+        by false h = h

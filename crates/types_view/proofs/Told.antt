@@ -8,6 +8,7 @@ use Rattle.descriptor_records.specs.Content.{Text, EnumContent, FieldContent, Fi
 use Rattle.reflect_tables.specs.Names.{FullName, enum_name, enums, message_name, messages, names_of}
 use Rattle.reflect_tables.specs.Types.{EnumType, MessageType, PoolType, ValueType}
 use Rattle.schema_view.specs.Declarations.{Body, Declaration, MessageFacts, declarations, of_message, of_field, of_oneof, of_enum, of_value, of_service, of_method, of_extension}
+use Rattle.schema_view.specs.Files.{text_of}
 use Rattle.schema_view.specs.Lawful.{outlines}
 use Rattle.schema_view.specs.Means.{HasType}
 use Rattle.schema_view.specs.Outlines.{Head, IsDeclared, Outline, Sort, head_of, outline_of, sort_of}
@@ -161,6 +162,7 @@ module _ (p : PoolType) (l : AreLinked (map file_view p.records)) where
   pub record MessageTold (m : MessageType) : Type 0 where
     pub facts : MessageFacts
     pub declared : IsDeclaredAs m.full_name (of_message facts)
+    pub name : m.name ≡ text_of facts.name
     pub fields : AllZip (IsListed m.full_name) facts.fields m.fields
 
   pub message_told : TellsFields p → (i : ℕ) (m : MessageType) → slice_get p.messages i ≡ Some m
@@ -178,8 +180,10 @@ module _ (p : PoolType) (l : AreLinked (map file_view p.records)) where
       } in
       record {
         facts = w.0.1;
-        declared = subst (λ n. IsDeclaredAs n (of_message w.0.1)) (sym w.2.name) declared;
-        fields = subst (λ n. AllZip (IsListed n) w.0.1.fields m.fields) (sym w.2.name) w.2.fields;
+        declared = subst (λ n. IsDeclaredAs n (of_message w.0.1)) (sym w.2.full_name) declared;
+        name = w.2.name;
+        fields = subst (λ n. AllZip (IsListed n) w.0.1.fields m.fields) (sym w.2.full_name)
+            w.2.fields;
       }
 
   -- ---- enums

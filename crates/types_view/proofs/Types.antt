@@ -1,11 +1,11 @@
 -- The types of a pool are those that the view of its records has.
 use Rattle.std.proofs.Common.{◌≡◌, ◌∙◌, ◌⊎◌, inl, inr, ℕ, suc, ℤ, pos, negsuc, Bool, true, false, ◌==◌, cond, List, [], ◌∷◌, Option, Some, None, length, map, slice_get, slice_index_or, ap, sym, subst, refl, arith}
-use Rattle.std.specs.List.{filter, find, flat_map}
+use Rattle.std.specs.List.{Contains, filter, find, flat_map}
 use Rattle.std.specs.Option.{option_and_then, option_map, option_or}
 use Rattle.descriptor_records.specs.Content.{FieldContent, FileContent, file_view}
 use Rattle.protobuf_model.specs.Types.{Field, Name}
 use Rattle.reflect_fields.specs.Fields.{natural}
-use Rattle.reflect_tables.specs.Types.{FieldType, MessageType, PoolType, is_member, no_type, type_at}
+use Rattle.reflect_tables.specs.Types.{ExtensionType, FieldType, MessageType, PoolType, is_member, no_type, type_at}
 use Rattle.schema_view.specs.Declarations.{MessageFacts, declarations, of_message}
 use Rattle.schema_view.specs.Types as said
 use Rattle.schema_view.specs.Types.{extension_named, field_at, first_member, held_field, is_proto3_at, message_at, name_of_field, oneof_in, own_named}
@@ -26,12 +26,12 @@ use Rattle.linked_view.proofs.Extended.{zip_at}
 use Rattle.linked_view.proofs.Places.{contains_get, get_contains}
 use Rattle.reflect_index.proofs.Among.{index_is}
 use Rattle.types_view.specs.Fields.{ListsFields, NamedMessage, TellsFields, messages_in, written_messages}
-use Rattle.types_view.proofs.Extended.{extension_same, no_extension_same}
+use Rattle.types_view.proofs.Extended.{extension_same, named_same, no_extension_same}
 use Rattle.types_view.proofs.Found.{StandsAt, StandsNowhere, stands}
-use Rattle.types_view.proofs.Held.{NoField, OwnField, held_same, message_is, own, own_field}
+use Rattle.types_view.proofs.Held.{NoNumber, NumberedField, held_same, message_is, own, own_field}
 use Rattle.types_view.proofs.Listed.{members}
 
-behind_last : (ms : List MessageType) → slice_index_or ms (length ms) no_type ≡ no_type
+pub behind_last : (ms : List MessageType) → slice_index_or ms (length ms) no_type ≡ no_type
 behind_last [] = refl
 behind_last (m ∷ ms) = ap (λ n. slice_index_or (m ∷ ms) n no_type) (length-suc m ms) ∙ behind_last ms
   where
@@ -53,6 +53,10 @@ module _ (p : PoolType) (l : AreLinked (map file_view p.records)) (tells : Tells
   either_is i (Some f) x = refl
   either_is i None (Some x) = refl
   either_is i None None = refl
+
+  named : (x : ExtensionType) → Contains p.extensions x → extension_named W x.field.full_name
+      ≡ option_map (λ g. field_of p None true g) (if_held p x.field)
+  named = named_same p l tells values entries declared names extensions
 
   abbrev of_own : ℕ → FieldType → Field
   of_own i g = field_of p (oneof_at p i g) false g
@@ -91,7 +95,7 @@ module _ (p : PoolType) (l : AreLinked (map file_view p.records)) (tells : Tells
       held true e = refl
       held false e = refl
 
-      by : OwnField p l tells values i m facts.fields n ⊎ NoField p l tells values i m n
+      by : NumberedField p l tells values i m facts.fields n ⊎ NoNumber p l tells values i m n
           → option_and_then (own_named W m.full_name) (name_of_field W m.full_name n)
           ≡ option_map (of_own i) (known_field p i n)
       by (inr none) =
@@ -119,11 +123,12 @@ module _ (p : PoolType) (l : AreLinked (map file_view p.records)) (tells : Tells
         ∙ ap (λ o. option_or o (option_map (λ g. field_of p None true g) (known_extension p i n)))
         (sym (own_same n))
         ∙ ap (option_or (option_and_then (own_named W m.full_name) (name_of_field W m.full_name n)))
-        (sym (extension_same p l tells values entries declared names extensions i m n at))
+        (sym (extension_same p l tells values entries declared names extensions (extension_named W)
+        (λ g. field_of p None true g) named i m n at))
 
   -- a name of no message
   module _ (t : Name) (s : StandsNowhere p.messages t) where
-    no_message : (o : Option MessageFacts) → message_at W t ≡ o → o ≡ None
+    pub no_message : (o : Option MessageFacts) → message_at W t ≡ o → o ≡ None
     no_message None e = refl
     no_message (Some m) e =
         let d = message_there fs l t m e in
@@ -133,7 +138,7 @@ module _ (p : PoolType) (l : AreLinked (map file_view p.records)) (tells : Tells
         (contains_here w [])) in
         let j = contains_get (written_messages fs) w there in
         let z = zip_at ListsFields (written_messages fs) p.messages j.0 w tells.listed j.1 in
-        absurd (s.none z.0 (get_contains p.messages j.0 z.0 z.1) z.2.name)
+        absurd (s.none z.0 (get_contains p.messages j.0 z.0 z.1) z.2.full_name)
 
     no_field : (n : ℕ) → known_field p (place_in p.messages t) n ≡ None
     no_field n = ap (λ (x : MessageType). option_and_then (if_held p)
@@ -146,7 +151,8 @@ module _ (p : PoolType) (l : AreLinked (map file_view p.records)) (tells : Tells
         either_is i (known_field p i n) (known_extension p i n)
         ∙ ap (λ o. option_or (option_map (of_own i) o)
         (option_map (λ g. field_of p None true g) (known_extension p i n))) (no_field n)
-        ∙ sym (no_extension_same p l tells values entries declared names extensions t i n s.end s.none)
+        ∙ sym (no_extension_same p l tells values entries declared names extensions (extension_named W)
+        (λ g. field_of p None true g) named t i n s.end s.none)
         ∙ sym (ap (λ o. option_or (option_and_then (own_named W t)
         (option_and_then (said.named_in t n) o))
         (option_and_then (extension_named W) (W.extensions (t, pos n))))

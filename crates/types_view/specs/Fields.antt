@@ -1,13 +1,13 @@
 -- What the entries of a pool's messages, fields and extensions tell of its records.
-use Rattle.std.specs.Prelude.{◌≡◌, ℕ, ℤ, List, [], ◌∷◌, Bool, true, false, not, ◌&&◌, ◌||◌, cond, is_some, Option, None, Some, map, unwrap_or, slice_get, Contains}
-use Rattle.std.specs.List.{AllZip, flat_map}
+use Rattle.std.specs.Prelude.{◌≡◌, ◌==◌, ℕ, ℤ, List, [], ◌∷◌, length, Bool, true, false, not, ◌&&◌, ◌||◌, cond, is_some, Option, None, Some, map, unwrap_or, slice_get, slice_index_or, Contains}
+use Rattle.std.specs.List.{AllZip, filter, flat_map}
 use Rattle.descriptor_records.specs.Content.{Text, FieldContent, FileContent, file_view}
 use Rattle.descriptor_records.specs.FieldNumbers.{type_number}
 use Rattle.descriptor_records.specs.declared.field.FieldType.{FieldType as TypeNumber}
 use Rattle.reflect_fields.specs.FieldDefaults.{IsWritten}
 use Rattle.reflect_fields.specs.Fields.{is_message, is_packable, natural, scalar_type}
 use Rattle.reflect_tables.specs.Names.{FullName, names_of, messages, enums}
-use Rattle.reflect_tables.specs.Types.{DefaultType, ExtensionType, FieldType, KindType, message, enumeration, MessageType, PoolType}
+use Rattle.reflect_tables.specs.Types.{DefaultType, ExtensionType, FieldType, KindType, message, enumeration, MessageType, PoolType, is_member, no_oneof}
 use Rattle.reflect_pool.specs.Shapes as pool
 use Rattle.schema_view.specs.Declarations.{Body, Declaration, declarations, FieldFacts, MessageFacts, of_message, of_field, of_oneof, of_enum, of_value, of_service, of_method, of_extension}
 use Rattle.schema_view.specs.Fields.{asks_packed, is_group, is_repeated, packed_option}
@@ -73,6 +73,18 @@ pub record IsTold (ms es : List FullName) (fs : List FileContent) (extension : B
       (record { name = e.full_name; body = body_of extension content })
   pub entry : IsEntryOf ms es (is_proto3 file) extension content e
 
+-- the field was declared `optional` in a file of proto3
+abbrev pub is_optional : FieldContent → Bool
+is_optional f = unwrap_or f.proto3_optional false
+
+-- so it is of an entry of a message, and the oneof that it is in is called synthetic where it is
+-- the only member and was declared `optional`
+pub record IsToldField (ms es : List FullName) (fs : List FileContent) (m : MessageType)
+    (e : FieldType) : Type 0 where
+  pub field : IsTold ms es fs false e
+  pub synthetic : (k : ℕ) → e.oneof ≡ Some k → (slice_index_or m.oneofs k no_oneof).synthetic
+      ≡ (is_optional field.content && (length (filter (is_member k) m.fields) == 1))
+
 pub record IsToldExtension (ms es : List FullName) (fs : List FileContent)
     (x : ExtensionType) : Type 0 where
   pub field : IsTold ms es fs true x.field
@@ -80,7 +92,8 @@ pub record IsToldExtension (ms es : List FullName) (fs : List FileContent)
 
 -- an entry stands for one of the fields that a message of the full name lists
 pub record IsListed (full : Text) (f : FieldFacts) (e : FieldType) : Type 0 where
-  pub name : e.full_name ≡ join full (text_of f.name)
+  pub full_name : e.full_name ≡ join full (text_of f.name)
+  pub name : e.name ≡ text_of f.name
   pub number : e.number ≡ field_number f
   pub oneof : e.oneof ≡ natural f.oneof
 
@@ -105,14 +118,16 @@ abbrev pub written_messages : List FileContent → List NamedMessage
 written_messages fs = flat_map (λ f. flat_map messages_in (declarations f)) fs
 
 pub record ListsFields (w : NamedMessage) (m : MessageType) : Type 0 where
-  pub name : m.full_name ≡ w.0
+  pub full_name : m.full_name ≡ w.0
+  pub name : m.name ≡ text_of w.1.name
   pub fields : AllZip (IsListed w.0) w.1.fields m.fields
 
--- a pool's messages are those of its records, one after another, each with its fields in their
--- order; and the entry of each field and of each extension is that of its declaration
+-- a pool's messages are those of its records, one after another, each with its name and with its
+-- fields in their order; and the entry of each field and of each extension is that of its
+-- declaration
 pub record TellsFields (p : PoolType) : Type 0 where
   pub listed : AllZip ListsFields (written_messages (map file_view p.records)) p.messages
   pub fields : (m : MessageType) (e : FieldType) → Contains p.messages m → Contains m.fields e
-      → IsTold (names_of p messages) (names_of p enums) (map file_view p.records) false e
+      → IsToldField (names_of p messages) (names_of p enums) (map file_view p.records) m e
   pub extensions : (x : ExtensionType) → Contains p.extensions x
       → IsToldExtension (names_of p messages) (names_of p enums) (map file_view p.records) x
