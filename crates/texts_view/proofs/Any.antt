@@ -30,7 +30,7 @@ use Rattle.types_view.proofs.Held.{NoNumber, NumberedField, message_is, own, own
 use Rattle.types_view.proofs.KindNumbers.{Sorted, sorted}
 use Rattle.types_view.proofs.Listed as listed
 use Rattle.texts_view.specs.Named.{is_any, is_lone, member_count, shares}
-use Rattle.texts_view.proofs.Kinds.{bytes_same, string_same}
+use Rattle.texts_view.proofs.FieldKinds.{bytes_same, string_same}
 
 -- what is no list and no map is not repeated
 alone : (repeated entry plain shared : Bool)

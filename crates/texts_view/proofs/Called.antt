@@ -34,7 +34,7 @@ use Rattle.types_view.proofs.Held.{NoField, OwnField, first_field, same_type}
 use Rattle.types_view.proofs.Listed.{Agree}
 use Rattle.texts_view.specs.Named.{extension_called, extension_in, first_called, held_number, if_group_called, if_plain, is_type_called, number_at, number_called, plain_or_group}
 use Rattle.texts_view.proofs.Fields.{IsKnown, extended_held, facts, full, known_extended, known_number, number_known, own_held, own_known}
-use Rattle.texts_view.proofs.Kinds.{called_same, kind_is}
+use Rattle.texts_view.proofs.FieldKinds.{called_same, kind_is}
 
 plain_from : (e f : FieldType) → pool.if_plain e ≡ Some f → e ≡ f
 plain_from e f = by e.group where

@@ -1,7 +1,7 @@
 pub mod Any
 pub mod Called
 pub mod Fields
-pub mod Kinds
+pub mod FieldKinds
 pub mod Names
 pub mod Settled
 pub mod Under

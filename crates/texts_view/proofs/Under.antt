@@ -1,5 +1,5 @@
 -- What texts call what messages hold under numbers, by a pool and by the view of its records.
-use Rattle.std.proofs.Common.{◌≡◌, ◌∙◌, ◌⊎◌, inl, inr, ℕ, ℤ, pos, Bool, true, false, cond, List, [], ◌∷◌, Option, Some, None, is_some, map, slice_get, ap, sym, subst, refl}
+use Rattle.std.proofs.Common.{◌&&◌, ◌≡◌, ◌∙◌, ◌⊎◌, inl, inr, ℕ, ℤ, pos, Bool, true, false, cond, List, [], ◌∷◌, Option, Some, None, is_some, map, slice_get, ap, sym, subst, refl}
 use Rattle.std.specs.Option.{option_and_then, option_map, option_or}
 use Rattle.descriptor_records.specs.Content.{Text, EnumValueContent, FieldContent, FileContent, file_view}
 use Rattle.protobuf_model.specs.Types.{Name}
@@ -24,8 +24,8 @@ use Rattle.types_view.proofs.Held.{map_same, map_values}
 use Rattle.types_view.proofs.KindNumbers.{sorted}
 use Rattle.texts_view.specs.Named.{entry_type, enum_values, extension_under, field_under, label_of, message_name, message_of, name_of_value, of_values, printed_name, record_under}
 use Rattle.texts_view.proofs.Fields.{IsKnown, full, known_under}
-use Rattle.texts_view.proofs.Kinds as kinds
-use Rattle.texts_view.proofs.Kinds.{kind_is}
+use Rattle.texts_view.proofs.FieldKinds as kinds
+use Rattle.texts_view.proofs.FieldKinds.{kind_is}
 
 both_full : (f x : Option FieldType) → option_or (option_map full f) (option_map full x)
     ≡ option_map full (option_or f x)
