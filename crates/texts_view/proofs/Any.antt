@@ -1,8 +1,7 @@
 -- A type that keeps messages of any type, by a pool and by the view of its records.
-use Rattle.std.proofs.Common.{◌≡◌, ◌∙◌, ◌⊎◌, inl, inr, ℕ, ℤ, pos, negsuc, Bool, true, false, not, ◌&&◌, ◌==◌, cond, List, [], ◌∷◌, Option, Some, None, bytes_eq, codes, length, map, slice_get, slice_index_or, ap, sym, subst, refl}
-use Rattle.std.specs.List.{filter}
+use Rattle.std.proofs.Common.{◌≡◌, ◌∙◌, ◌⊎◌, inl, inr, ℕ, ℤ, pos, negsuc, Bool, true, false, not, ◌&&◌, ◌==◌, Option, Some, None, bytes_eq, codes, map, slice_get, slice_index_or, ap, sym, refl}
 use Rattle.std.specs.Option.{option_and_then}
-use Rattle.descriptor_records.specs.Content.{Text, FieldContent, FileContent, file_view}
+use Rattle.descriptor_records.specs.Content.{FieldContent, file_view}
 use Rattle.protobuf_model.specs.Types.{Name}
 use Rattle.reflect_any.specs.Any as any
 use Rattle.reflect_fields.specs.Fields.{natural}
@@ -10,19 +9,16 @@ use Rattle.reflect_index.proofs.Among.{index_is}
 use Rattle.reflect_message.specs.Known.{numbered_field}
 use Rattle.reflect_pool.specs.Shapes.{holds_list, holds_map, is_entry}
 use Rattle.reflect_pool.specs.Shapes as shapes
-use Rattle.reflect_tables.specs.Names.{FullName, enums, messages, names_of}
-use Rattle.reflect_tables.specs.Types.{FieldType, KindType, MessageType, PoolType, is_member, no_oneof, no_type, type_at}
-use Rattle.schema_view.specs.Declarations.{FieldFacts, MessageFacts}
+use Rattle.reflect_tables.specs.Names.{enums, messages, names_of}
+use Rattle.reflect_tables.specs.Types.{KindType, MessageType, PoolType, no_oneof, no_type, type_at}
+use Rattle.schema_view.specs.Declarations.{MessageFacts}
 use Rattle.schema_view.specs.Fields.{is_repeated}
 use Rattle.schema_view.specs.Rules.{is_number}
 use Rattle.schema_view.specs.Scalars.{scalar_type}
-use Rattle.schema_view.specs.Types.{field_at, message_at, message_in, name_of_field, named_in}
+use Rattle.schema_view.specs.Types.{field_at, message_at, named_in}
 use Rattle.schema_view.specs.Views.{View, view_of}
 use Rattle.schema_view.proofs.Road.{AreLinked}
-use Rattle.linked_view.specs.Entries.{HasDeclaredEntries, TellsEntries}
-use Rattle.linked_view.specs.Extended.{TellsExtensions}
 use Rattle.linked_view.specs.Valued.{TellsValues}
-use Rattle.message_view.specs.Sound.{HaveNames}
 use Rattle.text_view.specs.Schemas.{is_any_at, is_bytes, is_string}
 use Rattle.text_view.specs.Schemas as pool
 use Rattle.types_view.specs.Fields.{TellsFields, is_optional}

@@ -13,7 +13,7 @@ use Rattle.schema_view.specs.Fields.{is_group}
 use Rattle.schema_view.specs.Files.{text_of}
 use Rattle.schema_view.specs.Lawful.{is_dotted}
 use Rattle.schema_view.specs.Rules.{HasFieldNumber}
-use Rattle.schema_view.specs.Types.{body_at, extension_named, field_at, field_number, own_named}
+use Rattle.schema_view.specs.Types.{body_at, extension_named, field_number, own_named}
 use Rattle.schema_view.specs.Views.{Held, View, view_of, when}
 use Rattle.schema_view.proofs.Looking.{from_there}
 use Rattle.schema_view.proofs.Road.{AreLinked}
@@ -32,7 +32,7 @@ use Rattle.types_view.proofs.Extended.{called, extendee_there, extends, found_th
 use Rattle.types_view.proofs.Found.{body_found}
 use Rattle.types_view.proofs.Held.{NoField, OwnField, first_field, same_type}
 use Rattle.types_view.proofs.Listed.{Agree}
-use Rattle.texts_view.specs.Named.{extension_called, extension_in, first_called, held_number, if_group_called, if_plain, is_type_called, number_at, number_called, plain_or_group}
+use Rattle.texts_view.specs.Named.{extension_called, extension_in, first_called, if_group_called, if_plain, is_type_called, number_at, number_called, plain_or_group}
 use Rattle.texts_view.proofs.Fields.{IsKnown, extended_held, facts, full, known_extended, known_number, number_known, own_held, own_known}
 use Rattle.texts_view.proofs.FieldKinds.{called_same, kind_is}
 

@@ -1,9 +1,9 @@
 -- What the type of a field is, by its record and by its entry.
-use Rattle.std.proofs.Common.{◌≡◌, ◌∙◌, ℕ, ℤ, pos, Bool, true, false, cond, List, [], ◌∷◌, Option, Some, None, bytes_eq, map, slice_get, slice_index_or, ap, sym, subst, refl}
+use Rattle.std.proofs.Common.{◌≡◌, ◌∙◌, ℕ, ℤ, pos, Bool, true, false, cond, List, [], ◌∷◌, Option, Some, None, bytes_eq, map, slice_get, ap, sym, subst, refl}
 use Rattle.std.specs.List.{find}
 use Rattle.std.specs.Option.{option_and_then, option_map}
 use Rattle.std.specs.Ordering.{int_eq}
-use Rattle.descriptor_records.specs.Content.{Text, EnumValueContent, FieldContent, FileContent, file_view}
+use Rattle.descriptor_records.specs.Content.{Text, EnumValueContent, FieldContent, file_view}
 use Rattle.descriptor_records.specs.FieldNumbers.{type_number}
 use Rattle.descriptor_records.specs.declared.field.FieldType.{FieldType as TypeNumber}
 use Rattle.descriptor_records.specs.declared.field.FieldType.TheVariants as numbers
@@ -17,8 +17,8 @@ use Rattle.schema_view.specs.Declarations.{of_enum, of_message}
 use Rattle.schema_view.specs.Files.{text_of}
 use Rattle.schema_view.specs.Rules.{is_number}
 use Rattle.schema_view.specs.Scalars as view
-use Rattle.schema_view.specs.Types.{body_at, enum_in, message_in, number_in, type_at, type_name, undotted, value_number, values_of}
-use Rattle.schema_view.specs.Views.{View, first, or_else, view_of, when}
+use Rattle.schema_view.specs.Types.{body_at, message_in, number_in, type_at, type_name, undotted, value_number, values_of}
+use Rattle.schema_view.specs.Views.{View, or_else, view_of, when}
 use Rattle.schema_view.proofs.Road.{AreLinked}
 use Rattle.linked_view.specs.Valued.{NumberedValue, TellsValues, numbered_value}
 use Rattle.reflect_index.proofs.Among.{index_is}
@@ -28,7 +28,7 @@ use Rattle.types_view.specs.Fields.{Holds, HoldsScalar, TellsFields}
 use Rattle.types_view.proofs.Held.{own}
 use Rattle.types_view.proofs.KindNumbers.{Sorted, a_message, a_scalar, an_enum, each_scalar, some_kind, sorted}
 use Rattle.types_view.proofs.Told.{EnumTold, enum_at, enum_told, message_at, type_is}
-use Rattle.texts_view.specs.Named.{is_type_called, label_of, message_name, message_of, name_of_value}
+use Rattle.texts_view.specs.Named.{is_type_called, message_name, message_of, name_of_value}
 
 -- ---- kinds
 

@@ -1,19 +1,18 @@
 -- A pool says to texts what the view of its records says.
-use Rattle.std.proofs.Common.{◌≡◌, ◌∙◌, ◌⊎◌, inl, inr, ℕ, ℤ, pos, Bool, true, false, not, ◌&&◌, ◌==◌, cond, List, [], ◌∷◌, Option, Some, None, bytes_eq, codes, is_some, length, map, slice_get, slice_index_or, ap, sym, subst, refl}
+use Rattle.std.proofs.Common.{◌≡◌, ◌∙◌, ◌⊎◌, inl, inr, ℕ, Bool, not, ◌&&◌, ◌==◌, List, [], Option, Some, None, bytes_eq, codes, is_some, map, slice_get, slice_index_or, ap, sym, subst, refl}
 use Rattle.std.specs.Char.{to_ascii_lowercase}
-use Rattle.std.specs.List.{Contains, filter, find}
+use Rattle.std.specs.List.{filter, find}
 use Rattle.std.specs.Option.{option_and_then, option_map}
 use Rattle.std.proofs.lemmas.Slice.Eq.{bytes_eq-Decides}
-use Rattle.descriptor_records.specs.Content.{Text, FieldContent, FileContent, file_view}
+use Rattle.descriptor_records.specs.Content.{Text, file_view}
 use Rattle.protobuf_model.specs.Types.{Name}
 use Rattle.protobuf_model.specs.Values.{Message}
 use Rattle.reflect_index.proofs.Among.{index_is}
 use Rattle.reflect_message.specs.Known.{holds_floats, if_held, known_field, numbered_field}
 use Rattle.reflect_pool.specs.Dots.{without_dot}
-use Rattle.reflect_tables.specs.Types.{ExtensionType, FieldType, MessageType, PoolType, no_type, type_at}
-use Rattle.schema_view.specs.Declarations.{FieldFacts, MessageFacts}
+use Rattle.reflect_tables.specs.Types.{FieldType, MessageType, PoolType, no_type, type_at}
+use Rattle.schema_view.specs.Declarations.{MessageFacts}
 use Rattle.schema_view.specs.Files.{join, text_of}
-use Rattle.schema_view.specs.Types as said
 use Rattle.schema_view.specs.Types.{extension_named, message_at, named_in, own_named}
 use Rattle.schema_view.specs.Views.{View, view_of, when}
 use Rattle.schema_view.proofs.Road.{AreLinked}
@@ -23,22 +22,21 @@ use Rattle.linked_view.specs.Valued.{TellsValues}
 use Rattle.linked_view.proofs.Places.{contains_get, get_contains}
 use Rattle.message_view.specs.Sound.{HaveNames}
 use Rattle.message_view.specs.Types.{place_in}
-use Rattle.text_model.specs.Schemas.{Names, Schema}
 use Rattle.text_view.specs.Names as pool
 use Rattle.text_view.specs.Schemas as pools
 use Rattle.text_view.specs.Schemas.{is_any_at, schema_of}
-use Rattle.types_view.specs.Fields.{IsListed, TellsFields}
+use Rattle.types_view.specs.Fields.{TellsFields}
 use Rattle.types_view.proofs.Extended.{found_there, no_extension_same, none_found}
 use Rattle.types_view.proofs.Found.{StandsAt, StandsNowhere, stands}
 use Rattle.types_view.proofs.Held.{listed_as, message_is, own}
 use Rattle.types_view.proofs.Listed.{Agree, numbers_kept}
 use Rattle.types_view.proofs.Types.{behind_last, no_message, types_same}
-use Rattle.texts_view.specs.Named.{extension_called, field_under, if_group_called, if_plain, called_in, is_any, names_in, number_called, numbers_in, plain_or_group, schema_in, type_called}
+use Rattle.texts_view.specs.Named.{extension_called, if_group_called, if_plain, called_in, is_any, names_in, number_called, numbers_in, plain_or_group, schema_in, type_called}
 use Rattle.texts_view.proofs.Any.{any_same, no_any}
 use Rattle.texts_view.proofs.Called as called
 use Rattle.texts_view.proofs.Called.{extension_number, no_extension_number}
-use Rattle.texts_view.proofs.Fields.{IsKnown, extended_under, field_same, full, held_as, held_under, under_same}
-use Rattle.texts_view.proofs.Under.{AreAlike, IsNamed, number_same, printed_same, type_same, value_same}
+use Rattle.texts_view.proofs.Fields.{extended_under, field_same, full, held_as, held_under, under_same}
+use Rattle.texts_view.proofs.Under.{AreAlike, number_same, printed_same, type_same, value_same}
 
 module _ (p : PoolType) (l : AreLinked (map file_view p.records)) (tells : TellsFields p)
     (values : TellsValues p) (entries : TellsEntries p) (declared : HasDeclaredEntries p)

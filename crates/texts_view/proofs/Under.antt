@@ -1,7 +1,7 @@
 -- What texts call what messages hold under numbers, by a pool and by the view of its records.
-use Rattle.std.proofs.Common.{◌&&◌, ◌≡◌, ◌∙◌, ◌⊎◌, inl, inr, ℕ, ℤ, pos, Bool, true, false, cond, List, [], ◌∷◌, Option, Some, None, is_some, map, slice_get, ap, sym, subst, refl}
+use Rattle.std.proofs.Common.{◌&&◌, ◌≡◌, ◌∙◌, ℕ, ℤ, Bool, true, false, cond, List, [], Option, Some, None, map, ap, sym, subst, refl}
 use Rattle.std.specs.Option.{option_and_then, option_map, option_or}
-use Rattle.descriptor_records.specs.Content.{Text, EnumValueContent, FieldContent, FileContent, file_view}
+use Rattle.descriptor_records.specs.Content.{Text, EnumValueContent, FieldContent, file_view}
 use Rattle.protobuf_model.specs.Types.{Name}
 use Rattle.reflect_print.specs.Named as print
 use Rattle.reflect_tables.specs.Names.{enums, messages, names_of}

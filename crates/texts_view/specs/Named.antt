@@ -1,5 +1,5 @@
 -- How texts name what the types of a schema's view have.
-use Rattle.std.specs.Prelude.{ℕ, ℤ, pos, List, [], ◌∷◌, length, map, Bool, false, cond, not, is_some, ◌&&◌, ◌==◌, Option, Some, None, codes}
+use Rattle.std.specs.Prelude.{ℕ, ℤ, pos, List, [], length, map, Bool, false, cond, not, is_some, ◌&&◌, ◌==◌, Option, Some, None, codes}
 use Rattle.std.specs.Char.{to_ascii_lowercase}
 use Rattle.std.specs.List.{filter}
 use Rattle.std.specs.Option.{option_and_then, option_map, option_or}
