@@ -12,7 +12,6 @@ use Rattle.reflect_decode.specs.Maps.{ContinuesMap}
 use Rattle.reflect_decode.specs.Messages.{Takes}
 use Rattle.protobuf_model.specs.Values.{Message, entries_of, pairs_of}
 use Rattle.protobuf_model.specs.Types.{Name, Part, Key, keyed}
-use Rattle.protobuf_model.specs.Keys.{put}
 use Rattle.protobuf_model.specs.Meaning.{Merge, entry, pairs, if_some, put_all}
 use Rattle.protobuf_model.specs.Typed.{IsEntryOf}
 use Rattle.protobuf_model.proofs.Pieces.{pairs-if_some}

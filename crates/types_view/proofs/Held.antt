@@ -24,7 +24,7 @@ use Rattle.schema_view.proofs.Looking.{fields_declared}
 use Rattle.schema_view.proofs.Road.{AreLinked}
 use Rattle.schema_view.proofs.Standing.{StandsIn, and_false, field_sound}
 use Rattle.linked_view.specs.Entries.{HasDeclaredEntries, TellsEntries}
-use Rattle.reflect_message.specs.Known.{entry_field, has_floats, if_held, is_float, numbered_field}
+use Rattle.reflect_message.specs.Known.{entry_field, has_floats, if_held, is_float}
 use Rattle.reflect_pool.specs.Shapes as shapes
 use Rattle.reflect_pool.specs.Shapes.{holds_map}
 use Rattle.message_view.specs.Singles.{scalar_of}
