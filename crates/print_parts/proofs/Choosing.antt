@@ -5,7 +5,7 @@ use Rattle.std.specs.Ordering.{nat_cmp, is_lt}
 use Rattle.std.specs.List.Sorted.{IsSortedByKey, IsStableByKey}
 use Rattle.std.proofs.lemmas.Cmp.{nat_cmp_total}
 use Rattle.std.proofs.lemmas.List.{append_assoc}
-use Rattle.reflect_tables.specs.Types.{FieldType}
+use Rattle.reflect_tables.specs.Types.{FieldType, type_at}
 use Rattle.reflect_message.specs.Known.{known_field}
 use Rattle.reflect_message.specs.declared.message.DynamicMessage.{DynamicMessage}
 use Rattle.text_lines.specs.declared.options.FormatOptions.{FormatOptions}
@@ -20,6 +20,10 @@ known_in m f = known_field (pool_of m) m.descriptor.index f.number
 pub record IsChosen (form : FormatOptions) (m : DynamicMessage) (done : List Entry) (left : List FieldType) : Type 0 where
   pub whole : (rest : List Entry) → Pairwise (IsFieldOf m) (filter (is_printed form m) (filter_map (known_in m) left)) rest
       → Pairwise (IsFieldOf m) (printed_fields form m) (done ++ rest)
+
+-- of all fields none so far
+pub none_chosen : (form : FormatOptions) (m : DynamicMessage) (left : List FieldType) → left ≡ (type_at (pool_of m) m.descriptor.index).fields → IsChosen form m [] left
+none_chosen form m left e = record { whole = λ rest h. subst (λ ls. Pairwise (IsFieldOf m) (filter (is_printed form m) (filter_map (known_in m) ls)) rest) e h }
 
 pub all_chosen : (form : FormatOptions) (m : DynamicMessage) (done : List Entry) (left : List FieldType) → left ≡ [] → IsChosen form m done left → Pairwise (IsFieldOf m) (printed_fields form m) done
 all_chosen form m done left e f =

@@ -1,3 +1,4 @@
 pub mod Along
 pub mod FileNames
+pub mod NextPlace
 pub mod Steps

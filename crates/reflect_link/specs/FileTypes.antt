@@ -16,3 +16,7 @@ no_file = record {
 -- the file at a place
 abbrev pub file_type_at : PoolType → ℕ → FileType
 file_type_at pool i = slice_index_or pool.files i no_file
+
+-- the same of a pool and a place together
+abbrev pub file_in : PoolType × ℕ → FileType
+file_in p = file_type_at p.0 p.1

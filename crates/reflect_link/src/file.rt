@@ -1,9 +1,10 @@
 ghost use Rattle.std.specs.Prelude.{◌≡◌, ◌<◌, All, Some, length, map, slice_get, IfSome, IsSome};
 ghost use Rattle.std.proofs.Props.{props};
-ghost use Rattle.reflect_tables.specs.Types.{declared_at, type_at, enum_at, extension_at, service_at};
+ghost use Rattle.reflect_tables.specs.Types.{declared_at};
 ghost use Rattle.reflect_tables.specs.Views.{file_of, record_file, text_of};
 ghost use Rattle.reflect_pool.specs.Imports.{import_name, imported, imported_publicly, place_named};
-ghost use Rattle.reflect_link.specs.FileTypes.{file_type_at};
+ghost use Rattle.reflect_link.specs.FileTypes.{file_in, file_type_at};
+ghost use Rattle.reflect_pool.specs.PlacesLeft.{places_in};
 
 use crate::lists::{Enums, Extensions, Messages};
 use crate::service::Services;
@@ -85,11 +86,10 @@ impl<'p> FileDescriptor<'p> {
 
     /// The imported files, in the order of the imports; none is left out.
     pub fn dependencies(&self) -> Files<'p>
-        ensures files { files_left result
-            ≡ map (file_type_at self.now.pool.now)
+        ensures files { files_left result ≡ places_in self.now.pool.now
             (imported (place_named self.now.pool.now)
             (file_type_at self.now.pool.now self.now.index)) }
-        ensures names { map (λ f. f.name) (files_left result)
+        ensures names { map (λ f. (file_in f).name) (files_left result)
             ≡ (file_type_at self.now.pool.now self.now.index).imports }
     {
         Files {
@@ -100,11 +100,10 @@ impl<'p> FileDescriptor<'p> {
 
     /// The publicly imported files, in the order in which they are named; none is left out.
     pub fn public_dependencies(&self) -> Files<'p>
-        ensures files { files_left result
-            ≡ map (file_type_at self.now.pool.now)
+        ensures files { files_left result ≡ places_in self.now.pool.now
             (imported_publicly (place_named self.now.pool.now)
             (file_type_at self.now.pool.now self.now.index)) }
-        ensures names { map (λ f. f.name) (files_left result)
+        ensures names { map (λ f. (file_in f).name) (files_left result)
             ≡ map (import_name (file_type_at self.now.pool.now self.now.index).imports)
             (file_type_at self.now.pool.now self.now.index).public_imports }
     {
@@ -116,8 +115,7 @@ impl<'p> FileDescriptor<'p> {
 
     /// The message types that stand in no message, as they were declared.
     pub fn messages(&self) -> Messages<'p>
-        ensures { messages_left result
-            ≡ map (type_at self.now.pool.now)
+        ensures { messages_left result ≡ places_in self.now.pool.now
             (declared_at self.now.pool.now self.now.index).children.messages }
     {
         Messages {
@@ -133,7 +131,7 @@ impl<'p> FileDescriptor<'p> {
 
     /// The enum types that stand in no message, as they were declared.
     pub fn enums(&self) -> Enums<'p>
-        ensures { enums_left result ≡ map (enum_at self.now.pool.now)
+        ensures { enums_left result ≡ places_in self.now.pool.now
             (declared_at self.now.pool.now self.now.index).children.enums }
     {
         Enums {
@@ -144,8 +142,7 @@ impl<'p> FileDescriptor<'p> {
 
     /// The extensions that stand in no message, as they were declared.
     pub fn extensions(&self) -> Extensions<'p>
-        ensures { extensions_left result
-            ≡ map (extension_at self.now.pool.now)
+        ensures { extensions_left result ≡ places_in self.now.pool.now
             (declared_at self.now.pool.now self.now.index).children.extensions }
     {
         Extensions {
@@ -161,8 +158,7 @@ impl<'p> FileDescriptor<'p> {
 
     /// The services, as they were declared.
     pub fn services(&self) -> Services<'p>
-        ensures { services_left result
-            ≡ map (service_at self.now.pool.now)
+        ensures { services_left result ≡ places_in self.now.pool.now
             (declared_at self.now.pool.now self.now.index).services }
     {
         Services {
@@ -191,12 +187,12 @@ pub struct Files<'p> {
 
 impl<'p> Iterator for Files<'p> {
     ghost use Rattle.std.specs.Iterator.{YieldsFirstBy, item_count};
-    ghost use Rattle.reflect_link.specs.FilesLeft.{file_type};
+    ghost use Rattle.reflect_link.specs.FilesLeft.{file_place};
     ghost use Rattle.reflect_link.specs.ListsLeft.{files_left};
 
     type Item = FileDescriptor<'p>;
 
-    ghost next_gives = { YieldsFirstBy file_type files_left };
+    ghost next_gives = { YieldsFirstBy file_place files_left };
 
     ghost remaining = { item_count files_left };
 

@@ -16,11 +16,11 @@ pub struct Messages<'p> {
 impl<'p> Iterator for Messages<'p> {
     ghost use Rattle.std.specs.Iterator.{YieldsFirstBy, item_count};
     ghost use Rattle.reflect_link.specs.ListsLeft.{messages_left};
-    ghost use Rattle.reflect_link.specs.TypesLeft.{message_type};
+    ghost use Rattle.reflect_link.specs.TypesLeft.{message_place};
 
     type Item = MessageDescriptor<'p>;
 
-    ghost next_gives = { YieldsFirstBy message_type messages_left };
+    ghost next_gives = { YieldsFirstBy message_place messages_left };
 
     ghost remaining = { item_count messages_left };
 
@@ -42,11 +42,11 @@ pub struct Enums<'p> {
 impl<'p> Iterator for Enums<'p> {
     ghost use Rattle.std.specs.Iterator.{YieldsFirstBy, item_count};
     ghost use Rattle.reflect_link.specs.ListsLeft.{enums_left};
-    ghost use Rattle.reflect_link.specs.TypesLeft.{enum_type};
+    ghost use Rattle.reflect_link.specs.TypesLeft.{enum_place};
 
     type Item = EnumDescriptor<'p>;
 
-    ghost next_gives = { YieldsFirstBy enum_type enums_left };
+    ghost next_gives = { YieldsFirstBy enum_place enums_left };
 
     ghost remaining = { item_count enums_left };
 
@@ -68,11 +68,11 @@ pub struct Extensions<'p> {
 impl<'p> Iterator for Extensions<'p> {
     ghost use Rattle.std.specs.Iterator.{YieldsFirstBy, item_count};
     ghost use Rattle.reflect_link.specs.ListsLeft.{extensions_left};
-    ghost use Rattle.reflect_link.specs.TypesLeft.{extension_type};
+    ghost use Rattle.reflect_pool.specs.ExtensionsLeft.{extension_place};
 
     type Item = ExtensionDescriptor<'p>;
 
-    ghost next_gives = { YieldsFirstBy extension_type extensions_left };
+    ghost next_gives = { YieldsFirstBy extension_place extensions_left };
 
     ghost remaining = { item_count extensions_left };
 

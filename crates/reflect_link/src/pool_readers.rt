@@ -12,13 +12,15 @@ use reflect_tables::StoredFile;
 pub trait PoolReaders {
     ghost use Rattle.reflect_link.specs.FilesLeft.{files_left, records_left};
     ghost use Rattle.reflect_link.specs.TypesLeft.{messages_left, enums_left, extensions_left, services_left};
+    ghost use Rattle.reflect_pool.specs.PlacesLeft.{places_from};
 
     /// What the pool holds.
     ghost holds: { Self → PoolType };
 
     /// The files, in the order in which they were added.
     fn files(&self) -> AllFiles<'_>
-        ensures { files_left result ≡ (holds self.now).files };
+        ensures { files_left result
+            ≡ places_from (holds self.now) 0 (length (holds self.now).files) };
 
     /// The records of the files, with full names in place of references.
     fn file_descriptor_protos(&self) -> FileRecords<'_>
@@ -27,19 +29,23 @@ pub trait PoolReaders {
     /// All message types, of each file with those that stand in others, each before what stands in
     /// it.
     fn all_messages(&self) -> AllMessages<'_>
-        ensures { messages_left result ≡ (holds self.now).messages };
+        ensures { messages_left result
+            ≡ places_from (holds self.now) 0 (length (holds self.now).messages) };
 
     /// All enum types, of each file.
     fn all_enums(&self) -> AllEnums<'_>
-        ensures { enums_left result ≡ (holds self.now).enums };
+        ensures { enums_left result
+            ≡ places_from (holds self.now) 0 (length (holds self.now).enums) };
 
     /// All extensions, of each file.
     fn all_extensions(&self) -> AllExtensions<'_>
-        ensures { extensions_left result ≡ (holds self.now).extensions };
+        ensures { extensions_left result
+            ≡ places_from (holds self.now) 0 (length (holds self.now).extensions) };
 
     /// All services, of each file.
     fn services(&self) -> AllServices<'_>
-        ensures { services_left result ≡ (holds self.now).services };
+        ensures { services_left result
+            ≡ places_from (holds self.now) 0 (length (holds self.now).services) };
 
     /// The file of a name.
     fn get_file_by_name(&self, name: &str) -> Option<FileDescriptor<'_>>
@@ -121,11 +127,11 @@ pub struct AllFiles<'p> {
 
 impl<'p> Iterator for AllFiles<'p> {
     ghost use Rattle.std.specs.Iterator.{YieldsFirstBy, item_count};
-    ghost use Rattle.reflect_link.specs.FilesLeft.{file_type, files_left};
+    ghost use Rattle.reflect_link.specs.FilesLeft.{file_place, files_left};
 
     type Item = FileDescriptor<'p>;
 
-    ghost next_gives = { YieldsFirstBy file_type files_left };
+    ghost next_gives = { YieldsFirstBy file_place files_left };
 
     ghost remaining = { item_count files_left };
 
@@ -151,11 +157,11 @@ pub struct AllMessages<'p> {
 
 impl<'p> Iterator for AllMessages<'p> {
     ghost use Rattle.std.specs.Iterator.{YieldsFirstBy, item_count};
-    ghost use Rattle.reflect_link.specs.TypesLeft.{message_type, messages_left};
+    ghost use Rattle.reflect_link.specs.TypesLeft.{message_place, messages_left};
 
     type Item = MessageDescriptor<'p>;
 
-    ghost next_gives = { YieldsFirstBy message_type messages_left };
+    ghost next_gives = { YieldsFirstBy message_place messages_left };
 
     ghost remaining = { item_count messages_left };
 
@@ -181,11 +187,11 @@ pub struct AllEnums<'p> {
 
 impl<'p> Iterator for AllEnums<'p> {
     ghost use Rattle.std.specs.Iterator.{YieldsFirstBy, item_count};
-    ghost use Rattle.reflect_link.specs.TypesLeft.{enum_type, enums_left};
+    ghost use Rattle.reflect_link.specs.TypesLeft.{enum_place, enums_left};
 
     type Item = EnumDescriptor<'p>;
 
-    ghost next_gives = { YieldsFirstBy enum_type enums_left };
+    ghost next_gives = { YieldsFirstBy enum_place enums_left };
 
     ghost remaining = { item_count enums_left };
 
@@ -211,11 +217,12 @@ pub struct AllExtensions<'p> {
 
 impl<'p> Iterator for AllExtensions<'p> {
     ghost use Rattle.std.specs.Iterator.{YieldsFirstBy, item_count};
-    ghost use Rattle.reflect_link.specs.TypesLeft.{extension_type, extensions_left};
+    ghost use Rattle.reflect_link.specs.TypesLeft.{extensions_left};
+    ghost use Rattle.reflect_pool.specs.ExtensionsLeft.{extension_place};
 
     type Item = ExtensionDescriptor<'p>;
 
-    ghost next_gives = { YieldsFirstBy extension_type extensions_left };
+    ghost next_gives = { YieldsFirstBy extension_place extensions_left };
 
     ghost remaining = { item_count extensions_left };
 
@@ -241,11 +248,11 @@ pub struct AllServices<'p> {
 
 impl<'p> Iterator for AllServices<'p> {
     ghost use Rattle.std.specs.Iterator.{YieldsFirstBy, item_count};
-    ghost use Rattle.reflect_link.specs.TypesLeft.{service_type, services_left};
+    ghost use Rattle.reflect_link.specs.TypesLeft.{service_place, services_left};
 
     type Item = ServiceDescriptor<'p>;
 
-    ghost next_gives = { YieldsFirstBy service_type services_left };
+    ghost next_gives = { YieldsFirstBy service_place services_left };
 
     ghost remaining = { item_count services_left };
 

@@ -1,7 +1,7 @@
 //! What the records say, and what stands in a type.
 
 ghost use Rattle.std.specs.Prelude.{◌≡◌, ℕ, map, string_bytes};
-ghost use Rattle.reflect_tables.specs.Types.{PoolType, type_at, enum_at, extension_at};
+ghost use Rattle.reflect_tables.specs.Types.{PoolType, type_at};
 ghost use Rattle.descriptor_records.specs.declared.message.DescriptorProto.TheViews.{out-DescriptorProto};
 ghost use Rattle.descriptor_records.specs.declared.enums.EnumDescriptorProto.{EnumDescriptorProto};
 ghost use Rattle.descriptor_records.specs.declared.enums.EnumValueDescriptorProto.{EnumValueDescriptorProto};
@@ -29,6 +29,7 @@ use reflect_pool::{
 pub trait MessageReaders<'p> {
     ghost use Rattle.reflect_link.specs.ListsLeft.{messages_left, enums_left, extensions_left};
     ghost use Rattle.reflect_link.specs.Reserved.{reserved_bounds, extension_bounds, reserved_left, ranges_left, names_left};
+    ghost use Rattle.reflect_pool.specs.PlacesLeft.{places_in};
 
     /// The pool that the type stands in.
     ghost in_pool: { Self → PoolType };
@@ -42,19 +43,17 @@ pub trait MessageReaders<'p> {
 
     /// The message types that are declared in the type, as they were declared.
     fn child_messages(&self) -> Messages<'p>
-        ensures { messages_left result
-            ≡ map (type_at (in_pool self.now))
+        ensures { messages_left result ≡ places_in (in_pool self.now)
             (type_at (in_pool self.now) (place self.now)).children.messages };
 
     /// The enum types that are declared in the type, as they were declared.
     fn child_enums(&self) -> Enums<'p>
-        ensures { enums_left result ≡ map (enum_at (in_pool self.now))
+        ensures { enums_left result ≡ places_in (in_pool self.now)
             (type_at (in_pool self.now) (place self.now)).children.enums };
 
     /// The extensions that are declared in the type, whatever they extend, as they were declared.
     fn child_extensions(&self) -> Extensions<'p>
-        ensures { extensions_left result
-            ≡ map (extension_at (in_pool self.now))
+        ensures { extensions_left result ≡ places_in (in_pool self.now)
             (type_at (in_pool self.now) (place self.now)).children.extensions };
 
     /// The numbers that no field may have.

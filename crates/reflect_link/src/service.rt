@@ -22,6 +22,7 @@ pub struct ServiceDescriptor<'p> {
 
 impl<'p> ServiceDescriptor<'p> {
     ghost use Rattle.reflect_link.specs.MethodsLeft.{methods_left};
+    ghost use Rattle.reflect_pool.specs.PlacesLeft.{places_from};
 
     /// The service at a place of a pool.
     pub fn new(pool: &'p DescriptorPool, index: u32) -> ServiceDescriptor<'p>
@@ -112,7 +113,8 @@ impl<'p> ServiceDescriptor<'p> {
 
     /// The methods, as they were declared.
     pub fn methods(&self) -> Methods<'p>
-        ensures { methods_left result ≡ (service_at self.now.pool.now self.now.index).methods }
+        ensures { methods_left result ≡ places_from self.now 0
+            (length (service_at self.now.pool.now self.now.index).methods) }
     {
         Methods {
             service: *self,
@@ -151,11 +153,11 @@ pub struct Services<'p> {
 impl<'p> Iterator for Services<'p> {
     ghost use Rattle.std.specs.Iterator.{YieldsFirstBy, item_count};
     ghost use Rattle.reflect_link.specs.ListsLeft.{services_left};
-    ghost use Rattle.reflect_link.specs.TypesLeft.{service_type};
+    ghost use Rattle.reflect_link.specs.TypesLeft.{service_place};
 
     type Item = ServiceDescriptor<'p>;
 
-    ghost next_gives = { YieldsFirstBy service_type services_left };
+    ghost next_gives = { YieldsFirstBy service_place services_left };
 
     ghost remaining = { item_count services_left };
 
@@ -190,11 +192,11 @@ pub struct Methods<'p> {
 
 impl<'p> Iterator for Methods<'p> {
     ghost use Rattle.std.specs.Iterator.{YieldsFirstBy, item_count};
-    ghost use Rattle.reflect_link.specs.MethodsLeft.{method_type, methods_left};
+    ghost use Rattle.reflect_link.specs.MethodsLeft.{method_place, methods_left};
 
     type Item = MethodDescriptor<'p>;
 
-    ghost next_gives = { YieldsFirstBy method_type methods_left };
+    ghost next_gives = { YieldsFirstBy method_place methods_left };
 
     ghost remaining = { item_count methods_left };
 

@@ -8,5 +8,6 @@ pub mod Lookups
 pub mod Numbered
 pub mod OneofMembers
 pub mod Places
+pub mod PlacesLeft
 pub mod Ranged
 pub mod Within

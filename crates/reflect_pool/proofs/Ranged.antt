@@ -20,7 +20,7 @@ use Rattle.std.specs.declared.ops.Bound.TheVariants.{Included, Excluded}
 use Rattle.std.specs.declared.cmp.Ordering.TheVariants.{Less, Equal}
 use Rattle.reflect_tables.specs.Types.{PoolType, ExtensionType, extension_at, no_extension}
 use Rattle.reflect_tables.specs.ExtensionNumbers.{KeyType, key_cmp, numbers_of}
-use Rattle.reflect_pool.specs.ExtensionsLeft.{AreExtensions, extension_type}
+use Rattle.reflect_pool.specs.ExtensionsLeft.{AreExtensions, extension_place}
 use Rattle.reflect_pool.specs.Linked.{AreNumbered, key_of}
 use Rattle.reflect_pool.specs.declared.extension.ExtensionDescriptor.{ExtensionDescriptor}
 use Rattle.reflect_pool.proofs.Numbered.{key_total, here, numbered_at}
@@ -153,10 +153,14 @@ pub left_all : {A X : Type 0} (shows : A → X) (P : X → Type 0) (s t : List X
 left_all shows P s t None e h = subst (λ l. All P l) (sym e.1) (λ k d lt. absurd (omega (arith, lt)))
 left_all shows P s t (Some x) e h = All-tail P (shows x) t (subst (λ l. All P l) e h)
 
+-- the places that entries of a pool name
+abbrev pub places_of : PoolType → List Entry → List (PoolType × ℕ)
+places_of p es = map (λ (e : Entry). (p, e.1)) es
+
 pub gives_first : (p : PoolType) (key : KeyType) (place : ℕ) (es left : List Entry) (r : Option ExtensionDescriptor) → es ≡ (key, place) ∷ left → All (λ (e : Entry). e.1 < length p.extensions) es
     → (place < length p.extensions → IsSome r) → IfSome r (λ x. x.pool.now ≡ p) → IfSome r (λ x. x.index ≡ place)
-    → MatchOption r ((map (λ (e : Entry). extension_at p e.1) es ≡ []) × (map (λ (e : Entry). extension_at p e.1) left ≡ [])) (λ x. map (λ (e : Entry). extension_at p e.1) es ≡ extension_type x ∷ map (λ (e : Entry). extension_at p e.1) left)
+    → MatchOption r ((places_of p es ≡ []) × (places_of p left ≡ [])) (λ x. places_of p es ≡ extension_place x ∷ places_of p left)
 gives_first p key place es left None e all there pool at = let some = there (subst (λ l. All (λ (e : Entry). e.1 < length p.extensions) l) e all 0 (key, place) (omega arith)) in absurd (cc)
 gives_first p key place es left (Some x) e all there pool at =
-    let same : extension_type x ≡ extension_at p place = ap (λ q. extension_at q x.index) pool ∙ ap (extension_at p) at in
-    ap (map (λ (e : Entry). extension_at p e.1)) e ∙ ap (λ y. y ∷ map (λ (e : Entry). extension_at p e.1) left) (sym same)
+    let same : extension_place x ≡ (p, place) = ap (λ q. (q, x.index)) pool ∙ ap (λ k. (p, k)) at in
+    ap (places_of p) e ∙ ap (λ y. y ∷ places_of p left) (sym same)

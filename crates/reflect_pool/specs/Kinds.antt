@@ -1,5 +1,5 @@
 -- What a public kind says.
-use Rattle.std.specs.Prelude.{◌≡◌, Option, None, Some}
+use Rattle.std.specs.Prelude.{◌≡◌, Option, Some, None}
 use Rattle.reflect_tables.specs.Types.{KindType, PoolType, double, float, int32, int64, uint32, uint64, sint32, sint64, fixed32, fixed64, sfixed32, sfixed64, bool, string, bytes, message, enumeration}
 use Rattle.reflect_pool.specs.declared.enums.EnumDescriptor.{EnumDescriptor}
 use Rattle.reflect_pool.specs.declared.kind.Kind.{Kind}
@@ -26,11 +26,12 @@ IsKind pool kinds.Bytes k = k ≡ bytes
 IsKind pool (kinds.Message d) k = (d.pool.now ≡ pool) × (k ≡ message d.index)
 IsKind pool (kinds.Enum d) k = (d.pool.now ≡ pool) × (k ≡ enumeration d.index)
 
--- the message type, and the enum, of a kind that is one
-abbrev pub message_in : Kind → Option MessageDescriptor
-message_in (kinds.Message d) = Some d
-message_in _ = None
+-- the message type, of a kind that is one
+abbrev pub message_of_kind : Kind → Option MessageDescriptor
+message_of_kind (kinds.Message d) = Some d
+message_of_kind _ = None
 
-abbrev pub enum_in : Kind → Option EnumDescriptor
-enum_in (kinds.Enum d) = Some d
-enum_in _ = None
+-- the enum type, of a kind that is one
+abbrev pub enum_of_kind : Kind → Option EnumDescriptor
+enum_of_kind (kinds.Enum d) = Some d
+enum_of_kind _ = None

@@ -16,6 +16,7 @@ pub struct EnumDescriptor<'p> {
 impl<'p> EnumDescriptor<'p> {
     ghost use Rattle.reflect_pool.specs.Finds.{FindsValue};
     ghost use Rattle.reflect_pool.specs.PartsLeft.{values_left};
+    ghost use Rattle.reflect_pool.specs.PlacesLeft.{places_from};
 
     /// The pool that the type stands in.
     pub fn parent_pool(&self) -> &'p DescriptorPool
@@ -75,7 +76,8 @@ impl<'p> EnumDescriptor<'p> {
 
     /// The values, as they were declared.
     pub fn values(&self) -> EnumValues<'p>
-        ensures { values_left result ≡ (enum_at self.now.pool.now self.now.index).values }
+        ensures { values_left result ≡ places_from self.now 0
+            (length (enum_at self.now.pool.now self.now.index).values) }
     {
         EnumValues {
             enumeration: *self,
@@ -164,11 +166,11 @@ pub struct EnumValues<'p> {
 
 impl<'p> Iterator for EnumValues<'p> {
     ghost use Rattle.std.specs.Iterator.{YieldsFirstBy, item_count};
-    ghost use Rattle.reflect_pool.specs.PartsLeft.{value_type, values_left};
+    ghost use Rattle.reflect_pool.specs.PartsLeft.{value_place, values_left};
 
     type Item = EnumValueDescriptor<'p>;
 
-    ghost next_gives = { YieldsFirstBy value_type values_left };
+    ghost next_gives = { YieldsFirstBy value_place values_left };
 
     ghost remaining = { item_count values_left };
 

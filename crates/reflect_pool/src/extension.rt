@@ -204,11 +204,11 @@ pub struct MessageExtensions<'p> {
 
 impl<'p> Iterator for MessageExtensions<'p> {
     ghost use Rattle.std.specs.Iterator.{YieldsFirstBy, item_count};
-    ghost use Rattle.reflect_pool.specs.ExtensionsLeft.{extension_type, extensions_left};
+    ghost use Rattle.reflect_pool.specs.ExtensionsLeft.{extension_place, extensions_left};
 
     type Item = ExtensionDescriptor<'p>;
 
-    ghost next_gives = { YieldsFirstBy extension_type extensions_left };
+    ghost next_gives = { YieldsFirstBy extension_place extensions_left };
 
     ghost remaining = { item_count extensions_left };
 

@@ -1,3 +1,5 @@
+ghost use Rattle.std.specs.Prelude.{◌≡◌};
+
 use crate::enums::EnumDescriptor;
 use crate::message::MessageDescriptor;
 
@@ -24,12 +26,11 @@ pub enum Kind<'p> {
 }
 
 impl<'p> Kind<'p> {
-    ghost use Rattle.std.specs.Prelude.{◌≡◌};
-    ghost use Rattle.reflect_pool.specs.Kinds.{message_in, enum_in};
+    ghost use Rattle.reflect_pool.specs.Kinds.{enum_of_kind, message_of_kind};
 
     /// The message type, of a kind that is one.
     pub fn as_message(&self) -> Option<MessageDescriptor<'p>>
-        ensures { result ≡ message_in self.now }
+        ensures { result ≡ message_of_kind self.now }
     {
         match self {
             Kind::Message(message) => Some(*message),
@@ -39,7 +40,7 @@ impl<'p> Kind<'p> {
 
     /// The enum type, of a kind that is one.
     pub fn as_enum(&self) -> Option<EnumDescriptor<'p>>
-        ensures { result ≡ enum_in self.now }
+        ensures { result ≡ enum_of_kind self.now }
     {
         match self {
             Kind::Enum(kind) => Some(*kind),

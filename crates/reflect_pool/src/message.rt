@@ -1,4 +1,4 @@
-ghost use Rattle.std.specs.Prelude.{◌≡◌, ◌<◌, ◌^◌, ◌↔◌, length, None, Some, IfSome, IsSome, IsTrue, MatchOption};
+ghost use Rattle.std.specs.Prelude.{◌≡◌, ◌<◌, ◌^◌, ◌↔◌, All, length, map, None, Some, IfSome, IsSome, IsTrue, MatchOption};
 ghost use Rattle.reflect_tables.specs.Types.{type_at, extension_at};
 
 use crate::extension::{ExtensionDescriptor, MessageExtensions};
@@ -16,9 +16,10 @@ pub struct MessageDescriptor<'p> {
 
 impl<'p> MessageDescriptor<'p> {
     ghost use Rattle.reflect_pool.specs.Brackets.{in_brackets};
-    ghost use Rattle.reflect_pool.specs.ExtensionsLeft.{AreExtensions, extensions_left};
+    ghost use Rattle.reflect_pool.specs.ExtensionsLeft.{AreExtensions, extension_in, extensions_left};
     ghost use Rattle.reflect_pool.specs.Finds.{FindsAny, FindsField};
     ghost use Rattle.reflect_pool.specs.PartsLeft.{oneofs_left};
+    ghost use Rattle.reflect_pool.specs.PlacesLeft.{places_from};
     ghost use Rattle.reflect_pool.specs.Same.{same_message};
 
     /// The pool that the type stands in.
@@ -83,7 +84,8 @@ impl<'p> MessageDescriptor<'p> {
 
     /// The oneofs, as they were declared.
     pub fn oneofs(&self) -> Oneofs<'p>
-        ensures { oneofs_left result ≡ (type_at self.now.pool.now self.now.index).oneofs }
+        ensures { oneofs_left result ≡ places_from self.now 0
+            (length (type_at self.now.pool.now self.now.index).oneofs) }
     {
         Oneofs {
             message: *self,
@@ -217,7 +219,9 @@ impl<'p> MessageDescriptor<'p> {
 
     /// The extensions of the type, by ascending number.
     pub fn extensions(&self) -> MessageExtensions<'p>
-        ensures { AreExtensions self.now.pool.now self.now.index (extensions_left result) }
+        ensures pool { All (λ p. p.0 ≡ self.now.pool.now) (extensions_left result) }
+        ensures extensions { AreExtensions self.now.pool.now self.now.index
+            (map extension_in (extensions_left result)) }
     {
         let pool = self.pool;
         MessageExtensions {
@@ -315,11 +319,11 @@ pub struct Fields<'p> {
 
 impl<'p> Iterator for Fields<'p> {
     ghost use Rattle.std.specs.Iterator.{YieldsFirstBy, item_count};
-    ghost use Rattle.reflect_pool.specs.FieldsLeft.{fields_left, field_type};
+    ghost use Rattle.reflect_pool.specs.FieldsLeft.{field_place, fields_left};
 
     type Item = FieldDescriptor<'p>;
 
-    ghost next_gives = { YieldsFirstBy field_type fields_left };
+    ghost next_gives = { YieldsFirstBy field_place fields_left };
 
     ghost remaining = { item_count fields_left };
 

@@ -1,4 +1,4 @@
-ghost use Rattle.std.specs.Prelude.{◌≡◌, ◌<◌, All, length, IfSome};
+ghost use Rattle.std.specs.Prelude.{◌≡◌, ◌<◌, All, length, map, IfSome};
 ghost use Rattle.std.proofs.Props.{props};
 ghost use Rattle.reflect_tables.specs.Types.{type_at};
 ghost use Rattle.reflect_pool.specs.Parts.{type_of_oneof, members_of};
@@ -16,7 +16,9 @@ pub struct OneofDescriptor<'p> {
 }
 
 impl<'p> OneofDescriptor<'p> {
+    ghost use Rattle.reflect_pool.specs.FieldsLeft.{type_in};
     ghost use Rattle.reflect_pool.specs.PartsLeft.{members_left};
+    ghost use Rattle.reflect_pool.specs.PlacesLeft.{places_in};
 
     /// The pool that the oneof's type stands in.
     pub fn parent_pool(&self) -> &'p DescriptorPool
@@ -75,8 +77,11 @@ impl<'p> OneofDescriptor<'p> {
 
     /// The members, as they were declared.
     pub fn fields(&self) -> OneofFields<'p>
-        ensures { members_left result ≡ members_of self.now.message.pool.now self.now.message.index
-            self.now.index }
+        ensures places { members_left result ≡ places_in self.now.message
+            (type_of_oneof self.now.message.pool.now self.now.message.index
+            self.now.index).fields }
+        ensures members { map type_in (members_left result)
+            ≡ members_of self.now.message.pool.now self.now.message.index self.now.index }
     {
         let pool = self.message.pool;
         OneofFields {
@@ -120,12 +125,12 @@ pub struct OneofFields<'p> {
 
 impl<'p> Iterator for OneofFields<'p> {
     ghost use Rattle.std.specs.Iterator.{YieldsFirstBy, item_count};
-    ghost use Rattle.reflect_pool.specs.FieldsLeft.{field_type};
+    ghost use Rattle.reflect_pool.specs.FieldsLeft.{field_place};
     ghost use Rattle.reflect_pool.specs.PartsLeft.{members_left};
 
     type Item = FieldDescriptor<'p>;
 
-    ghost next_gives = { YieldsFirstBy field_type members_left };
+    ghost next_gives = { YieldsFirstBy field_place members_left };
 
     ghost remaining = { item_count members_left };
 
@@ -145,11 +150,11 @@ pub struct Oneofs<'p> {
 
 impl<'p> Iterator for Oneofs<'p> {
     ghost use Rattle.std.specs.Iterator.{YieldsFirstBy, item_count};
-    ghost use Rattle.reflect_pool.specs.PartsLeft.{oneof_type, oneofs_left};
+    ghost use Rattle.reflect_pool.specs.PartsLeft.{oneof_place, oneofs_left};
 
     type Item = OneofDescriptor<'p>;
 
-    ghost next_gives = { YieldsFirstBy oneof_type oneofs_left };
+    ghost next_gives = { YieldsFirstBy oneof_place oneofs_left };
 
     ghost remaining = { item_count oneofs_left };
 
