@@ -6,7 +6,7 @@ ghost use Rattle.std.specs.Prelude.{◌≡◌, map};
 ghost use Rattle.reflect_tables.specs.Types.{KindType, PoolType};
 ghost use Rattle.reflect_pool.specs.Kinds.{IsKind};
 ghost use Rattle.reflect_scalar.specs.FieldTypes.{either_pool, either_type};
-ghost use Rattle.reflect_access.specs.Fits.{all_fit, entries_fit, extension_fits, field_fits, fit_of, fits_of, suits_type, IsValidFor};
+ghost use Rattle.reflect_numbered.specs.Fits.{all_fit, entries_fit, extension_fits, field_fits, fit_of, fits_of, suits_type, IsValidFor};
 
 use reflect_message::{
     DynamicMessage, Held, MessageParts, Parts, ScalarValue, Value, declared_extension,
@@ -176,7 +176,7 @@ fn message_suits(message: &DynamicMessage<'_>, strictness: Strictness) -> bool
 /// A message that is asked whether what it holds suits its type.
 pub trait MessageTests {
     ghost use Rattle.reflect_message.specs.declared.message.DynamicMessage.{DynamicMessage};
-    ghost use Rattle.reflect_access.specs.declared.validity.Strictness.TheVariants.{Shape, Types};
+    ghost use Rattle.reflect_numbered.specs.declared.validity.Strictness.TheVariants.{Shape, Types};
 
     /// The message that it is.
     ghost message: { Self → DynamicMessage };

@@ -1,9 +1,9 @@
 use Rattle.std.proofs.Common.{inl, ◌∙◌, subst}
 use Rattle.reflect_pool.specs.declared.message.MessageDescriptor.{MessageDescriptor}
 use Rattle.reflect_message.specs.Declares.{Owns}
-use Rattle.reflect_access.specs.Called.{HasNumber}
-use Rattle.reflect_access.proofs.Calling.{hands_back, if_ok, meant_by_number}
-use Rattle.reflect_access.proofs.by_number.DynamicMessageFieldsByNumber.try_set_field_by_number.Goals as goal
+use Rattle.reflect_numbered.specs.Called.{HasNumber}
+use Rattle.reflect_numbered.proofs.Calling.{hands_back, if_ok, meant_by_number}
+use Rattle.reflect_numbered.proofs.by_number.DynamicMessageFieldsByNumber.try_set_field_by_number.Goals as goal
 
 pub returns-in-Some-clause-ok : goal.returns-in-Some-clause-ok
 returns-in-Some-clause-ok c =

@@ -5,8 +5,8 @@ use Rattle.reflect_tables.specs.Types.{PoolType, KindType}
 use Rattle.reflect_pool.specs.Kinds.{IsKind}
 use Rattle.reflect_scalar.specs.declared.map_key.MapKey.{MapKey}
 use Rattle.reflect_message.specs.declared.value.Value.{Value}
-use Rattle.reflect_access.specs.Fits.{entry_fits, extension_fits, field_fits, fit_of, fits_of}
-use Rattle.reflect_access.proofs.validity.+suits.Given as goal
+use Rattle.reflect_numbered.specs.Fits.{entry_fits, extension_fits, field_fits, fit_of, fits_of}
+use Rattle.reflect_numbered.proofs.validity.+suits.Given as goal
 
 abbrev pub invariant-extensions_suit-extensions : goal.invariant-extensions_suit-extensions
 invariant-extensions_suit-extensions l = record {

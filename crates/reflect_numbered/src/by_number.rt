@@ -4,8 +4,8 @@ ghost use Rattle.std.specs.Prelude.{◌≡◌, IfErr, IfOk, IsSome, IsTrue, OnEr
 ghost use Rattle.reflect_entries.specs.Entries.{value_at};
 ghost use Rattle.reflect_message.specs.Held.{fields_of};
 ghost use Rattle.reflect_message.specs.Oneofs.{IsExclusive};
-ghost use Rattle.reflect_access.specs.Called.{HasNumber, Lends, LendsMut, SetsMeant, StaysWhole, TakesMeant, TellsMeant, UnsetsMeant};
-ghost use Rattle.reflect_access.specs.Refused.{RefusesSet};
+ghost use Rattle.reflect_numbered.specs.Called.{HasNumber, Lends, LendsMut, SetsMeant, StaysWhole, TakesMeant, TellsMeant, UnsetsMeant};
+ghost use Rattle.reflect_numbered.specs.Refused.{RefusesSet};
 
 use crate::set_field_error::{SetFieldError, TrySetField};
 use reflect_message::{DynamicMessage, FieldRef, Value, declared_field};

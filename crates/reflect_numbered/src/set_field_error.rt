@@ -5,9 +5,9 @@ ghost use Rattle.reflect_pool.specs.FieldsLeft.{field_type};
 ghost use Rattle.reflect_scalar.specs.FieldTypes.{field_pool};
 ghost use Rattle.reflect_message.specs.Declares.{Declares, Owns};
 ghost use Rattle.reflect_message.specs.Oneofs.{IsExclusive, SetsField};
-ghost use Rattle.reflect_access.specs.Called.{StaysWhole};
-ghost use Rattle.reflect_access.specs.Fits.{IsValidFor};
-ghost use Rattle.reflect_access.specs.Refused.{HandsBack};
+ghost use Rattle.reflect_numbered.specs.Called.{StaysWhole};
+ghost use Rattle.reflect_numbered.specs.Fits.{IsValidFor};
+ghost use Rattle.reflect_numbered.specs.Refused.{HandsBack};
 
 use crate::validity::is_valid_for;
 use reflect_message::{DynamicMessage, Value};
@@ -46,7 +46,7 @@ impl<'p> fmt::Debug for SetFieldError<'p> {
 
 impl<'p> From<AllocError> for SetFieldError<'p> {
     ghost use Rattle.std.specs.Prelude.{◌≡◌};
-    ghost use Rattle.reflect_access.specs.declared.set_field_error.SetFieldError.TheVariants.{Memory};
+    ghost use Rattle.reflect_numbered.specs.declared.set_field_error.SetFieldError.TheVariants.{Memory};
 
     ghost from_gives = { λ e x. x ≡ Memory };
 

@@ -18,8 +18,8 @@ use Rattle.reflect_message.specs.declared.message.DynamicMessage.{DynamicMessage
 use Rattle.reflect_message.specs.declared.parts.Held.TheFolds.{fold-Held, fold-Value}
 use Rattle.reflect_message.specs.declared.parts.Held.TheOpen.{Held-F, Parts-F, Value-F, DynamicMessage-F}
 use Rattle.reflect_message.specs.declared.value.Value.{Value}
-use Rattle.reflect_access.specs.declared.validity.Strictness.{Strictness}
-use Rattle.reflect_access.specs.declared.validity.Strictness.TheVariants.{Surface, Shape, Types}
+use Rattle.reflect_numbered.specs.declared.validity.Strictness.{Strictness}
+use Rattle.reflect_numbered.specs.declared.validity.Strictness.TheVariants.{Surface, Shape, Types}
 
 -- a single value is one of the kind
 abbrev pub is_one : KindType → Single → Bool

@@ -5,10 +5,10 @@ use Rattle.reflect_pool.specs.declared.field.FieldDescriptor.{FieldDescriptor}
 use Rattle.reflect_pool.specs.declared.message.MessageDescriptor.{MessageDescriptor}
 use Rattle.reflect_scalar.specs.FieldTypes.{field_pool}
 use Rattle.reflect_message.specs.declared.value.Value.{Value}
-use Rattle.reflect_access.specs.Called.{Asked, IsMeant, NoneMeant}
-use Rattle.reflect_access.specs.Fits.{IsValidFor}
-use Rattle.reflect_access.specs.declared.set_field_error.SetFieldError.{SetFieldError}
-use Rattle.reflect_access.specs.declared.set_field_error.SetFieldError.TheVariants as errors
+use Rattle.reflect_numbered.specs.Called.{Asked, IsMeant, NoneMeant}
+use Rattle.reflect_numbered.specs.Fits.{IsValidFor}
+use Rattle.reflect_numbered.specs.declared.set_field_error.SetFieldError.{SetFieldError}
+use Rattle.reflect_numbered.specs.declared.set_field_error.SetFieldError.TheVariants as errors
 
 -- field and value are handed back, since the value does not suit the field, unless memory ran out
 abbrev pub HandsBack : FieldDescriptor → Value → SetFieldError → Type 0

@@ -11,10 +11,10 @@ use Rattle.reflect_entries.specs.Pairs.{on_value}
 use Rattle.reflect_message.specs.Known.{known_field, known_extension}
 use Rattle.reflect_message.specs.declared.value.Value.{Value}
 use Rattle.reflect_pool.specs.declared.message.MessageDescriptor.{MessageDescriptor}
-use Rattle.reflect_access.specs.Fits.{entry_fits, extension_fits, field_fits, fit_of, fits_of, is_one}
-use Rattle.reflect_access.proofs.Fitting.{all_good, entries_known, known_fits, next_bad, next_good, none_left, one_bad, one_more, one_single, suits_one, unknown_fits, zip_ended, zip_next, zip_parts}
-use Rattle.reflect_access.proofs.validity.+suits.Goals as goal
-use Rattle.reflect_access.proofs.validity.+suits.Goals.{map_suits-then-not-is_valid-via-then-not-is_valid, map_suits-then-not-is_valid-via-else-not-is_valid+then-not-value_suits}
+use Rattle.reflect_numbered.specs.Fits.{entry_fits, extension_fits, field_fits, fit_of, fits_of, is_one}
+use Rattle.reflect_numbered.proofs.Fitting.{all_good, entries_known, known_fits, next_bad, next_good, none_left, one_bad, one_more, one_single, suits_one, unknown_fits, zip_ended, zip_next, zip_parts}
+use Rattle.reflect_numbered.proofs.validity.+suits.Goals as goal
+use Rattle.reflect_numbered.proofs.validity.+suits.Goals.{map_suits-then-not-is_valid-via-then-not-is_valid, map_suits-then-not-is_valid-via-else-not-is_valid+then-not-value_suits}
 
 -- numbers and values that are the halves of entries
 even_parts : (es : List (ℕ × Value)) (ns : List ℕ) (vs : List Value) → ns ≡ map (λ (e : ℕ × Value). e.0) es → vs ≡ map (λ (e : ℕ × Value). e.1) es → length ns ≡ length vs

@@ -19,8 +19,8 @@ use Rattle.reflect_message.specs.declared.parts.Held.TheOpen.{Value-F}
 use Rattle.reflect_message.specs.declared.parts.Held.TheViews.{out-Value}
 use Rattle.reflect_message.specs.declared.parts.Parts.{Parts}
 use Rattle.reflect_message.specs.declared.value.Value.{Value}
-use Rattle.reflect_access.specs.Fits.{Fit, all_fit, entries_fit, entry_fits, fit_of, held_step, is_one, message_step, parts_step, under_fits, value_step}
-use Rattle.reflect_access.specs.declared.validity.Strictness.{Strictness}
+use Rattle.reflect_numbered.specs.Fits.{Fit, all_fit, entries_fit, entry_fits, fit_of, held_step, is_one, message_step, parts_step, under_fits, value_step}
+use Rattle.reflect_numbered.specs.declared.validity.Strictness.{Strictness}
 
 suits_is : (kind : Kind) (v : Single) → suits kind v ≡ is_one (kind_type kind) v
 suits_is kinds.Int32 (int32 z) = refl
