@@ -1,8 +1,8 @@
 //! What the part of an option's name means in a message.
 
-use reflect_access::FieldsByNumber;
 use reflect_link::{ExtensionDescriptor, FieldDescriptor, Kind, MessageDescriptor};
 use reflect_message::{DynamicMessage, FieldDescriptorLike, Value};
+use reflect_numbered::FieldsByNumber;
 use std::alloc::AllocError;
 
 /// A field or an extension of a message of options.

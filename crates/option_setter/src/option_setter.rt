@@ -3,10 +3,10 @@
 use crate::option_value::{aggregate, option_value};
 use descriptor_records::{NamePart, UninterpretedOption};
 use option_parts::{OptionErrorKind, OptionTarget};
-use reflect_access::FieldsByNumber;
 use reflect_link::{DescriptorPool, Kind, MessageDescriptor};
 use reflect_message::{DynamicMessage, MapKey, Value};
 use reflect_names::{Links, ResolveNameError, ResolveNameFilter, SeenFiles, resolve_name};
+use reflect_numbered::FieldsByNumber;
 use std::alloc::{AllocError, Global};
 
 /// How many levels of messages may lie below a message of options.

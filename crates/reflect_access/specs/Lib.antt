@@ -1,4 +1,1 @@
-pub mod Called
-pub mod Fits
-pub mod Refused
 pub mod Unset

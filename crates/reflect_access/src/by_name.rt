@@ -1,11 +1,11 @@
 //! Fields by their names.
 
 ghost use Rattle.std.specs.Prelude.{◌≡◌, IfErr, IfNone, IfOk, IfSome, OnErr, OnOk};
-ghost use Rattle.reflect_access.specs.Called.{HasName, IsMeant, Lends, LendsMut, NoneMeant, SetsMeant, StaysWhole, TakesMeant, TellsMeant, UnsetsMeant};
-ghost use Rattle.reflect_access.specs.Refused.{RefusesSet};
+ghost use Rattle.reflect_numbered.specs.Called.{HasName, IsMeant, Lends, LendsMut, NoneMeant, SetsMeant, StaysWhole, TakesMeant, TellsMeant, UnsetsMeant};
+ghost use Rattle.reflect_numbered.specs.Refused.{RefusesSet};
 
-use crate::set_field_error::{SetFieldError, TrySetField};
 use reflect_message::{DynamicMessage, FieldRef, Value};
+use reflect_numbered::{SetFieldError, TrySetField};
 use reflect_pool::{FieldDescriptor, MessageDescriptor};
 use reflect_scalar::holds_floats;
 use std::alloc::AllocError;

@@ -1,18 +1,13 @@
-//! Messages by the numbers and the names of their fields, and which values suit which fields.
+//! Messages by the names of their fields, and values that are asked about fields.
 #![tactic(auto)]
 
 mod by_name;
-mod by_number;
-mod set_field_error;
-mod validity;
 mod value_tests;
 
 pub use by_name::FieldsByName;
-pub use by_number::FieldsByNumber;
 pub use reflect_contents::{
     ExtensionValues, FieldValues, MessageWalks, TakeContents, TakenExtensions, TakenFields,
     UnknownFields,
 };
-pub use set_field_error::{SetFieldError, TrySetField};
-pub use validity::MessageTests;
+pub use reflect_numbered::{FieldsByNumber, MessageTests, SetFieldError, TrySetField};
 pub use value_tests::ValueTests;

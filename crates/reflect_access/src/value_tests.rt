@@ -6,19 +6,19 @@ ghost use Rattle.reflect_tables.specs.Types.{KindType, PoolType};
 ghost use Rattle.reflect_pool.specs.FieldsLeft.{field_type};
 ghost use Rattle.reflect_pool.specs.Kinds.{IsKind};
 ghost use Rattle.reflect_scalar.specs.FieldTypes.{extension_pool, extension_type, field_pool};
-ghost use Rattle.reflect_access.specs.Fits.{fit_of, IsValidFor};
+ghost use Rattle.reflect_numbered.specs.Fits.{fit_of, IsValidFor};
 ghost use Rattle.reflect_access.specs.Unset.{IsKindDefault, SaysNothing};
 
-use crate::validity::{Strictness, is_valid_for, value_suits};
 use reflect_contents::MessageWalks;
 use reflect_message::{ScalarValue, Value, is_default_scalar};
+use reflect_numbered::{Strictness, is_valid_for, value_suits};
 use reflect_pool::{ExtensionDescriptor, FieldDescriptor, Kind};
 use reflect_scalar::{AnyField, FieldDescriptorLike, Scalar};
 
 /// A value that is asked about fields.
 pub trait ValueTests<'p> {
     ghost use Rattle.reflect_message.specs.declared.value.Value.{Value};
-    ghost use Rattle.reflect_access.specs.declared.validity.Strictness.TheVariants.{Surface};
+    ghost use Rattle.reflect_numbered.specs.declared.validity.Strictness.TheVariants.{Surface};
 
     /// The value that it is.
     ghost value: { Self → Value };

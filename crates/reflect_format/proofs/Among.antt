@@ -1,6 +1,6 @@
 -- Of which of some fields a message holds a value.
 use Rattle.std.proofs.Common.{true, suc, List, ◌∷◌, refl, arith}
-use Rattle.reflect_access.specs.Called.{HasNumber, TellsMeant}
+use Rattle.reflect_numbered.specs.Called.{HasNumber, TellsMeant}
 use Rattle.reflect_tables.specs.Types.{FieldType}
 use Rattle.reflect_message.specs.declared.message.DynamicMessage.{DynamicMessage}
 use Rattle.reflect_format.specs.Refusals.{HoldsAmong}

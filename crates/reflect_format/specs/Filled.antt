@@ -10,7 +10,7 @@ use Rattle.reflect_pool.specs.Parts.{members_of}
 use Rattle.reflect_pool.specs.declared.kind.Kind.{Kind}
 use Rattle.reflect_pool.specs.declared.kind.Kind.TheVariants as values
 use Rattle.reflect_pool.specs.declared.message.MessageDescriptor.{MessageDescriptor}
-use Rattle.reflect_access.specs.Called.{HasNumber, TellsMeant}
+use Rattle.reflect_numbered.specs.Called.{HasNumber, TellsMeant}
 use Rattle.reflect_any.specs.Any.{IsAny}
 use Rattle.reflect_message.specs.Bytes.{message_bytes}
 use Rattle.reflect_message.specs.Contents.{content_of, nothing}

@@ -11,9 +11,9 @@ ghost use Rattle.reflect_format.specs.Steps.{Adds, AddsPart, Puts, Stays, StaysA
 ghost use Rattle.reflect_format.specs.Takes.{Takes, holds_many, target_pool, target_type};
 
 use crate::fault::{float_field, unknown_extension, unknown_field};
-use reflect_access::FieldsByNumber;
 use reflect_extend::ExtendMessage;
 use reflect_message::{DynamicMessage, Value};
+use reflect_numbered::FieldsByNumber;
 use reflect_pool::{
     ExtensionDescriptor, FieldDescriptor, Kind, MessageDescriptor, OneofDescriptor,
 };

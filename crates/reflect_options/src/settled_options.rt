@@ -3,11 +3,11 @@
 use descriptor_records::{Options, UninterpretedOption};
 use option_parts::{OptionErrorKind, OptionScope, UNINTERPRETED_OPTION};
 use option_setter::{NameScope, OptionSetter, option_name};
-use reflect_access::FieldsByNumber;
 use reflect_decode::DecodeMessage;
 use reflect_encode::EncodeMessage;
 use reflect_link::MessageDescriptor;
 use reflect_message::DynamicMessage;
+use reflect_numbered::FieldsByNumber;
 use reflect_wire::WireError;
 use std::alloc::{AllocError, AllocFailed, Global};
 

@@ -3,5 +3,6 @@
 
 mod program;
 
-pub use program::{ReadFault, SourceFiles, run};
+pub use program::run;
+pub use run_parts::{ReadFault, SourceFiles};
 pub use schema_core::{Action, Fault, Schema, SchemaError, serve};

@@ -4,34 +4,21 @@ ghost use Rattle.std.specs.Prelude.{◌≡◌, Some};
 ghost use Rattle.reflect_schema.specs.Statuses.{status_of};
 ghost use Rattle.reflect_schema.specs.Texts.{said};
 
-use clap::error::ErrorKind;
+use run_parts::{
+    FileFault, SourceFiles, read_file, read_sources, sources, tell_usage, text_of, write_line,
+};
 use schema_core::{Fault, Schema, SchemaError, serve, write_bytes};
 use schema_words::{Request, Task, parse, requested};
-use std::alloc::{AllocError, AllocFailed, Global};
+use std::alloc::Global;
 use std::fmt;
 use std::io::{Read, Write};
-
-/// Why a file was not read.
-#[derive(Clone, Copy, PartialEq, Eq, Debug)]
-pub enum ReadFault {
-    Read,
-    Memory,
-}
-
-/// The files that a run may read.
-pub trait SourceFiles {
-    /// The bytes of the file at a path.
-    fn read(&mut self, alloc: Global, path: &str) -> Result<Vec<u8>, ReadFault>;
-}
 
 /// Why a run ended without an answer.
 #[derive(Drop)]
 enum RunFault {
+    File(FileFault),
     Schema(SchemaError),
-    File(String),
-    SourceNotUtf8(String),
     Payload(Fault),
-    Memory,
 }
 
 impl RunFault {
@@ -40,12 +27,12 @@ impl RunFault {
         ensures { result ≡ status_of self.now }
     {
         match self {
+            RunFault::File(fault) => fault.status(),
             RunFault::Schema(SchemaError::Memory) => 5,
-            RunFault::Schema(_) | RunFault::SourceNotUtf8(_) => 1,
-            RunFault::File(_) => 4,
+            RunFault::Schema(_) => 1,
             RunFault::Payload(Fault::Schema(_) | Fault::NotHex | Fault::NotUtf8) => 3,
             RunFault::Payload(Fault::Read | Fault::Write) => 4,
-            RunFault::Payload(Fault::Memory) | RunFault::Memory => 5,
+            RunFault::Payload(Fault::Memory) => 5,
         }
     }
 }
@@ -55,12 +42,16 @@ impl fmt::Display for RunFault {
 
     fn fmt<W: fmt::Write>(&self, f: &mut fmt::Formatter<W>) -> fmt::Result {
         match self {
+            RunFault::File(fault) => write!(f, "{fault}"),
             RunFault::Schema(error) => write!(f, "{error}"),
-            RunFault::File(path) => write!(f, "'{path}' cannot be read"),
-            RunFault::SourceNotUtf8(path) => write!(f, "'{path}' is not UTF-8"),
             RunFault::Payload(fault) => write!(f, "{fault}"),
-            RunFault::Memory => f.write_str("out of memory"),
         }
+    }
+}
+
+impl From<FileFault> for RunFault {
+    fn from(fault: FileFault) -> RunFault {
+        RunFault::File(fault)
     }
 }
 
@@ -76,62 +67,6 @@ impl From<Fault> for RunFault {
     }
 }
 
-impl From<AllocError> for RunFault {
-    fn from(_error: AllocError) -> RunFault {
-        RunFault::Memory
-    }
-}
-
-impl<T: Drop> From<AllocFailed<T>> for RunFault {
-    fn from(_error: AllocFailed<T>) -> RunFault {
-        RunFault::Memory
-    }
-}
-
-/// The bytes of the file at a path.
-fn read_file<F: SourceFiles>(
-    alloc: Global,
-    files: &mut F,
-    path: &str,
-) -> Result<Vec<u8>, RunFault> {
-    match files.read(alloc, path) {
-        Ok(bytes) => Ok(bytes),
-        Err(ReadFault::Read) => Err(RunFault::File(String::from_str(alloc, path)?)),
-        Err(ReadFault::Memory) => Err(RunFault::Memory),
-    }
-}
-
-/// The bytes of the named files under the root, in order.
-fn read_sources<F: SourceFiles>(
-    alloc: Global,
-    files: &mut F,
-    wanted: Request<'_>,
-) -> Result<Vec<Vec<u8>>, RunFault> {
-    let mut contents = Vec::new(alloc);
-    for name in wanted.names {
-        let root = wanted.root;
-        let path = format!(in alloc; "{root}/{name}")?;
-        contents.push(read_file(alloc, files, path.as_str())?)?;
-    }
-    Ok(contents)
-}
-
-/// The named sources with their texts.
-fn sources<'a>(
-    alloc: Global,
-    names: &'a [&'a str],
-    contents: &'a [Vec<u8>],
-) -> Result<Vec<(&'a str, &'a str)>, RunFault> {
-    let mut sources = Vec::new(alloc);
-    for (name, bytes) in names.iter().zip(contents) {
-        match str::from_utf8(bytes.as_slice()) {
-            Ok(text) => sources.push((*name, text))?,
-            Err(_) => return Err(RunFault::SourceNotUtf8(String::from_str(alloc, name)?)),
-        }
-    }
-    Ok(sources)
-}
-
 /// The schema of the file that declares the types of options, or one without files.
 fn first_schema<F: SourceFiles>(
     alloc: Global,
@@ -142,10 +77,8 @@ fn first_schema<F: SourceFiles>(
         return Ok(Schema::bare(alloc));
     };
     let bytes = read_file(alloc, files, path)?;
-    match str::from_utf8(bytes.as_slice()) {
-        Ok(text) => Ok(Schema::new(alloc, text)?),
-        Err(_) => Err(RunFault::SourceNotUtf8(String::from_str(alloc, path)?)),
-    }
+    let text = text_of(alloc, path, bytes.as_slice())?;
+    Ok(Schema::new(alloc, text)?)
 }
 
 /// The schema of the files that are asked for: first what declares the types of options, then the
@@ -193,42 +126,6 @@ fn answer<F: SourceFiles, R: Read, W: Write>(
             serve(alloc, &schema, action, type_name, is_hex, input, output)?;
             Ok(())
         }
-    }
-}
-
-/// Writes a text to a stream, with a line end; a stream that refuses it gets no more.
-fn write_line<W: Write>(alloc: Global, stream: &mut W, text: impl fmt::Display + Drop) {
-    if let Ok(line) = format!(in alloc; "{text}\n") {
-        let _ = stream.write_all(line.as_str().as_bytes());
-    }
-}
-
-/// Writes the version, whose text ends its line itself; a stream that refuses it gets no more.
-fn write_version<W: Write>(alloc: Global, stream: &mut W, version: clap::Error) {
-    if let Ok(line) = format!(in alloc; "{version}") {
-        let _ = stream.write_all(line.as_str().as_bytes());
-    }
-}
-
-/// Writes help, or why the command line is refused, and gives the status.
-fn tell_usage<W: Write, E: Write>(
-    alloc: Global,
-    error: clap::Error,
-    output: &mut W,
-    errors: &mut E,
-) -> u8 {
-    if error.kind() == ErrorKind::OutOfMemory {
-        write_line(alloc, errors, RunFault::Memory);
-        5
-    } else if error.use_stderr() {
-        write_line(alloc, errors, error);
-        2
-    } else if error.kind() == ErrorKind::DisplayVersion {
-        write_version(alloc, output, error);
-        0
-    } else {
-        write_line(alloc, output, error);
-        0
     }
 }
 

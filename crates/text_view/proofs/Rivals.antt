@@ -17,7 +17,7 @@ use Rattle.reflect_pool.specs.declared.field.FieldDescriptor.{FieldDescriptor}
 use Rattle.reflect_pool.specs.declared.message.MessageDescriptor.{MessageDescriptor}
 use Rattle.reflect_scalar.specs.FieldTypes.{field_pool}
 use Rattle.reflect_scalar.specs.Floats.{HoldsFloats}
-use Rattle.reflect_access.specs.Called.{HasNumber, IsMeant, NoneMeant, TellsMeant}
+use Rattle.reflect_numbered.specs.Called.{HasNumber, IsMeant, NoneMeant, TellsMeant}
 use Rattle.reflect_message.specs.Declares.{Owns}
 use Rattle.reflect_message.specs.Held.{fields_of}
 use Rattle.reflect_message.specs.Known.{known_field}

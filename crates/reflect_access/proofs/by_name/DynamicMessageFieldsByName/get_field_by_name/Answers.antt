@@ -1,6 +1,6 @@
 use Rattle.std.proofs.Common.{inl, subst}
 use Rattle.reflect_pool.specs.declared.message.MessageDescriptor.{MessageDescriptor}
-use Rattle.reflect_access.specs.Called.{HasName, IsMeant}
+use Rattle.reflect_numbered.specs.Called.{HasName, IsMeant}
 use Rattle.reflect_access.proofs.by_name.DynamicMessageFieldsByName.get_field_by_name.Goals as goal
 
 pub returns-in_ok-get_field-in-Some : goal.returns-in_ok-get_field-in-Some

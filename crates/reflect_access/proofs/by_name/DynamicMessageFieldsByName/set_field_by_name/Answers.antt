@@ -1,7 +1,7 @@
 use Rattle.std.proofs.Common.{inl, subst}
 use Rattle.reflect_pool.specs.declared.message.MessageDescriptor.{MessageDescriptor}
-use Rattle.reflect_access.specs.Called.{HasName, IsMeant}
-use Rattle.reflect_access.proofs.Calling.{if_ok}
+use Rattle.reflect_numbered.specs.Called.{HasName, IsMeant}
+use Rattle.reflect_numbered.proofs.Calling.{if_ok}
 use Rattle.reflect_access.proofs.by_name.DynamicMessageFieldsByName.set_field_by_name.Goals as goal
 
 pub returns-in-Some-clause-ok : goal.returns-in-Some-clause-ok

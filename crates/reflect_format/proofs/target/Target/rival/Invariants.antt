@@ -1,5 +1,5 @@
 use Rattle.std.specs.Prelude.{All, false, map}
-use Rattle.reflect_access.specs.Called.{HasNumber, TellsMeant}
+use Rattle.reflect_numbered.specs.Called.{HasNumber, TellsMeant}
 use Rattle.reflect_pool.specs.FieldsLeft.{type_in}
 use Rattle.reflect_pool.specs.Parts.{members_of}
 use Rattle.reflect_pool.specs.PartsLeft.{members_left}

@@ -1,0 +1,3 @@
+pub mod Called
+pub mod Fits
+pub mod Refused

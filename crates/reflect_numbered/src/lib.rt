@@ -1,0 +1,10 @@
+//! Messages by the numbers of their fields, and which values suit which fields.
+#![tactic(auto)]
+
+mod by_number;
+mod set_field_error;
+mod validity;
+
+pub use by_number::FieldsByNumber;
+pub use set_field_error::{SetFieldError, TrySetField};
+pub use validity::{MessageTests, Strictness, is_valid_for, value_suits};

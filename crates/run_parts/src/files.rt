@@ -1,0 +1,118 @@
+//! The files that a run reads.
+
+ghost use Rattle.std.specs.Prelude.{◌≡◌, Some};
+ghost use Rattle.run_parts.specs.Statuses.{status_of};
+ghost use Rattle.run_parts.specs.Texts.{said};
+
+use schema_words::Request;
+use std::alloc::{AllocError, AllocFailed, Global};
+use std::fmt;
+
+/// Why a file was not read.
+#[derive(Clone, Copy, PartialEq, Eq, Debug)]
+pub enum ReadFault {
+    Read,
+    Memory,
+}
+
+/// The files that a run may read.
+pub trait SourceFiles {
+    /// The bytes of the file at a path.
+    fn read(&mut self, alloc: Global, path: &str) -> Result<Vec<u8>, ReadFault>;
+}
+
+/// Why a run has not what it reads of files.
+#[derive(Drop)]
+pub enum FileFault {
+    /// The file at this path cannot be read.
+    Read(String),
+    /// The source of this name, or the file at this path, is not UTF-8.
+    NotUtf8(String),
+    Memory,
+}
+
+impl FileFault {
+    /// The status that the program ends with.
+    pub fn status(&self) -> u8
+        ensures { result ≡ status_of self.now }
+    {
+        match self {
+            FileFault::NotUtf8(_) => 1,
+            FileFault::Read(_) => 4,
+            FileFault::Memory => 5,
+        }
+    }
+}
+
+impl fmt::Display for FileFault {
+    ghost output = { λ f. Some (said f) };
+
+    fn fmt<W: fmt::Write>(&self, f: &mut fmt::Formatter<W>) -> fmt::Result {
+        match self {
+            FileFault::Read(path) => write!(f, "'{path}' cannot be read"),
+            FileFault::NotUtf8(name) => write!(f, "'{name}' is not UTF-8"),
+            FileFault::Memory => f.write_str("out of memory"),
+        }
+    }
+}
+
+impl From<AllocError> for FileFault {
+    fn from(_error: AllocError) -> FileFault {
+        FileFault::Memory
+    }
+}
+
+impl<T: Drop> From<AllocFailed<T>> for FileFault {
+    fn from(_error: AllocFailed<T>) -> FileFault {
+        FileFault::Memory
+    }
+}
+
+/// The bytes of the file at a path.
+pub fn read_file<F: SourceFiles>(
+    alloc: Global,
+    files: &mut F,
+    path: &str,
+) -> Result<Vec<u8>, FileFault> {
+    match files.read(alloc, path) {
+        Ok(bytes) => Ok(bytes),
+        Err(ReadFault::Read) => Err(FileFault::Read(String::from_str(alloc, path)?)),
+        Err(ReadFault::Memory) => Err(FileFault::Memory),
+    }
+}
+
+/// The bytes of the named files under the root, in order.
+pub fn read_sources<F: SourceFiles>(
+    alloc: Global,
+    files: &mut F,
+    wanted: Request<'_>,
+) -> Result<Vec<Vec<u8>>, FileFault> {
+    let mut contents = Vec::new(alloc);
+    for name in wanted.names {
+        let root = wanted.root;
+        let path = format!(in alloc; "{root}/{name}")?;
+        contents.push(read_file(alloc, files, path.as_str())?)?;
+    }
+    Ok(contents)
+}
+
+/// The text that the bytes of a file are, which a refusal calls by the name.
+pub fn text_of<'a>(alloc: Global, name: &str, bytes: &'a [u8]) -> Result<&'a str, FileFault> {
+    match str::from_utf8(bytes) {
+        Ok(text) => Ok(text),
+        Err(_) => Err(FileFault::NotUtf8(String::from_str(alloc, name)?)),
+    }
+}
+
+/// The named sources with their texts.
+pub fn sources<'a>(
+    alloc: Global,
+    names: &'a [&'a str],
+    contents: &'a [Vec<u8>],
+) -> Result<Vec<(&'a str, &'a str)>, FileFault> {
+    let mut sources = Vec::new(alloc);
+    for (name, bytes) in names.iter().zip(contents) {
+        sources.push((*name, text_of(alloc, name, bytes.as_slice())?))?;
+    }
+    Ok(sources)
+}
