@@ -11,7 +11,7 @@ use Rattle.reflect_scalar.proofs.First.{Tells, find_none, find_some}
 use Rattle.reflect_scalar.specs.FieldTypes.{field_pool}
 use Rattle.reflect_scalar.specs.Floats.{HoldsFloats}
 use Rattle.reflect_message.specs.Declares.{Declares, Owns}
-use Rattle.reflect_message.specs.declared.value.Value.{Value}
+use Rattle.reflect_message.specs.Names.{Value}
 use Rattle.reflect_access.specs.Called.{Asked, HasNumber, HasName, IsMeant, NoneMeant}
 use Rattle.reflect_access.specs.Fits.{IsValidFor}
 use Rattle.reflect_access.specs.Refused.{HandsBack, RefusesSet}

@@ -11,19 +11,22 @@ ghost use Rattle.reflect_pool.specs.FieldsLeft.{field_type};
 ghost use Rattle.reflect_message.specs.Oneofs.{MakesRoom, Changes, Chooses, Unsets};
 ghost use Rattle.reflect_message.specs.Trees.{held_tree, parts_tree};
 
-use crate::value::Value;
+use crate::value::{Value, ValueOf};
 use reflect_entries::{Choices, Entries, UnknownRecords};
-use reflect_pool::FieldDescriptor;
+use reflect_pool::{FieldDescriptor, MessageDescriptor};
 use std::alloc::{AllocError, Global};
 
 /// Where a message keeps its parts: in a block of their own, so that a value of a list takes little
 /// room, and none before something is put.
 #[derive(Drop)]
 #[cycle(value)]
-pub enum Held<'p> {
+pub enum HeldOf<D> {
     Nothing,
-    Block(Box<Parts<'p>>),
+    Block(Box<PartsOf<D>>),
 }
+
+/// Where a message of a type of a pool keeps its parts.
+pub type Held<'p> = HeldOf<MessageDescriptor<'p>>;
 
 impl<'p> Held<'p> {
     /// A copy.
@@ -43,19 +46,22 @@ impl<'p> Held<'p> {
     }
 }
 
-/// What a message holds.
+/// What a message holds, of whose type a `D` tells.
 #[derive(Drop)]
 #[cycle(value)]
-pub struct Parts<'p> {
+pub struct PartsOf<D> {
     /// What the declared fields hold, by their numbers.
-    pub fields: Entries<Value<'p>>,
+    pub fields: Entries<ValueOf<D>>,
     /// Which members of oneofs may be among these.
     pub choices: Choices,
     /// What the extensions hold, by their numbers.
-    pub extensions: Entries<Value<'p>>,
+    pub extensions: Entries<ValueOf<D>>,
     /// The records of numbers that the type does not declare.
     pub unknown: UnknownRecords,
 }
+
+/// What a message holds.
+pub type Parts<'p> = PartsOf<MessageDescriptor<'p>>;
 
 impl<'p> Parts<'p> {
     /// Nothing is held. Takes no memory.
@@ -103,6 +109,7 @@ impl<'p> Parts<'p> {
             default.entry)) }
         ensures changes { OnOk result (Changes field.now self.old.choices.members self.old.fields
             self.new.fields) }
+        ensures ascending { OnOk result (IsAscending self.new.fields) }
         ensures chooses { OnOk result (Chooses field.now self.old.choices.members
             self.new.choices.members) }
         ensures err { OnErr result (self.new.fields ≡ self.old.fields) }

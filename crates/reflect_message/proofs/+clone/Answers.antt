@@ -5,7 +5,7 @@ use Rattle.std.proofs.lemmas.Slice.Zip.{zip_turn, zip_end}
 use Rattle.reflect_message.specs.Copies.{AreCopies}
 use Rattle.reflect_message.specs.Maps.{map_entries}
 use Rattle.reflect_message.specs.Trees.{dictionary, dictionary_of}
-use Rattle.reflect_message.specs.declared.value.Value.{Map, the_lemmas}
+use Rattle.reflect_message.specs.declared.value.ValueOf.{Map, the_lemmas}
 use Rattle.reflect_message.proofs.Copying.{copies_next, copies_all}
 use Rattle.reflect_message.proofs.Alike.{map_seen}
 use Rattle.reflect_message.proofs.Entries.{copied_next}
