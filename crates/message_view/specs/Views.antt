@@ -80,13 +80,13 @@ parts_step p = λ pool i. held_under pool i p.fields p.extensions (undeclared p.
 abbrev pub content_view : Value → Content
 content_view =
     fold-ValueOf MessageDescriptor Placed Content Message Placed held_step value_step message_step
-        parts_step
+    parts_step
 
 -- what a message holds, by the place of its type
 abbrev pub held_view : parts.Held → Placed
 held_view =
     fold-HeldOf MessageDescriptor Placed Content Message Placed held_step value_step message_step
-        parts_step
+    parts_step
 
 -- a message, at each depth, each by its own type
 abbrev pub view : DynamicMessage → Message

@@ -21,10 +21,7 @@ impl<D> MessageOf<D> {
     /// What the field, one of the message's type, holds, to be changed. A field that is not set
     /// gets its default, and the other members of its oneof are unset. Behind the borrow the field
     /// is set to the last value that was written. A refusal leaves the message.
-    pub fn get_field_mut<F: FieldOf<D>>(
-        &mut self,
-        field: &F,
-    ) -> Result<&mut ValueOf<D>, AllocError>
+    pub fn get_field_mut<F: FieldOf<D>>(&mut self, field: &F) -> Result<&mut ValueOf<D>, AllocError>
         requires { F.FieldOf.suits field.now self.old.descriptor }
         ensures* writes_back { sem 𝓛 (lends_set D.row (F.FieldOf.sets field.now)
             (F.FieldOf.leaves field.now) self.entry result) }

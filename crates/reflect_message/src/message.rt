@@ -1,6 +1,6 @@
 ghost use Rattle.std.specs.Prelude.{◌≡◌, ◌↔◌, [], IfOk, IfSome, IfNone, IsTrue};
 ghost use Rattle.std.specs.Option.{option_copied};
-ghost use Rattle.reflect_entries.specs.Entries.{value_at};
+ghost use Rattle.reflect_entries.specs.Entries.{IsAscending, value_at};
 ghost use Rattle.reflect_entries.specs.Undeclared.{undeclared};
 ghost use Rattle.reflect_message.specs.Contents.{content_of, nothing};
 ghost use Rattle.reflect_message.specs.Copies.{AreCopies};
@@ -69,6 +69,8 @@ impl<'p> DynamicMessage<'p> {
         ensures content { IfOk result (λ m. held_tree m.held ≡ held_tree self.now.held) }
         ensures extensions { IfOk result
             (λ m. AreCopies (extensions_of self.now) (extensions_of m)) }
+        ensures ascending { IfOk result (λ m. IsAscending (fields_of m)
+            × IsAscending (extensions_of m)) }
         ensures unknown { IfOk result (λ m. unknown_of m ≡ unknown_of self.now) }
     {
         Ok(DynamicMessage {

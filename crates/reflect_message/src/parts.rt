@@ -37,6 +37,8 @@ impl<'p> Held<'p> {
         ensures content { IfOk result (λ copy. held_tree copy ≡ held_tree self.now) }
         ensures extensions { IfOk result
             (λ copy. AreCopies (extensions_in self.now) (extensions_in copy)) }
+        ensures ascending { IfOk result (λ copy. IsAscending (fields_in copy)
+            × IsAscending (extensions_in copy)) }
         ensures unknown { IfOk result (λ copy. unknown_in copy ≡ unknown_in self.now) }
     {
         match self {
@@ -86,6 +88,8 @@ impl<'p> Parts<'p> {
         ensures choices { IfOk result (λ copy. copy.choices.members ≡ self.now.choices.members) }
         ensures content { IfOk result (λ copy. parts_tree copy ≡ parts_tree self.now) }
         ensures extensions { IfOk result (λ copy. AreCopies self.now.extensions copy.extensions) }
+        ensures ascending { IfOk result (λ copy. IsAscending copy.fields
+            × IsAscending copy.extensions) }
         ensures unknown { IfOk result (λ copy. undeclared copy.unknown
             ≡ undeclared self.now.unknown) }
     {
@@ -185,7 +189,8 @@ fn entries_clone<'p>(
     alloc: Global,
     entries: &Entries<Value<'p>>,
 ) -> Result<Entries<Value<'p>>, AllocError>
-    ensures { IfOk result (λ copy. AreCopies entries.now copy) }
+    ensures copies { IfOk result (λ copy. AreCopies entries.now copy) }
+    ensures ascending { IfOk result (λ copy. IsAscending copy) }
 {
     let mut copy = Entries::new(alloc);
     copy.reserve(entries.len())?;

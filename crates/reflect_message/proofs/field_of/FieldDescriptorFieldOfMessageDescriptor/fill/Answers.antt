@@ -17,6 +17,7 @@ returns-clause-filled c =
     let held = value_at (fields_of old) (field_type field).number in
     let default = c.in_ok-default.default in
     let put = c.in_ok-fill_field.ensures in
-    subst (λ o. IfSome o (λ (v : Value). IsHeldOrDefault (field_pool field) (field_type field) held v × PutsField old new field v)) (sym put.ok.here)
-    (held_or_default (field_pool field) (field_type field) held default c.in_ok-default.ensures,
-    record { same_type = put.type_stays; set = put.ok; ascending = put.ascending; exclusive = put.exclusive })
+    subst (λ o. IfSome o (λ (v : Value). IsHeldOrDefault (field_pool field) (field_type field) held v × PutsField old new field v)) (sym put.ok.here) (
+      held_or_default (field_pool field) (field_type field) held default c.in_ok-default.ensures,
+      record { same_type = put.type_stays; set = put.ok; ascending = put.ascending; exclusive = put.exclusive },
+    )

@@ -15,7 +15,7 @@ returns g c =
       (
         refl,
         (λ w ok. g.met.F.FieldOf.sets_again field old new _ c.in-Some.value.now w filled.1
-        (rw c.number.ensures at c.field_value_mut.follows.holds w (ap is_some c.in-Some.is))),
+            (rw c.number.ensures at c.field_value_mut.follows.holds w (ap is_some c.in-Some.is))),
         tt,
       ),
       record { writes_back = tt; value = filled.0 },
