@@ -12,17 +12,16 @@ use Rattle.reflect_message.specs.Copies.{AreCopies, IsCopy}
 use Rattle.reflect_message.specs.Known.{known_field, known_extension}
 use Rattle.reflect_message.specs.Trees.{ValueTree, MessageTree, Place, Row, Dictionary, leaf, branch, row, parts, empty, full, no_values, more_values, place_of, row_of, dictionary_of, tree}
 use Rattle.reflect_message.specs.Trees as trees
-use Rattle.reflect_message.specs.declared.message.DynamicMessage.{DynamicMessage}
-use Rattle.reflect_message.specs.declared.parts.Held as blocks
-use Rattle.reflect_message.specs.declared.parts.Held.TheFolds.{map-Held, map-Value, map-DynamicMessage, map-Parts, fold-Held, fold-DynamicMessage, fold-Parts, fold-roll-Held, fold-roll-Value, fold-roll-DynamicMessage, fold-roll-Parts, ind-Value}
-use Rattle.reflect_message.specs.declared.parts.Held.TheOpen.{Held-F, Parts-F, Value-F, DynamicMessage-F}
-use Rattle.reflect_message.specs.declared.parts.Parts.{Parts}
-use Rattle.reflect_message.specs.declared.value.Value.{Value}
+use Rattle.reflect_message.specs.Names.{DynamicMessage, Parts, Value}
+use Rattle.reflect_message.specs.Names as blocks
+use Rattle.reflect_message.specs.declared.parts.HeldOf.TheFolds.{map-HeldOf, map-ValueOf, map-MessageOf, map-PartsOf, fold-HeldOf, fold-MessageOf, fold-PartsOf, fold-roll-HeldOf, fold-roll-ValueOf, fold-roll-MessageOf, fold-roll-PartsOf, ind-ValueOf}
+use Rattle.reflect_message.specs.declared.parts.HeldOf.TheOpen.{HeldOf-F, PartsOf-F, ValueOf-F, MessageOf-F}
 use Rattle.protobuf_model.specs.Values.{Content, single, message, list, dictionary, Contents, no_contents, more_contents, Entries, no_entries, more_entries, Message, absent, chain_of, entries_of}
 use Rattle.protobuf_model.specs.Meaning.{payloads}
 use Rattle.message_view.specs.Singles.{single_view}
 use Rattle.message_view.specs.Views.{Placed, held_either, held_step, value_step, message_step, parts_step, content_view, contents_view, view_of}
 use Rattle.message_view.proofs.Seen.{value_at-view}
+use Rattle.reflect_pool.specs.declared.message.MessageDescriptor.{MessageDescriptor}
 
 -- what is seen of a tree
 abbrev mutual
@@ -48,22 +47,22 @@ abbrev mutual
   of_entries (trees.more_entries k t es) = more_entries (single_view k) (of_tree t) (of_entries es)
 
 abbrev seen_held : blocks.Held → Placed
-seen_held = fold-Held Placed Content Message Placed held_step value_step message_step parts_step
+seen_held = fold-HeldOf MessageDescriptor Placed Content Message Placed held_step value_step message_step parts_step
 
 abbrev seen_message : DynamicMessage → Message
-seen_message = fold-DynamicMessage Placed Content Message Placed held_step value_step message_step parts_step
+seen_message = fold-MessageOf MessageDescriptor Placed Content Message Placed held_step value_step message_step parts_step
 
 abbrev seen_parts : Parts → Placed
-seen_parts = fold-Parts Placed Content Message Placed held_step value_step message_step parts_step
+seen_parts = fold-PartsOf MessageDescriptor Placed Content Message Placed held_step value_step message_step parts_step
 
 abbrev tree_held : blocks.Held → MessageTree
-tree_held = fold-Held MessageTree ValueTree ValueTree MessageTree trees.held_step trees.value_step trees.message_step trees.parts_step
+tree_held = fold-HeldOf MessageDescriptor MessageTree ValueTree ValueTree MessageTree trees.held_step trees.value_step trees.message_step trees.parts_step
 
 abbrev tree_message : DynamicMessage → ValueTree
-tree_message = fold-DynamicMessage MessageTree ValueTree ValueTree MessageTree trees.held_step trees.value_step trees.message_step trees.parts_step
+tree_message = fold-MessageOf MessageDescriptor MessageTree ValueTree ValueTree MessageTree trees.held_step trees.value_step trees.message_step trees.parts_step
 
 abbrev tree_parts : Parts → MessageTree
-tree_parts = fold-Parts MessageTree ValueTree ValueTree MessageTree trees.held_step trees.value_step trees.message_step trees.parts_step
+tree_parts = fold-PartsOf MessageDescriptor MessageTree ValueTree ValueTree MessageTree trees.held_step trees.value_step trees.message_step trees.parts_step
 
 -- what is to be shown of each
 abbrev HeldTold : blocks.Held → Type 0
@@ -105,28 +104,28 @@ entries_told (e ∷ es) =
     ap (λ c. more_entries (single_view (key_view e.0)) c (entries_of (map (λ (e : MapKey × Content). (single_view (key_view e.0), e.1)) (map (λ (e : MapKey × Value). (e.0, content_view e.1)) (map (λ (e : MapKey × ToldValue). (e.0, e.1.0)) es))))) e.1.1
     ∙ ap (more_entries (single_view (key_view e.0)) (of_tree (tree e.1.0))) (entries_told es)
 
-abbrev SeenValue : Value-F blocks.Held Value DynamicMessage Parts → Type 0
+abbrev SeenValue : ValueOf-F MessageDescriptor blocks.Held Value DynamicMessage Parts → Type 0
 SeenValue x =
-    value_step (map-Value blocks.Held Value DynamicMessage Parts Placed Content Message Placed seen_held content_view seen_message seen_parts x)
-    ≡ of_tree (trees.value_step (map-Value blocks.Held Value DynamicMessage Parts MessageTree ValueTree ValueTree MessageTree tree_held tree tree_message tree_parts x))
+    value_step (map-ValueOf MessageDescriptor blocks.Held Value DynamicMessage Parts Placed Content Message Placed seen_held content_view seen_message seen_parts x)
+    ≡ of_tree (trees.value_step (map-ValueOf MessageDescriptor blocks.Held Value DynamicMessage Parts MessageTree ValueTree ValueTree MessageTree tree_held tree tree_message tree_parts x))
 
-value_told : (y : Value-F ToldHeld ToldValue ToldMessage ToldParts) → SeenValue (map-Value ToldHeld ToldValue ToldMessage ToldParts blocks.Held Value DynamicMessage Parts (λ e. e.0) (λ e. e.0) (λ e. e.0) (λ e. e.0) y)
-value_told (Value-F.Bool b) = refl
-value_told (Value-F.I32 z) = refl
-value_told (Value-F.I64 z) = refl
-value_told (Value-F.U32 n) = refl
-value_told (Value-F.U64 n) = refl
-value_told (Value-F.String t) = refl
-value_told (Value-F.Bytes b) = refl
-value_told (Value-F.EnumNumber z) = refl
-value_told (Value-F.Message m) = m.1
-value_told (Value-F.List vs) = row_told vs.items
-value_told (Value-F.Map es) = ap dictionary (entries_told es.entries)
+value_told : (y : ValueOf-F MessageDescriptor ToldHeld ToldValue ToldMessage ToldParts) → SeenValue (map-ValueOf MessageDescriptor ToldHeld ToldValue ToldMessage ToldParts blocks.Held Value DynamicMessage Parts (λ e. e.0) (λ e. e.0) (λ e. e.0) (λ e. e.0) y)
+value_told (ValueOf-F.Bool b) = refl
+value_told (ValueOf-F.I32 z) = refl
+value_told (ValueOf-F.I64 z) = refl
+value_told (ValueOf-F.U32 n) = refl
+value_told (ValueOf-F.U64 n) = refl
+value_told (ValueOf-F.String t) = refl
+value_told (ValueOf-F.Bytes b) = refl
+value_told (ValueOf-F.EnumNumber z) = refl
+value_told (ValueOf-F.Message m) = m.1
+value_told (ValueOf-F.List vs) = row_told vs.items
+value_told (ValueOf-F.Map es) = ap dictionary (entries_told es.entries)
 
-abbrev SeenHeld : Held-F blocks.Held Value DynamicMessage Parts → Type 0
+abbrev SeenHeld : HeldOf-F MessageDescriptor blocks.Held Value DynamicMessage Parts → Type 0
 SeenHeld x = (pool : PoolType) (i n : ℕ)
-    → held_step (map-Held blocks.Held Value DynamicMessage Parts Placed Content Message Placed seen_held content_view seen_message seen_parts x) pool i n
-    ≡ of_message (trees.held_step (map-Held blocks.Held Value DynamicMessage Parts MessageTree ValueTree ValueTree MessageTree tree_held tree tree_message tree_parts x)) pool i n
+    → held_step (map-HeldOf MessageDescriptor blocks.Held Value DynamicMessage Parts Placed Content Message Placed seen_held content_view seen_message seen_parts x) pool i n
+    ≡ of_message (trees.held_step (map-HeldOf MessageDescriptor blocks.Held Value DynamicMessage Parts MessageTree ValueTree ValueTree MessageTree tree_held tree tree_message tree_parts x)) pool i n
 
 none_told : (pool : PoolType) (i n : ℕ) → absent ≡ of_message trees.nothing_held pool i n
 none_told pool i n = by (known_field pool i n) (known_extension pool i n) where
@@ -135,16 +134,16 @@ none_told pool i n = by (known_field pool i n) (known_extension pool i n) where
   by None (Some x) = refl
   by None None = refl
 
-held_told : (y : Held-F ToldHeld ToldValue ToldMessage ToldParts) → SeenHeld (map-Held ToldHeld ToldValue ToldMessage ToldParts blocks.Held Value DynamicMessage Parts (λ e. e.0) (λ e. e.0) (λ e. e.0) (λ e. e.0) y)
-held_told Held-F.Nothing = none_told
-held_told (Held-F.Block b) = b.value.1
+held_told : (y : HeldOf-F MessageDescriptor ToldHeld ToldValue ToldMessage ToldParts) → SeenHeld (map-HeldOf MessageDescriptor ToldHeld ToldValue ToldMessage ToldParts blocks.Held Value DynamicMessage Parts (λ e. e.0) (λ e. e.0) (λ e. e.0) (λ e. e.0) y)
+held_told HeldOf-F.Nothing = none_told
+held_told (HeldOf-F.Block b) = b.value.1
 
-abbrev SeenMessage : DynamicMessage-F blocks.Held Value DynamicMessage Parts → Type 0
+abbrev SeenMessage : MessageOf-F MessageDescriptor blocks.Held Value DynamicMessage Parts → Type 0
 SeenMessage x =
-    message (message_step (map-DynamicMessage blocks.Held Value DynamicMessage Parts Placed Content Message Placed seen_held content_view seen_message seen_parts x))
-    ≡ of_tree (trees.message_step (map-DynamicMessage blocks.Held Value DynamicMessage Parts MessageTree ValueTree ValueTree MessageTree tree_held tree tree_message tree_parts x))
+    message (message_step (map-MessageOf MessageDescriptor blocks.Held Value DynamicMessage Parts Placed Content Message Placed seen_held content_view seen_message seen_parts x))
+    ≡ of_tree (trees.message_step (map-MessageOf MessageDescriptor blocks.Held Value DynamicMessage Parts MessageTree ValueTree ValueTree MessageTree tree_held tree tree_message tree_parts x))
 
-message_told : (y : DynamicMessage-F ToldHeld ToldValue ToldMessage ToldParts) → SeenMessage (map-DynamicMessage ToldHeld ToldValue ToldMessage ToldParts blocks.Held Value DynamicMessage Parts (λ e. e.0) (λ e. e.0) (λ e. e.0) (λ e. e.0) y)
+message_told : (y : MessageOf-F MessageDescriptor ToldHeld ToldValue ToldMessage ToldParts) → SeenMessage (map-MessageOf MessageDescriptor ToldHeld ToldValue ToldMessage ToldParts blocks.Held Value DynamicMessage Parts (λ e. e.0) (λ e. e.0) (λ e. e.0) (λ e. e.0) y)
 message_told y = ap message (fun_ext (λ n. y.held.1 y.descriptor.pool.now y.descriptor.index n))
 
 -- what stands under a number
@@ -159,16 +158,16 @@ under_told (e ∷ es) n = by (n == e.0) (under_told es n) where
   by true ih = ap Some e.1.1
   by false ih = ih
 
-abbrev SeenParts : Parts-F blocks.Held Value DynamicMessage Parts → Type 0
+abbrev SeenParts : PartsOf-F MessageDescriptor blocks.Held Value DynamicMessage Parts → Type 0
 SeenParts x = (pool : PoolType) (i n : ℕ)
-    → parts_step (map-Parts blocks.Held Value DynamicMessage Parts Placed Content Message Placed seen_held content_view seen_message seen_parts x) pool i n
-    ≡ of_message (trees.parts_step (map-Parts blocks.Held Value DynamicMessage Parts MessageTree ValueTree ValueTree MessageTree tree_held tree tree_message tree_parts x)) pool i n
+    → parts_step (map-PartsOf MessageDescriptor blocks.Held Value DynamicMessage Parts Placed Content Message Placed seen_held content_view seen_message seen_parts x) pool i n
+    ≡ of_message (trees.parts_step (map-PartsOf MessageDescriptor blocks.Held Value DynamicMessage Parts MessageTree ValueTree ValueTree MessageTree tree_held tree tree_message tree_parts x)) pool i n
 
-parts_told : (y : Parts-F ToldHeld ToldValue ToldMessage ToldParts) → SeenParts (map-Parts ToldHeld ToldValue ToldMessage ToldParts blocks.Held Value DynamicMessage Parts (λ e. e.0) (λ e. e.0) (λ e. e.0) (λ e. e.0) y)
+parts_told : (y : PartsOf-F MessageDescriptor ToldHeld ToldValue ToldMessage ToldParts) → SeenParts (map-PartsOf MessageDescriptor ToldHeld ToldValue ToldMessage ToldParts blocks.Held Value DynamicMessage Parts (λ e. e.0) (λ e. e.0) (λ e. e.0) (λ e. e.0) y)
 parts_told y pool i n =
-    let x = map-Parts ToldHeld ToldValue ToldMessage ToldParts blocks.Held Value DynamicMessage Parts (λ e. e.0) (λ e. e.0) (λ e. e.0) (λ e. e.0) y in
-    let s = map-Parts blocks.Held Value DynamicMessage Parts Placed Content Message Placed seen_held content_view seen_message seen_parts x in
-    let t = map-Parts blocks.Held Value DynamicMessage Parts MessageTree ValueTree ValueTree MessageTree tree_held tree tree_message tree_parts x in
+    let x = map-PartsOf MessageDescriptor ToldHeld ToldValue ToldMessage ToldParts blocks.Held Value DynamicMessage Parts (λ e. e.0) (λ e. e.0) (λ e. e.0) (λ e. e.0) y in
+    let s = map-PartsOf MessageDescriptor blocks.Held Value DynamicMessage Parts Placed Content Message Placed seen_held content_view seen_message seen_parts x in
+    let t = map-PartsOf MessageDescriptor blocks.Held Value DynamicMessage Parts MessageTree ValueTree ValueTree MessageTree tree_held tree tree_message tree_parts x in
     let f = known_field pool i n in
     let x = known_extension pool i n in
     ap (λ o. held_either pool f x o (value_at s.extensions n) (payloads n (undeclared s.unknown))) (under_told y.fields n)
@@ -176,11 +175,11 @@ parts_told y pool i n =
 
 -- a value is seen as its tree tells
 pub told : (v : Value) → content_view v ≡ of_tree (tree v)
-told = ind-Value HeldTold ValueTold MessageTold PartsTold
-    (λ x y is pool i n. ap (λ s. s pool i n) (fold-roll-Held Placed Content Message Placed held_step value_step message_step parts_step x) ∙ subst SeenHeld is (held_told y) pool i n ∙ sym (ap (λ t. of_message t pool i n) (fold-roll-Held MessageTree ValueTree ValueTree MessageTree trees.held_step trees.value_step trees.message_step trees.parts_step x)))
-    (λ x y is. fold-roll-Value Placed Content Message Placed held_step value_step message_step parts_step x ∙ subst SeenValue is (value_told y) ∙ sym (ap of_tree (fold-roll-Value MessageTree ValueTree ValueTree MessageTree trees.held_step trees.value_step trees.message_step trees.parts_step x)))
-    (λ x y is. ap message (fold-roll-DynamicMessage Placed Content Message Placed held_step value_step message_step parts_step x) ∙ subst SeenMessage is (message_told y) ∙ sym (ap of_tree (fold-roll-DynamicMessage MessageTree ValueTree ValueTree MessageTree trees.held_step trees.value_step trees.message_step trees.parts_step x)))
-    (λ x y is pool i n. ap (λ s. s pool i n) (fold-roll-Parts Placed Content Message Placed held_step value_step message_step parts_step x) ∙ subst SeenParts is (parts_told y) pool i n ∙ sym (ap (λ t. of_message t pool i n) (fold-roll-Parts MessageTree ValueTree ValueTree MessageTree trees.held_step trees.value_step trees.message_step trees.parts_step x)))
+told = ind-ValueOf MessageDescriptor HeldTold ValueTold MessageTold PartsTold
+    (λ x y is pool i n. ap (λ s. s pool i n) (fold-roll-HeldOf MessageDescriptor Placed Content Message Placed held_step value_step message_step parts_step x) ∙ subst SeenHeld is (held_told y) pool i n ∙ sym (ap (λ t. of_message t pool i n) (fold-roll-HeldOf MessageDescriptor MessageTree ValueTree ValueTree MessageTree trees.held_step trees.value_step trees.message_step trees.parts_step x)))
+    (λ x y is. fold-roll-ValueOf MessageDescriptor Placed Content Message Placed held_step value_step message_step parts_step x ∙ subst SeenValue is (value_told y) ∙ sym (ap of_tree (fold-roll-ValueOf MessageDescriptor MessageTree ValueTree ValueTree MessageTree trees.held_step trees.value_step trees.message_step trees.parts_step x)))
+    (λ x y is. ap message (fold-roll-MessageOf MessageDescriptor Placed Content Message Placed held_step value_step message_step parts_step x) ∙ subst SeenMessage is (message_told y) ∙ sym (ap of_tree (fold-roll-MessageOf MessageDescriptor MessageTree ValueTree ValueTree MessageTree trees.held_step trees.value_step trees.message_step trees.parts_step x)))
+    (λ x y is pool i n. ap (λ s. s pool i n) (fold-roll-PartsOf MessageDescriptor Placed Content Message Placed held_step value_step message_step parts_step x) ∙ subst SeenParts is (parts_told y) pool i n ∙ sym (ap (λ t. of_message t pool i n) (fold-roll-PartsOf MessageDescriptor MessageTree ValueTree ValueTree MessageTree trees.held_step trees.value_step trees.message_step trees.parts_step x)))
 
 option_told : (o : Option Value) → option_map content_view o ≡ option_map of_tree (option_map tree o)
 option_told None = refl

@@ -6,7 +6,7 @@ use Rattle.reflect_wire.specs.Written.{AreBytes}
 use Rattle.reflect_message.specs.Contents.{content_of, nothing}
 use Rattle.reflect_message.specs.Oneofs.{AreChosen, IsExclusive}
 use Rattle.reflect_message.specs.Held.{choices_of, fields_of}
-use Rattle.reflect_message.specs.declared.message.DynamicMessage.{DynamicMessage}
+use Rattle.reflect_message.specs.Names.{DynamicMessage}
 use Rattle.reflect_decode.specs.Levels.{MergesAt}
 use Rattle.reflect_decode.specs.Spelled.{IsMerged, IsSpelled}
 use Rattle.reflect_decode.specs.Suits.{Suits, SuitsBelow}

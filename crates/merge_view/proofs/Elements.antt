@@ -9,8 +9,7 @@ use Rattle.reflect_wire.specs.Records.{Payload}
 use Rattle.reflect_message.specs.Contents.{Content, content_of}
 use Rattle.reflect_message.specs.KindTypes.{IsScalarType}
 use Rattle.reflect_message.specs.Lists.{items_held}
-use Rattle.reflect_message.specs.declared.message.DynamicMessage.{DynamicMessage}
-use Rattle.reflect_message.specs.declared.value.Value.{Value}
+use Rattle.reflect_message.specs.Names.{DynamicMessage, Value}
 use Rattle.reflect_decode.specs.Messages.{Takes, MergesMessage}
 use Rattle.reflect_decode.specs.Scalars.{ContinuesWith, HoldsLast}
 use Rattle.reflect_decode.specs.Suits.{Suiting, IsSuiting}

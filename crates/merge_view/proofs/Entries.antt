@@ -7,7 +7,7 @@ use Rattle.reflect_wire.specs.Records.{Payload}
 use Rattle.reflect_scalar.specs.declared.map_key.MapKey.{MapKey}
 use Rattle.reflect_message.specs.Known.{holds_floats}
 use Rattle.reflect_message.specs.Maps.{entries_held}
-use Rattle.reflect_message.specs.declared.value.Value.{Value}
+use Rattle.reflect_message.specs.Names.{Value}
 use Rattle.reflect_decode.specs.Maps.{ContinuesMap}
 use Rattle.reflect_decode.specs.Messages.{Takes}
 use Rattle.protobuf_model.specs.Values.{Message, entries_of, pairs_of}

@@ -16,7 +16,7 @@ use Rattle.reflect_message.specs.Declares.{Owns, OwnsExtension}
 use Rattle.reflect_message.specs.Known.{holds_floats, known_field, known_extension}
 use Rattle.reflect_message.specs.Lists.{list_items}
 use Rattle.reflect_message.specs.Maps.{map_entries}
-use Rattle.reflect_message.specs.declared.value.Value.{Value}
+use Rattle.reflect_message.specs.Names.{Value}
 use Rattle.reflect_decode.specs.Fields.{LeavesField}
 use Rattle.reflect_decode.specs.Keeps as keeps
 use Rattle.reflect_decode.specs.Levels.{TakenAt, TakesAt, MergesAt}

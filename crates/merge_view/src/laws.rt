@@ -7,7 +7,7 @@ ghost use Rattle.reflect_decode.specs.Spelled.{IsMerged, IsSpelled};
 ghost use Rattle.reflect_decode.specs.Suits.{Suits};
 ghost use Rattle.reflect_message.specs.Contents.{content_of};
 ghost use Rattle.reflect_message.specs.Oneofs.{IsExclusive};
-ghost use Rattle.reflect_message.specs.declared.message.DynamicMessage.{DynamicMessage};
+ghost use Rattle.reflect_message.specs.Names.{DynamicMessage};
 ghost use Rattle.reflect_pool.specs.declared.message.MessageDescriptor.{MessageDescriptor};
 ghost use Rattle.reflect_wire.specs.Written.{AreBytes};
 ghost use Rattle.message_view.specs.Sound.{IsSound};

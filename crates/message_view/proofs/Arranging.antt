@@ -16,8 +16,7 @@ use Rattle.reflect_message.specs.Bytes.{Form, content_bytes, declared_bytes, ext
 use Rattle.reflect_message.specs.Contents.{Content, content_of}
 use Rattle.reflect_message.specs.Declares.{Owns, OwnsExtension, IsDeclared, NoField}
 use Rattle.reflect_message.specs.Known.{known_field, known_extension}
-use Rattle.reflect_message.specs.declared.message.DynamicMessage.{DynamicMessage}
-use Rattle.reflect_message.specs.declared.value.Value.{Value}
+use Rattle.reflect_message.specs.Names.{DynamicMessage, Value}
 use Rattle.message_laws.specs.MapKeys.{HaveMapKeys}
 use Rattle.protobuf_model.specs.Values as model
 use Rattle.protobuf_model.specs.Values.{Held, records}

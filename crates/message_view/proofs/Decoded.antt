@@ -5,7 +5,7 @@ use Rattle.reflect_wire.specs.Written.{AreBytes}
 use Rattle.reflect_wire.specs.declared.wire_error.WireError.{WireError}
 use Rattle.reflect_wire.specs.declared.wire_error.WireError.TheVariants as errors
 use Rattle.reflect_message.specs.Contents.{content_of}
-use Rattle.reflect_message.specs.declared.message.DynamicMessage.{DynamicMessage}
+use Rattle.reflect_message.specs.Names.{DynamicMessage}
 use Rattle.reflect_decode.specs.Levels.{TakesAt}
 use Rattle.reflect_decode.specs.Refused.{BodyFault}
 use Rattle.reflect_decode.specs.Spelled.{IsMerged, IsSpelled, TellsWhy}

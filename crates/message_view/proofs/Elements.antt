@@ -17,8 +17,7 @@ use Rattle.reflect_message.specs.Contents.{Content, content_of, nothing}
 use Rattle.reflect_message.specs.KindTypes.{IsScalarType}
 use Rattle.reflect_message.specs.Lists.{items_held}
 use Rattle.reflect_message.specs.Singles as singles
-use Rattle.reflect_message.specs.declared.message.DynamicMessage.{DynamicMessage}
-use Rattle.reflect_message.specs.declared.value.Value.{Value}
+use Rattle.reflect_message.specs.Names.{DynamicMessage, Value}
 use Rattle.reflect_decode.specs.Elements.{AreElements}
 use Rattle.reflect_decode.specs.Messages.{Takes, IsMade, MergesMessage}
 use Rattle.reflect_decode.specs.Packed.{IsPacked}

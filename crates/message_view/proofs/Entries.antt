@@ -15,7 +15,7 @@ use Rattle.reflect_message.specs.KindTypes.{IsScalarType, IsMessageType}
 use Rattle.reflect_message.specs.Known.{is_float, entry_field, has_floats, holds_floats}
 use Rattle.reflect_message.specs.Maps.{entries_held, key_order}
 use Rattle.reflect_message.specs.Singles as singles
-use Rattle.reflect_message.specs.declared.value.Value.{Value}
+use Rattle.reflect_message.specs.Names.{Value}
 use Rattle.reflect_decode.specs.Keeps as keeps
 use Rattle.reflect_decode.specs.Maps.{LeavesSingle, LeavesValue, IsEntry, PutEntries, ContinuesMap}
 use Rattle.reflect_decode.specs.Messages.{Takes}

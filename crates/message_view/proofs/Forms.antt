@@ -10,110 +10,109 @@ use Rattle.reflect_message.specs.Maps.{map_entries}
 use Rattle.reflect_message.specs.Messages.{message_in}
 use Rattle.reflect_message.specs.Singles as singles
 use Rattle.reflect_message.specs.Contents.{content_of}
-use Rattle.reflect_message.specs.declared.message.DynamicMessage.{DynamicMessage}
-use Rattle.reflect_message.specs.declared.parts.Held.{out-Held}
-use Rattle.reflect_message.specs.declared.parts.Held as blocks
-use Rattle.reflect_message.specs.declared.parts.Held.TheFolds.{map-Value, map-Held, fold-Held, fold-Value, fold-DynamicMessage, fold-Parts, fold_out-Value, fold_out-Held, fold_out-Parts, fold_out-DynamicMessage}
-use Rattle.reflect_message.specs.declared.parts.Held.TheOpen.{Held-F, Value-F}
-use Rattle.reflect_message.specs.declared.parts.Held.TheViews.{out-Value}
-use Rattle.reflect_message.specs.declared.parts.Parts.{Parts}
-use Rattle.reflect_message.specs.declared.value.Value.{Value}
+use Rattle.reflect_message.specs.Names.{DynamicMessage, Parts, Value}
+use Rattle.reflect_message.specs.declared.parts.HeldOf.{out-HeldOf}
+use Rattle.reflect_message.specs.Names as blocks
+use Rattle.reflect_message.specs.declared.parts.HeldOf.TheFolds.{map-ValueOf, map-HeldOf, fold-HeldOf, fold-ValueOf, fold-MessageOf, fold-PartsOf, fold_out-ValueOf, fold_out-HeldOf, fold_out-PartsOf, fold_out-MessageOf}
+use Rattle.reflect_message.specs.declared.parts.HeldOf.TheOpen.{HeldOf-F, ValueOf-F}
+use Rattle.reflect_message.specs.declared.parts.HeldOf.TheViews.{out-ValueOf}
 use Rattle.message_view.proofs.Seen.{single_in, message_of, items_of, entries_in, entries_opened, extensions_opened, unknown_opened}
+use Rattle.reflect_pool.specs.declared.message.MessageDescriptor.{MessageDescriptor}
 
 abbrev Placed : Type 0
 Placed = PoolType → ℕ → List ℕ
 
-abbrev stepped : Value-F blocks.Held Value DynamicMessage Parts → Form
-stepped o = value_step (map-Value blocks.Held Value DynamicMessage Parts Placed Form (List ℕ) Placed
-    (fold-Held Placed Form (List ℕ) Placed held_step value_step message_step parts_step)
-    (fold-Value Placed Form (List ℕ) Placed held_step value_step message_step parts_step)
-    (fold-DynamicMessage Placed Form (List ℕ) Placed held_step value_step message_step parts_step)
-    (fold-Parts Placed Form (List ℕ) Placed held_step value_step message_step parts_step) o)
+abbrev stepped : ValueOf-F MessageDescriptor blocks.Held Value DynamicMessage Parts → Form
+stepped o = value_step (map-ValueOf MessageDescriptor blocks.Held Value DynamicMessage Parts Placed Form (List ℕ) Placed
+    (fold-HeldOf MessageDescriptor Placed Form (List ℕ) Placed held_step value_step message_step parts_step)
+    (fold-ValueOf MessageDescriptor Placed Form (List ℕ) Placed held_step value_step message_step parts_step)
+    (fold-MessageOf MessageDescriptor Placed Form (List ℕ) Placed held_step value_step message_step parts_step)
+    (fold-PartsOf MessageDescriptor Placed Form (List ℕ) Placed held_step value_step message_step parts_step) o)
 
-opened : (v : Value) → form_of v ≡ stepped (out-Value v)
-opened v = fold_out-Value Placed Form (List ℕ) Placed held_step value_step message_step parts_step v
+opened : (v : Value) → form_of v ≡ stepped (out-ValueOf MessageDescriptor v)
+opened v = fold_out-ValueOf MessageDescriptor Placed Form (List ℕ) Placed held_step value_step message_step parts_step v
 
 unwrapped : (a w : held.Single) → Some a ≡ Some w → single_form a ≡ single_form w
 unwrapped a w e = ap (λ o. single_form (unwrap_or o a)) e
 
 pub single_form_seen : (v : Value) (w : held.Single) → singles.single v ≡ Some w → form_of v ≡ single_form w
-single_form_seen v w e = opened v ∙ by (out-Value v) e where
-  by : (o : Value-F blocks.Held Value DynamicMessage Parts) → single_in o ≡ Some w → stepped o ≡ single_form w
-  by (Value-F.Bool b) e = unwrapped (held.truth b) w e
-  by (Value-F.I32 z) e = unwrapped (held.int32 z) w e
-  by (Value-F.I64 z) e = unwrapped (held.int64 z) w e
-  by (Value-F.U32 n) e = unwrapped (held.uint32 n) w e
-  by (Value-F.U64 n) e = unwrapped (held.uint64 n) w e
-  by (Value-F.String t) e = unwrapped (held.text (string_bytes t)) w e
-  by (Value-F.Bytes b) e = unwrapped (held.blob b.items) w e
-  by (Value-F.EnumNumber z) e = unwrapped (held.enumerated z) w e
-  by (Value-F.Message m) e = absurd (cc e)
-  by (Value-F.List vs) e = absurd (cc e)
-  by (Value-F.Map es) e = absurd (cc e)
+single_form_seen v w e = opened v ∙ by (out-ValueOf MessageDescriptor v) e where
+  by : (o : ValueOf-F MessageDescriptor blocks.Held Value DynamicMessage Parts) → single_in o ≡ Some w → stepped o ≡ single_form w
+  by (ValueOf-F.Bool b) e = unwrapped (held.truth b) w e
+  by (ValueOf-F.I32 z) e = unwrapped (held.int32 z) w e
+  by (ValueOf-F.I64 z) e = unwrapped (held.int64 z) w e
+  by (ValueOf-F.U32 n) e = unwrapped (held.uint32 n) w e
+  by (ValueOf-F.U64 n) e = unwrapped (held.uint64 n) w e
+  by (ValueOf-F.String t) e = unwrapped (held.text (string_bytes t)) w e
+  by (ValueOf-F.Bytes b) e = unwrapped (held.blob b.items) w e
+  by (ValueOf-F.EnumNumber z) e = unwrapped (held.enumerated z) w e
+  by (ValueOf-F.Message m) e = absurd (cc e)
+  by (ValueOf-F.List vs) e = absurd (cc e)
+  by (ValueOf-F.Map es) e = absurd (cc e)
 
 -- a message that is a value is written as the message that it is
-folded : (m : DynamicMessage) → fold-DynamicMessage Placed Form (List ℕ) Placed held_step value_step message_step parts_step m ≡ message_bytes m
-folded m = fold_out-DynamicMessage Placed Form (List ℕ) Placed held_step value_step message_step parts_step m
+folded : (m : DynamicMessage) → fold-MessageOf MessageDescriptor Placed Form (List ℕ) Placed held_step value_step message_step parts_step m ≡ message_bytes m
+folded m = fold_out-MessageOf MessageDescriptor Placed Form (List ℕ) Placed held_step value_step message_step parts_step m
 
 pub message_form_seen : (v : Value) (m : DynamicMessage) → message_in v ≡ Some m → form_of v ≡ message_form (message_bytes m)
-message_form_seen v m e = opened v ∙ by (out-Value v) e where
-  by : (o : Value-F blocks.Held Value DynamicMessage Parts) → message_of o ≡ Some m → stepped o ≡ message_form (message_bytes m)
-  by (Value-F.Message n) e = ap message_form (folded n) ∙ ap (λ o. message_form (message_bytes (unwrap_or o n))) e
-  by (Value-F.Bool b) e = absurd (cc e)
-  by (Value-F.I32 z) e = absurd (cc e)
-  by (Value-F.I64 z) e = absurd (cc e)
-  by (Value-F.U32 n) e = absurd (cc e)
-  by (Value-F.U64 n) e = absurd (cc e)
-  by (Value-F.String t) e = absurd (cc e)
-  by (Value-F.Bytes b) e = absurd (cc e)
-  by (Value-F.EnumNumber z) e = absurd (cc e)
-  by (Value-F.List vs) e = absurd (cc e)
-  by (Value-F.Map es) e = absurd (cc e)
+message_form_seen v m e = opened v ∙ by (out-ValueOf MessageDescriptor v) e where
+  by : (o : ValueOf-F MessageDescriptor blocks.Held Value DynamicMessage Parts) → message_of o ≡ Some m → stepped o ≡ message_form (message_bytes m)
+  by (ValueOf-F.Message n) e = ap message_form (folded n) ∙ ap (λ o. message_form (message_bytes (unwrap_or o n))) e
+  by (ValueOf-F.Bool b) e = absurd (cc e)
+  by (ValueOf-F.I32 z) e = absurd (cc e)
+  by (ValueOf-F.I64 z) e = absurd (cc e)
+  by (ValueOf-F.U32 n) e = absurd (cc e)
+  by (ValueOf-F.U64 n) e = absurd (cc e)
+  by (ValueOf-F.String t) e = absurd (cc e)
+  by (ValueOf-F.Bytes b) e = absurd (cc e)
+  by (ValueOf-F.EnumNumber z) e = absurd (cc e)
+  by (ValueOf-F.List vs) e = absurd (cc e)
+  by (ValueOf-F.Map es) e = absurd (cc e)
 
 pub list_form_seen : (v : Value) (vs : List Value) → list_items v ≡ Some vs → form_of v ≡ list_form (map form_of vs)
-list_form_seen v vs e = opened v ∙ by (out-Value v) e where
-  by : (o : Value-F blocks.Held Value DynamicMessage Parts) → items_of o ≡ Some vs → stepped o ≡ list_form (map form_of vs)
-  by (Value-F.List ws) e = ap (λ o. list_form (map form_of (unwrap_or o []))) e
-  by (Value-F.Bool b) e = absurd (cc e)
-  by (Value-F.I32 z) e = absurd (cc e)
-  by (Value-F.I64 z) e = absurd (cc e)
-  by (Value-F.U32 n) e = absurd (cc e)
-  by (Value-F.U64 n) e = absurd (cc e)
-  by (Value-F.String t) e = absurd (cc e)
-  by (Value-F.Bytes b) e = absurd (cc e)
-  by (Value-F.EnumNumber z) e = absurd (cc e)
-  by (Value-F.Message m) e = absurd (cc e)
-  by (Value-F.Map es) e = absurd (cc e)
+list_form_seen v vs e = opened v ∙ by (out-ValueOf MessageDescriptor v) e where
+  by : (o : ValueOf-F MessageDescriptor blocks.Held Value DynamicMessage Parts) → items_of o ≡ Some vs → stepped o ≡ list_form (map form_of vs)
+  by (ValueOf-F.List ws) e = ap (λ o. list_form (map form_of (unwrap_or o []))) e
+  by (ValueOf-F.Bool b) e = absurd (cc e)
+  by (ValueOf-F.I32 z) e = absurd (cc e)
+  by (ValueOf-F.I64 z) e = absurd (cc e)
+  by (ValueOf-F.U32 n) e = absurd (cc e)
+  by (ValueOf-F.U64 n) e = absurd (cc e)
+  by (ValueOf-F.String t) e = absurd (cc e)
+  by (ValueOf-F.Bytes b) e = absurd (cc e)
+  by (ValueOf-F.EnumNumber z) e = absurd (cc e)
+  by (ValueOf-F.Message m) e = absurd (cc e)
+  by (ValueOf-F.Map es) e = absurd (cc e)
 
 abbrev pub forms_of : List (MapKey × Value) → List (MapKey × Form)
 forms_of es = map (λ e. (e.0, form_of e.1)) es
 
 pub map_form_seen : (v : Value) (es : List (MapKey × Value)) → map_entries v ≡ Some es → form_of v ≡ map_form (forms_of es)
-map_form_seen v es e = opened v ∙ by (out-Value v) e where
-  by : (o : Value-F blocks.Held Value DynamicMessage Parts) → entries_in o ≡ Some es → stepped o ≡ map_form (forms_of es)
-  by (Value-F.Map fs) e = ap (λ o. map_form (forms_of (unwrap_or o []))) e
-  by (Value-F.Bool b) e = absurd (cc e)
-  by (Value-F.I32 z) e = absurd (cc e)
-  by (Value-F.I64 z) e = absurd (cc e)
-  by (Value-F.U32 n) e = absurd (cc e)
-  by (Value-F.U64 n) e = absurd (cc e)
-  by (Value-F.String t) e = absurd (cc e)
-  by (Value-F.Bytes b) e = absurd (cc e)
-  by (Value-F.EnumNumber z) e = absurd (cc e)
-  by (Value-F.Message m) e = absurd (cc e)
-  by (Value-F.List vs) e = absurd (cc e)
+map_form_seen v es e = opened v ∙ by (out-ValueOf MessageDescriptor v) e where
+  by : (o : ValueOf-F MessageDescriptor blocks.Held Value DynamicMessage Parts) → entries_in o ≡ Some es → stepped o ≡ map_form (forms_of es)
+  by (ValueOf-F.Map fs) e = ap (λ o. map_form (forms_of (unwrap_or o []))) e
+  by (ValueOf-F.Bool b) e = absurd (cc e)
+  by (ValueOf-F.I32 z) e = absurd (cc e)
+  by (ValueOf-F.I64 z) e = absurd (cc e)
+  by (ValueOf-F.U32 n) e = absurd (cc e)
+  by (ValueOf-F.U64 n) e = absurd (cc e)
+  by (ValueOf-F.String t) e = absurd (cc e)
+  by (ValueOf-F.Bytes b) e = absurd (cc e)
+  by (ValueOf-F.EnumNumber z) e = absurd (cc e)
+  by (ValueOf-F.Message m) e = absurd (cc e)
+  by (ValueOf-F.List vs) e = absurd (cc e)
 
 held_seen : (h : blocks.Held) (pool : PoolType) (i : ℕ) → held_bytes h pool i ≡ content pool i (forms (fields_in h)) (forms (extensions_in h)) (unknown_in h)
-held_seen h pool i = ap (λ s. s pool i) (fold_out-Held Placed Form (List ℕ) Placed held_step value_step message_step parts_step h) ∙ by (out-Held h) where
-  by : (o : Held-F blocks.Held Value DynamicMessage Parts)
-      → held_step (map-Held blocks.Held Value DynamicMessage Parts Placed Form (List ℕ) Placed
-      (fold-Held Placed Form (List ℕ) Placed held_step value_step message_step parts_step)
-      (fold-Value Placed Form (List ℕ) Placed held_step value_step message_step parts_step)
-      (fold-DynamicMessage Placed Form (List ℕ) Placed held_step value_step message_step parts_step)
-      (fold-Parts Placed Form (List ℕ) Placed held_step value_step message_step parts_step) o) pool i
+held_seen h pool i = ap (λ s. s pool i) (fold_out-HeldOf MessageDescriptor Placed Form (List ℕ) Placed held_step value_step message_step parts_step h) ∙ by (out-HeldOf MessageDescriptor h) where
+  by : (o : HeldOf-F MessageDescriptor blocks.Held Value DynamicMessage Parts)
+      → held_step (map-HeldOf MessageDescriptor blocks.Held Value DynamicMessage Parts Placed Form (List ℕ) Placed
+      (fold-HeldOf MessageDescriptor Placed Form (List ℕ) Placed held_step value_step message_step parts_step)
+      (fold-ValueOf MessageDescriptor Placed Form (List ℕ) Placed held_step value_step message_step parts_step)
+      (fold-MessageOf MessageDescriptor Placed Form (List ℕ) Placed held_step value_step message_step parts_step)
+      (fold-PartsOf MessageDescriptor Placed Form (List ℕ) Placed held_step value_step message_step parts_step) o) pool i
       ≡ content pool i (forms (entries_opened o)) (forms (extensions_opened o)) (unknown_opened o)
-  by Held-F.Nothing = refl
-  by (Held-F.Block b) = ap (λ s. s pool i) (fold_out-Parts Placed Form (List ℕ) Placed held_step value_step message_step parts_step b.value)
+  by HeldOf-F.Nothing = refl
+  by (HeldOf-F.Block b) = ap (λ s. s pool i) (fold_out-PartsOf MessageDescriptor Placed Form (List ℕ) Placed held_step value_step message_step parts_step b.value)
 
 -- the bytes of a message, by what it holds
 pub bytes_opened : (m : DynamicMessage) → message_bytes m ≡ content m.descriptor.pool.now m.descriptor.index (forms (content_of m).fields) (forms (content_of m).extensions) (content_of m).unknown

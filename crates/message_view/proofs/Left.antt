@@ -14,7 +14,7 @@ use Rattle.reflect_message.specs.Contents.{Content, nothing}
 use Rattle.reflect_message.specs.Declares.{Owns, OwnsExtension}
 use Rattle.reflect_message.specs.Known.{is_float, has_floats, holds_floats, known_field, known_extension}
 use Rattle.reflect_message.specs.Oneofs.{AreChosen}
-use Rattle.reflect_message.specs.declared.value.Value.{Value}
+use Rattle.reflect_message.specs.Names.{Value}
 use Rattle.reflect_decode.specs.Fields.{LeavesField, LeavesExtension}
 use Rattle.reflect_decode.specs.Keeps as keeps
 use Rattle.reflect_decode.specs.Keeps.{Keeps}

@@ -5,7 +5,7 @@ use Rattle.std.specs.Option.{IsSome}
 use Rattle.reflect_wire.specs.Records.{Payload}
 use Rattle.reflect_entries.specs.Entries.{IsAscending, value_at}
 use Rattle.reflect_entries.specs.Sets.{up_to, above}
-use Rattle.reflect_message.specs.declared.value.Value.{Value}
+use Rattle.reflect_message.specs.Names.{Value}
 use Rattle.reflect_decode.specs.Ordered.{AreNumbered, Ascend, last}
 use Rattle.reflect_decode.proofs.Ordering.{lower, ascend_append, above_ascend, up_to_ascend}
 use Rattle.protobuf_model.specs.Meaning.{payloads}

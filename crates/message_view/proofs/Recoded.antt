@@ -15,12 +15,11 @@ use Rattle.reflect_scalar.specs.FieldTypes.{extension_type}
 use Rattle.reflect_message.specs.Bytes.{content, forms, message_bytes}
 use Rattle.reflect_message.specs.Contents as contents
 use Rattle.reflect_message.specs.Declares.{NoField, OwnsExtension}
-use Rattle.reflect_message.specs.declared.value.Value.{Value}
+use Rattle.reflect_message.specs.Names.{Value, DynamicMessage}
 use Rattle.reflect_decode.specs.Fields.{HoldFields, LeavesExtension}
 use Rattle.reflect_decode.specs.Keeps.{Keeps}
 use Rattle.reflect_decode.specs.Spares.{HoldsRead, NoExtension}
 use Rattle.reflect_message.specs.Contents.{content_of}
-use Rattle.reflect_message.specs.declared.message.DynamicMessage.{DynamicMessage}
 use Rattle.reflect_decode.specs.Levels.{TakesAt}
 use Rattle.reflect_decode.specs.Ordered.{IsOrdered}
 use Rattle.reflect_decode.specs.Spelled.{IsSpelled, TellsWhy}

@@ -15,142 +15,141 @@ use Rattle.reflect_message.specs.Lists.{list_items}
 use Rattle.reflect_message.specs.Maps.{map_entries}
 use Rattle.reflect_message.specs.Messages.{message_in}
 use Rattle.reflect_message.specs.Singles as singles
-use Rattle.reflect_message.specs.declared.message.DynamicMessage.{DynamicMessage}
-use Rattle.reflect_message.specs.declared.parts.Held.{out-Held}
-use Rattle.reflect_message.specs.declared.parts.Held as blocks
-use Rattle.reflect_message.specs.declared.parts.Held.TheFolds.{map-Value, map-Held, fold-Held, fold-Value, fold-DynamicMessage, fold-Parts, fold_out-Value, fold_out-Held, fold_out-Parts, fold_out-DynamicMessage}
-use Rattle.reflect_message.specs.declared.parts.Held.TheOpen.{Held-F, Value-F}
-use Rattle.reflect_message.specs.declared.parts.Held.TheViews.{out-Value}
-use Rattle.reflect_message.specs.declared.parts.Parts.{Parts}
-use Rattle.reflect_message.specs.declared.value.Value.{Value}
+use Rattle.reflect_message.specs.Names.{DynamicMessage, Parts, Value}
+use Rattle.reflect_message.specs.declared.parts.HeldOf.{out-HeldOf}
+use Rattle.reflect_message.specs.Names as blocks
+use Rattle.reflect_message.specs.declared.parts.HeldOf.TheFolds.{map-ValueOf, map-HeldOf, fold-HeldOf, fold-ValueOf, fold-MessageOf, fold-PartsOf, fold_out-ValueOf, fold_out-HeldOf, fold_out-PartsOf, fold_out-MessageOf}
+use Rattle.reflect_message.specs.declared.parts.HeldOf.TheOpen.{HeldOf-F, ValueOf-F}
+use Rattle.reflect_message.specs.declared.parts.HeldOf.TheViews.{out-ValueOf}
 use Rattle.protobuf_model.specs.Values.{Single, Content, single, message, list, dictionary, Message, absent, chain_of, entries_of}
 use Rattle.message_view.specs.Singles.{single_view}
 use Rattle.message_view.specs.Views.{held_either, held_under, held_step, value_step, message_step, parts_step, content_view, held_view, view, contents_view, view_of}
+use Rattle.reflect_pool.specs.declared.message.MessageDescriptor.{MessageDescriptor}
 
 abbrev Placed : Type 0
 Placed = PoolType → ℕ → Message
 
 -- one level of a value, with what is inside it seen
-abbrev stepped : Value-F blocks.Held Value DynamicMessage Parts → Content
-stepped o = value_step (map-Value blocks.Held Value DynamicMessage Parts Placed Content Message Placed
-    (fold-Held Placed Content Message Placed held_step value_step message_step parts_step)
-    (fold-Value Placed Content Message Placed held_step value_step message_step parts_step)
-    (fold-DynamicMessage Placed Content Message Placed held_step value_step message_step parts_step)
-    (fold-Parts Placed Content Message Placed held_step value_step message_step parts_step) o)
+abbrev stepped : ValueOf-F MessageDescriptor blocks.Held Value DynamicMessage Parts → Content
+stepped o = value_step (map-ValueOf MessageDescriptor blocks.Held Value DynamicMessage Parts Placed Content Message Placed
+    (fold-HeldOf MessageDescriptor Placed Content Message Placed held_step value_step message_step parts_step)
+    (fold-ValueOf MessageDescriptor Placed Content Message Placed held_step value_step message_step parts_step)
+    (fold-MessageOf MessageDescriptor Placed Content Message Placed held_step value_step message_step parts_step)
+    (fold-PartsOf MessageDescriptor Placed Content Message Placed held_step value_step message_step parts_step) o)
 
-opened : (v : Value) → content_view v ≡ stepped (out-Value v)
-opened v = fold_out-Value Placed Content Message Placed held_step value_step message_step parts_step v
+opened : (v : Value) → content_view v ≡ stepped (out-ValueOf MessageDescriptor v)
+opened v = fold_out-ValueOf MessageDescriptor Placed Content Message Placed held_step value_step message_step parts_step v
 
-abbrev pub single_in : Value-F blocks.Held Value DynamicMessage Parts → Option held.Single
+abbrev pub single_in : ValueOf-F MessageDescriptor blocks.Held Value DynamicMessage Parts → Option held.Single
 single_in o = elim o [
-  | Value-F.Bool b ↦ Some (held.truth b)
-  | Value-F.I32 z ↦ Some (held.int32 z)
-  | Value-F.I64 z ↦ Some (held.int64 z)
-  | Value-F.U32 n ↦ Some (held.uint32 n)
-  | Value-F.U64 n ↦ Some (held.uint64 n)
-  | Value-F.String t ↦ Some (held.text (string_bytes t))
-  | Value-F.Bytes b ↦ Some (held.blob b.items)
-  | Value-F.EnumNumber z ↦ Some (held.enumerated z)
-  | Value-F.Message m ↦ None
-  | Value-F.List vs ↦ None
-  | Value-F.Map es ↦ None
+  | ValueOf-F.Bool b ↦ Some (held.truth b)
+  | ValueOf-F.I32 z ↦ Some (held.int32 z)
+  | ValueOf-F.I64 z ↦ Some (held.int64 z)
+  | ValueOf-F.U32 n ↦ Some (held.uint32 n)
+  | ValueOf-F.U64 n ↦ Some (held.uint64 n)
+  | ValueOf-F.String t ↦ Some (held.text (string_bytes t))
+  | ValueOf-F.Bytes b ↦ Some (held.blob b.items)
+  | ValueOf-F.EnumNumber z ↦ Some (held.enumerated z)
+  | ValueOf-F.Message m ↦ None
+  | ValueOf-F.List vs ↦ None
+  | ValueOf-F.Map es ↦ None
 ]
 
 unwrapped : (a w : held.Single) → Some a ≡ Some w → single (single_view a) ≡ single (single_view w)
 unwrapped a w e = ap (λ o. single (single_view (unwrap_or o a))) e
 
 pub single_seen : (v : Value) (w : held.Single) → singles.single v ≡ Some w → content_view v ≡ single (single_view w)
-single_seen v w e = opened v ∙ by (out-Value v) e where
-  by : (o : Value-F blocks.Held Value DynamicMessage Parts) → single_in o ≡ Some w → stepped o ≡ single (single_view w)
-  by (Value-F.Bool b) e = unwrapped (held.truth b) w e
-  by (Value-F.I32 z) e = unwrapped (held.int32 z) w e
-  by (Value-F.I64 z) e = unwrapped (held.int64 z) w e
-  by (Value-F.U32 n) e = unwrapped (held.uint32 n) w e
-  by (Value-F.U64 n) e = unwrapped (held.uint64 n) w e
-  by (Value-F.String t) e = unwrapped (held.text (string_bytes t)) w e
-  by (Value-F.Bytes b) e = unwrapped (held.blob b.items) w e
-  by (Value-F.EnumNumber z) e = unwrapped (held.enumerated z) w e
-  by (Value-F.Message m) e = absurd (cc e)
-  by (Value-F.List vs) e = absurd (cc e)
-  by (Value-F.Map es) e = absurd (cc e)
+single_seen v w e = opened v ∙ by (out-ValueOf MessageDescriptor v) e where
+  by : (o : ValueOf-F MessageDescriptor blocks.Held Value DynamicMessage Parts) → single_in o ≡ Some w → stepped o ≡ single (single_view w)
+  by (ValueOf-F.Bool b) e = unwrapped (held.truth b) w e
+  by (ValueOf-F.I32 z) e = unwrapped (held.int32 z) w e
+  by (ValueOf-F.I64 z) e = unwrapped (held.int64 z) w e
+  by (ValueOf-F.U32 n) e = unwrapped (held.uint32 n) w e
+  by (ValueOf-F.U64 n) e = unwrapped (held.uint64 n) w e
+  by (ValueOf-F.String t) e = unwrapped (held.text (string_bytes t)) w e
+  by (ValueOf-F.Bytes b) e = unwrapped (held.blob b.items) w e
+  by (ValueOf-F.EnumNumber z) e = unwrapped (held.enumerated z) w e
+  by (ValueOf-F.Message m) e = absurd (cc e)
+  by (ValueOf-F.List vs) e = absurd (cc e)
+  by (ValueOf-F.Map es) e = absurd (cc e)
 
-abbrev pub message_of : Value-F blocks.Held Value DynamicMessage Parts → Option DynamicMessage
+abbrev pub message_of : ValueOf-F MessageDescriptor blocks.Held Value DynamicMessage Parts → Option DynamicMessage
 message_of o = elim o [
-  | Value-F.Bool b ↦ None
-  | Value-F.I32 z ↦ None
-  | Value-F.I64 z ↦ None
-  | Value-F.U32 n ↦ None
-  | Value-F.U64 n ↦ None
-  | Value-F.String t ↦ None
-  | Value-F.Bytes b ↦ None
-  | Value-F.EnumNumber z ↦ None
-  | Value-F.Message m ↦ Some m
-  | Value-F.List vs ↦ None
-  | Value-F.Map es ↦ None
+  | ValueOf-F.Bool b ↦ None
+  | ValueOf-F.I32 z ↦ None
+  | ValueOf-F.I64 z ↦ None
+  | ValueOf-F.U32 n ↦ None
+  | ValueOf-F.U64 n ↦ None
+  | ValueOf-F.String t ↦ None
+  | ValueOf-F.Bytes b ↦ None
+  | ValueOf-F.EnumNumber z ↦ None
+  | ValueOf-F.Message m ↦ Some m
+  | ValueOf-F.List vs ↦ None
+  | ValueOf-F.Map es ↦ None
 ]
 
 -- a message that is a value is seen as the message that it is
-folded : (m : DynamicMessage) → fold-DynamicMessage Placed Content Message Placed held_step value_step message_step parts_step m ≡ view m
-folded m = fold_out-DynamicMessage Placed Content Message Placed held_step value_step message_step parts_step m
+folded : (m : DynamicMessage) → fold-MessageOf MessageDescriptor Placed Content Message Placed held_step value_step message_step parts_step m ≡ view m
+folded m = fold_out-MessageOf MessageDescriptor Placed Content Message Placed held_step value_step message_step parts_step m
 
 pub message_seen : (v : Value) (m : DynamicMessage) → message_in v ≡ Some m → content_view v ≡ message (view m)
-message_seen v m e = opened v ∙ by (out-Value v) e where
-  by : (o : Value-F blocks.Held Value DynamicMessage Parts) → message_of o ≡ Some m → stepped o ≡ message (view m)
-  by (Value-F.Message n) e = ap message (folded n) ∙ ap (λ o. message (view (unwrap_or o n))) e
-  by (Value-F.Bool b) e = absurd (cc e)
-  by (Value-F.I32 z) e = absurd (cc e)
-  by (Value-F.I64 z) e = absurd (cc e)
-  by (Value-F.U32 n) e = absurd (cc e)
-  by (Value-F.U64 n) e = absurd (cc e)
-  by (Value-F.String t) e = absurd (cc e)
-  by (Value-F.Bytes b) e = absurd (cc e)
-  by (Value-F.EnumNumber z) e = absurd (cc e)
-  by (Value-F.List vs) e = absurd (cc e)
-  by (Value-F.Map es) e = absurd (cc e)
+message_seen v m e = opened v ∙ by (out-ValueOf MessageDescriptor v) e where
+  by : (o : ValueOf-F MessageDescriptor blocks.Held Value DynamicMessage Parts) → message_of o ≡ Some m → stepped o ≡ message (view m)
+  by (ValueOf-F.Message n) e = ap message (folded n) ∙ ap (λ o. message (view (unwrap_or o n))) e
+  by (ValueOf-F.Bool b) e = absurd (cc e)
+  by (ValueOf-F.I32 z) e = absurd (cc e)
+  by (ValueOf-F.I64 z) e = absurd (cc e)
+  by (ValueOf-F.U32 n) e = absurd (cc e)
+  by (ValueOf-F.U64 n) e = absurd (cc e)
+  by (ValueOf-F.String t) e = absurd (cc e)
+  by (ValueOf-F.Bytes b) e = absurd (cc e)
+  by (ValueOf-F.EnumNumber z) e = absurd (cc e)
+  by (ValueOf-F.List vs) e = absurd (cc e)
+  by (ValueOf-F.Map es) e = absurd (cc e)
 
-abbrev pub items_of : Value-F blocks.Held Value DynamicMessage Parts → Option (List Value)
+abbrev pub items_of : ValueOf-F MessageDescriptor blocks.Held Value DynamicMessage Parts → Option (List Value)
 items_of o = elim o [
-  | Value-F.Bool b ↦ None
-  | Value-F.I32 z ↦ None
-  | Value-F.I64 z ↦ None
-  | Value-F.U32 n ↦ None
-  | Value-F.U64 n ↦ None
-  | Value-F.String t ↦ None
-  | Value-F.Bytes b ↦ None
-  | Value-F.EnumNumber z ↦ None
-  | Value-F.Message m ↦ None
-  | Value-F.List vs ↦ Some vs.items
-  | Value-F.Map es ↦ None
+  | ValueOf-F.Bool b ↦ None
+  | ValueOf-F.I32 z ↦ None
+  | ValueOf-F.I64 z ↦ None
+  | ValueOf-F.U32 n ↦ None
+  | ValueOf-F.U64 n ↦ None
+  | ValueOf-F.String t ↦ None
+  | ValueOf-F.Bytes b ↦ None
+  | ValueOf-F.EnumNumber z ↦ None
+  | ValueOf-F.Message m ↦ None
+  | ValueOf-F.List vs ↦ Some vs.items
+  | ValueOf-F.Map es ↦ None
 ]
 
 pub list_seen : (v : Value) (vs : List Value) → list_items v ≡ Some vs → content_view v ≡ list (chain_of (map content_view vs))
-list_seen v vs e = opened v ∙ by (out-Value v) e where
-  by : (o : Value-F blocks.Held Value DynamicMessage Parts) → items_of o ≡ Some vs → stepped o ≡ list (chain_of (map content_view vs))
-  by (Value-F.List ws) e = ap (λ o. list (chain_of (map content_view (unwrap_or o [])))) e
-  by (Value-F.Bool b) e = absurd (cc e)
-  by (Value-F.I32 z) e = absurd (cc e)
-  by (Value-F.I64 z) e = absurd (cc e)
-  by (Value-F.U32 n) e = absurd (cc e)
-  by (Value-F.U64 n) e = absurd (cc e)
-  by (Value-F.String t) e = absurd (cc e)
-  by (Value-F.Bytes b) e = absurd (cc e)
-  by (Value-F.EnumNumber z) e = absurd (cc e)
-  by (Value-F.Message m) e = absurd (cc e)
-  by (Value-F.Map es) e = absurd (cc e)
+list_seen v vs e = opened v ∙ by (out-ValueOf MessageDescriptor v) e where
+  by : (o : ValueOf-F MessageDescriptor blocks.Held Value DynamicMessage Parts) → items_of o ≡ Some vs → stepped o ≡ list (chain_of (map content_view vs))
+  by (ValueOf-F.List ws) e = ap (λ o. list (chain_of (map content_view (unwrap_or o [])))) e
+  by (ValueOf-F.Bool b) e = absurd (cc e)
+  by (ValueOf-F.I32 z) e = absurd (cc e)
+  by (ValueOf-F.I64 z) e = absurd (cc e)
+  by (ValueOf-F.U32 n) e = absurd (cc e)
+  by (ValueOf-F.U64 n) e = absurd (cc e)
+  by (ValueOf-F.String t) e = absurd (cc e)
+  by (ValueOf-F.Bytes b) e = absurd (cc e)
+  by (ValueOf-F.EnumNumber z) e = absurd (cc e)
+  by (ValueOf-F.Message m) e = absurd (cc e)
+  by (ValueOf-F.Map es) e = absurd (cc e)
 
-abbrev pub entries_in : Value-F blocks.Held Value DynamicMessage Parts → Option (List (MapKey × Value))
+abbrev pub entries_in : ValueOf-F MessageDescriptor blocks.Held Value DynamicMessage Parts → Option (List (MapKey × Value))
 entries_in o = elim o [
-  | Value-F.Bool b ↦ None
-  | Value-F.I32 z ↦ None
-  | Value-F.I64 z ↦ None
-  | Value-F.U32 n ↦ None
-  | Value-F.U64 n ↦ None
-  | Value-F.String t ↦ None
-  | Value-F.Bytes b ↦ None
-  | Value-F.EnumNumber z ↦ None
-  | Value-F.Message m ↦ None
-  | Value-F.List vs ↦ None
-  | Value-F.Map es ↦ Some es.entries
+  | ValueOf-F.Bool b ↦ None
+  | ValueOf-F.I32 z ↦ None
+  | ValueOf-F.I64 z ↦ None
+  | ValueOf-F.U32 n ↦ None
+  | ValueOf-F.U64 n ↦ None
+  | ValueOf-F.String t ↦ None
+  | ValueOf-F.Bytes b ↦ None
+  | ValueOf-F.EnumNumber z ↦ None
+  | ValueOf-F.Message m ↦ None
+  | ValueOf-F.List vs ↦ None
+  | ValueOf-F.Map es ↦ Some es.entries
 ]
 
 abbrev pub pairs_view : List (MapKey × Value) → List (Single × Content)
@@ -161,19 +160,19 @@ inside [] = refl
 inside (e ∷ es) = ap (λ l. (single_view (key_view e.0), content_view e.1) ∷ l) (inside es)
 
 pub map_seen : (v : Value) (es : List (MapKey × Value)) → map_entries v ≡ Some es → content_view v ≡ dictionary (entries_of (pairs_view es))
-map_seen v es e = opened v ∙ by (out-Value v) e where
-  by : (o : Value-F blocks.Held Value DynamicMessage Parts) → entries_in o ≡ Some es → stepped o ≡ dictionary (entries_of (pairs_view es))
-  by (Value-F.Map fs) e = ap (λ l. dictionary (entries_of l)) (inside fs.entries) ∙ ap (λ o. dictionary (entries_of (pairs_view (unwrap_or o [])))) e
-  by (Value-F.Bool b) e = absurd (cc e)
-  by (Value-F.I32 z) e = absurd (cc e)
-  by (Value-F.I64 z) e = absurd (cc e)
-  by (Value-F.U32 n) e = absurd (cc e)
-  by (Value-F.U64 n) e = absurd (cc e)
-  by (Value-F.String t) e = absurd (cc e)
-  by (Value-F.Bytes b) e = absurd (cc e)
-  by (Value-F.EnumNumber z) e = absurd (cc e)
-  by (Value-F.Message m) e = absurd (cc e)
-  by (Value-F.List vs) e = absurd (cc e)
+map_seen v es e = opened v ∙ by (out-ValueOf MessageDescriptor v) e where
+  by : (o : ValueOf-F MessageDescriptor blocks.Held Value DynamicMessage Parts) → entries_in o ≡ Some es → stepped o ≡ dictionary (entries_of (pairs_view es))
+  by (ValueOf-F.Map fs) e = ap (λ l. dictionary (entries_of l)) (inside fs.entries) ∙ ap (λ o. dictionary (entries_of (pairs_view (unwrap_or o [])))) e
+  by (ValueOf-F.Bool b) e = absurd (cc e)
+  by (ValueOf-F.I32 z) e = absurd (cc e)
+  by (ValueOf-F.I64 z) e = absurd (cc e)
+  by (ValueOf-F.U32 n) e = absurd (cc e)
+  by (ValueOf-F.U64 n) e = absurd (cc e)
+  by (ValueOf-F.String t) e = absurd (cc e)
+  by (ValueOf-F.Bytes b) e = absurd (cc e)
+  by (ValueOf-F.EnumNumber z) e = absurd (cc e)
+  by (ValueOf-F.Message m) e = absurd (cc e)
+  by (ValueOf-F.List vs) e = absurd (cc e)
 
 -- what stands under a number of entries that are seen one by one
 pub value_at-view : (es : List (ℕ × Value)) (n : ℕ) → value_at (contents_view es) n ≡ option_map content_view (value_at es n)
@@ -191,26 +190,26 @@ none_held pool i n = by (known_field pool i n) (known_extension pool i n) where
   by None (Some x) = refl
   by None None = refl
 
-abbrev pub entries_opened : Held-F blocks.Held Value DynamicMessage Parts → List (ℕ × Value)
-entries_opened o = elim o [ Held-F.Nothing ↦ [] | Held-F.Block b ↦ b.value.fields ]
+abbrev pub entries_opened : HeldOf-F MessageDescriptor blocks.Held Value DynamicMessage Parts → List (ℕ × Value)
+entries_opened o = elim o [ HeldOf-F.Nothing ↦ [] | HeldOf-F.Block b ↦ b.value.fields ]
 
-abbrev pub extensions_opened : Held-F blocks.Held Value DynamicMessage Parts → List (ℕ × Value)
-extensions_opened o = elim o [ Held-F.Nothing ↦ [] | Held-F.Block b ↦ b.value.extensions ]
+abbrev pub extensions_opened : HeldOf-F MessageDescriptor blocks.Held Value DynamicMessage Parts → List (ℕ × Value)
+extensions_opened o = elim o [ HeldOf-F.Nothing ↦ [] | HeldOf-F.Block b ↦ b.value.extensions ]
 
-abbrev pub unknown_opened : Held-F blocks.Held Value DynamicMessage Parts → List (ℕ × Payload)
-unknown_opened o = elim o [ Held-F.Nothing ↦ [] | Held-F.Block b ↦ undeclared b.value.unknown ]
+abbrev pub unknown_opened : HeldOf-F MessageDescriptor blocks.Held Value DynamicMessage Parts → List (ℕ × Payload)
+unknown_opened o = elim o [ HeldOf-F.Nothing ↦ [] | HeldOf-F.Block b ↦ undeclared b.value.unknown ]
 
 held_seen : (h : blocks.Held) (pool : PoolType) (i : ℕ) → held_view h pool i ≡ held_under pool i (contents_view (fields_in h)) (contents_view (extensions_in h)) (unknown_in h)
-held_seen h pool i = ap (λ s. s pool i) (fold_out-Held Placed Content Message Placed held_step value_step message_step parts_step h) ∙ by (out-Held h) where
-  by : (o : Held-F blocks.Held Value DynamicMessage Parts)
-      → held_step (map-Held blocks.Held Value DynamicMessage Parts Placed Content Message Placed
-      (fold-Held Placed Content Message Placed held_step value_step message_step parts_step)
-      (fold-Value Placed Content Message Placed held_step value_step message_step parts_step)
-      (fold-DynamicMessage Placed Content Message Placed held_step value_step message_step parts_step)
-      (fold-Parts Placed Content Message Placed held_step value_step message_step parts_step) o) pool i
+held_seen h pool i = ap (λ s. s pool i) (fold_out-HeldOf MessageDescriptor Placed Content Message Placed held_step value_step message_step parts_step h) ∙ by (out-HeldOf MessageDescriptor h) where
+  by : (o : HeldOf-F MessageDescriptor blocks.Held Value DynamicMessage Parts)
+      → held_step (map-HeldOf MessageDescriptor blocks.Held Value DynamicMessage Parts Placed Content Message Placed
+      (fold-HeldOf MessageDescriptor Placed Content Message Placed held_step value_step message_step parts_step)
+      (fold-ValueOf MessageDescriptor Placed Content Message Placed held_step value_step message_step parts_step)
+      (fold-MessageOf MessageDescriptor Placed Content Message Placed held_step value_step message_step parts_step)
+      (fold-PartsOf MessageDescriptor Placed Content Message Placed held_step value_step message_step parts_step) o) pool i
       ≡ held_under pool i (contents_view (entries_opened o)) (contents_view (extensions_opened o)) (unknown_opened o)
-  by Held-F.Nothing = fun_ext (λ n. none_held pool i n)
-  by (Held-F.Block b) = ap (λ s. s pool i) (fold_out-Parts Placed Content Message Placed held_step value_step message_step parts_step b.value)
+  by HeldOf-F.Nothing = fun_ext (λ n. none_held pool i n)
+  by (HeldOf-F.Block b) = ap (λ s. s pool i) (fold_out-PartsOf MessageDescriptor Placed Content Message Placed held_step value_step message_step parts_step b.value)
 
 -- a message is seen by what it holds
 pub view_opened : (m : DynamicMessage) → view m ≡ view_of m.descriptor.pool.now m.descriptor.index (content_of m)

@@ -25,8 +25,7 @@ use Rattle.reflect_message.specs.Known.{entry_field, holds_floats, known_field}
 use Rattle.reflect_message.specs.Maps.{key_order}
 use Rattle.reflect_message.specs.Messages.{message_in}
 use Rattle.reflect_message.specs.Singles as singles
-use Rattle.reflect_message.specs.declared.message.DynamicMessage.{DynamicMessage}
-use Rattle.reflect_message.specs.declared.value.Value.{Value}
+use Rattle.reflect_message.specs.Names.{DynamicMessage, Value}
 use Rattle.reflect_decode.specs.Fields.{LeavesField}
 use Rattle.reflect_decode.specs.Keeps as keeps
 use Rattle.reflect_decode.specs.Levels.{TakenAt, TakesAt}

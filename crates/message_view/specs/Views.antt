@@ -8,16 +8,16 @@ use Rattle.reflect_entries.specs.Undeclared.{undeclared}
 use Rattle.reflect_scalar.specs.Keys.{key_view}
 use Rattle.reflect_message.specs.Contents as contents
 use Rattle.reflect_message.specs.Known.{known_field, known_extension}
-use Rattle.reflect_message.specs.declared.message.DynamicMessage.{DynamicMessage}
-use Rattle.reflect_message.specs.declared.parts.Held as parts
-use Rattle.reflect_message.specs.declared.parts.Held.TheFolds.{fold-Held, fold-Value}
-use Rattle.reflect_message.specs.declared.parts.Held.TheOpen.{Held-F, Parts-F, Value-F, DynamicMessage-F}
-use Rattle.reflect_message.specs.declared.value.Value.{Value}
+use Rattle.reflect_message.specs.Names.{DynamicMessage, Value}
+use Rattle.reflect_message.specs.Names as parts
+use Rattle.reflect_message.specs.declared.parts.HeldOf.TheFolds.{fold-HeldOf, fold-ValueOf}
+use Rattle.reflect_message.specs.declared.parts.HeldOf.TheOpen.{HeldOf-F, PartsOf-F, ValueOf-F, MessageOf-F}
 use Rattle.protobuf_model.specs.Values.{truth, int32, int64, uint32, uint64, text, blob, enumerated, Content, single, message, list, dictionary, no_contents, more_contents, no_entries, more_entries, Held, content, records, Message, absent, chain_of, entries_of}
 use Rattle.protobuf_model.specs.Scalars.{same}
 use Rattle.protobuf_model.specs.Meaning.{payloads}
 use Rattle.message_view.specs.Singles.{single_view}
 use Rattle.message_view.specs.Types.{default_of}
+use Rattle.reflect_pool.specs.declared.message.MessageDescriptor.{MessageDescriptor}
 
 -- a default is set only with presence, and an empty list or an empty map never
 abbrev pub is_set : PoolType → FieldType → Content → Bool
@@ -52,39 +52,41 @@ abbrev pub Placed : Type 0
 Placed = PoolType → ℕ → Message
 
 -- one level of a value, of a message, of what it holds and of its parts
-abbrev pub value_step : Value-F Placed Content Message Placed → Content
-value_step (Value-F.Bool b) = single (truth b)
-value_step (Value-F.I32 z) = single (int32 z)
-value_step (Value-F.I64 z) = single (int64 z)
-value_step (Value-F.U32 n) = single (uint32 n)
-value_step (Value-F.U64 n) = single (uint64 n)
-value_step (Value-F.String t) = single (text (string_bytes t))
-value_step (Value-F.Bytes b) = single (blob b.items)
-value_step (Value-F.EnumNumber z) = single (enumerated z)
-value_step (Value-F.Message m) = message m
-value_step (Value-F.List vs) = list (chain_of vs.items)
-value_step (Value-F.Map es) =
+abbrev pub value_step : ValueOf-F MessageDescriptor Placed Content Message Placed → Content
+value_step (ValueOf-F.Bool b) = single (truth b)
+value_step (ValueOf-F.I32 z) = single (int32 z)
+value_step (ValueOf-F.I64 z) = single (int64 z)
+value_step (ValueOf-F.U32 n) = single (uint32 n)
+value_step (ValueOf-F.U64 n) = single (uint64 n)
+value_step (ValueOf-F.String t) = single (text (string_bytes t))
+value_step (ValueOf-F.Bytes b) = single (blob b.items)
+value_step (ValueOf-F.EnumNumber z) = single (enumerated z)
+value_step (ValueOf-F.Message m) = message m
+value_step (ValueOf-F.List vs) = list (chain_of vs.items)
+value_step (ValueOf-F.Map es) =
     dictionary (entries_of (map (λ e. (single_view (key_view e.0), e.1)) es.entries))
 
-abbrev pub message_step : DynamicMessage-F Placed Content Message Placed → Message
+abbrev pub message_step : MessageOf-F MessageDescriptor Placed Content Message Placed → Message
 message_step m = m.held m.descriptor.pool.now m.descriptor.index
 
-abbrev pub held_step : Held-F Placed Content Message Placed → Placed
-held_step Held-F.Nothing = λ pool i n. absent
-held_step (Held-F.Block b) = b.value
+abbrev pub held_step : HeldOf-F MessageDescriptor Placed Content Message Placed → Placed
+held_step HeldOf-F.Nothing = λ pool i n. absent
+held_step (HeldOf-F.Block b) = b.value
 
-abbrev pub parts_step : Parts-F Placed Content Message Placed → Placed
+abbrev pub parts_step : PartsOf-F MessageDescriptor Placed Content Message Placed → Placed
 parts_step p = λ pool i. held_under pool i p.fields p.extensions (undeclared p.unknown)
 
 -- a value, at each depth
 abbrev pub content_view : Value → Content
 content_view =
-    fold-Value Placed Content Message Placed held_step value_step message_step parts_step
+    fold-ValueOf MessageDescriptor Placed Content Message Placed held_step value_step message_step
+    parts_step
 
 -- what a message holds, by the place of its type
 abbrev pub held_view : parts.Held → Placed
 held_view =
-    fold-Held Placed Content Message Placed held_step value_step message_step parts_step
+    fold-HeldOf MessageDescriptor Placed Content Message Placed held_step value_step message_step
+    parts_step
 
 -- a message, at each depth, each by its own type
 abbrev pub view : DynamicMessage → Message

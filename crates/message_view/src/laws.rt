@@ -9,7 +9,7 @@ ghost use Rattle.protobuf_model.specs.Older.{IsOlder};
 ghost use Rattle.reflect_decode.specs.Spelled.{IsMerged, IsSpelled, TellsWhy};
 ghost use Rattle.reflect_decode.specs.Suits.{Suits};
 ghost use Rattle.reflect_message.specs.Contents.{content_of};
-ghost use Rattle.reflect_message.specs.declared.message.DynamicMessage.{DynamicMessage};
+ghost use Rattle.reflect_message.specs.Names.{DynamicMessage};
 ghost use Rattle.reflect_pool.specs.Dots.{without_dot};
 ghost use Rattle.reflect_pool.specs.FindsNames.{FindsMessage};
 ghost use Rattle.reflect_pool.specs.Linked.{IsLinked};

@@ -9,7 +9,7 @@ use Rattle.reflect_message.specs.Declares.{Declares}
 use Rattle.reflect_message.specs.Held.{fields_of}
 use Rattle.reflect_message.specs.Shown.{Shows, shown}
 use Rattle.reflect_message.specs.declared.field_ref.FieldRef.{FieldRef}
-use Rattle.reflect_message.specs.declared.message.DynamicMessage.{DynamicMessage}
+use Rattle.reflect_message.specs.Names.{DynamicMessage}
 use Rattle.reflect_decode.specs.Spelled.{IsSpelled}
 use Rattle.print_parts.specs.Expands.{Expands, holds, FindsByUrl, IsUnder, bytes_of, text_of}
 use Rattle.print_parts.specs.Parts.{url_in}

@@ -7,7 +7,7 @@ use Rattle.std.proofs.lemmas.Cmp.{nat_cmp_total}
 use Rattle.std.proofs.lemmas.List.{append_assoc}
 use Rattle.reflect_tables.specs.Types.{FieldType, type_at}
 use Rattle.reflect_message.specs.Known.{known_field}
-use Rattle.reflect_message.specs.declared.message.DynamicMessage.{DynamicMessage}
+use Rattle.reflect_message.specs.Names.{DynamicMessage}
 use Rattle.text_lines.specs.declared.options.FormatOptions.{FormatOptions}
 use Rattle.print_parts.specs.Pairwise.{Pairwise}
 use Rattle.print_parts.specs.Entries.{Entry, IsByNumber, IsFieldOf, PutsField, is_printed, number_of, pool_of, printed_fields}

@@ -10,8 +10,7 @@ use Rattle.reflect_message.specs.Held.{fields_of, unknown_of}
 use Rattle.reflect_message.specs.Known.{known_field, known_extension}
 use Rattle.reflect_message.specs.Present.{is_held}
 use Rattle.reflect_message.specs.Shown.{IsHeldOrDefault}
-use Rattle.reflect_message.specs.declared.message.DynamicMessage.{DynamicMessage}
-use Rattle.reflect_message.specs.declared.value.Value.{Value}
+use Rattle.reflect_message.specs.Names.{DynamicMessage, Value}
 use Rattle.reflect_contents.specs.Walked.{Holding, set_fields_of, set_extensions_of}
 use Rattle.text_lines.specs.declared.options.FormatOptions.{FormatOptions}
 use Rattle.print_parts.specs.Pairwise.{Pairwise}

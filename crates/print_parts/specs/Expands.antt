@@ -12,8 +12,7 @@ use Rattle.reflect_entries.specs.Entries.{value_at}
 use Rattle.reflect_message.specs.Declares.{Declares}
 use Rattle.reflect_message.specs.Held.{fields_of}
 use Rattle.reflect_message.specs.Shown.{IsHeldOrDefault}
-use Rattle.reflect_message.specs.declared.message.DynamicMessage.{DynamicMessage}
-use Rattle.reflect_message.specs.declared.value.Value.{Value}
+use Rattle.reflect_message.specs.Names.{DynamicMessage, Value}
 use Rattle.reflect_message.specs.Singles.{single}
 use Rattle.reflect_scalar.specs.Singles.{Single, text, blob}
 use Rattle.reflect_any.specs.Any.{IsAny}

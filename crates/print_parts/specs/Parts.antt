@@ -4,7 +4,7 @@ use Rattle.reflect_wire.specs.Views.{field_view}
 use Rattle.reflect_pool.specs.FieldsLeft.{field_type}
 use Rattle.reflect_scalar.specs.FieldTypes.{extension_pool, extension_type, field_pool}
 use Rattle.reflect_message.specs.Shown.{shown}
-use Rattle.reflect_message.specs.declared.message.DynamicMessage.{DynamicMessage}
+use Rattle.reflect_message.specs.Names.{DynamicMessage}
 use Rattle.print_parts.specs.Entries.{Entry, field, extension, undeclared}
 use Rattle.print_parts.specs.Expands.{text_of, Expands}
 use Rattle.print_parts.specs.declared.any.Held.{Held}

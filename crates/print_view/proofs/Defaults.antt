@@ -10,7 +10,7 @@ use Rattle.reflect_scalar.specs.declared.map_key.MapKey.{MapKey}
 use Rattle.reflect_message.specs.Defaults.{IsDefault}
 use Rattle.reflect_message.specs.KindTypes.{IsScalarType, IsMessageType}
 use Rattle.reflect_message.specs.Known.{is_float}
-use Rattle.reflect_message.specs.declared.value.Value.{Value}
+use Rattle.reflect_message.specs.Names.{Value}
 use Rattle.protobuf_model.specs.Types.{Name, Label, one, many, keyed}
 use Rattle.protobuf_model.specs.Scalars.{same, same_bool, same_int}
 use Rattle.protobuf_model.specs.Values as model

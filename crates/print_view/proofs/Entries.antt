@@ -18,8 +18,7 @@ use Rattle.reflect_message.specs.Held.{fields_of, extensions_of, unknown_of}
 use Rattle.reflect_message.specs.Known.{is_float, has_floats, holds_floats, if_held, numbered_field, known_field, known_extension}
 use Rattle.reflect_message.specs.Present.{is_held}
 use Rattle.reflect_message.specs.Shown.{IsHeldOrDefault}
-use Rattle.reflect_message.specs.declared.message.DynamicMessage.{DynamicMessage}
-use Rattle.reflect_message.specs.declared.value.Value.{Value}
+use Rattle.reflect_message.specs.Names.{DynamicMessage, Value}
 use Rattle.print_parts.specs.Entries.{Entry, field, extension, undeclared, number_of, set_entry, set_entries, known_entry, extension_entries, AreChosen, AreDeclared, IsFieldOf, is_printed}
 use Rattle.print_parts.specs.Pairwise.{Pairwise}
 use Rattle.reflect_print.specs.Named.{label_of}

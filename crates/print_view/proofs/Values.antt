@@ -13,8 +13,7 @@ use Rattle.reflect_scalar.specs.declared.map_key.MapKey.TheVariants as keys
 use Rattle.reflect_message.specs.Known.{is_float, entry_field, has_floats, holds_floats}
 use Rattle.reflect_message.specs.Messages.{message_in}
 use Rattle.reflect_message.specs.Singles as singles
-use Rattle.reflect_message.specs.declared.message.DynamicMessage.{DynamicMessage}
-use Rattle.reflect_message.specs.declared.value.Value.{Value}
+use Rattle.reflect_message.specs.Names.{DynamicMessage, Value}
 use Rattle.print_parts.specs.Entries.{Entry, field, extension, undeclared, AreDeclared, extension_entries}
 use Rattle.reflect_print.specs.MessageTexts.{before_value, any_behind, key_text, value_text, IsSingleText, IsValueText, single_text, message_text, list_text, map_text, IsListText, no_values, more_values, IsPairText, pair_text, IsMapText, no_pairs, more_pairs, IsBracedText, braced, IsItemsText, expanded, listed, IsRowText, no_entries, more_entries, IsEntryText, field_text, extension_text, record_text}
 use Rattle.reflect_print.specs.Named.{Named, named, value_kind, label_of}

@@ -4,7 +4,7 @@ ghost use Rattle.protox_lex.specs.Class.{Text};
 ghost use Rattle.reflect_pool.specs.declared.message.MessageDescriptor.{MessageDescriptor};
 ghost use Rattle.reflect_wire.specs.Written.{AreBytes};
 ghost use Rattle.reflect_message.specs.Bytes.{message_bytes};
-ghost use Rattle.reflect_message.specs.declared.message.DynamicMessage.{DynamicMessage};
+ghost use Rattle.reflect_message.specs.Names.{DynamicMessage};
 ghost use Rattle.reflect_decode.specs.Spelled.{IsSpelled};
 ghost use Rattle.reflect_format.specs.Filled.{Fills, Makes};
 ghost use Rattle.reflect_format.specs.Unfit.{CannotMake, Unfit};

@@ -32,7 +32,7 @@ fn declared_field_by_name<'p>(
 
 /// A message whose fields are called by their names.
 pub trait FieldsByName<'p> {
-    ghost use Rattle.reflect_message.specs.declared.message.DynamicMessage.{DynamicMessage};
+    ghost use Rattle.reflect_message.specs.Names.{DynamicMessage};
 
     /// The message that it is.
     ghost message: { Self → DynamicMessage };

@@ -7,8 +7,7 @@ use Rattle.reflect_pool.specs.declared.message.MessageDescriptor.{MessageDescrip
 use Rattle.reflect_message.specs.Declares.{Owns}
 use Rattle.reflect_message.specs.Held.{fields_of, choices_of}
 use Rattle.reflect_message.specs.Oneofs.{IsExclusive}
-use Rattle.reflect_message.specs.declared.message.DynamicMessage.{DynamicMessage}
-use Rattle.reflect_message.specs.declared.value.Value.{Value}
+use Rattle.reflect_message.specs.Names.{DynamicMessage, Value}
 
 -- no member of a oneof is held, whatever was noted
 pub none_held : (old new : DynamicMessage) → new.descriptor ≡ old.descriptor → choices_of new ≡ choices_of old → fields_of new ≡ [] → IsExclusive old → IsExclusive new

@@ -12,7 +12,7 @@ use Rattle.reflect_scalar.proofs.First.{Tells, find_none, find_some}
 use Rattle.reflect_scalar.specs.FieldTypes.{field_pool, extension_pool, extension_type}
 use Rattle.reflect_message.proofs.Known.{field_missing, here}
 use Rattle.reflect_message.specs.Bytes.{form_of, is_set}
-use Rattle.reflect_message.specs.declared.value.Value.{Value}
+use Rattle.reflect_message.specs.Names.{Value}
 use Rattle.reflect_contents.specs.Walked.{if_set, set_field, set_extension}
 
 module _ {X Y : Type 0} (h : X → Option Y) where

@@ -13,8 +13,7 @@ use Rattle.reflect_scalar.specs.FieldTypes.{extension_type}
 use Rattle.reflect_message.specs.Bytes.{form_of, is_set}
 use Rattle.reflect_message.specs.Held.{fields_of, extensions_of, unknown_of}
 use Rattle.reflect_message.specs.Known.{numbered_field}
-use Rattle.reflect_message.specs.declared.message.DynamicMessage.{DynamicMessage}
-use Rattle.reflect_message.specs.declared.value.Value.{Value}
+use Rattle.reflect_message.specs.Names.{DynamicMessage, Value}
 use Rattle.reflect_contents.specs.EntriesLeft.{entries_left}
 use Rattle.reflect_contents.specs.declared.taken.TakenExtensions.{TakenExtensions}
 use Rattle.reflect_contents.specs.declared.taken.TakenFields.{TakenFields}

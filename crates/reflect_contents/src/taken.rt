@@ -16,7 +16,7 @@ use std::mem;
 
 /// A message whose contents are taken out.
 pub trait TakeContents<'p> {
-    ghost use Rattle.reflect_message.specs.declared.message.DynamicMessage.{DynamicMessage};
+    ghost use Rattle.reflect_message.specs.Names.{DynamicMessage};
 
     /// The message that it is.
     ghost message: { Self → DynamicMessage };

@@ -16,7 +16,7 @@ use reflect_wire::UnknownField;
 
 /// A message that is walked over.
 pub trait MessageWalks<'p> {
-    ghost use Rattle.reflect_message.specs.declared.message.DynamicMessage.{DynamicMessage};
+    ghost use Rattle.reflect_message.specs.Names.{DynamicMessage};
 
     /// The message that it is.
     ghost message: { Self → DynamicMessage };

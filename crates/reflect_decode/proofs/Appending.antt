@@ -22,8 +22,7 @@ use Rattle.reflect_message.specs.Messages.{message_in}
 use Rattle.reflect_decode.specs.Suits.{SuitsBelow}
 use Rattle.reflect_decode.specs.Packed.{IsPacked, Continues}
 use Rattle.reflect_message.specs.Singles.{single}
-use Rattle.reflect_message.specs.declared.message.DynamicMessage.{DynamicMessage}
-use Rattle.reflect_message.specs.declared.value.Value.{Value}
+use Rattle.reflect_message.specs.Names.{DynamicMessage, Value}
 use Rattle.reflect_decode.proofs.Accepting.{accepts_value, all_one}
 use Rattle.reflect_decode.proofs.Suiting.{empty_suits}
 use Rattle.reflect_decode.proofs.Running.{plain_spelled, run_ends}

@@ -14,7 +14,7 @@ use Rattle.reflect_decode.specs.Messages.{Takes}
 use Rattle.reflect_message.specs.Held.{Same}
 use Rattle.reflect_decode.specs.Spares.{FillsExtensions}
 use Rattle.reflect_decode.specs.Taking.{Leaves}
-use Rattle.reflect_message.specs.declared.value.Value.{Value}
+use Rattle.reflect_message.specs.Names.{Value}
 use Rattle.reflect_decode.proofs.Filling.{under_both, under_other, under_own}
 use Rattle.reflect_decode.proofs.Joining.{Joins}
 use Rattle.reflect_decode.proofs.Owning.{extension_same}

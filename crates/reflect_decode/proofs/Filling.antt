@@ -20,7 +20,7 @@ use Rattle.reflect_message.specs.Oneofs.{IsSibling, AreChosen, Changes, Chooses,
 use Rattle.reflect_message.specs.Held.{Same}
 use Rattle.reflect_decode.specs.Spares.{FillsFields}
 use Rattle.reflect_decode.specs.Taking.{Leaves}
-use Rattle.reflect_message.specs.declared.value.Value.{Value}
+use Rattle.reflect_message.specs.Names.{Value}
 use Rattle.reflect_message.proofs.Choosing.{is_or_not, own_stays, unsets_changes, chosen_next, sibling_unset, other_stays}
 use Rattle.reflect_decode.proofs.Joining.{Joins}
 use Rattle.reflect_decode.proofs.Keeping.{not_numbered, payloads_both, payloads_own}

@@ -14,9 +14,7 @@ use Rattle.reflect_decode.specs.Levels.{MergesAt}
 use Rattle.reflect_decode.specs.Merging.{IsBody}
 use Rattle.reflect_decode.specs.Refused.{BodyFault}
 use Rattle.reflect_decode.specs.Suits.{Suits}
-use Rattle.reflect_message.specs.declared.message.DynamicMessage.{DynamicMessage}
-use Rattle.reflect_message.specs.declared.parts.Parts.{Parts}
-use Rattle.reflect_message.specs.declared.value.Value.{Value}
+use Rattle.reflect_message.specs.Names.{DynamicMessage, Parts, Value}
 
 abbrev holding : List (ℕ × Value) → List (ℕ × ℕ) → List (ℕ × Value) → List (ℕ × Payload) → Content
 holding fields choices extensions unknown = record { fields = fields; choices = choices; extensions = extensions; unknown = unknown }

@@ -6,8 +6,7 @@ use Rattle.reflect_wire.specs.Records.{Payload}
 use Rattle.reflect_message.specs.Contents.{Content, content_of}
 use Rattle.reflect_decode.specs.Messages.{Taken, Takes, MergesMessage}
 use Rattle.reflect_message.specs.Messages.{message_held, IsStart}
-use Rattle.reflect_message.specs.declared.message.DynamicMessage.{DynamicMessage}
-use Rattle.reflect_message.specs.declared.value.Value.{Value}
+use Rattle.reflect_message.specs.Names.{DynamicMessage, Value}
 
 -- payloads behind payloads leave what all of them do
 abbrev pub JoinsOn : Taken → Type 0

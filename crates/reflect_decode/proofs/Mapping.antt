@@ -33,8 +33,7 @@ use Rattle.reflect_decode.specs.Suits.{SuitsBelow, PartSuits}
 use Rattle.reflect_message.specs.KindTypes.{IsScalarType, IsMessageType}
 use Rattle.reflect_decode.specs.Scalars.{IsLast}
 use Rattle.reflect_message.specs.Singles.{single}
-use Rattle.reflect_message.specs.declared.message.DynamicMessage.{DynamicMessage}
-use Rattle.reflect_message.specs.declared.value.Value.{Value}
+use Rattle.reflect_message.specs.Names.{DynamicMessage, Value}
 use Rattle.reflect_decode.proofs.Accepting.{accepts_value, message_accepts, part_of_number, part_of_another}
 use Rattle.reflect_decode.proofs.Joining.{Joins, merges_both}
 use Rattle.reflect_decode.proofs.Keeping.{payloads_both, payloads_own, not_numbered}

@@ -23,8 +23,7 @@ use Rattle.reflect_decode.specs.Suits.{Suits, SuitsBelow}
 use Rattle.reflect_message.specs.Messages.{IsStart, message_in}
 use Rattle.reflect_message.specs.KindTypes.{IsScalarType, IsMessageType}
 use Rattle.reflect_message.specs.Singles.{single}
-use Rattle.reflect_message.specs.declared.message.DynamicMessage.{DynamicMessage}
-use Rattle.reflect_message.specs.declared.value.Value.{Value}
+use Rattle.reflect_message.specs.Names.{DynamicMessage, Value}
 use Rattle.reflect_decode.proofs.Accepting.{inside_accepted}
 use Rattle.reflect_decode.proofs.Joining.{Joins}
 use Rattle.reflect_decode.proofs.Running.{delimited_value, group_value, whole_body}

@@ -6,7 +6,7 @@ use Rattle.reflect_entries.specs.Entries.{IsAscending, value_at}
 use Rattle.reflect_entries.specs.Sets.{up_to, above, with_record}
 use Rattle.reflect_message.specs.Contents.{nothing}
 use Rattle.reflect_message.specs.Held.{Same}
-use Rattle.reflect_message.specs.declared.value.Value.{Value}
+use Rattle.reflect_message.specs.Names.{Value}
 use Rattle.reflect_decode.specs.Ordered.{AreNumbered, Ascend, IsOrdered, last}
 
 pub lower : (l low high : ℕ) (rs : List (ℕ × Payload)) → l ≤ low → Ascend low high rs

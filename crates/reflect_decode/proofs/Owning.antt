@@ -8,7 +8,7 @@ use Rattle.reflect_pool.specs.declared.extension.ExtensionDescriptor.{ExtensionD
 use Rattle.reflect_wire.specs.Records.{Payload}
 use Rattle.reflect_scalar.specs.FieldTypes.{field_pool, extension_pool, extension_type}
 use Rattle.reflect_message.specs.Declares.{Owns, OwnsExtension}
-use Rattle.reflect_message.specs.declared.value.Value.{Value}
+use Rattle.reflect_message.specs.Names.{Value}
 use Rattle.reflect_message.proofs.Owning.{alike, one_extension, one_pool}
 use Rattle.reflect_decode.specs.Messages.{Takes}
 use Rattle.reflect_decode.specs.Taking.{Leaves}

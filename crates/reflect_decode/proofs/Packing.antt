@@ -16,7 +16,7 @@ use Rattle.reflect_scalar.specs.Singles.{Single}
 use Rattle.reflect_scalar.proofs.ReadBack.{one_value}
 use Rattle.reflect_decode.specs.Packed.{IsPacked, Continues}
 use Rattle.reflect_message.specs.Singles.{single}
-use Rattle.reflect_message.specs.declared.value.Value.{Value}
+use Rattle.reflect_message.specs.Names.{Value}
 
 pub continued : (old new : List Value) (vs : List Single) (value : Value) (v : Single) → Continues old new vs → single value ≡ Some v → Continues old (new ++ value ∷ []) (vs ++ v ∷ [])
 continued old new vs value v h e =

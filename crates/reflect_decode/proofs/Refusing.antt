@@ -33,13 +33,10 @@ use Rattle.reflect_message.specs.Maps.{map_entries}
 use Rattle.reflect_message.specs.Contents.{content_of, nothing}
 use Rattle.reflect_message.specs.Messages.{message_in, IsStart}
 use Rattle.reflect_message.specs.Singles.{single}
-use Rattle.reflect_message.specs.declared.message.DynamicMessage.{DynamicMessage}
-use Rattle.reflect_message.specs.declared.parts.Held.{Held}
-use Rattle.reflect_message.specs.declared.parts.Held.TheOpen.{Value-F}
-use Rattle.reflect_message.specs.declared.parts.Held.TheViews.{out-Value, roll-Value, roll-out-Value}
-use Rattle.reflect_message.specs.declared.parts.Parts.{Parts}
-use Rattle.reflect_message.specs.declared.value.Value.{Value}
-use Rattle.reflect_message.specs.declared.value.Value as values
+use Rattle.reflect_message.specs.Names.{DynamicMessage, Held, Parts, Value}
+use Rattle.reflect_message.specs.declared.parts.HeldOf.TheOpen.{ValueOf-F}
+use Rattle.reflect_message.specs.declared.parts.HeldOf.TheViews.{out-ValueOf, roll-ValueOf, roll-out-ValueOf}
+use Rattle.reflect_message.specs.declared.value.ValueOf as values
 use denote.Hole.Carrier.{roll}
 use Rattle.reflect_decode.specs.Accepts.{declared_at}
 use Rattle.reflect_decode.specs.Maps.{LeavesSingle}
@@ -303,50 +300,50 @@ key_meant pool t kinds.Bytes (delimited b) v is key h = absurd (subst IsKeyKind 
 key_meant pool t (kinds.Enum d) (varint n) v is key h = absurd (subst IsKeyKind is.1 key)
 key_meant pool t kind p v is key h = absurd h
 
-abbrev key_in : Value-F Held Value DynamicMessage Parts → Option MapKey
+abbrev key_in : ValueOf-F MessageDescriptor Held Value DynamicMessage Parts → Option MapKey
 key_in o = elim o [
-  | Value-F.Bool b ↦ Some (keys.Bool b)
-  | Value-F.I32 z ↦ Some (keys.I32 z)
-  | Value-F.I64 z ↦ Some (keys.I64 z)
-  | Value-F.U32 n ↦ Some (keys.U32 n)
-  | Value-F.U64 n ↦ Some (keys.U64 n)
-  | Value-F.String t ↦ Some (keys.String t)
-  | Value-F.Bytes b ↦ None
-  | Value-F.EnumNumber z ↦ None
-  | Value-F.Message m ↦ None
-  | Value-F.List vs ↦ None
-  | Value-F.Map es ↦ None
+  | ValueOf-F.Bool b ↦ Some (keys.Bool b)
+  | ValueOf-F.I32 z ↦ Some (keys.I32 z)
+  | ValueOf-F.I64 z ↦ Some (keys.I64 z)
+  | ValueOf-F.U32 n ↦ Some (keys.U32 n)
+  | ValueOf-F.U64 n ↦ Some (keys.U64 n)
+  | ValueOf-F.String t ↦ Some (keys.String t)
+  | ValueOf-F.Bytes b ↦ None
+  | ValueOf-F.EnumNumber z ↦ None
+  | ValueOf-F.Message m ↦ None
+  | ValueOf-F.List vs ↦ None
+  | ValueOf-F.Map es ↦ None
 ]
 
-abbrev single_in : Value-F Held Value DynamicMessage Parts → Option Single
+abbrev single_in : ValueOf-F MessageDescriptor Held Value DynamicMessage Parts → Option Single
 single_in o = elim o [
-  | Value-F.Bool b ↦ Some (truth b)
-  | Value-F.I32 z ↦ Some (int32 z)
-  | Value-F.I64 z ↦ Some (int64 z)
-  | Value-F.U32 n ↦ Some (uint32 n)
-  | Value-F.U64 n ↦ Some (uint64 n)
-  | Value-F.String t ↦ Some (text (string_bytes t))
-  | Value-F.Bytes b ↦ Some (blob b.items)
-  | Value-F.EnumNumber z ↦ Some (enumerated z)
-  | Value-F.Message m ↦ None
-  | Value-F.List vs ↦ None
-  | Value-F.Map es ↦ None
+  | ValueOf-F.Bool b ↦ Some (truth b)
+  | ValueOf-F.I32 z ↦ Some (int32 z)
+  | ValueOf-F.I64 z ↦ Some (int64 z)
+  | ValueOf-F.U32 n ↦ Some (uint32 n)
+  | ValueOf-F.U64 n ↦ Some (uint64 n)
+  | ValueOf-F.String t ↦ Some (text (string_bytes t))
+  | ValueOf-F.Bytes b ↦ Some (blob b.items)
+  | ValueOf-F.EnumNumber z ↦ Some (enumerated z)
+  | ValueOf-F.Message m ↦ None
+  | ValueOf-F.List vs ↦ None
+  | ValueOf-F.Map es ↦ None
 ]
 
 not_key : (v : Value) → key_of_value v ≡ None → IsKeyValue (single v) → ⊥
-not_key v = by (out-Value v) where
-  by : (o : Value-F Held Value DynamicMessage Parts) → key_in o ≡ None → IsKeyValue (single_in o) → ⊥
-  by (Value-F.Bool b) e h = absurd (cc e)
-  by (Value-F.I32 z) e h = absurd (cc e)
-  by (Value-F.I64 z) e h = absurd (cc e)
-  by (Value-F.U32 n) e h = absurd (cc e)
-  by (Value-F.U64 n) e h = absurd (cc e)
-  by (Value-F.String t) e h = absurd (cc e)
-  by (Value-F.Bytes b) e h = h
-  by (Value-F.EnumNumber z) e h = h
-  by (Value-F.Message m) e h = h
-  by (Value-F.List vs) e h = h
-  by (Value-F.Map es) e h = h
+not_key v = by (out-ValueOf MessageDescriptor v) where
+  by : (o : ValueOf-F MessageDescriptor Held Value DynamicMessage Parts) → key_in o ≡ None → IsKeyValue (single_in o) → ⊥
+  by (ValueOf-F.Bool b) e h = absurd (cc e)
+  by (ValueOf-F.I32 z) e h = absurd (cc e)
+  by (ValueOf-F.I64 z) e h = absurd (cc e)
+  by (ValueOf-F.U32 n) e h = absurd (cc e)
+  by (ValueOf-F.U64 n) e h = absurd (cc e)
+  by (ValueOf-F.String t) e h = absurd (cc e)
+  by (ValueOf-F.Bytes b) e h = h
+  by (ValueOf-F.EnumNumber z) e h = h
+  by (ValueOf-F.Message m) e h = h
+  by (ValueOf-F.List vs) e h = h
+  by (ValueOf-F.Map es) e h = h
 
 -- a value that is no key is left only of a field that can be no key's
 pub keyless : (held : Value) (pool : PoolType) (f : FieldType) (ps : List Payload) → key_of_value held ≡ None → (IsScalarType f.kind → LeavesSingle pool f (single held) ps) → HoldsKeys pool f → ⊥
@@ -357,98 +354,98 @@ keyless held pool f (p ∷ ps) none leaves holds =
     not_key held none (subst IsKeyValue (sym left.1) (key_meant pool f.kind last.0 last.2 left.0 last.3 holds.0 last.5))
 
 -- what is no map has no entries, what is no list no elements, and what is no message none
-abbrev entries_in : Value-F Held Value DynamicMessage Parts → Option (List (MapKey × Value))
+abbrev entries_in : ValueOf-F MessageDescriptor Held Value DynamicMessage Parts → Option (List (MapKey × Value))
 entries_in o = elim o [
-  | Value-F.Bool b ↦ None
-  | Value-F.I32 z ↦ None
-  | Value-F.I64 z ↦ None
-  | Value-F.U32 n ↦ None
-  | Value-F.U64 n ↦ None
-  | Value-F.String t ↦ None
-  | Value-F.Bytes b ↦ None
-  | Value-F.EnumNumber z ↦ None
-  | Value-F.Message m ↦ None
-  | Value-F.List vs ↦ None
-  | Value-F.Map es ↦ Some es.entries
+  | ValueOf-F.Bool b ↦ None
+  | ValueOf-F.I32 z ↦ None
+  | ValueOf-F.I64 z ↦ None
+  | ValueOf-F.U32 n ↦ None
+  | ValueOf-F.U64 n ↦ None
+  | ValueOf-F.String t ↦ None
+  | ValueOf-F.Bytes b ↦ None
+  | ValueOf-F.EnumNumber z ↦ None
+  | ValueOf-F.Message m ↦ None
+  | ValueOf-F.List vs ↦ None
+  | ValueOf-F.Map es ↦ Some es.entries
 ]
 
 pub no_entries : (v : Value) → ((es : BTreeMap MapKey Value) → v ≡ values.Map es → ⊥) → IsSome (map_entries v) → ⊥
-unfolding roll-Value roll
-no_entries v other = by (out-Value v) refl where
-  by : (o : Value-F Held Value DynamicMessage Parts) → out-Value v ≡ o → IsSome (entries_in o) → ⊥
-  by (Value-F.Bool b) e h = absurd (cc h)
-  by (Value-F.I32 z) e h = absurd (cc h)
-  by (Value-F.I64 z) e h = absurd (cc h)
-  by (Value-F.U32 n) e h = absurd (cc h)
-  by (Value-F.U64 n) e h = absurd (cc h)
-  by (Value-F.String t) e h = absurd (cc h)
-  by (Value-F.Bytes b) e h = absurd (cc h)
-  by (Value-F.EnumNumber z) e h = absurd (cc h)
-  by (Value-F.Message m) e h = absurd (cc h)
-  by (Value-F.List vs) e h = absurd (cc h)
-  by (Value-F.Map es) e h = other es (sym (roll-out-Value v) ∙ ap roll-Value e)
+unfolding roll-ValueOf roll
+no_entries v other = by (out-ValueOf MessageDescriptor v) refl where
+  by : (o : ValueOf-F MessageDescriptor Held Value DynamicMessage Parts) → out-ValueOf MessageDescriptor v ≡ o → IsSome (entries_in o) → ⊥
+  by (ValueOf-F.Bool b) e h = absurd (cc h)
+  by (ValueOf-F.I32 z) e h = absurd (cc h)
+  by (ValueOf-F.I64 z) e h = absurd (cc h)
+  by (ValueOf-F.U32 n) e h = absurd (cc h)
+  by (ValueOf-F.U64 n) e h = absurd (cc h)
+  by (ValueOf-F.String t) e h = absurd (cc h)
+  by (ValueOf-F.Bytes b) e h = absurd (cc h)
+  by (ValueOf-F.EnumNumber z) e h = absurd (cc h)
+  by (ValueOf-F.Message m) e h = absurd (cc h)
+  by (ValueOf-F.List vs) e h = absurd (cc h)
+  by (ValueOf-F.Map es) e h = other es (sym (roll-out-ValueOf MessageDescriptor v) ∙ ap roll-ValueOf MessageDescriptor e)
 
-abbrev items_in : Value-F Held Value DynamicMessage Parts → Option (List Value)
+abbrev items_in : ValueOf-F MessageDescriptor Held Value DynamicMessage Parts → Option (List Value)
 items_in o = elim o [
-  | Value-F.Bool b ↦ None
-  | Value-F.I32 z ↦ None
-  | Value-F.I64 z ↦ None
-  | Value-F.U32 n ↦ None
-  | Value-F.U64 n ↦ None
-  | Value-F.String t ↦ None
-  | Value-F.Bytes b ↦ None
-  | Value-F.EnumNumber z ↦ None
-  | Value-F.Message m ↦ None
-  | Value-F.List vs ↦ Some vs.items
-  | Value-F.Map es ↦ None
+  | ValueOf-F.Bool b ↦ None
+  | ValueOf-F.I32 z ↦ None
+  | ValueOf-F.I64 z ↦ None
+  | ValueOf-F.U32 n ↦ None
+  | ValueOf-F.U64 n ↦ None
+  | ValueOf-F.String t ↦ None
+  | ValueOf-F.Bytes b ↦ None
+  | ValueOf-F.EnumNumber z ↦ None
+  | ValueOf-F.Message m ↦ None
+  | ValueOf-F.List vs ↦ Some vs.items
+  | ValueOf-F.Map es ↦ None
 ]
 
 pub no_items : (v : Value) → ((vs : Vec Value Global) → v ≡ values.List vs → ⊥) → IsSome (list_items v) → ⊥
-unfolding roll-Value roll
-no_items v other = by (out-Value v) refl where
-  by : (o : Value-F Held Value DynamicMessage Parts) → out-Value v ≡ o → IsSome (items_in o) → ⊥
-  by (Value-F.Bool b) e h = absurd (cc h)
-  by (Value-F.I32 z) e h = absurd (cc h)
-  by (Value-F.I64 z) e h = absurd (cc h)
-  by (Value-F.U32 n) e h = absurd (cc h)
-  by (Value-F.U64 n) e h = absurd (cc h)
-  by (Value-F.String t) e h = absurd (cc h)
-  by (Value-F.Bytes b) e h = absurd (cc h)
-  by (Value-F.EnumNumber z) e h = absurd (cc h)
-  by (Value-F.Message m) e h = absurd (cc h)
-  by (Value-F.List vs) e h = other vs (sym (roll-out-Value v) ∙ ap roll-Value e)
-  by (Value-F.Map es) e h = absurd (cc h)
+unfolding roll-ValueOf roll
+no_items v other = by (out-ValueOf MessageDescriptor v) refl where
+  by : (o : ValueOf-F MessageDescriptor Held Value DynamicMessage Parts) → out-ValueOf MessageDescriptor v ≡ o → IsSome (items_in o) → ⊥
+  by (ValueOf-F.Bool b) e h = absurd (cc h)
+  by (ValueOf-F.I32 z) e h = absurd (cc h)
+  by (ValueOf-F.I64 z) e h = absurd (cc h)
+  by (ValueOf-F.U32 n) e h = absurd (cc h)
+  by (ValueOf-F.U64 n) e h = absurd (cc h)
+  by (ValueOf-F.String t) e h = absurd (cc h)
+  by (ValueOf-F.Bytes b) e h = absurd (cc h)
+  by (ValueOf-F.EnumNumber z) e h = absurd (cc h)
+  by (ValueOf-F.Message m) e h = absurd (cc h)
+  by (ValueOf-F.List vs) e h = other vs (sym (roll-out-ValueOf MessageDescriptor v) ∙ ap roll-ValueOf MessageDescriptor e)
+  by (ValueOf-F.Map es) e h = absurd (cc h)
 
-abbrev message_at : Value-F Held Value DynamicMessage Parts → Option DynamicMessage
+abbrev message_at : ValueOf-F MessageDescriptor Held Value DynamicMessage Parts → Option DynamicMessage
 message_at o = elim o [
-  | Value-F.Bool b ↦ None
-  | Value-F.I32 z ↦ None
-  | Value-F.I64 z ↦ None
-  | Value-F.U32 n ↦ None
-  | Value-F.U64 n ↦ None
-  | Value-F.String t ↦ None
-  | Value-F.Bytes b ↦ None
-  | Value-F.EnumNumber z ↦ None
-  | Value-F.Message m ↦ Some m
-  | Value-F.List vs ↦ None
-  | Value-F.Map es ↦ None
+  | ValueOf-F.Bool b ↦ None
+  | ValueOf-F.I32 z ↦ None
+  | ValueOf-F.I64 z ↦ None
+  | ValueOf-F.U32 n ↦ None
+  | ValueOf-F.U64 n ↦ None
+  | ValueOf-F.String t ↦ None
+  | ValueOf-F.Bytes b ↦ None
+  | ValueOf-F.EnumNumber z ↦ None
+  | ValueOf-F.Message m ↦ Some m
+  | ValueOf-F.List vs ↦ None
+  | ValueOf-F.Map es ↦ None
 ]
 
 pub no_message_there : (v : Value) → ((m : DynamicMessage) → v ≡ values.Message m → ⊥) → IsSome (message_in v) → ⊥
-unfolding roll-Value roll
-no_message_there v other = by (out-Value v) refl where
-  by : (o : Value-F Held Value DynamicMessage Parts) → out-Value v ≡ o → IsSome (message_at o) → ⊥
-  by (Value-F.Bool b) e h = absurd (cc h)
-  by (Value-F.I32 z) e h = absurd (cc h)
-  by (Value-F.I64 z) e h = absurd (cc h)
-  by (Value-F.U32 n) e h = absurd (cc h)
-  by (Value-F.U64 n) e h = absurd (cc h)
-  by (Value-F.String t) e h = absurd (cc h)
-  by (Value-F.Bytes b) e h = absurd (cc h)
-  by (Value-F.EnumNumber z) e h = absurd (cc h)
-  by (Value-F.Message m) e h = other m (sym (roll-out-Value v) ∙ ap roll-Value e)
-  by (Value-F.List vs) e h = absurd (cc h)
-  by (Value-F.Map es) e h = absurd (cc h)
+unfolding roll-ValueOf roll
+no_message_there v other = by (out-ValueOf MessageDescriptor v) refl where
+  by : (o : ValueOf-F MessageDescriptor Held Value DynamicMessage Parts) → out-ValueOf MessageDescriptor v ≡ o → IsSome (message_at o) → ⊥
+  by (ValueOf-F.Bool b) e h = absurd (cc h)
+  by (ValueOf-F.I32 z) e h = absurd (cc h)
+  by (ValueOf-F.I64 z) e h = absurd (cc h)
+  by (ValueOf-F.U32 n) e h = absurd (cc h)
+  by (ValueOf-F.U64 n) e h = absurd (cc h)
+  by (ValueOf-F.String t) e h = absurd (cc h)
+  by (ValueOf-F.Bytes b) e h = absurd (cc h)
+  by (ValueOf-F.EnumNumber z) e h = absurd (cc h)
+  by (ValueOf-F.Message m) e h = other m (sym (roll-out-ValueOf MessageDescriptor v) ∙ ap roll-ValueOf MessageDescriptor e)
+  by (ValueOf-F.List vs) e h = absurd (cc h)
+  by (ValueOf-F.Map es) e h = absurd (cc h)
 
 -- the slot of a field: what the field holds, or what is put there where nothing stands
 module _ (inner : Suiting) (pool : PoolType) (f : FieldType) (empty slot : Value) where

@@ -28,7 +28,7 @@ use Rattle.reflect_message.specs.Held.{Same}
 use Rattle.reflect_decode.specs.Spares.{NoExtension, IsSpared, ReadsMember, SparesFields, SparesExtensions, HoldsRead, Merges}
 use Rattle.reflect_decode.specs.Suits.{Suits, HeldSuits, SuitsBelow}
 use Rattle.reflect_decode.specs.Taking.{Leaves}
-use Rattle.reflect_message.specs.declared.value.Value.{Value}
+use Rattle.reflect_message.specs.Names.{Value}
 use Rattle.reflect_message.proofs.Choosing.{is_or_not, in_oneof, room_keeps, room_chosen}
 use Rattle.reflect_decode.proofs.Accepting.{run_of_extension, run_of_others}
 use Rattle.reflect_decode.proofs.Extending.{extended_none, extended_both, extended_apart, extended_run, extended_empty}

@@ -19,8 +19,7 @@ use Rattle.reflect_message.specs.KindTypes.{IsScalarType, IsMessageType}
 use Rattle.reflect_message.specs.Messages.{message_in, IsStart}
 use Rattle.reflect_message.specs.Oneofs.{AreChosen}
 use Rattle.reflect_message.specs.Trees.{tree}
-use Rattle.reflect_message.specs.declared.message.DynamicMessage.{DynamicMessage}
-use Rattle.reflect_message.specs.declared.value.Value.{Value}
+use Rattle.reflect_message.specs.Names.{DynamicMessage, Value}
 use Rattle.reflect_message.proofs.Alike.{content_alike, list_alike, map_alike, message_alike}
 use Rattle.reflect_message.proofs.Copying.{chosen_copied}
 use Rattle.reflect_decode.specs.Fields.{LeavesField}

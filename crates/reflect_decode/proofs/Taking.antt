@@ -30,8 +30,7 @@ use Rattle.reflect_message.specs.KindTypes.{IsScalarType, IsMessageType}
 use Rattle.reflect_decode.specs.Scalars.{AreValues, LeavesAs}
 use Rattle.reflect_decode.specs.Suits.{HeldSuits, SuitsBelow}
 use Rattle.reflect_decode.specs.Taking.{AreMade, TakesAs, Leaves}
-use Rattle.reflect_message.specs.declared.message.DynamicMessage.{DynamicMessage}
-use Rattle.reflect_message.specs.declared.value.Value.{Value}
+use Rattle.reflect_message.specs.Names.{DynamicMessage, Value}
 use Rattle.reflect_decode.proofs.Accepting.{accepts_value, is_false, list_accepts, map_accepts, one_accepts, message_accepts}
 use Rattle.reflect_decode.proofs.Joining.{Joins, merges_both}
 use Rattle.reflect_decode.proofs.Mapping.{AcceptEntries, last_behind, map_both}

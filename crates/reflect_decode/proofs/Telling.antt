@@ -10,7 +10,7 @@ use Rattle.reflect_scalar.specs.Singles.{Single}
 use Rattle.reflect_decode.specs.Elements.{AreElements}
 use Rattle.reflect_decode.specs.Messages.{Taken, IsMade}
 use Rattle.reflect_message.specs.KindTypes.{IsScalarType, IsMessageType}
-use Rattle.reflect_message.specs.declared.value.Value.{Value}
+use Rattle.reflect_message.specs.Names.{Value}
 
 -- a scalar kind is no message
 pub both_kinds : (t : KindType) → IsScalarType t → IsMessageType t → ⊥

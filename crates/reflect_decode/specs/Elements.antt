@@ -8,7 +8,7 @@ use Rattle.reflect_scalar.specs.Singles.{Single}
 use Rattle.reflect_decode.specs.Messages.{Taken, IsMade}
 use Rattle.reflect_decode.specs.Packed.{IsPacked, Continues}
 use Rattle.reflect_message.specs.Lists.{items_held}
-use Rattle.reflect_message.specs.declared.value.Value.{Value}
+use Rattle.reflect_message.specs.Names.{Value}
 
 -- the record is packed, and spells these values of the kind
 abbrev pub IsRow : Kind → Payload → List Single → Type 0

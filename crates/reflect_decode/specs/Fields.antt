@@ -12,7 +12,7 @@ use Rattle.reflect_decode.specs.Keeps.{numbered, payloads}
 use Rattle.reflect_decode.specs.Messages.{Takes}
 use Rattle.reflect_message.specs.Oneofs.{IsSibling}
 use Rattle.reflect_decode.specs.Taking.{Leaves}
-use Rattle.reflect_message.specs.declared.value.Value.{Value}
+use Rattle.reflect_message.specs.Names.{Value}
 
 -- no record is one of another member of the field's oneof
 abbrev pub NoSibling : MessageDescriptor → FieldDescriptor → List (ℕ × Payload) → Type 0

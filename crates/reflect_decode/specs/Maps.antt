@@ -15,7 +15,7 @@ use Rattle.reflect_message.specs.KindTypes.{IsScalarType, IsMessageType}
 use Rattle.reflect_decode.specs.Scalars.{IsLast}
 use Rattle.reflect_message.specs.Singles.{single}
 use Rattle.reflect_message.specs.Maps.{entries_held, key_order}
-use Rattle.reflect_message.specs.declared.value.Value.{Value}
+use Rattle.reflect_message.specs.Names.{Value}
 
 -- what the records of a field leave as its single value: its default where there are none, else
 -- what the last one means

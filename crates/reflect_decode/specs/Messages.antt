@@ -8,9 +8,8 @@ use Rattle.reflect_pool.specs.declared.message.MessageDescriptor.{MessageDescrip
 use Rattle.reflect_wire.specs.Records.{Payload, delimited, group, SpellsRecords}
 use Rattle.reflect_wire.specs.Views.{records_of}
 use Rattle.reflect_message.specs.Contents.{Content, content_of, nothing}
-use Rattle.reflect_message.specs.declared.message.DynamicMessage.{DynamicMessage}
+use Rattle.reflect_message.specs.Names.{DynamicMessage, Value}
 use Rattle.reflect_message.specs.Messages.{message_in, message_held, IsStart}
-use Rattle.reflect_message.specs.declared.value.Value.{Value}
 
 -- the records inside a payload of a message: where its field is a group those of a group, else
 -- those that the bytes spell

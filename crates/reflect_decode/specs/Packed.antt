@@ -8,7 +8,7 @@ use Rattle.reflect_scalar.specs.Kinds.{wire_type}
 use Rattle.reflect_scalar.specs.Meaning.{IsScalar, ScalarFault}
 use Rattle.reflect_scalar.specs.Singles.{Single}
 use Rattle.reflect_message.specs.Singles.{single}
-use Rattle.reflect_message.specs.declared.value.Value.{Value}
+use Rattle.reflect_message.specs.Names.{Value}
 
 -- the bytes spell these values of the kind
 abbrev pub IsPacked : Kind → List ℕ → List Single → Type 0

@@ -19,7 +19,7 @@ use Rattle.reflect_scalar.specs.declared.map_key.MapKey.{MapKey}
 use Rattle.reflect_message.specs.Contents.{Content}
 use Rattle.reflect_message.specs.KindTypes.{IsMessageType}
 use Rattle.reflect_message.specs.Lists.{list_items}
-use Rattle.reflect_message.specs.declared.value.Value.{Value}
+use Rattle.reflect_message.specs.Names.{Value}
 use Rattle.reflect_decode.specs.Accepts.{Accepts, AcceptsElement, AcceptsEntry, AcceptsField, AcceptsMessage, AcceptsOne, declared_at}
 use Rattle.reflect_decode.specs.Elements.{Appends, ContinuesList}
 use Rattle.reflect_decode.specs.Keeps.{payloads}

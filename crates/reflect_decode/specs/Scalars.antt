@@ -10,7 +10,7 @@ use Rattle.reflect_decode.specs.Elements.{AreElements}
 use Rattle.reflect_message.specs.Lists.{items_held}
 use Rattle.reflect_decode.specs.Packed.{Continues}
 use Rattle.reflect_message.specs.Singles.{single}
-use Rattle.reflect_message.specs.declared.value.Value.{Value}
+use Rattle.reflect_message.specs.Names.{Value}
 
 -- the values of the kind that records of a list spell, one record behind the other
 abbrev pub AreValues : PoolType → KindType → List Payload → List Single → Type 0

@@ -16,7 +16,7 @@ use Rattle.reflect_decode.specs.Messages.{Takes}
 use Rattle.reflect_decode.specs.Ordered.{IsOrdered}
 use Rattle.reflect_message.specs.Oneofs.{AreChosen}
 use Rattle.reflect_message.specs.Held.{Same}
-use Rattle.reflect_message.specs.declared.value.Value.{Value}
+use Rattle.reflect_message.specs.Names.{Value}
 
 -- a record of a member of a oneof is read
 abbrev pub ReadsMember : MessageDescriptor → List (ℕ × Payload) → Type 0

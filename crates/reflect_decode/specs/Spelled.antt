@@ -17,7 +17,7 @@ use Rattle.reflect_decode.specs.Ordered.{IsOrdered}
 use Rattle.reflect_decode.specs.Refused.{BodyFault}
 use Rattle.reflect_decode.specs.Spares.{HoldsRead, NoExtension}
 use Rattle.reflect_decode.specs.Suits.{Suits}
-use Rattle.reflect_message.specs.declared.message.DynamicMessage.{DynamicMessage}
+use Rattle.reflect_message.specs.Names.{DynamicMessage}
 
 -- the bytes spell records, at most 100 levels deep, that the type accepts, and the message holds
 -- exactly what these leave in one of the type, by ascending numbers

@@ -18,8 +18,7 @@ use Rattle.reflect_message.specs.Lists.{list_items}
 use Rattle.reflect_message.specs.Maps.{map_entries}
 use Rattle.reflect_message.specs.Messages.{message_in}
 use Rattle.reflect_message.specs.Oneofs.{AreChosen}
-use Rattle.reflect_message.specs.declared.message.DynamicMessage.{DynamicMessage}
-use Rattle.reflect_message.specs.declared.value.Value.{Value}
+use Rattle.reflect_message.specs.Names.{DynamicMessage, Value}
 
 -- what messages of a type may hold
 abbrev pub Suiting : Type 1

@@ -11,7 +11,7 @@ use Rattle.reflect_decode.specs.Maps.{ContinuesMap}
 use Rattle.reflect_decode.specs.Messages.{Taken, Takes, IsMade, MergesMessage}
 use Rattle.reflect_message.specs.KindTypes.{IsScalarType, IsMessageType}
 use Rattle.reflect_decode.specs.Scalars.{LeavesAs}
-use Rattle.reflect_message.specs.declared.value.Value.{Value}
+use Rattle.reflect_message.specs.Names.{Value}
 
 -- each record makes a message, one behind the other
 abbrev pub AreMade : Taken → PoolType → KindType → List Payload → List Value → Type 0

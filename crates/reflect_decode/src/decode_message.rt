@@ -12,7 +12,7 @@ use std::alloc::Global;
 
 /// Messages that are read from wire bytes (protobuf.dev, "Encoding").
 pub trait DecodeMessage<'p>: Sized {
-    ghost use Rattle.reflect_message.specs.declared.message.DynamicMessage.{DynamicMessage};
+    ghost use Rattle.reflect_message.specs.Names.{DynamicMessage};
 
     /// The message that it is.
     ghost message: { Self → DynamicMessage };

@@ -14,7 +14,7 @@ use Rattle.reflect_scalar.specs.declared.map_key.MapKey.{MapKey}
 use Rattle.reflect_codec.specs.Fields.{payload_field}
 use Rattle.reflect_message.specs.Known.{entry_field}
 use Rattle.reflect_message.specs.Bytes.{Form, form_of, forms, content_bytes, extension_bytes, others_down, key_part, entry_bytes, map_bytes}
-use Rattle.reflect_message.specs.declared.value.Value.{Value}
+use Rattle.reflect_message.specs.Names.{Value}
 
 module _ {A B : Type 0} (g : A → B) (f : B → List ℕ) where
   -- the last of what is left is put

@@ -13,15 +13,13 @@ use Rattle.reflect_scalar.specs.Singles.{Single, truth, int32, int64, uint32, ui
 use Rattle.reflect_message.specs.Bytes.{Form, record_in, bare_in, row_in, form_of, framed, message_bytes, value_step, message_step, held_step, parts_step}
 use Rattle.reflect_encode.specs.Puts.{form, bare_bytes, single_bytes, row_bytes}
 use Rattle.reflect_message.specs.Singles.{single}
-use Rattle.reflect_message.specs.declared.message.DynamicMessage.{DynamicMessage}
-use Rattle.reflect_message.specs.declared.parts.Held.{Held}
-use Rattle.reflect_message.specs.declared.parts.Held.TheFolds.{map-Value, fold-Held, fold-Value, fold-DynamicMessage, fold-Parts, fold-roll-Value, fold_out-DynamicMessage, fold_out-Value}
-use Rattle.reflect_message.specs.declared.parts.Held.TheOpen.{Value-F}
-use Rattle.reflect_message.specs.declared.parts.Held.TheViews.{out-Value, roll-Value, roll-out-Value}
-use Rattle.reflect_message.specs.declared.parts.Parts.{Parts}
-use Rattle.reflect_message.specs.declared.value.Value.{Value}
-use Rattle.reflect_message.specs.declared.value.Value as values
+use Rattle.reflect_message.specs.Names.{DynamicMessage, Held, Parts, Value}
+use Rattle.reflect_message.specs.declared.parts.HeldOf.TheFolds.{map-ValueOf, fold-HeldOf, fold-ValueOf, fold-MessageOf, fold-PartsOf, fold-roll-ValueOf, fold_out-MessageOf, fold_out-ValueOf}
+use Rattle.reflect_message.specs.declared.parts.HeldOf.TheOpen.{ValueOf-F}
+use Rattle.reflect_message.specs.declared.parts.HeldOf.TheViews.{out-ValueOf, roll-ValueOf, roll-out-ValueOf}
+use Rattle.reflect_message.specs.declared.value.ValueOf as values
 use denote.Hole.Carrier.{roll}
+use Rattle.reflect_pool.specs.declared.message.MessageDescriptor.{MessageDescriptor}
 
 one_record : (kind : Kind) (n : ℕ) (v : Single) → single_bytes kind n (Some v) ≡ record_in (kind_type kind) n (Some v)
 one_record kinds.Int32 n (int32 z) = refl
@@ -62,37 +60,37 @@ bare_same pool kind k (Some v) is = one_bare kind v ∙ ap (λ k. bare_in k (Som
 
 -- a value is seen as the single value that it is
 pub single_seen : (v : Value) → (form_of v).single ≡ single v
-single_seen v = ap (λ w. w.single) (fold_out-Value (PoolType → ℕ → List ℕ) Form (List ℕ) (PoolType → ℕ → List ℕ) held_step value_step message_step parts_step v) ∙ by (out-Value v) where
-  by : (o : Value-F Held Value DynamicMessage Parts)
-      → (value_step (map-Value Held Value DynamicMessage Parts (PoolType → ℕ → List ℕ) Form (List ℕ) (PoolType → ℕ → List ℕ)
-      (fold-Held (PoolType → ℕ → List ℕ) Form (List ℕ) (PoolType → ℕ → List ℕ) held_step value_step message_step parts_step)
-      (fold-Value (PoolType → ℕ → List ℕ) Form (List ℕ) (PoolType → ℕ → List ℕ) held_step value_step message_step parts_step)
-      (fold-DynamicMessage (PoolType → ℕ → List ℕ) Form (List ℕ) (PoolType → ℕ → List ℕ) held_step value_step message_step parts_step)
-      (fold-Parts (PoolType → ℕ → List ℕ) Form (List ℕ) (PoolType → ℕ → List ℕ) held_step value_step message_step parts_step) o)).single
+single_seen v = ap (λ w. w.single) (fold_out-ValueOf MessageDescriptor (PoolType → ℕ → List ℕ) Form (List ℕ) (PoolType → ℕ → List ℕ) held_step value_step message_step parts_step v) ∙ by (out-ValueOf MessageDescriptor v) where
+  by : (o : ValueOf-F MessageDescriptor Held Value DynamicMessage Parts)
+      → (value_step (map-ValueOf MessageDescriptor Held Value DynamicMessage Parts (PoolType → ℕ → List ℕ) Form (List ℕ) (PoolType → ℕ → List ℕ)
+      (fold-HeldOf MessageDescriptor (PoolType → ℕ → List ℕ) Form (List ℕ) (PoolType → ℕ → List ℕ) held_step value_step message_step parts_step)
+      (fold-ValueOf MessageDescriptor (PoolType → ℕ → List ℕ) Form (List ℕ) (PoolType → ℕ → List ℕ) held_step value_step message_step parts_step)
+      (fold-MessageOf MessageDescriptor (PoolType → ℕ → List ℕ) Form (List ℕ) (PoolType → ℕ → List ℕ) held_step value_step message_step parts_step)
+      (fold-PartsOf MessageDescriptor (PoolType → ℕ → List ℕ) Form (List ℕ) (PoolType → ℕ → List ℕ) held_step value_step message_step parts_step) o)).single
       ≡ elim o [
-        | Value-F.Bool b ↦ Some (truth b)
-        | Value-F.I32 z ↦ Some (int32 z)
-        | Value-F.I64 z ↦ Some (int64 z)
-        | Value-F.U32 n ↦ Some (uint32 n)
-        | Value-F.U64 n ↦ Some (uint64 n)
-        | Value-F.String t ↦ Some (text (string_bytes t))
-        | Value-F.Bytes b ↦ Some (blob b.items)
-        | Value-F.EnumNumber z ↦ Some (enumerated z)
-        | Value-F.Message m ↦ None
-        | Value-F.List vs ↦ None
-        | Value-F.Map es ↦ None
+        | ValueOf-F.Bool b ↦ Some (truth b)
+        | ValueOf-F.I32 z ↦ Some (int32 z)
+        | ValueOf-F.I64 z ↦ Some (int64 z)
+        | ValueOf-F.U32 n ↦ Some (uint32 n)
+        | ValueOf-F.U64 n ↦ Some (uint64 n)
+        | ValueOf-F.String t ↦ Some (text (string_bytes t))
+        | ValueOf-F.Bytes b ↦ Some (blob b.items)
+        | ValueOf-F.EnumNumber z ↦ Some (enumerated z)
+        | ValueOf-F.Message m ↦ None
+        | ValueOf-F.List vs ↦ None
+        | ValueOf-F.Map es ↦ None
       ]
-  by (Value-F.Bool b) = refl
-  by (Value-F.I32 z) = refl
-  by (Value-F.I64 z) = refl
-  by (Value-F.U32 n) = refl
-  by (Value-F.U64 n) = refl
-  by (Value-F.String t) = refl
-  by (Value-F.Bytes b) = refl
-  by (Value-F.EnumNumber z) = refl
-  by (Value-F.Message m) = refl
-  by (Value-F.List vs) = refl
-  by (Value-F.Map es) = refl
+  by (ValueOf-F.Bool b) = refl
+  by (ValueOf-F.I32 z) = refl
+  by (ValueOf-F.I64 z) = refl
+  by (ValueOf-F.U32 n) = refl
+  by (ValueOf-F.U64 n) = refl
+  by (ValueOf-F.String t) = refl
+  by (ValueOf-F.Bytes b) = refl
+  by (ValueOf-F.EnumNumber z) = refl
+  by (ValueOf-F.Message m) = refl
+  by (ValueOf-F.List vs) = refl
+  by (ValueOf-F.Map es) = refl
 
 -- values one behind the other, in words of the pool
 pub row_same : (pool : PoolType) (kind : Kind) (k : KindType) (vs : List Value) → IsKind pool kind k → row_bytes kind (map single vs) ≡ row_in k (map form_of vs)
@@ -103,42 +101,42 @@ row_same pool kind k (v ∷ vs) is =
 
 -- one value that is no message is written as the single value that it is
 pub one_single : (v : Value) (f : FieldType) → ((m : DynamicMessage) → v ≡ values.Message m → ⊥) → (form_of v).one f ≡ record_in f.kind f.number (single v)
-unfolding roll-Value roll
-one_single v f other = ap (λ w. w.one f) (fold_out-Value (PoolType → ℕ → List ℕ) Form (List ℕ) (PoolType → ℕ → List ℕ) held_step value_step message_step parts_step v) ∙ by (out-Value v) refl where
-  by : (o : Value-F Held Value DynamicMessage Parts) → out-Value v ≡ o
-      → (value_step (map-Value Held Value DynamicMessage Parts (PoolType → ℕ → List ℕ) Form (List ℕ) (PoolType → ℕ → List ℕ)
-      (fold-Held (PoolType → ℕ → List ℕ) Form (List ℕ) (PoolType → ℕ → List ℕ) held_step value_step message_step parts_step)
-      (fold-Value (PoolType → ℕ → List ℕ) Form (List ℕ) (PoolType → ℕ → List ℕ) held_step value_step message_step parts_step)
-      (fold-DynamicMessage (PoolType → ℕ → List ℕ) Form (List ℕ) (PoolType → ℕ → List ℕ) held_step value_step message_step parts_step)
-      (fold-Parts (PoolType → ℕ → List ℕ) Form (List ℕ) (PoolType → ℕ → List ℕ) held_step value_step message_step parts_step) o)).one f
+unfolding roll-ValueOf roll
+one_single v f other = ap (λ w. w.one f) (fold_out-ValueOf MessageDescriptor (PoolType → ℕ → List ℕ) Form (List ℕ) (PoolType → ℕ → List ℕ) held_step value_step message_step parts_step v) ∙ by (out-ValueOf MessageDescriptor v) refl where
+  by : (o : ValueOf-F MessageDescriptor Held Value DynamicMessage Parts) → out-ValueOf MessageDescriptor v ≡ o
+      → (value_step (map-ValueOf MessageDescriptor Held Value DynamicMessage Parts (PoolType → ℕ → List ℕ) Form (List ℕ) (PoolType → ℕ → List ℕ)
+      (fold-HeldOf MessageDescriptor (PoolType → ℕ → List ℕ) Form (List ℕ) (PoolType → ℕ → List ℕ) held_step value_step message_step parts_step)
+      (fold-ValueOf MessageDescriptor (PoolType → ℕ → List ℕ) Form (List ℕ) (PoolType → ℕ → List ℕ) held_step value_step message_step parts_step)
+      (fold-MessageOf MessageDescriptor (PoolType → ℕ → List ℕ) Form (List ℕ) (PoolType → ℕ → List ℕ) held_step value_step message_step parts_step)
+      (fold-PartsOf MessageDescriptor (PoolType → ℕ → List ℕ) Form (List ℕ) (PoolType → ℕ → List ℕ) held_step value_step message_step parts_step) o)).one f
       ≡ record_in f.kind f.number (elim o [
-        | Value-F.Bool b ↦ Some (truth b)
-        | Value-F.I32 z ↦ Some (int32 z)
-        | Value-F.I64 z ↦ Some (int64 z)
-        | Value-F.U32 n ↦ Some (uint32 n)
-        | Value-F.U64 n ↦ Some (uint64 n)
-        | Value-F.String t ↦ Some (text (string_bytes t))
-        | Value-F.Bytes b ↦ Some (blob b.items)
-        | Value-F.EnumNumber z ↦ Some (enumerated z)
-        | Value-F.Message m ↦ None
-        | Value-F.List vs ↦ None
-        | Value-F.Map es ↦ None
+        | ValueOf-F.Bool b ↦ Some (truth b)
+        | ValueOf-F.I32 z ↦ Some (int32 z)
+        | ValueOf-F.I64 z ↦ Some (int64 z)
+        | ValueOf-F.U32 n ↦ Some (uint32 n)
+        | ValueOf-F.U64 n ↦ Some (uint64 n)
+        | ValueOf-F.String t ↦ Some (text (string_bytes t))
+        | ValueOf-F.Bytes b ↦ Some (blob b.items)
+        | ValueOf-F.EnumNumber z ↦ Some (enumerated z)
+        | ValueOf-F.Message m ↦ None
+        | ValueOf-F.List vs ↦ None
+        | ValueOf-F.Map es ↦ None
       ])
-  by (Value-F.Bool b) e = refl
-  by (Value-F.I32 z) e = refl
-  by (Value-F.I64 z) e = refl
-  by (Value-F.U32 n) e = refl
-  by (Value-F.U64 n) e = refl
-  by (Value-F.String t) e = refl
-  by (Value-F.Bytes b) e = refl
-  by (Value-F.EnumNumber z) e = refl
-  by (Value-F.Message m) e = absurd (other m (sym (roll-out-Value v) ∙ ap roll-Value e))
-  by (Value-F.List vs) e = refl
-  by (Value-F.Map es) e = refl
+  by (ValueOf-F.Bool b) e = refl
+  by (ValueOf-F.I32 z) e = refl
+  by (ValueOf-F.I64 z) e = refl
+  by (ValueOf-F.U32 n) e = refl
+  by (ValueOf-F.U64 n) e = refl
+  by (ValueOf-F.String t) e = refl
+  by (ValueOf-F.Bytes b) e = refl
+  by (ValueOf-F.EnumNumber z) e = refl
+  by (ValueOf-F.Message m) e = absurd (other m (sym (roll-out-ValueOf MessageDescriptor v) ∙ ap roll-ValueOf MessageDescriptor e))
+  by (ValueOf-F.List vs) e = refl
+  by (ValueOf-F.Map es) e = refl
 
 -- a message is written by its records
 pub message_formed : (v : Value) (m : DynamicMessage) (f : FieldType) → v ≡ values.Message m → (form_of v).one f ≡ framed f (message_bytes m)
-unfolding roll-Value roll
+unfolding roll-ValueOf roll
 message_formed v m f is =
-    ap (λ (v : Value). (form_of v).one f) is ∙ ap (λ w. w.one f) (fold-roll-Value (PoolType → ℕ → List ℕ) Form (List ℕ) (PoolType → ℕ → List ℕ) held_step value_step message_step parts_step (Value-F.Message m))
-    ∙ ap (framed f) (fold_out-DynamicMessage (PoolType → ℕ → List ℕ) Form (List ℕ) (PoolType → ℕ → List ℕ) held_step value_step message_step parts_step m)
+    ap (λ (v : Value). (form_of v).one f) is ∙ ap (λ w. w.one f) (fold-roll-ValueOf MessageDescriptor (PoolType → ℕ → List ℕ) Form (List ℕ) (PoolType → ℕ → List ℕ) held_step value_step message_step parts_step (ValueOf-F.Message m))
+    ∙ ap (framed f) (fold_out-MessageOf MessageDescriptor (PoolType → ℕ → List ℕ) Form (List ℕ) (PoolType → ℕ → List ℕ) held_step value_step message_step parts_step m)

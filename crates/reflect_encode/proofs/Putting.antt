@@ -6,7 +6,7 @@ use Rattle.reflect_pool.specs.declared.kind.Kind.{Kind}
 use Rattle.reflect_scalar.specs.Singles.{Single}
 use Rattle.reflect_encode.specs.Puts.{bare_bytes, row_bytes}
 use Rattle.reflect_message.specs.Singles.{single}
-use Rattle.reflect_message.specs.declared.value.Value.{Value}
+use Rattle.reflect_message.specs.Names.{Value}
 
 -- the last of the values that are left is put
 pub row_more : (kind : Kind) (left front : List Value) (v : Value) (x : Option Single) (old new all : List ℕ) → left ≡ front ++ v ∷ [] → row_bytes kind (map single left) ++ old ≡ all → new ≡ bare_bytes kind x ++ old → x ≡ single v

@@ -11,7 +11,7 @@ use reflect_wire::WireError;
 
 /// Messages that are written as wire bytes (protobuf.dev, "Encoding").
 pub trait EncodeMessage {
-    ghost use Rattle.reflect_message.specs.declared.message.DynamicMessage.{DynamicMessage};
+    ghost use Rattle.reflect_message.specs.Names.{DynamicMessage};
 
     /// The message that it is.
     ghost message: { Self → DynamicMessage };

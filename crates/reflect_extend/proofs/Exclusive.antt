@@ -3,8 +3,7 @@ use Rattle.std.proofs.Common.{◌≡◌, ℕ, List, Result, OnOk, sym, subst}
 use Rattle.std.proofs.lemmas.Result.{on_ok_weaker}
 use Rattle.reflect_message.specs.Held.{fields_of, choices_of}
 use Rattle.reflect_message.specs.Oneofs.{AreChosen, IsExclusive}
-use Rattle.reflect_message.specs.declared.message.DynamicMessage.{DynamicMessage}
-use Rattle.reflect_message.specs.declared.value.Value.{Value}
+use Rattle.reflect_message.specs.Names.{DynamicMessage, Value}
 
 module _ (old new : DynamicMessage) (before after : List (ℕ × ℕ)) (held put : List (ℕ × Value))
     (was : before ≡ choices_of old) (had : held ≡ fields_of old)

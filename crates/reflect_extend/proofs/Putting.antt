@@ -2,7 +2,7 @@
 use Rattle.std.proofs.Common.{◌≡◌, ℕ, List, [], ◌∷◌, ◌++◌, Option, None, Some, Result, Ok, Err, OnOk, OnErr, MatchOption, refl, sym, ap, ◌∙◌, subst, unwrap_or}
 use Rattle.reflect_entries.specs.Entries.{value_at}
 use Rattle.reflect_message.specs.Maps.{entries_held, map_entries}
-use Rattle.reflect_message.specs.declared.value.Value.{Value}
+use Rattle.reflect_message.specs.Names.{Value}
 use Rattle.reflect_extend.specs.Gives.{Entry}
 use Rattle.reflect_extend.specs.Puts.{Puts, PutsAll, PutsFront, PutsSome, ChangesMap}
 

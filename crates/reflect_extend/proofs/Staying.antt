@@ -2,7 +2,7 @@
 use Rattle.std.proofs.Common.{◌≡◌, ℕ, List, Option, None, Some, sym, ap, ◌∙◌, subst, unwrap_or}
 use Rattle.reflect_entries.specs.Entries.{value_at}
 use Rattle.reflect_message.specs.Lists.{list_items}
-use Rattle.reflect_message.specs.declared.value.Value.{Value}
+use Rattle.reflect_message.specs.Names.{Value}
 use Rattle.reflect_extend.specs.Others.{KeepsOther}
 
 other_same : (old new : Option Value) → new ≡ old → KeepsOther old new

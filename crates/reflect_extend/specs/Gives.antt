@@ -10,8 +10,7 @@ use Rattle.reflect_message.specs.MapKeys.{key_of_value}
 use Rattle.reflect_message.specs.Messages.{message_in}
 use Rattle.reflect_message.specs.Present.{held_if_set}
 use Rattle.reflect_message.specs.Shown.{IsHeldOrDefault}
-use Rattle.reflect_message.specs.declared.message.DynamicMessage.{DynamicMessage}
-use Rattle.reflect_message.specs.declared.value.Value.{Value}
+use Rattle.reflect_message.specs.Names.{DynamicMessage, Value}
 
 abbrev pub Entry : Type 0
 Entry = MapKey × Value

@@ -1,7 +1,7 @@
 -- What stands under a list's number and is no list.
 use Rattle.std.specs.Prelude.{◌≡◌, Option, None, Some}
 use Rattle.reflect_message.specs.Lists.{list_items}
-use Rattle.reflect_message.specs.declared.value.Value.{Value}
+use Rattle.reflect_message.specs.Names.{Value}
 
 -- a value that is no list stays
 abbrev pub KeepsOther : Option Value → Option Value → Type 0

@@ -3,7 +3,7 @@
 use Rattle.std.specs.Prelude.{◌≡◌, List, [], ◌∷◌, ◌++◌, Option, None, Some, MatchOption}
 use Rattle.std.specs.BTreeMap.{insert_entry}
 use Rattle.reflect_message.specs.Maps.{entries_held, key_order}
-use Rattle.reflect_message.specs.declared.value.Value.{Value}
+use Rattle.reflect_message.specs.Names.{Value}
 use Rattle.reflect_extend.specs.Gives.{Entry, Gives}
 
 -- the entry, if there is one, over what stood under an equal key

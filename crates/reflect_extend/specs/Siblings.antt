@@ -4,7 +4,7 @@ use Rattle.std.specs.Prelude.{◌≡◌, ℕ, List, None, Some}
 use Rattle.reflect_entries.specs.Entries.{value_at}
 use Rattle.reflect_pool.specs.declared.field.FieldDescriptor.{FieldDescriptor}
 use Rattle.reflect_message.specs.Oneofs.{sibling}
-use Rattle.reflect_message.specs.declared.value.Value.{Value}
+use Rattle.reflect_message.specs.Names.{Value}
 
 -- the other member of the field's oneof that is noted, if there is one, holds nothing
 abbrev pub LacksSibling : FieldDescriptor → List (ℕ × ℕ) → List (ℕ × Value) → Type 0

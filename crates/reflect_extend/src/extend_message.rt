@@ -20,7 +20,7 @@ use std::alloc::{AllocError, Global};
 
 /// Messages whose lists and maps take further values.
 pub trait ExtendMessage<'p> {
-    ghost use Rattle.reflect_message.specs.declared.message.DynamicMessage.{DynamicMessage};
+    ghost use Rattle.reflect_message.specs.Names.{DynamicMessage};
 
     /// The message that it is.
     ghost message: { Self → DynamicMessage };

@@ -2,7 +2,7 @@
 use Rattle.std.proofs.Common.{true, suc, List, ◌∷◌, refl, arith}
 use Rattle.reflect_numbered.specs.Called.{HasNumber, TellsMeant}
 use Rattle.reflect_tables.specs.Types.{FieldType}
-use Rattle.reflect_message.specs.declared.message.DynamicMessage.{DynamicMessage}
+use Rattle.reflect_message.specs.Names.{DynamicMessage}
 use Rattle.reflect_format.specs.Refusals.{HoldsAmong}
 
 pub first_held : (m : DynamicMessage) (f : FieldType) (fs : List FieldType) → TellsMeant (HasNumber f.number) m true → HoldsAmong m (f ∷ fs)

@@ -18,8 +18,8 @@ use Rattle.text_syntax.proofs.Parts.{IsLeft, IsTaken, given_alone, message_read,
 use Rattle.reflect_pool.specs.declared.kind.Kind.{Kind}
 use Rattle.reflect_pool.specs.declared.kind.Kind.TheVariants as values
 use Rattle.reflect_pool.specs.declared.message.MessageDescriptor.{MessageDescriptor}
-use Rattle.reflect_message.specs.declared.message.DynamicMessage.{DynamicMessage}
-use Rattle.reflect_message.specs.declared.value.Value as held
+use Rattle.reflect_message.specs.Names.{DynamicMessage}
+use Rattle.reflect_message.specs.Names as held
 use Rattle.reflect_format.specs.Filled.{AreGiven, AreValues, Fills, FillsField, IsGiven, IsValue}
 use Rattle.reflect_format.specs.Reads.{IsCause}
 use Rattle.reflect_format.specs.Unfit.{AreUnfitGiven, AreUnfitValues, CannotMake, IsUnfitBody, IsUnfitGiven, IsUnfitValue, Unfit}

@@ -16,7 +16,7 @@ use Rattle.text_syntax.proofs.Parts.{of_scalar, scalar_read}
 use Rattle.reflect_pool.specs.declared.kind.Kind.{Kind}
 use Rattle.reflect_pool.specs.declared.kind.Kind.TheVariants as values
 use Rattle.reflect_pool.specs.declared.message.MessageDescriptor.{MessageDescriptor}
-use Rattle.reflect_message.specs.declared.value.Value as held
+use Rattle.reflect_message.specs.Names as held
 use Rattle.reflect_format.specs.Filled.{IsValue}
 use Rattle.reflect_format.specs.Kinds.{IsRead, ReadsSingle, given_by, kind_value_at, names_of, scalar_given, scalar_of, single_of, value_by}
 use Rattle.reflect_format.specs.Reads.{Reads, Refutes}

@@ -2,8 +2,7 @@
 use Rattle.std.proofs.Common.{◌≡◌, inl, inr, ℕ, Option, Result, Ok, Err, IfErr, IsErrAnd, refl, sym, subst}
 use Rattle.reflect_message.specs.Held.{fields_of, choices_of, UpdatesExtension}
 use Rattle.reflect_message.specs.Oneofs.{AreChosen, IsExclusive}
-use Rattle.reflect_message.specs.declared.message.DynamicMessage.{DynamicMessage}
-use Rattle.reflect_message.specs.declared.value.Value.{Value}
+use Rattle.reflect_message.specs.Names.{DynamicMessage, Value}
 use Rattle.reflect_format.specs.Reads.{StaysUnless}
 use Rattle.reflect_format.specs.Steps.{Stays}
 use Rattle.text_error.specs.declared.error.ParseErrorKind.{ParseErrorKind}

@@ -11,7 +11,7 @@ use Rattle.reflect_format.specs.Refusals.{RefusesExtension, RefusesField, Refuse
 use Rattle.reflect_pool.specs.declared.oneof.OneofDescriptor.{OneofDescriptor}
 use Rattle.reflect_format.specs.Takes.{holds_many, target_pool}
 use Rattle.reflect_format.specs.declared.target.Target.{Target}
-use Rattle.reflect_message.specs.declared.message.DynamicMessage.{DynamicMessage}
+use Rattle.reflect_message.specs.Names.{DynamicMessage}
 use Rattle.reflect_format.specs.Truth.{TrueFor, TrueOf}
 use Rattle.text_scalars.specs.Refusals.{is_of_text}
 use Rattle.text_error.specs.declared.error.ParseErrorKind.{ParseErrorKind}

@@ -3,8 +3,7 @@ use Rattle.std.specs.Prelude.{◌≡◌, true, List}
 use Rattle.protox_lex.specs.Class.{Text}
 use Rattle.protobuf_model.specs.Values.{text}
 use Rattle.reflect_any.specs.Any.{IsAny}
-use Rattle.reflect_message.specs.declared.message.DynamicMessage.{DynamicMessage}
-use Rattle.reflect_message.specs.declared.value.Value.{Value}
+use Rattle.reflect_message.specs.Names.{DynamicMessage, Value}
 use Rattle.reflect_pool.specs.Kinds.{IsKind}
 use Rattle.reflect_pool.specs.declared.kind.Kind.{Kind}
 use Rattle.text_model.specs.Tree.{FieldName, plain, extension, expansion, Given}

@@ -14,9 +14,9 @@ use Rattle.reflect_numbered.specs.Called.{HasNumber, TellsMeant}
 use Rattle.reflect_any.specs.Any.{IsAny}
 use Rattle.reflect_message.specs.Bytes.{message_bytes}
 use Rattle.reflect_message.specs.Contents.{content_of, nothing}
-use Rattle.reflect_message.specs.declared.message.DynamicMessage.{DynamicMessage}
-use Rattle.reflect_message.specs.declared.value.Value as held
-use Rattle.reflect_message.specs.declared.value.Value.TheVariants as held_values
+use Rattle.reflect_message.specs.Names.{DynamicMessage}
+use Rattle.reflect_message.specs.Names as held
+use Rattle.reflect_message.specs.declared.value.ValueOf.TheVariants as held_values
 use Rattle.text_model.specs.Tree.{FieldName, plain, extension, expansion, ScalarValue, Value, scalar, braced, Values, no_values, more_values, Given, one_scalar, one_message, listed, Fields, no_fields, more_fields}
 use Rattle.text_model.specs.Value.{written}
 use Rattle.reflect_format.specs.Kinds.{scalar_given, single_of}

@@ -9,8 +9,8 @@ use Rattle.protobuf_model.specs.Values.{Single, truth, int32, int64, uint32, uin
 use Rattle.reflect_pool.specs.declared.enums.EnumDescriptor.{EnumDescriptor}
 use Rattle.reflect_pool.specs.declared.kind.Kind.{Kind}
 use Rattle.reflect_pool.specs.declared.kind.Kind.TheVariants as values
-use Rattle.reflect_message.specs.declared.value.Value.{Value}
-use Rattle.reflect_message.specs.declared.value.Value.TheVariants as held
+use Rattle.reflect_message.specs.Names.{Value}
+use Rattle.reflect_message.specs.declared.value.ValueOf.TheVariants as held
 use Rattle.text_error.specs.declared.error.ParseErrorKind.{ParseErrorKind}
 use Rattle.text_error.specs.declared.error.ParseErrorKind.TheVariants as kinds
 use Rattle.text_scalars.specs.Front.{integer_in, next, sees, word_in}

@@ -6,7 +6,7 @@ use Rattle.text_syntax.specs.Beginning.{BeginWith}
 use Rattle.text_syntax.specs.Syntax.{OneField, Read, at_end, field_at, message_at}
 use Rattle.text_error.specs.declared.error.ParseErrorKind.{ParseErrorKind}
 use Rattle.text_error.specs.declared.error.ParseErrorKind.TheVariants as kinds
-use Rattle.reflect_message.specs.declared.message.DynamicMessage.{DynamicMessage}
+use Rattle.reflect_message.specs.Names.{DynamicMessage}
 use Rattle.reflect_format.specs.Begun.{Begins}
 use Rattle.reflect_format.specs.Filled.{Fills}
 use Rattle.reflect_format.specs.Steps.{Stays}

@@ -14,7 +14,7 @@ use Rattle.reflect_scalar.specs.FieldTypes.{extension_type}
 use Rattle.reflect_entries.specs.Entries.{value_at}
 use Rattle.reflect_numbered.specs.Called.{HasNumber, TellsMeant}
 use Rattle.reflect_message.specs.Held.{fields_of, extensions_of}
-use Rattle.reflect_message.specs.declared.message.DynamicMessage.{DynamicMessage}
+use Rattle.reflect_message.specs.Names.{DynamicMessage}
 use Rattle.reflect_format.specs.Lacks.{IsGroupCalled, LacksField, LacksGroup, HasFloatField, LacksExtension, HasFloatExtension}
 use Rattle.reflect_format.specs.declared.target.Target.{Target}
 use Rattle.reflect_format.specs.declared.target.Target.TheVariants as targets

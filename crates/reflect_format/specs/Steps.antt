@@ -11,8 +11,7 @@ use Rattle.reflect_message.specs.Held.{fields_of, choices_of, extensions_of, unk
 use Rattle.reflect_message.specs.Lists.{Lengthens, KeepsList}
 use Rattle.reflect_message.specs.Oneofs.{IsExclusive, SetsField, sibling}
 use Rattle.reflect_message.specs.Present.{is_held}
-use Rattle.reflect_message.specs.declared.message.DynamicMessage.{DynamicMessage}
-use Rattle.reflect_message.specs.declared.value.Value.{Value}
+use Rattle.reflect_message.specs.Names.{DynamicMessage, Value}
 use Rattle.reflect_format.specs.Kinds.{single_of}
 use Rattle.reflect_extend.specs.Puts.{PutsEntries, PutsSome}
 use Rattle.reflect_extend.specs.Siblings.{LacksSibling}

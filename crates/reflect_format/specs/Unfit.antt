@@ -8,7 +8,7 @@ use Rattle.reflect_pool.specs.declared.kind.Kind.TheVariants as values
 use Rattle.reflect_pool.specs.declared.message.MessageDescriptor.{MessageDescriptor}
 use Rattle.reflect_any.specs.Any.{IsAny}
 use Rattle.reflect_message.specs.Contents.{content_of, nothing}
-use Rattle.reflect_message.specs.declared.message.DynamicMessage.{DynamicMessage}
+use Rattle.reflect_message.specs.Names.{DynamicMessage}
 use Rattle.text_model.specs.Tree.{FieldName, plain, extension, expansion, Value, scalar, braced, Values, no_values, more_values, Given, one_scalar, one_message, listed, Fields, no_fields, more_fields}
 use Rattle.text_model.specs.Value.{written}
 use Rattle.reflect_format.specs.Filled.{FillsField, HasRival}

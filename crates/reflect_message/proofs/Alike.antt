@@ -12,60 +12,58 @@ use Rattle.reflect_message.specs.Lists.{list_items}
 use Rattle.reflect_message.specs.Maps.{map_entries}
 use Rattle.reflect_message.specs.Messages.{message_in}
 use Rattle.reflect_message.specs.Trees.{ValueTree, MessageTree, Place, branch, row, dictionary, parts, empty, full, place_of, dictionary_of, held_step, parts_step, value_step, message_step, tree, held_tree, places, entry_tree}
-use Rattle.reflect_message.specs.declared.message.DynamicMessage.{DynamicMessage}
-use Rattle.reflect_message.specs.declared.parts.Held.{Held, out-Held}
-use Rattle.reflect_message.specs.declared.parts.Held.TheFolds.{map-Value, map-Held, fold-DynamicMessage, fold-Parts, fold_out-Value, fold_out-Held, fold_out-DynamicMessage}
-use Rattle.reflect_message.specs.declared.parts.Held.TheOpen.{Held-F, Value-F}
-use Rattle.reflect_message.specs.declared.parts.Held.TheViews.{out-Value}
-use Rattle.reflect_message.specs.declared.parts.Parts.{Parts}
-use Rattle.reflect_message.specs.declared.value.Value.{Value}
+use Rattle.reflect_message.specs.Names.{DynamicMessage, Held, Parts, Value}
+use Rattle.reflect_message.specs.declared.parts.HeldOf.{out-HeldOf}
+use Rattle.reflect_message.specs.declared.parts.HeldOf.TheFolds.{map-ValueOf, map-HeldOf, fold-MessageOf, fold-PartsOf, fold_out-ValueOf, fold_out-HeldOf, fold_out-MessageOf}
+use Rattle.reflect_message.specs.declared.parts.HeldOf.TheOpen.{HeldOf-F, ValueOf-F}
+use Rattle.reflect_message.specs.declared.parts.HeldOf.TheViews.{out-ValueOf}
 use Rattle.reflect_message.proofs.Trees.{parts_folded}
 
 -- a value, opened
 abbrev Open : Type 0
-Open = Value-F Held Value DynamicMessage Parts
+Open = ValueOf-F MessageDescriptor Held Value DynamicMessage Parts
 
 abbrev message_folded : DynamicMessage → ValueTree
 message_folded =
-    fold-DynamicMessage MessageTree ValueTree ValueTree MessageTree
+    fold-MessageOf MessageDescriptor MessageTree ValueTree ValueTree MessageTree
     held_step value_step message_step parts_step
 
 abbrev parts_folded_in : Parts → MessageTree
 parts_folded_in =
-    fold-Parts MessageTree ValueTree ValueTree MessageTree
+    fold-PartsOf MessageDescriptor MessageTree ValueTree ValueTree MessageTree
     held_step value_step message_step parts_step
 
 -- one level of its tree
 abbrev stepped : Open → ValueTree
 stepped o = value_step
-    (map-Value Held Value DynamicMessage Parts MessageTree ValueTree ValueTree MessageTree
+    (map-ValueOf MessageDescriptor Held Value DynamicMessage Parts MessageTree ValueTree ValueTree MessageTree
     held_tree tree message_folded parts_folded_in o)
 
-opened : (v : Value) → tree v ≡ stepped (out-Value v)
+opened : (v : Value) → tree v ≡ stepped (out-ValueOf MessageDescriptor v)
 opened v =
-    fold_out-Value MessageTree ValueTree ValueTree MessageTree
+    fold_out-ValueOf MessageDescriptor MessageTree ValueTree ValueTree MessageTree
     held_step value_step message_step parts_step v
 
 folded : (m : DynamicMessage) → message_folded m ≡ branch m.descriptor (held_tree m.held)
 folded m =
-    fold_out-DynamicMessage MessageTree ValueTree ValueTree MessageTree
+    fold_out-MessageOf MessageDescriptor MessageTree ValueTree ValueTree MessageTree
     held_step value_step message_step parts_step m
 
 -- ---- maps
 
 abbrev entries_in : Open → Option (List (MapKey × Value))
 entries_in o = elim o [
-  | Value-F.Bool b ↦ None
-  | Value-F.I32 z ↦ None
-  | Value-F.I64 z ↦ None
-  | Value-F.U32 n ↦ None
-  | Value-F.U64 n ↦ None
-  | Value-F.String t ↦ None
-  | Value-F.Bytes b ↦ None
-  | Value-F.EnumNumber z ↦ None
-  | Value-F.Message m ↦ None
-  | Value-F.List vs ↦ None
-  | Value-F.Map es ↦ Some es.entries
+  | ValueOf-F.Bool b ↦ None
+  | ValueOf-F.I32 z ↦ None
+  | ValueOf-F.I64 z ↦ None
+  | ValueOf-F.U32 n ↦ None
+  | ValueOf-F.U64 n ↦ None
+  | ValueOf-F.String t ↦ None
+  | ValueOf-F.Bytes b ↦ None
+  | ValueOf-F.EnumNumber z ↦ None
+  | ValueOf-F.Message m ↦ None
+  | ValueOf-F.List vs ↦ None
+  | ValueOf-F.Map es ↦ Some es.entries
 ]
 
 inside : (es : List (MapKey × Value))
@@ -76,22 +74,22 @@ inside (e ∷ es) = ap (λ l. entry_tree e ∷ l) (inside es)
 
 pub map_seen : (v : Value) (es : List (MapKey × Value)) → map_entries v ≡ Some es
     → tree v ≡ dictionary (dictionary_of (map entry_tree es))
-map_seen v es e = opened v ∙ by (out-Value v) e where
+map_seen v es e = opened v ∙ by (out-ValueOf MessageDescriptor v) e where
   by : (o : Open) → entries_in o ≡ Some es
       → stepped o ≡ dictionary (dictionary_of (map entry_tree es))
-  by (Value-F.Map fs) e =
+  by (ValueOf-F.Map fs) e =
       ap (λ l. dictionary (dictionary_of l)) (inside fs.entries)
       ∙ ap (λ o. dictionary (dictionary_of (map entry_tree (unwrap_or o [])))) e
-  by (Value-F.Bool b) e = absurd (cc e)
-  by (Value-F.I32 z) e = absurd (cc e)
-  by (Value-F.I64 z) e = absurd (cc e)
-  by (Value-F.U32 n) e = absurd (cc e)
-  by (Value-F.U64 n) e = absurd (cc e)
-  by (Value-F.String t) e = absurd (cc e)
-  by (Value-F.Bytes b) e = absurd (cc e)
-  by (Value-F.EnumNumber z) e = absurd (cc e)
-  by (Value-F.Message m) e = absurd (cc e)
-  by (Value-F.List vs) e = absurd (cc e)
+  by (ValueOf-F.Bool b) e = absurd (cc e)
+  by (ValueOf-F.I32 z) e = absurd (cc e)
+  by (ValueOf-F.I64 z) e = absurd (cc e)
+  by (ValueOf-F.U32 n) e = absurd (cc e)
+  by (ValueOf-F.U64 n) e = absurd (cc e)
+  by (ValueOf-F.String t) e = absurd (cc e)
+  by (ValueOf-F.Bytes b) e = absurd (cc e)
+  by (ValueOf-F.EnumNumber z) e = absurd (cc e)
+  by (ValueOf-F.Message m) e = absurd (cc e)
+  by (ValueOf-F.List vs) e = absurd (cc e)
 
 -- the tree is that of a map
 abbrev is_map : ValueTree → Bool
@@ -99,19 +97,19 @@ is_map (dictionary es) = true
 is_map t = false
 
 map_told : (v : Value) → is_map (tree v) ≡ is_some (map_entries v)
-map_told v = ap is_map (opened v) ∙ by (out-Value v) where
+map_told v = ap is_map (opened v) ∙ by (out-ValueOf MessageDescriptor v) where
   by : (o : Open) → is_map (stepped o) ≡ is_some (entries_in o)
-  by (Value-F.Bool b) = refl
-  by (Value-F.I32 z) = refl
-  by (Value-F.I64 z) = refl
-  by (Value-F.U32 n) = refl
-  by (Value-F.U64 n) = refl
-  by (Value-F.String t) = refl
-  by (Value-F.Bytes b) = refl
-  by (Value-F.EnumNumber z) = refl
-  by (Value-F.Message m) = ap is_map (folded m)
-  by (Value-F.List vs) = refl
-  by (Value-F.Map es) = refl
+  by (ValueOf-F.Bool b) = refl
+  by (ValueOf-F.I32 z) = refl
+  by (ValueOf-F.I64 z) = refl
+  by (ValueOf-F.U32 n) = refl
+  by (ValueOf-F.U64 n) = refl
+  by (ValueOf-F.String t) = refl
+  by (ValueOf-F.Bytes b) = refl
+  by (ValueOf-F.EnumNumber z) = refl
+  by (ValueOf-F.Message m) = ap is_map (folded m)
+  by (ValueOf-F.List vs) = refl
+  by (ValueOf-F.Map es) = refl
 
 pub map_alike : (v w : Value) → tree w ≡ tree v → is_some (map_entries w) ≡ is_some (map_entries v)
 map_alike v w e = sym (map_told w) ∙ ap is_map e ∙ map_told v
@@ -120,17 +118,17 @@ map_alike v w e = sym (map_told w) ∙ ap is_map e ∙ map_told v
 
 abbrev items_in : Open → Option (List Value)
 items_in o = elim o [
-  | Value-F.Bool b ↦ None
-  | Value-F.I32 z ↦ None
-  | Value-F.I64 z ↦ None
-  | Value-F.U32 n ↦ None
-  | Value-F.U64 n ↦ None
-  | Value-F.String t ↦ None
-  | Value-F.Bytes b ↦ None
-  | Value-F.EnumNumber z ↦ None
-  | Value-F.Message m ↦ None
-  | Value-F.List vs ↦ Some vs.items
-  | Value-F.Map es ↦ None
+  | ValueOf-F.Bool b ↦ None
+  | ValueOf-F.I32 z ↦ None
+  | ValueOf-F.I64 z ↦ None
+  | ValueOf-F.U32 n ↦ None
+  | ValueOf-F.U64 n ↦ None
+  | ValueOf-F.String t ↦ None
+  | ValueOf-F.Bytes b ↦ None
+  | ValueOf-F.EnumNumber z ↦ None
+  | ValueOf-F.Message m ↦ None
+  | ValueOf-F.List vs ↦ Some vs.items
+  | ValueOf-F.Map es ↦ None
 ]
 
 -- the tree is that of a list
@@ -139,19 +137,19 @@ is_list (row vs) = true
 is_list t = false
 
 list_told : (v : Value) → is_list (tree v) ≡ is_some (list_items v)
-list_told v = ap is_list (opened v) ∙ by (out-Value v) where
+list_told v = ap is_list (opened v) ∙ by (out-ValueOf MessageDescriptor v) where
   by : (o : Open) → is_list (stepped o) ≡ is_some (items_in o)
-  by (Value-F.Bool b) = refl
-  by (Value-F.I32 z) = refl
-  by (Value-F.I64 z) = refl
-  by (Value-F.U32 n) = refl
-  by (Value-F.U64 n) = refl
-  by (Value-F.String t) = refl
-  by (Value-F.Bytes b) = refl
-  by (Value-F.EnumNumber z) = refl
-  by (Value-F.Message m) = ap is_list (folded m)
-  by (Value-F.List vs) = refl
-  by (Value-F.Map es) = refl
+  by (ValueOf-F.Bool b) = refl
+  by (ValueOf-F.I32 z) = refl
+  by (ValueOf-F.I64 z) = refl
+  by (ValueOf-F.U32 n) = refl
+  by (ValueOf-F.U64 n) = refl
+  by (ValueOf-F.String t) = refl
+  by (ValueOf-F.Bytes b) = refl
+  by (ValueOf-F.EnumNumber z) = refl
+  by (ValueOf-F.Message m) = ap is_list (folded m)
+  by (ValueOf-F.List vs) = refl
+  by (ValueOf-F.Map es) = refl
 
 pub list_alike : (v w : Value) → tree w ≡ tree v → is_some (list_items w) ≡ is_some (list_items v)
 list_alike v w e = sym (list_told w) ∙ ap is_list e ∙ list_told v
@@ -160,17 +158,17 @@ list_alike v w e = sym (list_told w) ∙ ap is_list e ∙ list_told v
 
 abbrev message_of : Open → Option DynamicMessage
 message_of o = elim o [
-  | Value-F.Bool b ↦ None
-  | Value-F.I32 z ↦ None
-  | Value-F.I64 z ↦ None
-  | Value-F.U32 n ↦ None
-  | Value-F.U64 n ↦ None
-  | Value-F.String t ↦ None
-  | Value-F.Bytes b ↦ None
-  | Value-F.EnumNumber z ↦ None
-  | Value-F.Message m ↦ Some m
-  | Value-F.List vs ↦ None
-  | Value-F.Map es ↦ None
+  | ValueOf-F.Bool b ↦ None
+  | ValueOf-F.I32 z ↦ None
+  | ValueOf-F.I64 z ↦ None
+  | ValueOf-F.U32 n ↦ None
+  | ValueOf-F.U64 n ↦ None
+  | ValueOf-F.String t ↦ None
+  | ValueOf-F.Bytes b ↦ None
+  | ValueOf-F.EnumNumber z ↦ None
+  | ValueOf-F.Message m ↦ Some m
+  | ValueOf-F.List vs ↦ None
+  | ValueOf-F.Map es ↦ None
 ]
 
 -- the type of a message and what it holds, if the tree is that of one
@@ -182,19 +180,19 @@ abbrev branched : DynamicMessage → MessageDescriptor × MessageTree
 branched m = (m.descriptor, held_tree m.held)
 
 message_told : (v : Value) → message_tree (tree v) ≡ option_map branched (message_in v)
-message_told v = ap message_tree (opened v) ∙ by (out-Value v) where
+message_told v = ap message_tree (opened v) ∙ by (out-ValueOf MessageDescriptor v) where
   by : (o : Open) → message_tree (stepped o) ≡ option_map branched (message_of o)
-  by (Value-F.Bool b) = refl
-  by (Value-F.I32 z) = refl
-  by (Value-F.I64 z) = refl
-  by (Value-F.U32 n) = refl
-  by (Value-F.U64 n) = refl
-  by (Value-F.String t) = refl
-  by (Value-F.Bytes b) = refl
-  by (Value-F.EnumNumber z) = refl
-  by (Value-F.Message m) = ap message_tree (folded m)
-  by (Value-F.List vs) = refl
-  by (Value-F.Map es) = refl
+  by (ValueOf-F.Bool b) = refl
+  by (ValueOf-F.I32 z) = refl
+  by (ValueOf-F.I64 z) = refl
+  by (ValueOf-F.U32 n) = refl
+  by (ValueOf-F.U64 n) = refl
+  by (ValueOf-F.String t) = refl
+  by (ValueOf-F.Bytes b) = refl
+  by (ValueOf-F.EnumNumber z) = refl
+  by (ValueOf-F.Message m) = ap message_tree (folded m)
+  by (ValueOf-F.List vs) = refl
+  by (ValueOf-F.Map es) = refl
 
 pub message_alike : (v w : Value) → tree w ≡ tree v → (m : DynamicMessage) → message_in v ≡ Some m
     → (n : DynamicMessage) × (message_in w ≡ Some n) × (n.descriptor ≡ m.descriptor)
@@ -215,33 +213,33 @@ message_alike v w e m is = by (message_in w) refl where
 
 -- ---- what messages hold
 
-abbrev fields_in_block : Held-F Held Value DynamicMessage Parts → List (ℕ × Value)
-fields_in_block o = elim o [ Held-F.Nothing ↦ [] | Held-F.Block b ↦ b.value.fields ]
+abbrev fields_in_block : HeldOf-F MessageDescriptor Held Value DynamicMessage Parts → List (ℕ × Value)
+fields_in_block o = elim o [ HeldOf-F.Nothing ↦ [] | HeldOf-F.Block b ↦ b.value.fields ]
 
-abbrev choices_in_block : Held-F Held Value DynamicMessage Parts → List (ℕ × ℕ)
-choices_in_block o = elim o [ Held-F.Nothing ↦ [] | Held-F.Block b ↦ b.value.choices.members ]
+abbrev choices_in_block : HeldOf-F MessageDescriptor Held Value DynamicMessage Parts → List (ℕ × ℕ)
+choices_in_block o = elim o [ HeldOf-F.Nothing ↦ [] | HeldOf-F.Block b ↦ b.value.choices.members ]
 
-abbrev extensions_in_block : Held-F Held Value DynamicMessage Parts → List (ℕ × Value)
-extensions_in_block o = elim o [ Held-F.Nothing ↦ [] | Held-F.Block b ↦ b.value.extensions ]
+abbrev extensions_in_block : HeldOf-F MessageDescriptor Held Value DynamicMessage Parts → List (ℕ × Value)
+extensions_in_block o = elim o [ HeldOf-F.Nothing ↦ [] | HeldOf-F.Block b ↦ b.value.extensions ]
 
-abbrev unknown_in_block : Held-F Held Value DynamicMessage Parts → List (ℕ × Payload)
-unknown_in_block o = elim o [ Held-F.Nothing ↦ [] | Held-F.Block b ↦ undeclared b.value.unknown ]
+abbrev unknown_in_block : HeldOf-F MessageDescriptor Held Value DynamicMessage Parts → List (ℕ × Payload)
+unknown_in_block o = elim o [ HeldOf-F.Nothing ↦ [] | HeldOf-F.Block b ↦ undeclared b.value.unknown ]
 
 abbrev seen_held : Held → MessageTree
 seen_held h = parts (places (fields_in h)) (choices_in h) (places (extensions_in h)) (unknown_in h)
 
 held_opened : (h : Held) → held_tree h ≡ seen_held h
 held_opened h =
-    fold_out-Held MessageTree ValueTree ValueTree MessageTree
+    fold_out-HeldOf MessageDescriptor MessageTree ValueTree ValueTree MessageTree
     held_step value_step message_step parts_step h
-    ∙ by (out-Held h) where
-      by : (o : Held-F Held Value DynamicMessage Parts)
-          → held_step (map-Held Held Value DynamicMessage Parts MessageTree ValueTree ValueTree MessageTree
+    ∙ by (out-HeldOf MessageDescriptor h) where
+      by : (o : HeldOf-F MessageDescriptor Held Value DynamicMessage Parts)
+          → held_step (map-HeldOf MessageDescriptor Held Value DynamicMessage Parts MessageTree ValueTree ValueTree MessageTree
           held_tree tree message_folded parts_folded_in o)
           ≡ parts (places (fields_in_block o)) (choices_in_block o) (places (extensions_in_block o))
           (unknown_in_block o)
-      by Held-F.Nothing = refl
-      by (Held-F.Block b) = parts_folded b.value
+      by HeldOf-F.Nothing = refl
+      by (HeldOf-F.Block b) = parts_folded b.value
 
 abbrev fields_at : MessageTree → ℕ → Place
 fields_at (parts fields choices extensions unknown) = fields

@@ -9,7 +9,7 @@ use Rattle.reflect_entries.specs.Entries.{value_at}
 use Rattle.reflect_entries.specs.Members.{other_than, first_number, first_member_of}
 use Rattle.reflect_message.specs.Declares.{Owns}
 use Rattle.reflect_message.specs.Oneofs.{IsSibling, AreChosen, MakesRoom, Changes, Chooses, Unsets, sibling}
-use Rattle.reflect_message.specs.declared.value.Value.{Value}
+use Rattle.reflect_message.specs.Names.{Value}
 use Rattle.reflect_message.proofs.Owning.{same_first}
 
 pub is_or_not : (o : Option ℕ) (n : ℕ) → (o ≡ Some n) ⊎ (o ≢ Some n)

@@ -7,7 +7,7 @@ use Rattle.reflect_entries.specs.Entries.{Updates, value_at}
 use Rattle.reflect_message.specs.Copies.{AreCopies}
 use Rattle.reflect_message.specs.Oneofs.{AreChosen}
 use Rattle.reflect_message.specs.Trees.{tree}
-use Rattle.reflect_message.specs.declared.value.Value.{Value}
+use Rattle.reflect_message.specs.Names.{Value}
 
 -- of entries one behind the other the first with a number counts
 value_behind : (xs ys : List (ℕ × Value)) (n : ℕ) → value_at (xs ++ ys) n ≡ option_or (value_at xs n) (value_at ys n)

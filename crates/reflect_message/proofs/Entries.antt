@@ -14,7 +14,7 @@ use Rattle.reflect_scalar.specs.declared.map_key.MapKey.{MapKey}
 use Rattle.reflect_scalar.specs.declared.map_key.MapKey.TheVariants as keys
 use Rattle.reflect_message.specs.Maps.{key_order, PutsCopy}
 use Rattle.reflect_message.specs.Trees.{entry_tree, tree}
-use Rattle.reflect_message.specs.declared.value.Value.{Value}
+use Rattle.reflect_message.specs.Names.{Value}
 
 abbrev pub Entry : Type 0
 Entry = MapKey × Value

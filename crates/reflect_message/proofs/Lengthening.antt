@@ -1,7 +1,7 @@
 -- Lists that values are put behind.
 use Rattle.std.proofs.Common.{◌≡◌, List, [], ◌++◌, Option, None, Some, Result, Ok, Err, sym, ap, ◌∙◌, subst, unwrap_or, OnOk, IfSome}
 use Rattle.reflect_message.specs.Lists.{items_held, list_items, Lengthens}
-use Rattle.reflect_message.specs.declared.value.Value.{Value}
+use Rattle.reflect_message.specs.Names.{Value}
 
 -- where a list is made if nothing stood there, it has the values that stood there
 pub items_of_slot : (held : Option Value) (empty slot : Value) → slot ≡ unwrap_or held empty → items_held (Some empty) ≡ Some [] → items_held (Some slot) ≡ items_held held

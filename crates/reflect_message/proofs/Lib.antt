@@ -1,4 +1,5 @@
 pub mod Alike
+pub mod Blocks
 pub mod Choosing
 pub mod Copying
 pub mod Defaulting

@@ -9,8 +9,7 @@ use Rattle.reflect_entries.specs.Members.{first_member_of}
 use Rattle.reflect_message.specs.Declares.{Owns}
 use Rattle.reflect_message.specs.Held.{fields_of, choices_of, extensions_of, unknown_of, UpdatesField}
 use Rattle.reflect_message.specs.Oneofs.{AreChosen, IsExclusive, MakesRoom, Changes, Chooses, SetsField}
-use Rattle.reflect_message.specs.declared.message.DynamicMessage.{DynamicMessage}
-use Rattle.reflect_message.specs.declared.value.Value.{Value}
+use Rattle.reflect_message.specs.Names.{DynamicMessage, Value}
 use Rattle.reflect_message.proofs.Choosing.{room_exclusive, chosen_next, siblings_unset, other_stays}
 
 -- where a field is unset

@@ -3,7 +3,7 @@ use Rattle.std.proofs.Common.{◌≡◌, Bool, true, false, true≢false, cond, 
 use Rattle.std.specs.Option.{IsSome}
 use Rattle.reflect_tables.specs.Types.{PoolType, FieldType}
 use Rattle.reflect_message.specs.Present.{held_if_set, is_held}
-use Rattle.reflect_message.specs.declared.value.Value.{Value}
+use Rattle.reflect_message.specs.Names.{Value}
 
 -- what is taken is what was held
 pub as_held : (taken held : Option Value) → taken ≡ held → IfSome taken (λ v. held ≡ Some v)

@@ -20,12 +20,10 @@ use Rattle.reflect_entries.specs.Pairs.{on_value}
 use Rattle.reflect_entries.specs.Sets.{up_to, above}
 use Rattle.reflect_entries.specs.Undeclared.{undeclared}
 use Rattle.reflect_message.specs.Known.{entry_field, known_field, known_extension}
-use Rattle.reflect_message.specs.declared.message.DynamicMessage.{DynamicMessage}
-use Rattle.reflect_message.specs.declared.parts.Held.{Held}
-use Rattle.reflect_message.specs.declared.parts.Held.TheFolds.{fold-Held, fold-Value}
-use Rattle.reflect_message.specs.declared.parts.Held.TheOpen.{Held-F, Parts-F, Value-F, DynamicMessage-F}
-use Rattle.reflect_message.specs.declared.parts.Parts.{Parts}
-use Rattle.reflect_message.specs.declared.value.Value.{Value}
+use Rattle.reflect_message.specs.Names.{DynamicMessage, Held, Parts, Value}
+use Rattle.reflect_message.specs.declared.parts.HeldOf.TheFolds.{fold-HeldOf, fold-ValueOf}
+use Rattle.reflect_message.specs.declared.parts.HeldOf.TheOpen.{HeldOf-F, PartsOf-F, ValueOf-F, MessageOf-F}
+use Rattle.reflect_pool.specs.declared.message.MessageDescriptor.{MessageDescriptor}
 
 -- what a single value is written as in a field of the kind, none where it does not suit it
 abbrev pub payload_in : KindType → Single → Option Payload
@@ -159,40 +157,41 @@ content pool i fields extensions records = flat_map (declared_bytes pool i) fiel
     ++ others_down pool i (reverse extensions) records
 
 -- one level of a value, of a message, of what it holds and of its parts
-abbrev pub value_step : Value-F (PoolType → ℕ → List ℕ) Form (List ℕ) (PoolType → ℕ → List ℕ) → Form
-value_step (Value-F.Bool b) = single_form (truth b)
-value_step (Value-F.I32 z) = single_form (int32 z)
-value_step (Value-F.I64 z) = single_form (int64 z)
-value_step (Value-F.U32 n) = single_form (uint32 n)
-value_step (Value-F.U64 n) = single_form (uint64 n)
-value_step (Value-F.String t) = single_form (text (string_bytes t))
-value_step (Value-F.Bytes b) = single_form (blob b.items)
-value_step (Value-F.EnumNumber z) = single_form (enumerated z)
-value_step (Value-F.Message m) = message_form m
-value_step (Value-F.List vs) = list_form vs.items
-value_step (Value-F.Map es) = map_form es.entries
+abbrev pub value_step : ValueOf-F MessageDescriptor (PoolType → ℕ → List ℕ) Form (List ℕ)
+    (PoolType → ℕ → List ℕ) → Form
+value_step (ValueOf-F.Bool b) = single_form (truth b)
+value_step (ValueOf-F.I32 z) = single_form (int32 z)
+value_step (ValueOf-F.I64 z) = single_form (int64 z)
+value_step (ValueOf-F.U32 n) = single_form (uint32 n)
+value_step (ValueOf-F.U64 n) = single_form (uint64 n)
+value_step (ValueOf-F.String t) = single_form (text (string_bytes t))
+value_step (ValueOf-F.Bytes b) = single_form (blob b.items)
+value_step (ValueOf-F.EnumNumber z) = single_form (enumerated z)
+value_step (ValueOf-F.Message m) = message_form m
+value_step (ValueOf-F.List vs) = list_form vs.items
+value_step (ValueOf-F.Map es) = map_form es.entries
 
-abbrev pub message_step : DynamicMessage-F (PoolType → ℕ → List ℕ) Form (List ℕ)
+abbrev pub message_step : MessageOf-F MessageDescriptor (PoolType → ℕ → List ℕ) Form (List ℕ)
     (PoolType → ℕ → List ℕ) → List ℕ
 message_step m = m.held m.descriptor.pool.now m.descriptor.index
 
-abbrev pub held_step : Held-F (PoolType → ℕ → List ℕ) Form (List ℕ) (PoolType → ℕ → List ℕ)
-    → PoolType → ℕ → List ℕ
-held_step Held-F.Nothing = λ pool i. []
-held_step (Held-F.Block b) = b.value
+abbrev pub held_step : HeldOf-F MessageDescriptor (PoolType → ℕ → List ℕ) Form (List ℕ)
+    (PoolType → ℕ → List ℕ) → PoolType → ℕ → List ℕ
+held_step HeldOf-F.Nothing = λ pool i. []
+held_step (HeldOf-F.Block b) = b.value
 
-abbrev pub parts_step : Parts-F (PoolType → ℕ → List ℕ) Form (List ℕ) (PoolType → ℕ → List ℕ)
-    → PoolType → ℕ → List ℕ
+abbrev pub parts_step : PartsOf-F MessageDescriptor (PoolType → ℕ → List ℕ) Form (List ℕ)
+    (PoolType → ℕ → List ℕ) → PoolType → ℕ → List ℕ
 parts_step p = λ pool i. content pool i p.fields p.extensions (undeclared p.unknown)
 
 -- how a value is written, at each depth
 abbrev pub form_of : Value → Form
-form_of = fold-Value (PoolType → ℕ → List ℕ) Form (List ℕ) (PoolType → ℕ → List ℕ) held_step
-    value_step message_step parts_step
+form_of = fold-ValueOf MessageDescriptor (PoolType → ℕ → List ℕ) Form (List ℕ)
+    (PoolType → ℕ → List ℕ) held_step value_step message_step parts_step
 
 abbrev pub held_bytes : Held → PoolType → ℕ → List ℕ
-held_bytes = fold-Held (PoolType → ℕ → List ℕ) Form (List ℕ) (PoolType → ℕ → List ℕ) held_step
-    value_step message_step parts_step
+held_bytes = fold-HeldOf MessageDescriptor (PoolType → ℕ → List ℕ) Form (List ℕ)
+    (PoolType → ℕ → List ℕ) held_step value_step message_step parts_step
 
 -- the records of a message
 abbrev pub message_bytes : DynamicMessage → List ℕ

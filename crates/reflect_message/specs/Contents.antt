@@ -3,9 +3,7 @@ use Rattle.std.specs.Prelude.{ℕ, List, []}
 use Rattle.reflect_wire.specs.Records.{Payload}
 use Rattle.reflect_entries.specs.Undeclared.{undeclared}
 use Rattle.reflect_message.specs.Held.{fields_of, choices_of, extensions_of, unknown_of}
-use Rattle.reflect_message.specs.declared.message.DynamicMessage.{DynamicMessage}
-use Rattle.reflect_message.specs.declared.parts.Parts.{Parts}
-use Rattle.reflect_message.specs.declared.value.Value.{Value}
+use Rattle.reflect_message.specs.Names.{DynamicMessage, Parts, Value}
 
 pub record Content : Type 0 where
   pub fields : List (ℕ × Value)

@@ -12,8 +12,7 @@ use Rattle.reflect_message.specs.Maps.{map_entries}
 use Rattle.reflect_message.specs.Messages.{IsStart, message_in}
 use Rattle.reflect_message.specs.KindTypes.{IsScalarType, IsMessageType}
 use Rattle.reflect_message.specs.Singles.{single}
-use Rattle.reflect_message.specs.declared.message.DynamicMessage.{DynamicMessage}
-use Rattle.reflect_message.specs.declared.value.Value.{Value}
+use Rattle.reflect_message.specs.Names.{DynamicMessage, Value}
 
 -- of one value, what its declaration or its kind says, of a message one of the type in which
 -- nothing is set

@@ -1,3 +1,4 @@
+pub mod Again
 pub mod Bytes
 pub mod Contents
 pub mod Copies
@@ -6,10 +7,12 @@ pub mod Defaults
 pub mod Held
 pub mod KindTypes
 pub mod Known
+pub mod Lent
 pub mod Lists
 pub mod MapKeys
 pub mod Maps
 pub mod Messages
+pub mod Names
 pub mod Oneofs
 pub mod Present
 pub mod Shown

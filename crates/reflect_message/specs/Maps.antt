@@ -5,24 +5,25 @@ use Rattle.std.specs.declared.cmp.Ordering.{Ordering}
 use Rattle.reflect_scalar.specs.Keys.{key_view}
 use Rattle.reflect_scalar.specs.contracts.map_key.MapKeyOrd.TheImpl.{ghosts}
 use Rattle.reflect_scalar.specs.declared.map_key.MapKey.{MapKey}
-use Rattle.reflect_message.specs.declared.value.Value.{Value}
-use Rattle.reflect_message.specs.declared.parts.Held.TheOpen.{Value-F}
-use Rattle.reflect_message.specs.declared.parts.Held.TheViews.{out-Value}
+use Rattle.reflect_message.specs.Names.{Value}
+use Rattle.reflect_message.specs.declared.parts.HeldOf.TheOpen.{ValueOf-F}
+use Rattle.reflect_message.specs.declared.parts.HeldOf.TheViews.{out-ValueOf}
+use Rattle.reflect_pool.specs.declared.message.MessageDescriptor.{MessageDescriptor}
 
 -- the entries of a map, by ascending key
 abbrev pub map_entries : Value → Option (List (MapKey × Value))
-map_entries v = elim (out-Value v) [
-  | Value-F.Bool b ↦ None
-  | Value-F.I32 z ↦ None
-  | Value-F.I64 z ↦ None
-  | Value-F.U32 n ↦ None
-  | Value-F.U64 n ↦ None
-  | Value-F.String t ↦ None
-  | Value-F.Bytes b ↦ None
-  | Value-F.EnumNumber z ↦ None
-  | Value-F.Message m ↦ None
-  | Value-F.List vs ↦ None
-  | Value-F.Map es ↦ Some es.entries
+map_entries v = elim (out-ValueOf MessageDescriptor v) [
+  | ValueOf-F.Bool b ↦ None
+  | ValueOf-F.I32 z ↦ None
+  | ValueOf-F.I64 z ↦ None
+  | ValueOf-F.U32 n ↦ None
+  | ValueOf-F.U64 n ↦ None
+  | ValueOf-F.String t ↦ None
+  | ValueOf-F.Bytes b ↦ None
+  | ValueOf-F.EnumNumber z ↦ None
+  | ValueOf-F.Message m ↦ None
+  | ValueOf-F.List vs ↦ None
+  | ValueOf-F.Map es ↦ Some es.entries
 ]
 
 -- where nothing stands there are none

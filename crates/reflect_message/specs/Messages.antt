@@ -4,25 +4,25 @@ use Rattle.reflect_tables.specs.Types.{PoolType, KindType}
 use Rattle.reflect_pool.specs.Kinds.{IsKind}
 use Rattle.reflect_pool.specs.declared.kind.Kind.TheVariants as kinds
 use Rattle.reflect_message.specs.Contents.{content_of, nothing}
-use Rattle.reflect_message.specs.declared.message.DynamicMessage.{DynamicMessage}
-use Rattle.reflect_message.specs.declared.value.Value.{Value}
-use Rattle.reflect_message.specs.declared.parts.Held.TheOpen.{Value-F}
-use Rattle.reflect_message.specs.declared.parts.Held.TheViews.{out-Value}
+use Rattle.reflect_message.specs.Names.{DynamicMessage, Value}
+use Rattle.reflect_message.specs.declared.parts.HeldOf.TheOpen.{ValueOf-F}
+use Rattle.reflect_message.specs.declared.parts.HeldOf.TheViews.{out-ValueOf}
+use Rattle.reflect_pool.specs.declared.message.MessageDescriptor.{MessageDescriptor}
 
 -- the message that a value is
 abbrev pub message_in : Value → Option DynamicMessage
-message_in v = elim (out-Value v) [
-  | Value-F.Bool b ↦ None
-  | Value-F.I32 z ↦ None
-  | Value-F.I64 z ↦ None
-  | Value-F.U32 n ↦ None
-  | Value-F.U64 n ↦ None
-  | Value-F.String t ↦ None
-  | Value-F.Bytes b ↦ None
-  | Value-F.EnumNumber z ↦ None
-  | Value-F.Message m ↦ Some m
-  | Value-F.List vs ↦ None
-  | Value-F.Map es ↦ None
+message_in v = elim (out-ValueOf MessageDescriptor v) [
+  | ValueOf-F.Bool b ↦ None
+  | ValueOf-F.I32 z ↦ None
+  | ValueOf-F.I64 z ↦ None
+  | ValueOf-F.U32 n ↦ None
+  | ValueOf-F.U64 n ↦ None
+  | ValueOf-F.String t ↦ None
+  | ValueOf-F.Bytes b ↦ None
+  | ValueOf-F.EnumNumber z ↦ None
+  | ValueOf-F.Message m ↦ Some m
+  | ValueOf-F.List vs ↦ None
+  | ValueOf-F.Map es ↦ None
 ]
 
 -- the message that is held

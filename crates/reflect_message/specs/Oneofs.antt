@@ -2,15 +2,14 @@
 -- first member.
 use Rattle.std.specs.Prelude.{◌≡◌, ◌≢◌, ◌⊎◌, ℕ, List, Option, None, Some}
 use Rattle.std.specs.Option.{IsSome, option_and_then}
-use Rattle.reflect_entries.specs.Entries.{value_at}
+use Rattle.reflect_entries.specs.Entries.{IsAscending, value_at}
 use Rattle.reflect_entries.specs.Members.{other_than, first_member_of}
 use Rattle.reflect_pool.specs.FieldsLeft.{field_type}
 use Rattle.reflect_pool.specs.declared.message.MessageDescriptor.{MessageDescriptor}
 use Rattle.reflect_pool.specs.declared.field.FieldDescriptor.{FieldDescriptor}
 use Rattle.reflect_message.specs.Declares.{Owns}
 use Rattle.reflect_message.specs.Held.{fields_of, choices_of, extensions_of, unknown_of}
-use Rattle.reflect_message.specs.declared.message.DynamicMessage.{DynamicMessage}
-use Rattle.reflect_message.specs.declared.value.Value.{Value}
+use Rattle.reflect_message.specs.Names.{DynamicMessage, Value}
 
 -- the number is that of another member of the field's oneof
 abbrev pub IsSibling : MessageDescriptor → FieldDescriptor → ℕ → Type 0
@@ -72,5 +71,20 @@ pub record SetsField (old new : DynamicMessage) (f : FieldDescriptor) (v : Value
       → value_at (fields_of new) n ≡ None
   pub others : Owns old.descriptor f → IsExclusive old → (n : ℕ) → n ≢ (field_type f).number
       → (IsSibling old.descriptor f n → ⊥) → value_at (fields_of new) n ≡ value_at (fields_of old) n
+  pub extensions : extensions_of new ≡ extensions_of old
+  pub unknown : unknown_of new ≡ unknown_of old
+
+-- so it is set, its type stays, and of each oneof still one member at most holds anything
+pub record PutsField (old new : DynamicMessage) (f : FieldDescriptor) (v : Value) : Type 0 where
+  pub same_type : new.descriptor ≡ old.descriptor
+  pub set : SetsField old new f v
+  pub ascending : IsAscending (fields_of new)
+  pub exclusive : Owns old.descriptor f → IsExclusive old → IsExclusive new
+
+-- what the message holds stays, where room may have been made for the field's choice
+pub record LeavesHeld (old new : DynamicMessage) (f : FieldDescriptor) : Type 0 where
+  pub same_type : new.descriptor ≡ old.descriptor
+  pub fields : fields_of new ≡ fields_of old
+  pub exclusive : Owns old.descriptor f → IsExclusive old → IsExclusive new
   pub extensions : extensions_of new ≡ extensions_of old
   pub unknown : unknown_of new ≡ unknown_of old

@@ -2,7 +2,7 @@
 use Rattle.std.specs.Prelude.{Bool, false, cond, Option, None, Some}
 use Rattle.reflect_tables.specs.Types.{PoolType, FieldType}
 use Rattle.reflect_message.specs.Bytes.{form_of, is_set}
-use Rattle.reflect_message.specs.declared.value.Value.{Value}
+use Rattle.reflect_message.specs.Names.{Value}
 
 -- a field that holds something is set: one with presence always, another where it holds no default
 abbrev pub is_held : PoolType → FieldType → Option Value → Bool

@@ -4,7 +4,7 @@ use Rattle.reflect_tables.specs.Types.{PoolType, FieldType}
 use Rattle.reflect_message.specs.Defaults.{IsDefault}
 use Rattle.reflect_message.specs.declared.field_ref.FieldRef.{FieldRef}
 use Rattle.reflect_message.specs.declared.field_ref.FieldRef.TheVariants.{Borrowed, Owned}
-use Rattle.reflect_message.specs.declared.value.Value.{Value}
+use Rattle.reflect_message.specs.Names.{Value}
 
 -- the value that is lent
 abbrev pub shown : FieldRef → Value

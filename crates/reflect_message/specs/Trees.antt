@@ -7,11 +7,9 @@ use Rattle.reflect_wire.specs.Records.{Payload}
 use Rattle.reflect_scalar.specs.Keys.{key_view}
 use Rattle.reflect_scalar.specs.Singles.{Single, truth, int32, int64, uint32, uint64, text, blob, enumerated}
 use Rattle.reflect_scalar.specs.declared.map_key.MapKey.{MapKey}
-use Rattle.reflect_message.specs.declared.parts.Held.{Held}
-use Rattle.reflect_message.specs.declared.parts.Held.TheFolds.{fold-Held, fold-Value}
-use Rattle.reflect_message.specs.declared.parts.Held.TheOpen.{Held-F, Parts-F, Value-F, DynamicMessage-F}
-use Rattle.reflect_message.specs.declared.parts.Parts.{Parts}
-use Rattle.reflect_message.specs.declared.value.Value.{Value}
+use Rattle.reflect_message.specs.Names.{Held, Parts, Value}
+use Rattle.reflect_message.specs.declared.parts.HeldOf.TheFolds.{fold-HeldOf, fold-ValueOf}
+use Rattle.reflect_message.specs.declared.parts.HeldOf.TheOpen.{HeldOf-F, PartsOf-F, ValueOf-F, MessageOf-F}
 
 -- a single value, a message by its type and what it holds, a list, or a map by its entries; a
 -- message holds values under numbers, the chosen members of oneofs, and records of undeclared
@@ -59,42 +57,47 @@ abbrev pub nothing_held : MessageTree
 nothing_held = parts (λ n. empty) [] (λ n. empty) []
 
 -- one level of what a message holds
-abbrev pub held_step : Held-F MessageTree ValueTree ValueTree MessageTree → MessageTree
-held_step Held-F.Nothing = nothing_held
-held_step (Held-F.Block b) = b.value
+abbrev pub held_step : HeldOf-F MessageDescriptor MessageTree ValueTree ValueTree MessageTree
+    → MessageTree
+held_step HeldOf-F.Nothing = nothing_held
+held_step (HeldOf-F.Block b) = b.value
 
 -- one level of its parts
-abbrev pub parts_step : Parts-F MessageTree ValueTree ValueTree MessageTree → MessageTree
+abbrev pub parts_step : PartsOf-F MessageDescriptor MessageTree ValueTree ValueTree MessageTree
+    → MessageTree
 parts_step p = parts (λ n. place_of (value_at p.fields n)) p.choices.members
     (λ n. place_of (value_at p.extensions n)) (undeclared p.unknown)
 
 -- one level of a value
-abbrev pub value_step : Value-F MessageTree ValueTree ValueTree MessageTree → ValueTree
-value_step (Value-F.Bool b) = leaf (truth b)
-value_step (Value-F.I32 z) = leaf (int32 z)
-value_step (Value-F.I64 z) = leaf (int64 z)
-value_step (Value-F.U32 n) = leaf (uint32 n)
-value_step (Value-F.U64 n) = leaf (uint64 n)
-value_step (Value-F.String t) = leaf (text (string_bytes t))
-value_step (Value-F.Bytes b) = leaf (blob b.items)
-value_step (Value-F.EnumNumber z) = leaf (enumerated z)
-value_step (Value-F.Message m) = m
-value_step (Value-F.List vs) = row (row_of vs.items)
-value_step (Value-F.Map es) = dictionary (dictionary_of (map (λ e. (key_view e.0, e.1)) es.entries))
+abbrev pub value_step : ValueOf-F MessageDescriptor MessageTree ValueTree ValueTree MessageTree
+    → ValueTree
+value_step (ValueOf-F.Bool b) = leaf (truth b)
+value_step (ValueOf-F.I32 z) = leaf (int32 z)
+value_step (ValueOf-F.I64 z) = leaf (int64 z)
+value_step (ValueOf-F.U32 n) = leaf (uint32 n)
+value_step (ValueOf-F.U64 n) = leaf (uint64 n)
+value_step (ValueOf-F.String t) = leaf (text (string_bytes t))
+value_step (ValueOf-F.Bytes b) = leaf (blob b.items)
+value_step (ValueOf-F.EnumNumber z) = leaf (enumerated z)
+value_step (ValueOf-F.Message m) = m
+value_step (ValueOf-F.List vs) = row (row_of vs.items)
+value_step (ValueOf-F.Map es) = dictionary
+    (dictionary_of (map (λ e. (key_view e.0, e.1)) es.entries))
 
 -- one level of a message
-abbrev pub message_step : DynamicMessage-F MessageTree ValueTree ValueTree MessageTree → ValueTree
+abbrev pub message_step : MessageOf-F MessageDescriptor MessageTree ValueTree ValueTree MessageTree
+    → ValueTree
 message_step m = branch m.descriptor m.held
 
 -- a value, at each depth
 abbrev pub tree : Value → ValueTree
-tree = fold-Value MessageTree ValueTree ValueTree MessageTree held_step value_step
-    message_step parts_step
+tree = fold-ValueOf MessageDescriptor MessageTree ValueTree ValueTree MessageTree held_step
+    value_step message_step parts_step
 
 -- what a message holds, at each depth
 abbrev pub held_tree : Held → MessageTree
-held_tree = fold-Held MessageTree ValueTree ValueTree MessageTree held_step value_step
-    message_step parts_step
+held_tree = fold-HeldOf MessageDescriptor MessageTree ValueTree ValueTree MessageTree held_step
+    value_step message_step parts_step
 
 -- what stands under each number
 abbrev pub places : List (ℕ × Value) → ℕ → Place

@@ -4,12 +4,11 @@ ghost use Rattle.std.specs.Prelude.{◌≡◌, true, None, Some, IsTrue, IsSome,
 ghost use Rattle.std.specs.Option.{unwrap_or};
 ghost use Rattle.reflect_scalar.specs.FieldTypes.{extension_pool, extension_type};
 ghost use Rattle.reflect_entries.specs.Entries.{value_at};
-ghost use Rattle.reflect_message.specs.Held.{extensions_of, fields_of, unknown_of, UpdatesExtension};
+ghost use Rattle.reflect_message.specs.Held.{choices_of, extensions_of, fields_of, unknown_of, UpdatesExtension};
 ghost use Rattle.reflect_message.specs.Present.{held_if_set, is_held};
-ghost use Rattle.reflect_message.specs.Shown.{Shows, IsHeldOrDefault};
+ghost use Rattle.reflect_message.specs.Shown.{Shows};
 
 use crate::content;
-use crate::defaults::default_of;
 use crate::field_ref::FieldRef;
 use crate::message::DynamicMessage;
 use crate::message_parts::MessageParts;
@@ -46,27 +45,9 @@ impl<'p> DynamicMessage<'p> {
         )
     }
 
-    /// What the extension, one of the message's type, holds, to be changed. One that is not set
-    /// gets its default. A refusal leaves the message.
-    pub fn get_extension_mut(
-        &mut self,
-        extension: &ExtensionDescriptor<'p>,
-    ) -> Result<&mut Value<'p>, AllocError>
-        ensures { IfOk result (λ r. IsHeldOrDefault (extension_pool extension.now)
-            (extension_type extension.now)
-            (value_at (extensions_of self.old) (extension_type extension.now).number) r.now) }
-    {
-        let default = default_of(self.allocator(), extension)?;
-        self.fill_extension(extension, default)?;
-        match self.extension_value_mut(extension.number()) {
-            Some(value) => Ok(value),
-            None => unreachable!(),
-        }
-    }
-
     /// Puts the default where the extension, one of the message's type, holds nothing: what
     /// `get_extension_mut` does before it lends the value. A refusal leaves the message.
-    fn fill_extension(
+    pub(crate) fn fill_extension(
         &mut self,
         extension: &ExtensionDescriptor<'p>,
         default: Value<'p>,
@@ -78,6 +59,7 @@ impl<'p> DynamicMessage<'p> {
             (extension_type extension.now).number) default.entry))) }
         ensures err { OnErr result (extensions_of self.new ≡ extensions_of self.old) }
         ensures fields { fields_of self.new ≡ fields_of self.old }
+        ensures choices { choices_of self.new ≡ choices_of self.old }
         ensures unknown { unknown_of self.new ≡ unknown_of self.old }
     {
         let mut parts = self.take_block()?;

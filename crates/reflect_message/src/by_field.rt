@@ -9,10 +9,9 @@ ghost use Rattle.reflect_message.specs.Declares.{Declares, Owns};
 ghost use Rattle.reflect_message.specs.Held.{fields_of, choices_of, extensions_of, unknown_of, UpdatesField};
 ghost use Rattle.reflect_message.specs.Oneofs.{IsExclusive, SetsField};
 ghost use Rattle.reflect_message.specs.Present.{held_if_set, is_held};
-ghost use Rattle.reflect_message.specs.Shown.{Shows, IsHeldOrDefault};
+ghost use Rattle.reflect_message.specs.Shown.{Shows};
 
 use crate::content;
-use crate::defaults::default_of;
 use crate::field_ref::FieldRef;
 use crate::message::DynamicMessage;
 use crate::message_parts::MessageParts;
@@ -44,29 +43,10 @@ impl<'p> DynamicMessage<'p> {
         content::lend(self.allocator(), self.field_value(field.number()), field)
     }
 
-    /// What the field, one of the message's type, holds, to be changed. A field that is not set
-    /// gets its default, and the other members of its oneof are unset. A refusal leaves the
-    /// message.
-    pub fn get_field_mut(
-        &mut self,
-        field: &FieldDescriptor<'p>,
-    ) -> Result<&mut Value<'p>, AllocError>
-        requires { Declares self.old.descriptor field.now }
-        ensures { IfOk result (λ r. IsHeldOrDefault (field_pool field.now) (field_type field.now)
-            (value_at (fields_of self.old) (field_type field.now).number) r.now) }
-    {
-        let default = default_of(self.allocator(), field)?;
-        self.fill_field(field, default)?;
-        match self.field_value_mut(field.number()) {
-            Some(value) => Ok(value),
-            None => unreachable!(),
-        }
-    }
-
     /// Puts the default where the field, one of the message's type, holds nothing, and unsets the
     /// other members of its oneof: what `get_field_mut` does before it lends the value. A refusal
     /// leaves the message.
-    fn fill_field(
+    pub(crate) fn fill_field(
         &mut self,
         field: &FieldDescriptor<'p>,
         default: Value<'p>,
@@ -75,6 +55,7 @@ impl<'p> DynamicMessage<'p> {
         ensures ok { OnOk result (SetsField self.old self.new field.now
             (unwrap_or (value_at (fields_of self.old) (field_type field.now).number)
             default.entry)) }
+        ensures ascending { OnOk result (IsAscending (fields_of self.new)) }
         ensures exclusive { Owns self.old.descriptor field.now → IsExclusive self.old
             → IsExclusive self.new }
         ensures err { OnErr result (fields_of self.new ≡ fields_of self.old) }

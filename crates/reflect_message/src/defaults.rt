@@ -8,6 +8,7 @@ ghost use Rattle.reflect_scalar.specs.Singles.{scalar_view};
 ghost use Rattle.reflect_message.specs.Bytes.{form_of, is_default, is_set};
 ghost use Rattle.reflect_message.specs.Defaults.{IsDefault, IsKindDefault};
 ghost use Rattle.reflect_message.specs.Messages.{IsStart, message_in};
+ghost use Rattle.reflect_message.specs.Names.{DynamicMessage};
 ghost use Rattle.reflect_message.specs.KindTypes.{IsScalarType, IsMessageType};
 ghost use Rattle.reflect_message.specs.Singles.{single};
 

@@ -1,6 +1,6 @@
 ghost use Rattle.std.specs.Prelude.{◌≡◌, ◌↔◌, [], IfOk, IfSome, IfNone, IsTrue};
-ghost use Rattle.std.specs.Option.{option_copied, option_copied_mut};
-ghost use Rattle.reflect_entries.specs.Entries.{value_at};
+ghost use Rattle.std.specs.Option.{option_copied};
+ghost use Rattle.reflect_entries.specs.Entries.{IsAscending, value_at};
 ghost use Rattle.reflect_entries.specs.Undeclared.{undeclared};
 ghost use Rattle.reflect_message.specs.Contents.{content_of, nothing};
 ghost use Rattle.reflect_message.specs.Copies.{AreCopies};
@@ -9,21 +9,24 @@ ghost use Rattle.reflect_message.specs.Held.{fields_of, choices_of, extensions_o
 ghost use Rattle.reflect_message.specs.Oneofs.{IsExclusive};
 ghost use Rattle.reflect_message.specs.Trees.{held_tree};
 
-use crate::parts::{Held, Parts};
+use crate::parts::{Held, HeldOf, Parts};
 use crate::value::Value;
 use reflect_pool::{ExtensionDescriptor, FieldDescriptor, MessageDescriptor};
 use reflect_scalar::holds_floats;
 use std::alloc::{AllocError, Global};
 use std::mem;
 
-/// A message of a type that is known at run time.
+/// A message of whose type a `D` tells.
 #[derive(Drop)]
 #[cycle(value)]
-pub struct DynamicMessage<'p> {
-    pub(crate) descriptor: MessageDescriptor<'p>,
+pub struct MessageOf<D> {
+    pub(crate) descriptor: D,
     pub(crate) alloc: Global,
-    pub(crate) held: Held<'p>,
+    pub(crate) held: HeldOf<D>,
 }
+
+/// A message of a type that is known at run time.
+pub type DynamicMessage<'p> = MessageOf<MessageDescriptor<'p>>;
 
 impl<'p> DynamicMessage<'p> {
     /// A message in which no field is set. Takes no memory.
@@ -66,6 +69,8 @@ impl<'p> DynamicMessage<'p> {
         ensures content { IfOk result (λ m. held_tree m.held ≡ held_tree self.now.held) }
         ensures extensions { IfOk result
             (λ m. AreCopies (extensions_of self.now) (extensions_of m)) }
+        ensures ascending { IfOk result (λ m. IsAscending (fields_of m)
+            × IsAscending (extensions_of m)) }
         ensures unknown { IfOk result (λ m. unknown_of m ≡ unknown_of self.now) }
     {
         Ok(DynamicMessage {
@@ -100,32 +105,12 @@ impl<'p> DynamicMessage<'p> {
         }
     }
 
-    /// What stands under the number of a declared field, to be changed.
-    pub(crate) fn field_value_mut(&mut self, number: u32) -> Option<&mut Value<'p>>
-        ensures { option_copied_mut result ≡ value_at (fields_of self.old) number }
-    {
-        match &mut self.held {
-            Held::Block(parts) => parts.fields.get_mut(number),
-            Held::Nothing => None,
-        }
-    }
-
     /// What stands under the number of an extension.
     pub(crate) fn extension_value(&self, number: u32) -> Option<&Value<'p>>
         ensures { option_copied result ≡ value_at (extensions_of self.now) number }
     {
         match &self.held {
             Held::Block(parts) => parts.extensions.get(number),
-            Held::Nothing => None,
-        }
-    }
-
-    /// What stands under the number of an extension, to be changed.
-    pub(crate) fn extension_value_mut(&mut self, number: u32) -> Option<&mut Value<'p>>
-        ensures { option_copied_mut result ≡ value_at (extensions_of self.old) number }
-    {
-        match &mut self.held {
-            Held::Block(parts) => parts.extensions.get_mut(number),
             Held::Nothing => None,
         }
     }

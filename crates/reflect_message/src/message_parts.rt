@@ -10,7 +10,7 @@ use std::alloc::{AllocError, Global};
 
 /// A message whose parts can be taken out and put back.
 pub trait MessageParts<'p> {
-    ghost use Rattle.reflect_message.specs.declared.message.DynamicMessage.{DynamicMessage};
+    ghost use Rattle.reflect_message.specs.Names.{DynamicMessage};
 
     /// The message that it is.
     ghost message: { Self → DynamicMessage };

@@ -11,19 +11,22 @@ ghost use Rattle.reflect_pool.specs.FieldsLeft.{field_type};
 ghost use Rattle.reflect_message.specs.Oneofs.{MakesRoom, Changes, Chooses, Unsets};
 ghost use Rattle.reflect_message.specs.Trees.{held_tree, parts_tree};
 
-use crate::value::Value;
+use crate::value::{Value, ValueOf};
 use reflect_entries::{Choices, Entries, UnknownRecords};
-use reflect_pool::FieldDescriptor;
+use reflect_pool::{FieldDescriptor, MessageDescriptor};
 use std::alloc::{AllocError, Global};
 
 /// Where a message keeps its parts: in a block of their own, so that a value of a list takes little
 /// room, and none before something is put.
 #[derive(Drop)]
 #[cycle(value)]
-pub enum Held<'p> {
+pub enum HeldOf<D> {
     Nothing,
-    Block(Box<Parts<'p>>),
+    Block(Box<PartsOf<D>>),
 }
+
+/// Where a message of a type of a pool keeps its parts.
+pub type Held<'p> = HeldOf<MessageDescriptor<'p>>;
 
 impl<'p> Held<'p> {
     /// A copy.
@@ -34,6 +37,8 @@ impl<'p> Held<'p> {
         ensures content { IfOk result (λ copy. held_tree copy ≡ held_tree self.now) }
         ensures extensions { IfOk result
             (λ copy. AreCopies (extensions_in self.now) (extensions_in copy)) }
+        ensures ascending { IfOk result (λ copy. IsAscending (fields_in copy)
+            × IsAscending (extensions_in copy)) }
         ensures unknown { IfOk result (λ copy. unknown_in copy ≡ unknown_in self.now) }
     {
         match self {
@@ -43,19 +48,22 @@ impl<'p> Held<'p> {
     }
 }
 
-/// What a message holds.
+/// What a message holds, of whose type a `D` tells.
 #[derive(Drop)]
 #[cycle(value)]
-pub struct Parts<'p> {
+pub struct PartsOf<D> {
     /// What the declared fields hold, by their numbers.
-    pub fields: Entries<Value<'p>>,
+    pub fields: Entries<ValueOf<D>>,
     /// Which members of oneofs may be among these.
     pub choices: Choices,
     /// What the extensions hold, by their numbers.
-    pub extensions: Entries<Value<'p>>,
+    pub extensions: Entries<ValueOf<D>>,
     /// The records of numbers that the type does not declare.
     pub unknown: UnknownRecords,
 }
+
+/// What a message holds.
+pub type Parts<'p> = PartsOf<MessageDescriptor<'p>>;
 
 impl<'p> Parts<'p> {
     /// Nothing is held. Takes no memory.
@@ -80,6 +88,8 @@ impl<'p> Parts<'p> {
         ensures choices { IfOk result (λ copy. copy.choices.members ≡ self.now.choices.members) }
         ensures content { IfOk result (λ copy. parts_tree copy ≡ parts_tree self.now) }
         ensures extensions { IfOk result (λ copy. AreCopies self.now.extensions copy.extensions) }
+        ensures ascending { IfOk result (λ copy. IsAscending copy.fields
+            × IsAscending copy.extensions) }
         ensures unknown { IfOk result (λ copy. undeclared copy.unknown
             ≡ undeclared self.now.unknown) }
     {
@@ -103,6 +113,7 @@ impl<'p> Parts<'p> {
             default.entry)) }
         ensures changes { OnOk result (Changes field.now self.old.choices.members self.old.fields
             self.new.fields) }
+        ensures ascending { OnOk result (IsAscending self.new.fields) }
         ensures chooses { OnOk result (Chooses field.now self.old.choices.members
             self.new.choices.members) }
         ensures err { OnErr result (self.new.fields ≡ self.old.fields) }
@@ -178,7 +189,8 @@ fn entries_clone<'p>(
     alloc: Global,
     entries: &Entries<Value<'p>>,
 ) -> Result<Entries<Value<'p>>, AllocError>
-    ensures { IfOk result (λ copy. AreCopies entries.now copy) }
+    ensures copies { IfOk result (λ copy. AreCopies entries.now copy) }
+    ensures ascending { IfOk result (λ copy. IsAscending copy) }
 {
     let mut copy = Entries::new(alloc);
     copy.reserve(entries.len())?;

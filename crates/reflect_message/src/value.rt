@@ -5,16 +5,19 @@ ghost use Rattle.reflect_message.specs.Maps.{PutsCopy};
 ghost use Rattle.reflect_message.specs.Trees.{entry_tree, tree};
 ghost use Rattle.reflect_message.specs.Singles.{single};
 
-use crate::message::DynamicMessage;
+use crate::message::MessageOf;
+use reflect_pool::MessageDescriptor;
 use reflect_scalar::MapKey;
 use std::alloc::{AllocError, Global};
 use std::collections::BTreeMap;
 use std::default::Emptied;
 
-/// What a field of a message holds.
+/// What a field of a message holds, where a `D` tells the message's type.
+///
+/// It names no lifetime, so that a contract can say what is written through a lent one.
 #[derive(Drop)]
 #[cycle(value)]
-pub enum Value<'p> {
+pub enum ValueOf<D> {
     Bool(bool),
     /// An `int32`, `sint32` or `sfixed32`.
     I32(i32),
@@ -28,12 +31,15 @@ pub enum Value<'p> {
     Bytes(Vec<u8>),
     /// The number of an enum's value, which need not be declared.
     EnumNumber(i32),
-    Message(DynamicMessage<'p>),
+    Message(MessageOf<D>),
     /// What a repeated field holds.
-    List(Vec<Value<'p>>),
+    List(Vec<ValueOf<D>>),
     /// What a map field holds.
-    Map(BTreeMap<MapKey, Value<'p>>),
+    Map(BTreeMap<MapKey, ValueOf<D>>),
 }
+
+/// What a field of a message holds.
+pub type Value<'p> = ValueOf<MessageDescriptor<'p>>;
 
 impl<'p> Value<'p> {
     /// The value as a key of a map, if it can be one.

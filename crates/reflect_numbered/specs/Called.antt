@@ -15,8 +15,7 @@ use Rattle.reflect_message.specs.Oneofs.{SetsField}
 use Rattle.reflect_message.specs.Present.{held_if_set, is_held}
 use Rattle.reflect_message.specs.Shown.{IsHeldOrDefault, Shows}
 use Rattle.reflect_message.specs.declared.field_ref.FieldRef.{FieldRef}
-use Rattle.reflect_message.specs.declared.message.DynamicMessage.{DynamicMessage}
-use Rattle.reflect_message.specs.declared.value.Value.{Value}
+use Rattle.reflect_message.specs.Names.{DynamicMessage, Value}
 
 -- what is asked of a field
 abbrev pub Asked : Type 1

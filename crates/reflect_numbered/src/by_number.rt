@@ -13,7 +13,7 @@ use std::alloc::AllocError;
 
 /// A message whose fields are called by their numbers.
 pub trait FieldsByNumber<'p> {
-    ghost use Rattle.reflect_message.specs.declared.message.DynamicMessage.{DynamicMessage};
+    ghost use Rattle.reflect_message.specs.Names.{DynamicMessage};
 
     /// The message that it is.
     ghost message: { Self → DynamicMessage };

@@ -57,7 +57,7 @@ impl<'p> From<AllocError> for SetFieldError<'p> {
 
 /// A message whose fields are set where the value suits.
 pub trait TrySetField<'p> {
-    ghost use Rattle.reflect_message.specs.declared.message.DynamicMessage.{DynamicMessage};
+    ghost use Rattle.reflect_message.specs.Names.{DynamicMessage};
 
     /// The message that it is.
     ghost message: { Self → DynamicMessage };

@@ -2,7 +2,7 @@
 use Rattle.std.proofs.Common.{◌≡◌, ℕ, Bool, true, false, List, [], ◌∷◌, ◌++◌, map, subst, sym, ap, ap₂, ◌∙◌, refl}
 use Rattle.std.proofs.Output.{writes_in_calls_append, writes_in_calls_nil}
 use Rattle.std.specs.Fmt.{WritesInCalls}
-use Rattle.reflect_message.specs.declared.message.DynamicMessage.{DynamicMessage}
+use Rattle.reflect_message.specs.Names.{DynamicMessage, Value}
 use Rattle.reflect_contents.specs.Walked.{FieldGiven, Holding, of_message}
 use Rattle.text_lines.specs.Pieces.{before_item}
 use Rattle.text_lines.specs.declared.lines.Items.{Items}
@@ -12,7 +12,6 @@ use Rattle.print_parts.specs.Entries.{Entry, field, set_entry, AreDeclared, AreO
 use Rattle.reflect_print.specs.MessageTexts.{IsRowText, no_entries, more_entries, IsEntryText, IsPairText, AreItems, any_behind}
 use Rattle.reflect_print.specs.Named.{Named}
 use Rattle.reflect_print.specs.Written.{IsSpan}
-use Rattle.reflect_message.specs.declared.value.Value.{Value}
 use Rattle.reflect_scalar.specs.declared.map_key.MapKey.{MapKey}
 use Rattle.reflect_print.proofs.Loops.{begun, next_one, all_of}
 

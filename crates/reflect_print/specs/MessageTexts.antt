@@ -10,8 +10,7 @@ use Rattle.reflect_message.specs.Lists.{list_items}
 use Rattle.reflect_message.specs.Maps.{map_entries}
 use Rattle.reflect_message.specs.Messages.{message_in}
 use Rattle.reflect_message.specs.Singles.{single}
-use Rattle.reflect_message.specs.declared.message.DynamicMessage.{DynamicMessage}
-use Rattle.reflect_message.specs.declared.value.Value.{Value}
+use Rattle.reflect_message.specs.Names.{DynamicMessage, Value}
 use Rattle.text_lines.specs.Pieces.{quoted, bracketed, padding, colon, before_element, before_item, in_braces}
 use Rattle.text_lines.specs.UnknownTexts.{IsPayloadText, IsRecordText}
 use Rattle.text_lines.specs.declared.options.FormatOptions.{FormatOptions}

@@ -1,7 +1,7 @@
 -- What the parts of a writer write.
 use Rattle.std.specs.Prelude.{◌≡◌, ◌⊎◌, ℕ, List, Option, None, Some, Result, Ok, Err}
 use Rattle.std.specs.Fmt.{WritesInCalls}
-use Rattle.reflect_message.specs.declared.message.DynamicMessage.{DynamicMessage}
+use Rattle.reflect_message.specs.Names.{DynamicMessage}
 use Rattle.text_lines.specs.Appends.{Appends, UnlessRefused}
 use Rattle.text_lines.specs.declared.error.WriteError.{WriteError}
 use Rattle.text_lines.specs.declared.lines.Items.{Items}

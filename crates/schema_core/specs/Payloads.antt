@@ -6,7 +6,7 @@ use Rattle.reflect_pool.specs.declared.message.MessageDescriptor.{MessageDescrip
 use Rattle.reflect_message.specs.Bytes.{message_bytes}
 use Rattle.reflect_message.specs.Oneofs.{IsExclusive}
 use Rattle.reflect_decode.specs.Spelled.{IsSpelled}
-use Rattle.reflect_message.specs.declared.message.DynamicMessage.{DynamicMessage}
+use Rattle.reflect_message.specs.Names.{DynamicMessage}
 use Rattle.text_lines.specs.Forms.{usual_form}
 use Rattle.text_lines.specs.declared.options.FormatOptions.{FormatOptions}
 use Rattle.reflect_print.specs.MessageTexts.{IsMessageText}

@@ -7,7 +7,7 @@ use Rattle.text_error.specs.declared.error.ParseErrorKind.{ParseErrorKind}
 use Rattle.text_model.specs.Texts.{IsText}
 use Rattle.text_model.specs.Tree.{Fields}
 use Rattle.reflect_pool.specs.declared.message.MessageDescriptor.{MessageDescriptor}
-use Rattle.reflect_message.specs.declared.message.DynamicMessage.{DynamicMessage}
+use Rattle.reflect_message.specs.Names.{DynamicMessage}
 use Rattle.reflect_format.specs.Filled as fields
 use Rattle.reflect_format.specs.Reads as parser
 use Rattle.reflect_format.specs.Unfit as fields_unfit

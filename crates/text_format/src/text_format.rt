@@ -14,7 +14,7 @@ use std::alloc::Global;
 /// Messages as text, in protobuf's text format (protobuf.dev, "Text Format Language
 /// Specification").
 pub trait TextFormat<'p>: Sized {
-    ghost use Rattle.reflect_message.specs.declared.message.DynamicMessage.{DynamicMessage};
+    ghost use Rattle.reflect_message.specs.Names.{DynamicMessage};
 
     /// The message that it is.
     ghost message: { Self → DynamicMessage };

@@ -12,8 +12,7 @@ use Rattle.reflect_pool.specs.Shapes.{holds_list, holds_map, is_repeated}
 use Rattle.reflect_pool.specs.declared.message.MessageDescriptor.{MessageDescriptor}
 use Rattle.reflect_message.specs.Held.{fields_of, choices_of}
 use Rattle.reflect_message.specs.Lists.{items_held}
-use Rattle.reflect_message.specs.declared.message.DynamicMessage.{DynamicMessage}
-use Rattle.reflect_message.specs.declared.value.Value.{Value}
+use Rattle.reflect_message.specs.Names.{DynamicMessage, Value}
 use Rattle.reflect_format.specs.Named.{NamesField, NamesExtension}
 use Rattle.reflect_message.specs.Oneofs.{IsExclusive}
 use Rattle.reflect_format.specs.Steps.{Adds, Frees, held_by}

@@ -23,9 +23,9 @@ use Rattle.reflect_message.specs.Held.{unknown_of}
 use Rattle.reflect_message.specs.KindTypes.{IsMessageType}
 use Rattle.reflect_message.specs.Known.{holds_floats, numbered_field}
 use Rattle.reflect_message.specs.Lists.{items_held}
-use Rattle.reflect_message.specs.declared.message.DynamicMessage.{DynamicMessage}
-use Rattle.reflect_message.specs.declared.value.Value as held
-use Rattle.reflect_message.specs.declared.value.Value.TheVariants as held_values
+use Rattle.reflect_message.specs.Names.{DynamicMessage}
+use Rattle.reflect_message.specs.Names as held
+use Rattle.reflect_message.specs.declared.value.ValueOf.TheVariants as held_values
 use Rattle.reflect_format.specs.Filled.{AreGiven, AreValues, Assigns, Fills, FillsBody, Holds, IsGiven, IsMade, IsScalar, IsValue, Makes, Names, PutsOne}
 use Rattle.reflect_format.specs.Steps.{Ascends, Adds, Puts, SetsNumber, held_by}
 use Rattle.reflect_format.specs.Takes.{holds_many, target_pool, target_type}

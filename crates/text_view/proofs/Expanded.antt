@@ -17,7 +17,7 @@ use Rattle.reflect_message.specs.Declares.{Owns}
 use Rattle.reflect_message.specs.KindTypes.{IsMessageType}
 use Rattle.reflect_message.specs.Known.{numbered_field}
 use Rattle.reflect_message.specs.Oneofs.{IsExclusive}
-use Rattle.reflect_message.specs.declared.message.DynamicMessage.{DynamicMessage}
+use Rattle.reflect_message.specs.Names.{DynamicMessage}
 use Rattle.reflect_message.proofs.Known.{field_found}
 use Rattle.reflect_format.specs.Steps.{SetsNumber}
 use Rattle.reflect_format.specs.declared.target.Target.TheVariants as targets

@@ -9,9 +9,9 @@ use Rattle.reflect_pool.specs.declared.kind.Kind.{Kind}
 use Rattle.reflect_pool.specs.declared.kind.Kind.TheVariants as publics
 use Rattle.reflect_pool.specs.declared.message.MessageDescriptor.{MessageDescriptor}
 use Rattle.reflect_message.specs.Oneofs.{IsExclusive}
-use Rattle.reflect_message.specs.declared.message.DynamicMessage.{DynamicMessage}
-use Rattle.reflect_message.specs.declared.value.Value as held
-use Rattle.reflect_message.specs.declared.value.Value.TheVariants as held_values
+use Rattle.reflect_message.specs.Names.{DynamicMessage}
+use Rattle.reflect_message.specs.Names as held
+use Rattle.reflect_message.specs.declared.value.ValueOf.TheVariants as held_values
 use Rattle.reflect_format.specs.Filled.{AreValues, Fills, IsMade, IsScalar, IsValue, Makes}
 use Rattle.reflect_format.specs.Unfit.{AreUnfitValues, CannotMake, IsUnfitValue, NoMessage, Unfit}
 use Rattle.reflect_format.specs.Kinds.{scalar_given}

@@ -17,9 +17,9 @@ use Rattle.reflect_decode.specs.Refused.{IsKeyKind}
 use Rattle.reflect_message.specs.KindTypes.{IsMessageType}
 use Rattle.reflect_message.specs.MapKeys.{key_of_value}
 use Rattle.reflect_message.specs.Messages.{message_in}
-use Rattle.reflect_message.specs.declared.message.DynamicMessage.{DynamicMessage}
-use Rattle.reflect_message.specs.declared.value.Value.{Value, the_lemmas}
-use Rattle.reflect_message.specs.declared.value.Value.TheVariants as held
+use Rattle.reflect_message.specs.Names.{DynamicMessage, Value}
+use Rattle.reflect_message.specs.declared.value.ValueOf.{the_lemmas}
+use Rattle.reflect_message.specs.declared.value.ValueOf.TheVariants as held
 use Rattle.reflect_format.specs.Filled.{IsScalar}
 use Rattle.reflect_format.specs.Kinds.{names_of, single_of}
 use Rattle.text_model.specs.Scalars.{identifier_in, integer_in, is_false, is_true, scalar_in, string_in}

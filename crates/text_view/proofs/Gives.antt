@@ -20,8 +20,7 @@ use Rattle.reflect_message.specs.KindTypes.{IsScalarType}
 use Rattle.reflect_message.specs.Known.{is_float, known_extension}
 use Rattle.reflect_message.specs.MapKeys.{key_of_value}
 use Rattle.reflect_message.specs.Shown.{IsHeldOrDefault}
-use Rattle.reflect_message.specs.declared.message.DynamicMessage.{DynamicMessage}
-use Rattle.reflect_message.specs.declared.value.Value.{Value}
+use Rattle.reflect_message.specs.Names.{DynamicMessage, Value}
 use Rattle.reflect_format.specs.Kinds.{single_of}
 use Rattle.text_model.specs.Value as reading
 use Rattle.text_model.specs.Value.{entry_of, value_of}

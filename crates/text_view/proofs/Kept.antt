@@ -15,8 +15,7 @@ use Rattle.reflect_message.specs.Lists.{items_held}
 use Rattle.reflect_message.specs.Maps.{entries_held}
 use Rattle.reflect_message.specs.Oneofs.{IsExclusive, IsSibling, AreChosen, Changes, sibling}
 use Rattle.reflect_message.proofs.Choosing.{is_or_not, sibling_is, sibling_of}
-use Rattle.reflect_message.specs.declared.message.DynamicMessage.{DynamicMessage}
-use Rattle.reflect_message.specs.declared.value.Value.{Value}
+use Rattle.reflect_message.specs.Names.{DynamicMessage, Value}
 use Rattle.reflect_format.specs.Steps.{ChangesOnly, Frees, Puts, held_by}
 use Rattle.reflect_format.specs.Takes.{holds_many, target_pool, target_type}
 use Rattle.reflect_format.specs.declared.target.Target.{Target}

@@ -6,7 +6,7 @@ use Rattle.protobuf_model.specs.Types.{Name}
 use Rattle.protobuf_model.specs.Values.{Message, nothing}
 use Rattle.reflect_pool.specs.declared.message.MessageDescriptor.{MessageDescriptor}
 use Rattle.reflect_message.specs.Bytes.{message_bytes}
-use Rattle.reflect_message.specs.declared.message.DynamicMessage.{DynamicMessage}
+use Rattle.reflect_message.specs.Names.{DynamicMessage}
 use Rattle.reflect_format.specs.Filled.{Fills, Makes}
 use Rattle.reflect_format.specs.Unfit.{CannotMake, Unfit}
 use Rattle.text_model.specs.Schemas.{Schema, shape_of}

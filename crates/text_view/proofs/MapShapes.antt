@@ -24,9 +24,8 @@ use Rattle.reflect_message.specs.MapKeys.{key_of_value}
 use Rattle.reflect_message.specs.Maps.{entries_held}
 use Rattle.reflect_message.specs.Messages.{message_in}
 use Rattle.reflect_message.specs.Shown.{IsHeldOrDefault}
-use Rattle.reflect_message.specs.declared.message.DynamicMessage.{DynamicMessage}
-use Rattle.reflect_message.specs.declared.value.Value.{Value}
-use Rattle.reflect_message.specs.declared.value.Value.TheVariants as held
+use Rattle.reflect_message.specs.Names.{DynamicMessage, Value}
+use Rattle.reflect_message.specs.declared.value.ValueOf.TheVariants as held
 use Rattle.message_view.proofs.Entries.{some_default}
 use Rattle.message_view.proofs.Written.{FitsOne, FitsAs}
 use Rattle.message_view.specs.Sound.{IsSound}

@@ -20,8 +20,7 @@ use Rattle.reflect_message.specs.Held.{fields_of, extensions_of}
 use Rattle.reflect_message.specs.Known.{is_float, entry_field}
 use Rattle.reflect_message.specs.Maps.{entries_held}
 use Rattle.reflect_message.specs.Messages.{message_in}
-use Rattle.reflect_message.specs.declared.message.DynamicMessage.{DynamicMessage}
-use Rattle.reflect_message.specs.declared.value.Value.{Value}
+use Rattle.reflect_message.specs.Names.{DynamicMessage, Value}
 use Rattle.reflect_format.specs.Steps.{Adds, held_by}
 use Rattle.reflect_format.specs.Takes.{target_type}
 use Rattle.reflect_format.specs.declared.target.Target.{Target}

@@ -10,8 +10,7 @@ use Rattle.reflect_pool.specs.declared.message.MessageDescriptor.{MessageDescrip
 use Rattle.reflect_scalar.specs.FieldTypes.{extension_type}
 use Rattle.reflect_message.specs.Oneofs.{IsExclusive}
 use Rattle.reflect_message.specs.Present.{is_held}
-use Rattle.reflect_message.specs.declared.message.DynamicMessage.{DynamicMessage}
-use Rattle.reflect_message.specs.declared.value.Value.{Value}
+use Rattle.reflect_message.specs.Names.{DynamicMessage, Value}
 use Rattle.reflect_format.specs.Filled.{HasRival, PutsOne}
 use Rattle.reflect_format.specs.Steps as steps
 use Rattle.reflect_format.specs.Steps.{Puts, held_by}

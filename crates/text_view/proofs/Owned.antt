@@ -9,7 +9,7 @@ use Rattle.reflect_scalar.specs.FieldTypes.{extension_type}
 use Rattle.reflect_message.specs.Declares.{Owns, OwnsExtension}
 use Rattle.reflect_message.specs.Held.{fields_of, extensions_of, unknown_of}
 use Rattle.reflect_message.specs.Known.{holds_floats, known_extension}
-use Rattle.reflect_message.specs.declared.message.DynamicMessage.{DynamicMessage}
+use Rattle.reflect_message.specs.Names.{DynamicMessage}
 use Rattle.reflect_format.specs.Named.{NamesField, NamesExtension}
 use Rattle.reflect_format.specs.Steps.{held_by}
 use Rattle.reflect_format.specs.Takes.{target_pool, target_type}

@@ -14,9 +14,9 @@ use Rattle.reflect_message.specs.Held.{fields_of, extensions_of, unknown_of, Upd
 use Rattle.reflect_message.specs.Known.{known_field, known_extension}
 use Rattle.reflect_message.specs.Messages.{message_in}
 use Rattle.reflect_message.specs.Oneofs.{IsExclusive, IsSibling, SetsField}
-use Rattle.reflect_message.specs.declared.message.DynamicMessage.{DynamicMessage}
-use Rattle.reflect_message.specs.declared.value.Value.{Value, the_lemmas}
-use Rattle.reflect_message.specs.declared.value.Value.TheVariants as held
+use Rattle.reflect_message.specs.Names.{DynamicMessage, Value}
+use Rattle.reflect_message.specs.declared.value.ValueOf.{the_lemmas}
+use Rattle.reflect_message.specs.declared.value.ValueOf.TheVariants as held
 use Rattle.text_model.specs.Value.{assign, settled}
 use Rattle.message_view.specs.Types.{field_at, part_of, values_of, entry_part, name_at, types_of}
 use Rattle.message_view.specs.Views.{held_in, held_either, content_view, contents_view, view}

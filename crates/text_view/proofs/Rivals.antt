@@ -23,7 +23,7 @@ use Rattle.reflect_message.specs.Held.{fields_of}
 use Rattle.reflect_message.specs.Known.{known_field}
 use Rattle.reflect_message.specs.Oneofs.{IsSibling}
 use Rattle.reflect_message.specs.Present.{is_held}
-use Rattle.reflect_message.specs.declared.message.DynamicMessage.{DynamicMessage}
+use Rattle.reflect_message.specs.Names.{DynamicMessage}
 use Rattle.reflect_format.specs.Filled.{HasRival, IsAlone}
 use Rattle.reflect_format.specs.declared.target.Target.TheVariants as targets
 use Rattle.text_model.specs.Value.{is_set, has_rival}

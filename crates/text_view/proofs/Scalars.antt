@@ -15,8 +15,9 @@ use Rattle.reflect_pool.specs.declared.kind.Kind.TheVariants as values
 use Rattle.reflect_scalar.specs.Singles as scalars
 use Rattle.reflect_message.specs.Known.{is_float}
 use Rattle.reflect_message.specs.Singles as singles
-use Rattle.reflect_message.specs.declared.value.Value.{Value, the_lemmas}
-use Rattle.reflect_message.specs.declared.value.Value.TheVariants as held
+use Rattle.reflect_message.specs.Names.{Value}
+use Rattle.reflect_message.specs.declared.value.ValueOf.{the_lemmas}
+use Rattle.reflect_message.specs.declared.value.ValueOf.TheVariants as held
 use Rattle.text_model.specs.Schemas.{Schema}
 use Rattle.text_model.specs.Scalars.{scalar_in}
 use Rattle.text_model.specs.Tree.{ScalarValue}

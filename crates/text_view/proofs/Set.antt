@@ -13,7 +13,7 @@ use Rattle.reflect_message.specs.Maps.{map_entries}
 use Rattle.reflect_message.specs.Known.{is_float}
 use Rattle.reflect_message.specs.Present.{is_held}
 use Rattle.reflect_message.specs.Singles as singles
-use Rattle.reflect_message.specs.declared.value.Value.{Value}
+use Rattle.reflect_message.specs.Names.{Value}
 use Rattle.reflect_format.specs.Kinds.{single_of}
 use Rattle.text_model.specs.Value.{is_set}
 use Rattle.message_view.specs.Singles.{single_view}

@@ -21,9 +21,8 @@ use Rattle.reflect_message.specs.KindTypes.{IsScalarType, IsMessageType}
 use Rattle.reflect_message.specs.Known.{known_field, known_extension}
 use Rattle.reflect_message.specs.Lists.{items_held}
 use Rattle.reflect_message.specs.Messages.{message_in}
-use Rattle.reflect_message.specs.declared.message.DynamicMessage.{DynamicMessage}
-use Rattle.reflect_message.specs.declared.value.Value.{Value}
-use Rattle.reflect_message.specs.declared.value.Value.TheVariants as held
+use Rattle.reflect_message.specs.Names.{DynamicMessage, Value}
+use Rattle.reflect_message.specs.declared.value.ValueOf.TheVariants as held
 use Rattle.reflect_format.specs.Filled.{IsScalar}
 use Rattle.reflect_format.specs.Steps.{held_by}
 use Rattle.reflect_format.specs.Takes.{target_type}

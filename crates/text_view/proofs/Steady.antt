@@ -1,6 +1,6 @@
 -- What steps of filling a message carry along.
 use Rattle.reflect_message.specs.Oneofs.{IsExclusive}
-use Rattle.reflect_message.specs.declared.message.DynamicMessage.{DynamicMessage}
+use Rattle.reflect_message.specs.Names.{DynamicMessage}
 use Rattle.reflect_format.specs.Steps.{StaysExclusive}
 use Rattle.reflect_format.specs.declared.target.Target.{Target}
 use Rattle.reflect_format.specs.declared.target.Target.TheVariants as targets

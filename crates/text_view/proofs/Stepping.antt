@@ -18,8 +18,8 @@ use Rattle.reflect_any.specs.Any.{IsLone}
 use Rattle.reflect_message.specs.Known.{holds_floats, numbered_field}
 use Rattle.reflect_message.specs.Lists.{items_held}
 use Rattle.reflect_message.specs.Oneofs.{IsExclusive}
-use Rattle.reflect_message.specs.declared.message.DynamicMessage.{DynamicMessage}
-use Rattle.reflect_message.specs.declared.value.Value as held
+use Rattle.reflect_message.specs.Names.{DynamicMessage}
+use Rattle.reflect_message.specs.Names as held
 use Rattle.reflect_format.specs.Filled.{AreGiven, Assigns, Expands, FillsBody, IsGiven, IsScalar, Makes, Names, PutsOne}
 use Rattle.reflect_format.specs.Steps.{Adds, held_by}
 use Rattle.reflect_format.specs.Takes.{holds_many, target_pool, target_type}

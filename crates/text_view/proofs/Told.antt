@@ -9,8 +9,7 @@ use Rattle.reflect_tables.specs.Types as types
 use Rattle.reflect_pool.specs.Shapes.{holds_map}
 use Rattle.reflect_pool.specs.declared.message.MessageDescriptor.{MessageDescriptor}
 use Rattle.reflect_message.specs.Oneofs.{IsExclusive}
-use Rattle.reflect_message.specs.declared.message.DynamicMessage.{DynamicMessage}
-use Rattle.reflect_message.specs.declared.value.Value.{Value}
+use Rattle.reflect_message.specs.Names.{DynamicMessage, Value}
 use Rattle.reflect_format.specs.Filled.{HasRival, PutsOne}
 use Rattle.reflect_format.specs.Named.{NamesField, NamesExtension}
 use Rattle.reflect_format.specs.Steps.{Adds, is_set}

@@ -18,7 +18,7 @@ use Rattle.reflect_scalar.specs.FieldTypes.{extension_type}
 use Rattle.reflect_scalar.specs.Floats.{IsFloat}
 use Rattle.reflect_scalar.proofs.First.{Tells, find_none, find_some}
 use Rattle.reflect_message.specs.Known.{is_float, known_extension}
-use Rattle.reflect_message.specs.declared.value.Value.{Value}
+use Rattle.reflect_message.specs.Names.{Value}
 use Rattle.text_model.specs.Schemas.{Schema}
 use Rattle.text_model.specs.Tree.{ScalarValue}
 use Rattle.text_model.specs.Value.{scalar_content, wanted_in, wanted_of}

@@ -5,7 +5,7 @@ use Rattle.std.proofs.lemmas.Slice.Zip.{zip_turn, zip_end}
 use Rattle.reflect_message.specs.Copies.{AreCopies}
 use Rattle.reflect_message.specs.Maps.{map_entries}
 use Rattle.reflect_message.specs.Trees.{dictionary, dictionary_of}
-use Rattle.reflect_message.specs.declared.value.Value.{Map, the_lemmas}
+use Rattle.reflect_message.specs.declared.value.ValueOf.{Map, the_lemmas}
 use Rattle.reflect_message.proofs.Copying.{copies_next, copies_all}
 use Rattle.reflect_message.proofs.Alike.{map_seen}
 use Rattle.reflect_message.proofs.Entries.{copied_next}
@@ -24,16 +24,16 @@ parts::entries_clone-entries-preserved t c =
     let next = c.fill.new.entries in
     let number = c.in-Some.number.now in
     let copy = c.in_ok-clone.field-0 in
-    let more = copies_next c.args.entries.now c.entries.copy next (length so_far) number c.in-Some.value.now copy numbers values c.numbers.ensures c.values.ensures turn c.entries.invariant c.in_ok-fill.ensures.updates c.in_ok-clone.ensures in
-    subst (λ n. AreCopies (take n c.args.entries.now) next) (sym (length_push so_far (c.in-Some.number, c.in-Some.value))) more
+    let more = copies_next c.args.entries.now c.entries.copy next (length so_far) number c.in-Some.value.now copy numbers values c.numbers.ensures c.values.ensures turn c.entries.invariant.0 c.in_ok-fill.ensures.updates c.in_ok-clone.ensures in
+    (subst (λ n. AreCopies (take n c.args.entries.now) next) (sym (length_push so_far (c.in-Some.number, c.in-Some.value))) more, c.in_ok-fill.ensures.updates.ascending)
 
-pub parts::entries_clone-returns : goal.parts::entries_clone-returns
-parts::entries_clone-returns t c =
+pub parts::entries_clone-returns-clause-copies : goal.parts::entries_clone-returns-clause-copies
+parts::entries_clone-returns-clause-copies t c =
     let numbers = c.numbers.result.now in
     let values = c.values.result.now in
     let so_far = c.entries.yielded in
     let ends = zip_end numbers values so_far c.into_iter-number-iterator.result c.entries.number-iterator c.next.new.self c.next.result (search rules) (search rules) c.entries.yielded_by c.in-None.is c.next.ensures.steps in
-    copies_all c.args.entries.now c.entries.copy (length so_far) numbers values c.numbers.ensures c.values.ensures ends c.entries.invariant
+    copies_all c.args.entries.now c.entries.copy (length so_far) numbers values c.numbers.ensures c.values.ensures ends c.entries.invariant.0
 
 pub parts::Held::clone-returns-in_ok-new-in-Block-clause-content : goal.parts::Held::clone-returns-in_ok-new-in-Block-clause-content
 parts::Held::clone-returns-in_ok-new-in-Block-clause-content t c = search (rules, held_tree-Block)

@@ -1,12 +1,13 @@
 use Rattle.std.proofs.Common.{◌≡◌, take, length, map}
+use Rattle.reflect_entries.specs.Entries.{IsAscending}
 use Rattle.reflect_message.specs.Copies.{AreCopies}
 use Rattle.reflect_message.specs.Trees.{tree}
 use Rattle.reflect_message.proofs.Entries.{Copied}
 use Rattle.reflect_message.proofs.+clone.Given as goal
 
--- the entries so far are copied
+-- the entries so far are copied, by ascending numbers
 abbrev pub invariant-parts::entries_clone-entries : goal.invariant-parts::entries_clone-entries
-invariant-parts::entries_clone-entries l = AreCopies (take (length l.yielded) l.entries) l.copy
+invariant-parts::entries_clone-entries l = AreCopies (take (length l.yielded) l.entries) l.copy × IsAscending l.copy
 
 abbrev pub invariant-value::list_clone-values : goal.invariant-value::list_clone-values
 invariant-value::list_clone-values l = map tree l.copy.items ≡ map tree (take l.value-index l.value-items)

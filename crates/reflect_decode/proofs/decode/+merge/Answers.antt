@@ -29,7 +29,7 @@ use Rattle.reflect_message.specs.KindTypes.{IsMessageType}
 use Rattle.reflect_message.specs.MapKeys.{key_of_value}
 use Rattle.reflect_decode.specs.Suits.{HeldSuits, SuitsBelow}
 use Rattle.reflect_decode.proofs.Accepting.{all_both, all_one, part_accepted, run_of_field}
-use Rattle.reflect_message.specs.declared.value.Value.{Message, the_lemmas}
+use Rattle.reflect_message.specs.declared.value.ValueOf.{Message, the_lemmas}
 use Rattle.reflect_decode.proofs.Appending.{appends_value, appends_row, appends_message, appends_more, list_done}
 use Rattle.reflect_message.proofs.Choosing.{makes_room}
 use Rattle.reflect_decode.proofs.Holding.{same_content, merged_in, fault_in}

@@ -14,7 +14,7 @@ use Rattle.reflect_entries.specs.Pairs.{on_value}
 use Rattle.reflect_entries.specs.Left.{unwritten}
 use Rattle.reflect_message.specs.Bytes.{form_of, forms, content_bytes, declared_bytes, others_down, entry_bytes, key_part, record_in}
 use Rattle.reflect_message.specs.Known.{known_field, known_extension}
-use Rattle.reflect_message.specs.declared.value.Value.{Value}
+use Rattle.reflect_message.specs.Names.{Value}
 use Rattle.reflect_encode.proofs.Before.{before, shorter, zip_ends, zip_parts, known_put, nothing_put, others_before, entry_put}
 use Rattle.reflect_encode.proofs.encode.+put.Goals as goal
 

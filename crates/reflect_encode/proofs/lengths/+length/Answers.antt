@@ -15,7 +15,7 @@ use Rattle.reflect_entries.specs.Pairs.{on_value}
 use Rattle.reflect_entries.specs.Undeclared.{undeclared}
 use Rattle.reflect_message.specs.Bytes.{Form, content_bytes, declared_bytes, entry_bytes, extension_bytes, form_of, forms, key_part, message_bytes}
 use Rattle.reflect_message.specs.Known.{known_field, known_extension}
-use Rattle.reflect_message.specs.declared.value.Value.{Value}
+use Rattle.reflect_message.specs.Names.{Value}
 use Rattle.reflect_encode.proofs.Before.{map_known, zip_parts}
 use Rattle.reflect_encode.proofs.Forms.{message_formed}
 use Rattle.reflect_encode.proofs.Measuring.{framed_length, group_length, known_length, more_length, most_length, next_length, none_length, parts_length, payload_length, told, unknown_length, zip_ended, zip_next}

@@ -4,7 +4,7 @@ use Rattle.reflect_pool.specs.FieldsLeft.{field_type}
 use Rattle.reflect_scalar.specs.FieldTypes.{either_pool, either_type}
 use Rattle.reflect_scalar.specs.declared.map_key.MapKey.{MapKey}
 use Rattle.reflect_message.specs.Bytes.{declared_bytes, entry_bytes, extension_bytes, form_of, forms, list_bytes}
-use Rattle.reflect_message.specs.declared.value.Value.{Value}
+use Rattle.reflect_message.specs.Names.{Value}
 use Rattle.reflect_encode.proofs.lengths.+length.Given as goal
 
 -- the length that is counted and that of what is left are the whole

@@ -1,7 +1,8 @@
 use Rattle.std.proofs.Common.{◌≡◌, rules, ap, ◌∙◌, unwrap_or}
 use Rattle.reflect_entries.specs.Entries.{value_at}
 use Rattle.reflect_message.specs.Lists.{items_held}
-use Rattle.reflect_message.specs.declared.value.Value.{Map, Value, the_lemmas}
+use Rattle.reflect_message.specs.Names.{Value}
+use Rattle.reflect_message.specs.declared.value.ValueOf.{Map, the_lemmas}
 use Rattle.reflect_message.proofs.Lengthening.{lengthens_slot, items_of_slot}
 use Rattle.reflect_extend.proofs.Putting.{puts_none_at, ok_slot, err_slot}
 use Rattle.reflect_extend.proofs.Staying.{other_at, other_slot}

@@ -1,7 +1,7 @@
 use Rattle.std.proofs.Common.{rules, subst, sym}
 use Rattle.reflect_pool.specs.Kinds.{IsKind}
 use Rattle.reflect_pool.specs.declared.kind.Kind.TheVariants as kinds
-use Rattle.reflect_message.specs.declared.value.Value.{the_lemmas}
+use Rattle.reflect_message.specs.declared.value.ValueOf.{the_lemmas}
 use Rattle.reflect_message.proofs.defaults.default_one.Goals as goal
 
 pub returns-in-Message-clause-message : goal.returns-in-Message-clause-message

@@ -9,7 +9,7 @@ use Rattle.reflect_scalar.specs.Singles.{scalar_view}
 use Rattle.reflect_scalar.specs.declared.map_key.MapKey.{MapKey}
 use Rattle.reflect_entries.specs.Pairs.{on_value}
 use Rattle.reflect_message.specs.Known.{known_field, known_extension}
-use Rattle.reflect_message.specs.declared.value.Value.{Value}
+use Rattle.reflect_message.specs.Names.{Value}
 use Rattle.reflect_pool.specs.declared.message.MessageDescriptor.{MessageDescriptor}
 use Rattle.reflect_numbered.specs.Fits.{entry_fits, extension_fits, field_fits, fit_of, fits_of, is_one}
 use Rattle.reflect_numbered.proofs.Fitting.{all_good, entries_known, known_fits, next_bad, next_good, none_left, one_bad, one_more, one_single, suits_one, unknown_fits, zip_ended, zip_next, zip_parts}

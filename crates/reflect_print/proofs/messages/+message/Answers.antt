@@ -6,7 +6,8 @@ use Rattle.text_lines.specs.declared.options.FormatOptions.{FormatOptions}
 use Rattle.text_lines.specs.Pieces.{before_element, quoted}
 use Rattle.text_lines.proofs.Appending.{appends_text, appends_on, one_text, one_as, one_on, one_before, one_failed, one_stopped}
 use Rattle.reflect_message.specs.Lists.{list_items}
-use Rattle.reflect_message.specs.declared.value.Value.{Value, the_lemmas}
+use Rattle.reflect_message.specs.Names.{Value}
+use Rattle.reflect_message.specs.declared.value.ValueOf.{the_lemmas}
 use Rattle.reflect_scalar.specs.declared.map_key.MapKey.{MapKey}
 use Rattle.reflect_pool.specs.FieldsLeft.{field_type}
 use Rattle.reflect_scalar.specs.Singles.{truth, int32, int64, uint32, uint64, text, blob, enumerated}

@@ -7,4 +7,4 @@ pub returns-in_ok-get_field_mut-in-Some : goal.returns-in_ok-get_field_mut-in-So
 returns-in_ok-get_field_mut-in-Some c =
     let f = c.in-Some.field in
     let meant = subst (λ (d : MessageDescriptor). IsMeant (HasName c.args.name.now) d f) c.descriptor.ensures c.in-Some.ensures.meant in
-    inl (f, meant, c.in_ok-get_field_mut-in-Some.ensures)
+    inl (f, meant, c.in_ok-get_field_mut-in-Some.ensures.value)

@@ -1,7 +1,7 @@
 use Rattle.std.proofs.Common.{rules, ◌≡◌, Some, subst, sym}
 use Rattle.reflect_contents.specs.Walked.{HoldsNothing}
 use Rattle.reflect_message.specs.Messages.{message_in}
-use Rattle.reflect_message.specs.declared.value.Value.{the_lemmas}
+use Rattle.reflect_message.specs.declared.value.ValueOf.{the_lemmas}
 use Rattle.reflect_access.specs.Unset.{IsKindDefault}
 use Rattle.reflect_access.proofs.value_tests.ValueValueTests.is_default.Goals as goal
 

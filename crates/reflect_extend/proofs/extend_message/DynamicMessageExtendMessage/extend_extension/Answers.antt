@@ -4,7 +4,7 @@ use Rattle.reflect_message.specs.Held.{choices_of, extensions_of, fields_of}
 use Rattle.reflect_message.specs.Oneofs.{IsExclusive}
 use Rattle.reflect_scalar.specs.FieldTypes.{extension_type}
 use Rattle.reflect_message.specs.Lists.{KeepsList}
-use Rattle.reflect_message.specs.declared.parts.Parts.{Parts}
+use Rattle.reflect_message.specs.Names.{Parts}
 use Rattle.reflect_extend.proofs.Exclusive.{put_back}
 use Rattle.reflect_extend.proofs.Putting.{puts_none_at, left_back}
 use Rattle.reflect_extend.proofs.Staying.{other_at, other_back}

@@ -3,7 +3,7 @@ use Rattle.reflect_entries.specs.Entries.{IsAscending}
 use Rattle.reflect_pool.specs.FieldsLeft.{field_type}
 use Rattle.reflect_message.specs.Held.{choices_of, fields_of}
 use Rattle.reflect_message.specs.Lists.{KeepsList}
-use Rattle.reflect_message.specs.declared.parts.Parts.{Parts}
+use Rattle.reflect_message.specs.Names.{Parts}
 use Rattle.reflect_extend.proofs.Exclusive.{stays_exclusive}
 use Rattle.reflect_extend.proofs.Putting.{puts_none_at, left_back}
 use Rattle.reflect_extend.proofs.Staying.{other_at, other_back}

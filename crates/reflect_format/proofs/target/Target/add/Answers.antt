@@ -2,8 +2,7 @@ use Rattle.std.proofs.Common.{◌≡◌, true, List, Result, Ok, Err, OnOk, OnEr
 use Rattle.reflect_entries.specs.Entries.{IsAscending}
 use Rattle.reflect_pool.specs.Shapes.{holds_list, holds_map}
 use Rattle.reflect_message.specs.Lists.{Lengthens, KeepsList}
-use Rattle.reflect_message.specs.declared.message.DynamicMessage.{DynamicMessage}
-use Rattle.reflect_message.specs.declared.value.Value.{Value}
+use Rattle.reflect_message.specs.Names.{DynamicMessage, Value}
 use Rattle.reflect_extend.specs.Puts.{PutsEntries, PutsSome}
 use Rattle.reflect_format.specs.Steps.{Adds, AddsPart, ChangesOnly, Frees, StaysAscending, StaysExclusive, held_by}
 use Rattle.reflect_format.specs.Takes.{holds_many, target_pool, target_type}

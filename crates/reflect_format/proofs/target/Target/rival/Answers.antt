@@ -7,7 +7,7 @@ use Rattle.reflect_pool.specs.FieldsLeft.{field_type, type_in}
 use Rattle.reflect_pool.specs.Parts.{members_of}
 use Rattle.reflect_pool.specs.PartsLeft.{members_left}
 use Rattle.reflect_tables.specs.Types.{FieldType}
-use Rattle.reflect_message.specs.declared.message.DynamicMessage.{DynamicMessage}
+use Rattle.reflect_message.specs.Names.{DynamicMessage}
 use Rattle.reflect_format.specs.Filled.{IsAlone}
 use Rattle.reflect_format.specs.Refusals.{HoldsAmong}
 use Rattle.reflect_format.proofs.Among.{first_held, held_behind}

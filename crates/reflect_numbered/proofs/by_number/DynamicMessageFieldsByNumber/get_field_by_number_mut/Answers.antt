@@ -9,4 +9,4 @@ returns-in_ok-get_field_mut-in-Some c =
     let f = c.in-Some.field in
     let owns = subst (λ (d : MessageDescriptor). Owns d f) c.descriptor.ensures c.in-Some.ensures.owns in
     let meant = meant_by_number c.args.self.now.descriptor c.args.number f (c.in-Some.ensures.message ∙ c.descriptor.ensures) c.in-Some.ensures.number owns in
-    inl (f, meant, c.in_ok-get_field_mut-in-Some.ensures)
+    inl (f, meant, c.in_ok-get_field_mut-in-Some.ensures.value)

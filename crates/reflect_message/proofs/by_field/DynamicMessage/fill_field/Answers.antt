@@ -1,10 +1,10 @@
-use Rattle.std.proofs.Common.{rules, ◌≡◌, OnOk, subst, unwrap_or}
+use Rattle.std.proofs.Common.{rules, ◌≡◌, OnOk, sym, subst, unwrap_or}
 use Rattle.reflect_pool.specs.FieldsLeft.{field_type}
-use Rattle.reflect_entries.specs.Entries.{value_at}
+use Rattle.reflect_entries.specs.Entries.{IsAscending, value_at}
 use Rattle.reflect_message.specs.Held.{fields_of, choices_of, extensions_of, unknown_of}
 use Rattle.reflect_message.specs.Oneofs.{SetsField}
 use Rattle.reflect_message.proofs.Setting.{field_set, exclusive_set}
-use Rattle.reflect_message.proofs.message.DynamicMessage.fill_field.Goals as goal
+use Rattle.reflect_message.proofs.by_field.DynamicMessage.fill_field.Goals as goal
 
 pub returns-clause-ok : goal.returns-clause-ok
 returns-clause-ok c =
@@ -38,3 +38,9 @@ returns-clause-exclusive c =
     let has : fields_of new ≡ after.fields = search rules in
     let type : new.descriptor ≡ old.descriptor = search rules in
     exclusive_set old new c.args.field.now before.choices.members after.choices.members before.fields after.fields was had is has c.fill_field-outcome.result filled.changes filled.chooses filled.err filled.room type
+
+pub returns-clause-ascending : goal.returns-clause-ascending
+returns-clause-ascending c =
+    let filled = c.fill_field-outcome in
+    let has : fields_of c.put_block.new.self ≡ filled.new.self.fields = search rules in
+    subst (λ l. OnOk filled.result (IsAscending l)) (sym has) filled.ensures.ascending

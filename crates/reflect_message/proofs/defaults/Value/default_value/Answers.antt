@@ -1,8 +1,8 @@
 use Rattle.std.proofs.Common.{rules, subst, sym}
 use Rattle.reflect_message.specs.Defaults.{IsKindDefault}
-use Rattle.reflect_message.specs.declared.value.Value as values
-use Rattle.reflect_message.specs.declared.value.Value.{the_lemmas}
-use Rattle.reflect_message.proofs.value.Value.default_value.Goals as goal
+use Rattle.reflect_message.specs.declared.value.ValueOf as values
+use Rattle.reflect_message.specs.declared.value.ValueOf.{the_lemmas}
+use Rattle.reflect_message.proofs.defaults.Value.default_value.Goals as goal
 
 pub returns-in-Message : goal.returns-in-Message
 returns-in-Message c =

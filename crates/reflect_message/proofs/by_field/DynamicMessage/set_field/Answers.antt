@@ -2,7 +2,7 @@ use Rattle.std.proofs.Common.{rules, ◌≡◌, OnOk, sym, subst}
 use Rattle.reflect_entries.specs.Entries.{IsAscending}
 use Rattle.reflect_message.specs.Held.{fields_of, choices_of, extensions_of, unknown_of}
 use Rattle.reflect_message.proofs.Setting.{field_set, exclusive_set}
-use Rattle.reflect_message.proofs.message.DynamicMessage.set_field.Goals as goal
+use Rattle.reflect_message.proofs.by_field.DynamicMessage.set_field.Goals as goal
 
 pub returns-clause-ok : goal.returns-clause-ok
 returns-clause-ok c =
