@@ -17,7 +17,7 @@ use reflect_scalar::{AnyField, FieldDescriptorLike, Scalar};
 
 /// A value that is asked about fields.
 pub trait ValueTests<'p> {
-    ghost use Rattle.reflect_message.specs.declared.value.Value.{Value};
+    ghost use Rattle.reflect_message.specs.Names.{Value};
     ghost use Rattle.reflect_numbered.specs.declared.validity.Strictness.TheVariants.{Surface};
 
     /// The value that it is.

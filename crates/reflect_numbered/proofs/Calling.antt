@@ -7,7 +7,7 @@ use Rattle.reflect_pool.specs.declared.field.FieldDescriptor.{FieldDescriptor}
 use Rattle.reflect_pool.specs.declared.message.MessageDescriptor.{MessageDescriptor}
 use Rattle.reflect_scalar.specs.FieldTypes.{field_pool}
 use Rattle.reflect_message.specs.Declares.{Declares, Owns}
-use Rattle.reflect_message.specs.declared.value.Value.{Value}
+use Rattle.reflect_message.specs.Names.{Value}
 use Rattle.reflect_numbered.specs.Called.{Asked, HasNumber, IsMeant, NoneMeant}
 use Rattle.reflect_numbered.specs.Fits.{IsValidFor}
 use Rattle.reflect_numbered.specs.Refused.{HandsBack, RefusesSet}

@@ -12,15 +12,13 @@ use Rattle.reflect_scalar.specs.Singles.{Single, truth, int32, int64, uint32, ui
 use Rattle.reflect_scalar.specs.declared.map_key.MapKey.{MapKey}
 use Rattle.reflect_message.specs.Known.{entry_field}
 use Rattle.reflect_message.specs.Singles.{single}
-use Rattle.reflect_message.specs.declared.message.DynamicMessage.{DynamicMessage}
-use Rattle.reflect_message.specs.declared.parts.Held.{Held}
-use Rattle.reflect_message.specs.declared.parts.Held.TheFolds.{map-Value, fold-Held, fold-Value, fold-DynamicMessage, fold-Parts, fold_out-Value}
-use Rattle.reflect_message.specs.declared.parts.Held.TheOpen.{Value-F}
-use Rattle.reflect_message.specs.declared.parts.Held.TheViews.{out-Value}
-use Rattle.reflect_message.specs.declared.parts.Parts.{Parts}
-use Rattle.reflect_message.specs.declared.value.Value.{Value}
+use Rattle.reflect_message.specs.Names.{DynamicMessage, Held, Parts, Value}
+use Rattle.reflect_message.specs.declared.parts.HeldOf.TheFolds.{map-ValueOf, fold-HeldOf, fold-ValueOf, fold-MessageOf, fold-PartsOf, fold_out-ValueOf}
+use Rattle.reflect_message.specs.declared.parts.HeldOf.TheOpen.{ValueOf-F}
+use Rattle.reflect_message.specs.declared.parts.HeldOf.TheViews.{out-ValueOf}
 use Rattle.reflect_numbered.specs.Fits.{Fit, all_fit, entries_fit, entry_fits, fit_of, held_step, is_one, message_step, parts_step, under_fits, value_step}
 use Rattle.reflect_numbered.specs.declared.validity.Strictness.{Strictness}
+use Rattle.reflect_pool.specs.declared.message.MessageDescriptor.{MessageDescriptor}
 
 suits_is : (kind : Kind) (v : Single) → suits kind v ≡ is_one (kind_type kind) v
 suits_is kinds.Int32 (int32 z) = refl
@@ -46,38 +44,38 @@ suits_one pool kind k v is = suits_is kind v ∙ ap (λ k. is_one k v) (sym (kin
 module _ (how : Strictness) (pool : PoolType) (k : KindType) where
   -- a value that is a single one suits as that does
   pub one_single : (v : Value) (s : Single) → single v ≡ Some s → (fit_of v).one how pool k ≡ is_one k s
-  one_single v s h = ap (λ w. w.one how pool k) (fold_out-Value (Strictness → PoolType → ℕ → Bool) Fit (Strictness → PoolType → KindType → Bool) (Strictness → PoolType → ℕ → Bool) held_step value_step message_step parts_step v) ∙ by (out-Value v) h where
-    by : (o : Value-F Held Value DynamicMessage Parts)
+  one_single v s h = ap (λ w. w.one how pool k) (fold_out-ValueOf MessageDescriptor (Strictness → PoolType → ℕ → Bool) Fit (Strictness → PoolType → KindType → Bool) (Strictness → PoolType → ℕ → Bool) held_step value_step message_step parts_step v) ∙ by (out-ValueOf MessageDescriptor v) h where
+    by : (o : ValueOf-F MessageDescriptor Held Value DynamicMessage Parts)
         → ◌≡◌ {A = Option Single} (elim o [
-          | Value-F.Bool b ↦ Some (truth b)
-          | Value-F.I32 z ↦ Some (int32 z)
-          | Value-F.I64 z ↦ Some (int64 z)
-          | Value-F.U32 n ↦ Some (uint32 n)
-          | Value-F.U64 n ↦ Some (uint64 n)
-          | Value-F.String t ↦ Some (text (string_bytes t))
-          | Value-F.Bytes b ↦ Some (blob b.items)
-          | Value-F.EnumNumber z ↦ Some (enumerated z)
-          | Value-F.Message m ↦ None
-          | Value-F.List vs ↦ None
-          | Value-F.Map es ↦ None
+          | ValueOf-F.Bool b ↦ Some (truth b)
+          | ValueOf-F.I32 z ↦ Some (int32 z)
+          | ValueOf-F.I64 z ↦ Some (int64 z)
+          | ValueOf-F.U32 n ↦ Some (uint32 n)
+          | ValueOf-F.U64 n ↦ Some (uint64 n)
+          | ValueOf-F.String t ↦ Some (text (string_bytes t))
+          | ValueOf-F.Bytes b ↦ Some (blob b.items)
+          | ValueOf-F.EnumNumber z ↦ Some (enumerated z)
+          | ValueOf-F.Message m ↦ None
+          | ValueOf-F.List vs ↦ None
+          | ValueOf-F.Map es ↦ None
         ]) (Some s)
-        → (value_step (map-Value Held Value DynamicMessage Parts (Strictness → PoolType → ℕ → Bool) Fit (Strictness → PoolType → KindType → Bool) (Strictness → PoolType → ℕ → Bool)
-        (fold-Held (Strictness → PoolType → ℕ → Bool) Fit (Strictness → PoolType → KindType → Bool) (Strictness → PoolType → ℕ → Bool) held_step value_step message_step parts_step)
-        (fold-Value (Strictness → PoolType → ℕ → Bool) Fit (Strictness → PoolType → KindType → Bool) (Strictness → PoolType → ℕ → Bool) held_step value_step message_step parts_step)
-        (fold-DynamicMessage (Strictness → PoolType → ℕ → Bool) Fit (Strictness → PoolType → KindType → Bool) (Strictness → PoolType → ℕ → Bool) held_step value_step message_step parts_step)
-        (fold-Parts (Strictness → PoolType → ℕ → Bool) Fit (Strictness → PoolType → KindType → Bool) (Strictness → PoolType → ℕ → Bool) held_step value_step message_step parts_step) o)).one how pool k
+        → (value_step (map-ValueOf MessageDescriptor Held Value DynamicMessage Parts (Strictness → PoolType → ℕ → Bool) Fit (Strictness → PoolType → KindType → Bool) (Strictness → PoolType → ℕ → Bool)
+        (fold-HeldOf MessageDescriptor (Strictness → PoolType → ℕ → Bool) Fit (Strictness → PoolType → KindType → Bool) (Strictness → PoolType → ℕ → Bool) held_step value_step message_step parts_step)
+        (fold-ValueOf MessageDescriptor (Strictness → PoolType → ℕ → Bool) Fit (Strictness → PoolType → KindType → Bool) (Strictness → PoolType → ℕ → Bool) held_step value_step message_step parts_step)
+        (fold-MessageOf MessageDescriptor (Strictness → PoolType → ℕ → Bool) Fit (Strictness → PoolType → KindType → Bool) (Strictness → PoolType → ℕ → Bool) held_step value_step message_step parts_step)
+        (fold-PartsOf MessageDescriptor (Strictness → PoolType → ℕ → Bool) Fit (Strictness → PoolType → KindType → Bool) (Strictness → PoolType → ℕ → Bool) held_step value_step message_step parts_step) o)).one how pool k
         ≡ is_one k s
-    by (Value-F.Bool b) e = ap (λ o. elim o [ None ↦ false | Some x ↦ is_one k x ]) e
-    by (Value-F.I32 z) e = ap (λ o. elim o [ None ↦ false | Some x ↦ is_one k x ]) e
-    by (Value-F.I64 z) e = ap (λ o. elim o [ None ↦ false | Some x ↦ is_one k x ]) e
-    by (Value-F.U32 n) e = ap (λ o. elim o [ None ↦ false | Some x ↦ is_one k x ]) e
-    by (Value-F.U64 n) e = ap (λ o. elim o [ None ↦ false | Some x ↦ is_one k x ]) e
-    by (Value-F.String t) e = ap (λ o. elim o [ None ↦ false | Some x ↦ is_one k x ]) e
-    by (Value-F.Bytes b) e = ap (λ o. elim o [ None ↦ false | Some x ↦ is_one k x ]) e
-    by (Value-F.EnumNumber z) e = ap (λ o. elim o [ None ↦ false | Some x ↦ is_one k x ]) e
-    by (Value-F.Message m) e = absurd (cc e)
-    by (Value-F.List vs) e = absurd (cc e)
-    by (Value-F.Map es) e = absurd (cc e)
+    by (ValueOf-F.Bool b) e = ap (λ o. elim o [ None ↦ false | Some x ↦ is_one k x ]) e
+    by (ValueOf-F.I32 z) e = ap (λ o. elim o [ None ↦ false | Some x ↦ is_one k x ]) e
+    by (ValueOf-F.I64 z) e = ap (λ o. elim o [ None ↦ false | Some x ↦ is_one k x ]) e
+    by (ValueOf-F.U32 n) e = ap (λ o. elim o [ None ↦ false | Some x ↦ is_one k x ]) e
+    by (ValueOf-F.U64 n) e = ap (λ o. elim o [ None ↦ false | Some x ↦ is_one k x ]) e
+    by (ValueOf-F.String t) e = ap (λ o. elim o [ None ↦ false | Some x ↦ is_one k x ]) e
+    by (ValueOf-F.Bytes b) e = ap (λ o. elim o [ None ↦ false | Some x ↦ is_one k x ]) e
+    by (ValueOf-F.EnumNumber z) e = ap (λ o. elim o [ None ↦ false | Some x ↦ is_one k x ]) e
+    by (ValueOf-F.Message m) e = absurd (cc e)
+    by (ValueOf-F.List vs) e = absurd (cc e)
+    by (ValueOf-F.Map es) e = absurd (cc e)
 
   -- a value of a list that does not suit, one more that does, and all of them
   pub one_bad : (vs : List Value) (i : ℕ) (v : Value) (r : Bool) → i < length vs → v ≡ get_or vs i v → r ≡ (fit_of v).one how pool k → r ≡ false → false ≡ all_fit how pool k (map fit_of vs)

@@ -14,10 +14,9 @@ use Rattle.reflect_scalar.specs.Singles.{Single, truth, int32, int64, uint32, ui
 use Rattle.reflect_scalar.specs.declared.map_key.MapKey.{MapKey}
 use Rattle.reflect_entries.specs.Pairs.{on_value}
 use Rattle.reflect_message.specs.Known.{entry_field, known_field, known_extension}
-use Rattle.reflect_message.specs.declared.message.DynamicMessage.{DynamicMessage}
-use Rattle.reflect_message.specs.declared.parts.Held.TheFolds.{fold-Held, fold-Value}
-use Rattle.reflect_message.specs.declared.parts.Held.TheOpen.{Held-F, Parts-F, Value-F, DynamicMessage-F}
-use Rattle.reflect_message.specs.declared.value.Value.{Value}
+use Rattle.reflect_message.specs.Names.{DynamicMessage, Value}
+use Rattle.reflect_message.specs.declared.parts.HeldOf.TheFolds.{fold-HeldOf, fold-ValueOf}
+use Rattle.reflect_message.specs.declared.parts.HeldOf.TheOpen.{HeldOf-F, PartsOf-F, ValueOf-F, MessageOf-F}
 use Rattle.reflect_numbered.specs.declared.validity.Strictness.{Strictness}
 use Rattle.reflect_numbered.specs.declared.validity.Strictness.TheVariants.{Surface, Shape, Types}
 
@@ -116,32 +115,32 @@ extension_fits how pool i e = under_fits how pool (known_extension pool i e.0) e
 
 -- one level of a value, of a message, of what it holds and of its parts
 
-abbrev pub value_step : Value-F (Strictness → PoolType → ℕ → Bool) Fit
+abbrev pub value_step : ValueOf-F MessageDescriptor (Strictness → PoolType → ℕ → Bool) Fit
     (Strictness → PoolType → KindType → Bool) (Strictness → PoolType → ℕ → Bool) → Fit
-value_step (Value-F.Bool b) = single_fit (truth b)
-value_step (Value-F.I32 z) = single_fit (int32 z)
-value_step (Value-F.I64 z) = single_fit (int64 z)
-value_step (Value-F.U32 n) = single_fit (uint32 n)
-value_step (Value-F.U64 n) = single_fit (uint64 n)
-value_step (Value-F.String t) = single_fit (text (string_bytes t))
-value_step (Value-F.Bytes b) = single_fit (blob b.items)
-value_step (Value-F.EnumNumber z) = single_fit (enumerated z)
-value_step (Value-F.Message m) = message_fit m
-value_step (Value-F.List vs) = list_fit vs.items
-value_step (Value-F.Map es) = map_fit es.entries
+value_step (ValueOf-F.Bool b) = single_fit (truth b)
+value_step (ValueOf-F.I32 z) = single_fit (int32 z)
+value_step (ValueOf-F.I64 z) = single_fit (int64 z)
+value_step (ValueOf-F.U32 n) = single_fit (uint32 n)
+value_step (ValueOf-F.U64 n) = single_fit (uint64 n)
+value_step (ValueOf-F.String t) = single_fit (text (string_bytes t))
+value_step (ValueOf-F.Bytes b) = single_fit (blob b.items)
+value_step (ValueOf-F.EnumNumber z) = single_fit (enumerated z)
+value_step (ValueOf-F.Message m) = message_fit m
+value_step (ValueOf-F.List vs) = list_fit vs.items
+value_step (ValueOf-F.Map es) = map_fit es.entries
 
-abbrev pub message_step : DynamicMessage-F (Strictness → PoolType → ℕ → Bool) Fit
+abbrev pub message_step : MessageOf-F MessageDescriptor (Strictness → PoolType → ℕ → Bool) Fit
     (Strictness → PoolType → KindType → Bool) (Strictness → PoolType → ℕ → Bool)
     → Strictness → PoolType → KindType → Bool
 message_step m = λ how pool kind. message_fits how pool kind m.descriptor m.held
 
-abbrev pub held_step : Held-F (Strictness → PoolType → ℕ → Bool) Fit
+abbrev pub held_step : HeldOf-F MessageDescriptor (Strictness → PoolType → ℕ → Bool) Fit
     (Strictness → PoolType → KindType → Bool) (Strictness → PoolType → ℕ → Bool)
     → Strictness → PoolType → ℕ → Bool
-held_step Held-F.Nothing = λ how pool i. true
-held_step (Held-F.Block b) = b.value
+held_step HeldOf-F.Nothing = λ how pool i. true
+held_step (HeldOf-F.Block b) = b.value
 
-abbrev pub parts_step : Parts-F (Strictness → PoolType → ℕ → Bool) Fit
+abbrev pub parts_step : PartsOf-F MessageDescriptor (Strictness → PoolType → ℕ → Bool) Fit
     (Strictness → PoolType → KindType → Bool) (Strictness → PoolType → ℕ → Bool)
     → Strictness → PoolType → ℕ → Bool
 parts_step p = λ how pool i. list_all (field_fits how pool i) p.fields
@@ -149,7 +148,7 @@ parts_step p = λ how pool i. list_all (field_fits how pool i) p.fields
 
 -- which fields a value suits
 abbrev pub fit_of : Value → Fit
-fit_of = fold-Value (Strictness → PoolType → ℕ → Bool) Fit
+fit_of = fold-ValueOf MessageDescriptor (Strictness → PoolType → ℕ → Bool) Fit
     (Strictness → PoolType → KindType → Bool) (Strictness → PoolType → ℕ → Bool) held_step
     value_step message_step parts_step
 
@@ -158,7 +157,7 @@ fits_of es = map (on_value fit_of) es
 
 -- what a message holds suits its type
 abbrev pub suits_type : Strictness → DynamicMessage → Bool
-suits_type how m = fold-Held (Strictness → PoolType → ℕ → Bool) Fit
+suits_type how m = fold-HeldOf MessageDescriptor (Strictness → PoolType → ℕ → Bool) Fit
     (Strictness → PoolType → KindType → Bool) (Strictness → PoolType → ℕ → Bool) held_step
     value_step message_step parts_step m.held how m.descriptor.pool.now m.descriptor.index
 

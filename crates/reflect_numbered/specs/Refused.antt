@@ -4,7 +4,7 @@ use Rattle.reflect_pool.specs.FieldsLeft.{field_type}
 use Rattle.reflect_pool.specs.declared.field.FieldDescriptor.{FieldDescriptor}
 use Rattle.reflect_pool.specs.declared.message.MessageDescriptor.{MessageDescriptor}
 use Rattle.reflect_scalar.specs.FieldTypes.{field_pool}
-use Rattle.reflect_message.specs.declared.value.Value.{Value}
+use Rattle.reflect_message.specs.Names.{Value}
 use Rattle.reflect_numbered.specs.Called.{Asked, IsMeant, NoneMeant}
 use Rattle.reflect_numbered.specs.Fits.{IsValidFor}
 use Rattle.reflect_numbered.specs.declared.set_field_error.SetFieldError.{SetFieldError}

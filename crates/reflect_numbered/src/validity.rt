@@ -175,7 +175,7 @@ fn message_suits(message: &DynamicMessage<'_>, strictness: Strictness) -> bool
 
 /// A message that is asked whether what it holds suits its type.
 pub trait MessageTests {
-    ghost use Rattle.reflect_message.specs.declared.message.DynamicMessage.{DynamicMessage};
+    ghost use Rattle.reflect_message.specs.Names.{DynamicMessage};
     ghost use Rattle.reflect_numbered.specs.declared.validity.Strictness.TheVariants.{Shape, Types};
 
     /// The message that it is.

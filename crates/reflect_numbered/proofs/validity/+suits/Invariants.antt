@@ -4,7 +4,7 @@ use Rattle.std.specs.List.{list_all, zip}
 use Rattle.reflect_tables.specs.Types.{PoolType, KindType}
 use Rattle.reflect_pool.specs.Kinds.{IsKind}
 use Rattle.reflect_scalar.specs.declared.map_key.MapKey.{MapKey}
-use Rattle.reflect_message.specs.declared.value.Value.{Value}
+use Rattle.reflect_message.specs.Names.{Value}
 use Rattle.reflect_numbered.specs.Fits.{entry_fits, extension_fits, field_fits, fit_of, fits_of}
 use Rattle.reflect_numbered.proofs.validity.+suits.Given as goal
 
