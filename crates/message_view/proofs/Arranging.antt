@@ -26,15 +26,16 @@ use Rattle.protobuf_model.specs.Bytes.{field_numbers, numbered, run, is_declared
 use Rattle.protobuf_model.proofs.Bridge.{bytes_join}
 use Rattle.reflect_decode.specs.Ordered.{Ascend}
 use Rattle.reflect_decode.proofs.Ordering.{above_ascend}
+use Rattle.message_view.specs.Shaped.{FitsAs, IsShaped, Shaped}
 use Rattle.message_view.specs.Sound.{HaveEntryFields, HaveLists}
 use Rattle.message_view.specs.Types.{name_at, field_of, oneof_at, either_field, field_at}
 use Rattle.message_view.specs.Views.{held_in, held_either, content_view, contents_view, view, view_of}
 use Rattle.message_view.proofs.Accepting.{known_whole, extension_known_whole}
 use Rattle.message_view.proofs.Fields.{known, known_extension_is}
 use Rattle.message_view.proofs.Forms.{bytes_opened}
-use Rattle.message_view.proofs.Ordering.{Rise, between_ascend, in_order, run_all, filter_in, filter_out, missing, listed, found, listed_at, listed_ascends, mixed, mixed_at, mixed_ascends, found_each}
+use Rattle.message_view.proofs.Ordering.{Rise, rises, between_ascend, in_order, run_all, filter_in, filter_out, missing, listed, found, listed_at, listed_ascends, mixed, mixed_at, mixed_ascends, found_each}
 use Rattle.message_view.proofs.Seen.{value_at-view, view_opened}
-use Rattle.message_view.proofs.Written.{bytes, FitsAs, field_same}
+use Rattle.message_view.proofs.Written.{bytes, field_same}
 
 -- entries from the last one down, and from the first one up
 module _ (b : ℕ × Form → List ℕ) where
@@ -87,18 +88,6 @@ others_are : (pool : PoolType) (i : ℕ) (xs : List (ℕ × Form)) (rs : List (�
 others_are pool i [] rs = refl
 others_are pool i (x ∷ xs) rs = ap (λ l. l ++ (extension_bytes pool i x ++ bytes (above x.0 rs))) (others_are pool i xs (up_to x.0 rs))
 
--- what a message holds that suits its type, in order
-pub record IsShaped (inner : DynamicMessage → Type 0) (d : MessageDescriptor) (c : Content) : Type 0 where
-  pub fields_rise : Rise 1 (2 ^ 29 - 1) c.fields
-  pub extensions_rise : Rise 1 (2 ^ 29 - 1) c.extensions
-  pub unknown_ascend : Ascend 1 (2 ^ 29 - 1) c.unknown
-  pub fields : (f : FieldDescriptor) → Owns d f → (v : Value) → value_at c.fields (field_type f).number ≡ Some v → FitsAs inner d.pool.now (field_type f) (holds_map d.pool.now (field_type f)) (holds_list d.pool.now (field_type f)) v
-  pub extensions : (x : ExtensionDescriptor) → OwnsExtension d x → known_field d.pool.now d.index (extension_type x).number ≡ None → (v : Value) → value_at c.extensions (extension_type x).number ≡ Some v
-      → FitsAs inner d.pool.now (extension_type x) (holds_map d.pool.now (extension_type x)) (holds_list d.pool.now (extension_type x)) v
-  pub apart : (f : FieldDescriptor) → Owns d f → value_at c.extensions (field_type f).number ≡ None
-  pub unowned : (n : ℕ) → NoField d n → value_at c.fields n ≡ None
-  pub declared : (n : ℕ) → IsDeclared d n → payloads n c.unknown ≡ []
-
 rise_forms : (low high : ℕ) (es : List (ℕ × Value)) → Rise low high es → Rise low high (forms es)
 rise_forms low high [] h = h
 rise_forms low high (e ∷ es) h = (h.0, rise_forms (suc e.0) high es h.1)
@@ -107,6 +96,12 @@ module _ (d : MessageDescriptor) (keys_of : HaveMapKeys d.pool.now) (parts : Hav
     (inner : DynamicMessage → Type 0) (inner_bytes : (m : DynamicMessage) → m.descriptor.pool.now ≡ d.pool.now → inner m → message_bytes m ≡ bytes_of types_of (name_at d.pool.now m.descriptor.index) (view m)) (c : Content) (shaped : IsShaped inner d c) where
   abbrev pool : PoolType
   pool = d.pool.now
+
+  fields_rise : Rise 1 (2 ^ 29 - 1) c.fields
+  fields_rise = rises c.fields shaped.ordered.fields
+
+  extensions_rise : Rise 1 (2 ^ 29 - 1) c.extensions
+  extensions_rise = rises c.extensions shaped.ordered.extensions
 
   abbrev type : ℕ → Option Field
   type = types_of (name_at pool d.index)
@@ -234,25 +229,25 @@ module _ (d : MessageDescriptor) (keys_of : HaveMapKeys d.pool.now) (parts : Hav
   -- the fields in order
   fields_run : listed first c.fields ≡ run (λ n. cond (is_declared (type n)) (under n) []) field_numbers
   fields_run =
-      in_order (listed first c.fields) (listed_ascends first 1 1 (2 ^ 29 - 1) c.fields (omega arith) (omega arith) shaped.fields_rise)
-      ∙ run_all (λ n. payloads n (listed first c.fields)) (λ n. cond (is_declared (type n)) (under n) []) (λ n le. listed_at first n 1 (2 ^ 29 - 1) c.fields shaped.fields_rise ∙ first_at n)
+      in_order (listed first c.fields) (listed_ascends first 1 1 (2 ^ 29 - 1) c.fields (omega arith) (omega arith) fields_rise)
+      ∙ run_all (λ n. payloads n (listed first c.fields)) (λ n. cond (is_declared (type n)) (under n) []) (λ n le. listed_at first n 1 (2 ^ 29 - 1) c.fields fields_rise ∙ first_at n)
 
   -- and the others
   others_run : mixed second 0 c.extensions c.unknown ≡ run (λ n. cond (is_declared (type n)) [] (under n)) field_numbers
   others_run =
       let top = 2 ^ 29 - 1 in
-      let from_zero = mixed_ascends second 0 top c.extensions c.unknown (omega arith) shaped.extensions_rise (λ l h le. between_ascend l 1 top h c.unknown le shaped.unknown_ascend) (λ l le. above_ascend l 1 top c.unknown le shaped.unknown_ascend) in
+      let from_zero = mixed_ascends second 0 top c.extensions c.unknown (omega arith) extensions_rise (λ l h le. between_ascend l 1 top h c.unknown le shaped.ordered.unknown) (λ l le. above_ascend l 1 top c.unknown le shaped.ordered.unknown) in
       in_order (mixed second 0 c.extensions c.unknown) (raised from_zero)
       ∙ run_all (λ n. payloads n (mixed second 0 c.extensions c.unknown)) (λ n. cond (is_declared (type n)) [] (under n))
-      (λ n le. mixed_at second n 0 top c.extensions c.unknown shaped.extensions_rise
+      (λ n le. mixed_at second n 0 top c.extensions c.unknown extensions_rise
       ∙ ap (λ ps. ps ++ found second (value_at c.extensions n) n) (filter_in (λ r. nat_lt 0 r.0) n c.unknown (λ r is. grind (arith, is, le))) ∙ second_at n) where
         raised : Ascend 0 (2 ^ 29 - 1) (mixed second 0 c.extensions c.unknown) → Ascend 1 (2 ^ 29 - 1) (mixed second 0 c.extensions c.unknown)
         raised h = positive (mixed second 0 c.extensions c.unknown) h none where
           none : payloads 0 (mixed second 0 c.extensions c.unknown) ≡ []
           none =
-              mixed_at second 0 0 (2 ^ 29 - 1) c.extensions c.unknown shaped.extensions_rise
+              mixed_at second 0 0 (2 ^ 29 - 1) c.extensions c.unknown extensions_rise
               ∙ ap (λ ps. ps ++ found second (value_at c.extensions 0) 0) (filter_out (λ r. nat_lt 0 r.0) 0 c.unknown (λ r is. grind (arith, is)))
-              ∙ ap (λ o. found second o 0) (missing second 0 1 (2 ^ 29 - 1) c.extensions (omega arith) shaped.extensions_rise)
+              ∙ ap (λ o. found second o 0) (missing second 0 1 (2 ^ 29 - 1) c.extensions (omega arith) extensions_rise)
 
           positive : (rs : List (ℕ × Payload)) → Ascend 0 (2 ^ 29 - 1) rs → payloads 0 rs ≡ [] → Ascend 1 (2 ^ 29 - 1) rs
           positive [] h e = omega arith
@@ -265,19 +260,14 @@ module _ (d : MessageDescriptor) (keys_of : HaveMapKeys d.pool.now) (parts : Hav
   pub content_same : content pool d.index (forms c.fields) (forms c.extensions) c.unknown ≡ bytes (arranged type under)
   content_same =
       let top = 2 ^ 29 - 1 in
-      ap (λ l. l ++ others_down pool d.index (reverse (forms c.extensions)) c.unknown) (fields_are c.fields (found_each 1 top c.fields shaped.fields_rise))
+      ap (λ l. l ++ others_down pool d.index (reverse (forms c.extensions)) c.unknown) (fields_are c.fields (found_each 1 top c.fields fields_rise))
       ∙ ap (λ l. bytes (listed first c.fields) ++ l)
       (others_are pool d.index (reverse (forms c.extensions)) c.unknown
-      ∙ down_up (extension_bytes pool d.index) 0 1 top (forms c.extensions) c.unknown (rise_forms 1 top c.extensions shaped.extensions_rise)
-      ∙ others_up 0 c.extensions c.unknown (found_each 1 top c.extensions shaped.extensions_rise))
+      ∙ down_up (extension_bytes pool d.index) 0 1 top (forms c.extensions) c.unknown (rise_forms 1 top c.extensions extensions_rise)
+      ∙ others_up 0 c.extensions c.unknown (found_each 1 top c.extensions extensions_rise))
       ∙ ap (λ rs. bytes rs ++ bytes (mixed second 0 c.extensions c.unknown)) fields_run
       ∙ ap (λ rs. bytes (run (λ n. cond (is_declared (type n)) (under n) []) field_numbers) ++ bytes rs) others_run
       ∙ sym (bytes_join (run (λ n. cond (is_declared (type n)) (under n) []) field_numbers) (run (λ n. cond (is_declared (type n)) [] (under n)) field_numbers))
-
--- what a message holds at each depth
-abbrev pub Shaped : ℕ → DynamicMessage → Type 0
-Shaped zero m = ⊥
-Shaped (suc levels) m = IsShaped (Shaped levels) m.descriptor (content_of m)
 
 module _ (pool : PoolType) (keys_of : HaveMapKeys pool) (parts : HaveEntryFields pool) (repeats : HaveLists pool) (types_of : Types) (told : (i n : ℕ) → i < length pool.messages → types_of (name_at pool i) n ≡ field_at pool i n) where
   -- the bytes of a message are those of its view

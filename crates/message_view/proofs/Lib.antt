@@ -1,6 +1,8 @@
 pub mod Accepting
 pub mod Admitting
 pub mod Decoded
+pub mod Encoded
+pub mod Changed
 pub mod Defaults
 pub mod Elements
 pub mod Entries

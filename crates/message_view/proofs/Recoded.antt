@@ -31,15 +31,15 @@ use Rattle.protobuf_model.specs.Values.{Message, nothing}
 use Rattle.protobuf_model.proofs.Bytewise.{bytes_mean, one_form, one_meaning}
 use Rattle.protobuf_model.proofs.Chains.{passes, passes_through, same_as_direct}
 use Rattle.message_view.specs.Recoded.{Recodes, type_of, RecodesThrough}
+use Rattle.message_view.specs.Shaped.{IsInShape, Shaped}
 use Rattle.message_view.specs.Sound.{IsSound}
 use Rattle.message_view.specs.Types.{name_at, types_of}
 use Rattle.message_view.specs.Views.{view}
-use Rattle.message_view.proofs.Arranging.{Shaped, shaped_bytes}
 use Rattle.message_view.proofs.Decoded.{decoded_means, decoded_suits, told_refused}
+use Rattle.message_view.proofs.Encoded.{shape_written}
 use Rattle.message_view.proofs.Forms.{bytes_opened}
 use Rattle.message_view.proofs.Defaults.{have_defaults}
 use Rattle.message_view.proofs.Shapes.{AreKept, kept_shaped}
-use Rattle.message_view.proofs.Sound.{named}
 
 -- what is decoded suits its type, in the order of its numbers
 pub decoded_shaped : (d : MessageDescriptor) (bytes : List ℕ) (m : DynamicMessage) → m.descriptor ≡ d → IsSpelled d bytes m → Shaped 101 m
@@ -49,10 +49,7 @@ decoded_shaped d bytes m type (rs, spelled, keeps, some, also, fields, (extensio
 
 -- what is decoded is written in the one form of what it means
 pub decoded_written : (d : MessageDescriptor) → IsSound d.pool.now → (bytes : List ℕ) (m : DynamicMessage) → m.descriptor ≡ d → IsSpelled d bytes m → message_bytes m ≡ bytes_of (types_of d.pool.now) (name_at d.pool.now d.index) (view m)
-decoded_written d sound bytes m type spelled =
-    let pool = d.pool.now in
-    shaped_bytes pool sound.keys sound.entries sound.lists (types_of pool) (named pool sound.names) 101 m (ap (λ (d : MessageDescriptor). d.pool.now) type) (decoded_shaped d bytes m type spelled)
-    ∙ ap (λ (d : MessageDescriptor). bytes_of (types_of pool) (name_at pool d.index) (view m)) type
+decoded_written d sound bytes m type spelled = shape_written d sound m type (decoded_shaped d bytes m type spelled)
 
 -- recoding is the model's
 pub recodes : (d : MessageDescriptor) → IsSound d.pool.now → (bytes out : List ℕ) → AreBytes bytes → Recodes d bytes out → IsRecoded (types_of d.pool.now) (name_at d.pool.now d.index) bytes out

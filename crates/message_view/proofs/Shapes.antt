@@ -37,14 +37,12 @@ use Rattle.reflect_decode.specs.Spares.{Merges, ReadsMember}
 use Rattle.reflect_decode.specs.Taking.{AreMade, AddsMessages, TakesAs, Leaves}
 use Rattle.reflect_decode.proofs.Ordering.{nothing_ordered}
 use Rattle.reflect_decode.proofs.Telling.{both_kinds}
-use Rattle.message_view.proofs.Arranging.{IsShaped, Shaped}
 use Rattle.message_view.proofs.Accepting.{not_float}
 use Rattle.message_view.proofs.Entries.{Sort, plain, floating, message_type, sort_of, some_default}
 use Rattle.message_view.proofs.Fields.{owned_whole, extension_whole, none_owned}
 use Rattle.message_view.proofs.Left.{AreLeft, merged_left}
 use Rattle.message_view.proofs.Oneofs.{payloads_same}
-use Rattle.message_view.proofs.Ordering.{rises}
-use Rattle.message_view.proofs.Written.{FitsOne, FitsAs}
+use Rattle.message_view.specs.Shaped.{FitsAs, FitsOne, IsShaped, Shaped}
 
 -- of a value as one
 one_plain : (inner : DynamicMessage → Type 0) (pool : PoolType) (f : FieldType) (v : Value) (w : held.Single) → IsScalarType f.kind → singles.single v ≡ Some w → FitsOne inner pool f v
@@ -178,9 +176,7 @@ module _ (takes : Takes) (shape : DynamicMessage → Type 0) (makes : Makes take
 
   pub shapes : IsShaped shape d c
   shapes = record {
-    fields_rise = rises c.fields kept.ordered.fields;
-    extensions_rise = rises c.extensions kept.ordered.extensions;
-    unknown_ascend = kept.ordered.unknown;
+    ordered = kept.ordered;
     fields = fits_field;
     extensions = fits_extension;
     apart = kept.apart;

@@ -34,6 +34,7 @@ use Rattle.protobuf_model.specs.Scalars.{written_as, same, same_int, same_bool}
 use Rattle.protobuf_model.specs.Bytes.{numbered, in_kind, in_frame, is_packable, bare, unless_default, entry_records, payloads_in, payloads_under, each_payload, entry_payloads, written, bytes_of}
 use Rattle.protobuf_model.proofs.Bridge.{bytes_join}
 use Rattle.protobuf_model.proofs.Pieces.{map_append, flat_map-append}
+use Rattle.message_view.specs.Shaped.{FitsOne, FitsAs}
 use Rattle.message_view.specs.Singles.{scalar_of, single_view}
 use Rattle.message_view.specs.Sound.{HaveEntryFields}
 use Rattle.message_view.specs.Types.{name_at, frame_of, kind_in, default_of, part_of, key_of as key_at, entry_part, field_of}
@@ -139,19 +140,6 @@ find_passes test (y ∷ ys) x e = by (λ k. find_passes test ys x k) (test y) re
 entry_number : (pool : PoolType) (t : KindType) (n : ℕ) (g : FieldType) → entry_field pool t n ≡ Some g → g.number ≡ n
 entry_number pool (types.message i) n g e = let passes = find_passes (λ (f : FieldType). f.number == n) (type_at pool i).fields g e in grind (arith, passes)
 entry_number pool t n g e = absurd (cc e)
-
--- a value that suits a field as one value
-pub record FitsOne (inner : DynamicMessage → Type 0) (pool : PoolType) (f : FieldType) (v : Value) : Type 0 where
-  pub plain : IsScalarType f.kind → (w : held.Single) × (singles.single v ≡ Some w)
-  pub nested : IsMessageType f.kind → (m : DynamicMessage) × (message_in v ≡ Some m) × IsKind pool (publics.Message m.descriptor) f.kind × inner m
-
--- by whether the field is a map, and whether it is a list
-abbrev pub FitsAs : (DynamicMessage → Type 0) → PoolType → FieldType → Bool → Bool → Value → Type 0
-FitsAs inner pool f true repeated v =
-    (es : List (MapKey × Value)) × (map_entries v ≡ Some es)
-    × AllByRecursion (λ e. (values : FieldType) → entry_field pool f.kind 2 ≡ Some values → FitsOne inner pool values e.1) es
-FitsAs inner pool f false true v = (vs : List Value) × (list_items v ≡ Some vs) × AllByRecursion (FitsOne inner pool f) vs
-FitsAs inner pool f false false v = FitsOne inner pool f v
 
 module _ (pool : PoolType) (types_of : Types) (inner : DynamicMessage → Type 0) (inner_bytes : (m : DynamicMessage) → m.descriptor.pool.now ≡ pool → inner m → message_bytes m ≡ bytes_of types_of (name_at pool m.descriptor.index) (view m)) where
   abbrev payloads_one : FieldType → Content → List Payload

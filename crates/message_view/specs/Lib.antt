@@ -3,3 +3,4 @@ pub mod Sound
 pub mod Types
 pub mod Views
 pub mod Recoded
+pub mod Shaped

@@ -22,10 +22,9 @@ use Rattle.message_view.specs.Singles.{single_view}
 use Rattle.message_view.specs.Sound.{HaveEntryFields}
 use Rattle.message_view.specs.Types.{default_of, entry_part, key_of, kind_in, label_of, part_of, values_of}
 use Rattle.message_view.specs.Views.{content_view, is_set}
-use Rattle.message_view.proofs.Arranging.{Shaped}
 use Rattle.message_view.proofs.Entries.{Sort, plain, floating, message_type, sort_of, some_default, default_is}
 use Rattle.message_view.proofs.Seen.{single_seen, message_seen, list_seen, map_seen, pairs_view}
-use Rattle.message_view.proofs.Written.{FitsOne, FitsAs}
+use Rattle.message_view.specs.Shaped.{FitsAs, FitsOne, Shaped}
 use Rattle.text_view.specs.Names.{name_in}
 use Rattle.text_view.proofs.Set.{list_repeats, map_repeats}
 use Rattle.print_view.proofs.Parts.{HaveValues}

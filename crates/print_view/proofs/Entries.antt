@@ -39,13 +39,13 @@ use Rattle.message_view.specs.Types as described
 use Rattle.message_view.specs.Views as views
 use Rattle.message_view.specs.Views.{held_in, held_either, content_view, contents_view, view, view_of}
 use Rattle.message_view.proofs.Accepting.{known_whole, extension_known_whole}
-use Rattle.message_view.proofs.Arranging.{IsShaped, Shaped}
 use Rattle.message_view.proofs.Entries.{Sort, plain, floating, message_type, sort_of}
 use Rattle.message_view.proofs.Fields.{known, known_extension_is, none_owned}
 use Rattle.message_view.proofs.Forms.{single_form_seen, message_form_seen}
-use Rattle.message_view.proofs.Ordering.{found_each}
+use Rattle.message_view.proofs.Ordering.{found_each, rises}
 use Rattle.message_view.proofs.Seen.{single_seen, message_seen, value_at-view, view_opened}
-use Rattle.message_view.proofs.Written.{FitsOne, FitsAs, default_same}
+use Rattle.message_view.proofs.Written.{default_same}
+use Rattle.message_view.specs.Shaped.{FitsAs, FitsOne, IsShaped, Shaped}
 use Rattle.text_view.specs.Names.{name_in, names_of, printed_name, value_kind}
 use Rattle.text_view.specs.Schemas.{schema_of}
 use Rattle.text_view.proofs.Apart.{only_one}
@@ -439,10 +439,10 @@ module _ (p skip as_declared : Bool) (m : DynamicMessage) (present : skip ≡ fa
   placed_at k = flat_map (λ n. printed_held own schema inner (names_of pool k) n (field_at pool k n) (view m n)) (printing_order own (names_of pool k) (λ n. field_at pool k n))
 
   found_fields : Found (fields_of m) (fields_of m)
-  found_fields = found_each 1 (2 ^ 29 - 1) (fields_of m) shaped.fields_rise
+  found_fields = found_each 1 (2 ^ 29 - 1) (fields_of m) (rises (fields_of m) shaped.ordered.fields)
 
   found_extensions : Found (extensions_of m) (extensions_of m)
-  found_extensions = found_each 1 (2 ^ 29 - 1) (extensions_of m) shaped.extensions_rise
+  found_extensions = found_each 1 (2 ^ 29 - 1) (extensions_of m) (rises (extensions_of m) shaped.ordered.extensions)
 
   -- ---- as they are declared
 
@@ -630,7 +630,7 @@ module _ (p skip as_declared : Bool) (m : DynamicMessage) (present : skip ≡ fa
   arranged false true is ds are =
       subst (Arranged false) (sym are) (
         filtered declared printed_at field_numbers ∙ same_numbers (λ n. cond (declared n) (printed_at n) []) (under first (fields_of m)) (λ n le. first_at n ∙ set_at is n (value_at (fields_of m) n))
-            ∙ all_numbers first (fields_of m) shaped.fields_rise ∙ sym (fields_said (fields_of m) found_fields),
+            ∙ all_numbers first (fields_of m) (rises (fields_of m) shaped.ordered.fields) ∙ sym (fields_said (fields_of m) found_fields),
         fields_fit (fields_of m) found_fields,
       )
   arranged false false is ds (found, printed, sorted) =
@@ -660,5 +660,5 @@ module _ (p skip as_declared : Bool) (m : DynamicMessage) (present : skip ≡ fa
             ∙ ap (λ l. l ++ flat_map printed_at (filter (λ n. not (declared n)) field_numbers)) all.0
             ∙ ap (λ l. map pair ds ++ l)
             (filtered (λ n. not (declared n)) printed_at field_numbers ∙ same_numbers (λ n. cond (not (declared n)) (printed_at n) []) (under second (extensions_of m)) (λ n le. second_at n)
-            ∙ all_numbers second (extensions_of m) shaped.extensions_rise ∙ sym (extensions_said (extensions_of m) found_extensions)),
+            ∙ all_numbers second (extensions_of m) (rises (extensions_of m) shaped.ordered.extensions) ∙ sym (extensions_said (extensions_of m) found_extensions)),
       )

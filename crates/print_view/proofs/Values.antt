@@ -34,10 +34,9 @@ use Rattle.message_view.specs.Singles.{single_view}
 use Rattle.message_view.specs.Sound.{HaveEntryFields}
 use Rattle.message_view.specs.Types.{name_at, kind_in, entry_part, values_of}
 use Rattle.message_view.specs.Views.{content_view, view}
-use Rattle.message_view.proofs.Arranging.{Shaped}
 use Rattle.message_view.proofs.Entries.{Sort, plain, floating, message_type, sort_of}
 use Rattle.message_view.proofs.Seen.{single_seen, message_seen, list_seen, map_seen, pairs_view}
-use Rattle.message_view.proofs.Written.{FitsOne, FitsAs}
+use Rattle.message_view.specs.Shaped.{FitsAs, FitsOne, Shaped}
 use Rattle.text_view.specs.Names.{name_in}
 use Rattle.text_view.specs.Schemas.{schema_of}
 use Rattle.print_view.specs.Forms.{form_of}

@@ -36,11 +36,11 @@ use Rattle.text_model.specs.Tree.{FieldName, plain, extension, expansion, Scalar
 use Rattle.text_model.specs.Value.{written}
 use Rattle.message_view.specs.Types.{name_at, types_of}
 use Rattle.message_view.specs.Views.{view}
-use Rattle.message_view.proofs.Arranging.{Shaped, shaped_bytes}
+use Rattle.message_view.proofs.Arranging.{shaped_bytes}
 use Rattle.message_view.proofs.Entries.{entry_of_map}
 use Rattle.message_view.proofs.Fields.{owned, extension_owned}
 use Rattle.message_view.proofs.Sound.{named}
-use Rattle.message_view.proofs.Written.{FitsOne}
+use Rattle.message_view.specs.Shaped.{Fits, FitsOne, Shaped}
 use Rattle.message_view.specs.Sound.{IsSound}
 use Rattle.text_view.proofs.Adds.{list_of_many}
 use Rattle.text_view.proofs.Apart.{no_field_there}
@@ -51,7 +51,7 @@ use Rattle.text_view.proofs.MapShapes.{AllValues, entries_fit, map_after}
 use Rattle.text_view.proofs.Once.{one_of, put_here, second}
 use Rattle.text_view.proofs.Owned.{OwnsTarget, named_target, pool_is, target_whole}
 use Rattle.text_view.proofs.Set.{singled}
-use Rattle.text_view.proofs.Shaped.{Fits, IsFit, IsShapely, blank_shapely, fit_all, fit_one, fits_single, list_after, list_before, shape_kept, shaped, target_number}
+use Rattle.text_view.proofs.Shaped.{IsFit, IsShapely, blank_shapely, fit_all, fit_one, fits_single, list_after, list_before, shape_kept, shaped, target_number}
 
 -- a message of so many levels at most below it, by what it holds and as one more level sees it
 abbrev Both : ℕ → DynamicMessage → Type 0

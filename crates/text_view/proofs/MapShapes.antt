@@ -27,13 +27,13 @@ use Rattle.reflect_message.specs.Shown.{IsHeldOrDefault}
 use Rattle.reflect_message.specs.Names.{DynamicMessage, Value}
 use Rattle.reflect_message.specs.declared.value.ValueOf.TheVariants as held
 use Rattle.message_view.proofs.Entries.{some_default}
-use Rattle.message_view.proofs.Written.{FitsOne, FitsAs}
+use Rattle.message_view.specs.Shaped.{Fits, FitsAs, FitsOne}
 use Rattle.message_view.specs.Sound.{IsSound}
 use Rattle.text_view.proofs.Entries.{key_part, value_known, value_part, values}
 use Rattle.text_view.proofs.Given.{the_entry, value_no_float, value_there}
 use Rattle.text_view.proofs.Puts.{message_is}
 use Rattle.text_view.proofs.Rivals.{no_many}
-use Rattle.text_view.proofs.Shaped.{Fits, IsShapely, single_fits}
+use Rattle.text_view.proofs.Shaped.{IsShapely, single_fits}
 
 -- what holds of the values of a map, and of one more
 inserted : (P : Value → Type 0) (es : List (MapKey × Value)) (k : MapKey) (v : Value) → AllByRecursion (λ (e : MapKey × Value). P e.1) es → P v → AllByRecursion (λ (e : MapKey × Value). P e.1) (insert_entry ghosts.cmp es k v)

@@ -29,10 +29,8 @@ use Rattle.reflect_format.specs.Takes.{target_type}
 use Rattle.reflect_format.specs.declared.target.Target.{Target}
 use Rattle.reflect_format.specs.declared.target.Target.TheVariants as targets
 use Rattle.text_model.specs.Tree.{ScalarValue}
-use Rattle.message_view.proofs.Arranging.{IsShaped}
 use Rattle.message_view.proofs.Fields.{known, owned, extension_owned}
-use Rattle.message_view.proofs.Ordering.{rises}
-use Rattle.message_view.proofs.Written.{FitsOne, FitsAs}
+use Rattle.message_view.specs.Shaped.{Fits, FitsOne, IsShaped}
 use Rattle.message_view.specs.Sound.{AreApart, HaveFieldNumbers, IsFieldNumber}
 use Rattle.text_view.proofs.Apart.{no_field_there}
 use Rattle.text_view.proofs.Kept.{LeavesOthers, StaysOrGoes}
@@ -40,9 +38,6 @@ use Rattle.text_view.proofs.Owned.{OwnsTarget}
 use Rattle.text_view.proofs.Puts.{is_number, message_is, number_is}
 use Rattle.text_view.proofs.Rivals.{place_of}
 use Rattle.text_view.proofs.Set.{singled}
-
-abbrev pub Fits : (DynamicMessage → Type 0) → PoolType → FieldType → Value → Type 0
-Fits inner pool f v = FitsAs inner pool f (holds_map pool f) (holds_list pool f) v
 
 -- what a message of the type at a place holds, where `inner` holds of the messages inside
 pub record IsShapely (inner : DynamicMessage → Type 0) (pool : PoolType) (i : ℕ) (c : Content) : Type 0 where
@@ -63,9 +58,11 @@ none_known d n none = by (known_field d.pool.now d.index n) refl where
 
 pub shaped : (inner : DynamicMessage → Type 0) (d : MessageDescriptor) (c : Content) → IsShapely inner d.pool.now d.index c → IsShaped inner d c
 shaped inner d c h = record {
-  fields_rise = rises c.fields h.in_fields;
-  extensions_rise = rises c.extensions h.in_extensions;
-  unknown_ascend = subst (Ascend 1 (2 ^ 29 - 1)) (sym h.unknown) (omega arith);
+  ordered = record {
+    fields = h.in_fields;
+    extensions = h.in_extensions;
+    unknown = subst (Ascend 1 (2 ^ 29 - 1)) (sym h.unknown) (omega arith);
+  };
   fields = λ f owns v at. h.field (field_type f).number (field_type f) (owned d f owns) v at;
   extensions = λ x owns none v at. h.extension (extension_type x).number (extension_type x) none (extension_owned d x owns) v at;
   apart = λ f owns. h.apart (field_type f).number (field_type f) (owned d f owns);

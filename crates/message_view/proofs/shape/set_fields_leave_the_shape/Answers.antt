@@ -1,0 +1,5 @@
+use Rattle.message_view.proofs.Changed.{set_shaped}
+use Rattle.message_view.proofs.shape.set_fields_leave_the_shape.Goals as goal
+
+pub returns : goal.returns
+returns c = set_shaped
