@@ -9,8 +9,7 @@ use Rattle.reflect_message.specs.Declares.{NoField, Owns, OwnsExtension}
 use Rattle.reflect_message.specs.Held.{Same, UpdatesExtension, UpdatesField, extensions_of, fields_of, unknown_of}
 use Rattle.reflect_message.specs.Known.{known_extension, known_field}
 use Rattle.reflect_message.specs.Oneofs.{Changes, SetsField, sibling}
-use Rattle.reflect_message.specs.declared.message.DynamicMessage.{DynamicMessage}
-use Rattle.reflect_message.specs.declared.value.Value.{Value}
+use Rattle.reflect_message.specs.Names.{DynamicMessage, Value}
 use Rattle.reflect_pool.specs.FieldsLeft.{field_type}
 use Rattle.reflect_pool.specs.declared.extension.ExtensionDescriptor.{ExtensionDescriptor}
 use Rattle.reflect_pool.specs.declared.field.FieldDescriptor.{FieldDescriptor}

@@ -6,7 +6,7 @@ use Rattle.protobuf_model.specs.Coded.{Mean, SuitsType}
 use Rattle.protobuf_model.specs.Values.{nothing}
 use Rattle.reflect_decode.specs.Spelled.{IsSpelled, TellsWhy}
 use Rattle.reflect_message.specs.Bytes.{message_bytes}
-use Rattle.reflect_message.specs.declared.message.DynamicMessage.{DynamicMessage}
+use Rattle.reflect_message.specs.Names.{DynamicMessage}
 use Rattle.reflect_pool.specs.declared.message.MessageDescriptor.{MessageDescriptor}
 use Rattle.reflect_wire.specs.Written.{AreBytes}
 use Rattle.reflect_wire.specs.declared.wire_error.WireError.{WireError}
