@@ -1,6 +1,5 @@
 -- What messages hold in a block, once a value in it has changed.
 use Rattle.std.proofs.Common.{◌≡◌, ℕ, List, [], Option, Box, Global, refl, sym, ap, ◌∙◌, subst}
-use Rattle.reflect_wire.specs.Records.{Payload}
 use Rattle.reflect_entries.specs.Entries.{Updates}
 use Rattle.reflect_entries.specs.Undeclared.{undeclared}
 use Rattle.reflect_entries.proofs.Places.{again}

@@ -30,7 +30,7 @@ returns-clause-can_cut c =
 pub returns-clause-too_many : goal.returns-clause-too_many
 returns-clause-too_many c =
     subst (λ p. AreTooMany p c.args.files.items
-        → IsErrAnd c.add_files-outcome.result (λ e. is_too_many e.first ≡ true))
+    → IsErrAnd c.add_files-outcome.result (λ e. is_too_many e.first ≡ true))
     c.take_parts-parts.ensures.holds c.add_files-outcome.ensures.too_many
 
 pub returns-clause-added : goal.returns-clause-added
