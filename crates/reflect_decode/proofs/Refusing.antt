@@ -383,7 +383,7 @@ no_entries v other = by (out-ValueOf MessageDescriptor v) refl where
   by (ValueOf-F.EnumNumber z) e h = absurd (cc h)
   by (ValueOf-F.Message m) e h = absurd (cc h)
   by (ValueOf-F.List vs) e h = absurd (cc h)
-  by (ValueOf-F.Map es) e h = other es (sym (roll-out-ValueOf MessageDescriptor v) ∙ ap roll-ValueOf MessageDescriptor e)
+  by (ValueOf-F.Map es) e h = other es (sym (roll-out-ValueOf MessageDescriptor v) ∙ ap (roll-ValueOf MessageDescriptor) e)
 
 abbrev items_in : ValueOf-F MessageDescriptor Held Value DynamicMessage Parts → Option (List Value)
 items_in o = elim o [
@@ -413,7 +413,7 @@ no_items v other = by (out-ValueOf MessageDescriptor v) refl where
   by (ValueOf-F.Bytes b) e h = absurd (cc h)
   by (ValueOf-F.EnumNumber z) e h = absurd (cc h)
   by (ValueOf-F.Message m) e h = absurd (cc h)
-  by (ValueOf-F.List vs) e h = other vs (sym (roll-out-ValueOf MessageDescriptor v) ∙ ap roll-ValueOf MessageDescriptor e)
+  by (ValueOf-F.List vs) e h = other vs (sym (roll-out-ValueOf MessageDescriptor v) ∙ ap (roll-ValueOf MessageDescriptor) e)
   by (ValueOf-F.Map es) e h = absurd (cc h)
 
 abbrev message_at : ValueOf-F MessageDescriptor Held Value DynamicMessage Parts → Option DynamicMessage
@@ -443,7 +443,7 @@ no_message_there v other = by (out-ValueOf MessageDescriptor v) refl where
   by (ValueOf-F.String t) e h = absurd (cc h)
   by (ValueOf-F.Bytes b) e h = absurd (cc h)
   by (ValueOf-F.EnumNumber z) e h = absurd (cc h)
-  by (ValueOf-F.Message m) e h = other m (sym (roll-out-ValueOf MessageDescriptor v) ∙ ap roll-ValueOf MessageDescriptor e)
+  by (ValueOf-F.Message m) e h = other m (sym (roll-out-ValueOf MessageDescriptor v) ∙ ap (roll-ValueOf MessageDescriptor) e)
   by (ValueOf-F.List vs) e h = absurd (cc h)
   by (ValueOf-F.Map es) e h = absurd (cc h)
 

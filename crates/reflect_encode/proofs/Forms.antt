@@ -130,7 +130,7 @@ one_single v f other = ap (λ w. w.one f) (fold_out-ValueOf MessageDescriptor (P
   by (ValueOf-F.String t) e = refl
   by (ValueOf-F.Bytes b) e = refl
   by (ValueOf-F.EnumNumber z) e = refl
-  by (ValueOf-F.Message m) e = absurd (other m (sym (roll-out-ValueOf MessageDescriptor v) ∙ ap roll-ValueOf MessageDescriptor e))
+  by (ValueOf-F.Message m) e = absurd (other m (sym (roll-out-ValueOf MessageDescriptor v) ∙ ap (roll-ValueOf MessageDescriptor) e))
   by (ValueOf-F.List vs) e = refl
   by (ValueOf-F.Map es) e = refl
 
