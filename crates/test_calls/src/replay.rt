@@ -4,16 +4,16 @@
 //! `op` names what the calls are made of, `calls` has them, and each has under `is` what it
 //! answers. Bytes are hex text.
 
-use crate::texts::{replay_message, replay_values};
-use crate::types::TypeCase;
+use crate::pools::PoolCase;
+use crate::starts::start_of;
 use reflect_link::{DescriptorPool, PoolReaders};
 use serde_json::Value as Json;
 use std::alloc::{AllocError, Global};
 use std::collections::BTreeMap;
-use test_files::Replays;
+use test_json::Text;
 use test_json::members::{items, number, text};
-use test_pools::{PoolCase, start_of};
-use test_values::{replay_calls, replay_key, replay_value};
+use test_messages::{replay_message, replay_values};
+use test_values::{TypeCase, replay_calls, replay_key, replay_value};
 
 /// The pools that cases make for later ones.
 #[derive(Drop)]
@@ -23,25 +23,42 @@ pub struct Replay {
 }
 
 impl Replay {
+    pub fn new(alloc: Global) -> Replay {
+        Replay {
+            alloc,
+            pools: BTreeMap::new(alloc),
+        }
+    }
+
+    /// What is wrong with a case, empty where it holds.
+    pub fn difference(&mut self, case: &Json) -> Result<String, AllocError> {
+        let mut difference = Text::new(self.alloc);
+        if text(case, "op") == "pool" {
+            self.keep_pool(case, &mut difference)?;
+        } else {
+            match self.pools.get(&number(case, "pool")) {
+                Some(pool) => replay_of(self.alloc, pool, case, &mut difference),
+                None => difference.push_str("no such pool "),
+            }
+        }
+        difference.into_string()
+    }
+
     /// Makes the pool of a case, and the calls of it, and keeps it.
-    fn keep_pool(&mut self, case: &Json, difference: &mut String) -> Result<(), AllocError> {
+    fn keep_pool(&mut self, case: &Json, difference: &mut Text) -> Result<(), AllocError> {
         let Some(pool) = start_of(self.alloc, case)? else {
-            return difference.push_str("no pool ");
+            difference.push_str("no pool ");
+            return Ok(());
         };
         let mut asked = PoolCase { pool };
-        replay_calls(self.alloc, &mut asked, case, difference)?;
+        replay_calls(self.alloc, &mut asked, case, difference);
         self.pools.insert(number(case, "id"), asked.pool)?;
         Ok(())
     }
 }
 
 /// Makes the calls of a case that a pool has been made for.
-fn replay_of(
-    alloc: Global,
-    pool: &DescriptorPool,
-    case: &Json,
-    difference: &mut String,
-) -> Result<(), AllocError> {
+fn replay_of(alloc: Global, pool: &DescriptorPool, case: &Json, difference: &mut Text) {
     let Some(descriptor) = pool.get_message_by_name(text(case, "type")) else {
         return difference.push_str("no type ");
     };
@@ -56,27 +73,5 @@ fn replay_of(
         "values" => replay_values(alloc, pool, case, difference),
         "key" => replay_key(alloc, descriptor, case, difference),
         _ => difference.push_str("no such cases "),
-    }
-}
-
-impl Replays for Replay {
-    fn new(alloc: Global) -> Replay {
-        Replay {
-            alloc,
-            pools: BTreeMap::new(alloc),
-        }
-    }
-
-    fn difference(&mut self, case: &Json) -> Result<String, AllocError> {
-        let mut difference = String::new(self.alloc);
-        if text(case, "op") == "pool" {
-            self.keep_pool(case, &mut difference)?;
-            return Ok(difference);
-        }
-        match self.pools.get(&number(case, "pool")) {
-            Some(pool) => replay_of(self.alloc, pool, case, &mut difference)?,
-            None => difference.push_str("no such pool ")?,
-        }
-        Ok(difference)
     }
 }

@@ -1,16 +1,16 @@
 //! A line for each declaration of a pool, sort by sort: files, messages, enums, extensions,
 //! services.
 
+use crate::fields::write_extension;
+use crate::parts::{
+    found_or_dash, listed_or_dash, record_name, write_names, write_path, write_truth,
+};
 use crate::types::{write_enums, write_messages};
 use reflect_link::{
     DescriptorPool, FileDescriptor, InFile, MethodDescriptor, PoolReaders, ServiceDescriptor,
     Syntax,
 };
 use std::alloc::{AllocError, Global};
-use test_fields::{
-    found_or_dash, listed_or_dash, record_name, write_extension, write_names, write_path,
-    write_truth,
-};
 use test_json::Text;
 
 /// What all readers of the pool's descriptors answer.

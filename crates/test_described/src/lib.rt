@@ -2,6 +2,9 @@
 #![tactic(auto)]
 
 mod declarations;
+mod fields;
+mod listed;
+mod parts;
 mod types;
 
 pub use declarations::described;

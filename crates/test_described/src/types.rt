@@ -1,11 +1,12 @@
 //! Lines of messages with their oneofs and fields, and of enums with their values.
 
+use crate::fields::write_field;
+use crate::parts::{
+    found_or_dash, listed_or_dash, record_name, write_names, write_path, write_truth,
+};
 use reflect_link::{
     DescriptorPool, EnumDescriptor, EnumReaders, EnumValueDescriptor, EnumValueReaders, InFile,
     MessageDescriptor, MessageReaders, OneofDescriptor, OneofReaders, PoolReaders,
-};
-use test_fields::{
-    found_or_dash, listed_or_dash, record_name, write_field, write_names, write_path, write_truth,
 };
 use test_json::Text;
 

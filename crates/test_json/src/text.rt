@@ -6,7 +6,7 @@ use std::fmt::Display;
 /// A text that is written piece by piece.
 ///
 /// Want of memory is told when the text is taken, so that none who writes a piece of it has an error
-/// to pass on.
+/// to pass on: a function that writes an answer costs a proof of each place where it returns.
 #[derive(Drop)]
 pub struct Text {
     written: String,
@@ -21,16 +21,22 @@ impl Text {
         }
     }
 
-    /// Says that there was no room for a piece.
+    /// Says that there was no room.
     pub fn give_up(&mut self) {
         self.has_room = false;
     }
 
-    /// Writes a piece.
-    pub fn push_str(&mut self, piece: &str) {
-        if self.written.push_str(piece).is_err() {
+    /// Says whether a call had room.
+    pub fn check(&mut self, outcome: Result<(), AllocError>) {
+        if outcome.is_err() {
             self.give_up();
         }
+    }
+
+    /// Writes a piece.
+    pub fn push_str(&mut self, piece: &str) {
+        let outcome = self.written.push_str(piece);
+        self.check(outcome);
     }
 
     /// Writes a word and a text behind it.
@@ -53,7 +59,12 @@ impl Text {
         }
     }
 
-    /// The whole text, if there was room for it.
+    /// Whether nothing is written.
+    pub fn is_empty(&self) -> bool {
+        self.written.is_empty()
+    }
+
+    /// The whole text, if there was room for it and for all that was checked.
     pub fn into_string(self) -> Result<String, AllocError> {
         let Text { written, has_room } = self;
         if has_room {

@@ -1,19 +1,20 @@
 //! What comes of a case, beside what is wanted.
 
+use crate::text::Text;
 use serde_json::Value;
 use std::alloc::{AllocError, Global};
 use std::fmt::Display;
 
-/// What is wanted of a case, member by member, and the first difference of what came.
+/// What is wanted of a case, member by member, and the differences of what came.
 ///
 /// Each member that is wanted has to come, as the same text. What comes under a name that is not
-/// asked for is passed over.
+/// asked for is passed over. Want of memory is told when the differences are taken.
 #[derive(Drop)]
 pub struct Told<'c> {
     alloc: Global,
     wanted: &'c Value,
     met: usize,
-    difference: String,
+    difference: Text,
 }
 
 impl<'c> Told<'c> {
@@ -23,7 +24,7 @@ impl<'c> Told<'c> {
             alloc,
             wanted,
             met: 0,
-            difference: String::new(alloc),
+            difference: Text::new(alloc),
         }
     }
 
@@ -37,32 +38,45 @@ impl<'c> Told<'c> {
         self.wanted.get(name).is_some()
     }
 
+    /// Says that there was no room.
+    pub fn give_up(&mut self) {
+        self.difference.give_up();
+    }
+
     /// Takes what came under a name, which comes once.
-    pub fn tell(
-        &mut self,
-        name: &'static str,
-        came: impl Display + Drop,
-    ) -> Result<(), AllocError> {
-        let Some(wanted) = self.wanted_text(name) else {
-            return Ok(());
-        };
-        self.met = self.met.saturating_add(1);
-        let came = format!(in self.alloc; "{came}")?;
-        if came.as_str() != wanted {
-            let difference = &mut self.difference;
-            write!(difference, "{name}: {came} instead of {wanted}; ")?;
+    pub fn tell(&mut self, name: &'static str, came: impl Display + Drop) {
+        if let Some(wanted) = self.wanted_text(name) {
+            self.met = self.met.saturating_add(1);
+            match format!(in self.alloc; "{came}") {
+                Ok(came) => self.compare(name, came.as_str(), wanted),
+                Err(_) => self.give_up(),
+            }
         }
-        Ok(())
+    }
+
+    /// Notes where another text came than is wanted.
+    fn compare(&mut self, name: &'static str, came: &str, wanted: &str) {
+        if came != wanted {
+            let difference = &mut self.difference;
+            write!(difference, "{name}: {came} instead of {wanted}; ");
+        }
+    }
+
+    /// Takes a text that came under a name.
+    pub fn tell_text(&mut self, name: &'static str, came: Text) {
+        match came.into_string() {
+            Ok(came) => self.tell(name, came.as_str()),
+            Err(_) => self.give_up(),
+        }
     }
 
     /// Takes bytes that came under a name, which are wanted as hex text.
-    pub fn tell_bytes(&mut self, name: &'static str, came: &[u8]) -> Result<(), AllocError> {
-        if !self.asks(name) {
-            return Ok(());
-        }
-        match hex::encode(self.alloc, came) {
-            Ok(came) => self.tell(name, came.as_str()),
-            Err(_) => Err(AllocError),
+    pub fn tell_bytes(&mut self, name: &'static str, came: &[u8]) {
+        if self.asks(name) {
+            match hex::encode(self.alloc, came) {
+                Ok(came) => self.tell(name, came.as_str()),
+                Err(_) => self.give_up(),
+            }
         }
     }
 
@@ -75,8 +89,8 @@ impl<'c> Told<'c> {
             mut difference,
         } = self;
         if wanted.as_object().map_or(0, |members| members.len()) != met {
-            write!(&mut difference, "{met} members came ")?;
+            write!(difference, "{met} members came ");
         }
-        Ok(difference)
+        difference.into_string()
     }
 }

@@ -1,34 +1,34 @@
 //! Calls of fields by their names.
 
-use reflect_access::FieldsByName;
-use reflect_message::DynamicMessage;
+use reflect_dynamic::{DynamicMessage, FieldsByName};
 use serde_json::Value as Json;
-use std::alloc::{AllocError, Global};
+use std::alloc::Global;
+use test_json::Text;
 use test_json::members::text;
 use test_values::{change_lent, value_of, write_held, write_outcome, write_taken, write_truth};
 
 /// Makes a call of the field of a name.
 pub fn answer_by_name(
     alloc: Global,
-    out: &mut String,
+    out: &mut Text,
     message: &mut DynamicMessage<'_>,
     name: &str,
     call: &Json,
-) -> Result<(), AllocError> {
+) {
     let pool = message.descriptor().parent_pool();
     match text(call, "call") {
         "has" => write_truth(out, message.has_field_by_name(name)),
-        "get" => write_held(out, message.get_field_by_name(name)?),
-        "change" => change_lent(alloc, out, message.get_field_by_name_mut(name)?, call),
-        "set" => message.set_field_by_name(name, value_of(alloc, pool, call)?),
+        "get" => write_held(out, message.get_field_by_name(name)),
+        "change" => change_lent(alloc, out, message.get_field_by_name_mut(name), call),
+        "set" => {
+            let value = value_of(alloc, out, pool, call);
+            out.check(message.set_field_by_name(name, value));
+        }
         "try_set" => {
-            let value = value_of(alloc, pool, call)?;
-            write_outcome(out, message.try_set_field_by_name(name, value))
+            let value = value_of(alloc, out, pool, call);
+            write_outcome(out, message.try_set_field_by_name(name, value));
         }
-        "clear" => {
-            message.clear_field_by_name(name);
-            Ok(())
-        }
+        "clear" => message.clear_field_by_name(name),
         "take" => write_taken(out, message.take_field_by_name(name)),
         _ => out.push_str("no call"),
     }

@@ -5,6 +5,8 @@ mod by_extension;
 mod by_field;
 mod by_name;
 mod by_number;
+mod lent;
 mod messages;
+mod texts;
 
-pub use messages::answer_message;
+pub use texts::{replay_message, replay_values};

@@ -4,23 +4,23 @@ use crate::by_extension::answer_by_extension;
 use crate::by_field::answer_by_field;
 use crate::by_name::answer_by_name;
 use crate::by_number::answer_by_number;
-use reflect_access::{MessageTests, MessageWalks, TakeContents};
-use reflect_decode::DecodeMessage;
-use reflect_encode::EncodeMessage;
-use reflect_message::DynamicMessage;
+use reflect_dynamic::{
+    DecodeMessage, DynamicMessage, EncodeMessage, MessageTests, MessageWalks, TakeContents,
+};
 use serde_json::Value as Json;
-use std::alloc::{AllocError, Global};
-use test_json::members::{bytes, text};
-use test_values::{text_of, u32_of, write_bytes, write_gap, write_hex, write_truth, write_value};
+use std::alloc::Global;
+use test_json::Text;
+use test_json::members::text;
+use test_values::{bytes_of, text_of, u32_of, write_bytes, write_gap, write_truth, write_value};
 
 /// Makes a call of the field of a `number`, of a `name`, of the descriptor of a `field`'s number or
 /// of an `extension`'s; else of the whole message. What it answers is written.
 pub fn answer_message(
     alloc: Global,
-    out: &mut String,
+    out: &mut Text,
     message: &mut DynamicMessage<'_>,
     call: &Json,
-) -> Result<(), AllocError> {
+) {
     if let Some(number) = u32_of(call, "number") {
         return answer_by_number(alloc, out, message, number, call);
     }
@@ -34,10 +34,7 @@ pub fn answer_message(
         return answer_by_extension(alloc, out, message, number, call);
     }
     match text(call, "call") {
-        "clear" => {
-            message.clear();
-            Ok(())
-        }
+        "clear" => message.clear(),
         "merge" => merge(alloc, out, message, call),
         "encode" => encode(alloc, out, message, call),
         "take_fields" => take_fields(out, message),
@@ -48,39 +45,24 @@ pub fn answer_message(
 }
 
 /// Merges bytes, or writes why they are refused.
-fn merge(
-    alloc: Global,
-    out: &mut String,
-    message: &mut DynamicMessage<'_>,
-    call: &Json,
-) -> Result<(), AllocError> {
-    match message.merge(bytes(alloc, call, "bytes")?.as_slice()) {
-        Ok(()) => Ok(()),
-        Err(error) => write!(out, "{error:?}"),
+fn merge(alloc: Global, out: &mut Text, message: &mut DynamicMessage<'_>, call: &Json) {
+    let bytes = bytes_of(alloc, out, call, "bytes");
+    if let Err(error) = message.merge(bytes.as_slice()) {
+        write!(out, "{error:?}");
     }
 }
 
 /// Writes bytes with those of the message behind them.
-fn encode(
-    alloc: Global,
-    out: &mut String,
-    message: &DynamicMessage<'_>,
-    call: &Json,
-) -> Result<(), AllocError> {
-    let mut bytes = bytes(alloc, call, "behind")?;
+fn encode(alloc: Global, out: &mut Text, message: &DynamicMessage<'_>, call: &Json) {
+    let mut bytes = bytes_of(alloc, out, call, "behind");
     match message.encode(&mut bytes) {
-        Ok(()) => write_hex(out, bytes.as_slice()),
-        Err(_) => Err(AllocError),
+        Ok(()) => out.push_hex(bytes.as_slice()),
+        Err(_) => out.give_up(),
     }
 }
 
 /// Writes what the message says of itself.
-fn write_answer(
-    out: &mut String,
-    message: &DynamicMessage<'_>,
-    name: &str,
-    call: &Json,
-) -> Result<(), AllocError> {
+fn write_answer(out: &mut Text, message: &DynamicMessage<'_>, name: &str, call: &Json) {
     match name {
         "bytes" => write_bytes(out, message),
         "len" => write!(out, "{:?}", message.encoded_len()),
@@ -109,56 +91,53 @@ fn declares(message: &DynamicMessage<'_>, call: &Json) -> Option<bool> {
 }
 
 /// Writes the fields that are set.
-fn write_fields(out: &mut String, message: &DynamicMessage<'_>) -> Result<(), AllocError> {
+fn write_fields(out: &mut Text, message: &DynamicMessage<'_>) {
     for (field, value) in message.fields() {
-        write_gap(out)?;
-        write!(out, "{} ", field.number())?;
-        write_value(out, value)?;
+        write_gap(out);
+        write!(out, "{} ", field.number());
+        write_value(out, value);
     }
-    Ok(())
 }
 
 /// Writes the extensions that are set.
-fn write_extensions(out: &mut String, message: &DynamicMessage<'_>) -> Result<(), AllocError> {
+fn write_extensions(out: &mut Text, message: &DynamicMessage<'_>) {
     for (extension, value) in message.extensions() {
-        write_gap(out)?;
-        write!(out, "{} ", extension.name())?;
-        write_value(out, value)?;
+        write_gap(out);
+        write!(out, "{} ", extension.name());
+        write_value(out, value);
     }
-    Ok(())
 }
 
 /// Writes the numbers of the records that the type does not declare.
-fn write_unknown(out: &mut String, message: &DynamicMessage<'_>) -> Result<(), AllocError> {
+fn write_unknown(out: &mut Text, message: &DynamicMessage<'_>) {
     for record in message.unknown_fields() {
-        write_gap(out)?;
-        write!(out, "{}", record.number())?;
+        write_gap(out);
+        write!(out, "{}", record.number());
     }
-    Ok(())
 }
 
 /// Takes the fields, and writes those that were set.
-fn take_fields(out: &mut String, message: &mut DynamicMessage<'_>) -> Result<(), AllocError> {
+fn take_fields(out: &mut Text, message: &mut DynamicMessage<'_>) {
     for (field, value) in message.take_fields() {
-        write_gap(out)?;
-        write!(out, "{} ", field.number())?;
-        write_value(out, &value)?;
+        write_gap(out);
+        write!(out, "{} ", field.number());
+        write_value(out, &value);
     }
-    Ok(())
 }
 
 /// Takes the extensions, and writes those that were set.
-fn take_extensions(out: &mut String, message: &mut DynamicMessage<'_>) -> Result<(), AllocError> {
+fn take_extensions(out: &mut Text, message: &mut DynamicMessage<'_>) {
     for (extension, value) in message.take_extensions() {
-        write_gap(out)?;
-        write!(out, "{} ", extension.number())?;
-        write_value(out, &value)?;
+        write_gap(out);
+        write!(out, "{} ", extension.number());
+        write_value(out, &value);
     }
-    Ok(())
 }
 
 /// Takes the records that the type does not declare, and writes how many there were.
-fn take_unknown(out: &mut String, message: &mut DynamicMessage<'_>) -> Result<(), AllocError> {
-    let records = message.take_unknown_fields()?;
-    write!(out, "{}", records.len())
+fn take_unknown(out: &mut Text, message: &mut DynamicMessage<'_>) {
+    match message.take_unknown_fields() {
+        Ok(records) => write!(out, "{}", records.len()),
+        Err(_) => out.give_up(),
+    }
 }

@@ -2,6 +2,7 @@
 #![tactic(auto)]
 
 mod messages;
+mod refusals;
 mod replay;
 mod schemas;
 

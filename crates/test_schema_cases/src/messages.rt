@@ -1,23 +1,27 @@
 //! Messages of a schema's types: bytes and text, in and out.
 
+use crate::refusals::{tell_refusal, tell_text_refusal};
 use reflect_dynamic::{DecodeMessage, DynamicMessage, EncodeMessage};
 use reflect_link::PoolReaders;
 use reflect_text::{FormatOptions, TextFormat};
 use schema_core::{Schema, SchemaError};
 use serde_json::Value;
-use std::alloc::{AllocError, Global};
+use std::alloc::Global;
 use test_json::Told;
-use test_json::members::{bytes, text, truth};
-use test_refusals::{tell_refusal, tell_text_refusal};
+use test_json::members::{text, truth};
 
 /// Tells bytes, or why there are none.
-fn tell_bytes(
-    alloc: Global,
-    told: &mut Told<'_>,
-    came: Result<Vec<u8>, SchemaError>,
-) -> Result<(), AllocError> {
+fn tell_bytes(alloc: Global, told: &mut Told<'_>, came: Result<Vec<u8>, SchemaError>) {
     match came {
         Ok(bytes) => told.tell_bytes("ok", bytes.as_slice()),
+        Err(error) => tell_refusal(alloc, told, &error),
+    }
+}
+
+/// Tells a text, or why there is none.
+fn tell_text(alloc: Global, told: &mut Told<'_>, came: Result<String, SchemaError>) {
+    match came {
+        Ok(text) => told.tell("ok", text.as_str()),
         Err(error) => tell_refusal(alloc, told, &error),
     }
 }
@@ -28,18 +32,15 @@ pub fn tell_asked(
     op: &str,
     schema: &Schema,
     case: &Value,
+    bytes: &[u8],
     told: &mut Told<'_>,
-) -> Result<(), AllocError> {
+) {
     let type_name = text(case, "type");
-    let bytes = bytes(alloc, case, "bytes")?;
     match op {
         "encode" => tell_bytes(alloc, told, schema.encode(type_name, text(case, "text"))),
-        "recode" => tell_bytes(alloc, told, schema.recode(type_name, bytes.as_slice())),
-        "decode" => match schema.decode(type_name, bytes.as_slice()) {
-            Ok(printed) => told.tell("ok", printed.as_str()),
-            Err(error) => tell_refusal(alloc, told, &error),
-        },
-        _ => Ok(()),
+        "recode" => tell_bytes(alloc, told, schema.recode(type_name, bytes)),
+        "decode" => tell_text(alloc, told, schema.decode(type_name, bytes)),
+        _ => {}
     }
 }
 
@@ -61,37 +62,32 @@ pub fn tell_printed(
     alloc: Global,
     schema: &Schema,
     case: &Value,
+    bytes: &[u8],
     told: &mut Told<'_>,
-) -> Result<(), AllocError> {
-    let bytes = bytes(alloc, case, "bytes")?;
+) {
     let Some(descriptor) = schema.pool().get_message_by_name(text(case, "type")) else {
-        return Ok(());
+        return;
     };
-    let Ok(message) = DynamicMessage::decode(alloc, descriptor, bytes.as_slice()) else {
-        return Ok(());
+    let Ok(message) = DynamicMessage::decode(alloc, descriptor, bytes) else {
+        return;
     };
     match message.to_text_format_with_options(alloc, &form(case)) {
         Ok(printed) => told.tell("ok", printed.as_str()),
-        Err(_) => Err(AllocError),
+        Err(_) => told.give_up(),
     }
 }
 
 /// A text that is refused, and what it leaves in a message that was empty.
-pub fn tell_merged(
-    alloc: Global,
-    schema: &Schema,
-    case: &Value,
-    told: &mut Told<'_>,
-) -> Result<(), AllocError> {
+pub fn tell_merged(alloc: Global, schema: &Schema, case: &Value, told: &mut Told<'_>) {
     let Some(descriptor) = schema.pool().get_message_by_name(text(case, "type")) else {
-        return Ok(());
+        return;
     };
     let mut message = DynamicMessage::new(alloc, descriptor);
     if let Err(error) = message.merge_text_format(text(case, "text")) {
-        tell_text_refusal(alloc, told, &error)?;
+        tell_text_refusal(alloc, told, &error);
     }
     match message.encode_to_vec() {
         Ok(left) => told.tell_bytes("left", left.as_slice()),
-        Err(_) => Err(AllocError),
+        Err(_) => told.give_up(),
     }
 }

@@ -1,5 +1,6 @@
 //! Schemas that are built in steps, their sets and their options.
 
+use crate::refusals::tell_refusal;
 use descriptor_records::{DescriptorProto, FileDescriptorProto, Options};
 use reflect_codec::{decode_set, encode_set};
 use reflect_link::{MessageReaders, PoolReaders};
@@ -7,33 +8,62 @@ use schema_core::{Schema, SchemaError};
 use serde_json::Value;
 use sha2::{Digest, Sha256};
 use std::alloc::{AllocError, Global};
-use test_json::Told;
 use test_json::members::{bytes, items, number, text};
-use test_refusals::tell_refusal;
+use test_json::{Text, Told};
 
-/// Adds the sources or the set of a step.
-fn add(
-    alloc: Global,
-    schema: &mut Schema,
-    step: &Value,
-) -> Result<Result<(), SchemaError>, AllocError> {
-    if step.get("set").is_some() {
-        return Ok(schema.add_descriptor_set(bytes(alloc, step, "set")?.as_slice()));
-    }
+/// The sources of a step, each with its name.
+fn sources_of<'c>(alloc: Global, step: &'c Value) -> Result<Vec<(&'c str, &'c str)>, AllocError> {
     let mut sources = Vec::new(alloc);
     for source in items(step, "sources") {
         if let Some([name, text]) = source.as_array().map(|pair| pair.as_slice()) {
             sources.push((name.as_str().unwrap_or(""), text.as_str().unwrap_or("")))?;
         }
     }
-    Ok(schema.add_sources(sources.as_slice()))
+    Ok(sources)
 }
 
-/// The schema's own descriptor set.
-fn set_of(schema: &Schema) -> Result<Vec<u8>, AllocError> {
+/// Adds the sources or the set of a step.
+fn add(alloc: Global, schema: &mut Schema, step: &Value) -> Result<(), SchemaError> {
+    if step.get("set").is_some() {
+        return schema.add_descriptor_set(bytes(alloc, step, "set")?.as_slice());
+    }
+    schema.add_sources(sources_of(alloc, step)?.as_slice())
+}
+
+/// Takes the steps before the last of a case: whether none is refused.
+fn add_all(alloc: Global, schema: &mut Schema, steps: &[Value]) -> bool {
+    for step in steps {
+        if add(alloc, schema, step).is_err() {
+            return false;
+        }
+    }
+    true
+}
+
+/// Whether the schema has this set.
+pub fn is_set_of(schema: &Schema, set: &[u8]) -> bool {
     match schema.to_descriptor_set() {
-        Ok(set) => Ok(set),
-        Err(_) => Err(AllocError),
+        Ok(now) => now.as_slice() == set,
+        Err(_) => false,
+    }
+}
+
+/// Takes the last step of a case, and tells what the schema then is, which had this set before.
+fn tell_last(
+    alloc: Global,
+    schema: &mut Schema,
+    step: &Value,
+    before: &[u8],
+    case: &Value,
+    told: &mut Told<'_>,
+) {
+    match add(alloc, schema, step) {
+        Ok(()) => tell_set(alloc, schema, case, told),
+        Err(error) => {
+            tell_refusal(alloc, told, &error);
+            let is_left = is_set_of(schema, before);
+            told.tell("left", if is_left { "as it was" } else { "changed" });
+        }
     }
 }
 
@@ -45,31 +75,21 @@ pub fn tell_steps(
     steps: &[Value],
     case: &Value,
     told: &mut Told<'_>,
-) -> Result<(), AllocError> {
+) {
     let Some((last, others)) = steps.split_last() else {
-        return Ok(());
+        return;
     };
-    for step in others {
-        if add(alloc, schema, step)?.is_err() {
-            return Ok(());
-        }
-    }
-    let before = set_of(schema)?;
-    match add(alloc, schema, last)? {
-        Ok(()) => tell_set(alloc, schema, case, told),
-        Err(error) => {
-            tell_refusal(alloc, told, &error)?;
-            let is_left = set_of(schema)? == before;
-            told.tell("left", if is_left { "as it was" } else { "changed" })
+    if add_all(alloc, schema, others) {
+        match schema.to_descriptor_set() {
+            Ok(before) => tell_last(alloc, schema, last, before.as_slice(), case, told),
+            Err(_) => told.give_up(),
         }
     }
 }
 
 /// The set without places of declarations, and without the file of a name.
-fn plain_set(alloc: Global, set: &[u8], left_out: &str) -> Result<Vec<u8>, AllocError> {
-    let Ok(mut files) = decode_set(alloc, set) else {
-        return Err(AllocError);
-    };
+fn plain_set(alloc: Global, set: &[u8], left_out: &str) -> Result<Vec<u8>, SchemaError> {
+    let mut files = decode_set(alloc, set)?;
     files
         .file
         .retain(|file| file.name.as_deref() != Some(left_out));
@@ -77,30 +97,31 @@ fn plain_set(alloc: Global, set: &[u8], left_out: &str) -> Result<Vec<u8>, Alloc
         file.source_code_info = None;
     }
     let mut plain = Vec::new(alloc);
-    match encode_set(&files, &mut plain) {
-        Ok(()) => Ok(plain),
-        Err(_) => Err(AllocError),
+    encode_set(&files, &mut plain)?;
+    Ok(plain)
+}
+
+/// Tells the bytes of a set without places of declarations.
+fn tell_plain(alloc: Global, told: &mut Told<'_>, set: &[u8], left_out: &str) {
+    match plain_set(alloc, set, left_out) {
+        Ok(plain) => told.tell_bytes("plain", plain.as_slice()),
+        Err(_) => told.give_up(),
     }
 }
 
 /// The schema's set: its bytes, their digest, and the bytes without places of declarations.
-fn tell_set(
-    alloc: Global,
-    schema: &Schema,
-    case: &Value,
-    told: &mut Told<'_>,
-) -> Result<(), AllocError> {
-    told.tell("ok", "linked")?;
-    let set = set_of(schema)?;
-    told.tell_bytes("set", set.as_slice())?;
+fn tell_set(alloc: Global, schema: &Schema, case: &Value, told: &mut Told<'_>) {
+    let Ok(set) = schema.to_descriptor_set() else {
+        return told.give_up();
+    };
+    told.tell("ok", "linked");
+    told.tell_bytes("set", set.as_slice());
     if told.asks("set_sha256") {
-        told.tell_bytes("set_sha256", Sha256::digest(set.as_slice()).as_slice())?;
+        told.tell_bytes("set_sha256", Sha256::digest(set.as_slice()).as_slice());
     }
     if told.asks("plain") {
-        let plain = plain_set(alloc, set.as_slice(), text(case, "without"))?;
-        told.tell_bytes("plain", plain.as_slice())?;
+        tell_plain(alloc, told, set.as_slice(), text(case, "without"));
     }
-    Ok(())
 }
 
 /// The options of a message, or of the extension range that the case names.
@@ -125,17 +146,26 @@ fn has_location(alloc: Global, file: &FileDescriptorProto, path: &str) -> Result
     Ok(false)
 }
 
+/// Tells of some paths those of which the file has locations.
+fn tell_located(alloc: Global, file: &FileDescriptorProto, case: &Value, told: &mut Told<'_>) {
+    let mut located = Text::new(alloc);
+    for path in items(case, "paths") {
+        let path = path.as_str().unwrap_or("");
+        match has_location(alloc, file, path) {
+            Ok(true) => located.push_str(path),
+            Ok(false) => {}
+            Err(_) => located.give_up(),
+        }
+    }
+    told.tell_text("located", located);
+}
+
 /// The bytes of the options of a file, of a message of it or of one of its extension ranges, and of
 /// some paths those of which the file has locations.
-pub fn tell_options(
-    alloc: Global,
-    schema: &Schema,
-    case: &Value,
-    told: &mut Told<'_>,
-) -> Result<(), AllocError> {
+pub fn tell_options(alloc: Global, schema: &Schema, case: &Value, told: &mut Told<'_>) {
     let pool = schema.pool();
     let Some(file) = pool.get_file_by_name(text(case, "file")) else {
-        return Ok(());
+        return;
     };
     let file = file.file_descriptor_proto();
     let options = match pool.get_message_by_name(text(case, "message")) {
@@ -143,14 +173,7 @@ pub fn tell_options(
         None => file.options.as_ref(),
     };
     if let Some(options) = options {
-        told.tell_bytes("ok", options.encoded.as_slice())?;
+        told.tell_bytes("ok", options.encoded.as_slice());
     }
-    let mut located = String::new(alloc);
-    for path in items(case, "paths") {
-        let path = path.as_str().unwrap_or("");
-        if has_location(alloc, file, path)? {
-            located.push_str(path)?;
-        }
-    }
-    told.tell("located", located.as_str())
+    tell_located(alloc, file, case, told);
 }

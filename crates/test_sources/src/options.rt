@@ -5,130 +5,116 @@ use descriptor_records::{
     DescriptorProto, DoubleValue, FieldDescriptorProto, FileDescriptorProto, Options,
     ServiceDescriptorProto, UninterpretedOption,
 };
-use std::alloc::AllocError;
+use test_json::Text;
 
 /// Writes the parts of an option's name, those in parentheses as such.
-fn write_name(out: &mut String, option: &UninterpretedOption) -> Result<(), AllocError> {
+fn write_name(out: &mut Text, option: &UninterpretedOption) {
     for part in &option.name {
         let name = part.name_part.as_str();
         if part.is_extension {
-            write!(out, ".({name})")?;
+            write!(out, ".({name})");
         } else {
-            write!(out, ".{name}")?;
+            write!(out, ".{name}");
         }
     }
-    Ok(())
 }
 
 /// Writes the values that are there, each behind what it is.
-fn write_values(out: &mut String, option: &UninterpretedOption) -> Result<(), AllocError> {
+fn write_values(out: &mut Text, option: &UninterpretedOption) {
     if let Some(word) = &option.identifier_value {
-        write!(out, " identifier {word}")?;
+        write!(out, " identifier {word}");
     }
     if let Some(number) = option.positive_int_value {
-        write!(out, " positive {number}")?;
+        write!(out, " positive {number}");
     }
     if let Some(number) = option.negative_int_value {
-        write!(out, " negative {number}")?;
+        write!(out, " negative {number}");
     }
     match &option.double_value {
-        Some(DoubleValue::Text(literal)) => write!(out, " double {literal}")?,
-        Some(DoubleValue::Bits(bits)) => write!(out, " bits {bits}")?,
+        Some(DoubleValue::Text(literal)) => write!(out, " double {literal}"),
+        Some(DoubleValue::Bits(bits)) => write!(out, " bits {bits}"),
         None => {}
     }
     if let Some(bytes) = &option.string_value {
-        write!(out, " string {:?}", bytes.as_slice())?;
+        write!(out, " string {:?}", bytes.as_slice());
     }
     if let Some(tokens) = &option.aggregate_value {
-        write!(out, " aggregate {tokens}")?;
+        write!(out, " aggregate {tokens}");
     }
-    Ok(())
 }
 
 /// Writes a line for each option that linking reads.
-fn write_typed(out: &mut String, owner: &str, options: &Options) -> Result<(), AllocError> {
+fn write_typed(out: &mut Text, owner: &str, options: &Options) {
     for (word, value) in [
         ("packed", options.packed),
         ("allow_alias", options.allow_alias),
         ("map_entry", options.map_entry),
     ] {
         if let Some(value) = value {
-            writeln!(out, "{owner} {word} {value}")?;
+            writeln!(out, "{owner} {word} {value}");
         }
     }
-    Ok(())
 }
 
 /// Writes a line for each option that linking reads, and for each that no type has read, behind the
 /// declaration's name.
-fn write_options(
-    out: &mut String,
-    owner: &Option<String>,
-    options: &Option<Options>,
-) -> Result<(), AllocError> {
+fn write_options(out: &mut Text, owner: &Option<String>, options: &Option<Options>) {
     let owner = owner.as_ref().map_or("", |name| name.as_str());
     let Some(options) = options else {
-        return Ok(());
+        return;
     };
-    write_typed(out, owner, options)?;
+    write_typed(out, owner, options);
     for option in &options.uninterpreted_option {
-        out.push_str(owner)?;
-        write_name(out, option)?;
-        write_values(out, option)?;
-        out.push_str("\n")?;
+        out.push_str(owner);
+        write_name(out, option);
+        write_values(out, option);
+        out.push_str("\n");
     }
-    Ok(())
 }
 
 /// Writes the options of fields.
-fn write_fields(out: &mut String, fields: &[FieldDescriptorProto]) -> Result<(), AllocError> {
+fn write_fields(out: &mut Text, fields: &[FieldDescriptorProto]) {
     for field in fields {
-        write_options(out, &field.name, &field.options)?;
+        write_options(out, &field.name, &field.options);
     }
-    Ok(())
 }
 
 /// Writes the options of a message, its fields and ranges.
-fn write_message(out: &mut String, message: &DescriptorProto) -> Result<(), AllocError> {
-    write_options(out, &message.name, &message.options)?;
-    write_fields(out, message.field.as_slice())?;
+fn write_message(out: &mut Text, message: &DescriptorProto) {
+    write_options(out, &message.name, &message.options);
+    write_fields(out, message.field.as_slice());
     for range in &message.extension_range {
-        write_options(out, &message.name, &range.options)?;
+        write_options(out, &message.name, &range.options);
     }
-    Ok(())
 }
 
 /// Writes the options of a message and of those inside it.
-fn write_nest(out: &mut String, message: &DescriptorProto) -> Result<(), AllocError> {
-    write_message(out, message)?;
+fn write_nest(out: &mut Text, message: &DescriptorProto) {
+    write_message(out, message);
     for inner in &message.nested_type {
-        write_message(out, inner)?;
+        write_message(out, inner);
     }
-    Ok(())
 }
 
 /// Writes the options of a service's methods.
-fn write_methods(out: &mut String, service: &ServiceDescriptorProto) -> Result<(), AllocError> {
+fn write_methods(out: &mut Text, service: &ServiceDescriptorProto) {
     for method in &service.method {
-        write_options(out, &method.name, &method.options)?;
+        write_options(out, &method.name, &method.options);
     }
-    Ok(())
 }
 
 /// Writes the options of a file and its messages.
-fn write_messages(out: &mut String, file: &FileDescriptorProto) -> Result<(), AllocError> {
-    write_options(out, &file.name, &file.options)?;
+fn write_messages(out: &mut Text, file: &FileDescriptorProto) {
+    write_options(out, &file.name, &file.options);
     for message in &file.message_type {
-        write_nest(out, message)?;
+        write_nest(out, message);
     }
-    Ok(())
 }
 
 /// Writes the options of a file, its messages and those inside them, and its methods.
-pub fn write_file(out: &mut String, file: &FileDescriptorProto) -> Result<(), AllocError> {
-    write_messages(out, file)?;
+pub fn write_file(out: &mut Text, file: &FileDescriptorProto) {
+    write_messages(out, file);
     for service in &file.service {
-        write_methods(out, service)?;
+        write_methods(out, service);
     }
-    Ok(())
 }

@@ -5,20 +5,20 @@ ghost use Rattle.std.specs.Prelude.{◌<◌, ◌^◌};
 use protox_lex::{Int, LineResolver, Span};
 use serde_json::Value;
 use std::alloc::{AllocError, Global};
-use test_json::Told;
 use test_json::members::{items, number, text, truth};
+use test_json::{Text, Told};
 
 /// An integer in each type, where it fits, and as text.
-pub fn tell_int(alloc: Global, case: &Value, told: &mut Told<'_>) -> Result<(), AllocError> {
+pub fn tell_int(alloc: Global, case: &Value, told: &mut Told<'_>) {
     let int = Int {
         negative: truth(case, "negative"),
         value: number(case, "value"),
         span: Span { start: 0, end: 0 },
     };
-    let mut out = String::new(alloc);
-    write!(&mut out, "{:?} {:?} ", int.as_i32(), int.as_i64())?;
-    write!(&mut out, "{:?} {:?} {int}", int.as_u32(), int.as_u64())?;
-    told.tell("ok", out.as_str())
+    let mut out = Text::new(alloc);
+    write!(out, "{:?} {:?} ", int.as_i32(), int.as_i64());
+    write!(out, "{:?} {:?} {int}", int.as_u32(), int.as_u64());
+    told.tell_text("ok", out);
 }
 
 /// The number of a list's item, zero where it is none that a place can have.
@@ -31,32 +31,49 @@ fn offset(value: &Value) -> usize
     }
 }
 
+/// Writes the line and column of a place, or the numbers of a span.
+fn write_place(
+    alloc: Global,
+    out: &mut Text,
+    lines: &LineResolver,
+    place: &Value,
+) -> Result<(), AllocError> {
+    let Some(ends) = place.as_array() else {
+        write!(out, "{:?} ", lines.resolve(offset(place)));
+        return Ok(());
+    };
+    if let [start, end] = ends.as_slice() {
+        let span = Span {
+            start: offset(start),
+            end: offset(end),
+        };
+        write!(out, "{:?} ", lines.resolve_span(alloc, span)?.as_slice());
+    }
+    Ok(())
+}
+
+/// Writes the places that a case names, within its source.
+fn write_lines(
+    alloc: Global,
+    out: &mut Text,
+    case: &Value,
+    source: &str,
+) -> Result<(), AllocError> {
+    let lines = LineResolver::new(alloc, source)?;
+    for place in items(case, "places") {
+        write_place(alloc, out, &lines, place)?;
+    }
+    Ok(())
+}
+
 /// The line and column of each place, or the numbers of each span, from 0.
-pub fn tell_lines(alloc: Global, case: &Value, told: &mut Told<'_>) -> Result<(), AllocError> {
+pub fn tell_lines(alloc: Global, case: &Value, told: &mut Told<'_>) {
     let source = text(case, "source");
     if source.len() >= 0x8000_0000 {
-        return Ok(());
+        return;
     }
-    let lines = LineResolver::new(alloc, source)?;
-    let mut out = String::new(alloc);
-    for place in items(case, "places") {
-        match place.as_array() {
-            Some(ends) => {
-                let [start, end] = ends.as_slice() else {
-                    continue;
-                };
-                let span = Span {
-                    start: offset(start),
-                    end: offset(end),
-                };
-                write!(
-                    &mut out,
-                    "{:?} ",
-                    lines.resolve_span(alloc, span)?.as_slice()
-                )?;
-            }
-            None => write!(&mut out, "{:?} ", lines.resolve(offset(place)))?,
-        }
-    }
-    told.tell("ok", out.as_str())
+    let mut out = Text::new(alloc);
+    let outcome = write_lines(alloc, &mut out, case, source);
+    out.check(outcome);
+    told.tell_text("ok", out);
 }

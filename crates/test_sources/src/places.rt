@@ -1,41 +1,38 @@
 //! Where the parts of a source stand, and whose comments are whose.
 
 use descriptor_records::{Location, SourceCodeInfo};
-use std::alloc::AllocError;
+use test_json::Text;
 
 /// Writes numbers with commas between them.
-pub fn write_numbers(out: &mut String, numbers: &[i32]) -> Result<(), AllocError> {
+pub fn write_numbers(out: &mut Text, numbers: &[i32]) {
     for (i, number) in numbers.iter().enumerate() {
         let gap = if i > 0 { "," } else { "" };
-        write!(out, "{gap}{number}")?;
+        write!(out, "{gap}{number}");
     }
-    Ok(())
 }
 
 /// Writes the comments of a location: `-` is a detached one, `<` stands in front, `>` behind.
-fn write_comments(out: &mut String, location: &Location) -> Result<(), AllocError> {
+fn write_comments(out: &mut Text, location: &Location) {
     for comment in &location.leading_detached_comments {
-        write!(out, " -{:?}", comment.as_str())?;
+        write!(out, " -{:?}", comment.as_str());
     }
     if let Some(comment) = &location.leading_comments {
-        write!(out, " <{:?}", comment.as_str())?;
+        write!(out, " <{:?}", comment.as_str());
     }
     if let Some(comment) = &location.trailing_comments {
-        write!(out, " >{:?}", comment.as_str())?;
+        write!(out, " >{:?}", comment.as_str());
     }
-    Ok(())
 }
 
 /// Writes a line for each location: its path, its span and its comments.
-pub fn write_places(out: &mut String, info: &SourceCodeInfo) -> Result<(), AllocError> {
+pub fn write_places(out: &mut Text, info: &SourceCodeInfo) {
     for location in &info.location {
-        write_numbers(out, location.path.as_slice())?;
-        out.push_str(": ")?;
-        write_numbers(out, location.span.as_slice())?;
-        write_comments(out, location)?;
-        out.push_str("\n")?;
+        write_numbers(out, location.path.as_slice());
+        out.push_str(": ");
+        write_numbers(out, location.span.as_slice());
+        write_comments(out, location);
+        out.push_str("\n");
     }
-    Ok(())
 }
 
 fn has_comments(location: &Location) -> bool {
@@ -45,13 +42,12 @@ fn has_comments(location: &Location) -> bool {
 }
 
 /// Writes a line for each location that has comments: its path and these.
-pub fn write_commented(out: &mut String, info: &SourceCodeInfo) -> Result<(), AllocError> {
+pub fn write_commented(out: &mut Text, info: &SourceCodeInfo) {
     for location in &info.location {
         if has_comments(location) {
-            write_numbers(out, location.path.as_slice())?;
-            write_comments(out, location)?;
-            out.push_str("\n")?;
+            write_numbers(out, location.path.as_slice());
+            write_comments(out, location);
+            out.push_str("\n");
         }
     }
-    Ok(())
 }

@@ -1,100 +1,97 @@
 //! Sources as the records that they describe, or what is wrong with them.
 
-use crate::case_name;
 use crate::options::write_file;
 use crate::places::{write_commented, write_places};
+use crate::write_case;
 use descriptor_records::FileDescriptorProto;
 use protox_lex::Span;
 use protox_parse::{ParseError, ParseErrorKind, parse};
 use reflect_codec::encode_file;
 use serde_json::Value;
-use std::alloc::{AllocError, Global};
-use test_json::Told;
+use std::alloc::Global;
 use test_json::members::text;
+use test_json::{Text, Told};
 
 /// Tells the bytes of a record.
-fn tell_record(
-    alloc: Global,
-    told: &mut Told<'_>,
-    name: &'static str,
-    file: &FileDescriptorProto,
-) -> Result<(), AllocError> {
+fn tell_record(alloc: Global, told: &mut Told<'_>, name: &'static str, file: &FileDescriptorProto) {
     let mut bytes = Vec::new(alloc);
     match encode_file(file, &mut bytes) {
         Ok(()) => told.tell_bytes(name, bytes.as_slice()),
-        Err(_) => Err(AllocError),
+        Err(_) => told.give_up(),
     }
 }
 
 /// Tells the places of a record, and its comments.
-fn tell_places(
-    alloc: Global,
-    told: &mut Told<'_>,
-    file: &FileDescriptorProto,
-) -> Result<(), AllocError> {
-    let mut places = String::new(alloc);
-    let mut comments = String::new(alloc);
+fn tell_places(alloc: Global, told: &mut Told<'_>, file: &FileDescriptorProto) {
+    let mut places = Text::new(alloc);
+    let mut comments = Text::new(alloc);
     if let Some(info) = &file.source_code_info {
-        write_places(&mut places, info)?;
-        write_commented(&mut comments, info)?;
+        write_places(&mut places, info);
+        write_commented(&mut comments, info);
     }
-    told.tell("places", places.as_str())?;
-    told.tell("comments", comments.as_str())
+    told.tell_text("places", places);
+    told.tell_text("comments", comments);
+}
+
+/// Tells the options of a record that no type has read.
+fn tell_options(alloc: Global, told: &mut Told<'_>, file: &FileDescriptorProto) {
+    let mut options = Text::new(alloc);
+    write_file(&mut options, file);
+    told.tell_text("options", options);
 }
 
 /// The record of a source, with and without its places, its options, and its places and comments
 /// alone; or the refusal.
-pub fn tell_parsed(alloc: Global, case: &Value, told: &mut Told<'_>) -> Result<(), AllocError> {
+pub fn tell_parsed(alloc: Global, case: &Value, told: &mut Told<'_>) {
     match parse(alloc, text(case, "file"), text(case, "source")) {
         Ok(mut file) => {
-            told.tell("ok", "accepted")?;
-            let mut options = String::new(alloc);
-            write_file(&mut options, &file)?;
-            told.tell("options", options.as_str())?;
-            tell_places(alloc, told, &file)?;
-            tell_record(alloc, told, "placed", &file)?;
+            told.tell("ok", "accepted");
+            tell_options(alloc, told, &file);
+            tell_places(alloc, told, &file);
+            tell_record(alloc, told, "placed", &file);
             file.source_code_info = None;
-            tell_record(alloc, told, "record", &file)
+            tell_record(alloc, told, "record", &file);
         }
         Err(error) => tell_source_refusal(alloc, told, &error),
     }
 }
 
+/// Writes a space unless nothing is written yet.
+fn write_gap(out: &mut Text) {
+    if !out.is_empty() {
+        out.push_str(" ");
+    }
+}
+
 /// The names of all faults in their order, and their places.
-fn tell_faults(
-    alloc: Global,
-    told: &mut Told<'_>,
-    faults: &[ParseErrorKind],
-) -> Result<(), AllocError> {
-    let mut names = String::new(alloc);
-    let mut spans = String::new(alloc);
+fn tell_faults(alloc: Global, told: &mut Told<'_>, faults: &[ParseErrorKind]) {
+    let mut names = Text::new(alloc);
+    let mut spans = Text::new(alloc);
     for fault in faults {
-        let gap = if names.is_empty() { "" } else { " " };
-        write!(&mut names, "{gap}{}", case_name(alloc, fault)?)?;
+        write_gap(&mut names);
+        write_case(alloc, &mut names, fault);
         if let Some(Span { start, end }) = fault.span() {
-            let gap = if spans.is_empty() { "" } else { " " };
-            write!(&mut spans, "{gap}{start}..{end}")?;
+            write_gap(&mut spans);
+            write!(spans, "{start}..{end}");
         }
     }
-    told.tell("codes", names.as_str())?;
-    told.tell("spans", spans.as_str())
+    told.tell_text("codes", names);
+    told.tell_text("spans", spans);
 }
 
 /// A source's refusal: all faults with their places, the place of the first, the text in front of
 /// which it stands, and what it says with and without the place.
-pub fn tell_source_refusal(
-    alloc: Global,
-    told: &mut Told<'_>,
-    error: &ParseError,
-) -> Result<(), AllocError> {
-    tell_faults(alloc, told, error.faults())?;
+pub fn tell_source_refusal(alloc: Global, told: &mut Told<'_>, error: &ParseError) {
+    tell_faults(alloc, told, error.faults());
     if let Some(Span { start, end }) = error.span() {
-        let shown = format!(in alloc; "{start}..{end}")?;
-        told.tell("span", shown.as_str())?;
+        let mut shown = Text::new(alloc);
+        write!(shown, "{start}..{end}");
+        told.tell_text("span", shown);
     }
     if let Some(ParseErrorKind::UnexpectedToken { found, .. }) = error.kind() {
-        told.tell("found", found.as_str())?;
+        told.tell("found", found.as_str());
     }
-    let shown = format!(in alloc; "{error:?}")?;
-    told.tell("debug", shown.as_str())
+    let mut shown = Text::new(alloc);
+    write!(shown, "{error:?}");
+    told.tell_text("debug", shown);
 }

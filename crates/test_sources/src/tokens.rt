@@ -3,9 +3,9 @@
 
 use protox_lex::{Lexeme, Lexer, Token};
 use serde_json::Value;
-use std::alloc::{AllocError, Global};
-use test_json::Told;
+use std::alloc::Global;
 use test_json::members::text;
+use test_json::{Text, Told};
 use text_lex::{LexError as TextFault, Lexer as TextLexer, Token as TextToken};
 
 /// What kind of token it is, in a letter.
@@ -21,7 +21,7 @@ fn mark(token: &Token<'_>) -> &'static str {
 }
 
 /// Writes a token, with a mark behind it where the text format alone has it.
-fn write_token(out: &mut String, lexeme: &Lexeme<'_>) -> Result<(), AllocError> {
+fn write_token(out: &mut Text, lexeme: &Lexeme<'_>) {
     let (start, end) = (lexeme.span.start, lexeme.span.end);
     let letter = mark(&lexeme.token);
     let alone = if lexeme.text_format_fault().is_some() {
@@ -29,25 +29,25 @@ fn write_token(out: &mut String, lexeme: &Lexeme<'_>) -> Result<(), AllocError> 
     } else {
         ""
     };
-    write!(out, "{start}..{end} {letter}{}{alone} ", lexeme.token)
+    write!(out, "{start}..{end} {letter}{}{alone} ", lexeme.token);
 }
 
 /// The tokens of a source.
-pub fn tell_tokens(alloc: Global, case: &Value, told: &mut Told<'_>) -> Result<(), AllocError> {
+pub fn tell_tokens(alloc: Global, case: &Value, told: &mut Told<'_>) {
     let source = text(case, "text");
     let mut lexer = Lexer::new(source);
-    let mut out = String::new(alloc);
+    let mut out = Text::new(alloc);
     for _ in 0..=source.len() {
         match lexer.next() {
-            Ok(Some(lexeme)) => write_token(&mut out, &lexeme)?,
+            Ok(Some(lexeme)) => write_token(&mut out, &lexeme),
             Ok(None) => break,
             Err(e) => {
-                write!(&mut out, "{}..{} {:?}", e.span.start, e.span.end, e.kind)?;
+                write!(out, "{}..{} {:?}", e.span.start, e.span.end, e.kind);
                 break;
             }
         }
     }
-    told.tell("ok", out.as_str())
+    told.tell_text("ok", out);
 }
 
 /// What kind of a text's token it is, in a letter.
@@ -62,7 +62,7 @@ fn text_mark(token: TextToken<'_>) -> &'static str {
 }
 
 /// Writes a fault of a text and its place.
-fn write_fault(out: &mut String, error: TextFault) -> Result<(), AllocError> {
+fn write_fault(out: &mut Text, error: TextFault) {
     let (name, span) = match error {
         TextFault::InvalidToken(span) => ("InvalidToken", span),
         TextFault::InvalidStringCharacters(span) => ("InvalidStringCharacters", span),
@@ -70,31 +70,27 @@ fn write_fault(out: &mut String, error: TextFault) -> Result<(), AllocError> {
         TextFault::NoSpaceBetweenIntAndIdent(span) => ("NoSpaceBetweenIntAndIdent", span),
         TextFault::UnterminatedString => return out.push_str("UnterminatedString"),
     };
-    write!(out, "{}..{} {name}", span.start, span.end)
+    write!(out, "{}..{} {name}", span.start, span.end);
 }
 
 /// The tokens of a message's text.
-pub fn tell_text_tokens(
-    alloc: Global,
-    case: &Value,
-    told: &mut Told<'_>,
-) -> Result<(), AllocError> {
+pub fn tell_text_tokens(alloc: Global, case: &Value, told: &mut Told<'_>) {
     let source = text(case, "text");
     let mut lexer = TextLexer::new(source);
-    let mut out = String::new(alloc);
+    let mut out = Text::new(alloc);
     for _ in 0..=source.len() {
         match lexer.next() {
             Ok(Some(lexeme)) => {
                 let (start, end) = (lexeme.span.start, lexeme.span.end);
                 let letter = text_mark(lexeme.token);
-                write!(&mut out, "{start}..{end} {letter}{} ", lexeme.token)?;
+                write!(out, "{start}..{end} {letter}{} ", lexeme.token);
             }
             Ok(None) => break,
             Err(error) => {
-                write_fault(&mut out, error)?;
+                write_fault(&mut out, error);
                 break;
             }
         }
     }
-    told.tell("ok", out.as_str())
+    told.tell_text("ok", out);
 }

@@ -1,13 +1,14 @@
-//! Values and keys that are changed in place.
+//! Values and keys that are changed in place. What there is no room for is said by the text that
+//! is written.
 
-use crate::given::{i32_of, put_entry, scalar_of, text_of, u32_of};
+use crate::given::{bytes_of, i32_of, put_entry, scalar_of, text_of, u32_of};
 use crate::shown::{write_key, write_value};
-use reflect_decode::DecodeMessage;
-use reflect_message::{DynamicMessage, MapKey, Value};
+use reflect_dynamic::{DecodeMessage, DynamicMessage, MapKey, Value};
 use serde_json::Value as Json;
 use std::alloc::{AllocError, Global};
 use std::collections::BTreeMap;
-use test_json::members::{bytes, items};
+use test_json::Text;
+use test_json::members::items;
 
 /// Puts what is given into the place, if there is both.
 fn put<T: Copy>(place: Option<&mut T>, given: Option<T>) -> bool {
@@ -20,17 +21,6 @@ fn put<T: Copy>(place: Option<&mut T>, given: Option<T>) -> bool {
             true
         }
         None => false,
-    }
-}
-
-/// Puts a text behind the one of the place, if there is one.
-fn push_text(place: Option<&mut String>, text: &str) -> Result<bool, AllocError> {
-    match place {
-        Some(place) => {
-            place.push_str(text)?;
-            Ok(true)
-        }
-        None => Ok(false),
     }
 }
 
@@ -57,137 +47,151 @@ fn change_number(value: &mut Value<'_>, call: &Json) -> Option<bool> {
     None
 }
 
-/// Puts the bytes that the call gives behind those of the place, if there is one.
-fn push_bytes(alloc: Global, place: Option<&mut Vec<u8>>, call: &Json) -> Result<bool, AllocError> {
+/// Puts a text behind the one of the place, if there is one.
+fn push_text(out: &mut Text, place: Option<&mut String>, text: &str) -> bool {
     match place {
         Some(place) => {
-            place.append(&mut bytes(alloc, call, "bytes")?)?;
-            Ok(true)
+            out.check(place.push_str(text));
+            true
         }
-        None => Ok(false),
+        None => false,
+    }
+}
+
+/// Puts the bytes that the call gives behind those of the place, if there is one.
+fn push_bytes(alloc: Global, out: &mut Text, place: Option<&mut Vec<u8>>, call: &Json) -> bool {
+    match place {
+        Some(place) => {
+            let bytes = bytes_of(alloc, out, call, "bytes");
+            out.check(place.extend_from_slice(bytes.as_slice()));
+            true
+        }
+        None => false,
     }
 }
 
 /// Puts the values that the call gives behind those of the place, if there is one.
 fn push_values(
     alloc: Global,
+    out: &mut Text,
     place: Option<&mut Vec<Value<'_>>>,
     call: &Json,
-) -> Result<bool, AllocError> {
+) -> bool {
     let Some(place) = place else {
-        return Ok(false);
+        return false;
     };
     for item in items(call, "list") {
-        place.push(scalar_of(alloc, item)?)?;
+        if place.push(scalar_of(alloc, out, item)).is_err() {
+            out.give_up();
+        }
     }
-    Ok(true)
+    true
 }
 
 /// Puts the entries that the call gives into the place, if there is one.
 fn put_entries(
     alloc: Global,
+    out: &mut Text,
     place: Option<&mut BTreeMap<MapKey, Value<'_>>>,
     call: &Json,
-) -> Result<bool, AllocError> {
+) -> bool {
     let Some(place) = place else {
-        return Ok(false);
+        return false;
     };
     for entry in items(call, "map") {
-        put_entry(alloc, place, entry)?;
+        put_entry(alloc, out, place, entry);
     }
-    Ok(true)
+    true
 }
 
 /// Merges the bytes that the call gives into the place, if there is one; false also where they are
 /// refused.
 fn merge(
     alloc: Global,
+    out: &mut Text,
     place: Option<&mut DynamicMessage<'_>>,
     call: &Json,
-) -> Result<bool, AllocError> {
+) -> bool {
     match place {
-        Some(place) => Ok(place.merge(bytes(alloc, call, "merge")?.as_slice()).is_ok()),
-        None => Ok(false),
+        Some(place) => {
+            let bytes = bytes_of(alloc, out, call, "merge");
+            place.merge(bytes.as_slice()).is_ok()
+        }
+        None => false,
     }
 }
 
 /// Changes a value by what the call gives of one sort; false where the value is of another sort.
-fn change_value(alloc: Global, value: &mut Value<'_>, call: &Json) -> Result<bool, AllocError> {
+fn change_value(alloc: Global, out: &mut Text, value: &mut Value<'_>, call: &Json) -> bool {
     if let Some(is_changed) = change_number(value, call) {
-        return Ok(is_changed);
+        return is_changed;
     }
     if let Some(text) = text_of(call, "string") {
-        return push_text(value.as_string_mut(), text);
+        return push_text(out, value.as_string_mut(), text);
     }
     if call.get("bytes").is_some() {
-        return push_bytes(alloc, value.as_bytes_mut(), call);
+        return push_bytes(alloc, out, value.as_bytes_mut(), call);
     }
     if call.get("list").is_some() {
-        return push_values(alloc, value.as_list_mut(), call);
+        return push_values(alloc, out, value.as_list_mut(), call);
     }
     if call.get("map").is_some() {
-        return put_entries(alloc, value.as_map_mut(), call);
+        return put_entries(alloc, out, value.as_map_mut(), call);
     }
-    merge(alloc, value.as_message_mut(), call)
+    merge(alloc, out, value.as_message_mut(), call)
 }
 
 /// Writes a value, changes it by what the call gives, and says where it stays because it is of
 /// another sort.
-pub fn change(
-    alloc: Global,
-    out: &mut String,
-    value: &mut Value<'_>,
-    call: &Json,
-) -> Result<(), AllocError> {
-    write_value(out, value)?;
-    if change_value(alloc, value, call)? {
-        return Ok(());
+pub fn change(alloc: Global, out: &mut Text, value: &mut Value<'_>, call: &Json) {
+    write_value(out, value);
+    if !change_value(alloc, out, value, call) {
+        out.push_str(" stays");
     }
-    out.push_str(" stays")
 }
 
-/// Changes the value that is lent, as `change` does, or writes that there is none.
+/// Changes the value that a field lends, as `change` does, or writes that there is no such field.
 pub fn change_lent(
     alloc: Global,
-    out: &mut String,
-    lent: Option<&mut Value<'_>>,
+    out: &mut Text,
+    lent: Result<Option<&mut Value<'_>>, AllocError>,
     call: &Json,
-) -> Result<(), AllocError> {
+) {
     match lent {
-        Some(value) => change(alloc, out, value, call),
-        None => out.push_str("none"),
+        Ok(Some(value)) => change(alloc, out, value, call),
+        Ok(None) => out.push_str("none"),
+        Err(_) => out.give_up(),
     }
 }
 
 /// Changes a key by what the call gives of one sort; false where the key is of another sort.
-fn change_key_to(key: &mut MapKey, call: &Json) -> Result<bool, AllocError> {
+fn change_key_to(out: &mut Text, key: &mut MapKey, call: &Json) -> bool {
     if let Some(truth) = call.get("bool") {
-        return Ok(put(key.as_bool_mut(), truth.as_bool()));
+        return put(key.as_bool_mut(), truth.as_bool());
     }
     if call.get("i32").is_some() {
-        return Ok(put(key.as_i32_mut(), i32_of(call, "i32")));
+        return put(key.as_i32_mut(), i32_of(call, "i32"));
     }
     if let Some(n) = call.get("i64") {
-        return Ok(put(key.as_i64_mut(), n.as_i64()));
+        return put(key.as_i64_mut(), n.as_i64());
     }
     if call.get("u32").is_some() {
-        return Ok(put(key.as_u32_mut(), u32_of(call, "u32")));
+        return put(key.as_u32_mut(), u32_of(call, "u32"));
     }
     if let Some(n) = call.get("u64") {
-        return Ok(put(key.as_u64_mut(), n.as_u64()));
+        return put(key.as_u64_mut(), n.as_u64());
     }
     match text_of(call, "string") {
-        Some(text) => push_text(key.as_string_mut(), text),
-        None => Ok(false),
+        Some(text) => push_text(out, key.as_string_mut(), text),
+        None => false,
     }
 }
 
 /// Writes a key, changes it by what the call gives, and says where it stays because it is of
 /// another sort.
-pub fn change_key(out: &mut String, key: &mut MapKey, call: &Json) -> Result<(), AllocError> {
-    write_key(out, key)?;
-    if change_key_to(key, call)? {
-        return Ok(());
+pub fn change_key(out: &mut Text, key: &mut MapKey, call: &Json) {
+    write_key(out, key);
+    if !change_key_to(out, key, call) {
+        out.push_str(" stays");
     }
-    out.push_str(" stays")
 }

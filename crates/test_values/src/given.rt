@@ -1,12 +1,13 @@
 //! Numbers, values, messages and kinds that cases give. What a case lacks is read as empty: then
-//! other answers come than it wants.
+//! other answers come than it wants. So is what there is no room for, and the text of the answers
+//! says so.
 
-use reflect_decode::DecodeMessage;
-use reflect_message::{DynamicMessage, MapKey, Value};
-use reflect_pool::{DescriptorPool, ExtensionDescriptor, FieldDescriptor, Kind, MessageDescriptor};
+use reflect_dynamic::{DecodeMessage, DynamicMessage, MapKey, Value};
+use reflect_link::{DescriptorPool, ExtensionDescriptor, FieldDescriptor, Kind, MessageDescriptor};
 use serde_json::Value as Json;
 use std::alloc::{AllocError, Global};
 use std::collections::BTreeMap;
+use test_json::Text;
 use test_json::members::{bytes, items, text};
 
 /// The signed number of a member, if it fits in 32 bits.
@@ -44,14 +45,47 @@ pub fn number_of<'p>(given: &Json) -> Option<Value<'p>> {
     Some(Value::I32(i32_of(given, "i32")?))
 }
 
+/// The bytes of a member.
+pub fn bytes_of(alloc: Global, out: &mut Text, given: &Json, name: &'static str) -> Vec<u8> {
+    match bytes(alloc, given, name) {
+        Ok(bytes) => bytes,
+        Err(_) => {
+            out.give_up();
+            Vec::new(alloc)
+        }
+    }
+}
+
+/// The value that a call made.
+pub fn value_made<'p>(out: &mut Text, made: Result<Value<'p>, AllocError>) -> Value<'p> {
+    match made {
+        Ok(value) => value,
+        Err(_) => {
+            out.give_up();
+            Value::Bool(false)
+        }
+    }
+}
+
+/// The value of a text.
+fn text_value<'p>(alloc: Global, out: &mut Text, text: &str) -> Value<'p> {
+    match String::from_str(alloc, text) {
+        Ok(text) => Value::String(text),
+        Err(_) => {
+            out.give_up();
+            Value::Bool(false)
+        }
+    }
+}
+
 /// The number, the text or the bytes that an object gives under the name of its sort.
-pub fn scalar_of<'p>(alloc: Global, given: &Json) -> Result<Value<'p>, AllocError> {
+pub fn scalar_of<'p>(alloc: Global, out: &mut Text, given: &Json) -> Value<'p> {
     if let Some(number) = number_of(given) {
-        return Ok(number);
+        return number;
     }
     match text_of(given, "string") {
-        Some(text) => Ok(Value::String(String::from_str(alloc, text)?)),
-        None => Ok(Value::Bytes(bytes(alloc, given, "bytes")?)),
+        Some(text) => text_value(alloc, out, text),
+        None => Value::Bytes(bytes_of(alloc, out, given, "bytes")),
     }
 }
 
@@ -60,78 +94,89 @@ pub fn scalar_of<'p>(alloc: Global, given: &Json) -> Result<Value<'p>, AllocErro
 /// Bytes that are refused are as want of memory is.
 pub fn message_of<'p>(
     alloc: Global,
+    out: &mut Text,
     descriptor: MessageDescriptor<'p>,
     given: &Json,
-) -> Result<DynamicMessage<'p>, AllocError> {
-    let bytes = bytes(alloc, given, "bytes")?;
+) -> DynamicMessage<'p> {
+    let bytes = bytes_of(alloc, out, given, "bytes");
     match DynamicMessage::decode(alloc, descriptor, bytes.as_slice()) {
-        Ok(message) => Ok(message),
-        Err(_) => Err(AllocError),
+        Ok(message) => message,
+        Err(_) => {
+            out.give_up();
+            DynamicMessage::new(alloc, descriptor)
+        }
     }
 }
 
 /// The message of the type that an object names under `message`, or the single value that it gives.
 fn single_of<'p>(
     alloc: Global,
+    out: &mut Text,
     pool: &'p DescriptorPool,
     given: &Json,
-) -> Result<Value<'p>, AllocError> {
-    let Some(descriptor) = pool.get_message_by_name(text(given, "message")) else {
-        return scalar_of(alloc, given);
-    };
-    Ok(Value::Message(message_of(alloc, descriptor, given)?))
+) -> Value<'p> {
+    match pool.get_message_by_name(text(given, "message")) {
+        Some(descriptor) => Value::Message(message_of(alloc, out, descriptor, given)),
+        None => scalar_of(alloc, out, given),
+    }
 }
 
 /// The single values of a list.
 pub fn list_of<'p>(
     alloc: Global,
+    out: &mut Text,
     pool: &'p DescriptorPool,
     given: &Json,
-) -> Result<Vec<Value<'p>>, AllocError> {
+) -> Vec<Value<'p>> {
     let mut values = Vec::new(alloc);
     for item in items(given, "list") {
-        values.push(single_of(alloc, pool, item)?)?;
+        if values.push(single_of(alloc, out, pool, item)).is_err() {
+            out.give_up();
+        }
     }
-    Ok(values)
+    values
 }
 
 /// Puts a key and a value, which stand side by side in a list, into a map.
-pub fn put_entry<'p>(
+pub fn put_entry(
     alloc: Global,
-    entries: &mut BTreeMap<MapKey, Value<'p>>,
+    out: &mut Text,
+    entries: &mut BTreeMap<MapKey, Value<'_>>,
     entry: &Json,
-) -> Result<(), AllocError> {
+) {
     let Some([key, value]) = entry.as_array().map(|pair| pair.as_slice()) else {
-        return Ok(());
+        return;
     };
-    if let Some(key) = scalar_of(alloc, key)?.into_map_key() {
-        entries.insert(key, scalar_of(alloc, value)?)?;
+    if let Some(key) = scalar_of(alloc, out, key).into_map_key() {
+        if entries.insert(key, scalar_of(alloc, out, value)).is_err() {
+            out.give_up();
+        }
     }
-    Ok(())
 }
 
 /// The entries of a map.
-fn map_of<'p>(alloc: Global, given: &Json) -> Result<BTreeMap<MapKey, Value<'p>>, AllocError> {
+fn map_of<'p>(alloc: Global, out: &mut Text, given: &Json) -> BTreeMap<MapKey, Value<'p>> {
     let mut entries = BTreeMap::new(alloc);
     for entry in items(given, "map") {
-        put_entry(alloc, &mut entries, entry)?;
+        put_entry(alloc, out, &mut entries, entry);
     }
-    Ok(entries)
+    entries
 }
 
 /// The list, the map or the single value that an object gives.
 pub fn value_of<'p>(
     alloc: Global,
+    out: &mut Text,
     pool: &'p DescriptorPool,
     given: &Json,
-) -> Result<Value<'p>, AllocError> {
+) -> Value<'p> {
     if given.get("list").is_some() {
-        return Ok(Value::List(list_of(alloc, pool, given)?));
+        return Value::List(list_of(alloc, out, pool, given));
     }
     if given.get("map").is_some() {
-        return Ok(Value::Map(map_of(alloc, given)?));
+        return Value::Map(map_of(alloc, out, given));
     }
-    single_of(alloc, pool, given)
+    single_of(alloc, out, pool, given)
 }
 
 /// The field of a type that an object names by its number, under `field`.

@@ -1,4 +1,4 @@
-//! Cases of calls of values and keys of maps, and what all cases of calls are given and show.
+//! Cases of calls of types, values and keys of maps, and what all cases of calls are given and show.
 #![tactic(auto)]
 
 mod answers;
@@ -6,17 +6,16 @@ mod changes;
 mod given;
 mod keys;
 mod shown;
+mod types;
 mod values;
 
-pub use answers::{Answers, replay_calls};
+pub use answers::{Answers, replay_calls, write_other};
 pub use changes::{change, change_lent};
-pub use given::{
-    extension_of, field_of, i32_of, kind_of, list_of, message_of, scalar_of, text_of, u32_of,
-    value_of,
-};
+pub use given::{bytes_of, i32_of, list_of, message_of, scalar_of, text_of, u32_of, value_of};
 pub use keys::replay_key;
 pub use shown::{
-    write_bytes, write_gap, write_held, write_hex, write_name, write_outcome, write_taken,
-    write_truth, write_value,
+    write_bytes, write_gap, write_held, write_name, write_outcome, write_taken, write_truth,
+    write_value,
 };
+pub use types::TypeCase;
 pub use values::replay_value;

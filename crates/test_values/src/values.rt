@@ -2,13 +2,13 @@
 
 use crate::answers::{Answers, replay_calls};
 use crate::changes::change;
-use crate::given::{extension_of, field_of, kind_of, value_of};
+use crate::given::{extension_of, field_of, kind_of, value_made, value_of};
 use crate::shown::{write_key, write_truth, write_value};
-use reflect_access::ValueTests;
-use reflect_message::Value;
-use reflect_pool::MessageDescriptor;
+use reflect_dynamic::{Value, ValueTests};
+use reflect_link::MessageDescriptor;
 use serde_json::Value as Json;
-use std::alloc::{AllocError, Global};
+use std::alloc::Global;
+use test_json::Text;
 use test_json::members::text;
 
 /// A value beside a type whose fields and extensions are asked of it.
@@ -22,18 +22,19 @@ struct ValueCase<'p> {
 /// gives.
 fn start_of<'p>(
     alloc: Global,
+    out: &mut Text,
     descriptor: MessageDescriptor<'p>,
     given: &Json,
-) -> Result<Value<'p>, AllocError> {
+) -> Value<'p> {
     if let Some(field) = field_of(descriptor, given) {
-        return Value::default_value_for_field(alloc, &field);
+        return value_made(out, Value::default_value_for_field(alloc, &field));
     }
     if let Some(extension) = extension_of(descriptor, given) {
-        return Value::default_value_for_extension(alloc, &extension);
+        return value_made(out, Value::default_value_for_extension(alloc, &extension));
     }
     match kind_of(descriptor, given) {
-        Some(kind) => Ok(Value::default_value(alloc, &kind)),
-        None => value_of(alloc, descriptor.parent_pool(), given),
+        Some(kind) => Value::default_value(alloc, &kind),
+        None => value_of(alloc, out, descriptor.parent_pool(), given),
     }
 }
 
@@ -42,14 +43,18 @@ pub fn replay_value(
     alloc: Global,
     descriptor: MessageDescriptor<'_>,
     case: &Json,
-    difference: &mut String,
-) -> Result<(), AllocError> {
+    difference: &mut Text,
+) {
     let Some(given) = case.get("value") else {
         return difference.push_str("no value ");
     };
-    let value = start_of(alloc, descriptor, given)?;
-    let mut asked = ValueCase { value, descriptor };
-    replay_calls(alloc, &mut asked, case, difference)
+    let value = start_of(alloc, difference, descriptor, given);
+    replay_calls(
+        alloc,
+        &mut ValueCase { value, descriptor },
+        case,
+        difference,
+    );
 }
 
 impl ValueCase<'_> {
@@ -80,7 +85,7 @@ impl ValueCase<'_> {
 }
 
 /// Writes a truth value, or that what it was asked of is not there.
-pub fn write_if_asked(out: &mut String, truth: Option<bool>) -> Result<(), AllocError> {
+pub fn write_if_asked(out: &mut Text, truth: Option<bool>) {
     match truth {
         Some(truth) => write_truth(out, truth),
         None => out.push_str("none"),
@@ -88,7 +93,7 @@ pub fn write_if_asked(out: &mut String, truth: Option<bool>) -> Result<(), Alloc
 }
 
 /// Writes a value as a key, or that it can be none.
-fn write_as_key(out: &mut String, value: Value<'_>) -> Result<(), AllocError> {
+fn write_as_key(out: &mut Text, value: Value<'_>) {
     match value.into_map_key() {
         Some(key) => write_key(out, &key),
         None => out.push_str("none"),
@@ -96,13 +101,16 @@ fn write_as_key(out: &mut String, value: Value<'_>) -> Result<(), AllocError> {
 }
 
 impl Answers for ValueCase<'_> {
-    fn answer(&mut self, alloc: Global, call: &Json, out: &mut String) -> Result<(), AllocError> {
+    fn answer(&mut self, alloc: Global, call: &Json, out: &mut Text) {
         match text(call, "call") {
             "show" => write_value(out, &self.value),
             "change" => change(alloc, out, &mut self.value, call),
             "suits" => write_if_asked(out, self.suits(call)),
             "is_default" => write_if_asked(out, self.is_default(call)),
-            "as_key" => write_as_key(out, self.value.clone()?),
+            "as_key" => {
+                let copy = value_made(out, self.value.clone());
+                write_as_key(out, copy);
+            }
             _ => out.push_str("no call"),
         }
     }

@@ -2,15 +2,14 @@
 //! that protobuf's documentation gives.
 #![tactic(auto)]
 
-mod evolution;
-mod files;
-mod messages;
-mod options;
-mod texts;
+pub mod evolution;
+pub mod files;
+pub mod messages;
+pub mod options;
+pub mod texts;
 
 use schema_core::SchemaError;
 use std::io;
-use std::process::ExitCode;
 
 /// Prints what comes of a job, or why nothing does.
 fn tell(rt: &HostRuntime, job: &str, came: Result<String, SchemaError>) -> io::Result<()> {
@@ -21,7 +20,7 @@ fn tell(rt: &HostRuntime, job: &str, came: Result<String, SchemaError>) -> io::R
 }
 
 /// Does each job, and prints what comes of it.
-fn tell_all(rt: &HostRuntime) -> io::Result<()> {
+pub fn tell_all(rt: &HostRuntime) -> io::Result<()> {
     let alloc = rt.alloc();
     tell(rt, "sources in any order", files::in_any_order(alloc))?;
     tell(
@@ -48,11 +47,4 @@ fn tell_all(rt: &HostRuntime) -> io::Result<()> {
         "a message through an older schema",
         evolution::passed_on(alloc),
     )
-}
-
-fn main(rt: HostRuntime) -> ExitCode {
-    match tell_all(&rt) {
-        Ok(()) => ExitCode::from(0),
-        Err(_) => ExitCode::from(4),
-    }
 }

@@ -4,8 +4,8 @@ use crate::streams::{Calls, CaseFiles, Input, Output, content};
 use reflect_schema::run;
 use serde_json::Value;
 use std::alloc::{AllocError, Global};
-use test_json::Told;
 use test_json::members::items;
+use test_json::{Text, Told};
 
 /// What a run came to.
 #[derive(Drop)]
@@ -60,33 +60,32 @@ fn outcome_of(alloc: Global, case: &Value) -> Result<Outcome, AllocError> {
 }
 
 /// Tells what a stream took, as text where it is one, else as hex text.
-fn tell_stream(
-    told: &mut Told<'_>,
-    stream: &Output,
-    name: &'static str,
-    hex_name: &'static str,
-) -> Result<(), AllocError> {
-    told.tell_bytes(hex_name, stream.bytes.as_slice())?;
-    match str::from_utf8(stream.bytes.as_slice()) {
-        Ok(text) => told.tell(name, text),
-        Err(_) => Ok(()),
+fn tell_stream(told: &mut Told<'_>, stream: &Output, name: &'static str, hex_name: &'static str) {
+    told.tell_bytes(hex_name, stream.bytes.as_slice());
+    if let Ok(text) = str::from_utf8(stream.bytes.as_slice()) {
+        told.tell(name, text);
     }
 }
 
-/// A run: its status, what its streams took and whether they took anything, whether the output
-/// failed, and how many calls came to each after it had failed.
-pub fn tell_run(alloc: Global, case: &Value, told: &mut Told<'_>) -> Result<(), AllocError> {
-    let Outcome {
-        status,
-        output,
-        errors,
-    } = outcome_of(alloc, case)?;
-    told.tell("status", status)?;
-    tell_stream(told, &output, "stdout", "stdout_hex")?;
-    tell_stream(told, &errors, "stderr", "stderr_hex")?;
-    told.tell("answers", !output.bytes.is_empty())?;
-    told.tell("complains", !errors.bytes.is_empty())?;
-    told.tell("output_failed", output.calls.has_failed)?;
-    let later = format!(in alloc; "{} {}", output.calls.later, errors.calls.later)?;
-    told.tell("later_writes", later.as_str())
+/// Tells what a run came to: its status, what its streams took and whether they took anything,
+/// whether the output failed, and how many calls came to each after it had failed.
+fn tell_outcome(alloc: Global, told: &mut Told<'_>, outcome: &Outcome) {
+    let (output, errors) = (&outcome.output, &outcome.errors);
+    told.tell("status", outcome.status);
+    tell_stream(told, output, "stdout", "stdout_hex");
+    tell_stream(told, errors, "stderr", "stderr_hex");
+    told.tell("answers", !output.bytes.is_empty());
+    told.tell("complains", !errors.bytes.is_empty());
+    told.tell("output_failed", output.calls.has_failed);
+    let mut later = Text::new(alloc);
+    write!(later, "{} {}", output.calls.later, errors.calls.later);
+    told.tell_text("later_writes", later);
+}
+
+/// Runs the program, and tells what comes of it.
+pub fn tell_run(alloc: Global, case: &Value, told: &mut Told<'_>) {
+    match outcome_of(alloc, case) {
+        Ok(outcome) => tell_outcome(alloc, told, &outcome),
+        Err(_) => told.give_up(),
+    }
 }

@@ -9,8 +9,9 @@ use reflect_link::{DescriptorPool, EnumReaders, PoolReaders};
 use serde_json::Value as Json;
 use std::alloc::{AllocError, Global};
 use test_described::described;
+use test_json::Text;
 use test_json::members::{bytes, items, text, truth};
-use test_values::{Answers, i32_of, text_of, write_name, write_truth};
+use test_values::{Answers, bytes_of, i32_of, text_of, write_name, write_truth};
 
 /// A pool whose calls change it too.
 #[derive(Drop)]
@@ -19,12 +20,15 @@ pub struct PoolCase {
 }
 
 impl Answers for PoolCase {
-    fn answer(&mut self, alloc: Global, call: &Json, out: &mut String) -> Result<(), AllocError> {
+    fn answer(&mut self, alloc: Global, call: &Json, out: &mut Text) {
         let pool = &mut self.pool;
         match text(call, "call") {
             "add" => add(alloc, out, pool, call),
-            "build" => build(alloc, out, pool, call),
-            "settle" => settle(alloc, pool, call),
+            "build" => {
+                let outcome = build(alloc, out, pool, call);
+                out.check(outcome);
+            }
+            "settle" => out.check(settle(alloc, pool, call)),
             "options" => write_options(alloc, out, pool, call),
             "line" => write_line(alloc, out, pool, text(call, "of")),
             name => write_found(out, pool, name, call),
@@ -33,12 +37,7 @@ impl Answers for PoolCase {
 }
 
 /// Writes the name of what the pool has by a name, or what it says of the name.
-fn write_found(
-    out: &mut String,
-    pool: &DescriptorPool,
-    sort: &str,
-    call: &Json,
-) -> Result<(), AllocError> {
+fn write_found(out: &mut Text, pool: &DescriptorPool, sort: &str, call: &Json) {
     let name = text(call, "name");
     match sort {
         "has_file" => write_truth(out, pool.has_file(name)),
@@ -75,32 +74,25 @@ fn value_name<'p>(pool: &'p DescriptorPool, call: &Json) -> Option<&'p str> {
 
 /// Writes the line that begins with some words of all that the pool's descriptors answer, without
 /// those words.
-fn write_line(
-    alloc: Global,
-    out: &mut String,
-    pool: &DescriptorPool,
-    words: &str,
-) -> Result<(), AllocError> {
-    let lines = described(alloc, pool)?;
+fn write_line(alloc: Global, out: &mut Text, pool: &DescriptorPool, words: &str) {
+    let Ok(lines) = described(alloc, pool) else {
+        return out.give_up();
+    };
     for line in lines.as_str().lines() {
         if let Some(rest) = line.strip_prefix(words) {
-            out.push_str(rest)?;
+            out.push_str(rest);
         }
     }
-    Ok(())
 }
 
 /// Adds the file that bytes spell, or writes that it is refused.
-fn add(
-    alloc: Global,
-    out: &mut String,
-    pool: &mut DescriptorPool,
-    call: &Json,
-) -> Result<(), AllocError> {
-    let file = bytes(alloc, call, "file")?;
-    match pool.decode_file_descriptor_proto(alloc, file.as_slice()) {
-        Ok(()) => Ok(()),
-        Err(_) => out.push_str("refused"),
+fn add(alloc: Global, out: &mut Text, pool: &mut DescriptorPool, call: &Json) {
+    let file = bytes_of(alloc, out, call, "file");
+    if pool
+        .decode_file_descriptor_proto(alloc, file.as_slice())
+        .is_err()
+    {
+        out.push_str("refused");
     }
 }
 
@@ -108,21 +100,18 @@ fn add(
 /// refused.
 fn build(
     alloc: Global,
-    out: &mut String,
+    out: &mut Text,
     pool: &mut DescriptorPool,
     call: &Json,
 ) -> Result<(), AllocError> {
     let files = vec![in alloc; file_of(alloc, call, "file")?]?;
     let mark = pool.mark();
-    match pool.build_files(alloc, files) {
-        Ok(()) => {
-            if truth(call, "then_cut") {
-                pool.cut(mark);
-            }
-            Ok(())
-        }
-        Err(_) => out.push_str("refused"),
+    if pool.build_files(alloc, files).is_err() {
+        out.push_str("refused");
+    } else if truth(call, "then_cut") {
+        pool.cut(mark);
     }
+    Ok(())
 }
 
 /// The path of a declaration, which a call gives as a list of numbers.
@@ -138,13 +127,21 @@ fn path_of(alloc: Global, call: &Json) -> Result<Vec<i32>, AllocError> {
     Ok(path)
 }
 
+/// The bytes that a call gives as options.
+fn options_given(alloc: Global, call: &Json) -> Result<Options, AllocError> {
+    let encoded = bytes(alloc, call, "bytes")?;
+    let mut options = Options::new(alloc);
+    options.encoded = encoded;
+    Ok(options)
+}
+
 /// Settles bytes as the options of the declaration at a path of the first file.
 fn settle(alloc: Global, pool: &mut DescriptorPool, call: &Json) -> Result<(), AllocError> {
-    let mut options = Options::new(alloc);
-    options.encoded = bytes(alloc, call, "bytes")?;
+    let path = path_of(alloc, call)?;
+    let options = options_given(alloc, call)?;
     let edit = Edit::Options {
         file: 0,
-        path: path_of(alloc, call)?,
+        path,
         options,
     };
     pool.settle(vec![in alloc; edit]?);

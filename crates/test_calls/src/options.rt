@@ -4,7 +4,8 @@ use reflect_dynamic::{DynamicMessage, ReadOptions};
 use reflect_link::{DescriptorPool, PoolReaders};
 use reflect_wire::WireError;
 use serde_json::Value as Json;
-use std::alloc::{AllocError, Global};
+use std::alloc::Global;
+use test_json::Text;
 use test_json::members::text;
 use test_values::u32_of;
 use text_format::TextFormat;
@@ -65,16 +66,11 @@ fn options_of<'p>(alloc: Global, pool: &'p DescriptorPool, call: &Json) -> Optio
 }
 
 /// Writes the options of the declaration that the call names as text, or that they have no type.
-pub fn write_options(
-    alloc: Global,
-    out: &mut String,
-    pool: &DescriptorPool,
-    call: &Json,
-) -> Result<(), AllocError> {
+pub fn write_options(alloc: Global, out: &mut Text, pool: &DescriptorPool, call: &Json) {
     match options_of(alloc, pool, call) {
         Some(Ok(Some(options))) => match options.to_text_format(alloc) {
             Ok(text) => out.push_str(text.as_str()),
-            Err(_) => Err(AllocError),
+            Err(_) => out.give_up(),
         },
         Some(Ok(None)) => out.push_str("no type"),
         Some(Err(error)) => write!(out, "{error:?}"),

@@ -1,13 +1,14 @@
 //! Calls of message types.
 
+use crate::answers::Answers;
+use crate::given::{extension_of, field_of, kind_of, text_of, u32_of, value_made};
+use crate::shown::{write_name, write_truth, write_value};
 use reflect_dynamic::{FieldDefault, KindExt, Value};
 use reflect_link::{FieldDescriptor, FieldReaders, Kind, MessageDescriptor, PoolReaders};
 use serde_json::Value as Json;
-use std::alloc::{AllocError, Global};
+use std::alloc::Global;
+use test_json::Text;
 use test_json::members::text;
-use test_values::{
-    Answers, extension_of, field_of, kind_of, text_of, u32_of, write_name, write_truth, write_value,
-};
 
 /// A message type that is asked.
 #[derive(Drop)]
@@ -16,7 +17,7 @@ pub struct TypeCase<'p> {
 }
 
 impl Answers for TypeCase<'_> {
-    fn answer(&mut self, alloc: Global, call: &Json, out: &mut String) -> Result<(), AllocError> {
+    fn answer(&mut self, alloc: Global, call: &Json, out: &mut Text) {
         let descriptor = self.descriptor;
         match text(call, "call") {
             "field" => write_name(out, field_name(descriptor, call)),
@@ -25,14 +26,8 @@ impl Answers for TypeCase<'_> {
             "has_file" => write_truth(out, descriptor.parent_pool().has_file(text(call, "name"))),
             "record" => write_record(out, field_of(descriptor, call)),
             "kind" => write_kind(out, field_of(descriptor, call)),
-            "wire_type" => match kind_of(descriptor, call) {
-                Some(kind) => write!(out, "{:?}", kind.wire_type()),
-                None => out.push_str("-"),
-            },
-            "default" => match default_of(alloc, descriptor, call)? {
-                Some(value) => write_value(out, &value),
-                None => out.push_str("-"),
-            },
+            "wire_type" => write_wire_type(out, kind_of(descriptor, call)),
+            "default" => write_default(alloc, out, descriptor, call),
             _ => out.push_str("no call"),
         }
     }
@@ -71,32 +66,31 @@ fn is_same(descriptor: MessageDescriptor<'_>, name: &str) -> bool {
 }
 
 /// Writes the type's number and name that a field's record has, and how many bytes of options.
-fn write_record(out: &mut String, field: Option<FieldDescriptor<'_>>) -> Result<(), AllocError> {
+fn write_record(out: &mut Text, field: Option<FieldDescriptor<'_>>) {
     let Some(field) = field else {
         return out.push_str("-");
     };
     let record = field.field_descriptor_proto();
     if let Some(number) = record.field_type {
-        write!(out, "type {number}")?;
+        write!(out, "type {number}");
     }
     if let Some(name) = &record.type_name {
-        write!(out, " {name}")?;
+        write!(out, " {name}");
     }
     if let Some(options) = &record.options {
-        write!(out, " options {}", options.encoded.len())?;
+        write!(out, " options {}", options.encoded.len());
     }
-    Ok(())
 }
 
 /// Writes the types that a field's kind is, as a message and as an enum.
-fn write_kind(out: &mut String, field: Option<FieldDescriptor<'_>>) -> Result<(), AllocError> {
+fn write_kind(out: &mut Text, field: Option<FieldDescriptor<'_>>) {
     let Some(field) = field else {
         return out.push_str("no field");
     };
     let kind = field.kind();
-    write_name(out, message_name(kind))?;
-    out.push_str(" ")?;
-    write_name(out, enum_name(kind))
+    write_name(out, message_name(kind));
+    out.push_str(" ");
+    write_name(out, enum_name(kind));
 }
 
 /// The full name of the message type, of a kind that is one.
@@ -109,20 +103,34 @@ fn enum_name<'p>(kind: Kind<'p>) -> Option<&'p str> {
     Some(kind.as_enum()?.full_name())
 }
 
+/// Writes how values of a kind stand in bytes.
+fn write_wire_type(out: &mut Text, kind: Option<Kind<'_>>) {
+    match kind {
+        Some(kind) => write!(out, "{:?}", kind.wire_type()),
+        None => out.push_str("-"),
+    }
+}
+
 /// The default of the field, the extension or the kind that the call names.
 fn default_of<'p>(
     alloc: Global,
+    out: &mut Text,
     descriptor: MessageDescriptor<'p>,
     call: &Json,
-) -> Result<Option<Value<'p>>, AllocError> {
+) -> Option<Value<'p>> {
     if let Some(field) = field_of(descriptor, call) {
-        return Ok(Some(field.default_value(alloc)?));
+        return Some(value_made(out, field.default_value(alloc)));
     }
     if let Some(extension) = extension_of(descriptor, call) {
-        return Ok(Some(extension.default_value(alloc)?));
+        return Some(value_made(out, extension.default_value(alloc)));
     }
-    match kind_of(descriptor, call) {
-        Some(kind) => Ok(Some(KindExt::default_value(&kind, alloc))),
-        None => Ok(None),
+    Some(KindExt::default_value(&kind_of(descriptor, call)?, alloc))
+}
+
+/// Writes the default that the call asks for.
+fn write_default(alloc: Global, out: &mut Text, descriptor: MessageDescriptor<'_>, call: &Json) {
+    match default_of(alloc, out, descriptor, call) {
+        Some(value) => write_value(out, &value),
+        None => out.push_str("-"),
     }
 }
