@@ -51,6 +51,7 @@ number_at v n = option_map (λ f. field_number (facts_of f)) (field_at v n)
 abbrev pub held_number : View → Name → Text → Option ℕ
 held_number v t n = cond (is_some (own_named v t n)) (number_at v n) None
 
+-- what is called so is the plain field, also where messages do not hold it: it hides a group
 abbrev pub plain_or_group : View → Name → (plain group : Option Text) → Option ℕ
 plain_or_group v t (Some n) g = held_number v t n
 plain_or_group v t None g = option_and_then (number_at v) g
