@@ -1,3 +1,4 @@
 mod Exclusive
+mod Giving
 mod Putting
 mod Staying
