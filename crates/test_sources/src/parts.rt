@@ -59,12 +59,11 @@ fn write_place(
 }
 
 /// Writes the places that a case names, within its source.
-fn write_lines(
-    alloc: Global,
-    out: &mut Text,
-    case: &Value,
-    source: &str,
-) -> Result<(), AllocError> {
+fn write_lines(alloc: Global, out: &mut Text, case: &Value) -> Result<(), AllocError> {
+    let source = text(case, "source");
+    if source.len() >= 0x8000_0000 {
+        return Ok(());
+    }
     let lines = LineResolver::new(alloc, source)?;
     for place in items(case, "places") {
         write_place(alloc, out, &lines, place)?;
@@ -74,12 +73,8 @@ fn write_lines(
 
 /// The line and column of each place, or the numbers of each span, from 0.
 pub fn tell_lines(alloc: Global, case: &Value, told: &mut Told<'_>) {
-    let source = text(case, "source");
-    if source.len() >= 0x8000_0000 {
-        return;
-    }
     let mut out = Text::new(alloc);
-    let outcome = write_lines(alloc, &mut out, case, source);
+    let outcome = write_lines(alloc, &mut out, case);
     out.check(outcome);
     told.tell_text("ok", out);
 }
