@@ -16,10 +16,15 @@ use test_messages::{replay_message, replay_values};
 use test_values::{TypeCase, replay_calls, replay_key, replay_value};
 
 /// The pools that cases make for later ones.
-#[derive(Drop)]
 pub struct Replay {
     alloc: Global,
     pools: BTreeMap<u64, DescriptorPool>,
+}
+
+impl Drop for Replay {
+    fn drop(self) {
+        let Replay { alloc: _, pools: _ } = self;
+    }
 }
 
 impl Replay {

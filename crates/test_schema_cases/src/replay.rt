@@ -15,17 +15,24 @@ use std::collections::BTreeMap;
 use test_described::described;
 use test_json::Told;
 use test_json::members::{bytes, items, number, text, truth};
-use test_sources::{
-    tell_int, tell_lines, tell_parsed, tell_records, tell_set, tell_text_tokens, tell_tokens,
-};
+use test_sources::tell_case_of_sources;
 
 /// What cases build for later ones.
-#[derive(Drop)]
 pub struct Replay {
     alloc: Global,
     /// The text of the `descriptor.proto` of schemas with option types.
     descriptor: String,
     schemas: BTreeMap<u64, Schema>,
+}
+
+impl Drop for Replay {
+    fn drop(self) {
+        let Replay {
+            alloc: _,
+            descriptor: _,
+            schemas: _,
+        } = self;
+    }
 }
 
 impl Replay {
@@ -44,18 +51,10 @@ impl Replay {
             "descriptor" => self.keep_descriptor(case, told),
             "schema" => self.built(case, told),
             "reread" => self.reread(case, told),
-            "tokens" => tell_tokens(alloc, case, told),
-            "text_tokens" => tell_text_tokens(alloc, case, told),
-            "int" => tell_int(alloc, case, told),
-            "lines" => tell_lines(alloc, case, told),
-            "parse" => tell_parsed(alloc, case, told),
-            "records" => tell_records(alloc, case, told),
-            "set" => tell_set(alloc, case, told),
-            op => {
-                if let Some(schema) = self.schemas.get(&number(case, "schema")) {
-                    tell_of_schema(alloc, op, schema, case, told);
-                }
-            }
+            op => match self.schemas.get(&number(case, "schema")) {
+                Some(schema) => tell_of_schema(alloc, op, schema, case, told),
+                None => tell_case_of_sources(alloc, case, told),
+            },
         }
     }
 

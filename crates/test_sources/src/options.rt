@@ -118,3 +118,10 @@ pub fn write_file(out: &mut Text, file: &FileDescriptorProto) {
         write_methods(out, service);
     }
 }
+
+/// Writes the options of a file's enums.
+pub fn write_enums(out: &mut Text, file: &FileDescriptorProto) {
+    for kind in &file.enum_type {
+        write_options(out, &kind.name, &kind.options);
+    }
+}

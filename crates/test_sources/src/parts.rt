@@ -1,7 +1,13 @@
-//! Integers with a sign in all types that hold them, and places of a source as lines and columns.
+//! Integers with a sign in all types that hold them, places of a source as lines and columns, and
+//! parts that are made by hand.
 
 ghost use Rattle.std.specs.Prelude.{◌<◌, ◌^◌};
 
+use crate::faults::{write_error, write_faults, write_indexes, write_labels};
+use crate::records::write_numbers;
+use crate::trees::{
+    write_literals, write_names, write_ranges, write_strings, write_types, write_values,
+};
 use protox_lex::{Int, LineResolver, Span};
 use serde_json::Value;
 use std::alloc::{AllocError, Global};
@@ -53,12 +59,11 @@ fn write_place(
 }
 
 /// Writes the places that a case names, within its source.
-fn write_lines(
-    alloc: Global,
-    out: &mut Text,
-    case: &Value,
-    source: &str,
-) -> Result<(), AllocError> {
+fn write_lines(alloc: Global, out: &mut Text, case: &Value) -> Result<(), AllocError> {
+    let source = text(case, "source");
+    if source.len() >= 0x8000_0000 {
+        return Ok(());
+    }
     let lines = LineResolver::new(alloc, source)?;
     for place in items(case, "places") {
         write_place(alloc, out, &lines, place)?;
@@ -68,12 +73,37 @@ fn write_lines(
 
 /// The line and column of each place, or the numbers of each span, from 0.
 pub fn tell_lines(alloc: Global, case: &Value, told: &mut Told<'_>) {
-    let source = text(case, "source");
-    if source.len() >= 0x8000_0000 {
-        return;
-    }
     let mut out = Text::new(alloc);
-    let outcome = write_lines(alloc, &mut out, case, source);
+    let outcome = write_lines(alloc, &mut out, case);
+    out.check(outcome);
+    told.tell_text("ok", out);
+}
+
+/// Writes a part that is made by hand.
+fn write_part(alloc: Global, out: &mut Text, part: &str) -> Result<(), AllocError> {
+    match part {
+        "names" => write_names(alloc, out),
+        "types" => write_types(alloc, out),
+        "values" => write_values(alloc, out),
+        "strings" => write_strings(alloc, out),
+        "literals" => write_literals(alloc, out),
+        "ranges" => {
+            write_ranges(out);
+            Ok(())
+        }
+        "faults" => write_faults(alloc, out),
+        "labels" => write_labels(alloc, out),
+        "error" => write_error(alloc, out),
+        "indexes" => write_indexes(alloc, out),
+        "numbers" => write_numbers(alloc, out),
+        _ => Ok(()),
+    }
+}
+
+/// What parts that the program makes by hand answer: of syntax trees, of faults, of numbers.
+pub fn tell_part(alloc: Global, case: &Value, told: &mut Told<'_>) {
+    let mut out = Text::new(alloc);
+    let outcome = write_part(alloc, &mut out, text(case, "of"));
     out.check(outcome);
     told.tell_text("ok", out);
 }

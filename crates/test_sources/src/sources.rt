@@ -13,7 +13,12 @@ use test_json::members::text;
 use test_json::{Text, Told};
 
 /// Tells the bytes of a record.
-fn tell_record(alloc: Global, told: &mut Told<'_>, name: &'static str, file: &FileDescriptorProto) {
+pub fn tell_record(
+    alloc: Global,
+    told: &mut Told<'_>,
+    name: &'static str,
+    file: &FileDescriptorProto,
+) {
     let mut bytes = Vec::new(alloc);
     match encode_file(file, &mut bytes) {
         Ok(()) => told.tell_bytes(name, bytes.as_slice()),
@@ -33,8 +38,8 @@ fn tell_places(alloc: Global, told: &mut Told<'_>, file: &FileDescriptorProto) {
     told.tell_text("comments", comments);
 }
 
-/// Tells the options of a record that no type has read.
-fn tell_options(alloc: Global, told: &mut Told<'_>, file: &FileDescriptorProto) {
+/// Tells the options of a record: those that linking reads, and those that no type has read.
+pub fn tell_options(alloc: Global, told: &mut Told<'_>, file: &FileDescriptorProto) {
     let mut options = Text::new(alloc);
     write_file(&mut options, file);
     told.tell_text("options", options);

@@ -9,7 +9,7 @@ use test_json::Told;
 use test_json::members::bytes;
 
 /// Tells what was written, or why the bytes are refused.
-fn tell_written(alloc: Global, told: &mut Told<'_>, written: Result<Vec<u8>, WireError>) {
+pub fn tell_written(alloc: Global, told: &mut Told<'_>, written: Result<Vec<u8>, WireError>) {
     match written {
         Ok(written) => told.tell_bytes("ok", written.as_slice()),
         Err(error) => {

@@ -1,0 +1,133 @@
+//! Where the faults of files stand, and indexes that do not fit.
+
+use descriptor_records::FileDescriptorProto;
+use name_table::NameTable;
+use protox_parse::parse;
+use reflect_names::{
+    DescriptorErrorKind, Faults, Label, NameVisitor, Offsets, SourceSpan, VisitError, name_files,
+};
+use reflect_passes::DescriptorError;
+use std::alloc::{AllocError, Global};
+use std::collections::BTreeMap;
+use test_json::Text;
+
+/// A file that imports one that is not there.
+const SOURCE: &str = "syntax = \"proto3\"; import \"b.proto\";";
+
+/// The faults of the names that files declare.
+fn faults_in(
+    alloc: Global,
+    files: &[FileDescriptorProto],
+) -> Result<Vec<DescriptorErrorKind>, VisitError> {
+    let mut faults = Faults::new(alloc, files, 0);
+    let mut file_names = BTreeMap::new(alloc);
+    name_files(alloc, &mut file_names, 0, files, &mut faults)?;
+    let mut names = NameVisitor::new(NameTable::new(alloc), faults, &file_names);
+    let none = Offsets {
+        messages: 0,
+        enums: 0,
+        extensions: 0,
+        services: 0,
+    };
+    names.declare_files(alloc, none, 0, files)?;
+    let (_names, faults) = names.into_parts();
+    Ok(faults.into_list())
+}
+
+/// The faults of the source.
+fn faults_of_source(alloc: Global) -> Result<Vec<DescriptorErrorKind>, AllocError> {
+    let Ok(file) = parse(alloc, "a.proto", SOURCE) else {
+        return Ok(Vec::new(alloc));
+    };
+    let files = vec![in alloc; file]?;
+    match faults_in(alloc, files.as_slice()) {
+        Ok(faults) => Ok(faults),
+        Err(_) => Err(AllocError),
+    }
+}
+
+/// Writes the bytes of a label, if it has them.
+fn write_bytes(out: &mut Text, label: &Label) {
+    match label.span() {
+        Some(bytes) => write!(out, "{}..{} ", bytes.start, bytes.end),
+        None => out.push_str("no bytes "),
+    }
+}
+
+/// Writes the file, line and column of a fault, and its bytes.
+fn write_fault(out: &mut Text, fault: &DescriptorErrorKind) {
+    if let Some(label) = fault.label() {
+        write!(out, "{} ", label.file());
+        write!(out, "{:?} {:?} ", label.line(), label.column());
+        write_bytes(out, label);
+    }
+}
+
+/// The place of the source's fault, in the words of the parser.
+pub fn write_faults(alloc: Global, out: &mut Text) -> Result<(), AllocError> {
+    let mut faults = faults_of_source(alloc)?;
+    for fault in faults.iter_mut() {
+        fault.resolve_span("a.proto", SOURCE);
+        write_fault(out, fault);
+    }
+    Ok(())
+}
+
+/// The bytes of a label in two sources, of which the second ends before it.
+pub fn write_labels(alloc: Global, out: &mut Text) -> Result<(), AllocError> {
+    let span = SourceSpan::from_location(&[1, 2, 2, 1]);
+    let mut label = Label::new(alloc, "b", Vec::new(alloc), span)?;
+    for source in ["a\nbcd\nef", "a\nbcd"] {
+        label.resolve_span("b", source);
+        write_bytes(out, &label);
+    }
+    Ok(())
+}
+
+/// Writes the bytes of an error's first fault, if it knows its source.
+fn write_error_bytes(out: &mut Text, error: &DescriptorError) {
+    match error.span() {
+        Some(bytes) => write!(out, "{}..{} ", bytes.start, bytes.end),
+        None => out.push_str("no bytes "),
+    }
+}
+
+/// The bytes of the source's error, before and after it knows its source, and the error.
+pub fn write_error(alloc: Global, out: &mut Text) -> Result<(), AllocError> {
+    if let Some(error) = DescriptorError::from_list(faults_of_source(alloc)?) {
+        write_error_bytes(out, &error);
+        let error = error.with_source_code(SOURCE);
+        write_error_bytes(out, &error);
+        write!(out, "{error:?}");
+    }
+    Ok(())
+}
+
+fn named_file(alloc: Global, name: &str) -> Result<FileDescriptorProto, AllocError> {
+    let name = String::from_str(alloc, name)?;
+    let mut file = FileDescriptorProto::new(alloc);
+    file.name = Some(name);
+    Ok(file)
+}
+
+/// Writes whether files are named whose first has this index.
+fn write_named(alloc: Global, out: &mut Text, files: &[FileDescriptorProto], first: u32) {
+    let mut names = BTreeMap::new(alloc);
+    let mut faults = Faults::new(alloc, files, first);
+    match name_files(alloc, &mut names, first, files, &mut faults) {
+        Ok(()) => out.push_str("named "),
+        Err(VisitError::TooMany) => write!(out, "{} ", DescriptorErrorKind::TooMany),
+        Err(VisitError::Memory) => out.give_up(),
+    }
+}
+
+/// Two files of which the second has the largest index, and of which the first has it.
+pub fn write_indexes(alloc: Global, out: &mut Text) -> Result<(), AllocError> {
+    const LAST: u32 = 2_147_483_647;
+    let first = named_file(alloc, "a")?;
+    let second = named_file(alloc, "b")?;
+    let files = vec![in alloc; first, second]?;
+    write_named(alloc, out, files.as_slice(), LAST - 1);
+    write_named(alloc, out, files.as_slice(), LAST);
+    Ok(())
+}
