@@ -1,11 +1,12 @@
-use Rattle.std.proofs.Common.{rules, ◌≡◌, ◌∷◌, [], Some, map, ap, ◌∙◌, refl}
+use Rattle.std.proofs.Common.{rules, ◌≡◌, ◌∷◌, [], Some, map, ap, ◌∙◌, refl, subst, sym}
 use Rattle.reflect_pool.specs.FieldsLeft.{field_place, field_type, fields_left, type_in}
 use Rattle.reflect_pool.specs.declared.message.Fields.{Fields}
 use Rattle.reflect_pool.specs.declared.message.MessageDescriptor.{MessageDescriptor}
 use Rattle.reflect_pool.proofs.PlacesLeft.{at_places}
 use Rattle.reflect_tables.specs.Types.{no_field, type_at}
 use Rattle.reflect_message.specs.Known.{known_field}
-use Rattle.print_parts.proofs.Choosing.{all_chosen, none_chosen, one_put}
+use Rattle.print_parts.specs.Parts.{declared_entry}
+use Rattle.print_parts.proofs.Choosing.{IsChosen, all_chosen, none_chosen, one_put}
 use Rattle.print_parts.proofs.entries.printed_fields.Goals as goal
 
 pub loop-declared-init : goal.loop-declared-init
@@ -13,8 +14,12 @@ loop-declared-init c =
     let d = c.args.message.now.descriptor in
     let all : Fields = record { message = d; next = 0 } in
     let from : c.into_iter-declared-iterator.result ≡ all = search rules in
-    none_chosen c.args.options c.args.message.now _
-    (ap (λ (s : Fields). map type_in (fields_left s)) from ∙ at_places d type_in (type_at d.pool.now d.index).fields no_field (λ k. refl))
+    let empty : c.new-fields.result.items ≡ [] = search rules in
+    let left = map type_in (fields_left c.into_iter-declared-iterator.result) in
+    subst (λ done. IsChosen c.args.options c.args.message.now done left)
+    (sym (ap (map declared_entry) empty))
+    (none_chosen c.args.options c.args.message.now left
+    (ap (λ (s : Fields). map type_in (fields_left s)) from ∙ at_places d type_in (type_at d.pool.now d.index).fields no_field (λ k. refl)))
 
 pub loop-declared-preserved-in-Continue-1 : goal.loop-declared-preserved-in-Continue-1
 loop-declared-preserved-in-Continue-1 c =
