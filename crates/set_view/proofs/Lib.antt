@@ -1,0 +1,2 @@
+mod Suited
+mod Viewed

@@ -1,0 +1,5 @@
+//! Laws of messages whose fields and extensions are set, cleared and taken, in the words of the
+//! model. It has no code.
+#![tactic(auto)]
+
+pub mod laws;
