@@ -19,7 +19,10 @@ pub fn answer_by_name(
     match text(call, "call") {
         "has" => write_truth(out, message.has_field_by_name(name)),
         "get" => write_held(out, message.get_field_by_name(name)),
-        "change" => change_lent(alloc, out, message.get_field_by_name_mut(name), call),
+        "change" => match message.get_field_by_name_mut(name) {
+            Ok(lent) => change_lent(alloc, out, lent, call),
+            Err(_) => out.give_up(),
+        },
         "set" => {
             let value = value_of(alloc, out, pool, call);
             out.check(message.set_field_by_name(name, value));

@@ -19,7 +19,10 @@ pub fn answer_by_number(
     match text(call, "call") {
         "has" => write_truth(out, message.has_field_by_number(number)),
         "get" => write_held(out, message.get_field_by_number(number)),
-        "change" => change_lent(alloc, out, message.get_field_by_number_mut(number), call),
+        "change" => match message.get_field_by_number_mut(number) {
+            Ok(lent) => change_lent(alloc, out, lent, call),
+            Err(_) => out.give_up(),
+        },
         "set" => {
             let value = value_of(alloc, out, pool, call);
             out.check(message.set_field_by_number(number, value));
