@@ -30,7 +30,7 @@ use Rattle.reflect_format.specs.declared.target.Target.{Target}
 use Rattle.reflect_format.specs.declared.target.Target.TheVariants as targets
 use Rattle.text_model.specs.Tree.{ScalarValue}
 use Rattle.message_view.proofs.Fields.{known, owned, extension_owned}
-use Rattle.message_view.specs.Shaped.{Fits, FitsOne, IsShaped}
+use Rattle.message_view.specs.Shaped.{Fits, FitsAs, FitsOne, IsShaped}
 use Rattle.message_view.specs.Sound.{AreApart, HaveFieldNumbers, IsFieldNumber}
 use Rattle.text_view.proofs.Apart.{no_field_there}
 use Rattle.text_view.proofs.Kept.{LeavesOthers, StaysOrGoes}
