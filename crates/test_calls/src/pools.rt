@@ -41,7 +41,7 @@ fn write_found(out: &mut Text, pool: &DescriptorPool, sort: &str, call: &Json) {
     let name = text(call, "name");
     match sort {
         "has_file" => write_truth(out, pool.has_file(name)),
-        "files" => write!(out, "{}", pool.files().count()),
+        "files" => write!(out, "{}", file_count(pool)),
         "message" => write_name(out, message_name(pool, name)),
         "extension" => write_name(out, extension_name(pool, name)),
         "value" => write_name(out, value_name(pool, call)),
@@ -51,6 +51,16 @@ fn write_found(out: &mut Text, pool: &DescriptorPool, sort: &str, call: &Json) {
         },
         _ => out.push_str("no call"),
     }
+}
+
+/// How many files the pool has.
+fn file_count(pool: &DescriptorPool) -> u64 {
+    let mut count: u64 = 0;
+    for _file in pool.files() {
+        // (no pool has so many that it would stay)
+        count = count.saturating_add(1);
+    }
+    count
 }
 
 /// The full name of the message type that the pool has by a name.
