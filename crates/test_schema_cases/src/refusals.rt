@@ -66,7 +66,9 @@ pub fn tell_text_refusal(alloc: Global, told: &mut Told<'_>, error: &TextError) 
         write!(shown, "{}..{}", span.start, span.end);
         told.tell_text("span", shown);
     }
-    told.tell("text", error);
+    let mut shown = Text::new(alloc);
+    write!(shown, "{error}");
+    told.tell_text("text", shown);
 }
 
 /// The name of a schema's refusal.
@@ -92,7 +94,9 @@ pub fn tell_refusal(alloc: Global, told: &mut Told<'_>, error: &SchemaError) {
         write!(shown, "{line}:{column}");
         told.tell_text("position", shown);
     }
-    told.tell("display", error);
+    let mut shown = Text::new(alloc);
+    write!(shown, "{error}");
+    told.tell_text("display", shown);
     match error {
         SchemaError::Parse(error) => tell_source_refusal(alloc, told, error),
         SchemaError::Link(error) => tell_link_refusal(alloc, told, error),
