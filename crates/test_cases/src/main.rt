@@ -3,8 +3,8 @@
 //! callers.
 //!
 //! Answers are worked by hand from the published documentation of the language, the encoding and
-//! the text format, or come from
-//! `protoc` or from an independent model. docs/TESTS.md says what each file asserts.
+//! the text format, or come from `protoc`, from Python's protobuf or from an independent model.
+//! docs/TESTS.md says what each file asserts.
 #![tactic(auto)]
 
 mod runs;
