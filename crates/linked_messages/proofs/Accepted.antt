@@ -4,7 +4,7 @@ use Rattle.std.proofs.Math.Seq.{get_or-append-add}
 use Rattle.descriptor_records.specs.declared.file.FileDescriptorProto.{FileDescriptorProto}
 use Rattle.reflect_names.specs.Faults.{batch_places}
 use Rattle.reflect_names.specs.declared.resolve_visitor.Reference.{Reference}
-use Rattle.reflect_walk.specs.Batches.{batch_declarations}
+use Rattle.reflect_declarations.specs.Batches.{batch_declarations}
 use Rattle.reflect_references.specs.Meanings.{meaning}
 use Rattle.reflect_passes.specs.Linked.{linked_says}
 use Rattle.reflect_rules.specs.TypesSay.{TypesSay}

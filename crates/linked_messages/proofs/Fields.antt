@@ -9,9 +9,9 @@ use Rattle.descriptor_records.specs.declared.file.FileDescriptorProto.{FileDescr
 use Rattle.descriptor_records.specs.declared.options.Options.{Options}
 use Rattle.descriptor_records.specs.FieldNumbers.{type_number}
 use Rattle.reflect_scope.specs.declared.definition.DefinitionKind.{DefinitionKind}
-use Rattle.reflect_walk.specs.Batches.{batch_declarations}
-use Rattle.reflect_walk.specs.Declarations.{Declaration, of_field}
-use Rattle.reflect_walk.specs.declared.visit_parts.Offsets.{Offsets}
+use Rattle.reflect_declarations.specs.Batches.{batch_declarations}
+use Rattle.reflect_declarations.specs.Declarations.{Declaration, of_field}
+use Rattle.reflect_declarations.specs.declared.offsets.Offsets.{Offsets}
 use Rattle.reflect_names.specs.Names.{Places}
 use Rattle.reflect_names.specs.References.{View}
 use Rattle.reflect_names.specs.ReferencePass.{reference_faults_along}

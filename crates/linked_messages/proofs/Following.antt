@@ -7,10 +7,10 @@ use Rattle.descriptor_records.specs.declared.field.FieldDescriptorProto.{FieldDe
 use Rattle.descriptor_records.specs.declared.file.FileDescriptorProto.{FileDescriptorProto}
 use Rattle.descriptor_records.specs.declared.service.ServiceDescriptorProto.{ServiceDescriptorProto}
 use Rattle.reflect_scope.specs.Means.{join}
-use Rattle.reflect_walk.specs.Batches.{batch_declarations}
-use Rattle.reflect_walk.specs.Tree.{text_of, MessageParts, Message, message, Messages, no_messages, more_messages}
-use Rattle.reflect_walk.specs.declared.visit_parts.Offsets.{Offsets}
-use Rattle.reflect_walk.specs.Declarations.{Declaration, Body, of_message, of_field, each, entry, one_field, one_oneof, one_value, one_enum, one_method, one_service, one_extension, past_message, past_tree, past_trees, past_file, trees_of, tree_declarations, trees_declarations, file_declarations}
+use Rattle.reflect_declarations.specs.Batches.{batch_declarations}
+use Rattle.reflect_declarations.specs.Tree.{text_of, MessageParts, Message, message, Messages, no_messages, more_messages}
+use Rattle.reflect_declarations.specs.declared.offsets.Offsets.{Offsets}
+use Rattle.reflect_declarations.specs.Declarations.{Declaration, Body, of_message, of_field, each, entry, one_field, one_oneof, one_value, one_enum, one_method, one_service, one_extension, past_message, past_tree, past_trees, past_file, trees_of, tree_declarations, trees_declarations, file_declarations}
 use Rattle.reflect_pool.proofs.Grown.{all_behind}
 use Rattle.reflect_index.specs.Along.{AtHand, Met, along, met, hand_behind, is_message, is_field, is_parent, parts}
 use Rattle.reflect_index.specs.OfDeclarations.{message_in, messages_in}

@@ -12,7 +12,7 @@ use Rattle.reflect_rules.specs.Rules.{Values, FaultsOf, FieldFaults, ExtensionFa
 use Rattle.reflect_rules.specs.TypesSay.{TypesSay}
 use Rattle.reflect_rules.specs.Walks.{Facts, Place}
 use Rattle.reflect_tables.specs.Ranges.{Range, IsRangeOf}
-use Rattle.reflect_walk.specs.Declarations.{Declaration, of_field, of_extension}
+use Rattle.reflect_declarations.specs.Declarations.{Declaration, of_field, of_extension}
 use Rattle.message_view.specs.Sound.{IsFieldNumber}
 use Rattle.reflect_build.proofs.Rules.{none_both}
 use Rattle.linked_messages.proofs.Faultless.{unfaulted}

@@ -3,7 +3,7 @@ use Rattle.std.proofs.Common.{◌≡◌, [], ◌⊎◌, inl, inr, ◌<◌, ◌�
 use Rattle.std.specs.List.{AllByRecursion}
 use Rattle.descriptor_records.specs.Content.{file_view}
 use Rattle.descriptor_records.specs.declared.file.FileDescriptorProto.{FileDescriptorProto}
-use Rattle.reflect_walk.specs.Declarations.{Declaration}
+use Rattle.reflect_declarations.specs.Declarations.{Declaration}
 use Rattle.reflect_passes.specs.NameFaults.{name_faults}
 use Rattle.reflect_tables.specs.Names.{extension_name, extensions, found}
 use Rattle.reflect_tables.specs.Types.{PoolType, FieldType, MessageType, EnumType, ExtensionType, ArePooled, no_type, no_enum, no_extension, type_at, type_of_field, enum_at, extension_at, KindType, no_field}

@@ -10,10 +10,10 @@ use Rattle.reflect_scope.specs.declared.definition.Definition.{Definition}
 use Rattle.reflect_scope.specs.declared.definition.DefinitionKind.TheVariants as kind
 use Rattle.reflect_scope.specs.Known.{Known, is_package}
 use Rattle.reflect_scope.specs.Means.{join, has_dot, outer}
-use Rattle.reflect_walk.specs.Batches.{batch_declarations}
-use Rattle.reflect_walk.specs.Declarations.{Declaration, of_message, of_field, file_declaration, file_declarations, past_file}
-use Rattle.reflect_walk.specs.Tree.{text_of, MessageParts}
-use Rattle.reflect_walk.specs.declared.visit_parts.Offsets.{Offsets}
+use Rattle.reflect_declarations.specs.Batches.{batch_declarations}
+use Rattle.reflect_declarations.specs.Declarations.{Declaration, of_message, of_field, file_declaration, file_declarations, past_file}
+use Rattle.reflect_declarations.specs.Tree.{text_of, MessageParts}
+use Rattle.reflect_declarations.specs.declared.offsets.Offsets.{Offsets}
 use Rattle.reflect_known.specs.DeclaredNames.{with_names}
 use Rattle.reflect_known.specs.KnownNames.{definition_of, package_of, known_behind, nothing_known, nothing_before, known_of_files}
 use Rattle.reflect_names.specs.Faults.{batch_places}

@@ -7,7 +7,7 @@ use Rattle.descriptor_records.specs.declared.field.FieldDescriptorProto.{FieldDe
 use Rattle.descriptor_records.specs.declared.field.FieldType.TheVariants as numbers
 use Rattle.descriptor_records.specs.declared.file.FileDescriptorProto.{FileDescriptorProto}
 use Rattle.descriptor_records.specs.declared.options.Options.{Options}
-use Rattle.reflect_walk.specs.Declarations.{Declaration}
+use Rattle.reflect_declarations.specs.Declarations.{Declaration}
 use Rattle.reflect_walk.specs.MapEntries.{says_entry, is_true}
 use Rattle.reflect_fields.specs.Fields.{natural}
 use Rattle.reflect_fields.specs.FieldDefaults.{IsDefault}

@@ -12,8 +12,8 @@ use Rattle.reflect_scope.specs.declared.definition.DefinitionKind.{DefinitionKin
 use Rattle.reflect_scope.specs.declared.definition.DefinitionKind.TheVariants as kind
 use Rattle.reflect_scope.specs.declared.definition.ResolveNameFilter.TheVariants as filter
 use Rattle.reflect_scope.proofs.Steps.{undotted_found, undotted_more, resolve_undotted}
-use Rattle.reflect_walk.specs.Declarations.{Declaration, of_field}
-use Rattle.reflect_walk.specs.Tree.{text_of}
+use Rattle.reflect_declarations.specs.Declarations.{Declaration, of_field}
+use Rattle.reflect_declarations.specs.Tree.{text_of}
 use Rattle.reflect_names.specs.Faults.{batch_places}
 use Rattle.reflect_names.specs.ImportedFiles.{links_to}
 use Rattle.reflect_names.specs.Names.{Places}

@@ -9,8 +9,8 @@ use Rattle.reflect_scope.specs.FileIndexes.{Indexes}
 use Rattle.reflect_scope.specs.Known.{Known, declared, is_taken, is_package}
 use Rattle.reflect_scope.specs.Means.{scopes}
 use Rattle.reflect_scope.proofs.Scopes.{scopes_more}
-use Rattle.reflect_walk.specs.Tree.{text_of}
-use Rattle.reflect_walk.specs.Declarations.{Declaration, of_file}
+use Rattle.reflect_declarations.specs.Tree.{text_of}
+use Rattle.reflect_declarations.specs.Declarations.{Declaration, of_file}
 use Rattle.reflect_known.specs.KnownNames.{definition_of, package_of, known_after}
 use Rattle.reflect_names.specs.Names.{Places, faults_at}
 use Rattle.reflect_names.specs.NamePass.{faults_along}

@@ -13,10 +13,10 @@ use Rattle.descriptor_records.specs.declared.message.DescriptorProto.{Descriptor
 use Rattle.descriptor_records.specs.declared.service.MethodDescriptorProto.{MethodDescriptorProto}
 use Rattle.descriptor_records.specs.declared.service.ServiceDescriptorProto.{ServiceDescriptorProto}
 use Rattle.reflect_scope.specs.Means.{join, has_dot}
-use Rattle.reflect_walk.specs.Batches.{batch_declarations}
-use Rattle.reflect_walk.specs.Declarations.{Declaration, of_message, of_field, of_enum, of_extension, each, entry, message_declaration, one_field, one_oneof, one_value, one_enum, one_method, one_service, one_extension, past_message, past_tree, past_trees, past_file, trees_of, tree_declarations, trees_declarations, file_declarations}
-use Rattle.reflect_walk.specs.Tree.{text_of, MessageParts, Message, message, Messages, no_messages, more_messages, messages_of, tree_of}
-use Rattle.reflect_walk.specs.declared.visit_parts.Offsets.{Offsets}
+use Rattle.reflect_declarations.specs.Batches.{batch_declarations}
+use Rattle.reflect_declarations.specs.Declarations.{Declaration, of_message, of_field, of_enum, of_extension, each, entry, message_declaration, one_field, one_oneof, one_value, one_enum, one_method, one_service, one_extension, past_message, past_tree, past_trees, past_file, trees_of, tree_declarations, trees_declarations, file_declarations}
+use Rattle.reflect_declarations.specs.Tree.{text_of, MessageParts, Message, message, Messages, no_messages, more_messages, messages_of, tree_of}
+use Rattle.reflect_declarations.specs.declared.offsets.Offsets.{Offsets}
 use Rattle.reflect_pool.proofs.Grown.{all_behind}
 use Rattle.text_model.specs.Identifiers.{is_identifier, is_full_name}
 use Rattle.text_model.specs.Printed as printed

@@ -13,8 +13,8 @@ use Rattle.reflect_scope.specs.Means.{join, has_dot}
 use Rattle.reflect_scope.specs.declared.definition.Definition.{Definition}
 use Rattle.reflect_scope.specs.declared.definition.DefinitionKind.{DefinitionKind}
 use Rattle.reflect_scope.specs.declared.definition.DefinitionKind.TheVariants as kind
-use Rattle.reflect_walk.specs.Declarations.{Declaration, Body, of_message, of_field, of_enum}
-use Rattle.reflect_walk.specs.Tree.{text_of, MessageParts}
+use Rattle.reflect_declarations.specs.Declarations.{Declaration, Body, of_message, of_field, of_enum}
+use Rattle.reflect_declarations.specs.Tree.{text_of, MessageParts}
 use Rattle.reflect_names.specs.declared.resolve_visitor.Reference.{Reference}
 use Rattle.reflect_references.specs.Meanings.{meaning}
 use Rattle.reflect_fields.specs.Fields.{is_number}

@@ -7,8 +7,8 @@ use Rattle.descriptor_records.specs.Content.{FileContent, file_view}
 use Rattle.descriptor_records.specs.declared.file.FileDescriptorProto.{FileDescriptorProto}
 use Rattle.reflect_scope.specs.FileIndexes.{Indexes, link_view}
 use Rattle.reflect_scope.specs.declared.seen.Links.{Links}
-use Rattle.reflect_walk.specs.Tree.{text_of}
-use Rattle.reflect_walk.specs.Batches.{batch_declarations}
+use Rattle.reflect_declarations.specs.Tree.{text_of}
+use Rattle.reflect_declarations.specs.Batches.{batch_declarations}
 use Rattle.reflect_known.specs.KnownNames.{known_behind, nothing_known, nothing_before, known_of_files, counts_of_files}
 use Rattle.reflect_names.specs.Faults.{batch_places}
 use Rattle.reflect_names.specs.FileNames.{with_files, files_faults}

@@ -13,8 +13,8 @@ use Rattle.reflect_scope.specs.declared.definition.Definition.{Definition}
 use Rattle.reflect_scope.specs.FileIndexes.{Indexes, is_index}
 use Rattle.reflect_scope.specs.Known.{Known, declared, is_taken}
 use Rattle.reflect_scope.specs.Means.{scopes}
-use Rattle.reflect_walk.specs.Tree.{text_of}
-use Rattle.reflect_walk.specs.Declarations.{Declaration, Body, of_file, of_message, of_field, of_oneof, of_enum, of_enum_value, of_service, of_method, of_extension, each, entry}
+use Rattle.reflect_declarations.specs.Tree.{text_of}
+use Rattle.reflect_declarations.specs.Declarations.{Declaration, Body, of_file, of_message, of_field, of_oneof, of_enum, of_enum_value, of_service, of_method, of_extension, each, entry}
 use Rattle.reflect_known.specs.KnownNames.{definition_of, package_of, named, known_after}
 use Rattle.reflect_known.specs.KnownNames as known_names
 use Rattle.reflect_names.specs.Names.{Places, lacks, taken, name_faults, package_faults, is_named_type, field_faults, bound_faults, extension_range_faults, reserved_range_faults, enum_range_faults, import_faults, syntax_faults, faults_at}

@@ -17,7 +17,7 @@ use Rattle.reflect_tables.specs.Types.{PoolType, EnumType, ValueType}
 use Rattle.reflect_tables.specs.Views.{enum_of}
 use Rattle.reflect_tables.specs.declared.stored.StoredEnum.{StoredEnum}
 use Rattle.reflect_tables.specs.declared.tables.Tables.{Tables}
-use Rattle.reflect_walk.specs.Batches.{batch_declarations}
+use Rattle.reflect_declarations.specs.Batches.{batch_declarations}
 use Rattle.reflect_build.specs.Accepted.{FaultlessBatch, FaultlessFiles}
 use Rattle.reflect_build.specs.Refusals.{Linking, with_declared, IsOf, new_files}
 use Rattle.linked_messages.specs.Kept.{IsKept}

@@ -10,7 +10,7 @@ use Rattle.reflect_names.specs.ReferencePass.{views_of}
 use Rattle.reflect_passes.specs.Linked.{linked_values}
 use Rattle.reflect_passes.specs.NameFaults.{name_faults}
 use Rattle.reflect_tables.specs.Types.{PoolType}
-use Rattle.reflect_walk.specs.Batches.{batch_declarations}
+use Rattle.reflect_declarations.specs.Batches.{batch_declarations}
 use Rattle.reflect_build.specs.Accepted.{FaultlessBatch}
 use Rattle.reflect_build.specs.Refusals.{Linking, with_declared, IsOf, new_files}
 use Rattle.linked_messages.specs.Kept.{IsKept}
@@ -22,8 +22,8 @@ use Rattle.linked_view.specs.Passed.{facts_of}
 use Rattle.linked_view.proofs.Accepted.{all_met, known_files, named_files, told, known, known_all, indexes, names_at, lawful_alone, meanings_alone}
 use Rattle.linked_view.proofs.Linked.{meanings}
 use Rattle.reflect_passes.specs.Linked.{linked_says}
-use Rattle.reflect_walk.specs.Declarations as walk
-use Rattle.reflect_walk.specs.Tree.{MessageParts}
+use Rattle.reflect_declarations.specs.Declarations as walk
+use Rattle.reflect_declarations.specs.Tree.{MessageParts}
 use Rattle.schema_view.specs.Declarations as view
 use Rattle.linked_view.proofs.Named.{in_all}
 use Rattle.std.specs.Prelude.{true}
@@ -32,7 +32,7 @@ use Rattle.reflect_tables.specs.Names.{names_of}
 use Rattle.reflect_tables.specs.Names.{found}
 use Rattle.reflect_build.specs.Accepted.{FaultlessFiles}
 use Rattle.linked_view.proofs.Telling.{known_new}
-use Rattle.reflect_walk.specs.Batches.{batch_declarations}
+use Rattle.reflect_declarations.specs.Batches.{batch_declarations}
 use Rattle.reflect_walk.specs.MapEntries.{says_entry}
 use Rattle.reflect_rules.specs.Uses.{users}
 use Rattle.reflect_known.specs.KnownNames.{definition_of}
@@ -53,7 +53,7 @@ use Rattle.linked_view.proofs.Ranged.{known_message}
 use Rattle.linked_view.proofs.Shapes.{entry_from}
 use Rattle.linked_view.proofs.Used.{uses_by, uses_of, uses_along, gives_uses, used, one_map}
 use Rattle.linked_view.proofs.Walked.{Seen, seen, seen_body, told as told_of, facts_in, inner_declarations, file_seen}
-use Rattle.reflect_walk.specs.Declarations.{file_declaration}
+use Rattle.reflect_declarations.specs.Declarations.{file_declaration}
 
 -- a message stays one under other names
 message_stays : (names : Reference → Target) (n : Text) (b : Body) (m : view.MessageFacts)

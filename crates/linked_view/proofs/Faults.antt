@@ -1,7 +1,7 @@
 -- Lists of faults that are empty.
 use Rattle.std.proofs.Common.{◌≡◌, ◌+◌, ◌∙◌, inl, inr, ℕ, Bool, true, false, cond, List, [], ◌∷◌, ◌++◌, ap, subst, refl}
 use Rattle.std.specs.List.{Contains}
-use Rattle.reflect_walk.specs.Declarations.{each}
+use Rattle.reflect_declarations.specs.Declarations.{each}
 pub use Rattle.reflect_build.proofs.Rules.{none_both}
 use Rattle.schema_view.proofs.Lists.{contains_here, contains_there, contains_cases, contains_none}
 

@@ -8,9 +8,9 @@ use Rattle.std.proofs.lemmas.List.Elements.{Contains-append_left, Contains-appen
 use Rattle.descriptor_records.specs.Content.{EnumContent, EnumValueContent, FileContent, enum_value_view, enum_view, file_view}
 use Rattle.descriptor_records.specs.declared.enums.EnumDescriptorProto.{EnumDescriptorProto}
 use Rattle.descriptor_records.specs.declared.file.FileDescriptorProto.{FileDescriptorProto}
-use Rattle.reflect_walk.specs.declared.visit_parts.Offsets.{Offsets}
-use Rattle.reflect_walk.specs.Declarations.{Declaration, Body, of_file, of_message, of_field, of_oneof, of_enum, of_enum_value, of_service, of_method, of_extension, file_declaration}
-use Rattle.reflect_walk.specs.Batches.{batch_declarations}
+use Rattle.reflect_declarations.specs.declared.offsets.Offsets.{Offsets}
+use Rattle.reflect_declarations.specs.Declarations.{Declaration, Body, of_file, of_message, of_field, of_oneof, of_enum, of_enum_value, of_service, of_method, of_extension, file_declaration}
+use Rattle.reflect_declarations.specs.Batches.{batch_declarations}
 use Rattle.reflect_index.specs.OfDeclarations.{NamedNumber, stored_value, stored_values, declared_value, declared_values, enum_in, enums_in}
 use Rattle.reflect_tables.specs.Types.{PoolType, ValueType}
 use Rattle.reflect_tables.specs.Views.{enum_of, value_of}

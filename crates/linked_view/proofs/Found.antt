@@ -16,8 +16,8 @@ use Rattle.reflect_scope.specs.declared.definition.DefinitionKind.{DefinitionKin
 use Rattle.reflect_scope.specs.declared.definition.DefinitionKind.TheVariants as kind
 use Rattle.reflect_tables.specs.Names.{Sort, messages, enums, extensions, services, FullName, AreFound, found, names_of, message_name, enum_name, extension_name, service_name, place_in, place_of, with_file}
 use Rattle.reflect_tables.specs.Types.{PoolType, ArePooled, MessageWithin, EnumWithin, ExtensionWithin, ServiceWithin, counts_of}
-use Rattle.reflect_walk.specs.Batches.{batch_declarations}
-use Rattle.reflect_walk.specs.Declarations.{Declaration}
+use Rattle.reflect_declarations.specs.Batches.{batch_declarations}
+use Rattle.reflect_declarations.specs.Declarations.{Declaration}
 use Rattle.linked_view.proofs.Faults.{none_both}
 
 -- what stands for a place of a sort is a definition that has it

@@ -9,10 +9,10 @@ use Rattle.reflect_scope.specs.declared.definition.DefinitionKind.{DefinitionKin
 use Rattle.reflect_scope.specs.Known.{Known, declared, is_taken, is_package}
 use Rattle.reflect_scope.specs.Means.{scopes}
 use Rattle.reflect_scope.specs.Says.{IsScope}
-use Rattle.reflect_walk.specs.declared.visit_parts.Offsets.{Offsets}
-use Rattle.reflect_walk.specs.Tree.{text_of}
-use Rattle.reflect_walk.specs.Declarations.{Declaration, Body, of_file, of_message, of_field, of_oneof, of_enum, of_enum_value, of_service, of_method, of_extension, file_declaration, file_declarations, past_file}
-use Rattle.reflect_walk.specs.Batches.{batch_declarations}
+use Rattle.reflect_declarations.specs.declared.offsets.Offsets.{Offsets}
+use Rattle.reflect_declarations.specs.Tree.{text_of}
+use Rattle.reflect_declarations.specs.Declarations.{Declaration, Body, of_file, of_message, of_field, of_oneof, of_enum, of_enum_value, of_service, of_method, of_extension, file_declaration, file_declarations, past_file}
+use Rattle.reflect_declarations.specs.Batches.{batch_declarations}
 use Rattle.reflect_known.specs.KnownNames.{kind_of, definition_of, package_of, nothing_known, nothing_before, known_of_files}
 use Rattle.reflect_names.proofs.Declared.{declared_new}
 use Rattle.reflect_index.proofs.Counted.{AreNext, past_one, file_next}

@@ -33,11 +33,11 @@ use Rattle.reflect_tables.specs.Types.{ArePooled, ExtensionType, PoolType}
 use Rattle.reflect_tables.specs.Views.{enum_of, extension_of}
 use Rattle.reflect_tables.specs.declared.stored.StoredEnum.{StoredEnum}
 use Rattle.reflect_tables.specs.declared.tables.Tables.{Tables}
-use Rattle.reflect_walk.specs.Batches.{batch_declarations}
-use Rattle.reflect_walk.specs.Declarations as walk
-use Rattle.reflect_walk.specs.Declarations.{Declaration}
+use Rattle.reflect_declarations.specs.Batches.{batch_declarations}
+use Rattle.reflect_declarations.specs.Declarations as walk
+use Rattle.reflect_declarations.specs.Declarations.{Declaration}
 use Rattle.reflect_walk.specs.MapEntries.{says_entry}
-use Rattle.reflect_walk.specs.Tree.{MessageParts}
+use Rattle.reflect_declarations.specs.Tree.{MessageParts}
 use Rattle.schema_view.specs.Declarations as view
 use Rattle.schema_view.specs.Files.{is_proto3}
 use Rattle.schema_view.specs.Lawful.{outlines, all_linked, IsLawful, IsOneMap, Keeps, Meanings}

@@ -18,9 +18,9 @@ use Rattle.reflect_tables.specs.Types.{MessageType, PoolType}
 use Rattle.reflect_tables.specs.Views.{message_of}
 use Rattle.reflect_tables.specs.declared.stored.StoredMessage.{StoredMessage}
 use Rattle.reflect_tables.specs.declared.tables.Tables.{Tables}
-use Rattle.reflect_walk.specs.Declarations as walk
+use Rattle.reflect_declarations.specs.Declarations as walk
 use Rattle.reflect_walk.specs.MapEntries.{says_entry}
-use Rattle.reflect_walk.specs.Tree.{MessageParts}
+use Rattle.reflect_declarations.specs.Tree.{MessageParts}
 use Rattle.schema_view.specs.Declarations.{of_message, declarations}
 use Rattle.schema_view.specs.Lawful.{IsOneMap, Meanings, all_linked}
 use Rattle.schema_view.specs.References.{Reference, Target, dotted, linked}

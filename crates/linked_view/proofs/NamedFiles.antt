@@ -6,8 +6,8 @@ use Rattle.std.proofs.lemmas.List.{map-append, length-map}
 use Rattle.descriptor_records.specs.Content.{Text, FileContent, text_view, file_view}
 use Rattle.descriptor_records.specs.declared.file.FileDescriptorProto.{FileDescriptorProto}
 use Rattle.reflect_scope.specs.FileIndexes.{Indexes, is_index}
-use Rattle.reflect_walk.specs.Tree.{text_of}
-use Rattle.reflect_walk.specs.Declarations.{each}
+use Rattle.reflect_declarations.specs.Tree.{text_of}
+use Rattle.reflect_declarations.specs.Declarations.{each}
 use Rattle.reflect_tables.specs.Views.{record_file}
 use Rattle.reflect_names.specs.FileNames.{file_faults, with_file, with_files, files_faults}
 use Rattle.reflect_names.specs.Names.{Places, import_fault, public_fault, import_faults, syntax_faults}

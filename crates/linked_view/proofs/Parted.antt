@@ -20,8 +20,8 @@ use Rattle.reflect_tables.specs.Names.{FullName, message_name, messages, place_i
 use Rattle.reflect_tables.specs.Types.{MessageType, PoolType}
 use Rattle.reflect_tables.specs.Views.{message_of}
 use Rattle.reflect_tables.specs.declared.stored.StoredMessage.{StoredMessage}
-use Rattle.reflect_walk.specs.Batches.{batch_declarations}
-use Rattle.reflect_walk.specs.Declarations as walk
+use Rattle.reflect_declarations.specs.Batches.{batch_declarations}
+use Rattle.reflect_declarations.specs.Declarations as walk
 use Rattle.reflect_walk.specs.MapEntries.{says_entry}
 use Rattle.linked_messages.specs.Kept.{IsKept}
 use Rattle.linked_messages.proofs.Declared.{declared_at, stands_in_batch}

@@ -13,7 +13,7 @@ use Rattle.reflect_names.specs.ReferencePass.{views_of}
 use Rattle.reflect_passes.specs.NameFaults.{name_faults}
 use Rattle.reflect_tables.specs.Types.{PoolType}
 use Rattle.reflect_tables.specs.declared.tables.Tables.{Tables}
-use Rattle.reflect_walk.specs.Batches.{batch_declarations}
+use Rattle.reflect_declarations.specs.Batches.{batch_declarations}
 use Rattle.reflect_build.specs.Accepted.{FaultlessBatch, FaultlessFiles}
 use Rattle.reflect_build.specs.Refusals.{AreTypes, Linking, with_declared, IsOf, new_files}
 use Rattle.linked_messages.specs.Kept.{IsKept}
@@ -44,8 +44,8 @@ use Rattle.reflect_tables.specs.Ranges as pool
 use Rattle.reflect_pool.specs.Stored.{HasRanges, MessageRanges, declared_ranges, ranges_in}
 use Rattle.reflect_tables.specs.Views.{ranges_of}
 use Rattle.reflect_tables.specs.declared.stored.StoredMessage.{StoredMessage}
-use Rattle.reflect_walk.specs.Declarations as walk
-use Rattle.reflect_walk.specs.Tree.{MessageParts}
+use Rattle.reflect_declarations.specs.Declarations as walk
+use Rattle.reflect_declarations.specs.Tree.{MessageParts}
 use Rattle.schema_view.specs.Declarations as view
 use Rattle.schema_view.specs.Lawful.{Keeps, KeepsNumber}
 use Rattle.schema_view.specs.Rules.{IsIn, HasBounds}

@@ -13,9 +13,9 @@ use Rattle.reflect_scope.specs.declared.definition.ResolveNameFilter.{ResolveNam
 use Rattle.reflect_scope.specs.declared.definition.ResolveNameFilter.TheVariants as filter
 use Rattle.reflect_scope.specs.Known.{Known, is_package}
 use Rattle.reflect_scope.specs.Means.{Meaning, means, not_found, wrong_kind, shadowed, is_wanted, resolve}
-use Rattle.reflect_walk.specs.declared.visit_parts.Offsets.{Offsets}
-use Rattle.reflect_walk.specs.Declarations.{Declaration, Body, of_file, of_message, of_field, of_oneof, of_enum, of_enum_value, of_service, of_method, of_extension, file_declarations, past_file}
-use Rattle.reflect_walk.specs.Batches.{batch_declarations}
+use Rattle.reflect_declarations.specs.declared.offsets.Offsets.{Offsets}
+use Rattle.reflect_declarations.specs.Declarations.{Declaration, Body, of_file, of_message, of_field, of_oneof, of_enum, of_enum_value, of_service, of_method, of_extension, file_declarations, past_file}
+use Rattle.reflect_declarations.specs.Batches.{batch_declarations}
 use Rattle.reflect_names.specs.Faults.{Place}
 use Rattle.reflect_names.specs.Names.{Places}
 use Rattle.reflect_names.specs.References.{View, meaning_of, unmet, is_in, is_type_of, suits, kind_meant, mismatch, reference_faults, type_name_faults, label_faults, type_faults, field_reference_faults, reference_faults_at}

@@ -7,9 +7,9 @@ use Rattle.descriptor_records.specs.Content.{Text, text_view, field_view}
 use Rattle.descriptor_records.specs.declared.field.FieldDescriptorProto.{FieldDescriptorProto}
 use Rattle.reflect_scope.specs.declared.definition.DefinitionKind.{DefinitionKind}
 use Rattle.reflect_scope.specs.declared.definition.DefinitionKind.TheVariants as kind
-use Rattle.reflect_walk.specs.Tree.{MessageParts}
+use Rattle.reflect_declarations.specs.Tree.{MessageParts}
 use Rattle.reflect_walk.specs.MapEntries.{says_entry}
-use Rattle.reflect_walk.specs.Declarations.{Declaration, Body, of_file, of_message, of_field, of_oneof, of_enum, of_enum_value, of_service, of_method, of_extension}
+use Rattle.reflect_declarations.specs.Declarations.{Declaration, Body, of_file, of_message, of_field, of_oneof, of_enum, of_enum_value, of_service, of_method, of_extension}
 use Rattle.reflect_names.specs.Faults.{Fault, duplicate_number}
 use Rattle.reflect_names.specs.Names.{Places}
 use Rattle.reflect_tables.specs.Ranges.{Range, IsIn, IsRangeOf}

@@ -9,7 +9,7 @@ use Rattle.reflect_scope.specs.FileIndexes.{Indexes, link_view}
 use Rattle.reflect_scope.specs.Sees.{imports_at, publics_at}
 use Rattle.reflect_scope.specs.Sees as by_index
 use Rattle.reflect_scope.specs.declared.seen.Links.{Links}
-use Rattle.reflect_walk.specs.Tree.{text_of}
+use Rattle.reflect_declarations.specs.Tree.{text_of}
 use Rattle.reflect_names.specs.ImportedFiles.{file_of, import_at, links_to}
 use Rattle.schema_view.specs.Files.{Import, has_place, imports_from, imports_of, file_name}
 use Rattle.schema_view.specs.Outlines.{Outline, outline_of, IsChain, Sees}

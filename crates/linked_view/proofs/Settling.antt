@@ -5,9 +5,9 @@ use Rattle.descriptor_records.specs.Content.{FileContent, file_view}
 use Rattle.descriptor_records.specs.declared.file.FileDescriptorProto.{FileDescriptorProto}
 use Rattle.reflect_scope.specs.FileIndexes.{Indexes}
 use Rattle.reflect_scope.specs.Known.{Known}
-use Rattle.reflect_walk.specs.declared.visit_parts.Offsets.{Offsets}
-use Rattle.reflect_walk.specs.Declarations.{Declaration, Body, file_declaration, file_declarations, past_file}
-use Rattle.reflect_walk.specs.Batches.{batch_declarations}
+use Rattle.reflect_declarations.specs.declared.offsets.Offsets.{Offsets}
+use Rattle.reflect_declarations.specs.Declarations.{Declaration, Body, file_declaration, file_declarations, past_file}
+use Rattle.reflect_declarations.specs.Batches.{batch_declarations}
 use Rattle.reflect_names.specs.Names.{Places}
 use Rattle.reflect_names.specs.References.{View, reference_faults_at}
 use Rattle.reflect_names.specs.ReferencePass.{views_of, reference_faults_along}

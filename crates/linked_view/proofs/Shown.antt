@@ -4,9 +4,9 @@ use Rattle.std.specs.List.{Contains}
 use Rattle.descriptor_records.specs.Content.{file_view}
 use Rattle.descriptor_records.specs.declared.file.FileDescriptorProto.{FileDescriptorProto}
 use Rattle.reflect_index.proofs.Counted.{file_next}
-use Rattle.reflect_walk.specs.Batches.{batch_declarations}
-use Rattle.reflect_walk.specs.Declarations.{Declaration, file_declaration, file_declarations, past_file}
-use Rattle.reflect_walk.specs.declared.visit_parts.Offsets.{Offsets}
+use Rattle.reflect_declarations.specs.Batches.{batch_declarations}
+use Rattle.reflect_declarations.specs.Declarations.{Declaration, file_declaration, file_declarations, past_file}
+use Rattle.reflect_declarations.specs.declared.offsets.Offsets.{Offsets}
 use Rattle.schema_view.specs.Declarations as view
 use Rattle.schema_view.proofs.Lists.{contains_cases, contains_map, contains_map_cases}
 use Rattle.linked_view.proofs.Known.{batch_file, next_file}

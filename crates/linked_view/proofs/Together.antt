@@ -19,7 +19,7 @@ use Rattle.reflect_tables.specs.Names.{AreFound, found, message_name, messages, 
 use Rattle.reflect_tables.specs.Types.{MessageType, PoolType}
 use Rattle.reflect_tables.specs.Views.{message_of}
 use Rattle.reflect_tables.specs.declared.stored.StoredMessage.{StoredMessage}
-use Rattle.reflect_walk.specs.Batches.{batch_declarations}
+use Rattle.reflect_declarations.specs.Batches.{batch_declarations}
 use Rattle.linked_messages.specs.Kept.{IsKept}
 use Rattle.schema_view.specs.Declarations.{MessageFacts, of_message, Declaration, declarations}
 use Rattle.schema_view.specs.Lawful.{outlines, Adds, all_linked, IsOneMap, Key, has_key, is_use, times_by}

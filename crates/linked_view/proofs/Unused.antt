@@ -19,7 +19,7 @@ use Rattle.reflect_scope.specs.declared.definition.Definition.{Definition}
 use Rattle.reflect_scope.specs.declared.definition.DefinitionKind.TheVariants as kind
 use Rattle.reflect_scope.specs.declared.definition.ResolveNameFilter.TheVariants as filter
 use Rattle.reflect_tables.specs.Names.{FullName, AreFound, found, messages}
-use Rattle.reflect_walk.specs.Declarations.{of_file, of_message, of_field, of_oneof, of_enum, of_enum_value, of_service, of_method, of_extension}
+use Rattle.reflect_declarations.specs.Declarations.{of_file, of_message, of_field, of_oneof, of_enum, of_enum_value, of_service, of_method, of_extension}
 use Rattle.schema_view.specs.Declarations as view
 use Rattle.schema_view.specs.Declarations.{Declaration, declarations}
 use Rattle.schema_view.specs.Lawful.{outlines, is_dotted, is_use, times_by, IsMapUse, IsOneMap}

@@ -12,7 +12,7 @@ use Rattle.reflect_scope.specs.declared.definition.DefinitionKind.TheVariants as
 use Rattle.reflect_scope.specs.declared.definition.ResolveNameFilter.TheVariants as filter
 use Rattle.reflect_scope.specs.Known.{Known}
 use Rattle.reflect_scope.specs.Means.{means}
-use Rattle.reflect_walk.specs.Declarations.{Declaration, Body, of_file, of_message, of_field, of_oneof, of_enum, of_enum_value, of_service, of_method, of_extension}
+use Rattle.reflect_declarations.specs.Declarations.{Declaration, Body, of_file, of_message, of_field, of_oneof, of_enum, of_enum_value, of_service, of_method, of_extension}
 use Rattle.reflect_names.specs.Names.{Places}
 use Rattle.reflect_names.specs.References.{View, Target, meaning_of, kind_meant, is_in, suits, mismatch, unmet, label_faults, type_faults, field_reference_faults, type_name_faults, reference_faults, reference_faults_at, name_targets, targets_of}
 use Rattle.reflect_names.specs.ReferencePass.{views_of, targets_along, reference_faults_along}

@@ -5,9 +5,9 @@ use Rattle.descriptor_records.specs.Content.{Text, enum_view, enum_value_view, f
 use Rattle.descriptor_records.specs.declared.enums.EnumDescriptorProto.{EnumDescriptorProto}
 use Rattle.descriptor_records.specs.declared.enums.EnumValueDescriptorProto.{EnumValueDescriptorProto}
 use Rattle.descriptor_records.specs.declared.file.FileDescriptorProto.{FileDescriptorProto}
-use Rattle.reflect_walk.specs.declared.visit_parts.Offsets.{Offsets}
-use Rattle.reflect_walk.specs.Declarations.{Declaration, Body, of_file, of_message, of_field, of_oneof, of_enum, of_enum_value, of_service, of_method, of_extension, file_declarations, past_file}
-use Rattle.reflect_walk.specs.Batches.{batch_declarations}
+use Rattle.reflect_declarations.specs.declared.offsets.Offsets.{Offsets}
+use Rattle.reflect_declarations.specs.Declarations.{Declaration, Body, of_file, of_message, of_field, of_oneof, of_enum, of_enum_value, of_service, of_method, of_extension, file_declarations, past_file}
+use Rattle.reflect_declarations.specs.Batches.{batch_declarations}
 use Rattle.reflect_index.specs.Along.{AtHand, Met, along, all_of, hand_behind, met, is_enum}
 use Rattle.reflect_index.specs.Entries.{Head, IsHeadOf}
 use Rattle.reflect_index.specs.Grown.{enum_head}

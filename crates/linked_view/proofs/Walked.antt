@@ -17,9 +17,9 @@ use Rattle.descriptor_records.specs.declared.service.MethodDescriptorProto.{Meth
 use Rattle.descriptor_records.specs.declared.service.ServiceDescriptorProto.{ServiceDescriptorProto}
 use Rattle.descriptor_records.proofs.Messages.{level_view, message_view-roll}
 use Rattle.reflect_scope.specs.Means.{join}
-use Rattle.reflect_walk.specs.declared.visit_parts.Offsets.{Offsets}
-use Rattle.reflect_walk.specs.Tree.{text_of, MessageParts, Message, message, Messages, no_messages, more_messages, messages_of, message_step, parts, tree_of}
-use Rattle.reflect_walk.specs.Declarations.{Declaration, Body, of_file, of_message, of_field, of_oneof, of_enum, of_enum_value, of_service, of_method, of_extension, each, entry, one_field, one_oneof, one_value, one_enum, one_method, one_service, one_extension, past_message, past_tree, past_trees, trees_of, tree_declarations, trees_declarations}
+use Rattle.reflect_declarations.specs.declared.offsets.Offsets.{Offsets}
+use Rattle.reflect_declarations.specs.Tree.{text_of, MessageParts, Message, message, Messages, no_messages, more_messages, messages_of, message_step, parts, tree_of}
+use Rattle.reflect_declarations.specs.Declarations.{Declaration, Body, of_file, of_message, of_field, of_oneof, of_enum, of_enum_value, of_service, of_method, of_extension, each, entry, one_field, one_oneof, one_value, one_enum, one_method, one_service, one_extension, past_message, past_tree, past_trees, trees_of, tree_declarations, trees_declarations}
 use Rattle.schema_view.specs.Files as files
 use Rattle.schema_view.specs.Declarations as view
 

@@ -2,8 +2,8 @@
 use Rattle.std.specs.Prelude.{ℕ, List, false}
 use Rattle.std.specs.List.{AllByRecursion}
 use Rattle.descriptor_records.specs.declared.file.FileDescriptorProto.{FileDescriptorProto}
-use Rattle.reflect_walk.specs.Batches.{batch_declarations}
-use Rattle.reflect_walk.specs.declared.visit_parts.Offsets.{Offsets}
+use Rattle.reflect_declarations.specs.Batches.{batch_declarations}
+use Rattle.reflect_declarations.specs.declared.offsets.Offsets.{Offsets}
 use Rattle.reflect_names.specs.declared.resolve_visitor.Reference.{Reference}
 use Rattle.reflect_rules.specs.RulePass.{batch_use}
 use Rattle.reflect_rules.specs.Walks.{Facts, Place}

@@ -8,7 +8,7 @@ use Rattle.descriptor_records.specs.declared.field.FieldDescriptorProto.{FieldDe
 use Rattle.descriptor_records.specs.declared.message.ReservedRange.{ReservedRange}
 use Rattle.reflect_scope.specs.declared.definition.DefinitionKind.{DefinitionKind}
 use Rattle.reflect_walk.specs.MapEntries.{says_entry}
-use Rattle.reflect_walk.specs.Declarations as walk
+use Rattle.reflect_declarations.specs.Declarations as walk
 use Rattle.reflect_tables.specs.Ranges.{Range, IsRangeOf}
 use Rattle.reflect_references.specs.Meanings.{meaning, behind}
 use Rattle.reflect_rules.specs.TypesSay.{TypesSay}

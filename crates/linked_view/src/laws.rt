@@ -29,8 +29,8 @@ ghost use Rattle.reflect_scope.specs.declared.definition.Definition.{Definition}
 ghost use Rattle.reflect_scope.specs.declared.seen.Links.{Links};
 ghost use Rattle.reflect_tables.specs.Types.{PoolType};
 ghost use Rattle.reflect_tables.specs.Views.{record_file};
-ghost use Rattle.reflect_walk.specs.Batches.{batch_declarations};
-ghost use Rattle.reflect_walk.specs.declared.visit_parts.Offsets.{Offsets};
+ghost use Rattle.reflect_declarations.specs.Batches.{batch_declarations};
+ghost use Rattle.reflect_declarations.specs.declared.offsets.Offsets.{Offsets};
 ghost use Rattle.schema_view.specs.Files.{file_name};
 ghost use Rattle.schema_view.specs.Lawful.{outlines, all_linked, Adds, IsLawful, Meanings, Key, has_key, times_by};
 ghost use Rattle.schema_view.specs.Means.{IsWanted, Holds, MeansBy};

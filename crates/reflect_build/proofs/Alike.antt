@@ -8,7 +8,7 @@ use Rattle.descriptor_records.specs.declared.file.FileDescriptorProto.{FileDescr
 use Rattle.descriptor_records.specs.declared.message.DescriptorProto.{DescriptorProto}
 use Rattle.descriptor_records.specs.declared.message.DescriptorProto.TheViews.{out-DescriptorProto}
 use Rattle.descriptor_records.specs.declared.service.ServiceDescriptorProto.{ServiceDescriptorProto}
-use Rattle.reflect_walk.specs.Tree.{text_of}
+use Rattle.reflect_declarations.specs.Tree.{text_of}
 use Rattle.reflect_known.specs.GivenNames.{Given, MessageNames, message_names, NestedNames, no_names, more_names, EnumNames, ServiceNames, FileNames, enum_names, service_names, names_of_message, names_of_file}
 use Rattle.reflect_known.specs.GivenNames as given
 use Rattle.reflect_known.proofs.MessageNames.{each_named, level_names, names-out}

@@ -9,10 +9,10 @@ use Rattle.descriptor_records.specs.declared.file.FileDescriptorProto.{FileDescr
 use Rattle.descriptor_records.specs.declared.message.DescriptorProto.{DescriptorProto}
 use Rattle.descriptor_records.specs.declared.service.MethodDescriptorProto.{MethodDescriptorProto}
 use Rattle.descriptor_records.specs.declared.service.ServiceDescriptorProto.{ServiceDescriptorProto}
-use Rattle.reflect_walk.specs.Batches.{batch_declarations}
-use Rattle.reflect_walk.specs.Declarations.{Declaration, Body, of_message, of_oneof, of_enum, of_enum_value, of_service, of_method}
-use Rattle.reflect_walk.specs.Tree.{text_of, MessageParts}
-use Rattle.reflect_walk.specs.declared.visit_parts.Offsets.{Offsets}
+use Rattle.reflect_declarations.specs.Batches.{batch_declarations}
+use Rattle.reflect_declarations.specs.Declarations.{Declaration, Body, of_message, of_oneof, of_enum, of_enum_value, of_service, of_method}
+use Rattle.reflect_declarations.specs.Tree.{text_of, MessageParts}
+use Rattle.reflect_declarations.specs.declared.offsets.Offsets.{Offsets}
 use Rattle.reflect_known.specs.GivenNames.{names_of_file}
 use Rattle.reflect_index.specs.Along.{AtHand, Met, along, before_files, parts, is_part, is_message, is_oneof, is_enum, is_value, is_service, is_method}
 use Rattle.reflect_index.specs.BatchEntries.{IsBatchOf}

@@ -2,7 +2,7 @@
 use Rattle.std.proofs.Common.{◌≡◌, ◌∙◌, ◌≤◌, ◌+◌, ◌^◌, ℕ, Bool, true, List, Option, Some, None, Result, Ok, Err, IsErrAnd, OnErr, OnOk, length, nat_le, slice_get, sum_by, ap, refl, subst, sym}
 use Rattle.std.proofs.lemmas.Bool.{le-leb, leb-true}
 use Rattle.descriptor_records.specs.declared.file.FileDescriptorProto.{FileDescriptorProto}
-use Rattle.reflect_walk.specs.declared.visit_parts.Offsets.{Offsets}
+use Rattle.reflect_declarations.specs.declared.offsets.Offsets.{Offsets}
 use Rattle.reflect_scope.specs.FileIndexes.{Indexes}
 use Rattle.reflect_growth.specs.Cut.{cut_to}
 use Rattle.reflect_tables.specs.Types.{PoolType}

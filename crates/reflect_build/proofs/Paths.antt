@@ -11,10 +11,10 @@ use Rattle.descriptor_records.specs.declared.message.DescriptorProto.TheFolds.{f
 use Rattle.descriptor_records.specs.declared.message.DescriptorProto.TheViews.{out-DescriptorProto}
 use Rattle.descriptor_records.specs.declared.service.ServiceDescriptorProto.{ServiceDescriptorProto}
 use Rattle.reflect_scope.specs.Means.{join}
-use Rattle.reflect_walk.specs.Batches.{batch_declarations}
-use Rattle.reflect_walk.specs.Declarations.{Declaration, Body, of_file, of_message, of_field, of_oneof, of_enum, of_enum_value, of_service, of_method, of_extension, each, entry, file_declaration, field_declaration, one_field, one_oneof, one_value, one_enum, one_method, one_service, one_extension, message_declaration, enum_declaration, service_declaration, past_message, past_tree, past_trees, past_file, trees_of, tree_declarations, trees_declarations, file_declarations}
-use Rattle.reflect_walk.specs.Tree.{text_of, MessageParts, Message, message, Messages, no_messages, more_messages, messages_of, message_step, parts_of, tree_of}
-use Rattle.reflect_walk.specs.declared.visit_parts.Offsets.{Offsets}
+use Rattle.reflect_declarations.specs.Batches.{batch_declarations}
+use Rattle.reflect_declarations.specs.Declarations.{Declaration, Body, of_file, of_message, of_field, of_oneof, of_enum, of_enum_value, of_service, of_method, of_extension, each, entry, file_declaration, field_declaration, one_field, one_oneof, one_value, one_enum, one_method, one_service, one_extension, message_declaration, enum_declaration, service_declaration, past_message, past_tree, past_trees, past_file, trees_of, tree_declarations, trees_declarations, file_declarations}
+use Rattle.reflect_declarations.specs.Tree.{text_of, MessageParts, Message, message, Messages, no_messages, more_messages, messages_of, message_step, parts_of, tree_of}
+use Rattle.reflect_declarations.specs.declared.offsets.Offsets.{Offsets}
 use Rattle.reflect_index.specs.Along.{is_message, is_enum, is_service}
 use Rattle.reflect_pool.specs.Records.{entry_of, entry_at, nested_of, message_below, message_along, before_last, last_step, entry_along, field_along, oneof_along, held_along, enum_along, value_along, extension_along, service_along, method_along}
 use Rattle.reflect_index.proofs.Among.{Among, in_first, in_second}

@@ -7,10 +7,10 @@ use Rattle.descriptor_records.specs.declared.file.FileDescriptorProto.{FileDescr
 use Rattle.reflect_scope.specs.Known.{Known, declared, kept_first, KeepsFirst}
 use Rattle.reflect_scope.specs.Means.{scopes}
 use Rattle.reflect_scope.specs.declared.definition.Definition.{Definition}
-use Rattle.reflect_walk.specs.Batches.{batch_declarations, past_files}
-use Rattle.reflect_walk.specs.Declarations.{Declaration, Body, of_file, of_message, of_field, of_oneof, of_enum, of_enum_value, of_service, of_method, of_extension, file_declarations, past_file}
-use Rattle.reflect_walk.specs.Tree.{text_of}
-use Rattle.reflect_walk.specs.declared.visit_parts.Offsets.{Offsets}
+use Rattle.reflect_declarations.specs.Batches.{batch_declarations, past_files}
+use Rattle.reflect_declarations.specs.Declarations.{Declaration, Body, of_file, of_message, of_field, of_oneof, of_enum, of_enum_value, of_service, of_method, of_extension, file_declarations, past_file}
+use Rattle.reflect_declarations.specs.Tree.{text_of}
+use Rattle.reflect_declarations.specs.declared.offsets.Offsets.{Offsets}
 use Rattle.reflect_known.specs.DeclaredNames.{is_of, with_name, with_names}
 use Rattle.reflect_known.specs.KnownNames.{package_of, named, packages, known_after, known_behind, nothing_known, nothing_before, known_of_files, counts_of_files}
 use Rattle.reflect_names.proofs.Declared.{at_name}

@@ -1,8 +1,8 @@
 -- What the rules of numbers say of declarations in which they find no fault.
 use Rattle.std.proofs.Common.{◌≡◌, inl, inr, ℕ, Bool, true, false, not, cond, ◌&&◌, List, [], ◌∷◌, ◌++◌, refl, sym, ap, ◌∙◌, subst}
-use Rattle.reflect_walk.specs.Tree.{MessageParts}
+use Rattle.reflect_declarations.specs.Tree.{MessageParts}
 use Rattle.reflect_walk.specs.MapEntries.{says_entry}
-use Rattle.reflect_walk.specs.Declarations.{Declaration, of_message}
+use Rattle.reflect_declarations.specs.Declarations.{Declaration, of_message}
 use Rattle.reflect_names.specs.Faults.{Fault}
 use Rattle.reflect_names.specs.Names.{Places}
 use Rattle.reflect_references.specs.Meanings.{rest_behind}

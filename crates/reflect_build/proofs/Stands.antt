@@ -8,9 +8,9 @@ use Rattle.descriptor_records.specs.declared.file.FileDescriptorProto.{FileDescr
 use Rattle.name_table.specs.declared.table.NameTable.{NameTable}
 use Rattle.reflect_scope.specs.declared.definition.Definition.{Definition}
 use Rattle.reflect_scope.specs.declared.seen.Links.{Links}
-use Rattle.reflect_walk.specs.Declarations.{Declaration}
-use Rattle.reflect_walk.specs.declared.visit_parts.Offsets.{Offsets}
-use Rattle.reflect_walk.specs.Batches.{batch_declarations, past_files}
+use Rattle.reflect_declarations.specs.Declarations.{Declaration}
+use Rattle.reflect_declarations.specs.declared.offsets.Offsets.{Offsets}
+use Rattle.reflect_declarations.specs.Batches.{batch_declarations, past_files}
 use Rattle.reflect_scope.specs.Known.{Known, known_of}
 use Rattle.reflect_scope.specs.FileIndexes.{indexes_of, link_view}
 use Rattle.reflect_names.specs.FileNames.{with_files, files_faults}

@@ -35,10 +35,10 @@ use Rattle.reflect_tables.specs.Ranges.{Range, reserved_range}
 use Rattle.reflect_tables.specs.Types.{PoolType}
 use Rattle.reflect_tables.specs.Views.{message_of}
 use Rattle.reflect_tables.specs.declared.stored.StoredMessage.{StoredMessage}
-use Rattle.reflect_walk.specs.Batches.{batch_declarations}
-use Rattle.reflect_walk.specs.Declarations.{Declaration, Body, of_file, of_message, of_field, of_oneof, of_enum, of_enum_value, of_service, of_method, of_extension, each, entry, one_enum, one_extension, one_field, one_method, one_oneof, one_service, one_value, past_file, past_message, past_tree, past_trees, file_declarations, tree_declarations, trees_declarations, trees_of}
-use Rattle.reflect_walk.specs.Tree.{Message, message, Messages, more_messages, no_messages, message_step, messages_of, parts, text_of, tree_of}
-use Rattle.reflect_walk.specs.declared.visit_parts.Offsets.{Offsets}
+use Rattle.reflect_declarations.specs.Batches.{batch_declarations}
+use Rattle.reflect_declarations.specs.Declarations.{Declaration, Body, of_file, of_message, of_field, of_oneof, of_enum, of_enum_value, of_service, of_method, of_extension, each, entry, one_enum, one_extension, one_field, one_method, one_oneof, one_service, one_value, past_file, past_message, past_tree, past_trees, file_declarations, tree_declarations, trees_declarations, trees_of}
+use Rattle.reflect_declarations.specs.Tree.{Message, message, Messages, more_messages, no_messages, message_step, messages_of, parts, text_of, tree_of}
+use Rattle.reflect_declarations.specs.declared.offsets.Offsets.{Offsets}
 use Rattle.reflect_build.proofs.Back.{filter_below, filter_from}
 use Rattle.reflect_build.proofs.Pooled.{map-append}
 use Rattle.reflect_build.proofs.Recorded.{all_of, first_below, further, names_in_files, names_more, others_not_below}

@@ -2,10 +2,10 @@
 use Rattle.std.proofs.Common.{◌≡◌, ◌⊎◌, inl, inr, ◌+◌, ℕ, zero, suc, Bool, true, false, cond, List, [], ◌∷◌, ◌++◌, Some, refl, sym, ap, ◌∙◌, subst, arith, slice_get}
 use Rattle.std.specs.List.{AllZip}
 use Rattle.descriptor_records.specs.declared.file.FileDescriptorProto.{FileDescriptorProto}
-use Rattle.reflect_walk.specs.Batches.{batch_declarations}
-use Rattle.reflect_walk.specs.Declarations.{Declaration, Body, of_message, of_enum, of_service, past_file, file_declarations}
-use Rattle.reflect_walk.specs.Tree.{MessageParts}
-use Rattle.reflect_walk.specs.declared.visit_parts.Offsets.{Offsets}
+use Rattle.reflect_declarations.specs.Batches.{batch_declarations}
+use Rattle.reflect_declarations.specs.Declarations.{Declaration, Body, of_message, of_enum, of_service, past_file, file_declarations}
+use Rattle.reflect_declarations.specs.Tree.{MessageParts}
+use Rattle.reflect_declarations.specs.declared.offsets.Offsets.{Offsets}
 use Rattle.reflect_index.specs.Along.{AtHand, Met, along, met, hand_behind, all_of, is_message, is_enum, is_service}
 use Rattle.reflect_index.specs.Entries.{Head, IsHeadOf, written_name}
 use Rattle.reflect_index.specs.OfDeclarations.{message_in, messages_in}

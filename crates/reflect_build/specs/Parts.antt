@@ -1,6 +1,6 @@
 -- The parts of a pool.
 use Rattle.std.specs.Prelude.{◌≡◌, length, Result, OnOk, OnErr}
-use Rattle.reflect_walk.specs.declared.visit_parts.Offsets.{Offsets}
+use Rattle.reflect_declarations.specs.declared.offsets.Offsets.{Offsets}
 use Rattle.reflect_growth.specs.Cut.{cut_to}
 use Rattle.reflect_tables.specs.Types.{PoolType}
 use Rattle.reflect_tables.specs.Views.{pool_of}

@@ -8,8 +8,8 @@ use Rattle.descriptor_records.specs.declared.file.FileDescriptorProto.{FileDescr
 use Rattle.name_table.specs.declared.table.NameTable.{NameTable}
 use Rattle.reflect_scope.specs.declared.definition.Definition.{Definition}
 use Rattle.reflect_scope.specs.declared.seen.Links.{Links}
-use Rattle.reflect_walk.specs.Batches.{batch_declarations}
-use Rattle.reflect_walk.specs.declared.visit_parts.Offsets.{Offsets}
+use Rattle.reflect_declarations.specs.Batches.{batch_declarations}
+use Rattle.reflect_declarations.specs.declared.offsets.Offsets.{Offsets}
 use Rattle.reflect_names.specs.Faults.{Fault, batch_places}
 use Rattle.reflect_scope.specs.FileIndexes.{Indexes, indexes_of, link_view}
 use Rattle.reflect_names.specs.FileNames.{with_files}

@@ -2,7 +2,7 @@
 
 ghost use Rattle.std.specs.Prelude.{◌≡◌, ◌+◌, ◌++◌, ◌<◌, ◌^◌, [], map, take, IfOk, IfErr, OnOk, OnErr, length};
 ghost use Rattle.std.specs.List.{AllByRecursion};
-ghost use Rattle.reflect_walk.specs.Batches.{batch_declarations};
+ghost use Rattle.reflect_declarations.specs.Batches.{batch_declarations};
 ghost use Rattle.reflect_scope.specs.FileIndexes.{indexes_of, KeepsIndexes, link_view};
 ghost use Rattle.reflect_names.specs.ImportedFiles.{links_to};
 ghost use Rattle.reflect_scope.specs.Known.{known_of, KeepsFirst};

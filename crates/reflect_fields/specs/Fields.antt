@@ -8,7 +8,7 @@ use Rattle.descriptor_records.specs.declared.field.FieldType.TheVariants as type
 use Rattle.descriptor_records.specs.declared.field.Label.TheVariants as labels
 use Rattle.descriptor_records.specs.declared.options.Options.{Options}
 use Rattle.descriptor_records.specs.FieldNumbers.{label_number, type_number}
-use Rattle.reflect_walk.specs.Tree.{text_of}
+use Rattle.reflect_declarations.specs.Tree.{text_of}
 use Rattle.reflect_tables.specs.Types.{FieldType as FieldEntry, KindType, double, float, int32, int64, uint32, uint64, sint32, sint64, fixed32, fixed64, sfixed32, sfixed64, bool, string, bytes, message}
 use Rattle.reflect_tables.specs.Views.{name_of}
 use Rattle.reflect_tables.specs.declared.kind.Cardinality.{Cardinality}

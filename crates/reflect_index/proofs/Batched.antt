@@ -1,9 +1,9 @@
 -- The names of a batch of files, and the places that they stand for.
 use Rattle.std.proofs.Common.{◌≡◌, ℕ, ◌+◌, List, [], ◌∷◌, ◌++◌, length, Bool, true, false, cond, Option, ap, sym, subst, ◌∙◌, append_assoc, arith, refl}
 use Rattle.descriptor_records.specs.declared.file.FileDescriptorProto.{FileDescriptorProto}
-use Rattle.reflect_walk.specs.declared.visit_parts.Offsets.{Offsets}
-use Rattle.reflect_walk.specs.Declarations.{Declaration, file_declarations, past_file}
-use Rattle.reflect_walk.specs.Batches.{batch_declarations, past_files}
+use Rattle.reflect_declarations.specs.declared.offsets.Offsets.{Offsets}
+use Rattle.reflect_declarations.specs.Declarations.{Declaration, file_declarations, past_file}
+use Rattle.reflect_declarations.specs.Batches.{batch_declarations, past_files}
 use Rattle.reflect_scope.specs.Known.{Known}
 use Rattle.reflect_known.specs.KnownNames.{known_after, known_behind}
 use Rattle.reflect_names.specs.Names.{Places, faults_at}

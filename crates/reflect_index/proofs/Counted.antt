@@ -8,9 +8,9 @@ use Rattle.descriptor_records.specs.declared.file.FileDescriptorProto.{FileDescr
 use Rattle.descriptor_records.specs.declared.service.ServiceDescriptorProto.{ServiceDescriptorProto}
 use Rattle.descriptor_records.specs.declared.service.MethodDescriptorProto.{MethodDescriptorProto}
 use Rattle.reflect_scope.specs.Means.{join}
-use Rattle.reflect_walk.specs.Tree.{text_of, Message, message, Messages, no_messages, more_messages}
-use Rattle.reflect_walk.specs.declared.visit_parts.Offsets.{Offsets}
-use Rattle.reflect_walk.specs.Declarations.{Declaration, Body, of_file, of_message, of_field, of_oneof, of_enum, of_enum_value, of_service, of_method, of_extension, each, entry, one_field, one_oneof, one_value, one_enum, one_method, one_service, one_extension, past_message, past_enums, past_extensions, past_services, past_tree, past_trees, past_file, trees_of, tree_declarations, trees_declarations, file_declarations}
+use Rattle.reflect_declarations.specs.Tree.{text_of, Message, message, Messages, no_messages, more_messages}
+use Rattle.reflect_declarations.specs.declared.offsets.Offsets.{Offsets}
+use Rattle.reflect_declarations.specs.Declarations.{Declaration, Body, of_file, of_message, of_field, of_oneof, of_enum, of_enum_value, of_service, of_method, of_extension, each, entry, one_field, one_oneof, one_value, one_enum, one_method, one_service, one_extension, past_message, past_enums, past_extensions, past_services, past_tree, past_trees, past_file, trees_of, tree_declarations, trees_declarations, file_declarations}
 
 -- the counts behind a declaration
 abbrev pub past_one : Offsets → Body → Offsets

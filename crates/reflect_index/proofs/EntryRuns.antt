@@ -3,8 +3,8 @@ use Rattle.std.proofs.Common.{◌≡◌, ℕ, ◌+◌, List, [], ◌∷◌, Bool
 use Rattle.std.specs.List.{filter, AllZip}
 use Rattle.std.proofs.lemmas.List.Elements.{filter-append}
 use Rattle.reflect_names.specs.declared.resolve_visitor.Reference.{Reference}
-use Rattle.reflect_walk.specs.Declarations.{Declaration, Body, of_field, of_oneof, of_enum_value, of_method, Runs}
-use Rattle.reflect_walk.specs.declared.visit_parts.Offsets.{Offsets}
+use Rattle.reflect_declarations.specs.Declarations.{Declaration, Body, of_field, of_oneof, of_enum_value, of_method, Runs}
+use Rattle.reflect_declarations.specs.declared.offsets.Offsets.{Offsets}
 use Rattle.reflect_tables.specs.Types.{ValueType, MethodType, ExtensionType}
 use Rattle.reflect_tables.specs.Views.{extension_of, declared_of}
 use Rattle.reflect_index.specs.Along.{AtHand, Met, before_files, syntax_behind, hand_behind, along, is_message, is_field, is_oneof, is_enum, is_value, is_service, is_method, is_extension, is_part, all_of}

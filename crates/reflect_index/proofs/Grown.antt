@@ -4,7 +4,7 @@ use Rattle.std.proofs.Math.ListN.{set}
 use Rattle.std.proofs.lemmas.List.{append-nil, get_or-set_other}
 use Rattle.std.proofs.lemmas.Grind.{get_or-set_at}
 use Rattle.std.specs.List.{AllZip}
-use Rattle.reflect_walk.specs.Declarations.{Body}
+use Rattle.reflect_declarations.specs.Declarations.{Body}
 use Rattle.reflect_index.specs.Along.{Met, is_parent, parts, all_of}
 use Rattle.reflect_index.specs.Grown.{list_at, GrowsAt, AddsPart, AddsOne, AddsHead, Behind}
 use Rattle.reflect_index.specs.Entries.{Head, declared_head, IsHeadOf}

@@ -1,8 +1,8 @@
 -- What a walk of the visitor of entries leaves.
 use Rattle.std.proofs.Common.{◌≡◌, ◌∙◌, List, [], ◌∷◌, ◌++◌, map, ap, sym, append_assoc}
 use Rattle.std.proofs.lemmas.List.{append-nil}
-use Rattle.reflect_walk.specs.Tree.{MessageParts}
-use Rattle.reflect_walk.specs.Declarations.{Declaration, Body, of_file, of_message, of_field, of_oneof, of_enum, of_enum_value, of_service, of_method, of_extension, Runs}
+use Rattle.reflect_declarations.specs.Tree.{MessageParts}
+use Rattle.reflect_declarations.specs.Declarations.{Declaration, Body, of_file, of_message, of_field, of_oneof, of_enum, of_enum_value, of_service, of_method, of_extension, Runs}
 use Rattle.reflect_tables.specs.Names.{messages, enums, extensions, services}
 use Rattle.reflect_known.specs.DeclaredNames.{with_names}
 use Rattle.reflect_index.specs.DraftNames.{draft_name, enum_draft_name, stored_extension_name, stored_service_name}

@@ -5,8 +5,8 @@ use Rattle.std.proofs.lemmas.List.{append-nil, map-append, get_or-set_other}
 use Rattle.std.proofs.lemmas.List.Elements.{filter-append}
 use Rattle.std.proofs.lemmas.Grind.{get_or-set_at}
 use Rattle.std.specs.List.{filter}
-use Rattle.reflect_walk.specs.Declarations.{Declaration, Body, of_file, of_message, of_enum, of_service, of_extension, Runs}
-use Rattle.reflect_walk.specs.declared.visit_parts.Offsets.{Offsets}
+use Rattle.reflect_declarations.specs.Declarations.{Declaration, Body, of_file, of_message, of_enum, of_service, of_extension, Runs}
+use Rattle.reflect_declarations.specs.declared.offsets.Offsets.{Offsets}
 use Rattle.reflect_tables.specs.Types.{ChildPlaces, FilePlaces, no_children, no_places}
 use Rattle.reflect_tables.specs.Views.{declared_of}
 use Rattle.reflect_tables.specs.declared.stored.Child.TheVariants as child

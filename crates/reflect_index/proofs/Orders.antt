@@ -2,8 +2,8 @@
 use Rattle.std.proofs.Common.{◌≡◌, ℕ, zero, suc, ◌<◌, ◌≤◌, List, [], ◌∷◌, ◌++◌, Bool, true, false, cond, nat_lt, Option, Some, None, slice_get, ap, sym, subst, ◌∙◌, arith, refl}
 use Rattle.std.specs.List.{filter, AllByRecursion}
 use Rattle.std.proofs.lemmas.Option.{same_Some}
-use Rattle.reflect_walk.specs.Declarations.{Declaration}
-use Rattle.reflect_walk.specs.declared.visit_parts.Offsets.{Offsets}
+use Rattle.reflect_declarations.specs.Declarations.{Declaration}
+use Rattle.reflect_declarations.specs.declared.offsets.Offsets.{Offsets}
 use Rattle.reflect_scope.specs.declared.definition.Definition.{Definition}
 use Rattle.reflect_scope.specs.Known.{kept_first}
 use Rattle.reflect_tables.specs.Names.{Sort, with_file, FullName, AreFound, AreInOrder, place_in, place_of}

@@ -6,7 +6,7 @@ use Rattle.reflect_references.specs.Meanings.{rest_behind}
 use Rattle.reflect_tables.specs.Views.{syntax_type}
 use Rattle.reflect_tables.specs.declared.kind.Syntax.{Syntax}
 use Rattle.reflect_tables.specs.declared.kind.Syntax.TheVariants.{Proto2}
-use Rattle.reflect_walk.specs.Declarations.{Declaration, Body, of_file, of_message, of_field, of_oneof, of_enum, of_enum_value, of_service, of_method, of_extension}
+use Rattle.reflect_declarations.specs.Declarations.{Declaration, Body, of_file, of_message, of_field, of_oneof, of_enum, of_enum_value, of_service, of_method, of_extension}
 
 -- the syntax of the file, and what the references mean that the walk has not come to
 pub record AtHand : Type 0 where

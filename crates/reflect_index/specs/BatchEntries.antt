@@ -2,8 +2,8 @@
 use Rattle.std.specs.Prelude.{◌≡◌, ℕ, ◌+◌, List, map}
 use Rattle.std.specs.List.{AllZip, AllByRecursion}
 use Rattle.reflect_names.specs.declared.resolve_visitor.Reference.{Reference}
-use Rattle.reflect_walk.specs.Declarations.{Declaration}
-use Rattle.reflect_walk.specs.declared.visit_parts.Offsets.{Offsets}
+use Rattle.reflect_declarations.specs.Declarations.{Declaration}
+use Rattle.reflect_declarations.specs.declared.offsets.Offsets.{Offsets}
 use Rattle.reflect_tables.specs.Types.{ListsMembers}
 use Rattle.reflect_tables.specs.Views.{message_of, extension_of, declared_of}
 use Rattle.reflect_index.specs.Along.{before_files, along, parts, all_of, is_message, is_field, is_oneof, is_enum, is_value, is_service, is_method, is_extension}

@@ -1,7 +1,7 @@
 -- What a message or a file declares itself, and how this is listed along a walk.
 use Rattle.std.specs.Prelude.{◌≡◌, ◌==◌, ◌+◌, ◌++◌, ℕ, List, [], ◌∷◌, map, Bool, false, cond, Option, None, Some, slice_index_or}
 use Rattle.std.specs.List.{filter}
-use Rattle.reflect_walk.specs.Declarations.{Declaration, Body, of_file, of_message, of_enum, of_service, of_extension}
+use Rattle.reflect_declarations.specs.Declarations.{Declaration, Body, of_file, of_message, of_enum, of_service, of_extension}
 use Rattle.reflect_tables.specs.Types.{ChildPlaces, FilePlaces, no_children, no_places}
 use Rattle.reflect_tables.specs.Views.{children_of}
 use Rattle.reflect_tables.specs.declared.stored.Child.{Child}

@@ -11,8 +11,8 @@ use Rattle.reflect_scope.specs.declared.definition.DefinitionKind.TheVariants as
 use Rattle.reflect_references.specs.Meanings.{meaning, behind}
 use Rattle.reflect_fields.specs.Fields.{scalar_type, IsField, IsExtension}
 use Rattle.reflect_tables.specs.Types.{KindType, message, enumeration, FieldType, ValueType, ExtensionType, MethodType}
-use Rattle.reflect_walk.specs.Declarations.{Body, of_message, of_field, of_oneof, of_enum, of_enum_value, of_service, of_method, of_extension}
-use Rattle.reflect_walk.specs.Tree.{text_of}
+use Rattle.reflect_declarations.specs.Declarations.{Body, of_message, of_field, of_oneof, of_enum, of_enum_value, of_service, of_method, of_extension}
+use Rattle.reflect_declarations.specs.Tree.{text_of}
 use Rattle.reflect_index.specs.Along.{Met}
 
 -- a message or an enum is meant

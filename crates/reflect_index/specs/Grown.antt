@@ -1,7 +1,7 @@
 -- How the lists of entries grow at a declaration.
 use Rattle.std.specs.Prelude.{◌≡◌, ℕ, ◌+◌, List, [], ◌∷◌, ◌++◌, Bool, true, false, cond, Option, None, map, slice_index_or, string_bytes}
 use Rattle.std.specs.List.{AllZip}
-use Rattle.reflect_walk.specs.Declarations.{Body}
+use Rattle.reflect_declarations.specs.Declarations.{Body}
 use Rattle.reflect_tables.specs.Types.{ValueType, MethodType}
 use Rattle.reflect_tables.specs.Views.{field_of, value_of, method_of}
 use Rattle.reflect_tables.specs.declared.stored.StoredField.{StoredField}

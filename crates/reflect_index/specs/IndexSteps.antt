@@ -1,6 +1,6 @@
 -- What the visitor of entries does at a declaration.
 use Rattle.std.specs.Prelude.{◌≡◌, map}
-use Rattle.reflect_walk.specs.Declarations.{Declaration}
+use Rattle.reflect_declarations.specs.Declarations.{Declaration}
 use Rattle.reflect_tables.specs.Names.{messages, enums, extensions, services}
 use Rattle.reflect_known.specs.DeclaredNames.{with_name}
 use Rattle.reflect_index.specs.DraftNames.{draft_name, enum_draft_name, stored_extension_name, stored_service_name}

@@ -2,8 +2,8 @@
 use Rattle.std.specs.Prelude.{◌≡◌, ℕ, ℤ, pos, ◌-◌, List, [], ◌∷◌, ◌++◌, map, Bool, IsPermutation, unwrap_or, slice_index_or, slice_set, string_bytes}
 use Rattle.descriptor_records.specs.declared.enums.EnumDescriptorProto.{EnumDescriptorProto}
 use Rattle.descriptor_records.specs.declared.enums.EnumValueDescriptorProto.{EnumValueDescriptorProto}
-use Rattle.reflect_walk.specs.Tree.{MessageParts, text_of}
-use Rattle.reflect_walk.specs.Declarations.{Declaration, Body, of_message, of_enum, of_enum_value}
+use Rattle.reflect_declarations.specs.Tree.{MessageParts, text_of}
+use Rattle.reflect_declarations.specs.Declarations.{Declaration, Body, of_message, of_enum, of_enum_value}
 use Rattle.reflect_tables.specs.Ranges.{Range, reserved_range, extension_range}
 use Rattle.reflect_tables.specs.Views.{ranges_of}
 use Rattle.reflect_walk.specs.MapEntries.{says_entry}

@@ -14,15 +14,15 @@ use Rattle.reflect_scope.specs.declared.definition.DefinitionKind.{DefinitionKin
 use Rattle.reflect_scope.specs.declared.definition.DefinitionKind.TheVariants as kind
 use Rattle.reflect_scope.specs.Known.{Known}
 use Rattle.reflect_scope.specs.Means.{scopes, join}
-use Rattle.reflect_walk.specs.Tree.{text_of, Message, message, Messages, no_messages, more_messages}
-use Rattle.reflect_walk.specs.Declarations.{Declaration, Body, of_file, of_message, of_field, of_oneof, of_enum, of_enum_value, of_service, of_method, of_extension, entry, each, one_field, one_oneof, one_value, one_enum, one_method, one_service, one_extension, past_message, past_enums, past_extensions, past_services, past_tree, past_trees, past_file, trees_of, tree_declarations, trees_declarations, file_declarations}
-use Rattle.reflect_walk.specs.Batches.{batch_declarations, past_files}
+use Rattle.reflect_declarations.specs.Tree.{text_of, Message, message, Messages, no_messages, more_messages}
+use Rattle.reflect_declarations.specs.Declarations.{Declaration, Body, of_file, of_message, of_field, of_oneof, of_enum, of_enum_value, of_service, of_method, of_extension, entry, each, one_field, one_oneof, one_value, one_enum, one_method, one_service, one_extension, past_message, past_enums, past_extensions, past_services, past_tree, past_trees, past_file, trees_of, tree_declarations, trees_declarations, file_declarations}
+use Rattle.reflect_declarations.specs.Batches.{batch_declarations, past_files}
 use Rattle.reflect_tables.specs.Names.{Sort, FullName, place_of}
 use Rattle.reflect_tables.specs.Names as sorts
 use Rattle.reflect_known.specs.DeclaredNames.{is_of, with_name, with_names}
 use Rattle.reflect_known.specs.KnownNames.{kind_of, definition_of, named, packages, known_after, known_behind}
 use Rattle.reflect_known.specs.GivenNames.{Given, EnumNames, ServiceNames, MessageNames, message_names, NestedNames, no_names, more_names, FileNames, field_name, oneof_name, value_name, enum_names, method_name, service_names, names_in, names_in_each, names_of_file}
-use Rattle.reflect_walk.specs.declared.visit_parts.Offsets.{Offsets}
+use Rattle.reflect_declarations.specs.declared.offsets.Offsets.{Offsets}
 
 -- what a declaration adds to the known names: a package with those around it, or a name, if it is
 -- given

@@ -6,7 +6,7 @@ use Rattle.descriptor_records.specs.declared.message.DescriptorProto.TheOpen.{De
 use Rattle.descriptor_records.specs.declared.message.DescriptorProto.TheFolds.{fold-roll-DescriptorProto, fold_out-DescriptorProto}
 use Rattle.descriptor_records.specs.declared.message.DescriptorProto.TheViews.{roll-DescriptorProto, out-DescriptorProto, the_lemmas}
 use Rattle.descriptor_records.specs.declared.file.FileDescriptorProto.{FileDescriptorProto}
-use Rattle.reflect_walk.specs.Tree.{Message, message, messages_of, message_step, parts, tree_of}
+use Rattle.reflect_declarations.specs.Tree.{Message, message, messages_of, message_step, parts, tree_of}
 use Rattle.reflect_known.specs.GivenNames.{Given, MessageNames, message_names, NestedNames, no_names, more_names, field_name, oneof_name, enum_names, service_names, names_in, names_in_each, names_of_message, names_of_file}
 
 abbrev pub nested_of : List MessageNames → NestedNames

@@ -1,6 +1,6 @@
 -- The full names that declarations add.
 use Rattle.std.specs.Prelude.{◌++◌, ◌∷◌, List, [], Bool, true, false, cond}
-use Rattle.reflect_walk.specs.Declarations.{Declaration, Body, of_file, of_message, of_field, of_oneof, of_enum, of_enum_value, of_service, of_method, of_extension}
+use Rattle.reflect_declarations.specs.Declarations.{Declaration, Body, of_file, of_message, of_field, of_oneof, of_enum, of_enum_value, of_service, of_method, of_extension}
 use Rattle.reflect_tables.specs.Names.{Sort, messages, enums, extensions, services, FullName}
 
 abbrev pub is_of : Sort → Body → Bool

@@ -9,8 +9,8 @@ use Rattle.descriptor_records.specs.declared.file.FileDescriptorProto.{FileDescr
 use Rattle.descriptor_records.specs.declared.message.DescriptorProto.{DescriptorProto}
 use Rattle.descriptor_records.specs.declared.service.MethodDescriptorProto.{MethodDescriptorProto}
 use Rattle.descriptor_records.specs.declared.service.ServiceDescriptorProto.{ServiceDescriptorProto}
-use Rattle.reflect_walk.specs.Tree.{Message, message, Messages, no_messages, more_messages, tree_of}
-use Rattle.reflect_walk.specs.Declarations.{trees_of}
+use Rattle.reflect_declarations.specs.Tree.{Message, message, Messages, no_messages, more_messages, tree_of}
+use Rattle.reflect_declarations.specs.Declarations.{trees_of}
 
 -- a name, if one is given
 abbrev pub Given : Type 0

@@ -6,10 +6,10 @@ use Rattle.reflect_scope.specs.declared.definition.DefinitionKind.{DefinitionKin
 use Rattle.reflect_scope.specs.declared.definition.DefinitionKind.TheVariants as kind
 use Rattle.reflect_scope.specs.Known.{Known, declared}
 use Rattle.reflect_scope.specs.Means.{scopes}
-use Rattle.reflect_walk.specs.declared.visit_parts.Offsets.{Offsets}
-use Rattle.reflect_walk.specs.Tree.{text_of}
-use Rattle.reflect_walk.specs.Declarations.{Declaration, of_file, of_message, of_field, of_oneof, of_enum, of_enum_value, of_service, of_method, of_extension}
-use Rattle.reflect_walk.specs.Batches.{batch_declarations, past_files}
+use Rattle.reflect_declarations.specs.declared.offsets.Offsets.{Offsets}
+use Rattle.reflect_declarations.specs.Tree.{text_of}
+use Rattle.reflect_declarations.specs.Declarations.{Declaration, of_file, of_message, of_field, of_oneof, of_enum, of_enum_value, of_service, of_method, of_extension}
+use Rattle.reflect_declarations.specs.Batches.{batch_declarations, past_files}
 
 abbrev pub kind_of : Declaration → DefinitionKind
 kind_of d = elim d.body [

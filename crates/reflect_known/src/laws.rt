@@ -3,8 +3,8 @@
 ghost use Rattle.std.specs.Prelude.{◌≡◌, ℕ, List, map};
 ghost use Rattle.descriptor_records.specs.declared.file.FileDescriptorProto.{FileDescriptorProto};
 ghost use Rattle.reflect_scope.specs.Known.{Known};
-ghost use Rattle.reflect_walk.specs.Batches.{batch_declarations, past_files};
-ghost use Rattle.reflect_walk.specs.declared.visit_parts.Offsets.{Offsets};
+ghost use Rattle.reflect_declarations.specs.Batches.{batch_declarations, past_files};
+ghost use Rattle.reflect_declarations.specs.declared.offsets.Offsets.{Offsets};
 ghost use Rattle.reflect_tables.specs.Names.{Sort, FullName};
 ghost use Rattle.reflect_known.specs.DeclaredNames.{with_names};
 ghost use Rattle.reflect_known.specs.GivenNames.{names_of_file};

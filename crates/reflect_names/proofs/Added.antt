@@ -1,7 +1,7 @@
 -- Faults that are added one after another.
 use Rattle.std.proofs.Common.{◌≡◌, ℕ, ℤ, ◌<◌, ◌+◌, List, [], ◌++◌, take, length, get_or, ap, sym, subst, ◌∙◌, append_assoc, refl}
 use Rattle.std.proofs.lemmas.List.{append-nil}
-use Rattle.reflect_walk.specs.Declarations.{each}
+use Rattle.reflect_declarations.specs.Declarations.{each}
 use Rattle.reflect_walk.proofs.Walks.{each_more}
 use Rattle.reflect_names.specs.Faults.{Fault, Place, Adds, place_at, batch_places, list_of}
 use Rattle.reflect_names.specs.declared.faults.Faults.{Faults}

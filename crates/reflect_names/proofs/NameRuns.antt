@@ -2,8 +2,8 @@
 use Rattle.std.proofs.Common.{◌≡◌, ℕ, zero, suc, arith, List, [], ◌∷◌, ap, sym, ◌∙◌, subst}
 use Rattle.std.proofs.Math.Path.{fun_ext}
 use Rattle.std.specs.BTreeMap.{get_by_text}
-use Rattle.reflect_walk.specs.Declarations.{Declaration, Runs}
-use Rattle.reflect_walk.specs.Batches.{KeptBy}
+use Rattle.reflect_declarations.specs.Declarations.{Declaration, Runs}
+use Rattle.reflect_declarations.specs.Batches.{KeptBy}
 use Rattle.reflect_scope.specs.Known.{known_of, kept_first, AllBelow}
 use Rattle.reflect_names.specs.Faults.{Adds, place_at}
 use Rattle.reflect_known.specs.KnownNames.{known_behind}

@@ -7,10 +7,10 @@ use Rattle.reflect_scope.specs.Seen.{tells}
 use Rattle.reflect_scope.specs.Sees.{Sees}
 use Rattle.reflect_scope.specs.declared.seen.Links.{Links}
 use Rattle.descriptor_records.specs.declared.file.FileDescriptorProto.{FileDescriptorProto}
-use Rattle.reflect_walk.specs.declared.visit_parts.Offsets.{Offsets}
-use Rattle.reflect_walk.specs.Batches.{batch_declarations, KeptBy}
-use Rattle.reflect_walk.specs.Tree.{text_of, Message, message, Messages, no_messages, more_messages}
-use Rattle.reflect_walk.specs.Declarations.{Declaration, Body, of_file, of_message, of_field, of_oneof, of_enum, of_enum_value, of_service, of_method, of_extension, Runs, each, entry, one_field, one_oneof, one_value, one_enum, one_method, one_service, one_extension, tree_declarations, trees_declarations, trees_of, past_message, past_tree, past_trees, past_file, file_declarations}
+use Rattle.reflect_declarations.specs.declared.offsets.Offsets.{Offsets}
+use Rattle.reflect_declarations.specs.Batches.{batch_declarations, KeptBy}
+use Rattle.reflect_declarations.specs.Tree.{text_of, Message, message, Messages, no_messages, more_messages}
+use Rattle.reflect_declarations.specs.Declarations.{Declaration, Body, of_file, of_message, of_field, of_oneof, of_enum, of_enum_value, of_service, of_method, of_extension, Runs, each, entry, one_field, one_oneof, one_value, one_enum, one_method, one_service, one_extension, tree_declarations, trees_declarations, trees_of, past_message, past_tree, past_trees, past_file, file_declarations}
 use Rattle.reflect_walk.proofs.Walks.{runs_split}
 use Rattle.reflect_names.specs.Faults.{Adds, place_at}
 use Rattle.reflect_scope.specs.Known.{known_of}

@@ -1,7 +1,7 @@
 -- Faults by their data and their places.
 use Rattle.std.specs.Prelude.{◌≡◌, ℕ, ℤ, ◌-◌, List, [], ◌++◌, map, cond, nat_le, Option, Some, None, slice_get, string_bytes}
 use Rattle.descriptor_records.specs.declared.file.FileDescriptorProto.{FileDescriptorProto}
-use Rattle.reflect_walk.specs.Tree.{text_of}
+use Rattle.reflect_declarations.specs.Tree.{text_of}
 use Rattle.reflect_names.specs.Spans.{span_among, locations_at}
 use Rattle.reflect_names.specs.declared.label.Label.{Label}
 use Rattle.reflect_names.specs.declared.label.SourceSpan.{SourceSpan}

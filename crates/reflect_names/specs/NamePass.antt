@@ -1,6 +1,6 @@
 -- The faults of a list of declarations.
 use Rattle.std.specs.Prelude.{ℕ, List, [], ◌∷◌, ◌++◌, Option}
-use Rattle.reflect_walk.specs.Declarations.{Declaration}
+use Rattle.reflect_declarations.specs.Declarations.{Declaration}
 use Rattle.reflect_scope.specs.Known.{Known}
 use Rattle.reflect_names.specs.Faults.{Fault}
 use Rattle.reflect_known.specs.KnownNames.{known_after}

@@ -2,7 +2,7 @@
 use Rattle.std.specs.Prelude.{◌≡◌, ◌<◌, ◌≤◌, ℕ, ◌+◌, refl}
 use Rattle.std.proofs.Common.{◌∙◌}
 use Rattle.std.specs.BTreeMap.{get_by_text}
-use Rattle.reflect_walk.specs.Declarations.{Declaration}
+use Rattle.reflect_declarations.specs.Declarations.{Declaration}
 use Rattle.reflect_scope.specs.Known.{Known, known_of, KeepsFirst, AllBelow}
 use Rattle.reflect_names.specs.Faults.{Adds, place_at}
 use Rattle.reflect_known.specs.KnownNames.{known_after}

@@ -4,8 +4,8 @@ use Rattle.std.proofs.Common.{◌∙◌}
 use Rattle.descriptor_records.specs.declared.file.FileDescriptorProto.{FileDescriptorProto}
 use Rattle.reflect_scope.specs.Seen.{tells}
 use Rattle.reflect_scope.specs.Sees.{Sees}
-use Rattle.reflect_walk.specs.declared.visit_parts.Offsets.{Offsets}
-use Rattle.reflect_walk.specs.Declarations.{Declaration, of_file}
+use Rattle.reflect_declarations.specs.declared.offsets.Offsets.{Offsets}
+use Rattle.reflect_declarations.specs.Declarations.{Declaration, of_file}
 use Rattle.reflect_scope.specs.Known.{known_of}
 use Rattle.reflect_names.specs.Faults.{Fault, Adds, place_at}
 use Rattle.reflect_names.specs.References.{View, Target, targets_of, reference_faults_at}

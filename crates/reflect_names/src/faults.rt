@@ -1,5 +1,5 @@
 ghost use Rattle.std.specs.Prelude.{◌≡◌, ◌++◌, ◌∷◌, [], ◌↔◌, IsTrue, IfOk, OnOk, IfSome, map, Option, Some, None, pos};
-ghost use Rattle.reflect_walk.specs.Tree.{text_of as content_of};
+ghost use Rattle.reflect_declarations.specs.Tree.{text_of as content_of};
 ghost use Rattle.std.proofs.Props.{props};
 ghost use Rattle.reflect_names.specs.Spans.{locations, locations_at, span_among};
 

@@ -1,7 +1,7 @@
 ghost use Rattle.std.specs.Prelude.{◌≡◌, OnOk, IfOk, pos, [], ◌∷◌, ◌++◌};
 ghost use Rattle.std.specs.List.{cons_option, filter_map};
 ghost use Rattle.std.specs.BTreeMap.{get_by_text};
-ghost use Rattle.reflect_walk.specs.Declarations.{each, entry};
+ghost use Rattle.reflect_declarations.specs.Declarations.{each, entry};
 ghost use Rattle.reflect_names.specs.Faults.{Adds, place_at, duplicate_file};
 ghost use Rattle.reflect_scope.specs.FileIndexes.{indexes_of, KeepsIndexes};
 ghost use Rattle.reflect_names.specs.FileNames.{file_faults, with_file, with_files, files_faults};

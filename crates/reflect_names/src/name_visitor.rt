@@ -31,7 +31,7 @@ pub struct NameVisitor<'a> {
 }
 
 impl<'a> NameVisitor<'a> {
-    ghost use Rattle.reflect_walk.specs.Batches.{batch_declarations, past_files};
+    ghost use Rattle.reflect_declarations.specs.Batches.{batch_declarations, past_files};
     ghost use Rattle.reflect_scope.specs.Known.{known_of};
     ghost use Rattle.reflect_names.specs.Faults.{Adds, place_at};
     ghost use Rattle.reflect_known.specs.KnownNames.{known_behind};

@@ -1,7 +1,7 @@
 -- What is wrong with the numbers of a batch of files, by the types of the pool and of the batch.
 use Rattle.std.specs.Prelude.{ℕ, ℤ, List, Bool}
 use Rattle.descriptor_records.specs.declared.file.FileDescriptorProto.{FileDescriptorProto}
-use Rattle.reflect_walk.specs.declared.visit_parts.Offsets.{Offsets}
+use Rattle.reflect_declarations.specs.declared.offsets.Offsets.{Offsets}
 use Rattle.reflect_names.specs.Faults.{Fault, Place}
 use Rattle.reflect_names.specs.declared.resolve_visitor.Reference.{Reference}
 use Rattle.reflect_rules.specs.RulePass.{BatchFaults}

@@ -1,7 +1,7 @@
 //! The entries of a batch of files, and what they import.
 
 ghost use Rattle.std.specs.Prelude.{◌≡◌, ◌++◌, [], length, map, take, OnOk, IfOk};
-ghost use Rattle.reflect_walk.specs.Batches.{batch_declarations};
+ghost use Rattle.reflect_declarations.specs.Batches.{batch_declarations};
 ghost use Rattle.reflect_scope.specs.FileIndexes.{indexes_of, link_view};
 ghost use Rattle.reflect_names.specs.ImportedFiles.{links_to};
 ghost use Rattle.std.specs.List.{AllByRecursion};

@@ -1,7 +1,7 @@
 //! The passes over a batch of files, each of which lists all faults that it finds.
 
 ghost use Rattle.std.specs.Prelude.{◌≡◌, ◌∷◌, [], length, map, OnOk, IfOk, IfErr};
-ghost use Rattle.reflect_walk.specs.Batches.{batch_declarations};
+ghost use Rattle.reflect_declarations.specs.Batches.{batch_declarations};
 ghost use Rattle.reflect_names.specs.Faults.{fault_view, list_of, another, batch_places};
 ghost use Rattle.reflect_scope.specs.FileIndexes.{indexes_of, KeepsIndexes};
 ghost use Rattle.reflect_names.specs.FileNames.{with_files};

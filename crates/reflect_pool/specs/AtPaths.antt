@@ -8,7 +8,7 @@ use Rattle.descriptor_records.specs.declared.file.FileDescriptorProto.{FileDescr
 use Rattle.descriptor_records.specs.declared.message.DescriptorProto.{DescriptorProto}
 use Rattle.descriptor_records.specs.declared.service.MethodDescriptorProto.{MethodDescriptorProto}
 use Rattle.descriptor_records.specs.declared.service.ServiceDescriptorProto.{ServiceDescriptorProto}
-use Rattle.reflect_walk.specs.Tree.{text_of, parts_of}
+use Rattle.reflect_declarations.specs.Tree.{text_of, parts_of}
 use Rattle.reflect_tables.specs.Types.{PoolType, type_at, type_of_field, enum_at, extension_at, service_at}
 use Rattle.reflect_pool.specs.Parts.{type_of_oneof, type_of_value, type_of_method}
 use Rattle.reflect_pool.specs.Records.{message_along, field_along, oneof_along, enum_along, value_along, extension_along, service_along, method_along}

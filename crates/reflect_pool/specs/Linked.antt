@@ -11,7 +11,7 @@ use Rattle.reflect_tables.specs.Types.{PoolType, ExtensionType, ArePooled}
 use Rattle.reflect_tables.specs.Names.{Sort, AreNamed, names_of}
 use Rattle.reflect_tables.specs.Views.{record_file}
 use Rattle.reflect_tables.specs.ExtensionNumbers.{KeyType, Numbers, numbers_of}
-use Rattle.reflect_walk.specs.Batches.{batch_declarations}
+use Rattle.reflect_declarations.specs.Batches.{batch_declarations}
 use Rattle.reflect_known.specs.DeclaredNames.{with_names}
 use Rattle.reflect_known.specs.KnownNames.{nothing_before, known_of_files}
 use Rattle.reflect_tables.specs.declared.stored.StoredMessage.{StoredMessage}

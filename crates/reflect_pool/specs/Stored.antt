@@ -7,9 +7,9 @@ use Rattle.reflect_known.specs.KnownNames.{nothing_before}
 use Rattle.reflect_tables.specs.Ranges.{Range, reserved_range, extension_range}
 use Rattle.reflect_tables.specs.Views.{ranges_of}
 use Rattle.reflect_tables.specs.declared.stored.StoredMessage.{StoredMessage}
-use Rattle.reflect_walk.specs.Batches.{batch_declarations}
-use Rattle.reflect_walk.specs.Declarations.{Declaration, of_message}
-use Rattle.reflect_walk.specs.Tree.{MessageParts}
+use Rattle.reflect_declarations.specs.Batches.{batch_declarations}
+use Rattle.reflect_declarations.specs.Declarations.{Declaration, of_message}
+use Rattle.reflect_declarations.specs.Tree.{MessageParts}
 
 -- the numbers that a message reserves, and those that it keeps for extensions
 pub record MessageRanges : Type 0 where

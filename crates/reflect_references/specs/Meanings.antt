@@ -2,7 +2,7 @@
 use Rattle.std.specs.declared.alloc.Global.{Global}
 use Rattle.std.specs.Prelude.{List, [], ◌∷◌, Option, Some, None, String}
 use Rattle.reflect_scope.specs.declared.definition.DefinitionKind.{DefinitionKind}
-use Rattle.reflect_walk.specs.Declarations.{Declaration, of_file, of_message, of_field, of_oneof, of_enum, of_enum_value, of_service, of_method, of_extension}
+use Rattle.reflect_declarations.specs.Declarations.{Declaration, of_file, of_message, of_field, of_oneof, of_enum, of_enum_value, of_service, of_method, of_extension}
 use Rattle.reflect_names.specs.declared.resolve_visitor.Reference.{Reference}
 
 -- what the name at a place means, if one stands there: the next reference's meaning

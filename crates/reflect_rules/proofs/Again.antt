@@ -4,7 +4,7 @@ use Rattle.std.proofs.lemmas.List.{append-nil}
 use Rattle.std.proofs.lemmas.List.Folds.{list_any_more}
 use Rattle.std.specs.List.{list_any}
 use Rattle.std.specs.Ordering.{int_eq}
-use Rattle.reflect_walk.specs.Declarations.{each}
+use Rattle.reflect_declarations.specs.Declarations.{each}
 use Rattle.reflect_walk.proofs.Walks.{each_more}
 use Rattle.reflect_rules.specs.Repeats.{is_number, repeat_at}
 

@@ -3,7 +3,7 @@ use Rattle.std.proofs.Common.{◌≡◌, List, [], ◌∷◌, ◌++◌, ap, sym,
 use Rattle.std.proofs.Math.Path.{fun_ext}
 use Rattle.std.specs.BTreeMap.{get}
 use Rattle.std.specs.Ordering.{nat_cmp}
-use Rattle.reflect_walk.specs.Declarations.{Declaration, Runs}
+use Rattle.reflect_declarations.specs.Declarations.{Declaration, Runs}
 use Rattle.reflect_names.specs.Faults.{Fault, Adds, place_at}
 use Rattle.reflect_names.proofs.Added.{adds_on, adds_none, same_places}
 use Rattle.reflect_rules.specs.TypesSay.{TypesSay}

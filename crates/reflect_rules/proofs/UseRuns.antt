@@ -3,7 +3,7 @@ use Rattle.std.proofs.Common.{◌≡◌, ℕ, List, [], ◌∷◌, ◌++◌, Opt
 use Rattle.std.specs.BTreeMap.{get}
 use Rattle.std.specs.Ordering.{nat_cmp}
 use Rattle.descriptor_records.specs.declared.field.FieldDescriptorProto.{FieldDescriptorProto}
-use Rattle.reflect_walk.specs.Declarations.{Declaration, Runs}
+use Rattle.reflect_declarations.specs.Declarations.{Declaration, Runs}
 use Rattle.reflect_rules.specs.TypesSay.{TypesSay}
 use Rattle.reflect_references.specs.Meanings.{rest_behind}
 use Rattle.reflect_rules.specs.Uses.{users_in, users, use_by, use_behind}

@@ -2,7 +2,7 @@
 use Rattle.std.specs.Prelude.{ℕ, ℤ, List, [], ◌∷◌, ◌++◌, Bool, false, cond, take, Option, Some, None}
 use Rattle.std.specs.List.{list_any}
 use Rattle.std.specs.Ordering.{int_eq}
-use Rattle.reflect_walk.specs.Declarations.{each, entry}
+use Rattle.reflect_declarations.specs.Declarations.{each, entry}
 use Rattle.reflect_names.specs.Faults.{Fault, Place}
 use Rattle.reflect_names.specs.Names.{Places}
 

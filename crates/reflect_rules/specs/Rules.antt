@@ -4,8 +4,8 @@ use Rattle.std.specs.Prelude.{◌≡◌, ℕ, ℤ, pos, List, [], ◌∷◌, ◌
 use Rattle.descriptor_records.specs.declared.field.FieldDescriptorProto.{FieldDescriptorProto}
 use Rattle.reflect_scope.specs.declared.definition.DefinitionKind.{DefinitionKind}
 use Rattle.reflect_scope.specs.declared.definition.DefinitionKind.TheVariants as kind
-use Rattle.reflect_walk.specs.Tree.{MessageParts}
-use Rattle.reflect_walk.specs.Declarations.{Declaration, of_file, of_message, of_field, of_oneof, of_enum, of_enum_value, of_service, of_method, of_extension}
+use Rattle.reflect_declarations.specs.Tree.{MessageParts}
+use Rattle.reflect_declarations.specs.Declarations.{Declaration, of_file, of_message, of_field, of_oneof, of_enum, of_enum_value, of_service, of_method, of_extension}
 use Rattle.reflect_names.specs.Faults.{Fault, duplicate_number, bad_default, bad_map_entry}
 use Rattle.reflect_names.specs.Names.{Places}
 use Rattle.reflect_tables.specs.Ranges.{Range, IsRangeOf}

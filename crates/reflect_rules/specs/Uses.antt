@@ -5,7 +5,7 @@ use Rattle.descriptor_records.specs.declared.field.Label.TheVariants as labels
 use Rattle.descriptor_records.specs.declared.field.FieldType.TheVariants as types
 use Rattle.descriptor_records.specs.FieldNumbers.{label_number, type_number}
 use Rattle.reflect_scope.specs.declared.definition.DefinitionKind.{DefinitionKind}
-use Rattle.reflect_walk.specs.Declarations.{Declaration, of_file, of_message, of_field, of_oneof, of_enum, of_enum_value, of_service, of_method, of_extension}
+use Rattle.reflect_declarations.specs.Declarations.{Declaration, of_file, of_message, of_field, of_oneof, of_enum, of_enum_value, of_service, of_method, of_extension}
 use Rattle.reflect_names.specs.declared.resolve_visitor.Reference.{Reference}
 use Rattle.reflect_rules.specs.MapEntries.{is_equal}
 use Rattle.reflect_references.specs.Meanings.{meaning, behind, rest_behind}

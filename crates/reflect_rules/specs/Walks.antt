@@ -5,7 +5,7 @@ use Rattle.std.specs.Str.{bytes_eq}
 use Rattle.reflect_names.specs.declared.resolve_visitor.Reference.{Reference}
 use Rattle.descriptor_records.specs.declared.file.FileDescriptorProto.{FileDescriptorProto}
 use Rattle.std.specs.Prelude.{length, []}
-use Rattle.reflect_walk.specs.Declarations.{Declaration, of_file, of_message}
+use Rattle.reflect_declarations.specs.Declarations.{Declaration, of_file, of_message}
 use Rattle.reflect_tables.specs.Ranges.{Range}
 use Rattle.reflect_tables.specs.Views.{ranges_of}
 use Rattle.reflect_rules.specs.TypesSay.{TypesSay}

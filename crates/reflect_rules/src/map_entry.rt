@@ -2,7 +2,7 @@
 //! with `key` and `value`).
 
 ghost use Rattle.std.specs.Prelude.{◌≡◌};
-ghost use Rattle.reflect_walk.specs.Tree.{parts_of};
+ghost use Rattle.reflect_declarations.specs.Tree.{parts_of};
 ghost use Rattle.reflect_rules.specs.MapEntries.{has_name as is_named_so, is_optional as may_be_optional, is_equal as is_number_so, is_part as is_part_so, is_key_type as may_be_key, share_oneof as share_one, are_key_and_value as are_parts, has_entry_shape as is_shaped};
 
 use descriptor_records::{DescriptorProto, FieldDescriptorProto};

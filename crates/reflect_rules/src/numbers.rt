@@ -1,8 +1,8 @@
 //! The rules of the numbers of fields and extensions (protobuf.dev, "Assigning Field Numbers").
 
 ghost use Rattle.std.specs.Prelude.{◌≡◌, ◌∷◌, ◌++◌, [], OnOk, IfOk, map, pos};
-ghost use Rattle.reflect_walk.specs.Tree.{parts_of};
-ghost use Rattle.reflect_walk.specs.Declarations.{entry};
+ghost use Rattle.reflect_declarations.specs.Tree.{parts_of};
+ghost use Rattle.reflect_declarations.specs.Declarations.{entry};
 ghost use Rattle.reflect_names.specs.Faults.{Adds, place_at, place_of, duplicate_number};
 ghost use Rattle.reflect_scope.specs.FileIndexes.{is_index};
 ghost use Rattle.reflect_rules.specs.Numbers.{is_field_number as may_number, number_faults, reserved_faults, kept_faults, outside_faults, oneof_faults};

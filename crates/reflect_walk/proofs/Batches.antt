@@ -2,9 +2,9 @@
 use Rattle.std.proofs.Common.{◌≡◌, ℕ, zero, suc, ◌<◌, ◌≤◌, ◌+◌, ◌-◌, List, [], ◌∷◌, ◌++◌, take, length, get_or, ap, sym, subst, ◌∙◌, append_assoc, arith, refl}
 use Rattle.std.proofs.lemmas.List.{take_more, append-nil, length-take-le}
 use Rattle.descriptor_records.specs.declared.file.FileDescriptorProto.{FileDescriptorProto}
-use Rattle.reflect_walk.specs.declared.visit_parts.Offsets.{Offsets}
-use Rattle.reflect_walk.specs.Declarations.{Declaration, Runs, file_declarations, past_file}
-use Rattle.reflect_walk.specs.Batches.{past_files, batch_declarations, KeptBy}
+use Rattle.reflect_declarations.specs.declared.offsets.Offsets.{Offsets}
+use Rattle.reflect_declarations.specs.Declarations.{Declaration, Runs, file_declarations, past_file}
+use Rattle.reflect_declarations.specs.Batches.{past_files, batch_declarations, KeptBy}
 use Rattle.reflect_walk.proofs.Walks.{runs_append}
 
 past_push : (o : Offsets) (fs : List FileDescriptorProto) (f : FileDescriptorProto) → past_files o (fs ++ f ∷ []) ≡ past_file (past_files o fs) f

@@ -4,9 +4,9 @@ use Rattle.std.proofs.lemmas.List.{take_more, map_push, append-nil, length-take-
 use Rattle.descriptor_records.specs.declared.message.DescriptorProto.{DescriptorProto}
 use Rattle.descriptor_records.specs.declared.message.DescriptorProto.TheFolds.{fold_out-DescriptorProto}
 use Rattle.descriptor_records.specs.declared.message.DescriptorProto.TheViews.{out-DescriptorProto}
-use Rattle.reflect_walk.specs.Tree.{Message, message, Messages, no_messages, more_messages, messages_of, message_step, tree_of, parts_of}
-use Rattle.reflect_walk.specs.Declarations.{Declaration, Runs, each, entry, tree_declarations, trees_declarations, past_tree, past_trees, past_message}
-use Rattle.reflect_walk.specs.declared.visit_parts.Offsets.{Offsets}
+use Rattle.reflect_declarations.specs.Tree.{Message, message, Messages, no_messages, more_messages, messages_of, message_step, tree_of, parts_of}
+use Rattle.reflect_declarations.specs.Declarations.{Declaration, Runs, each, entry, tree_declarations, trees_declarations, past_tree, past_trees, past_message}
+use Rattle.reflect_declarations.specs.declared.offsets.Offsets.{Offsets}
 
 pub runs_append : {S D : Type 0} (R : S → D → S → Type 0) (a b : List D) (s m t : S) → Runs R s a m → Runs R m b t → Runs R s (a ++ b) t
 runs_append R [] b s m t p q = subst (λ x. Runs R x b t) p q

@@ -1,4 +1,1 @@
-pub mod Tree
-pub mod Declarations
-pub mod Batches
 pub mod MapEntries

@@ -9,7 +9,8 @@ mod visit_parts;
 mod visitor;
 
 pub use map_entry::says_map_entry;
+pub use reflect_declarations::Offsets;
 pub use visit_error::VisitError;
 pub use visit_files::visit_all;
-pub use visit_parts::{Offsets, visit};
+pub use visit_parts::visit;
 pub use visitor::Visitor;

@@ -1,6 +1,6 @@
 ghost use Rattle.std.specs.Prelude.{◌≡◌};
 ghost use Rattle.reflect_walk.specs.MapEntries.{says_entry};
-ghost use Rattle.reflect_walk.specs.Tree.{parts_of};
+ghost use Rattle.reflect_declarations.specs.Tree.{parts_of};
 
 use descriptor_records::DescriptorProto;
 

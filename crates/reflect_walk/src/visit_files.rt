@@ -1,11 +1,12 @@
 ghost use Rattle.std.specs.Prelude.{◌≡◌, OnOk, IfOk, length};
-ghost use Rattle.reflect_walk.specs.Declarations.{Runs};
-ghost use Rattle.reflect_walk.specs.Batches.{KeptBy, batch_declarations, past_files};
+ghost use Rattle.reflect_declarations.specs.Declarations.{Runs};
+ghost use Rattle.reflect_declarations.specs.Batches.{KeptBy, batch_declarations, past_files};
 
 use crate::visit_error::VisitError;
-use crate::visit_parts::{Offsets, visit};
+use crate::visit_parts::visit;
 use crate::visitor::Visitor;
 use descriptor_records::FileDescriptorProto;
+use reflect_declarations::Offsets;
 use std::alloc::Global;
 
 /// Calls the visitor at each declaration of the files, the first of which has the index `first`, as

@@ -1,6 +1,6 @@
 ghost use Rattle.std.specs.Prelude.{◌≡◌, ℕ, ◌+◌, ◌<◌, ◌^◌, ◌++◌, ◌∷◌, [], map, length, OnOk, IfOk, pos, Some, None, string_bytes};
-ghost use Rattle.reflect_walk.specs.Tree.{text_of as content_of, tree_of, messages_of};
-ghost use Rattle.reflect_walk.specs.Declarations.{Runs, each, entry, one_field, one_oneof, one_value, one_enum, one_method, one_service, one_extension, past_enums, past_extensions, past_services, past_tree, past_trees, past_file, tree_declarations, trees_declarations, file_declarations, enum_declaration, extension_declaration, service_declaration};
+ghost use Rattle.reflect_declarations.specs.Tree.{text_of as content_of, tree_of, messages_of};
+ghost use Rattle.reflect_declarations.specs.Declarations.{Runs, each, entry, one_field, one_oneof, one_value, one_enum, one_method, one_service, one_extension, past_enums, past_extensions, past_services, past_tree, past_trees, past_file, tree_declarations, trees_declarations, file_declarations, enum_declaration, extension_declaration, service_declaration};
 ghost use Rattle.reflect_scope.specs.Means.{join};
 
 use crate::visit_error::VisitError;
@@ -10,17 +10,9 @@ use descriptor_records::{
     FileDescriptorProto, MethodDescriptorProto, OneofDescriptorProto, ServiceDescriptorProto,
     join_path, tag,
 };
+use reflect_declarations::Offsets;
 use reflect_scope::{joined, write_joined};
 use std::alloc::Global;
-
-/// How many messages, enums, extensions and services are declared before, in all files.
-#[derive(Clone, Copy, PartialEq, Eq)]
-pub struct Offsets {
-    pub messages: u32,
-    pub enums: u32,
-    pub extensions: u32,
-    pub services: u32,
-}
 
 fn text_of(text: &Option<String>) -> &str
     ensures { result.now ≡ content_of text.now }

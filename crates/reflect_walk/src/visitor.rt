@@ -1,6 +1,6 @@
 ghost use Rattle.std.specs.Prelude.{ℕ, OnOk};
-ghost use Rattle.reflect_walk.specs.Tree.{parts_of};
-ghost use Rattle.reflect_walk.specs.Declarations.{Declaration, file_declaration, message_declaration, field_declaration, oneof_declaration, enum_declaration, enum_value_declaration, service_declaration, method_declaration, extension_declaration};
+ghost use Rattle.reflect_declarations.specs.Tree.{parts_of};
+ghost use Rattle.reflect_declarations.specs.Declarations.{Declaration, file_declaration, message_declaration, field_declaration, oneof_declaration, enum_declaration, enum_value_declaration, service_declaration, method_declaration, extension_declaration};
 
 use crate::visit_error::VisitError;
 use descriptor_records::{

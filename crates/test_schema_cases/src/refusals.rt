@@ -1,75 +1,10 @@
-//! What is told of refusals, layer by layer.
+//! What is told of a schema's refusals.
 
-use reflect_build::DescriptorError;
-use reflect_text::{OptionError, OptionErrorKind, ParseError as TextError};
 use schema_core::SchemaError;
-use std::alloc::{AllocError, Global};
-use std::collections::BTreeSet;
+use std::alloc::Global;
 use test_json::{Text, Told};
-use test_sources::{tell_case, tell_source_refusal, write_case};
-
-/// The names of faults, each once and by the alphabet.
-fn names_of(alloc: Global, error: &DescriptorError) -> Result<BTreeSet<String>, AllocError> {
-    let mut names = BTreeSet::new(alloc);
-    for fault in error.errors() {
-        let mut name = Text::new(alloc);
-        write_case(alloc, &mut name, fault);
-        names.insert(name.into_string()?)?;
-    }
-    Ok(names)
-}
-
-/// Tells the names of faults, with spaces between them.
-fn tell_codes(alloc: Global, told: &mut Told<'_>, names: &BTreeSet<String>) {
-    let mut codes = Text::new(alloc);
-    for name in names {
-        if !codes.is_empty() {
-            codes.push_str(" ");
-        }
-        codes.push_str(name.as_str());
-    }
-    told.tell_text("codes", codes);
-}
-
-/// Files do not fit together: the names of the faults, and what the faults say.
-fn tell_link_refusal(alloc: Global, told: &mut Told<'_>, error: &DescriptorError) {
-    let mut texts = Text::new(alloc);
-    for fault in error.errors() {
-        writeln!(texts, "{fault}");
-    }
-    told.tell_text("faults", texts);
-    match names_of(alloc, error) {
-        Ok(names) => tell_codes(alloc, told, &names),
-        Err(_) => told.give_up(),
-    }
-}
-
-/// Options are refused with a fault, and where text or stored bytes are at fault, with theirs.
-fn tell_option_refusal(alloc: Global, told: &mut Told<'_>, error: &OptionError) {
-    tell_case(alloc, told, "codes", error.kind());
-    match error.kind() {
-        OptionErrorKind::InvalidMessageOption { error, .. } => {
-            tell_case(alloc, told, "inner", error.kind());
-        }
-        OptionErrorKind::UndecodableOptions { error: Some(error) } => {
-            tell_case(alloc, told, "inner", error);
-        }
-        _ => {}
-    }
-}
-
-/// A text is refused with a fault at a place and in words.
-pub fn tell_text_refusal(alloc: Global, told: &mut Told<'_>, error: &TextError) {
-    tell_case(alloc, told, "codes", error.kind());
-    if let Some(span) = error.span() {
-        let mut shown = Text::new(alloc);
-        write!(shown, "{}..{}", span.start, span.end);
-        told.tell_text("span", shown);
-    }
-    let mut shown = Text::new(alloc);
-    write!(shown, "{error}");
-    told.tell_text("text", shown);
-}
+use test_layers::{tell_link_refusal, tell_option_refusal, tell_text_refusal};
+use test_sources::{tell_case, tell_source_refusal};
 
 /// The name of a schema's refusal.
 fn schema_code(error: &SchemaError) -> &'static str {

@@ -5,9 +5,9 @@
 //! cases of its file name by its `id`; after a refused last step it is the schema of the steps
 //! before. Bytes are hex text.
 
-use crate::messages::{tell_asked, tell_merged, tell_printed};
+use crate::messages::tell_asked;
 use crate::refusals::tell_refusal;
-use crate::schemas::{is_set_of, tell_options, tell_steps};
+use crate::schemas::{is_set_of, tell_steps};
 use schema_core::Schema;
 use serde_json::Value;
 use std::alloc::Global;
@@ -15,6 +15,7 @@ use std::collections::BTreeMap;
 use test_described::described;
 use test_json::Told;
 use test_json::members::{bytes, items, number, text, truth};
+use test_layers::{tell_merged, tell_options, tell_printed};
 use test_sources::tell_case_of_sources;
 
 /// What cases build for later ones.
@@ -140,9 +141,9 @@ fn tell_described(alloc: Global, schema: &Schema, told: &mut Told<'_>) {
 /// What is asked of a schema.
 fn tell_of_schema(alloc: Global, op: &str, schema: &Schema, case: &Value, told: &mut Told<'_>) {
     match op {
-        "options" => tell_options(alloc, schema, case, told),
+        "options" => tell_options(alloc, schema.pool(), case, told),
         "describe" => tell_described(alloc, schema, told),
-        "merge" => tell_merged(alloc, schema, case, told),
+        "merge" => tell_merged(alloc, schema.pool(), case, told),
         _ => match bytes(alloc, case, "bytes") {
             Ok(bytes) => tell_of_bytes(alloc, op, schema, case, bytes.as_slice(), told),
             Err(_) => told.give_up(),
@@ -160,7 +161,7 @@ fn tell_of_bytes(
     told: &mut Told<'_>,
 ) {
     match op {
-        "print" => tell_printed(alloc, schema, case, bytes, told),
+        "print" => tell_printed(alloc, schema.pool(), case, bytes, told),
         _ => tell_asked(alloc, op, schema, case, bytes, told),
     }
 }

@@ -1,15 +1,13 @@
-//! Schemas that are built in steps, their sets and their options.
+//! Schemas that are built in steps, and their sets.
 
 use crate::refusals::tell_refusal;
-use descriptor_records::{DescriptorProto, FileDescriptorProto, Options};
-use reflect_codec::{decode_set, encode_set};
-use reflect_link::{MessageReaders, PoolReaders};
 use schema_core::{Schema, SchemaError};
 use serde_json::Value;
 use sha2::{Digest, Sha256};
 use std::alloc::{AllocError, Global};
-use test_json::members::{bytes, items, number, text};
-use test_json::{Text, Told};
+use test_json::Told;
+use test_json::members::{bytes, items, text};
+use test_layers::tell_plain;
 
 /// The sources of a step, each with its name.
 fn sources_of<'c>(alloc: Global, step: &'c Value) -> Result<Vec<(&'c str, &'c str)>, AllocError> {
@@ -87,28 +85,6 @@ pub fn tell_steps(
     }
 }
 
-/// The set without places of declarations, and without the file of a name.
-fn plain_set(alloc: Global, set: &[u8], left_out: &str) -> Result<Vec<u8>, SchemaError> {
-    let mut files = decode_set(alloc, set)?;
-    files
-        .file
-        .retain(|file| file.name.as_deref() != Some(left_out));
-    for file in files.file.iter_mut() {
-        file.source_code_info = None;
-    }
-    let mut plain = Vec::new(alloc);
-    encode_set(&files, &mut plain)?;
-    Ok(plain)
-}
-
-/// Tells the bytes of a set without places of declarations.
-fn tell_plain(alloc: Global, told: &mut Told<'_>, set: &[u8], left_out: &str) {
-    match plain_set(alloc, set, left_out) {
-        Ok(plain) => told.tell_bytes("plain", plain.as_slice()),
-        Err(_) => told.give_up(),
-    }
-}
-
 /// The schema's set: its bytes, their digest, and the bytes without places of declarations.
 fn tell_set(alloc: Global, schema: &Schema, case: &Value, told: &mut Told<'_>) {
     let Ok(set) = schema.to_descriptor_set() else {
@@ -122,58 +98,4 @@ fn tell_set(alloc: Global, schema: &Schema, case: &Value, told: &mut Told<'_>) {
     if told.asks("plain") {
         tell_plain(alloc, told, set.as_slice(), text(case, "without"));
     }
-}
-
-/// The options of a message, or of the extension range that the case names.
-fn options_of<'m>(case: &Value, message: &'m DescriptorProto) -> Option<&'m Options> {
-    if case.get("range").is_none() {
-        return message.options.as_ref();
-    }
-    let place = usize::try_from(number(case, "range")).ok()?;
-    message.extension_range.get(place)?.options.as_ref()
-}
-
-/// Whether the file has a location of a path, which is given as it prints.
-fn has_location(alloc: Global, file: &FileDescriptorProto, path: &str) -> Result<bool, AllocError> {
-    let Some(info) = &file.source_code_info else {
-        return Ok(false);
-    };
-    for location in &info.location {
-        if format!(in alloc; "{:?}", location.path.as_slice())?.as_str() == path {
-            return Ok(true);
-        }
-    }
-    Ok(false)
-}
-
-/// Tells of some paths those of which the file has locations.
-fn tell_located(alloc: Global, file: &FileDescriptorProto, case: &Value, told: &mut Told<'_>) {
-    let mut located = Text::new(alloc);
-    for path in items(case, "paths") {
-        let path = path.as_str().unwrap_or("");
-        match has_location(alloc, file, path) {
-            Ok(true) => located.push_str(path),
-            Ok(false) => {}
-            Err(_) => located.give_up(),
-        }
-    }
-    told.tell_text("located", located);
-}
-
-/// The bytes of the options of a file, of a message of it or of one of its extension ranges, and of
-/// some paths those of which the file has locations.
-pub fn tell_options(alloc: Global, schema: &Schema, case: &Value, told: &mut Told<'_>) {
-    let pool = schema.pool();
-    let Some(file) = pool.get_file_by_name(text(case, "file")) else {
-        return;
-    };
-    let file = file.file_descriptor_proto();
-    let options = match pool.get_message_by_name(text(case, "message")) {
-        Some(message) => options_of(case, message.descriptor_proto()),
-        None => file.options.as_ref(),
-    };
-    if let Some(options) = options {
-        told.tell_bytes("ok", options.encoded.as_slice());
-    }
-    tell_located(alloc, file, case, told);
 }

@@ -36,9 +36,9 @@ use Rattle.reflect_tables.specs.Types as types
 use Rattle.reflect_tables.specs.Views.{enum_of, extension_of, field_of, message_of, syntax_type}
 use Rattle.reflect_tables.specs.declared.stored.StoredField.{StoredField}
 use Rattle.reflect_tables.specs.declared.stored.StoredMessage.{StoredMessage}
-use Rattle.reflect_walk.specs.Batches.{batch_declarations}
-use Rattle.reflect_walk.specs.Declarations.{Body, Declaration, of_file, of_message, of_field, of_oneof, of_enum, of_enum_value, of_service, of_method, of_extension}
-use Rattle.reflect_walk.specs.Tree.{MessageParts}
+use Rattle.reflect_declarations.specs.Batches.{batch_declarations}
+use Rattle.reflect_declarations.specs.Declarations.{Body, Declaration, of_file, of_message, of_field, of_oneof, of_enum, of_enum_value, of_service, of_method, of_extension}
+use Rattle.reflect_declarations.specs.Tree.{MessageParts}
 use Rattle.linked_messages.specs.Kept.{IsKept}
 use Rattle.schema_view.specs.Declarations as view
 use Rattle.schema_view.specs.Files.{is_proto3}

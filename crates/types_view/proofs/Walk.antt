@@ -17,10 +17,10 @@ use Rattle.reflect_scope.specs.Means.{join}
 use Rattle.reflect_tables.specs.Names.{AreFound, FullName, found, messages}
 use Rattle.reflect_tables.specs.Views.{syntax_type}
 use Rattle.reflect_tables.specs.declared.kind.Syntax.{Syntax}
-use Rattle.reflect_walk.specs.Batches.{batch_declarations}
-use Rattle.reflect_walk.specs.Declarations.{Body, Declaration, each, entry, of_file, of_message, of_field, file_declaration, file_declarations, one_enum, one_extension, one_field, one_oneof, one_service, past_file, past_message, past_tree, past_trees, tree_declarations, trees_declarations, trees_of}
-use Rattle.reflect_walk.specs.Tree.{Message, MessageParts, Messages, message, more_messages, no_messages, text_of}
-use Rattle.reflect_walk.specs.declared.visit_parts.Offsets.{Offsets}
+use Rattle.reflect_declarations.specs.Batches.{batch_declarations}
+use Rattle.reflect_declarations.specs.Declarations.{Body, Declaration, each, entry, of_file, of_message, of_field, file_declaration, file_declarations, one_enum, one_extension, one_field, one_oneof, one_service, past_file, past_message, past_tree, past_trees, tree_declarations, trees_declarations, trees_of}
+use Rattle.reflect_declarations.specs.Tree.{Message, MessageParts, Messages, message, more_messages, no_messages, text_of}
+use Rattle.reflect_declarations.specs.declared.offsets.Offsets.{Offsets}
 use Rattle.schema_view.proofs.Lists.{contains_here, contains_there}
 use Rattle.linked_view.proofs.Extensions.{left_behind}
 use Rattle.linked_view.proofs.Faults.{none_both}

@@ -1,7 +1,7 @@
 use Rattle.std.proofs.Common.{sym}
 use Rattle.reflect_names.specs.ReferencePass.{views_of}
 use Rattle.reflect_passes.specs.Linked.{linked_values}
-use Rattle.reflect_walk.specs.Batches.{batch_declarations}
+use Rattle.reflect_declarations.specs.Batches.{batch_declarations}
 use Rattle.linked_view.specs.Passed.{facts_of, start_of}
 use Rattle.linked_view.proofs.AtHand.{met_to_by, met_by_to}
 use Rattle.linked_view.proofs.laws.references_are_at_hand.Goals as goal

@@ -15,7 +15,7 @@ use Rattle.reflect_build.proofs.Accepting.{added_behind, goes_behind, records_be
 use Rattle.reflect_build.proofs.Marked.{all_say}
 use Rattle.reflect_build.proofs.Stored.{stored_more}
 use Rattle.reflect_build.proofs.Refused.{mapped, before_mapped, types_with, types_of, means_of, refused_numbers, refused_extensions, refused_walk, refused_last}
-use Rattle.reflect_walk.specs.Batches.{batch_declarations}
+use Rattle.reflect_declarations.specs.Batches.{batch_declarations}
 use Rattle.reflect_tables.specs.Names.{FullName, messages, enums, extensions, services}
 use Rattle.reflect_known.specs.DeclaredNames.{with_names}
 use Rattle.reflect_tables.specs.Views.{file_of, record_of, extension_of, pool_of}

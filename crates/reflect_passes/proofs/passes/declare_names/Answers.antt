@@ -4,7 +4,7 @@ use Rattle.reflect_scope.specs.FileIndexes.{indexes_of}
 use Rattle.reflect_scope.specs.Known.{known_of}
 use Rattle.reflect_known.specs.KnownNames.{known_behind}
 use Rattle.reflect_names.specs.NamePass.{faults_along}
-use Rattle.reflect_walk.specs.Batches.{batch_declarations}
+use Rattle.reflect_declarations.specs.Batches.{batch_declarations}
 use Rattle.reflect_passes.specs.NameFaults.{name_faults}
 use Rattle.reflect_passes.proofs.Listed.{names_listed, refused_by}
 use Rattle.reflect_passes.proofs.passes.declare_names.Goals as goal

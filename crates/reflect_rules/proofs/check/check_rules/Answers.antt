@@ -2,7 +2,7 @@ use Rattle.std.proofs.Common.{◌≡◌, ℕ, Option, ◌++◌, map, ap, sym, �
 use Rattle.std.proofs.Math.Path.{fun_ext}
 use Rattle.std.specs.BTreeMap.{get}
 use Rattle.std.specs.Ordering.{nat_cmp}
-use Rattle.reflect_walk.specs.Batches.{batch_declarations}
+use Rattle.reflect_declarations.specs.Batches.{batch_declarations}
 use Rattle.reflect_names.specs.Faults.{fault_view, list_of, place_at, batch_places}
 use Rattle.reflect_names.specs.Names.{Places}
 use Rattle.reflect_rules.specs.Walks.{Place}

@@ -2,7 +2,7 @@ use Rattle.std.proofs.Common.{◌≡◌, ℤ, take}
 use Rattle.std.specs.List.{list_any}
 use Rattle.std.specs.Ordering.{int_cmp}
 use Rattle.std.specs.BTreeSet.{contains}
-use Rattle.reflect_walk.specs.Declarations.{each}
+use Rattle.reflect_declarations.specs.Declarations.{each}
 use Rattle.reflect_rules.specs.Repeats.{is_number, repeat_at}
 use Rattle.reflect_rules.proofs.numbers.repeated.Given as goal
 

@@ -1,6 +1,6 @@
 use Rattle.std.proofs.Common.{◌≡◌, ◌+◌, ap, sym, ◌∙◌, take, length, arith, rules}
-use Rattle.reflect_walk.specs.Declarations.{past_file}
-use Rattle.reflect_walk.specs.Batches.{past_files}
+use Rattle.reflect_declarations.specs.Declarations.{past_file}
+use Rattle.reflect_declarations.specs.Batches.{past_files}
 use Rattle.reflect_walk.proofs.Batches.{past_more, run_file, kept_more, kept_rest}
 use Rattle.reflect_walk.proofs.visit_files.visit_all.Goals as goal
 

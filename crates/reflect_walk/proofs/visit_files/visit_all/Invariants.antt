@@ -1,6 +1,6 @@
 use Rattle.std.proofs.Common.{◌≡◌, ◌+◌, take}
-use Rattle.reflect_walk.specs.Declarations.{Runs}
-use Rattle.reflect_walk.specs.Batches.{past_files, batch_declarations, KeptBy}
+use Rattle.reflect_declarations.specs.Declarations.{Runs}
+use Rattle.reflect_declarations.specs.Batches.{past_files, batch_declarations, KeptBy}
 use Rattle.reflect_walk.proofs.visit_files.visit_all.Given as goal
 
 abbrev pub invariant-turns : goal.invariant-turns

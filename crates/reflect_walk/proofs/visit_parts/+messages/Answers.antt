@@ -1,9 +1,9 @@
 use Rattle.std.proofs.Common.{◌≡◌, ℤ, pos, ap, map, take, length, arith, subst, sym, ◌∙◌, to_z, of_z, w32, Some}
 use Rattle.reflect_scope.specs.Means.{join}
 use Rattle.descriptor_records.specs.declared.message.DescriptorProto.TheViews.{out-DescriptorProto}
-use Rattle.reflect_walk.specs.declared.visit_parts.Offsets.{Offsets}
-use Rattle.reflect_walk.specs.Tree.{text_of, message, parts_of, messages_of, tree_of}
-use Rattle.reflect_walk.specs.Declarations.{Runs, each, entry, one_field, one_enum, one_extension, one_oneof, message_declaration, tree_declarations, trees_declarations, past_tree, past_trees, past_message, past_enums}
+use Rattle.reflect_declarations.specs.declared.offsets.Offsets.{Offsets}
+use Rattle.reflect_declarations.specs.Tree.{text_of, message, parts_of, messages_of, tree_of}
+use Rattle.reflect_declarations.specs.Declarations.{Runs, each, entry, one_field, one_enum, one_extension, one_oneof, message_declaration, tree_declarations, trees_declarations, past_tree, past_trees, past_message, past_enums}
 use Rattle.reflect_walk.proofs.Walks.{run_tree, past_more, runs_append, tree_of-out}
 use Rattle.reflect_walk.proofs.visit_parts.+messages.Goals as goal
 

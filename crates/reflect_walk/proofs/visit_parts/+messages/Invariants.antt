@@ -1,6 +1,6 @@
 use Rattle.std.proofs.Common.{◌≡◌, map, take}
-use Rattle.reflect_walk.specs.Declarations.{Runs, trees_declarations, past_trees}
-use Rattle.reflect_walk.specs.Tree.{tree_of, messages_of}
+use Rattle.reflect_declarations.specs.Declarations.{Runs, trees_declarations, past_trees}
+use Rattle.reflect_declarations.specs.Tree.{tree_of, messages_of}
 use Rattle.reflect_walk.proofs.visit_parts.+messages.Given as goal
 
 abbrev pub invariant-visit_messages-turns : goal.invariant-visit_messages-turns

@@ -1,6 +1,6 @@
 use Rattle.std.proofs.Common.{◌≡◌, pos, [], ap, subst, ◌∙◌, None, length}
-use Rattle.reflect_walk.specs.Tree.{text_of}
-use Rattle.reflect_walk.specs.Declarations.{Runs, each, one_enum, one_service, one_extension, trees_declarations, trees_of, past_trees, past_enums, past_services}
+use Rattle.reflect_declarations.specs.Tree.{text_of}
+use Rattle.reflect_declarations.specs.Declarations.{Runs, each, one_enum, one_service, one_extension, trees_declarations, trees_of, past_trees, past_enums, past_services}
 use Rattle.reflect_walk.proofs.Walks.{runs_append, trees_services}
 use Rattle.reflect_walk.proofs.visit_parts.visit.Goals as goal
 

@@ -1,8 +1,8 @@
 use Rattle.std.proofs.Common.{◌≡◌, ℕ, ℤ, ◌+◌, List, ◌∷◌, ap, arith, subst, ◌∙◌, to_z, of_z, w32}
 use Rattle.reflect_scope.specs.Means.{join}
-use Rattle.reflect_walk.specs.Tree.{text_of}
-use Rattle.reflect_walk.specs.Declarations.{Declaration, Runs, each, entry, one_enum, enum_declaration, one_value}
-use Rattle.reflect_walk.specs.declared.visit_parts.Offsets.{Offsets}
+use Rattle.reflect_declarations.specs.Tree.{text_of}
+use Rattle.reflect_declarations.specs.Declarations.{Declaration, Runs, each, entry, one_enum, enum_declaration, one_value}
+use Rattle.reflect_declarations.specs.declared.offsets.Offsets.{Offsets}
 use Rattle.reflect_walk.proofs.Walks.{run_more}
 use Rattle.reflect_walk.proofs.visit_parts.visit_enums.Goals as goal
 

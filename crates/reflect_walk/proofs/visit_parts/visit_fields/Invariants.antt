@@ -1,5 +1,5 @@
 use Rattle.std.proofs.Common.{take}
-use Rattle.reflect_walk.specs.Declarations.{Runs, each, one_field}
+use Rattle.reflect_declarations.specs.Declarations.{Runs, each, one_field}
 use Rattle.reflect_walk.proofs.visit_parts.visit_fields.Given as goal
 
 abbrev pub invariant-turns : goal.invariant-turns

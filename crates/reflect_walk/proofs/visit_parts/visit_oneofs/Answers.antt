@@ -1,5 +1,5 @@
 use Rattle.std.proofs.Common.{arith, subst}
-use Rattle.reflect_walk.specs.Declarations.{Runs, one_oneof}
+use Rattle.reflect_declarations.specs.Declarations.{Runs, one_oneof}
 use Rattle.reflect_walk.proofs.Walks.{run_more}
 use Rattle.reflect_walk.proofs.visit_parts.visit_oneofs.Goals as goal
 

@@ -1,8 +1,8 @@
 use Rattle.std.proofs.Common.{◌≡◌, ℕ, ℤ, pos, ◌+◌, List, [], ◌∷◌, ap, arith, subst, ◌∙◌}
 use Rattle.reflect_scope.specs.Means.{join}
-use Rattle.reflect_walk.specs.Tree.{text_of}
-use Rattle.reflect_walk.specs.Declarations.{Declaration, Runs, each, entry, one_service, service_declaration, one_method}
-use Rattle.reflect_walk.specs.declared.visit_parts.Offsets.{Offsets}
+use Rattle.reflect_declarations.specs.Tree.{text_of}
+use Rattle.reflect_declarations.specs.Declarations.{Declaration, Runs, each, entry, one_service, service_declaration, one_method}
+use Rattle.reflect_declarations.specs.declared.offsets.Offsets.{Offsets}
 use Rattle.reflect_walk.proofs.Walks.{run_more}
 use Rattle.reflect_walk.proofs.visit_parts.visit_services.Goals as goal
 

@@ -1,5 +1,5 @@
 use Rattle.std.proofs.Common.{arith, subst}
-use Rattle.reflect_walk.specs.Declarations.{Runs, one_value}
+use Rattle.reflect_declarations.specs.Declarations.{Runs, one_value}
 use Rattle.reflect_walk.proofs.Walks.{run_more}
 use Rattle.reflect_walk.proofs.visit_parts.visit_values.Goals as goal
 

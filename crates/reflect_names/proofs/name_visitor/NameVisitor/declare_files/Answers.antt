@@ -1,5 +1,5 @@
 use Rattle.std.proofs.Common.{length}
-use Rattle.reflect_walk.specs.Batches.{batch_declarations}
+use Rattle.reflect_declarations.specs.Batches.{batch_declarations}
 use Rattle.reflect_names.proofs.NameRuns.{ran, kept, kept_files}
 use Rattle.reflect_names.proofs.name_visitor.NameVisitor.declare_files.Goals as goal
 

@@ -1,6 +1,6 @@
 use Rattle.std.proofs.Common.{◌++◌, subst, refl}
-use Rattle.reflect_walk.specs.Declarations.{each}
-use Rattle.reflect_walk.specs.Tree.{parts_of}
+use Rattle.reflect_declarations.specs.Declarations.{each}
+use Rattle.reflect_declarations.specs.Tree.{parts_of}
 use Rattle.reflect_names.specs.Faults.{Adds}
 use Rattle.reflect_names.specs.Names.{extension_range_faults, reserved_range_faults}
 use Rattle.reflect_names.proofs.Added.{adds_on, same_places}

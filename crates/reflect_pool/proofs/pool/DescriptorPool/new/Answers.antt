@@ -1,6 +1,6 @@
 -- A pool without files knows nothing, and nothing is declared in it.
 use Rattle.std.proofs.Common.{◌≡◌, ◌<◌, ℕ, List, [], length, map, ap, sym, subst, ◌∙◌, arith, rules}
-use Rattle.reflect_walk.specs.Batches.{batch_declarations}
+use Rattle.reflect_declarations.specs.Batches.{batch_declarations}
 use Rattle.reflect_known.specs.DeclaredNames.{with_names}
 use Rattle.reflect_known.specs.KnownNames.{nothing_before, known_of_files}
 use Rattle.reflect_tables.specs.Names.{Sort, messages, enums, extensions, services, names_of, message_name, enum_name, extension_name, service_name}

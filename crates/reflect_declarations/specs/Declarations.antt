@@ -9,8 +9,8 @@ use Rattle.descriptor_records.specs.declared.file.FileDescriptorProto.{FileDescr
 use Rattle.descriptor_records.specs.declared.service.ServiceDescriptorProto.{ServiceDescriptorProto}
 use Rattle.descriptor_records.specs.declared.service.MethodDescriptorProto.{MethodDescriptorProto}
 use Rattle.reflect_scope.specs.Means.{join}
-use Rattle.reflect_walk.specs.Tree.{text_of, MessageParts, Message, message, Messages, no_messages, more_messages, messages_of, tree_of}
-use Rattle.reflect_walk.specs.declared.visit_parts.Offsets.{Offsets}
+use Rattle.reflect_declarations.specs.Tree.{text_of, MessageParts, Message, message, Messages, no_messages, more_messages, messages_of, tree_of}
+use Rattle.reflect_declarations.specs.declared.offsets.Offsets.{Offsets}
 
 pub data Body : Type 0 where
   of_file : FileDescriptorProto → Body

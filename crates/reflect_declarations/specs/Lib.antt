@@ -1,0 +1,3 @@
+pub mod Batches
+pub mod Declarations
+pub mod Tree
