@@ -20,7 +20,7 @@ use Rattle.reflect_message.specs.declared.parts.HeldOf.TheViews.{out-ValueOf}
 use Rattle.reflect_message.proofs.Trees.{parts_folded}
 
 -- a value, opened
-abbrev Open : Type 0
+abbrev pub Open : Type 0
 Open = ValueOf-F MessageDescriptor Held Value DynamicMessage Parts
 
 abbrev message_folded : DynamicMessage → ValueTree
@@ -51,7 +51,7 @@ folded m =
 
 -- ---- maps
 
-abbrev entries_in : Open → Option (List (MapKey × Value))
+abbrev pub entries_in : Open → Option (List (MapKey × Value))
 entries_in o = elim o [
   | ValueOf-F.Bool b ↦ None
   | ValueOf-F.I32 z ↦ None
@@ -116,7 +116,7 @@ map_alike v w e = sym (map_told w) ∙ ap is_map e ∙ map_told v
 
 -- ---- lists
 
-abbrev items_in : Open → Option (List Value)
+abbrev pub items_in : Open → Option (List Value)
 items_in o = elim o [
   | ValueOf-F.Bool b ↦ None
   | ValueOf-F.I32 z ↦ None
@@ -156,7 +156,7 @@ list_alike v w e = sym (list_told w) ∙ ap is_list e ∙ list_told v
 
 -- ---- messages
 
-abbrev message_of : Open → Option DynamicMessage
+abbrev pub message_of : Open → Option DynamicMessage
 message_of o = elim o [
   | ValueOf-F.Bool b ↦ None
   | ValueOf-F.I32 z ↦ None
@@ -213,13 +213,13 @@ message_alike v w e m is = by (message_in w) refl where
 
 -- ---- what messages hold
 
-abbrev fields_in_block : HeldOf-F MessageDescriptor Held Value DynamicMessage Parts → List (ℕ × Value)
+abbrev pub fields_in_block : HeldOf-F MessageDescriptor Held Value DynamicMessage Parts → List (ℕ × Value)
 fields_in_block o = elim o [ HeldOf-F.Nothing ↦ [] | HeldOf-F.Block b ↦ b.value.fields ]
 
 abbrev choices_in_block : HeldOf-F MessageDescriptor Held Value DynamicMessage Parts → List (ℕ × ℕ)
 choices_in_block o = elim o [ HeldOf-F.Nothing ↦ [] | HeldOf-F.Block b ↦ b.value.choices.members ]
 
-abbrev extensions_in_block : HeldOf-F MessageDescriptor Held Value DynamicMessage Parts → List (ℕ × Value)
+abbrev pub extensions_in_block : HeldOf-F MessageDescriptor Held Value DynamicMessage Parts → List (ℕ × Value)
 extensions_in_block o = elim o [ HeldOf-F.Nothing ↦ [] | HeldOf-F.Block b ↦ b.value.extensions ]
 
 abbrev unknown_in_block : HeldOf-F MessageDescriptor Held Value DynamicMessage Parts → List (ℕ × Payload)

@@ -4,6 +4,7 @@ pub mod Choosing
 pub mod Copying
 pub mod Defaulting
 pub mod Entries
+pub mod InOrder
 pub mod Known
 pub mod Lengthening
 pub mod Owning

@@ -5,6 +5,7 @@ pub mod Copies
 pub mod Declares
 pub mod Defaults
 pub mod Held
+pub mod InOrder
 pub mod KindTypes
 pub mod Known
 pub mod Lent

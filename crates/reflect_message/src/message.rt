@@ -6,6 +6,7 @@ ghost use Rattle.reflect_message.specs.Contents.{content_of, nothing};
 ghost use Rattle.reflect_message.specs.Copies.{AreCopies};
 ghost use Rattle.reflect_message.specs.Declares.{IsHeldField, IsHeldExtension};
 ghost use Rattle.reflect_message.specs.Held.{fields_of, choices_of, extensions_of, unknown_of};
+ghost use Rattle.reflect_message.specs.InOrder.{IsInOrder};
 ghost use Rattle.reflect_message.specs.Oneofs.{IsExclusive};
 ghost use Rattle.reflect_message.specs.Trees.{held_tree};
 
@@ -71,6 +72,7 @@ impl<'p> DynamicMessage<'p> {
             (λ m. AreCopies (extensions_of self.now) (extensions_of m)) }
         ensures ascending { IfOk result (λ m. IsAscending (fields_of m)
             × IsAscending (extensions_of m)) }
+        ensures in_order { IfOk result (λ m. IsInOrder m) }
         ensures unknown { IfOk result (λ m. unknown_of m ≡ unknown_of self.now) }
     {
         Ok(DynamicMessage {

@@ -1,12 +1,13 @@
 //! What a message holds, apart from its type.
 
-ghost use Rattle.std.specs.Prelude.{◌≡◌, ℕ, [], Some, IfOk, OnOk, OnErr};
+ghost use Rattle.std.specs.Prelude.{◌≡◌, ℕ, [], Some, IfOk, IsTrue, OnOk, OnErr};
 ghost use Rattle.std.specs.Option.{IsSome, unwrap_or};
 ghost use Rattle.reflect_entries.specs.Entries.{IsAscending, Updates, value_at};
 ghost use Rattle.reflect_entries.specs.Members.{first_member_of};
 ghost use Rattle.reflect_entries.specs.Undeclared.{undeclared};
 ghost use Rattle.reflect_message.specs.Copies.{AreCopies};
 ghost use Rattle.reflect_message.specs.Held.{fields_in, choices_in, extensions_in, unknown_in};
+ghost use Rattle.reflect_message.specs.InOrder.{held_in_order, parts_in_order, entries_in_order};
 ghost use Rattle.reflect_pool.specs.FieldsLeft.{field_type};
 ghost use Rattle.reflect_message.specs.Oneofs.{MakesRoom, Changes, Chooses, Unsets};
 ghost use Rattle.reflect_message.specs.Trees.{held_tree, parts_tree};
@@ -39,6 +40,7 @@ impl<'p> Held<'p> {
             (λ copy. AreCopies (extensions_in self.now) (extensions_in copy)) }
         ensures ascending { IfOk result (λ copy. IsAscending (fields_in copy)
             × IsAscending (extensions_in copy)) }
+        ensures in_order { IfOk result (λ copy. IsTrue (held_in_order copy)) }
         ensures unknown { IfOk result (λ copy. unknown_in copy ≡ unknown_in self.now) }
     {
         match self {
@@ -90,6 +92,7 @@ impl<'p> Parts<'p> {
         ensures extensions { IfOk result (λ copy. AreCopies self.now.extensions copy.extensions) }
         ensures ascending { IfOk result (λ copy. IsAscending copy.fields
             × IsAscending copy.extensions) }
+        ensures in_order { IfOk result (λ copy. IsTrue (parts_in_order copy)) }
         ensures unknown { IfOk result (λ copy. undeclared copy.unknown
             ≡ undeclared self.now.unknown) }
     {
@@ -191,6 +194,7 @@ fn entries_clone<'p>(
 ) -> Result<Entries<Value<'p>>, AllocError>
     ensures copies { IfOk result (λ copy. AreCopies entries.now copy) }
     ensures ascending { IfOk result (λ copy. IsAscending copy) }
+    ensures in_order { IfOk result (λ copy. IsTrue (entries_in_order copy)) }
 {
     let mut copy = Entries::new(alloc);
     copy.reserve(entries.len())?;

@@ -1,5 +1,6 @@
-ghost use Rattle.std.specs.Prelude.{◌≡◌, Some, IfOk, IfSome, OnOk, map};
+ghost use Rattle.std.specs.Prelude.{◌≡◌, Some, IfOk, IfSome, IsTrue, OnOk, map};
 ghost use Rattle.reflect_scalar.specs.Keys.{key_view};
+ghost use Rattle.reflect_message.specs.InOrder.{in_order, items_in_order, map_in_order};
 ghost use Rattle.reflect_message.specs.MapKeys.{key_of_value, value_of_key};
 ghost use Rattle.reflect_message.specs.Maps.{PutsCopy};
 ghost use Rattle.reflect_message.specs.Trees.{entry_tree, tree};
@@ -62,7 +63,8 @@ impl<'p> Value<'p> {
     /// A copy.
     #[cycle(clone)]
     pub fn clone(&self) -> Result<Value<'p>, AllocError>
-        ensures { IfOk result (λ copy. tree copy ≡ tree self.now) }
+        ensures content { IfOk result (λ copy. tree copy ≡ tree self.now) }
+        ensures in_order { IfOk result (λ copy. IsTrue (in_order copy)) }
     {
         match self {
             Value::Bool(truth) => Ok(Value::Bool(*truth)),
@@ -82,7 +84,8 @@ impl<'p> Value<'p> {
 
 #[cycle(clone)]
 fn list_clone<'p>(values: &Vec<Value<'p>>) -> Result<Vec<Value<'p>>, AllocError>
-    ensures { IfOk result (λ copy. map tree copy.items ≡ map tree values.now.items) }
+    ensures content { IfOk result (λ copy. map tree copy.items ≡ map tree values.now.items) }
+    ensures in_order { IfOk result (λ copy. IsTrue (items_in_order copy.items)) }
 {
     let mut copy = Vec::with_capacity(*values.allocator(), values.len())?;
     'values: for value in values {
@@ -95,8 +98,9 @@ fn list_clone<'p>(values: &Vec<Value<'p>>) -> Result<Vec<Value<'p>>, AllocError>
 fn map_clone<'p>(
     entries: &BTreeMap<MapKey, Value<'p>>,
 ) -> Result<BTreeMap<MapKey, Value<'p>>, AllocError>
-    ensures { IfOk result (λ copy. map entry_tree copy.entries
+    ensures content { IfOk result (λ copy. map entry_tree copy.entries
         ≡ map entry_tree entries.now.entries) }
+    ensures in_order { IfOk result (λ copy. IsTrue (map_in_order copy.entries)) }
 {
     let mut copy = BTreeMap::emptied(entries)?;
     for (key, value) in entries.iter() {
