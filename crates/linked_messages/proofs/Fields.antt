@@ -1,5 +1,6 @@
 -- Lists, and the keys of maps' entries, among the fields of a batch's messages.
 use Rattle.std.proofs.Common.{◌≡◌, ◌⊎◌, inl, inr, ℕ, ℤ, pos, Bool, true, false, not, cond, ◌==◌, List, [], ◌∷◌, map, Option, None, Some, is_some, unwrap_or, String, refl, sym, ap, ◌∙◌, subst, arith, slice_get, slice_index_or}
+use Rattle.std.proofs.lemmas.Bool.{and_parts}
 use Rattle.std.specs.declared.alloc.Global.{Global}
 use Rattle.std.specs.List.{find}
 use Rattle.descriptor_records.specs.declared.field.FieldDescriptorProto.{FieldDescriptorProto}
@@ -36,7 +37,7 @@ use Rattle.reflect_index.specs.declared.batch.Batch.{Batch}
 use Rattle.reflect_rules.specs.MapEntries.{is_key_type}
 use Rattle.reflect_decode.specs.Refused.{IsKeyKind}
 use Rattle.reflect_index.proofs.Among.{Among, of_all, of_place, get_at}
-use Rattle.reflect_index.proofs.Declared.{both_true, FieldDeclared, field_among, extension_declared, of_along}
+use Rattle.reflect_index.proofs.Declared.{FieldDeclared, field_among, extension_declared, of_along}
 use Rattle.linked_messages.proofs.Defaults.{HasType, IsHeld, typed}
 use Rattle.linked_messages.proofs.Faultless.{references_at, named_suits, key_is_unnamed}
 use Rattle.linked_messages.proofs.Parts.{IsKey, IsPart}
@@ -61,7 +62,7 @@ never_set Required e = absurd (cc e)
 
 may_pack : (s : Syntax) (c : Cardinality) (k : KindType) (o : Option Options)
     → is_packed s c k o ≡ true → fields.is_packable k ≡ true
-may_pack s c k o e = (both_true (fields.is_packable k) _ (both_true (fields.is_repeated c) _ e).1).0
+may_pack s c k o e = (and_parts (fields.is_packable k) _ (and_parts (fields.is_repeated c) _ e).1).0
 
 says_packed : (s : Syntax) (at : List ℤ) (full : List ℕ) (holds : KindType)
     (r : FieldDescriptorProto) (f : FieldType) → fields.Says s at full holds r f → f.packed ≡ true

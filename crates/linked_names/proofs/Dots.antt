@@ -1,5 +1,6 @@
 -- Names without dots, and full names.
 use Rattle.std.proofs.Common.{◌≡◌, ◌⊎◌, inl, inr, ◌&&◌, ◌||◌, ◌++◌, ℕ, Bool, true, false, cond, eqb, List, [], ◌∷◌, refl, sym, ap, ◌∙◌, subst, arith}
+use Rattle.std.proofs.lemmas.Bool.{and_parts}
 use Rattle.std.specs.List.{list_all}
 use Rattle.protox_lex.specs.Class.{is_in}
 use Rattle.protox_lex.specs.declared.class.Class.TheVariants as class
@@ -9,7 +10,6 @@ use Rattle.reflect_scope.proofs.Steps.{has_dot-append}
 use Rattle.text_model.specs.Identifiers.{is_identifier, is_full_name}
 use Rattle.text_model.specs.Printed.{parts}
 use Rattle.text_model.specs.Tree.{FullName}
-use Rattle.reflect_index.proofs.Declared.{both_true}
 
 -- ---- no dot
 
@@ -27,13 +27,13 @@ more_undotted b bs first rest = rw (first, rest) refl
 pub word_undotted : (n : Text) → list_all (is_in class.Word) n ≡ true → has_dot n ≡ false
 word_undotted [] e = refl
 word_undotted (b ∷ bs) e =
-    let both = both_true (is_in class.Word b) (list_all (is_in class.Word) bs) e in
+    let both = and_parts (is_in class.Word b) (list_all (is_in class.Word) bs) e in
     more_undotted b bs (no_dot_in class.Word b refl both.0) (word_undotted bs both.1)
 
 pub identifier_undotted : (n : Text) → is_identifier n ≡ true → has_dot n ≡ false
 identifier_undotted [] e = refl
 identifier_undotted (b ∷ bs) e =
-    let both = both_true (is_in class.Letter b) (list_all (is_in class.Word) bs) e in
+    let both = and_parts (is_in class.Letter b) (list_all (is_in class.Word) bs) e in
     more_undotted b bs (no_dot_in class.Letter b refl both.0) (word_undotted bs both.1)
 
 pub identifier_some : (n : Text) → is_identifier n ≡ true → n ≡ [] → ⊥
@@ -113,13 +113,13 @@ all_more : (test : Text → Bool) (ws : List Text) (w : Text) → list_all test 
     → test w ≡ true → list_all test (ws ++ w ∷ []) ≡ true
 all_more test [] w all e = ap (λ b. b && true) e
 all_more test (x ∷ ws) w all e =
-    let both = both_true (test x) (list_all test ws) all in
+    let both = and_parts (test x) (list_all test ws) all in
     ap (λ b. b && list_all test (ws ++ w ∷ [])) both.0 ∙ all_more test ws w both.1 e
 
 full_more : (p : FullName) (n : Text) → is_full_name p ≡ true → is_identifier n ≡ true
     → is_full_name (with_part p n) ≡ true
 full_more p n full e =
-    let both = both_true (is_identifier p.first) (list_all is_identifier p.others) full in
+    let both = and_parts (is_identifier p.first) (list_all is_identifier p.others) full in
     ap (λ b. b && list_all is_identifier (p.others ++ n ∷ [])) both.0
     ∙ all_more is_identifier p.others n both.1 e
 

@@ -1,6 +1,7 @@
 -- In linked files no two extensions have one message and one number, and so the pass over extensions
 -- finds none whose message and number are taken.
 use Rattle.std.proofs.Common.{◌≡◌, ◌≤◌, ◌+◌, ◌∙◌, ◌||◌, ◌==◌, inl, inr, ℕ, suc, ℤ, pos, negsuc, Bool, true, false, List, [], ◌∷◌, ◌++◌, Option, Some, map, length, slice_get, unwrap_or, ap, sym, subst, refl, arith}
+use Rattle.std.proofs.lemmas.Bool.{and_from, and_parts}
 use Rattle.std.specs.List.{AllZip, Contains, flat_map}
 use Rattle.std.proofs.lemmas.Bool.Decides.{Decides-int_eq}
 use Rattle.descriptor_records.specs.Content.{Text, FileContent}
@@ -31,7 +32,6 @@ use Rattle.reflect_index.proofs.Behind.{get_behind}
 use Rattle.linked_view.proofs.Counts.{bytes_refl}
 use Rattle.linked_view.proofs.Extended.{at_zip, one_place, times_written, writes_key}
 use Rattle.linked_view.proofs.Faults.{both_none, when_from}
-use Rattle.linked_view.proofs.Numbers.{and_to, and_from}
 use Rattle.linked_view.proofs.Places.{contains_get, get_contains, get_less, get_map}
 use Rattle.linked_view.proofs.Telling.{get_before}
 
@@ -121,7 +121,7 @@ module _ (names : List FullName) (fs : List FileContent) (linked : AreLinked fs)
 
 same_key : (k : KeyType) (x : StoredExtension) → pass.has_key k x ≡ true → stored_key x ≡ k
 same_key k x e =
-    let both = and_to (x.extendee == k.0) (x.field.number == k.1) e in
+    let both = and_parts (x.extendee == k.0) (x.field.number == k.1) e in
     let extendee = both.0 in
     let number = both.1 in
     let message : x.extendee ≡ k.0 = grind (arith, extendee) in

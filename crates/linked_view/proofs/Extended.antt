@@ -1,6 +1,7 @@
 -- No two extensions of a pool's records extend one message under one number, where the pool's
 -- entries are those of its records.
 use Rattle.std.proofs.Common.{◌≡◌, ◌≤◌, ◌+◌, ◌∙◌, ℕ, zero, suc, ℤ, Bool, true, false, cond, ◌&&◌, List, [], ◌∷◌, Option, Some, None, map, slice_get, sum_by, unwrap_or, ap, sym, subst, refl, arith}
+use Rattle.std.proofs.lemmas.Bool.{and_parts}
 use Rattle.std.specs.List.{AllZip, flat_map}
 use Rattle.std.proofs.lemmas.Bool.Decides.{Decides-int_eq}
 use Rattle.std.proofs.lemmas.List.Sums.{sum_by-cons, sum_by-append}
@@ -93,11 +94,6 @@ one_place test (z ∷ xs) (suc i) (suc j) x y le e f g h =
     let sum = sum_by-cons (λ q. one_if (test q)) z xs in
     ap suc (one_place test xs i j x y (omega (arith, le, sum)) e f g h)
 
-both_true : (a b : Bool) → (a && b) ≡ true → (a ≡ true) × (b ≡ true)
-both_true true true e = (refl, refl)
-both_true true false e = absurd (cc e)
-both_true false b e = absurd (cc e)
-
 pub dotted_is : (full : Text) (o : Option Text) → is_dotted full o ≡ true → o ≡ Some (46 ∷ full)
 dotted_is full None e = absurd (cc e)
 dotted_is full (Some t) e = ap Some (bytes_same t (46 ∷ full) e)
@@ -153,7 +149,7 @@ module _ (k : Key) where
   is_at : (names : List FullName) (w : WrittenKey) (x : ExtensionType) → writes_key k w ≡ true
       → HasWritten names w x → IsAt names x
   is_at names w x e h =
-      let parts = both_true (is_dotted k.0 w.0) (is_number k.1 w.1) e in
+      let parts = and_parts (is_dotted k.0 w.0) (is_number k.1 w.1) e in
       let same : h.full ≡ k.0 = cc (sym h.extendee ∙ dotted_is k.0 w.0 parts.0) in
       record {
         file = h.file;

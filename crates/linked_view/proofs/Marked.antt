@@ -1,6 +1,7 @@
 -- Which types of maps' entries files declare where they are linked: older ones are declared by
 -- older files, by what is stored of them, and new files do not use them.
 use Rattle.std.proofs.Common.{◌≡◌, ◌<◌, ◌∙◌, ◌&&◌, inl, inr, ℕ, Bool, true, false, is_some, nat_lt, List, ◌++◌, Option, Some, None, map, slice_get, ap, sym, subst, arith}
+use Rattle.std.proofs.lemmas.Bool.{and_parts}
 use Rattle.std.specs.List.{Contains}
 use Rattle.std.proofs.lemmas.List.{length-map}
 use Rattle.std.proofs.lemmas.List.Elements.{Contains-append_left, Contains-append_right}
@@ -30,7 +31,6 @@ use Rattle.schema_view.proofs.Road.{AreLinked}
 use Rattle.linked_view.specs.Entries.{DeclaresEntry, HasDeclaredEntries}
 use Rattle.linked_view.proofs.Defaulted.{both_at, split_at}
 use Rattle.linked_view.proofs.Named.{in_all}
-use Rattle.linked_view.proofs.Numbers.{and_to}
 use Rattle.linked_view.proofs.Places.{get_contains, get_map_cases}
 use Rattle.linked_view.proofs.Shapes.{entry_to}
 use Rattle.linked_view.proofs.Shown.{IsShown}
@@ -132,7 +132,7 @@ module _ (old : PoolType) (w : Linking) (is : IsOf old w) (declared : HasDeclare
       → known full ≡ Some d → d.kind ≡ kind.Message i
       → (nat_lt i w.before.messages && (linked_says t).is_entry i) ≡ true → Unused full new
   older_unused more known stand new before after i full d knows same both =
-      let parts = and_to (nat_lt i w.before.messages) ((linked_says t).is_entry i) both in
+      let parts = and_parts (nat_lt i w.before.messages) ((linked_says t).is_entry i) both in
       let here : slice_get (names_of old messages ++ more) i ≡ Some (full, d.file) =
       (stand full i d.file).0
       (ap (place_in messages) knows ∙ ap (λ k. with_file d (place_of messages k)) same) in

@@ -1,14 +1,8 @@
 -- A number is one of fields for the pass over numbers exactly where it is one.
 use Rattle.std.proofs.Common.{◌≡◌, ◌∙◌, ◌⊎◌, inl, inr, ◌≤ℤ◌, ◌<ℤ◌, ℤ, pos, negsuc, Bool, true, false, not, ◌&&◌, nat_le, ap, sym, refl, arith}
+use Rattle.std.proofs.lemmas.Bool.{and_from, and_parts}
 use Rattle.reflect_rules.specs.Numbers.{is_field_number}
 use Rattle.schema_view.specs.Rules.{IsFieldNumber}
-
-pub and_to : (a b : Bool) → (a && b) ≡ true → (a ≡ true) × (b ≡ true)
-and_to true b e = (refl, e)
-and_to false b e = absurd (cc e)
-
-pub and_from : (a b : Bool) → a ≡ true → b ≡ true → (a && b) ≡ true
-and_from a b e f = ap (λ x. x && b) e ∙ f
 
 pub number_to : (n : ℤ) → is_field_number n ≡ true → IsFieldNumber n
 number_to (negsuc k) e = absurd (cc e)
@@ -23,7 +17,7 @@ number_to (pos k) e = record {
   by true is false other = inr (grind (arith, other))
   by true is true other =
       let inner : (nat_le 19000 k && nat_le k 19999) ≡ true = and_from _ _ is other in
-      let outer = and_to (nat_le 1 k && nat_le k 536870911) (not (nat_le 19000 k && nat_le k 19999)) e in
+      let outer = and_parts (nat_le 1 k && nat_le k 536870911) (not (nat_le 19000 k && nat_le k 19999)) e in
       let wrong : not true ≡ true = sym (ap not inner) ∙ outer.1 in
       absurd (cc wrong)
 

@@ -1,6 +1,7 @@
 -- The pass over references finds nothing wrong exactly where labels and types are those that there
 -- are, and each reference means something.
 use Rattle.std.proofs.Common.{◌≡◌, ◌∙◌, ◌⊎◌, inl, inr, ◌+◌, ◌≤ℤ◌, ◌==◌, eqb, nat_le, ℕ, suc, ℤ, pos, negsuc, Bool, true, false, not, ◌||◌, ◌&&◌, List, [], ◌∷◌, Option, Some, None, String, Global, string_bytes, map, ap, sym, subst, refl, arith}
+use Rattle.std.proofs.lemmas.Bool.{and_from, and_parts}
 use Rattle.std.specs.List.{Contains, AllByRecursion}
 use Rattle.std.proofs.lemmas.List.Elements.{Contains-append_left, Contains-append_right, Contains-append_cases}
 use Rattle.descriptor_records.specs.Content.{Text, text_view, file_view}
@@ -42,7 +43,6 @@ use Rattle.linked_view.proofs.Faults.{none_both, both_none, unless_to, unless_fr
 use Rattle.linked_view.proofs.Known.{next_file}
 use Rattle.linked_view.proofs.Along.{batch_complete, each_on}
 use Rattle.linked_view.proofs.Named.{in_all, all_in, all_split, all_joined, content_to, content_from}
-use Rattle.linked_view.proofs.Numbers.{and_to, and_from}
 use Rattle.linked_view.proofs.Resolved.{agree, unwanted, of_outline, names_to, names_from}
 use Rattle.linked_view.proofs.Resolved as resolved
 use Rattle.linked_view.proofs.Walked.{Seen, seen, seen_body, told, inner_declarations}
@@ -231,7 +231,7 @@ in_three : (o : Option ℤ) (at : Places) (path : List ℤ) → label_faults at 
 in_three None at path e = inl refl
 in_three (Some (negsuc m)) at path e = absurd (cc e)
 in_three (Some (pos m)) at path e =
-    let both = and_to (nat_le 1 m) (nat_le m 3) (unless_to (is_in (pos m) 3) _ e) in
+    let both = and_parts (nat_le 1 m) (nat_le m 3) (unless_to (is_in (pos m) 3) _ e) in
     inr (pos m, refl, grind (arith, both.0), grind (arith, both.1))
 
 three_in : (o : Option ℤ) (at : Places) (path : List ℤ) → HasLabel o → label_faults at path o ≡ []
@@ -266,13 +266,13 @@ scalar_in : (z : ℤ) → is_scalar z ≡ true → is_in z 18 ≡ true
 scalar_in (negsuc m) e = absurd (cc e)
 scalar_in (pos m) e =
     elim (or_cases (nat_le 1 m && nat_le m 9) ((m == 12) || ((m == 13) || (nat_le 15 m && nat_le m 18))) e) [
-      | inl a ↦ (let both = and_to (nat_le 1 m) (nat_le m 9) a in
+      | inl a ↦ (let both = and_parts (nat_le 1 m) (nat_le m 9) a in
           and_from (nat_le 1 m) (nat_le m 18) both.0 (grind (arith, both.1)))
       | inr b ↦ elim (or_cases (m == 12) ((m == 13) || (nat_le 15 m && nat_le m 18)) b) [
         | inl is ↦ and_from (nat_le 1 m) (nat_le m 18) (grind (arith, is)) (grind (arith, is))
         | inr c ↦ elim (or_cases (m == 13) (nat_le 15 m && nat_le m 18) c) [
           | inl is ↦ and_from (nat_le 1 m) (nat_le m 18) (grind (arith, is)) (grind (arith, is))
-          | inr d ↦ (let both = and_to (nat_le 15 m) (nat_le m 18) d in
+          | inr d ↦ (let both = and_parts (nat_le 15 m) (nat_le m 18) d in
               and_from (nat_le 1 m) (nat_le m 18) (grind (arith, both.0)) both.1)
         ]
       ]
@@ -283,7 +283,7 @@ in_scalar (negsuc m) e h = absurd (cc e)
 in_scalar (pos m) e h =
     by (nat_le m 9) refl (eqb m 12) refl (eqb m 13) refl (nat_le 15 m) refl where
       bounds : (nat_le 1 m ≡ true) × (nat_le m 18 ≡ true)
-      bounds = and_to (nat_le 1 m) (nat_le m 18) e
+      bounds = and_parts (nat_le 1 m) (nat_le m 18) e
 
       rest : Bool
       rest = (m == 13) || (nat_le 15 m && nat_le m 18)

@@ -1,6 +1,7 @@
 -- The pass over numbers finds nothing wrong with a declaration exactly where it meets the rules by
 -- itself, by its message, and by what it refers to.
 use Rattle.std.proofs.Common.{◌≡◌, ◌∙◌, inl, inr, ℕ, ℤ, pos, Bool, true, false, cond, not, ◌&&◌, nat_lt, List, [], ◌++◌, Option, Some, None, String, Global, string_bytes, unwrap_or, map, sum_by, ap, sym, subst, refl, arith}
+use Rattle.std.proofs.lemmas.Bool.{and_from, and_parts}
 use Rattle.std.specs.List.{AllByRecursion}
 use Rattle.std.proofs.lemmas.List.Elements.{All-contains}
 use Rattle.descriptor_records.specs.Content.{Text, text_view, field_view}
@@ -31,7 +32,7 @@ use Rattle.linked_view.proofs.Enums.{enum_to, enum_from}
 use Rattle.linked_view.proofs.Faults.{none_both, both_none, unless_to, unless_from, when_to, when_from}
 use Rattle.linked_view.proofs.Messages as fields
 use Rattle.linked_view.proofs.NamedFiles.{place_to, place_from}
-use Rattle.linked_view.proofs.Numbers.{number_to, number_from, and_to, and_from}
+use Rattle.linked_view.proofs.Numbers.{number_to, number_from}
 use Rattle.linked_view.proofs.Repeated.{often, often_seen, once_to, once_from}
 use Rattle.linked_view.proofs.Shapes.{IsTypedField, entry_to, entry_from, shape_to, shape_from}
 use Rattle.linked_view.proofs.Walked.{facts_in, seen_body}
@@ -397,7 +398,7 @@ module _ (at : Places) (path : List ℤ) (name : Text) (m : MessageParts) where
       let inner : not (has_entry_shape m.field && is_one_map used) ≡ false =
       sym (ap (λ b. b && not (has_entry_shape m.field && is_one_map used)) is)
       ∙ when_to (says_entry m.options && not (has_entry_shape m.field && is_one_map used)) _ e in
-      and_to (has_entry_shape m.field) (is_one_map used) (positive _ inner) where
+      and_parts (has_entry_shape m.field) (is_one_map used) (positive _ inner) where
         positive : (b : Bool) → not b ≡ false → b ≡ true
         positive true h = refl
         positive false h = absurd (cc h)

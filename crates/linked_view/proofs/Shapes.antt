@@ -1,6 +1,7 @@
 -- What says that it is the type of a map's entries has their shape for the pass over numbers exactly
 -- where it has it.
 use Rattle.std.proofs.Common.{◌≡◌, ◌∙◌, ◌⊎◌, inl, inr, ℤ, pos, negsuc, Bool, true, false, not, ◌&&◌, ◌||◌, List, [], ◌∷◌, Option, Some, None, option_map, String, Global, string_bytes, bytes_eq, codes, map, ap, sym, refl}
+use Rattle.std.proofs.lemmas.Bool.{and_from, and_parts}
 use Rattle.std.specs.List.{AllByRecursion}
 use Rattle.std.specs.Ordering.{int_eq}
 use Rattle.std.specs.Cmp.Lexicographic.{bytes_decides}
@@ -16,7 +17,6 @@ use Rattle.schema_view.specs.Scalars as view
 use Rattle.schema_view.specs.Rules.{HasType, SaysEntry, IsPart, IsEntry, IsEntryType}
 use Rattle.linked_view.proofs.Counts.{bytes_same}
 use Rattle.linked_view.proofs.Enums.{equal_to, equal_from, said}
-use Rattle.linked_view.proofs.Numbers.{and_to, and_from}
 
 abbrev seen : FieldDescriptorProto → FieldFacts
 seen f = facts_of (field_view f)
@@ -67,8 +67,8 @@ label_from (Some z) (inr e) = let same : z ≡ pos 1 = cc e in (Decides-int_eq z
 
 part_to : (f : FieldDescriptorProto) (t : Text) (n : ℤ) → is_part f t n ≡ true → IsPart (seen f) t n
 part_to f t n e =
-    let rest = and_to (has_name f t && is_equal f.number n) (is_optional f.label) e in
-    let first = and_to (has_name f t) (is_equal f.number n) rest.0 in
+    let rest = and_parts (has_name f t && is_equal f.number n) (is_optional f.label) e in
+    let first = and_parts (has_name f t) (is_equal f.number n) rest.0 in
     record {
       name = name_to f.name f t refl first.0;
       number = equal_to f.number n first.1;
@@ -132,10 +132,10 @@ both_to : (k v : FieldDescriptorProto) → IsTypedField k → are_key_and_value 
 both_to k v typed e =
     let key = is_part k (codes "key") (pos 1) in
     let value = is_part v (codes "value") (pos 2) in
-    let last = and_to (key && value && is_key_type k.field_type)
+    let last = and_parts (key && value && is_key_type k.field_type)
     (not (share_oneof k.oneof_index v.oneof_index)) e in
-    let third = and_to (key && value) (is_key_type k.field_type) last.0 in
-    let first = and_to key value third.0 in
+    let third = and_parts (key && value) (is_key_type k.field_type) last.0 in
+    let first = and_parts key value third.0 in
     record {
       key = part_to k (codes "key") (pos 1) first.0;
       value = part_to v (codes "value") (pos 2) first.1;

@@ -18,7 +18,7 @@ use Rattle.reflect_scalar.specs.FieldTypes.{extension_type}
 use Rattle.reflect_tables.specs.Types.{FieldType, extension_at, type_of_field}
 use Rattle.message_view.specs.Shaped.{Fits, IsShaped, IsInShape, Shaped}
 use Rattle.message_view.specs.Sound.{IsFieldNumber, IsNotKept, IsSound}
-use Rattle.message_view.proofs.Fields.{extension_owned, owned}
+use Rattle.message_view.proofs.Fields.{extension_owned, its_place, owned}
 
 -- under a number stands what stood there, or nothing
 abbrev StaysOrGoes : List (ℕ × Value) → List (ℕ × Value) → ℕ → Type 0
@@ -55,11 +55,8 @@ nothing_shaped levels m empty = subst (IsShaped (Shaped levels) m.descriptor) (s
 })
 
 module _ (inner : DynamicMessage → Type 0) (d : MessageDescriptor) (sound : IsSound d.pool.now) where
-  its_place : (f : FieldDescriptor) → Owns d f → type_of_field d.pool.now d.index f.index ≡ field_type f
-  its_place f h = ap (λ j. type_of_field d.pool.now j f.index) (sym h.0.0) ∙ ap (λ p. type_of_field p f.message.index f.index) (sym h.0.1)
-
   field_number : (f : FieldDescriptor) → Owns d f → IsFieldNumber (field_type f).number
-  field_number f owns = subst (λ (g : FieldType). IsFieldNumber g.number) (its_place f owns) (sound.numbers.fields d.index f.index owns.1.0)
+  field_number f owns = subst (λ (g : FieldType). IsFieldNumber g.number) (its_place d f owns) (sound.numbers.fields d.index f.index owns.1.0)
 
   extension_number : (x : ExtensionDescriptor) → OwnsExtension d x → IsFieldNumber (extension_type x).number
   extension_number x owns = subst (λ p. IsFieldNumber (extension_at p x.index).field.number) (sym owns.0.0) (sound.numbers.extensions x.index owns.1.0)
@@ -67,7 +64,7 @@ module _ (inner : DynamicMessage → Type 0) (d : MessageDescriptor) (sound : Is
   -- fields and extensions have different numbers
   numbers_differ : (f : FieldDescriptor) (x : ExtensionDescriptor) → Owns d f → OwnsExtension d x → (field_type f).number ≢ (extension_type x).number
   numbers_differ f x owns extends same =
-      let free = subst (λ (g : FieldType). IsNotKept d.pool.now d.index g.number) (its_place f owns) (sound.apart.free d.index f.index owns.1.0) in
+      let free = subst (λ (g : FieldType). IsNotKept d.pool.now d.index g.number) (its_place d f owns) (sound.apart.free d.index f.index owns.1.0) in
       let its_own = ap (λ p. (extension_at p x.index).field.number) (sym extends.0.0) in
       let its_type = ap (λ p. (extension_at p x.index).extendee) (sym extends.0.0) ∙ extends.0.1 in
       sound.apart.kept x.index extends.1.0

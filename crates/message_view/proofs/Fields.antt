@@ -1,5 +1,6 @@
 -- The fields and extensions that messages of a type hold, by their numbers.
 use Rattle.std.proofs.Common.{◌≡◌, inl, inr, ℕ, ◌==◌, ◌&&◌, Bool, true, false, true≢false, cond, List, Option, None, Some, unwrap_or, refl, sym, ap, ◌∙◌, subst, arith}
+use Rattle.std.proofs.lemmas.Bool.{and_parts}
 use Rattle.std.specs.List.{find}
 use Rattle.std.specs.Option.{option_and_then}
 use Rattle.reflect_tables.specs.Finding.{IsFirst}
@@ -28,23 +29,22 @@ unfloated pool f is h = true≢false (sym (floats_held pool f h) ∙ is)
 numbered : (n : ℕ) → Tells (λ (f : FieldType). f.number ≡ n) (λ f. f.number == n)
 numbered n = record { says = λ f e. grind (arith, e); passes = λ f e. grind (arith, e) }
 
-both : (a b : Bool) → a && b ≡ true → (a ≡ true) × (b ≡ true)
-both true b e = (refl, e)
-both false b e = absurd (cc e)
-
 extending : (i n : ℕ) → Tells (λ (x : ExtensionType). (x.extendee ≡ i) × (x.field.number ≡ n)) (λ x. (x.extendee == i) && (x.field.number == n))
 extending i n = record {
-  says = λ x e. let two = both (x.extendee == i) (x.field.number == n) e in (grind (arith, two.0), grind (arith, two.1));
+  says = λ x e. let two = and_parts (x.extendee == i) (x.field.number == n) e in (grind (arith, two.0), grind (arith, two.1));
   passes = λ x h. grind (arith, h.0, h.1);
 }
 
 module _ (m : MessageDescriptor) where
+  -- a field as its type has it
+  pub its_place : (f : FieldDescriptor) → Owns m f → type_of_field m.pool.now m.index f.index ≡ field_type f
+  its_place f h = ap (λ i. type_of_field m.pool.now i f.index) (sym h.0.0) ∙ ap (λ p. type_of_field p f.message.index f.index) (sym h.0.1)
+
   -- a field that has the records of its number is known under it
   pub owned : (f : FieldDescriptor) → Owns m f → known_field m.pool.now m.index (field_type f).number ≡ Some (field_type f)
   owned f h =
-      let same : type_of_field m.pool.now m.index f.index ≡ field_type f = ap (λ i. type_of_field m.pool.now i f.index) (sym h.0.0) ∙ ap (λ p. type_of_field p f.message.index f.index) (sym h.0.1) in
       ap (option_and_then (if_held m.pool.now)) (field_found m.pool.now m.index (field_type f).number f.index h.1)
-      ∙ ap (if_held m.pool.now) same
+      ∙ ap (if_held m.pool.now) (its_place f h)
       ∙ kept m.pool.now (field_type f) (subst (λ p. HoldsFloats p (field_type f) → ⊥) h.0.1 h.2)
 
   -- and a field that is known has them
@@ -92,6 +92,13 @@ module _ (m : MessageDescriptor) where
   -- a number of which neither is known is not declared
   pub none_owned : (n : ℕ) → known_field m.pool.now m.index n ≡ None → NoField m n
   none_owned n none f owns is = cc (sym (owned f owns) ∙ ap (known_field m.pool.now m.index) is ∙ none)
+
+  -- and of a number that no field has none is known
+  pub none_known : (n : ℕ) → NoField m n → known_field m.pool.now m.index n ≡ None
+  none_known n none = by (known_field m.pool.now m.index n) refl where
+    by : (o : Option FieldType) → known_field m.pool.now m.index n ≡ o → o ≡ None
+    by None is = refl
+    by (Some g) is = let f = known n g is in absurd (none f.0 f.1 (ap (λ (t : FieldType). t.number) f.2 ∙ f.3))
 
   pub not_declared : (n : ℕ) → known_field m.pool.now m.index n ≡ None → known_extension m.pool.now m.index n ≡ None → IsDeclared m n → ⊥
   not_declared n none also (inl h) = none_owned n none h.0 h.1 h.2

@@ -1,5 +1,6 @@
 -- Members of oneofs, and which records of a field stand.
 use Rattle.std.proofs.Common.{◌≡◌, ◌≢◌, ℕ, ◌==◌, ◌&&◌, ◌||◌, not, Bool, true, false, true≢false, cond, List, [], ◌∷◌, map, Option, None, Some, refl, sym, ap, ◌∙◌, arith}
+use Rattle.std.proofs.lemmas.Bool.{and_parts}
 use Rattle.std.specs.Option.{option_and_then}
 use Rattle.reflect_tables.specs.Types.{FieldType}
 use Rattle.reflect_pool.specs.FieldsLeft.{field_type}
@@ -32,10 +33,6 @@ read n r rs e = by (r.0 == n) refl where
   by : (b : Bool) → (r.0 == n) ≡ b → (r.0 ≢ n) × (keeps.numbered n rs ≡ [])
   by true is = absurd (cc (sym (ap (λ b. cond b (r ∷ keeps.numbered n rs) (keeps.numbered n rs)) is) ∙ e))
   by false is = ((λ same. absurd (grind (arith, is, same))), sym (ap (λ b. cond b (r ∷ keeps.numbered n rs) (keeps.numbered n rs)) is) ∙ e)
-
-both_of : (a b : Bool) → (a && b) ≡ true → (a ≡ true) × (b ≡ true)
-both_of true b e = (refl, e)
-both_of false b e = absurd (cc e)
 
 -- what two oneofs share
 same_some : (o p : Option ℕ) → same_oneof o p ≡ true → (a : ℕ) × (o ≡ Some a) × (p ≡ Some a)
@@ -80,7 +77,7 @@ module _ (m : MessageDescriptor) (type : ℕ → Option Field) (told : (n : ℕ)
   pub rival_is_sibling : (f : FieldDescriptor) → Owns m f → (q : ℕ) → rival type (field_type f).number q ≡ true → IsSibling m f q
   rival_is_sibling f owns q e =
       let n = (field_type f).number in
-      let two = both_of (not (q == n)) (same_oneof (oneof_of (type n)) (oneof_of (type q))) e in
+      let two = and_parts (not (q == n)) (same_oneof (oneof_of (type n)) (oneof_of (type q))) e in
       let shared = same_some (oneof_of (type n)) (oneof_of (type q)) two.1 in
       let g = in_oneof q shared.0 shared.2 in
       (shared.0, g.0, g.1, g.2, apart q n two.0, sym (oneof_told f owns) ∙ shared.1, sym (oneof_told g.0 g.1) ∙ ap (λ q. oneof_of (type q)) g.2 ∙ shared.2) where

@@ -1,5 +1,6 @@
 -- What is printed of a message, number by number, and entry by entry.
 use Rattle.std.proofs.Common.{◌≡◌, ◌<◌, inl, inr, ℕ, length, ◌-◌, ◌^◌, ◌==◌, ◌&&◌, ◌||◌, Bool, true, false, true≢false, cond, not, List, [], ◌∷◌, ◌++◌, map, Option, Some, None, option_map, refl, sym, ap, ◌∙◌, subst, arith, ◌≤◌, append-nil}
+use Rattle.std.proofs.lemmas.Bool.{and_parts}
 use Rattle.std.specs.List.{AllByRecursion, cons_option, find, filter, filter_map, flat_map}
 use Rattle.std.specs.Option.{option_and_then}
 use Rattle.std.proofs.lemmas.Grind.{flat_map-append}
@@ -120,10 +121,6 @@ passes test (y ∷ ys) x e = by (test y) refl (passes test ys x) where
   by : (b : Bool) → test y ≡ b → (find test ys ≡ Some x → test x ≡ true) → test x ≡ true
   by true is later = let same : y ≡ x = cc (sym (ap (λ b. cond b (Some y) (find test ys)) is) ∙ e) in ap test (sym same) ∙ is
   by false is later = later (sym (ap (λ b. cond b (Some y) (find test ys)) is) ∙ e)
-
-both : (a b : Bool) → a && b ≡ true → (a ≡ true) × (b ≡ true)
-both true b e = (refl, e)
-both false b e = absurd (cc e)
 
 module _ (p skip as_declared : Bool) (m : DynamicMessage) (present : skip ≡ false → HaveMessagePresence m.descriptor.pool.now) (apart : AreApart m.descriptor.pool.now) (ranged : HaveFieldNumbers m.descriptor.pool.now) (fields_have : HaveEntryFields m.descriptor.pool.now) (values : HaveValues m.descriptor.pool.now) (lists : HaveLists m.descriptor.pool.now) (names : HaveNames m.descriptor.pool.now)
     (decoded : Name → Text → Option Message) (inner : Inner) (rounds levels : ℕ) (shaped : IsShaped (Shaped levels) m.descriptor (content_of m)) where
@@ -275,7 +272,7 @@ module _ (p skip as_declared : Bool) (m : DynamicMessage) (present : skip ≡ fa
         ∙ within (holds_floats pool y.field) refl
         ∙ sym (ap (λ o. of_extension o (known_extension pool i n) v ++ map pair (filter_map known_one rest)) none) where
           number : y.field.number ≡ n
-          number = let two = both (y.extendee == i) (y.field.number == n) (passes (extends n) pool.extensions y is) in grind (arith, two.1)
+          number = let two = and_parts (y.extendee == i) (y.field.number == n) (passes (extends n) pool.extensions y is) in grind (arith, two.1)
 
           known_as : known_extension pool i n ≡ if_held pool y.field
           known_as = ap (option_and_then (λ (x : ExtensionType). if_held pool x.field)) is
@@ -320,7 +317,7 @@ module _ (p skip as_declared : Bool) (m : DynamicMessage) (present : skip ≡ fa
     by None none None is rest = subst (λ o. put (option_and_then (if_set pool e.1) (option_map (λ (x : ExtensionType). x.field) o))) (sym is) rest
     by None none (Some y) is rest = subst (λ o. put (option_and_then (if_set pool e.1) (option_map (λ (x : ExtensionType). x.field) o))) (sym is) (within (forms.is_set pool y.field (forms.form_of e.1))) where
       number : y.field.number ≡ e.0
-      number = let two = both (y.extendee == i) (y.field.number == e.0) (passes (extends e.0) pool.extensions y is) in grind (arith, two.1)
+      number = let two = and_parts (y.extendee == i) (y.field.number == e.0) (passes (extends e.0) pool.extensions y is) in grind (arith, two.1)
 
       behind : (o : Option FieldType) → known_extension pool i e.0 ≡ o → AllByRecursion (fits levels) (cons_option (option_map (λ f. extension pool f e.1) o) (others es))
       behind None there = rest
@@ -549,7 +546,7 @@ module _ (p skip as_declared : Bool) (m : DynamicMessage) (present : skip ≡ fa
         by : (b : Bool) → not skip && not f.presence ≡ b → Put b es → Ends l
         by false e put = skips l (filled_so ∙ ap (λ b. cond b (filled f ∷ []) []) e) rest put
         by true e put =
-            let two = both (not skip) (not f.presence) e in
+            let two = and_parts (not skip) (not f.presence) e in
             puts whole l (stand f) (filled_so ∙ ap (λ b. cond b (filled f ∷ []) []) e) (gives (off f.presence two.1) (off skip two.0)) rest put
 
       first_off : (a b : Bool) → a || b ≡ false → a ≡ false

@@ -1,5 +1,6 @@
 -- Messages still suit their types when a number is put or unset.
 use Rattle.std.proofs.Common.{◌≡◌, ◌⊎◌, inl, inr, ◌<◌, ◌^◌, ℕ, ◌==◌, ◌&&◌, not, Bool, true, false, true≢false, Option, None, Some, refl, sym, ap, ◌∙◌, subst, arith}
+use Rattle.std.proofs.lemmas.Bool.{and_parts}
 use Rattle.protobuf_model.specs.Coded.{SuitsType}
 use Rattle.protobuf_model.specs.Typed.{IsHeldOf, IsTyped, IsTypedBy}
 use Rattle.protobuf_model.specs.Types.{Field, Name, Types, oneof_of, rival, same_oneof}
@@ -7,10 +8,6 @@ use Rattle.protobuf_model.specs.Values.{Held, Message, absent}
 use Rattle.set_view.specs.Puts.{IsPut, IsUnset}
 
 -- ---- oneofs
-both : (a b : Bool) → (a && b) ≡ true → (a ≡ true) × (b ≡ true)
-both true b e = (refl, e)
-both false b e = absurd (cc e)
-
 shared : (o p : Option ℕ) → same_oneof o p ≡ true → same_oneof p o ≡ true
 shared (Some a) (Some b) e = let same : a ≡ b = grind (arith, e) in grind (arith, same)
 shared (Some a) None e = absurd (cc e)
@@ -26,7 +23,7 @@ apart a b e = by (a == b) refl where
 -- a rival of a number has it for a rival
 rivals_of : (type : ℕ → Option Field) (a b : ℕ) → rival type a b ≡ true → rival type b a ≡ true
 rivals_of type a b e =
-    let two = both (not (b == a)) (same_oneof (oneof_of (type a)) (oneof_of (type b))) e in
+    let two = and_parts (not (b == a)) (same_oneof (oneof_of (type a)) (oneof_of (type b))) e in
     ap (λ c. c && same_oneof (oneof_of (type b)) (oneof_of (type a))) (apart a b two.0)
     ∙ shared (oneof_of (type a)) (oneof_of (type b)) two.1
 

@@ -1,5 +1,6 @@
 -- What adding values to a list does to what is seen of a message.
 use Rattle.std.proofs.Common.{◌≡◌, ◌⊎◌, ℕ, ◌&&◌, not, Bool, true, false, cond, List, [], ◌∷◌, ◌++◌, map, Option, Some, None, option_map, unwrap_or, refl, sym, ap, ◌∙◌, subst}
+use Rattle.std.proofs.lemmas.Bool.{and_parts}
 use Rattle.std.specs.Prelude.{IfSome, length, ◌<◌}
 use mathlib.Core.Path.{fun_ext}
 use Rattle.protobuf_model.specs.Types.{Field, one, many, keyed, oneof_of}
@@ -27,7 +28,6 @@ use Rattle.message_view.proofs.Seen.{list_seen}
 use Rattle.message_view.proofs.Sound.{named}
 use Rattle.text_view.specs.Targets.{target_field}
 use Rattle.text_view.proofs.Apart.{extension_there, no_field_there}
-use Rattle.text_view.proofs.Called.{both}
 use Rattle.text_view.proofs.Kept.{added_changes, gone, many_list, others_stay}
 use Rattle.text_view.proofs.Owned.{OwnsTarget, named_target, pool_is, under_target}
 use Rattle.text_view.proofs.Puts.{extension_changed, field_changed}
@@ -93,7 +93,7 @@ not_so false e = refl
 
 -- a list has many values
 pub list_of_many : (pool : PoolType) (f : FieldType) → holds_list pool f ≡ true → (is_repeated f.cardinality ≡ true) × (holds_map pool f ≡ false)
-list_of_many pool f e = let two = both (is_repeated f.cardinality) (not (holds_map pool f)) e in (two.0, not_so (holds_map pool f) two.1)
+list_of_many pool f e = let two = and_parts (is_repeated f.cardinality) (not (holds_map pool f)) e in (two.0, not_so (holds_map pool f) two.1)
 
 pub label_many : (pool : PoolType) (f : FieldType) → holds_list pool f ≡ true → label_of pool f ≡ many f.packed
 label_many pool f e =

@@ -1,5 +1,6 @@
 -- The type that keeps a message of any type, told by a test.
 use Rattle.std.proofs.Common.{◌≡◌, ◌↔◌, ℕ, ◌&&◌, not, Bool, true, false, Option, Some, None, refl, ap, ◌∙◌}
+use Rattle.std.proofs.lemmas.Bool.{and_from, and_parts}
 use Rattle.std.specs.Prelude.{codes}
 use Rattle.std.specs.Str.{bytes_eq}
 use Rattle.std.proofs.lemmas.Slice.Eq.{bytes_eq-Decides}
@@ -10,13 +11,6 @@ use Rattle.reflect_pool.specs.declared.message.MessageDescriptor.{MessageDescrip
 use Rattle.reflect_any.specs.Any.{shares, StandsAlone, IsLone, IsAny}
 use Rattle.reflect_message.specs.Known.{numbered_field}
 use Rattle.text_view.specs.Schemas.{is_string, is_bytes, is_lone, is_any_at}
-
-both : (a b : Bool) → a && b ≡ true → (a ≡ true) × (b ≡ true)
-both true b e = (refl, e)
-both false b e = absurd (cc e)
-
-each : (a b : Bool) → a ≡ true → b ≡ true → a && b ≡ true
-each a b e f = ap (λ a. a && b) e ∙ f
 
 not_so : (b : Bool) → not b ≡ true → b ≡ false
 not_so true e = absurd (cc e)
@@ -34,34 +28,34 @@ module _ (pool : PoolType) (i : ℕ) (kind : KindType) (test : KindType → Bool
   lone_told : test kind ≡ true → (o : Option FieldType) → IsLone pool i kind o → is_lone pool i test o ≡ true
   lone_told is None h = absurd h
   lone_told is (Some f) h =
-      each (test f.kind) (not (holds_list pool f) && (not (holds_map pool f) && not (shares pool i f))) (ap test h.0 ∙ is)
-      (each (not (holds_list pool f)) (not (holds_map pool f) && not (shares pool i f)) (ap not h.1.0)
-      (each (not (holds_map pool f)) (not (shares pool i f)) (ap not h.1.1) (ap not h.1.2)))
+      and_from (test f.kind) (not (holds_list pool f) && (not (holds_map pool f) && not (shares pool i f))) (ap test h.0 ∙ is)
+      (and_from (not (holds_list pool f)) (not (holds_map pool f) && not (shares pool i f)) (ap not h.1.0)
+      (and_from (not (holds_map pool f)) (not (shares pool i f)) (ap not h.1.1) (ap not h.1.2)))
 
   told_lone : ((k : KindType) → test k ≡ true → k ≡ kind) → (o : Option FieldType) → is_lone pool i test o ≡ true → IsLone pool i kind o
   told_lone only None e = absurd (cc e)
   told_lone only (Some f) e =
-      let one = both (test f.kind) (not (holds_list pool f) && (not (holds_map pool f) && not (shares pool i f))) e in
-      let two = both (not (holds_list pool f)) (not (holds_map pool f) && not (shares pool i f)) one.1 in
-      let three = both (not (holds_map pool f)) (not (shares pool i f)) two.1 in
+      let one = and_parts (test f.kind) (not (holds_list pool f) && (not (holds_map pool f) && not (shares pool i f))) e in
+      let two = and_parts (not (holds_list pool f)) (not (holds_map pool f) && not (shares pool i f)) one.1 in
+      let three = and_parts (not (holds_map pool f)) (not (shares pool i f)) two.1 in
       let alone : StandsAlone pool i f = (not_so (holds_list pool f) two.0, not_so (holds_map pool f) three.0, not_so (shares pool i f) three.1) in
       (only f.kind one.0, alone)
 
 module _ (m : MessageDescriptor) where
   pub any_told : IsAny m → is_any_at m.pool.now m.index ≡ true
   any_told h =
-      each (bytes_eq (type_at m.pool.now m.index).full_name (codes "google.protobuf.Any"))
+      and_from (bytes_eq (type_at m.pool.now m.index).full_name (codes "google.protobuf.Any"))
       (is_lone m.pool.now m.index is_string (numbered_field m.pool.now m.index 1) && is_lone m.pool.now m.index is_bytes (numbered_field m.pool.now m.index 2))
       ((bytes_eq-Decides (type_at m.pool.now m.index).full_name (codes "google.protobuf.Any")).1 h.0)
-      (each (is_lone m.pool.now m.index is_string (numbered_field m.pool.now m.index 1)) (is_lone m.pool.now m.index is_bytes (numbered_field m.pool.now m.index 2))
+      (and_from (is_lone m.pool.now m.index is_string (numbered_field m.pool.now m.index 1)) (is_lone m.pool.now m.index is_bytes (numbered_field m.pool.now m.index 2))
       (lone_told m.pool.now m.index types.string is_string refl (numbered_field m.pool.now m.index 1) h.1)
       (lone_told m.pool.now m.index types.bytes is_bytes refl (numbered_field m.pool.now m.index 2) h.2))
 
   pub told_any : is_any_at m.pool.now m.index ≡ true → IsAny m
   told_any e =
-      let one = both (bytes_eq (type_at m.pool.now m.index).full_name (codes "google.protobuf.Any"))
+      let one = and_parts (bytes_eq (type_at m.pool.now m.index).full_name (codes "google.protobuf.Any"))
       (is_lone m.pool.now m.index is_string (numbered_field m.pool.now m.index 1) && is_lone m.pool.now m.index is_bytes (numbered_field m.pool.now m.index 2)) e in
-      let two = both (is_lone m.pool.now m.index is_string (numbered_field m.pool.now m.index 1)) (is_lone m.pool.now m.index is_bytes (numbered_field m.pool.now m.index 2)) one.1 in (
+      let two = and_parts (is_lone m.pool.now m.index is_string (numbered_field m.pool.now m.index 1)) (is_lone m.pool.now m.index is_bytes (numbered_field m.pool.now m.index 2)) one.1 in (
         (bytes_eq-Decides (type_at m.pool.now m.index).full_name (codes "google.protobuf.Any")).0 one.0,
         told_lone m.pool.now m.index types.string is_string string_is (numbered_field m.pool.now m.index 1) two.0,
         told_lone m.pool.now m.index types.bytes is_bytes bytes_is (numbered_field m.pool.now m.index 2) two.1,

@@ -1,5 +1,6 @@
 -- The fields and extensions that a text names are those of the names of a pool's types.
 use Rattle.std.proofs.Common.{◌≡◌, inl, inr, ℕ, ◌<◌, suc, zero, [], ◌∷◌, ◌==◌, ◌&&◌, Bool, true, false, true≢false, cond, List, map, Option, Some, None, unwrap_or, refl, sym, ap, ◌∙◌, subst, arith}
+use Rattle.std.proofs.lemmas.Bool.{and_parts}
 use Rattle.std.proofs.lemmas.Slice.Eq.{bytes_eq-Decides}
 use Rattle.std.specs.Prelude.{slice_index_or, length}
 use Rattle.std.specs.Char.{to_ascii_lowercase}
@@ -45,10 +46,6 @@ module _ {X : Type 0} (P : X → Type 0) (test : X → Bool) (t : Tells P test) 
       at : test x ≡ false → IsFirst P xs None → (k : ℕ) (d : X) → k < suc (length xs) → P (slice_index_or (x ∷ xs) k d) → ⊥
       at f rest zero d lt h = true≢false (sym (t.passes x h) ∙ f)
       at f rest (suc k) d lt h = rest k d (omega (arith, lt)) h
-
-pub both : (a b : Bool) → a && b ≡ true → (a ≡ true) × (b ≡ true)
-both true b e = (refl, e)
-both false b e = absurd (cc e)
 
 -- a kind that is a message type of the name
 type_called : (pool : PoolType) (w : Text) (k : KindType) (i : ℕ) → k ≡ types.message i → (type_at pool i).name ≡ w → is_type_called pool w k ≡ true
@@ -133,7 +130,7 @@ module _ (m : MessageDescriptor) (w : Text) where
 
   called_group : (f : FieldDescriptor) → f.message ≡ m → (field_type f).group && is_type_called m.pool.now w (field_type f).kind ≡ true → IsGroupCalled f w
   called_group f is e =
-      let two = both (field_type f).group (is_type_called m.pool.now w (field_type f).kind) e in
+      let two = and_parts (field_type f).group (is_type_called m.pool.now w (field_type f).kind) e in
       let type = called_type m.pool.now w (field_type f).kind two.1 in
       (two.0, type.0, type.1, ap (λ (d : MessageDescriptor). (type_at d.pool.now type.0).name) is ∙ type.2)
 
@@ -215,7 +212,7 @@ module _ (m : MessageDescriptor) (w : Text) where
 
   named_so : Tells (λ (x : ExtensionType). (x.extendee ≡ m.index) × (x.field.full_name ≡ w)) (λ x. (x.extendee == m.index) && bytes_eq x.field.full_name w)
   named_so = record {
-    says = λ x e. let two = both (x.extendee == m.index) (bytes_eq x.field.full_name w) e in (grind (arith, two.0), (bytes_eq-Decides x.field.full_name w).0 two.1);
+    says = λ x e. let two = and_parts (x.extendee == m.index) (bytes_eq x.field.full_name w) e in (grind (arith, two.0), (bytes_eq-Decides x.field.full_name w).0 two.1);
     passes = λ x h. let a : (x.extendee == m.index) ≡ true = grind (arith, h.0) in ap (λ b. b && bytes_eq x.field.full_name w) a ∙ (bytes_eq-Decides x.field.full_name w).1 h.1;
   }
 

@@ -1,5 +1,6 @@
 -- Fields that a pool tells to hold floating-point numbers do.
 use Rattle.std.proofs.Common.{◌≡◌, ◌⊎◌, inl, inr, ℕ, ◌==◌, ◌&&◌, ◌||◌, Bool, true, false, true≢false, Option, Some, None, refl, sym, ap, ◌∙◌, arith}
+use Rattle.std.proofs.lemmas.Bool.{and_parts}
 use Rattle.reflect_tables.specs.Types.{PoolType, FieldType, KindType, type_at, type_of_field, no_field}
 use Rattle.reflect_tables.specs.Types as types
 use Rattle.reflect_pool.specs.Shapes.{holds_map}
@@ -30,15 +31,11 @@ either : (a b : Bool) → a || b ≡ true → (a ≡ true) ⊎ (b ≡ true)
 either true b e = inl refl
 either false b e = inr e
 
-both : (a b : Bool) → a && b ≡ true → (a ≡ true) × (b ≡ true)
-both true b e = (refl, e)
-both false b e = absurd (cc e)
-
 held_floats : (pool : PoolType) (f : FieldType) → holds_floats pool f ≡ true → HoldsFloats pool f
 held_floats pool f e = by (either (is_float f.kind) (holds_map pool f && has_floats pool f.kind) e) where
   by : (is_float f.kind ≡ true) ⊎ (holds_map pool f && has_floats pool f.kind ≡ true) → HoldsFloats pool f
   by (inl h) = inl (kind_float f.kind h)
-  by (inr h) = let two = both (holds_map pool f) (has_floats pool f.kind) h in inr (two.0, told_floats pool f.kind two.1)
+  by (inr h) = let two = and_parts (holds_map pool f) (has_floats pool f.kind) h in inr (two.0, told_floats pool f.kind two.1)
 
 abbrev pub WholeOrFloat : PoolType → FieldType → Type 0
 WholeOrFloat pool f =

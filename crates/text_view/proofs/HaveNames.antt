@@ -1,5 +1,6 @@
 -- Names that are spelled as in sources are found by texts, and can be spelled by them.
 use Rattle.std.proofs.Common.{◌≡◌, ◌<◌, ◌==◌, ◌&&◌, ℕ, ℤ, Bool, true, false, cond, [], ◌∷◌, length, Option, Some, None, option_map, unwrap_or, refl, sym, ap, ◌∙◌, subst}
+use Rattle.std.proofs.lemmas.Bool.{and_parts}
 use Rattle.std.specs.Prelude.{bytes_eq}
 use Rattle.std.specs.List.{filter, find}
 use Rattle.std.specs.Option.{option_and_then}
@@ -26,7 +27,6 @@ use Rattle.text_view.specs.Names.{entry_name, extension_called, kind_at, kind_na
 use Rattle.text_view.specs.Schemas.{schema_of}
 use Rattle.text_view.specs.SourceNames.{HasSourceNames}
 use Rattle.text_view.proofs.Apart.{only_one}
-use Rattle.text_view.proofs.Called.{both}
 use Rattle.text_view.proofs.Puts.{is_number, number_is}
 use Rattle.text_view.proofs.EntryTypes.{entry_type, map_label}
 use Rattle.text_view.proofs.Numbered.{listed, numbered_once}
@@ -44,7 +44,7 @@ IsCalled i w x = (x.extendee ≡ i) × (x.field.full_name ≡ w)
 
 extension_told : (i : ℕ) (w : Text) → Tells (IsCalled i w) (λ (x : ExtensionType). (x.extendee == i) && bytes_eq x.field.full_name w)
 extension_told i w = record {
-  says = λ x e. let two = both (x.extendee == i) (bytes_eq x.field.full_name w) e in (is_number x.extendee i two.0, (bytes_eq-Decides x.field.full_name w).0 two.1);
+  says = λ x e. let two = and_parts (x.extendee == i) (bytes_eq x.field.full_name w) e in (is_number x.extendee i two.0, (bytes_eq-Decides x.field.full_name w).0 two.1);
   passes = λ x h. ap (λ b. b && bytes_eq x.field.full_name w) (number_is x.extendee i h.0) ∙ (bytes_eq-Decides x.field.full_name w).1 h.1;
 }
 

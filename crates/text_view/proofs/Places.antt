@@ -1,5 +1,6 @@
 -- Where the fields and the extensions that messages hold stand, and what is found by their names.
 use Rattle.std.proofs.Common.{◌≡◌, ◌<◌, ◌==◌, ◌&&◌, ℕ, Bool, true, false, cond, length, map, Option, Some, None, unwrap_or, refl, sym, ap, ◌∙◌, subst}
+use Rattle.std.proofs.lemmas.Bool.{and_parts}
 use Rattle.std.specs.Prelude.{bytes_eq}
 use Rattle.std.specs.Char.{to_ascii_lowercase}
 use Rattle.std.specs.List.{find}
@@ -15,7 +16,7 @@ use Rattle.message_view.proofs.Fields.{held_is}
 use Rattle.text_view.specs.Names.{first_called, if_plain, is_type_called, if_group_called, held_or, field_called}
 use Rattle.text_view.specs.SourceNames.{HaveOwnNames, IsGroupField, HasSourceNames}
 use Rattle.text_view.proofs.Apart.{only_one}
-use Rattle.text_view.proofs.Called.{both, called}
+use Rattle.text_view.proofs.Called.{called}
 use Rattle.text_view.proofs.Puts.{is_number, number_is}
 use Rattle.text_view.proofs.Floats.{has_number}
 
@@ -60,7 +61,7 @@ Extends i n x = (x.extendee ≡ i) × (x.field.number ≡ n)
 
 extends_told : (i n : ℕ) → Tells (Extends i n) (λ (x : ExtensionType). (x.extendee == i) && (x.field.number == n))
 extends_told i n = record {
-  says = λ x e. let two = both (x.extendee == i) (x.field.number == n) e in (is_number x.extendee i two.0, is_number x.field.number n two.1);
+  says = λ x e. let two = and_parts (x.extendee == i) (x.field.number == n) e in (is_number x.extendee i two.0, is_number x.field.number n two.1);
   passes = λ x h. ap (λ b. b && (x.field.number == n)) (number_is x.extendee i h.0) ∙ number_is x.field.number n h.1;
 }
 

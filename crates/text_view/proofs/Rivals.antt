@@ -30,7 +30,7 @@ use Rattle.text_model.specs.Value.{is_set, has_rival}
 use Rattle.message_view.specs.Types.{field_at}
 use Rattle.message_view.specs.Views.{content_view, view}
 use Rattle.message_view.proofs.Accepting.{not_float}
-use Rattle.message_view.proofs.Fields.{owned, owned_whole}
+use Rattle.message_view.proofs.Fields.{its_place, owned, owned_whole}
 use Rattle.message_view.proofs.Oneofs.{oneof_told, rival_is_sibling}
 use Rattle.message_view.specs.Sound.{AreApart, IsSound}
 use Rattle.text_view.specs.Holds.{HoldsKinds}
@@ -127,10 +127,6 @@ any_number : (test : ℕ → Bool) (q : ℕ) → 0 < q → q < 2 ^ 29 → test q
 unfolding field_numbers
 any_number test q low high is = any_at test q 1 (2 ^ 29 - 1) (omega (arith, low)) (omega (arith, high)) is
 
--- a field as its type has it
-pub place_of : (d : MessageDescriptor) (g : FieldDescriptor) → Owns d g → type_of_field d.pool.now d.index g.index ≡ field_type g
-place_of d g h = ap (λ j. type_of_field d.pool.now j g.index) (sym h.0.0) ∙ ap (λ p. type_of_field p g.message.index g.index) (sym h.0.1)
-
 module _ (m : DynamicMessage) (sound : IsSound m.descriptor.pool.now) (kinds : HoldsKinds m) where
   abbrev pool : PoolType
   pool = m.descriptor.pool.now
@@ -175,7 +171,7 @@ module _ (m : DynamicMessage) (sound : IsSound m.descriptor.pool.now) (kinds : H
       (record {
         message = refl;
         first = subst (λ n. IsFirst (λ (t : FieldType). t.number ≡ n) fields (Some g.index)) is h.1;
-        held = subst (λ t. HoldsFloats pool t → ⊥) (sym (place_of m.descriptor g h)) (subst (λ p. HoldsFloats p (field_type g) → ⊥) h.0.1 h.2);
+        held = subst (λ t. HoldsFloats pool t → ⊥) (sym (its_place m.descriptor g h)) (subst (λ p. HoldsFloats p (field_type g) → ⊥) h.0.1 h.2);
       })
 
   -- whether a field is set is seen
@@ -218,12 +214,12 @@ module _ (m : DynamicMessage) (sound : IsSound m.descriptor.pool.now) (kinds : H
       shared = its.1 ∙ ap Some (one_oneof pool sound.apart i its.0 mine.0 sibling.0 its.2 mine.2)
 
       among : IsAmong mine.0 fields (type_of_field pool i g.index)
-      among = member_there mine.0 fields g.index sibling.2.1.0 (ap (λ (t : FieldType). t.oneof) (place_of m.descriptor g sibling.2) ∙ shared)
+      among = member_there mine.0 fields g.index sibling.2.1.0 (ap (λ (t : FieldType). t.oneof) (its_place m.descriptor g sibling.2) ∙ shared)
 
       told : TellsMeant (HasNumber q) m false
       told =
           let all = subst (λ (ms : List FieldType). All (λ (t : FieldType). TellsMeant (HasNumber t.number) m false) ms) (members_here f owns mine.0) (alone mine.0 mine.1) in
-          subst (λ k. TellsMeant (HasNumber k) m false) (ap (λ (t : FieldType). t.number) (among.2 no_field ∙ place_of m.descriptor g sibling.2) ∙ sibling.3) (all among.0 no_field among.1)
+          subst (λ k. TellsMeant (HasNumber k) m false) (ap (λ (t : FieldType). t.number) (among.2 no_field ∙ its_place m.descriptor g sibling.2) ∙ sibling.3) (all among.0 no_field among.1)
 
       by : TellsMeant (HasNumber q) m false → view m q ≡ absent
       by (inr h) = absurd (owns_meant q g sibling.2 sibling.3 h.0)
@@ -273,8 +269,8 @@ module _ (m : DynamicMessage) (sound : IsSound m.descriptor.pool.now) (kinds : H
           let number = meant_number x.number g h.1 in
           let place : g.index ≡ stands.0 =
           sound.apart.fields i g.index stands.0 its_own.1.0 stands.1
-          (ap (λ (t : FieldType). t.number) (place_of m.descriptor g its_own) ∙ number ∙ ap (λ (t : FieldType). t.number) (sym stands.2)) in
-          let same : field_type g ≡ x = sym (place_of m.descriptor g its_own) ∙ ap (type_of_field pool i) place ∙ stands.2 in
+          (ap (λ (t : FieldType). t.number) (its_place m.descriptor g its_own) ∙ number ∙ ap (λ (t : FieldType). t.number) (sym stands.2)) in
+          let same : field_type g ≡ x = sym (its_place m.descriptor g its_own) ∙ ap (type_of_field pool i) place ∙ stands.2 in
           let in_one : (field_type g).oneof ≡ Some o.index = ap (λ (t : FieldType). t.oneof) same ∙ stands.3 in
           let small = sound.numbers.fields i stands.0 stands.1 in
           seen x.number (ap (λ k. is_set (view m k)) (sym number) ∙ sym (h.2 ∙ seen_set g its_own))

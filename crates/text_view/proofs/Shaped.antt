@@ -29,14 +29,13 @@ use Rattle.reflect_format.specs.Takes.{target_type}
 use Rattle.reflect_format.specs.declared.target.Target.{Target}
 use Rattle.reflect_format.specs.declared.target.Target.TheVariants as targets
 use Rattle.text_model.specs.Tree.{ScalarValue}
-use Rattle.message_view.proofs.Fields.{known, owned, extension_owned}
+use Rattle.message_view.proofs.Fields.{extension_owned, its_place, none_known, owned}
 use Rattle.message_view.specs.Shaped.{Fits, FitsAs, FitsOne, IsShaped}
 use Rattle.message_view.specs.Sound.{AreApart, HaveFieldNumbers, IsFieldNumber}
 use Rattle.text_view.proofs.Apart.{no_field_there}
 use Rattle.text_view.proofs.Kept.{LeavesOthers, StaysOrGoes}
 use Rattle.text_view.proofs.Owned.{OwnsTarget}
 use Rattle.text_view.proofs.Puts.{is_number, message_is, number_is}
-use Rattle.text_view.proofs.Rivals.{place_of}
 use Rattle.text_view.proofs.Set.{singled}
 
 -- what a message of the type at a place holds, where `inner` holds of the messages inside
@@ -48,13 +47,6 @@ pub record IsShapely (inner : DynamicMessage → Type 0) (pool : PoolType) (i : 
   pub extension : (n : ℕ) (f : FieldType) → known_field pool i n ≡ None → known_extension pool i n ≡ Some f → (v : Value) → value_at c.extensions n ≡ Some v → Fits inner pool f v
   pub apart : (n : ℕ) (f : FieldType) → known_field pool i n ≡ Some f → value_at c.extensions n ≡ None
   pub unowned : (n : ℕ) → known_field pool i n ≡ None → value_at c.fields n ≡ None
-
--- no field has the records of a number
-none_known : (d : MessageDescriptor) (n : ℕ) → NoField d n → known_field d.pool.now d.index n ≡ None
-none_known d n none = by (known_field d.pool.now d.index n) refl where
-  by : (o : Option FieldType) → known_field d.pool.now d.index n ≡ o → o ≡ None
-  by None e = refl
-  by (Some g) e = let f = known d n g e in absurd (none f.0 f.1 (ap (λ (t : FieldType). t.number) f.2 ∙ f.3))
 
 pub shaped : (inner : DynamicMessage → Type 0) (d : MessageDescriptor) (c : Content) → IsShapely inner d.pool.now d.index c → IsShaped inner d c
 shaped inner d c h = record {
@@ -83,7 +75,7 @@ blank_shapely inner pool i c empty = subst (IsShapely inner pool i) (sym empty) 
 
 -- the number of a target is one that fields may have
 pub target_number : (d : MessageDescriptor) → HaveFieldNumbers d.pool.now → (t : Target) → OwnsTarget d t → IsFieldNumber (target_type t).number
-target_number d proper (targets.Field f) owns = subst (λ (g : FieldType). IsFieldNumber g.number) (place_of d f owns) (proper.fields d.index f.index owns.1.0)
+target_number d proper (targets.Field f) owns = subst (λ (g : FieldType). IsFieldNumber g.number) (its_place d f owns) (proper.fields d.index f.index owns.1.0)
 target_number d proper (targets.Extension x) owns = subst (λ p. IsFieldNumber (extension_at p x.index).field.number) (sym owns.0.0) (proper.extensions x.index owns.1.0)
 
 -- under one number more stands a value

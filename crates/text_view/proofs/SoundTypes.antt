@@ -1,5 +1,6 @@
 -- The types of a sound pool are sound types of a schema.
 use Rattle.std.proofs.Common.{◌≡◌, not, ℕ, ℤ, Bool, true, false, cond, List, [], ◌∷◌, zero, suc, Option, Some, None, option_map, unwrap_or, refl, sym, ap, ◌∙◌, subst, FitsSigned, codes}
+use Rattle.std.proofs.lemmas.Bool.{and_parts}
 use Rattle.std.specs.Int.{w32}
 use Rattle.std.specs.List.{AllByRecursion, find}
 use Rattle.std.specs.Option.{option_and_then}
@@ -21,7 +22,6 @@ use Rattle.message_view.proofs.Fields.{held_is}
 use Rattle.text_view.specs.Names.{entry_name, kind_at, kind_name, names_of, number_in}
 use Rattle.text_view.specs.Schemas.{is_any_at, is_bytes, is_lone, is_string, schema_of}
 use Rattle.text_view.proofs.Adds.{not_so}
-use Rattle.text_view.proofs.Called.{both}
 use Rattle.text_view.proofs.Entries.{whole_field}
 use Rattle.text_view.specs.SourceNames.{HasSourceNames}
 use Rattle.text_view.proofs.EntryTypes.{defaults_small, map_label, part_holds, parts_named}
@@ -57,9 +57,9 @@ module _ (pool : PoolType) (sound : IsSound pool) where
     by : (o : Option FieldType) → numbered_field pool i n ≡ o → is_lone pool i test o ≡ true → HoldsScalar k (field_at pool i n)
     by None is h = absurd (cc h)
     by (Some f) is h =
-        let first = both (test f.kind) _ h in
-        let second = both (not (holds_list pool f)) _ first.1 in
-        let third = both (not (holds_map pool f)) _ second.1 in
+        let first = and_parts (test f.kind) _ h in
+        let second = and_parts (not (holds_list pool f)) _ first.1 in
+        let third = and_parts (not (holds_map pool f)) _ second.1 in
         let kind = is_kind f.group f.kind first.0 in
         let no_map = not_so (holds_map pool f) third.0 in
         let known = ap (option_and_then (if_held pool)) is ∙ whole_field pool f kind.1 no_map in
@@ -75,8 +75,8 @@ module _ (pool : PoolType) (sound : IsSound pool) where
 
   any_holds : (i : ℕ) → is_any_at pool i ≡ true → HoldsScalar string (field_at pool i 1) × HoldsScalar bytes (field_at pool i 2)
   any_holds i e =
-      let parts = both (bytes_eq (type_at pool i).full_name (codes "google.protobuf.Any")) _ e in
-      let two = both (is_lone pool i is_string (numbered_field pool i 1)) _ parts.1 in
+      let parts = and_parts (bytes_eq (type_at pool i).full_name (codes "google.protobuf.Any")) _ e in
+      let two = and_parts (is_lone pool i is_string (numbered_field pool i 1)) _ parts.1 in
       (lone_holds i 1 is_string string string_kind two.0, lone_holds i 2 is_bytes bytes bytes_kind two.1)
 
   module _ (i n : ℕ) (f : Field) (e : field_at pool i n ≡ Some f) where

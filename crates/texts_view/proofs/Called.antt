@@ -1,12 +1,12 @@
 -- The fields and extensions that a text names, by a pool and by the view of its records.
 use Rattle.std.proofs.Common.{◌≡◌, ◌∙◌, ◌⊎◌, inl, inr, ℕ, ℤ, pos, negsuc, Bool, true, false, not, ◌&&◌, ◌==◌, cond, List, ◌∷◌, Option, Some, None, bytes_eq, is_some, length, map, slice_get, ap, sym, subst, refl, arith}
+use Rattle.std.proofs.lemmas.Bool.{and_parts}
 use Rattle.std.specs.Char.{to_ascii_lowercase}
 use Rattle.std.specs.List.{Contains, find}
 use Rattle.std.specs.Option.{option_and_then, option_map}
 use Rattle.std.proofs.lemmas.Slice.Eq.{bytes_eq-Decides}
 use Rattle.descriptor_records.specs.Content.{Text, FieldContent, FileContent, file_view}
 use Rattle.protobuf_model.specs.Types.{Name}
-use Rattle.reflect_index.proofs.Declared.{both_true}
 use Rattle.reflect_tables.specs.Types.{ExtensionType, FieldType, MessageType, PoolType}
 use Rattle.schema_view.specs.Declarations.{Body, Declaration, FieldFacts, declarations, facts_of, of_message, of_field, of_oneof, of_enum, of_value, of_service, of_method, of_extension}
 use Rattle.schema_view.specs.Fields.{is_group}
@@ -327,7 +327,7 @@ module _ (p : PoolType) (l : AreLinked (map file_view p.records)) (tells : Tells
         ≡ option_map (λ f. f.number) (pool.extension_called p i w)
     by (Some x) e =
         let h = found_there (bears_full i w) p.extensions x e in
-        let both = both_true (x.extendee == i) (bytes_eq x.field.full_name w) h.1 in
+        let both = and_parts (x.extendee == i) (bytes_eq x.field.full_name w) h.1 in
         let a = both.0 in
         let place : x.extendee ≡ i = grind (arith, a) in
         entry_found m.full_name i w x h.0 ((bytes_eq-Decides x.field.full_name w).0 both.1) m at refl
@@ -349,7 +349,7 @@ module _ (p : PoolType) (l : AreLinked (map file_view p.records)) (tells : Tells
         → extension_called V s w ≡ option_map (λ f. f.number) (pool.extension_called p i w)
     by (Some x) e =
         let h = found_there (bears_full i w) p.extensions x e in
-        let both = both_true (x.extendee == i) (bytes_eq x.field.full_name w) h.1 in
+        let both = and_parts (x.extendee == i) (bytes_eq x.field.full_name w) h.1 in
         let a = both.0 in
         let place : x.extendee ≡ i = grind (arith, a) in
         let m = extendee_there p l tells values entries declared names extensions x h.0 in

@@ -1,5 +1,6 @@
 -- The extensions of a message and a number, by the view of records and by a pool's entries.
 use Rattle.std.proofs.Common.{◌≡◌, ◌≤◌, ◌∙◌, ◌⊎◌, inl, inr, ℕ, ℤ, pos, negsuc, Bool, true, false, ◌&&◌, ◌==◌, cond, List, [], ◌∷◌, Option, Some, None, length, map, slice_get, sum_by, unwrap_or, ap, sym, subst, refl, arith}
+use Rattle.std.proofs.lemmas.Bool.{and_parts}
 use Rattle.std.specs.List.{Contains, find, flat_map}
 use Rattle.std.specs.Option.{option_and_then, option_map}
 use Rattle.std.proofs.lemmas.Bool.Decides.{Decides-int_eq}
@@ -7,7 +8,6 @@ use Rattle.std.proofs.lemmas.Slice.Eq.{bytes_eq-Decides}
 use Rattle.descriptor_records.specs.Content.{Text, FieldContent, FileContent, file_view}
 use Rattle.reflect_fields.specs.Fields.{natural}
 use Rattle.reflect_index.proofs.Among.{of_find}
-use Rattle.reflect_index.proofs.Declared.{both_true}
 use Rattle.reflect_tables.specs.Names.{FullName, enums, message_name, messages, names_of}
 use Rattle.reflect_tables.specs.Types.{ExtensionType, FieldType, MessageType, PoolType}
 use Rattle.schema_view.specs.Declarations.{Body, Declaration, declarations, of_message, of_field, of_oneof, of_enum, of_value, of_service, of_method, of_extension}
@@ -63,7 +63,7 @@ pub record HasKey (k : Key) (b : Body) : Type 0 where
 
 key_is : (k : Key) (b : Body) → has_key k b ≡ true → HasKey k b
 key_is k (of_extension x) e =
-    let both = both_true (is_dotted k.0 x.extendee) (is_number k.1 x.number) e in
+    let both = and_parts (is_dotted k.0 x.extendee) (is_number k.1 x.number) e in
     record {
       content = x;
       body = refl;
@@ -272,7 +272,7 @@ module _ (p : PoolType) (l : AreLinked (map file_view p.records)) (tells : Tells
   parts : (i n : ℕ) (x : ExtensionType) → is_sought i n x ≡ true
       → (x.extendee ≡ i) × (x.field.number ≡ n)
   parts i n x is =
-      let both = both_true (x.extendee == i) (x.field.number == n) is in
+      let both = and_parts (x.extendee == i) (x.field.number == n) is in
       let a = both.0 in
       let b = both.1 in
       (grind (arith, a), grind (arith, b))
