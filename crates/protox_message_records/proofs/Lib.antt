@@ -1,3 +1,4 @@
+pub mod Items
 pub mod Messages
 pub mod OneRecord
 pub mod Oneofs

@@ -1,8 +1,10 @@
 -- Types that are put behind others.
-use Rattle.std.proofs.Common.{◌≡◌, ◌∙◌, ◌++◌, List, [], ◌∷◌, map, ap, sym, subst, append_assoc}
+use Rattle.std.proofs.Common.{◌≡◌, ◌∙◌, ◌<◌, ◌+◌, ◌++◌, ℕ, List, [], ◌∷◌, map, take, length, get_or, ap, sym, subst, append_assoc}
 use Rattle.std.proofs.lemmas.List.{append-nil, map_push}
+use Rattle.std.specs.List.{flat_map}
 use Rattle.descriptor_records.specs.Content.{MessageContent, message_view, messages_of}
 use Rattle.descriptor_records.specs.declared.message.DescriptorProto.{DescriptorProto}
+use Rattle.protox_field_records.proofs.Loops.{next}
 use Rattle.protox_message_records.specs.MessageRecords.{Adds, AreTypes, Declared, IsType}
 use Rattle.protox_tree.specs.declared.types.Syntax.{Syntax}
 
@@ -26,3 +28,14 @@ adds_pushed s t ts old new x pushed one is =
 
 pub adds_next : (s : Syntax) (ts us : List Declared) (xs ys zs : List MessageContent) → Adds s ts xs ys → Adds s us ys zs → Adds s (ts ++ us) xs zs
 adds_next s ts us xs ys zs a b before h = subst (λ vs. AreTypes s vs (messages_of zs)) (append_assoc before ts us) (b (before ++ ts) (a before h))
+
+-- items whose types are added, one more of them, and one that declares none
+module _ {A : Type 0} (s : Syntax) (f : A → List Declared) (xs : List A) (i : ℕ) (x : A) where
+  pub adds_item : (us : List Declared) → i < length xs → x ≡ get_or xs i x → f x ≡ us → (old made new : List MessageContent) → Adds s (flat_map f (take i xs)) old made → Adds s us made new → Adds s (flat_map f (take (i + 1) xs)) old new
+  adds_item us lt is at old made new before adds =
+      subst (λ ts. Adds s ts old new) (sym (next f xs i x lt is ∙ ap (λ ys. flat_map f (take i xs) ++ ys) at))
+      (adds_next s (flat_map f (take i xs)) us old made new before adds)
+
+  pub passes_item : i < length xs → x ≡ get_or xs i x → f x ≡ [] → (old new : List MessageContent) → Adds s (flat_map f (take i xs)) old new → Adds s (flat_map f (take (i + 1) xs)) old new
+  passes_item lt is at old new =
+      subst (λ ts. Adds s ts old new) (sym (next f xs i x lt is ∙ ap (λ ys. flat_map f (take i xs) ++ ys) at ∙ append-nil (flat_map f (take i xs))))
