@@ -1,2 +1,4 @@
+mod Extended
+mod Listed
 mod Suited
 mod Viewed

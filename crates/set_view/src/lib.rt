@@ -1,5 +1,6 @@
-//! Laws of messages whose fields and extensions are set, cleared and taken, in the words of the
-//! model. It has no code.
+//! Laws of messages whose fields and extensions are set, cleared and taken, and whose lists take
+//! further values, in the words of the model. It has no code.
 #![tactic(auto)]
 
 pub mod laws;
+pub mod lists;
