@@ -1,4 +1,6 @@
 mod Extended
+mod Given
 mod Listed
+mod Mapped
 mod Suited
 mod Viewed
