@@ -5,3 +5,4 @@
 pub mod laws;
 pub mod lists;
 pub mod maps;
+pub mod meant;
