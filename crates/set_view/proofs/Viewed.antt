@@ -1,5 +1,5 @@
 -- What is set and unset in a message, as the view of it has it.
-use Rattle.std.proofs.Common.{◌≡◌, ℕ, ◌==◌, ◌&&◌, not, Bool, true, false, true≢false, List, [], Option, None, Some, option_map, refl, sym, ap, ◌∙◌}
+use Rattle.std.proofs.Common.{◌≡◌, ◌≢◌, ℕ, ◌==◌, ◌&&◌, not, Bool, true, false, true≢false, List, [], Option, None, Some, option_map, refl, sym, ap, ◌∙◌}
 use Rattle.protobuf_model.specs.Coded.{SuitsType}
 use Rattle.protobuf_model.specs.Meaning.{payloads}
 use Rattle.protobuf_model.specs.Typed.{IsTyped}
@@ -8,7 +8,7 @@ use Rattle.protobuf_model.specs.Values.{Held, Message, absent}
 use Rattle.reflect_entries.specs.Entries.{value_at}
 use Rattle.reflect_message.specs.Contents.{Content, content_of, nothing}
 use Rattle.reflect_message.specs.Declares.{NoField, Owns, OwnsExtension}
-use Rattle.reflect_message.specs.Held.{UpdatesExtension, UpdatesField, extensions_of, fields_of, unknown_of}
+use Rattle.reflect_message.specs.Held.{Same, UpdatesExtension, UpdatesField, extensions_of, fields_of, unknown_of}
 use Rattle.reflect_message.specs.Known.{known_extension, known_field}
 use Rattle.reflect_message.specs.Names.{DynamicMessage, Value}
 use Rattle.reflect_message.specs.Oneofs.{IsExclusive, IsSibling, SetsField}
@@ -83,7 +83,7 @@ module _ (old new : DynamicMessage) (type : new.descriptor ≡ old.descriptor) w
       ∙ ap (seen d n (value_at (fields_of old) n) (value_at (extensions_of old) n)) unknown ∙ sym (view_at old n)
 
   -- under that of a field
-  of_field : (f : FieldDescriptor) → Owns d f → (o : Option Value) → value_at (fields_of new) (field_type f).number ≡ o
+  pub of_field : (f : FieldDescriptor) → Owns d f → (o : Option Value) → value_at (fields_of new) (field_type f).number ≡ o
       → view new (field_type f).number ≡ held_in d.pool.now (field_type f) (option_map content_view o)
   of_field f owns o is =
       let n = (field_type f).number in
@@ -91,7 +91,7 @@ module _ (old new : DynamicMessage) (type : new.descriptor ≡ old.descriptor) w
       ∙ ap (λ k. by_fields d n k (known_extension d.pool.now d.index n) o (value_at (extensions_of new) n) (unknown_of new)) (owned d f owns)
 
   -- and under that of an extension
-  of_extension : (x : ExtensionDescriptor) → OwnsExtension d x → NoField d (extension_type x).number → (o : Option Value) → value_at (extensions_of new) (extension_type x).number ≡ o
+  pub of_extension : (x : ExtensionDescriptor) → OwnsExtension d x → NoField d (extension_type x).number → (o : Option Value) → value_at (extensions_of new) (extension_type x).number ≡ o
       → view new (extension_type x).number ≡ held_in d.pool.now (extension_type x) (option_map content_view o)
   of_extension x owns none o is =
       let n = (extension_type x).number in
@@ -123,28 +123,39 @@ module _ (old new : DynamicMessage) (sound : IsSound old.descriptor.pool.now) (t
   told : (n : ℕ) → fields n ≡ field_at its.pool.now its.index n
   told n = named its.pool.now sound.names its.index n its.in_range
 
-  pub field_put : IsExclusive old → (f : FieldDescriptor) → Owns its f → (v : Value) → SetsField old new f v
-      → IsPut fields (field_type f).number (held_in its.pool.now (field_type f) (Some (content_view v))) (view old) (view new)
-  field_put exclusive f owns v sets = record {
-    here = of_field old new type f owns (Some v) sets.here;
+  -- under the number of a field stands something, and under those of other members of its oneof nothing
+  pub field_holds : (f : FieldDescriptor) → Owns its f → (o : Option Value) → value_at (fields_of new) (field_type f).number ≡ o
+      → ((q : ℕ) → IsSibling its f q → value_at (fields_of new) q ≡ None)
+      → ((q : ℕ) → q ≢ (field_type f).number → (IsSibling its f q → ⊥) → Same (fields_of old) (fields_of new) q)
+      → extensions_of new ≡ extensions_of old → unknown_of new ≡ unknown_of old
+      → IsPut fields (field_type f).number (held_in its.pool.now (field_type f) (option_map content_view o)) (view old) (view new)
+  field_holds f owns o under unset stay extensions unknown = record {
+    here = of_field old new type f owns o under;
     rivals = λ q is. gone q (rival_is_sibling its fields told f owns q is);
     others = λ q other is. stays old new type q
-        (sets.others owns exclusive q other (λ sibling. true≢false (sym (sibling_is_rival its fields told f owns q sibling) ∙ is)))
-        (ap (λ es. value_at es q) sets.extensions) sets.unknown;
+        (stay q other (λ sibling. true≢false (sym (sibling_is_rival its fields told f owns q sibling) ∙ is)))
+        (ap (λ es. value_at es q) extensions) unknown;
   } where
     gone : (q : ℕ) → IsSibling its f q → view new q ≡ absent
     gone q sibling =
         let g = sibling.1 in
         let is = sibling.3 in
         ap (view new) (sym is)
-        ∙ of_field old new type g sibling.2 None (ap (value_at (fields_of new)) is ∙ sets.siblings owns exclusive q sibling)
+        ∙ of_field old new type g sibling.2 None (ap (value_at (fields_of new)) is ∙ unset q sibling)
 
-  pub extension_put : (x : ExtensionDescriptor) → OwnsExtension its x → NoField its (extension_type x).number → (v : Value) → UpdatesExtension old new (extension_type x).number (Some v)
-      → IsPut fields (extension_type x).number (held_in its.pool.now (extension_type x) (Some (content_view v))) (view old) (view new)
-  extension_put x owns none v updates = record {
-    here = of_extension old new type x owns none (Some v) updates.extension.here;
+  pub field_put : IsExclusive old → (f : FieldDescriptor) → Owns its f → (v : Value) → SetsField old new f v
+      → IsPut fields (field_type f).number (held_in its.pool.now (field_type f) (Some (content_view v))) (view old) (view new)
+  field_put exclusive f owns v sets = field_holds f owns (Some v) sets.here (sets.siblings owns exclusive) (sets.others owns exclusive) sets.extensions sets.unknown
+
+  -- the same of an extension
+  pub extension_holds : (x : ExtensionDescriptor) → OwnsExtension its x → NoField its (extension_type x).number → (o : Option Value) → value_at (extensions_of new) (extension_type x).number ≡ o
+      → ((q : ℕ) → q ≢ (extension_type x).number → Same (extensions_of old) (extensions_of new) q)
+      → fields_of new ≡ fields_of old → unknown_of new ≡ unknown_of old
+      → IsPut fields (extension_type x).number (held_in its.pool.now (extension_type x) (option_map content_view o)) (view old) (view new)
+  extension_holds x owns none o under stay same_fields unknown = record {
+    here = of_extension old new type x owns none o under;
     rivals = λ q is. absurd (true≢false (sym is ∙ alone q));
-    others = λ q other is. stays old new type q (ap (λ es. value_at es q) updates.fields) (updates.extension.others q other) updates.unknown;
+    others = λ q other is. stays old new type q (ap (λ es. value_at es q) same_fields) (stay q other) unknown;
   } where
     -- an extension is in no oneof
     no_oneof : oneof_of (fields (extension_type x).number) ≡ None
@@ -159,3 +170,7 @@ module _ (old new : DynamicMessage) (sound : IsSound old.descriptor.pool.now) (t
 
     alone : (q : ℕ) → rival fields (extension_type x).number q ≡ false
     alone q = ap (λ o. not (q == (extension_type x).number) && same_oneof o (oneof_of (fields q))) no_oneof ∙ never (not (q == (extension_type x).number))
+
+  pub extension_put : (x : ExtensionDescriptor) → OwnsExtension its x → NoField its (extension_type x).number → (v : Value) → UpdatesExtension old new (extension_type x).number (Some v)
+      → IsPut fields (extension_type x).number (held_in its.pool.now (extension_type x) (Some (content_view v))) (view old) (view new)
+  extension_put x owns none v updates = extension_holds x owns none (Some v) updates.extension.here updates.extension.others updates.fields updates.unknown

@@ -1,1 +1,3 @@
+pub mod Extends
+pub mod Given
 pub mod Puts

@@ -1,0 +1,5 @@
+use Rattle.set_view.proofs.Listed.{list_in_shape}
+use Rattle.set_view.proofs.lists.extended_lists_leave_the_shape.Goals as goal
+
+pub returns : goal.returns
+returns c = list_in_shape

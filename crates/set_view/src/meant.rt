@@ -1,0 +1,90 @@
+//! Laws of what lists and maps mean that took further values.
+ghost use Rattle.std.specs.Prelude.{◌≡◌, ◌++◌, List, Some, map};
+ghost use Rattle.std.specs.List.{AllByRecursion};
+ghost use Rattle.std.specs.Option.{IsSome};
+ghost use Rattle.protobuf_model.specs.Meaning.{if_any, if_some, items, pairs, put_all};
+ghost use Rattle.reflect_entries.specs.Entries.{value_at};
+ghost use Rattle.reflect_extend.specs.Gives.{Entry};
+ghost use Rattle.reflect_extend.specs.Puts.{PutsEntries};
+ghost use Rattle.reflect_message.specs.Declares.{NoField, Owns, OwnsExtension};
+ghost use Rattle.reflect_message.specs.Held.{extensions_of, fields_of};
+ghost use Rattle.reflect_message.specs.Lists.{Lengthens, items_held};
+ghost use Rattle.reflect_message.specs.Maps.{entries_held};
+ghost use Rattle.reflect_message.specs.Names.{DynamicMessage, Value};
+ghost use Rattle.reflect_message.specs.Oneofs.{IsExclusive};
+ghost use Rattle.reflect_pool.specs.FieldsLeft.{field_type};
+ghost use Rattle.reflect_pool.specs.declared.extension.ExtensionDescriptor.{ExtensionDescriptor};
+ghost use Rattle.reflect_pool.specs.declared.field.FieldDescriptor.{FieldDescriptor};
+ghost use Rattle.reflect_scalar.specs.FieldTypes.{extension_type};
+ghost use Rattle.message_view.specs.Sound.{IsSound};
+ghost use Rattle.message_view.specs.Types.{name_at, types_of};
+ghost use Rattle.message_view.specs.Views.{content_view, view};
+ghost use Rattle.set_view.specs.Extends.{ExtendsExtension, ExtendsField};
+ghost use Rattle.set_view.specs.Given.{AreGiven, GivesKeyed, HasKey, entry_view};
+ghost use Rattle.set_view.specs.Puts.{IsPut};
+
+/// A field that values are put behind holds the list that it held, followed by what the values
+/// mean, the other members of its oneof hold nothing, and nothing else is changed.
+pub fn extended_lists_are_put()
+    ensures { (old new : DynamicMessage) → IsSound old.descriptor.pool.now → IsExclusive old
+        → (f : FieldDescriptor) → Owns old.descriptor f → ExtendsField old new f
+        → (vs : List Value) → IsSome (items_held (value_at (fields_of old) (field_type f).number))
+        → Lengthens (value_at (fields_of old) (field_type f).number)
+        (value_at (fields_of new) (field_type f).number) vs
+        → IsPut (types_of old.descriptor.pool.now
+        (name_at old.descriptor.pool.now old.descriptor.index)) (field_type f).number
+        (if_any (items (view old (field_type f).number) ++ map content_view vs))
+        (view old) (view new) }
+{}
+
+/// So does an extension, under whose number no field stands.
+pub fn extended_list_extensions_are_put()
+    ensures { (old new : DynamicMessage) → IsSound old.descriptor.pool.now
+        → (x : ExtensionDescriptor) → OwnsExtension old.descriptor x
+        → NoField old.descriptor (extension_type x).number → ExtendsExtension old new x
+        → (vs : List Value)
+        → IsSome (items_held (value_at (extensions_of old) (extension_type x).number))
+        → Lengthens (value_at (extensions_of old) (extension_type x).number)
+        (value_at (extensions_of new) (extension_type x).number) vs
+        → IsPut (types_of old.descriptor.pool.now
+        (name_at old.descriptor.pool.now old.descriptor.index)) (extension_type x).number
+        (if_any (items (view old (extension_type x).number) ++ map content_view vs))
+        (view old) (view new) }
+{}
+
+/// A field that entries are put into holds the map that it held, with the entries that the values
+/// give put in one behind the other, each over the one of an equal key, where all keys are of the
+/// map's kind. The other members of its oneof hold nothing, and nothing else is changed.
+pub fn extended_maps_are_put()
+    ensures { (old new : DynamicMessage) → IsSound old.descriptor.pool.now → IsExclusive old
+        → (f : FieldDescriptor) → Owns old.descriptor f → ExtendsField old new f
+        → (before : List Entry)
+        → entries_held (value_at (fields_of old) (field_type f).number) ≡ Some before
+        → AllByRecursion (HasKey old.descriptor.pool.now (field_type f)) before
+        → (vs : List Value)
+        → AllByRecursion (GivesKeyed old.descriptor.pool.now (field_type f)) vs
+        → PutsEntries (value_at (fields_of old) (field_type f).number)
+        (value_at (fields_of new) (field_type f).number) vs
+        → (es : List Entry) × AreGiven vs es × IsPut (types_of old.descriptor.pool.now
+        (name_at old.descriptor.pool.now old.descriptor.index)) (field_type f).number
+        (if_some (put_all (pairs (view old (field_type f).number)) (map entry_view es)))
+        (view old) (view new) }
+{}
+
+/// So does an extension, under whose number no field stands.
+pub fn extended_map_extensions_are_put()
+    ensures { (old new : DynamicMessage) → IsSound old.descriptor.pool.now
+        → (x : ExtensionDescriptor) → OwnsExtension old.descriptor x
+        → NoField old.descriptor (extension_type x).number → ExtendsExtension old new x
+        → (before : List Entry)
+        → entries_held (value_at (extensions_of old) (extension_type x).number) ≡ Some before
+        → AllByRecursion (HasKey old.descriptor.pool.now (extension_type x)) before
+        → (vs : List Value)
+        → AllByRecursion (GivesKeyed old.descriptor.pool.now (extension_type x)) vs
+        → PutsEntries (value_at (extensions_of old) (extension_type x).number)
+        (value_at (extensions_of new) (extension_type x).number) vs
+        → (es : List Entry) × AreGiven vs es × IsPut (types_of old.descriptor.pool.now
+        (name_at old.descriptor.pool.now old.descriptor.index)) (extension_type x).number
+        (if_some (put_all (pairs (view old (extension_type x).number)) (map entry_view es)))
+        (view old) (view new) }
+{}
