@@ -46,28 +46,29 @@ has_number : (n : ℕ) → Tells (λ (f : FieldType). f.number ≡ n) (λ f. f.n
 has_number n = record { says = λ f e. grind (arith, e); passes = λ f e. grind (arith, e) }
 
 -- ---- a field of one value
+module _ (pool : PoolType) (f : FieldType) (one : is_repeated f.cardinality ≡ false) where
+  pub no_map : holds_map pool f ≡ false
+  no_map = ap (λ b. is_entry pool f.kind && (b && not f.group)) one ∙ never (is_entry pool f.kind) where
+    never : (b : Bool) → (b && false) ≡ false
+    never true = refl
+    never false = refl
+
+  pub no_list : holds_list pool f ≡ false
+  no_list = ap (λ b. b && not (holds_map pool f)) one
+
+  -- it is held, where its values are no floating-point numbers
+  pub if_whole : is_float f.kind ≡ false → if_held pool f ≡ Some f
+  if_whole whole =
+      ap (λ b. cond (b || (holds_map pool f && has_floats pool f.kind)) None (Some f)) whole
+      ∙ ap (λ b. cond (b && has_floats pool f.kind) None (Some f)) no_map
+
 module _ (inner : DynamicMessage → Type 0) (pool : PoolType) (f : FieldType) where
   float_fits : (v : Value) → is_float f.kind ≡ true → FitsOne inner pool f v
   float_fits v floats = record { plain = λ type. absurd (no_scalar f.kind floats type); nested = λ type. absurd (no_message f.kind floats type) }
 
   module _ (one : is_repeated f.cardinality ≡ false) where
-    no_map : holds_map pool f ≡ false
-    no_map = ap (λ b. is_entry pool f.kind && (b && not f.group)) one ∙ never (is_entry pool f.kind) where
-      never : (b : Bool) → (b && false) ≡ false
-      never true = refl
-      never false = refl
-
-    no_list : holds_list pool f ≡ false
-    no_list = ap (λ b. b && not (holds_map pool f)) one
-
-    -- it is held, where its values are no floating-point numbers
-    if_whole : is_float f.kind ≡ false → if_held pool f ≡ Some f
-    if_whole whole =
-        ap (λ b. cond (b || (holds_map pool f && has_floats pool f.kind)) None (Some f)) whole
-        ∙ ap (λ b. cond (b && has_floats pool f.kind) None (Some f)) no_map
-
     fits_one : (v : Value) → Fits inner pool f v → FitsOne inner pool f v
-    fits_one v h = subst (λ b. FitsAs inner pool f false b v) no_list (subst (λ b. FitsAs inner pool f b (holds_list pool f) v) no_map h)
+    fits_one v h = subst (λ b. FitsAs inner pool f false b v) (no_list pool f one) (subst (λ b. FitsAs inner pool f b (holds_list pool f) v) (no_map pool f one) h)
 
     -- what it gives to an entry: what it holds, or its default
     module _ (blank : (m : DynamicMessage) → content_of m ≡ nothing → inner m) where
@@ -78,11 +79,11 @@ module _ (inner : DynamicMessage → Type 0) (pool : PoolType) (f : FieldType) w
       }
 
       part_fits : (o : Option Value) → ((u : Value) → o ≡ Some u → FitsOne inner pool f u) → (v : Value) → IsPart pool f o v → FitsOne inner pool f v
-      part_fits None each v h = default_fits v (h.2 no_list no_map)
+      part_fits None each v h = default_fits v (h.2 (no_list pool f one) (no_map pool f one))
       part_fits (Some u) each v h = by (is_set pool f (form_of u)) h where
         by : (b : Bool) → IsHeldOrDefault pool f (cond b (Some u) None) v → FitsOne inner pool f v
         by true k = subst (FitsOne inner pool f) (sym k) (each u refl)
-        by false k = default_fits v (k.2 no_list no_map)
+        by false k = default_fits v (k.2 (no_list pool f one) (no_map pool f one))
 
 -- ---- the entry of a message
 -- no other field has the number of a part
@@ -124,7 +125,7 @@ module _ (inner : DynamicMessage → Type 0) (blank : (m : DynamicMessage) → c
     by : (b : Bool) → is_float (type_of place).kind ≡ b → FitsOne inner d.pool.now (type_of place) u
     by true floats = float_fits inner d.pool.now (type_of place) u floats
     by false whole =
-        let g = known d n (type_of place) (ap (option_and_then (if_held d.pool.now)) there ∙ if_whole inner d.pool.now (type_of place) part.one whole) in
+        let g = known d n (type_of place) (ap (option_and_then (if_held d.pool.now)) there ∙ if_whole d.pool.now (type_of place) part.one whole) in
         let number : (field_type g.0).number ≡ n = ap (λ (t : FieldType). t.number) g.2 ∙ g.3 in
         let fits = shape.fields g.0 g.1 u (ap (value_at (fields_of m)) number ∙ at) in
         fits_one inner d.pool.now (type_of place) part.one u (subst (λ (t : FieldType). Fits inner d.pool.now t u) g.2 fits)

@@ -1,5 +1,7 @@
 mod Extended
 mod Given
+mod Keyed
+mod Lasting
 mod Listed
 mod Longer
 mod Mapped

@@ -38,7 +38,7 @@ seen d n field extension unknown =
 abbrev by_fields : MessageDescriptor → ℕ → Option FieldType → Option FieldType → (field extension : Option Value) → List (ℕ × Payload) → Held
 by_fields d n f x field extension unknown = held_either d.pool.now f x (option_map content_view field) (option_map content_view extension) (payloads n unknown)
 
-view_at : (m : DynamicMessage) (n : ℕ) → view m n ≡ seen m.descriptor n (value_at (fields_of m) n) (value_at (extensions_of m) n) (unknown_of m)
+pub view_at : (m : DynamicMessage) (n : ℕ) → view m n ≡ seen m.descriptor n (value_at (fields_of m) n) (value_at (extensions_of m) n) (unknown_of m)
 view_at m n =
     let d = m.descriptor in
     let f = known_field d.pool.now d.index n in
@@ -62,7 +62,7 @@ pub empty_suits : (types : Types) (t : Name) (m : DynamicMessage) → content_of
 empty_suits types t m empty = nothing_typed (IsTyped 99 types) 100 (types t) (view m) (empty_view m empty)
 
 -- no field has the records of a number
-none_known : (d : MessageDescriptor) (n : ℕ) → NoField d n → known_field d.pool.now d.index n ≡ None
+pub none_known : (d : MessageDescriptor) (n : ℕ) → NoField d n → known_field d.pool.now d.index n ≡ None
 none_known d n none = by (known_field d.pool.now d.index n) refl where
   by : (o : Option FieldType) → known_field d.pool.now d.index n ≡ o → o ≡ None
   by None is = refl

@@ -1,8 +1,12 @@
 //! Laws of what lists and maps mean that took further values.
-ghost use Rattle.std.specs.Prelude.{◌≡◌, ◌++◌, List, Some, map};
+ghost use Rattle.std.specs.Prelude.{◌≡◌, ◌++◌, Bool, List, Some, map, true, ℕ};
 ghost use Rattle.std.specs.List.{AllByRecursion};
 ghost use Rattle.std.specs.Option.{IsSome};
+ghost use Rattle.protobuf_model.specs.Coded.{SuitsType};
 ghost use Rattle.protobuf_model.specs.Meaning.{if_any, if_some, items, pairs, put_all};
+ghost use Rattle.protobuf_model.specs.Typed.{IsEntryOf, IsHeldOf, IsOf, IsTyped};
+ghost use Rattle.protobuf_model.specs.Types.{Field, Key, Name, Types, keyed, many};
+ghost use Rattle.protobuf_model.specs.Values.{Content, Held, Single};
 ghost use Rattle.reflect_entries.specs.Entries.{value_at};
 ghost use Rattle.reflect_extend.specs.Gives.{Entry};
 ghost use Rattle.reflect_extend.specs.Puts.{PutsEntries};
@@ -10,12 +14,16 @@ ghost use Rattle.reflect_message.specs.Declares.{NoField, Owns, OwnsExtension};
 ghost use Rattle.reflect_message.specs.Held.{extensions_of, fields_of};
 ghost use Rattle.reflect_message.specs.Lists.{Lengthens, items_held};
 ghost use Rattle.reflect_message.specs.Maps.{entries_held};
+ghost use Rattle.reflect_message.specs.Messages.{message_in};
 ghost use Rattle.reflect_message.specs.Names.{DynamicMessage, Value};
 ghost use Rattle.reflect_message.specs.Oneofs.{IsExclusive};
 ghost use Rattle.reflect_pool.specs.FieldsLeft.{field_type};
+ghost use Rattle.reflect_pool.specs.Shapes.{holds_map};
 ghost use Rattle.reflect_pool.specs.declared.extension.ExtensionDescriptor.{ExtensionDescriptor};
 ghost use Rattle.reflect_pool.specs.declared.field.FieldDescriptor.{FieldDescriptor};
 ghost use Rattle.reflect_scalar.specs.FieldTypes.{extension_type};
+ghost use Rattle.reflect_tables.specs.Types.{FieldType, PoolType};
+ghost use Rattle.message_view.specs.Shaped.{FitsOne, IsInShape};
 ghost use Rattle.message_view.specs.Sound.{IsSound};
 ghost use Rattle.message_view.specs.Types.{name_at, types_of};
 ghost use Rattle.message_view.specs.Views.{content_view, view};
@@ -87,4 +95,56 @@ pub fn extended_map_extensions_are_put()
         (name_at old.descriptor.pool.now old.descriptor.index)) (extension_type x).number
         (if_some (put_all (pairs (view old (extension_type x).number)) (map entry_view es)))
         (view old) (view new) }
+{}
+
+/// Where a message suits its type, the keys of a field that is a map are of the map's kind.
+pub fn maps_that_suit_have_their_keys()
+    ensures { (m : DynamicMessage) → IsSound m.descriptor.pool.now
+        → SuitsType (types_of m.descriptor.pool.now)
+        (name_at m.descriptor.pool.now m.descriptor.index) (view m)
+        → (f : FieldDescriptor) → Owns m.descriptor f
+        → holds_map m.descriptor.pool.now (field_type f) ≡ true
+        → (es : List Entry)
+        → entries_held (value_at (fields_of m) (field_type f).number) ≡ Some es
+        → AllByRecursion (HasKey m.descriptor.pool.now (field_type f)) es }
+{}
+
+/// So are those of an extension.
+pub fn map_extensions_that_suit_have_their_keys()
+    ensures { (m : DynamicMessage) → IsSound m.descriptor.pool.now
+        → SuitsType (types_of m.descriptor.pool.now)
+        (name_at m.descriptor.pool.now m.descriptor.index) (view m)
+        → (x : ExtensionDescriptor) → OwnsExtension m.descriptor x
+        → NoField m.descriptor (extension_type x).number
+        → holds_map m.descriptor.pool.now (extension_type x) ≡ true
+        → (es : List Entry)
+        → entries_held (value_at (extensions_of m) (extension_type x).number) ≡ Some es
+        → AllByRecursion (HasKey m.descriptor.pool.now (extension_type x)) es }
+{}
+
+/// A message in shape that suits the type of a map's entries gives an entry with such a key.
+pub fn entries_that_suit_give_their_keys()
+    ensures { (pool : PoolType) → IsSound pool → (f : FieldType) → holds_map pool f ≡ true
+        → (v : Value) → FitsOne IsInShape pool f v
+        → ((m : DynamicMessage) → message_in v ≡ Some m
+        → SuitsType (types_of pool) (name_at pool m.descriptor.index) (view m))
+        → GivesKeyed pool f v }
+{}
+
+/// A list that suits its field does so with elements behind it that suit.
+pub fn longer_lists_suit_the_field()
+    ensures { (types : Types) (t : Name) (n : ℕ) (f : Field) (packed : Bool) (held : Held)
+        (cs : List Content) → types t n ≡ Some f → f.label ≡ many packed
+        → IsHeldOf (IsTyped 99 types) 100 (types t n) held
+        → AllByRecursion (IsOf (IsTyped 99 types) f.part.kind) cs
+        → IsHeldOf (IsTyped 99 types) 100 (types t n) (if_any (items held ++ cs)) }
+{}
+
+/// So does a map with entries put in that suit.
+pub fn fuller_maps_suit_the_field()
+    ensures { (types : Types) (t : Name) (n : ℕ) (f : Field) (key : Key) (held : Held)
+        (es : List (Single × Content)) → types t n ≡ Some f → f.label ≡ keyed key
+        → IsHeldOf (IsTyped 99 types) 100 (types t n) held
+        → AllByRecursion (IsEntryOf (IsTyped 99 types) key f.part) es
+        → IsHeldOf (IsTyped 99 types) 100 (types t n) (if_some (put_all (pairs held) es)) }
 {}
