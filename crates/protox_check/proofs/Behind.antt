@@ -30,3 +30,9 @@ first_more view g xs i x lt is =
     ap (first_in g) (seen_more view xs i x lt is)
     ∙ ap (λ ys. slice_get ys 0) (sym (flat_map_more g [] (map view (take i xs)) (view x)))
     ∙ first_of_both (flat_map g (map view (take i xs))) (g (view x))
+
+-- what the items up to the next one tell, behind what was told before them
+pub told_next : {A B : Type 0} (f : A → List B) (xs : List A) (i : ℕ) (x : A) (before made new : List B) → i < length xs → x ≡ get_or xs i x → made ≡ before ++ flat_map f (take i xs) → new ≡ made ++ f x → new ≡ before ++ flat_map f (take (i + 1) xs)
+told_next f xs i x before made new lt is so_far told =
+    told ∙ ap (λ ys. ys ++ f x) so_far ∙ append_assoc before (flat_map f (take i xs)) (f x)
+    ∙ ap (λ ys. before ++ ys) (flat_map_more f [] (take i xs) x ∙ ap (flat_map f) (sym (take_more xs i x lt ∙ ap (λ y. take i xs ++ y ∷ []) (sym is))))

@@ -1,6 +1,7 @@
 use Rattle.std.proofs.Common.{◌≡◌, ◌∙◌, ◌++◌, Bool, ap, sym, not, rules, arith, append_assoc}
 use Rattle.std.proofs.lemmas.Grind.{common_steps}
 use Rattle.std.specs.List.{flat_map}
+use Rattle.protox_check.proofs.Behind.{told_next}
 use Rattle.protox_check.proofs.Nests.{items_listed, members_listed, added_listed, oneof_parts, extend_parts}
 use Rattle.protox_check.specs.Faults.{item_faults, member_faults, added_item_faults, has_field, oneof_faults, extend_faults}
 use Rattle.protox_check.specs.Words.{told_if}
@@ -40,3 +41,15 @@ check_extend-returns t c =
     let xs = e.items.items in
     let told : c.each.faults.items ≡ old ++ flat_map (λ i. added_item_faults s (added_view i)) xs = first_of (search rules, grind (arith, common_steps)) in
     told ∙ ap (λ ks. old ++ ks) (sym (added_listed s xs)) ∙ ap (λ e. old ++ extend_faults s e) (sym (extend_parts e))
+
+pub check_items-each-preserved : goal.check_items-each-preserved
+check_items-each-preserved t c =
+    told_next (λ i. item_faults c.args.syntax (item_view i)) c.deref-item-items.result.now c.each.item-index c.item-item.result c.args.faults.now.items c.each.faults.items c.check_message_item.new.faults.items c.each-test.true c.item-item.is c.each.invariant c.in_ok-check_message_item.ensures
+
+pub check_oneof-each-preserved : goal.check_oneof-each-preserved
+check_oneof-each-preserved t c =
+    told_next (λ i. member_faults c.args.syntax (member_view i)) c.deref-item-items.result.now c.each.item-index c.item-item.result c.tell_if.new.faults.items c.each.faults.items c.check_member.new.faults.items c.each-test.true c.item-item.is c.each.invariant c.in_ok-check_member.ensures
+
+pub check_extend-each-preserved : goal.check_extend-each-preserved
+check_extend-each-preserved t c =
+    told_next (λ i. added_item_faults c.args.syntax (added_view i)) c.deref-item-items.result.now c.each.item-index c.item-item.result c.args.faults.now.items c.each.faults.items c.check_added_item.new.faults.items c.each-test.true c.item-item.is c.each.invariant c.in_ok-check_added_item.ensures
