@@ -1,6 +1,6 @@
 -- One more declaration, one more level, and walks one after another.
-use Rattle.std.proofs.Common.{◌≡◌, ℕ, ℤ, ◌<◌, ◌+◌, List, [], ◌∷◌, ◌++◌, take, length, get_or, map, ap, sym, subst, ◌∙◌, append_assoc, arith, zero-add, Option, refl}
-use Rattle.std.proofs.lemmas.List.{take_more, map_push, append-nil, length-take-le, length-map}
+use Rattle.std.proofs.Common.{◌≡◌, ℕ, ℤ, ◌<◌, ◌≤◌, ◌+◌, List, [], ◌∷◌, ◌++◌, take, length, get_or, map, ap, sym, subst, ◌∙◌, append_assoc, arith, zero-add, Option, refl}
+use Rattle.std.proofs.lemmas.List.{take_all, take_more, map_push, append-nil, length-take-le, length-map}
 use Rattle.descriptor_records.specs.declared.message.DescriptorProto.{DescriptorProto}
 use Rattle.descriptor_records.specs.declared.message.DescriptorProto.TheFolds.{fold_out-DescriptorProto}
 use Rattle.descriptor_records.specs.declared.message.DescriptorProto.TheViews.{out-DescriptorProto}
@@ -35,6 +35,11 @@ pub run_more : {A S : Type 0} (R : S → Declaration → S → Type 0) (one : �
 run_more R one xs k x s m t lt is before now =
     subst (λ ds. Runs R s ds t) (sym (each_more one xs k x lt))
     (runs_append R (each one 0 (take k xs)) (one k (get_or xs k x)) s m t before (subst (λ y. Runs R m (one k y) t) is now))
+
+-- a walk that came to the end of a list
+pub run_all : {A S : Type 0} (R : S → Declaration → S → Type 0) (one : ℕ → A → List Declaration) (k : ℕ) (xs ys : List A) (s t : S)
+    → length xs ≤ k → xs ≡ ys → Runs R s (each one 0 (take k xs)) t → Runs R s (each one 0 ys) t
+run_all R one k xs ys s t end is = subst (λ zs. Runs R s (each one 0 zs) t) (take_all k xs end ∙ is)
 
 past_push : (o : Offsets) (ms : List Message) (m : Message) → past_trees o (messages_of (ms ++ m ∷ [])) ≡ past_tree (past_trees o (messages_of ms)) m
 past_push o [] m = refl

@@ -1,11 +1,20 @@
-use Rattle.std.proofs.Common.{◌≡◌, ℤ, pos, ap, map, take, length, arith, subst, sym, ◌∙◌, to_z, of_z, w32, Some}
+use Rattle.std.proofs.Common.{◌≡◌, ℤ, pos, ap, refl, map, take, length, arith, subst, sym, ◌∙◌, to_z, of_z, w32, Some}
+use Rattle.std.proofs.lemmas.Int.{to_z-of_z}
+use Rattle.std.proofs.lemmas.List.{take_all}
+use Rattle.std.proofs.lemmas.Result.{err_from_is_err_and}
 use Rattle.reflect_scope.specs.Means.{join}
 use Rattle.descriptor_records.specs.declared.message.DescriptorProto.TheViews.{out-DescriptorProto}
 use Rattle.reflect_declarations.specs.declared.offsets.Offsets.{Offsets}
 use Rattle.reflect_declarations.specs.Tree.{text_of, message, parts_of, messages_of, tree_of}
-use Rattle.reflect_declarations.specs.Declarations.{Runs, each, entry, one_field, one_enum, one_extension, one_oneof, message_declaration, tree_declarations, trees_declarations, past_tree, past_trees, past_message, past_enums}
+use Rattle.reflect_declarations.specs.Declarations.{Runs, each, entry, one_field, one_enum, one_extension, one_oneof, message_declaration, tree_declarations, trees_declarations, past_tree, past_trees, past_message, past_enums, past_extensions}
 use Rattle.reflect_walk.proofs.Walks.{run_tree, past_more, runs_append, tree_of-out}
 use Rattle.reflect_walk.proofs.visit_parts.+messages.Goals as goal
+
+pub visit_messages-turns-init : goal.visit_messages-turns-init
+visit_messages-turns-init g t c = record { runs = refl; counts = refl; keeps = g.met.V.Visitor.kept_same c.args.file c.args.visitor.now }
+
+pub visit_messages-item_path-requires : goal.visit_messages-item_path-requires
+visit_messages-item_path-requires g t c = c.in_ok-list_index.ensures.fits
 
 pub visit_messages-turns-preserved : goal.visit_messages-turns-preserved
 visit_messages-turns-preserved g t c =
@@ -28,6 +37,41 @@ visit_messages-turns-preserved g t c =
           ∙ ap (λ x. past_tree (past_trees o (messages_of (map tree_of (take k ms)))) (tree_of x)) c.message-item.is ∙ sym (past_more o ms k m (omega arith));
       keeps = g.met.V.Visitor.kept_on c.args.file _ _ _ c.turns.invariant.keeps c.visit_message.ensures.keeps;
     }
+
+pub visit_messages-returns : goal.visit_messages-returns
+visit_messages-returns g t c =
+    let R = g.V.Visitor.steps in
+    let path = c.args.path.now in
+    let given : ℤ = to_z w32 (of_z w32 c.args.tag) in
+    let scope = c.args.scope.now in
+    let file = c.args.file in
+    let parent = c.args.parent in
+    let o = c.args.offsets.now in
+    let all : take c.turns.at c.deref-message-items.result.now ≡ c.args.messages.now.items = take_all c.turns.at c.deref-message-items.result.now (omega arith) ∙ c.deref-message-items.ensures.value in
+    record {
+      runs = subst (λ tag. Runs R c.args.visitor.now (trees_declarations path tag scope file parent 0 o (messages_of (map tree_of c.args.messages.now.items))) c.turns.visitor) (to_z-of_z w32 c.args.tag c.ranges.tag)
+          (subst (λ ms. Runs R c.args.visitor.now (trees_declarations path given scope file parent 0 o (messages_of (map tree_of ms))) c.turns.visitor) all c.turns.invariant.runs);
+      counts = c.turns.invariant.counts ∙ ap (λ ms. past_trees o (messages_of (map tree_of ms))) all;
+      keeps = c.turns.invariant.keeps;
+    }
+
+pub visit_messages-returns-in_err-list_index : goal.visit_messages-returns-in_err-list_index
+visit_messages-returns-in_err-list_index g t c =
+    let r = c.from_residual in
+    let p = err_from_is_err_and r.result r.ensures.1 in
+    rw p.1 (record { runs = tt; counts = tt; keeps = c.turns.invariant.keeps })
+
+pub visit_messages-returns-in_err-place : goal.visit_messages-returns-in_err-place
+visit_messages-returns-in_err-place g t c =
+    let r = c.from_residual-in_err-place in
+    let p = err_from_is_err_and r.result r.ensures.1 in
+    rw p.1 (record { runs = tt; counts = tt; keeps = c.turns.invariant.keeps })
+
+pub visit_messages-returns-in_err-visit_message : goal.visit_messages-returns-in_err-visit_message
+visit_messages-returns-in_err-visit_message g t c =
+    let r = c.from_residual-in_err-visit_message in
+    let p = err_from_is_err_and r.result r.ensures.1 in
+    rw p.1 (record { runs = tt; counts = tt; keeps = g.met.V.Visitor.kept_on c.args.file _ _ _ c.turns.invariant.keeps c.visit_message.ensures.keeps })
 
 pub visit_message-returns-clause-runs : goal.visit_message-returns-clause-runs
 visit_message-returns-clause-runs g t c =
@@ -74,3 +118,73 @@ visit_message-returns-clause-runs g t c =
     let all : Runs R v0 (tree_declarations path scope file parent o (message own nested)) v6 =
     (v1, (first, runs_append R _ _ v1 v2 v6 fields (runs_append R _ _ v2 v3 v6 inner (runs_append R _ _ v3 v4 v6 enums (runs_append R _ _ v4 v5 v6 extensions oneofs))))) in
     subst (λ x. Runs R v0 (tree_declarations path scope file parent o x) v6) (sym (tree_of-out m)) all
+
+pub visit_message-returns-clause-counts : goal.visit_message-returns-clause-counts
+visit_message-returns-clause-counts g t c =
+    let m = c.args.message.now in
+    let own = parts_of m in
+    let nested = messages_of (map tree_of (out-DescriptorProto m).nested_type.items) in
+    let o = c.args.offsets.now in
+    let past : (record o { messages = c.next_index.new.count }) ≡ past_message o = ap (λ n. record o { messages = n }) c.in_ok-number.ensures.more in
+    c.in_ok-visit_extensions.ensures.counts ∙ ap (λ x. past_extensions x (length own.extension))
+    (c.in_ok-visit_enums.ensures.counts ∙ ap (λ x. past_enums x (length own.enum_type))
+    (c.in_ok-visit_messages.ensures.counts ∙ ap (λ x. past_trees x nested) past))
+    ∙ ap (past_tree o) (sym (tree_of-out m))
+
+pub visit_message-returns-clause-keeps : goal.visit_message-returns-clause-keeps
+visit_message-returns-clause-keeps g t c =
+    let on = g.met.V.Visitor.kept_on c.args.file in
+    on _ _ _ (on _ _ _ (on _ _ _ (on _ _ _ (on _ _ _ c.visit_message.ensures.keeps c.visit_fields.ensures.keeps) c.visit_messages.ensures.keeps) c.visit_enums.ensures.keeps) c.visit_extensions.ensures.keeps) c.visit_oneofs.ensures.keeps
+
+pub visit_message-returns-in_err-full_name : goal.visit_message-returns-in_err-full_name
+visit_message-returns-in_err-full_name g t c =
+    let r = c.from_residual in
+    let p = err_from_is_err_and r.result r.ensures.1 in
+    rw p.1 (record { runs = tt; counts = tt; keeps = g.met.V.Visitor.kept_same c.args.file c.args.visitor.now })
+
+pub visit_message-returns-in_err-number : goal.visit_message-returns-in_err-number
+visit_message-returns-in_err-number g t c =
+    let r = c.from_residual-in_err-number in
+    let p = err_from_is_err_and r.result r.ensures.1 in
+    rw p.1 (record { runs = tt; counts = tt; keeps = g.met.V.Visitor.kept_same c.args.file c.args.visitor.now })
+
+pub visit_message-returns-in_err-visit_message : goal.visit_message-returns-in_err-visit_message
+visit_message-returns-in_err-visit_message g t c =
+    let r = c.from_residual-in_err-visit_message in
+    let p = err_from_is_err_and r.result r.ensures.1 in
+    rw p.1 (record { runs = tt; counts = tt; keeps = c.visit_message.ensures.keeps })
+
+pub visit_message-returns-in_err-visit_fields : goal.visit_message-returns-in_err-visit_fields
+visit_message-returns-in_err-visit_fields g t c =
+    let r = c.from_residual-in_err-visit_fields in
+    let p = err_from_is_err_and r.result r.ensures.1 in
+    let on = g.met.V.Visitor.kept_on c.args.file in
+    rw p.1 (record { runs = tt; counts = tt; keeps = on _ _ _ c.visit_message.ensures.keeps c.visit_fields.ensures.keeps })
+
+pub visit_message-returns-in_err-visit_messages : goal.visit_message-returns-in_err-visit_messages
+visit_message-returns-in_err-visit_messages g t c =
+    let r = c.from_residual-in_err-visit_messages in
+    let p = err_from_is_err_and r.result r.ensures.1 in
+    let on = g.met.V.Visitor.kept_on c.args.file in
+    rw p.1 (record { runs = tt; counts = tt; keeps = on _ _ _ (on _ _ _ c.visit_message.ensures.keeps c.visit_fields.ensures.keeps) c.visit_messages.ensures.keeps })
+
+pub visit_message-returns-in_err-visit_enums : goal.visit_message-returns-in_err-visit_enums
+visit_message-returns-in_err-visit_enums g t c =
+    let r = c.from_residual-in_err-visit_enums in
+    let p = err_from_is_err_and r.result r.ensures.1 in
+    let on = g.met.V.Visitor.kept_on c.args.file in
+    rw p.1 (record { runs = tt; counts = tt; keeps = on _ _ _ (on _ _ _ (on _ _ _ c.visit_message.ensures.keeps c.visit_fields.ensures.keeps) c.visit_messages.ensures.keeps) c.visit_enums.ensures.keeps })
+
+pub visit_message-returns-in_err-visit_extensions : goal.visit_message-returns-in_err-visit_extensions
+visit_message-returns-in_err-visit_extensions g t c =
+    let r = c.from_residual-in_err-visit_extensions in
+    let p = err_from_is_err_and r.result r.ensures.1 in
+    let on = g.met.V.Visitor.kept_on c.args.file in
+    rw p.1 (record { runs = tt; counts = tt; keeps = on _ _ _ (on _ _ _ (on _ _ _ (on _ _ _ c.visit_message.ensures.keeps c.visit_fields.ensures.keeps) c.visit_messages.ensures.keeps) c.visit_enums.ensures.keeps) c.visit_extensions.ensures.keeps })
+
+pub visit_message-returns-in_err-visit_oneofs : goal.visit_message-returns-in_err-visit_oneofs
+visit_message-returns-in_err-visit_oneofs g t c =
+    let r = c.from_residual-in_err-visit_oneofs in
+    let p = err_from_is_err_and r.result r.ensures.1 in
+    let on = g.met.V.Visitor.kept_on c.args.file in
+    rw p.1 (record { runs = tt; counts = tt; keeps = on _ _ _ (on _ _ _ (on _ _ _ (on _ _ _ (on _ _ _ c.visit_message.ensures.keeps c.visit_fields.ensures.keeps) c.visit_messages.ensures.keeps) c.visit_enums.ensures.keeps) c.visit_extensions.ensures.keeps) c.visit_oneofs.ensures.keeps })

@@ -1,6 +1,7 @@
 use Rattle.std.proofs.Common.{◌≡◌, pos, [], ap, subst, ◌∙◌, None, length}
+use Rattle.std.proofs.lemmas.Result.{err_from_is_err_and}
 use Rattle.reflect_declarations.specs.Tree.{text_of}
-use Rattle.reflect_declarations.specs.Declarations.{Runs, each, one_enum, one_service, one_extension, trees_declarations, trees_of, past_trees, past_enums, past_services}
+use Rattle.reflect_declarations.specs.Declarations.{Runs, each, one_enum, one_service, one_extension, trees_declarations, trees_of, past_trees, past_enums, past_extensions, past_services}
 use Rattle.reflect_walk.proofs.Walks.{runs_append, trees_services}
 use Rattle.reflect_walk.proofs.visit_parts.visit.Goals as goal
 
@@ -30,3 +31,49 @@ returns-clause-runs g c =
     let extensions = subst (λ n. Runs R v4 (each (one_extension [] (pos 7) n file None (past_trees o trees).extensions) 0 f.extension.items) v5) scope
     (subst (λ x. Runs R v4 (each (one_extension [] (pos 7) given file None x) 0 f.extension.items) v5) behind_services c.in_ok-visit_extensions.ensures.runs) in
     (v1, (c.in_ok-visit_file.ensures.step, runs_append R _ _ v1 v2 v5 messages (runs_append R _ _ v2 v3 v5 enums (runs_append R _ _ v3 v4 v5 services extensions))))
+
+pub returns-clause-counts : goal.returns-clause-counts
+returns-clause-counts g c =
+    let f = c.args.file.now in
+    c.in_ok-visit_extensions.ensures.counts ∙ ap (λ x. past_extensions x (length f.extension.items))
+    (c.in_ok-visit_services.ensures.counts ∙ ap (λ x. past_services x (length f.service.items))
+    (c.in_ok-visit_enums.ensures.counts ∙ ap (λ x. past_enums x (length f.enum_type.items)) c.in_ok-visit_messages.ensures.counts))
+
+pub returns-clause-keeps : goal.returns-clause-keeps
+returns-clause-keeps g c =
+    let on = g.met.V.Visitor.kept_on c.args.file_index in
+    on _ _ _ (on _ _ _ (on _ _ _ (on _ _ _ c.visit_file.ensures.keeps c.visit_messages.ensures.keeps) c.visit_enums.ensures.keeps) c.visit_services.ensures.keeps) c.visit_extensions.ensures.keeps
+
+pub returns-in_err-visit_file : goal.returns-in_err-visit_file
+returns-in_err-visit_file g c =
+    let r = c.from_residual in
+    let p = err_from_is_err_and r.result r.ensures.1 in
+    rw p.1 (record { runs = tt; counts = tt; keeps = c.visit_file.ensures.keeps })
+
+pub returns-in_err-visit_messages : goal.returns-in_err-visit_messages
+returns-in_err-visit_messages g c =
+    let r = c.from_residual-in_err-visit_messages in
+    let p = err_from_is_err_and r.result r.ensures.1 in
+    let on = g.met.V.Visitor.kept_on c.args.file_index in
+    rw p.1 (record { runs = tt; counts = tt; keeps = on _ _ _ c.visit_file.ensures.keeps c.visit_messages.ensures.keeps })
+
+pub returns-in_err-visit_enums : goal.returns-in_err-visit_enums
+returns-in_err-visit_enums g c =
+    let r = c.from_residual-in_err-visit_enums in
+    let p = err_from_is_err_and r.result r.ensures.1 in
+    let on = g.met.V.Visitor.kept_on c.args.file_index in
+    rw p.1 (record { runs = tt; counts = tt; keeps = on _ _ _ (on _ _ _ c.visit_file.ensures.keeps c.visit_messages.ensures.keeps) c.visit_enums.ensures.keeps })
+
+pub returns-in_err-visit_services : goal.returns-in_err-visit_services
+returns-in_err-visit_services g c =
+    let r = c.from_residual-in_err-visit_services in
+    let p = err_from_is_err_and r.result r.ensures.1 in
+    let on = g.met.V.Visitor.kept_on c.args.file_index in
+    rw p.1 (record { runs = tt; counts = tt; keeps = on _ _ _ (on _ _ _ (on _ _ _ c.visit_file.ensures.keeps c.visit_messages.ensures.keeps) c.visit_enums.ensures.keeps) c.visit_services.ensures.keeps })
+
+pub returns-in_err-visit_extensions : goal.returns-in_err-visit_extensions
+returns-in_err-visit_extensions g c =
+    let r = c.from_residual-in_err-visit_extensions in
+    let p = err_from_is_err_and r.result r.ensures.1 in
+    let on = g.met.V.Visitor.kept_on c.args.file_index in
+    rw p.1 (record { runs = tt; counts = tt; keeps = on _ _ _ (on _ _ _ (on _ _ _ (on _ _ _ c.visit_file.ensures.keeps c.visit_messages.ensures.keeps) c.visit_enums.ensures.keeps) c.visit_services.ensures.keeps) c.visit_extensions.ensures.keeps })

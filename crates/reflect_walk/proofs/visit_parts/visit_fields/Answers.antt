@@ -1,7 +1,14 @@
-use Rattle.std.proofs.Common.{arith, subst}
+use Rattle.std.proofs.Common.{arith, refl, subst}
+use Rattle.std.proofs.lemmas.Result.{err_from_is_err_and}
 use Rattle.reflect_declarations.specs.Declarations.{Runs, one_field}
-use Rattle.reflect_walk.proofs.Walks.{run_more}
+use Rattle.reflect_walk.proofs.Walks.{run_all, run_more}
 use Rattle.reflect_walk.proofs.visit_parts.visit_fields.Goals as goal
+
+pub turns-init : goal.turns-init
+turns-init g c = record { runs = refl; keeps = g.met.V.Visitor.kept_same c.args.file c.args.visitor.now }
+
+pub visit_field-requires : goal.visit_field-requires
+visit_field-requires g c = c.in_ok-index.ensures.fits
 
 pub turns-preserved : goal.turns-preserved
 turns-preserved g c =
@@ -15,3 +22,22 @@ turns-preserved g c =
       runs = run_more R one xs k x _ _ _ (omega arith) c.field-item.is c.turns.invariant.runs now;
       keeps = g.met.V.Visitor.kept_on c.args.file _ _ _ c.turns.invariant.keeps c.visit_field.ensures.keeps;
     }
+
+pub returns : goal.returns
+returns g c =
+    let one = one_field c.args.path.now c.args.scope.now c.args.file c.args.message in
+    record {
+      runs = run_all g.V.Visitor.steps one c.turns.at c.deref-field-items.result.now c.args.fields.now.items _ _ (omega arith) c.deref-field-items.ensures.value c.turns.invariant.runs;
+      keeps = c.turns.invariant.keeps;
+    }
+
+pub returns-in_err-index : goal.returns-in_err-index
+returns-in_err-index g c =
+    let p = err_from_is_err_and c.from_residual.result c.from_residual.ensures.1 in
+    rw p.1 (record { runs = tt; keeps = c.turns.invariant.keeps })
+
+pub returns-in_err-visit_field : goal.returns-in_err-visit_field
+returns-in_err-visit_field g c =
+    let r = c.from_residual-in_err-visit_field in
+    let p = err_from_is_err_and r.result r.ensures.1 in
+    rw p.1 (record { runs = tt; keeps = g.met.V.Visitor.kept_on c.args.file _ _ _ c.turns.invariant.keeps c.visit_field.ensures.keeps })

@@ -1,10 +1,24 @@
-use Rattle.std.proofs.Common.{◌≡◌, ℕ, ℤ, pos, ◌+◌, List, [], ◌∷◌, ap, arith, subst, ◌∙◌}
+use Rattle.std.proofs.Common.{◌≡◌, ℕ, ℤ, pos, ◌+◌, List, [], ◌∷◌, ap, arith, subst, ◌∙◌, length, refl}
+use Rattle.std.proofs.lemmas.Result.{err_from_is_err_and}
 use Rattle.reflect_scope.specs.Means.{join}
 use Rattle.reflect_declarations.specs.Tree.{text_of}
-use Rattle.reflect_declarations.specs.Declarations.{Declaration, Runs, each, entry, one_service, service_declaration, one_method}
+use Rattle.reflect_declarations.specs.Declarations.{Declaration, Runs, each, entry, one_service, service_declaration, one_method, past_services}
 use Rattle.reflect_declarations.specs.declared.offsets.Offsets.{Offsets}
-use Rattle.reflect_walk.proofs.Walks.{run_more}
+use Rattle.reflect_walk.proofs.Walks.{run_all, run_more}
 use Rattle.reflect_walk.proofs.visit_parts.visit_services.Goals as goal
+
+pub turns-init : goal.turns-init
+turns-init g c =
+    let o = c.args.offsets.now in
+    let none : o.services ≡ o.services + 0 = omega arith in
+    record {
+      runs = refl;
+      counts = ap {A = ℕ} (λ n. record o { services = n }) none;
+      keeps = g.met.V.Visitor.kept_same c.args.file c.args.visitor.now;
+    }
+
+pub item_path-requires : goal.item_path-requires
+item_path-requires g c = c.in_ok-list_index.ensures.fits
 
 pub turns-preserved : goal.turns-preserved
 turns-preserved g c =
@@ -29,3 +43,48 @@ turns-preserved g c =
       counts = ap {A = Offsets} (λ o. record o { services = c.next_index.new.count }) c.turns.invariant.counts ∙ ap {A = ℕ} (λ n. record o { services = n }) count;
       keeps = g.met.V.Visitor.kept_on c.args.file _ _ _ c.turns.invariant.keeps c.visit_service.ensures.keeps;
     }
+
+pub returns : goal.returns
+returns g c =
+    let xs = c.deref-service-items.result.now in
+    let ys = c.args.services.now.items in
+    let k = c.turns.at in
+    let scope = c.args.scope.now in
+    let file = c.args.file in
+    let o = c.args.offsets.now in
+    let is : xs ≡ ys = c.deref-service-items.ensures.value in
+    let long : length xs ≡ length ys = ap length is in
+    let all : k ≡ length ys = omega (arith, long) in
+    record {
+      runs = run_all g.V.Visitor.steps (one_service scope file o.services) k xs ys _ _ (omega arith) is c.turns.invariant.runs;
+      counts = c.turns.invariant.counts ∙ ap (past_services o) all;
+      keeps = c.turns.invariant.keeps;
+    }
+
+pub returns-in_err-list_index : goal.returns-in_err-list_index
+returns-in_err-list_index g c =
+    let r = c.from_residual in
+    let p = err_from_is_err_and r.result r.ensures.1 in
+    rw p.1 (record { runs = tt; counts = tt; keeps = c.turns.invariant.keeps })
+
+pub returns-in_err-place : goal.returns-in_err-place
+returns-in_err-place g c =
+    let r = c.from_residual-in_err-place in
+    let p = err_from_is_err_and r.result r.ensures.1 in
+    rw p.1 (record { runs = tt; counts = tt; keeps = c.turns.invariant.keeps })
+
+pub returns-in_err-number : goal.returns-in_err-number
+returns-in_err-number g c =
+    let r = c.from_residual-in_err-number in
+    let p = err_from_is_err_and r.result r.ensures.1 in
+    rw p.1 (record { runs = tt; counts = tt; keeps = c.turns.invariant.keeps })
+
+pub returns-in_err-visit_service : goal.returns-in_err-visit_service
+returns-in_err-visit_service g c =
+    let r = c.from_residual-in_err-visit_service in
+    let p = err_from_is_err_and r.result r.ensures.1 in
+    rw p.1 (record {
+      runs = tt;
+      counts = tt;
+      keeps = g.met.V.Visitor.kept_on c.args.file _ _ _ c.turns.invariant.keeps c.visit_service.ensures.keeps;
+    })
