@@ -1,6 +1,7 @@
--- What messages end as, once a `&mut` to the value of a field or an extension has ended.
+-- What messages end as, once a `&mut` to the value of a field or an extension has ended, and what
+-- values do, once one to what they hold has.
 use Rattle.std.specs.Prelude.{ℕ, Option, Some, Result}
-use Rattle.std.specs.Borrow.{Fml, RattleType, MutBor, LendsSo, LendsSoOk}
+use Rattle.std.specs.Borrow.{Fml, RattleType, MutBor, LendsIf, LendsSo, LendsSoOk}
 use Rattle.std.specs.Option.{IsSome}
 use Rattle.reflect_message.specs.Held.{Stays, UpdatesExtension, UpdatesField}
 use Rattle.reflect_message.specs.contracts.message.MessageOf as message
@@ -34,3 +35,8 @@ module _ (D : RattleType) where
       → {E : Type 0} → Result (MutBor (ValueOf D.Denot)) E → Fml
   lends_put number lender r = LendsSoOk (message.the_row D) (value.the_row D) lender r
       (λ n w. UpdatesExtension lender.now n number (Some w)) (λ n. Stays lender.now n)
+
+  -- the value is the same case with the last value written through r, and at `None` it stays
+  abbrev pub lends_case : (T : RattleType) → (T.Denot → ValueOf D.Denot) → MutBor (ValueOf D.Denot)
+      → Option (MutBor T.Denot) → Fml
+  lends_case T case lender r = LendsIf (value.the_row D) T lender r case lender.now

@@ -16,6 +16,7 @@ pub mod Messages
 pub mod Names
 pub mod Oneofs
 pub mod Present
+pub mod Rows
 pub mod Shown
 pub mod Singles
 pub mod Trees

@@ -3,11 +3,11 @@ use Rattle.std.specs.Prelude.{◌≡◌, List, [], ◌++◌, Option, None, Some,
 use Rattle.reflect_message.specs.Names.{Value}
 use Rattle.reflect_message.specs.declared.parts.HeldOf.TheOpen.{ValueOf-F}
 use Rattle.reflect_message.specs.declared.parts.HeldOf.TheViews.{out-ValueOf}
-use Rattle.reflect_pool.specs.declared.message.MessageDescriptor.{MessageDescriptor}
+use Rattle.reflect_message.specs.declared.value.ValueOf.{ValueOf}
 
 -- the values of a list
-abbrev pub list_items : Value → Option (List Value)
-list_items v = elim (out-ValueOf MessageDescriptor v) [
+abbrev pub list_items : {D : Type 0} → ValueOf D → Option (List (ValueOf D))
+list_items {D} v = elim (out-ValueOf D v) [
   | ValueOf-F.Bool b ↦ None
   | ValueOf-F.I32 z ↦ None
   | ValueOf-F.I64 z ↦ None

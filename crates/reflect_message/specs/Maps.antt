@@ -8,11 +8,11 @@ use Rattle.reflect_scalar.specs.declared.map_key.MapKey.{MapKey}
 use Rattle.reflect_message.specs.Names.{Value}
 use Rattle.reflect_message.specs.declared.parts.HeldOf.TheOpen.{ValueOf-F}
 use Rattle.reflect_message.specs.declared.parts.HeldOf.TheViews.{out-ValueOf}
-use Rattle.reflect_pool.specs.declared.message.MessageDescriptor.{MessageDescriptor}
+use Rattle.reflect_message.specs.declared.value.ValueOf.{ValueOf}
 
 -- the entries of a map, by ascending key
-abbrev pub map_entries : Value → Option (List (MapKey × Value))
-map_entries v = elim (out-ValueOf MessageDescriptor v) [
+abbrev pub map_entries : {D : Type 0} → ValueOf D → Option (List (MapKey × ValueOf D))
+map_entries {D} v = elim (out-ValueOf D v) [
   | ValueOf-F.Bool b ↦ None
   | ValueOf-F.I32 z ↦ None
   | ValueOf-F.I64 z ↦ None

@@ -5,13 +5,14 @@ use Rattle.reflect_pool.specs.Kinds.{IsKind}
 use Rattle.reflect_pool.specs.declared.kind.Kind.TheVariants as kinds
 use Rattle.reflect_message.specs.Contents.{content_of, nothing}
 use Rattle.reflect_message.specs.Names.{DynamicMessage, Value}
+use Rattle.reflect_message.specs.declared.message.MessageOf.{MessageOf}
 use Rattle.reflect_message.specs.declared.parts.HeldOf.TheOpen.{ValueOf-F}
 use Rattle.reflect_message.specs.declared.parts.HeldOf.TheViews.{out-ValueOf}
-use Rattle.reflect_pool.specs.declared.message.MessageDescriptor.{MessageDescriptor}
+use Rattle.reflect_message.specs.declared.value.ValueOf.{ValueOf}
 
 -- the message that a value is
-abbrev pub message_in : Value → Option DynamicMessage
-message_in v = elim (out-ValueOf MessageDescriptor v) [
+abbrev pub message_in : {D : Type 0} → ValueOf D → Option (MessageOf D)
+message_in {D} v = elim (out-ValueOf D v) [
   | ValueOf-F.Bool b ↦ None
   | ValueOf-F.I32 z ↦ None
   | ValueOf-F.I64 z ↦ None

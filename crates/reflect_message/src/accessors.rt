@@ -1,7 +1,7 @@
 //! Readers of values by their cases.
 
-ghost use Rattle.std.specs.Option.{option_and_then, option_copied, option_copied_mut};
-ghost use Rattle.std.specs.Prelude.{◌≡◌, option_map, string_bytes};
+ghost use Rattle.std.specs.Option.{option_and_then, option_copied};
+ghost use Rattle.std.specs.Prelude.{◌≡◌, option_map};
 ghost use Rattle.reflect_scalar.specs.Cases.{blob_of, int32_of, int64_of, number_of, text_of, truth_of, uint32_of, uint64_of};
 ghost use Rattle.reflect_message.specs.Lists.{list_items};
 ghost use Rattle.reflect_message.specs.Maps.{map_entries};
@@ -24,32 +24,12 @@ impl<'p> Value<'p> {
         }
     }
 
-    /// The value to be changed, if it is a truth value.
-    pub fn as_bool_mut(&mut self) -> Option<&mut bool>
-        ensures { option_copied_mut result ≡ option_and_then truth_of (single self.old) }
-    {
-        match self {
-            Value::Bool(truth) => Some(truth),
-            _ => None,
-        }
-    }
-
     /// The value, if it is a signed 32-bit number.
     pub fn as_i32(&self) -> Option<i32>
         ensures { result ≡ option_and_then int32_of (single self.now) }
     {
         match self {
             Value::I32(n) => Some(*n),
-            _ => None,
-        }
-    }
-
-    /// The value to be changed, if it is a signed 32-bit number.
-    pub fn as_i32_mut(&mut self) -> Option<&mut i32>
-        ensures { option_copied_mut result ≡ option_and_then int32_of (single self.old) }
-    {
-        match self {
-            Value::I32(n) => Some(n),
             _ => None,
         }
     }
@@ -64,32 +44,12 @@ impl<'p> Value<'p> {
         }
     }
 
-    /// The value to be changed, if it is a signed 64-bit number.
-    pub fn as_i64_mut(&mut self) -> Option<&mut i64>
-        ensures { option_copied_mut result ≡ option_and_then int64_of (single self.old) }
-    {
-        match self {
-            Value::I64(n) => Some(n),
-            _ => None,
-        }
-    }
-
     /// The value, if it is an unsigned 32-bit number.
     pub fn as_u32(&self) -> Option<u32>
         ensures { result ≡ option_and_then uint32_of (single self.now) }
     {
         match self {
             Value::U32(n) => Some(*n),
-            _ => None,
-        }
-    }
-
-    /// The value to be changed, if it is an unsigned 32-bit number.
-    pub fn as_u32_mut(&mut self) -> Option<&mut u32>
-        ensures { option_copied_mut result ≡ option_and_then uint32_of (single self.old) }
-    {
-        match self {
-            Value::U32(n) => Some(n),
             _ => None,
         }
     }
@@ -104,32 +64,12 @@ impl<'p> Value<'p> {
         }
     }
 
-    /// The value to be changed, if it is an unsigned 64-bit number.
-    pub fn as_u64_mut(&mut self) -> Option<&mut u64>
-        ensures { option_copied_mut result ≡ option_and_then uint64_of (single self.old) }
-    {
-        match self {
-            Value::U64(n) => Some(n),
-            _ => None,
-        }
-    }
-
     /// The value, if it is the number of an enum's value.
     pub fn as_enum_number(&self) -> Option<i32>
         ensures { result ≡ option_and_then number_of (single self.now) }
     {
         match self {
             Value::EnumNumber(n) => Some(*n),
-            _ => None,
-        }
-    }
-
-    /// The value to be changed, if it is the number of an enum's value.
-    pub fn as_enum_number_mut(&mut self) -> Option<&mut i32>
-        ensures { option_copied_mut result ≡ option_and_then number_of (single self.old) }
-    {
-        match self {
-            Value::EnumNumber(n) => Some(n),
             _ => None,
         }
     }
@@ -144,17 +84,6 @@ impl<'p> Value<'p> {
         }
     }
 
-    /// The value to be changed, if it is a text.
-    pub fn as_string_mut(&mut self) -> Option<&mut String>
-        ensures { option_map (λ t. string_bytes t.now) result
-            ≡ option_and_then text_of (single self.old) }
-    {
-        match self {
-            Value::String(text) => Some(text),
-            _ => None,
-        }
-    }
-
     /// The value, if it is bytes.
     pub fn as_bytes(&self) -> Option<&[u8]>
         ensures { option_map (λ b. b.now) result ≡ option_and_then blob_of (single self.now) }
@@ -165,30 +94,9 @@ impl<'p> Value<'p> {
         }
     }
 
-    /// The value to be changed, if it is bytes.
-    pub fn as_bytes_mut(&mut self) -> Option<&mut Vec<u8>>
-        ensures { option_map (λ b. b.now.items) result
-            ≡ option_and_then blob_of (single self.old) }
-    {
-        match self {
-            Value::Bytes(bytes) => Some(bytes),
-            _ => None,
-        }
-    }
-
     /// The value, if it is a message.
     pub fn as_message(&self) -> Option<&DynamicMessage<'p>>
         ensures { option_copied result ≡ message_in self.now }
-    {
-        match self {
-            Value::Message(message) => Some(message),
-            _ => None,
-        }
-    }
-
-    /// The value to be changed, if it is a message.
-    pub fn as_message_mut(&mut self) -> Option<&mut DynamicMessage<'p>>
-        ensures { option_copied_mut result ≡ message_in self.old }
     {
         match self {
             Value::Message(message) => Some(message),
@@ -206,29 +114,9 @@ impl<'p> Value<'p> {
         }
     }
 
-    /// The value to be changed, if it is a list.
-    pub fn as_list_mut(&mut self) -> Option<&mut Vec<Value<'p>>>
-        ensures { option_map (λ vs. vs.now.items) result ≡ list_items self.old }
-    {
-        match self {
-            Value::List(values) => Some(values),
-            _ => None,
-        }
-    }
-
     /// The value, if it is a map.
     pub fn as_map(&self) -> Option<&BTreeMap<MapKey, Value<'p>>>
         ensures { option_map (λ es. es.now.entries) result ≡ map_entries self.now }
-    {
-        match self {
-            Value::Map(entries) => Some(entries),
-            _ => None,
-        }
-    }
-
-    /// The value to be changed, if it is a map.
-    pub fn as_map_mut(&mut self) -> Option<&mut BTreeMap<MapKey, Value<'p>>>
-        ensures { option_map (λ es. es.now.entries) result ≡ map_entries self.old }
     {
         match self {
             Value::Map(entries) => Some(entries),

@@ -11,6 +11,7 @@ mod entry;
 mod field_of;
 mod field_ref;
 mod lent;
+mod lent_cases;
 mod message;
 mod message_parts;
 mod parts;
