@@ -8,5 +8,6 @@ pub mod Reads
 pub mod Refusals
 pub mod Steps
 pub mod Takes
+pub mod Told
 pub mod Truth
 pub mod Unfit

@@ -1,6 +1,7 @@
 //! Faults with the names and numbers that they tell.
 
-ghost use Rattle.std.specs.Prelude.{IfOk, string_bytes};
+ghost use Rattle.std.specs.Prelude.{◌≡◌, IfOk, Some, string_bytes};
+ghost use Rattle.text_error.specs.Places.{place_of};
 ghost use Rattle.reflect_format.specs.Refusals.{TellsExtension, TellsField, TellsFloatField, TellsMessage, TellsOneof, TellsSet, TellsValue};
 
 use reflect_pool::{EnumDescriptor, MessageDescriptor, OneofDescriptor};
@@ -15,7 +16,8 @@ pub fn unknown_field(
     descriptor: MessageDescriptor<'_>,
     span: Span,
 ) -> Result<ParseErrorKind, AllocError>
-    ensures { IfOk result (TellsField descriptor.entry name.now) }
+    ensures told { IfOk result (TellsField descriptor.entry name.now) }
+    ensures placed { IfOk result (λ kind. place_of kind ≡ Some span) }
 {
     Ok(ParseErrorKind::FieldNotFound {
         field_name: String::from_str(alloc, name)?,
@@ -31,7 +33,8 @@ pub fn unknown_extension(
     descriptor: MessageDescriptor<'_>,
     span: Span,
 ) -> Result<ParseErrorKind, AllocError>
-    ensures { IfOk result (TellsExtension descriptor.entry (string_bytes name)) }
+    ensures told { IfOk result (TellsExtension descriptor.entry (string_bytes name)) }
+    ensures placed { IfOk result (λ kind. place_of kind ≡ Some span) }
 {
     Ok(ParseErrorKind::ExtensionNotFound {
         extension_name: name,
@@ -42,7 +45,8 @@ pub fn unknown_extension(
 
 /// The pool has no message type of this name.
 pub fn unknown_message(name: String, span: Span) -> ParseErrorKind
-    ensures { TellsMessage (string_bytes name) result }
+    ensures told { TellsMessage (string_bytes name) result }
+    ensures placed { place_of result ≡ Some span }
 {
     ParseErrorKind::MessageNotFound {
         message_name: name,
@@ -57,7 +61,8 @@ pub fn float_field(
     descriptor: MessageDescriptor<'_>,
     span: Span,
 ) -> Result<ParseErrorKind, AllocError>
-    ensures { IfOk result (TellsFloatField descriptor.entry name.now) }
+    ensures told { IfOk result (TellsFloatField descriptor.entry name.now) }
+    ensures placed { IfOk result (λ kind. place_of kind ≡ Some span) }
 {
     Ok(ParseErrorKind::FloatField {
         field_name: String::from_str(alloc, name)?,
@@ -68,7 +73,8 @@ pub fn float_field(
 
 /// The field holds a value.
 pub fn already_set(alloc: Global, name: &str, span: Span) -> Result<ParseErrorKind, AllocError>
-    ensures { IfOk result (TellsSet name.now) }
+    ensures told { IfOk result (TellsSet name.now) }
+    ensures placed { IfOk result (λ kind. place_of kind ≡ Some span) }
 {
     Ok(ParseErrorKind::FieldAlreadySet {
         field_name: String::from_str(alloc, name)?,
@@ -82,7 +88,8 @@ pub fn oneof_already_set(
     oneof: OneofDescriptor<'_>,
     span: Span,
 ) -> Result<ParseErrorKind, AllocError>
-    ensures { IfOk result (TellsOneof oneof.entry) }
+    ensures told { IfOk result (TellsOneof oneof.entry) }
+    ensures placed { IfOk result (λ kind. place_of kind ≡ Some span) }
 {
     Ok(ParseErrorKind::OneofAlreadySet {
         oneof_name: String::from_str(alloc, oneof.name())?,

@@ -7,12 +7,16 @@ ghost use Rattle.reflect_format.specs.Reads.{IsCause, Reads, Refutes, StaysUnles
 ghost use Rattle.reflect_format.specs.Refusals.{RefusesSecond};
 ghost use Rattle.reflect_format.specs.Steps.{is_set};
 ghost use Rattle.reflect_format.specs.Takes.{Takes};
+ghost use Rattle.reflect_format.specs.Told.{AssignmentFault, BodyFault, ClosesAt, ExpansionFault, FieldFault, GivenFault, ListFault, MessageBytes, MessageFault, NamedFault, SecondFault, TextFault, Told, ValueBytes, ValueFault};
 ghost use Rattle.reflect_format.specs.Truth.{TrueFor, TrueOf};
 ghost use Rattle.reflect_format.specs.Unfit.{AreUnfitGiven, AreUnfitValues, CannotMake, IsUnfitBody, IsUnfitField, IsUnfitGiven, IsUnfitValue, Rejects, RejectsExpansion, Unfit};
 ghost use Rattle.std.specs.Prelude.{◌≡◌, ◌<◌, ◌⊎◌, Bool, IfErr, IfOk, OnOk, Some, false, string_bytes, true};
+ghost use Rattle.text_error.specs.Places.{place_of};
+ghost use Rattle.text_error.specs.declared.error.ParseErrorKind.TheVariants as kinds;
 ghost use Rattle.text_lex.specs.Longest.{Lexes};
 ghost use Rattle.text_model.specs.Tree.{FieldName, Fields};
 ghost use Rattle.text_scalars.specs.Braces as signs;
+ghost use Rattle.text_scalars.specs.Front.{sign_bytes};
 ghost use Rattle.text_scalars.specs.Left.{left};
 ghost use Rattle.text_scalars.specs.Names.{name_view, text_of};
 ghost use Rattle.text_scalars.specs.Remaining.{remaining};
@@ -66,6 +70,8 @@ impl<'a> Parser<'a> {
             e.kind) }
         ensures stops { IfErr result
             (λ e. Stops (remaining self.old.tokens) e.kind message.old message.new) }
+        ensures told { IfErr result
+            (λ e. Told (TextFault message.old (remaining self.old.tokens)) e.kind) }
     {
         match fields_to_end(&mut self.tokens, message) {
             Ok(()) => Ok(()),
@@ -88,6 +94,7 @@ fn fields_to_end(
         (λ fs. Unfit fs message.old)) }
     ensures stops { IfErr result
         (λ kind. Stops (remaining tokens.old) kind message.old message.new) }
+    ensures told { IfErr result (Told (TextFault message.old (remaining tokens.old))) }
 {
     'fields: while !tokens.is_empty() {
         field(tokens, message, MAX_BRACES)?;
@@ -112,6 +119,8 @@ fn field(
     ensures stays { IfErr result (λ kind. StaysUnless
         (There (field_at (message_at braces) (remaining tokens.old))
         (λ f. Begins f.name f.given message.old message.new)) kind message.old message.new) }
+    ensures told { IfErr result (Told (FieldFault braces (MessageFault braces) message.old
+        (remaining tokens.old))) }
 {
     let (name, span) = tokens.name()?;
     tokens.separator()?;
@@ -144,6 +153,8 @@ fn named_value(
         → IfErr result (λ kind. StaysUnless
         (There (given_at (message_at braces) colon (remaining tokens.old))
         (λ given. Begins n given message.old message.new)) kind message.old message.new) }
+    ensures told { (n : FieldName) → text_of n ≡ name_view name.entry → IfErr result
+        (Told (NamedFault braces (MessageFault braces) n span message.old (remaining tokens.old))) }
 {
     let descriptor = message.descriptor();
     match name {
@@ -182,6 +193,8 @@ fn assignment<'p>(
         (There (given_at (message_at braces) colon (remaining tokens.old))
         (λ given. AddsSome target.entry (AreGiven given) message.old message.new))
         kind message.old message.new) }
+    ensures told { IfErr result (Told (AssignmentFault braces (MessageFault braces) target.entry
+        message.old (remaining tokens.old))) }
 {
     if target.holds_many() {
         let values = values(tokens, target.kind(), braces)?;
@@ -205,6 +218,8 @@ fn refuse_second<'p>(
         ((is_set message.now target.entry ≡ true) ⊎ HasRival target.entry message.now)) }
     ensures none { OnOk result (is_set message.now target.entry ≡ false) }
     ensures alone { OnOk result (IsAlone target.entry message.now) }
+    ensures told { IfErr result (Told
+        (λ kind. SecondFault message.now target.entry kind × (place_of kind ≡ Some span))) }
 {
     if target.is_set(message) {
         return Err(already_set(alloc, target.text_name(), span)?);
@@ -230,6 +245,8 @@ fn values<'p>(
     ensures cause { (colon : Bool)
         → IfErr result (Refutes (given_at (message_at braces) colon (remaining tokens.old))
         (λ given. AreUnfitGiven given kind.entry)) }
+    ensures told { IfErr result (Told (GivenFault braces (MessageFault braces) kind.entry
+        (remaining tokens.old) (sign_bytes 91 (remaining tokens.old)))) }
 {
     if tokens.eat(b'[').is_some() {
         return list(tokens, kind, braces);
@@ -253,6 +270,8 @@ fn list<'p>(
     ensures refused { IfErr result (TrueFor kind.entry) }
     ensures cause { IfErr result (Refutes (list_at (message_at braces) (remaining tokens.old))
         (λ given. AreUnfitValues given kind.entry)) }
+    ensures told { IfErr result (Told (ListFault braces (MessageFault braces) kind.entry
+        (remaining tokens.old))) }
 {
     let mut values = Vec::new(tokens.alloc);
     if tokens.eat(b']').is_some() {
@@ -293,6 +312,8 @@ fn expansion(
         (There (given_at (message_at braces) colon (remaining tokens.old))
         (λ given. HoldsUrl (url_of (string_bytes name.domain) (string_bytes name.message))
         message.old message.new)) kind message.old message.new) }
+    ensures told { IfErr result (Told (ExpansionFault braces (MessageFault braces)
+        (string_bytes name.message) span message.old (remaining tokens.old))) }
 {
     let descriptor = message.descriptor();
     let known = descriptor
@@ -322,6 +343,8 @@ fn hold(
     ensures stays { IfErr result (λ kind. StaysUnless
         (HoldsUrl (url_of (string_bytes name.now.domain) (string_bytes name.now.message))
         message.old message.new) kind message.old message.new) }
+    ensures told { IfErr result (Told (λ kind. (IsAny message.old.descriptor → ⊥)
+        × (kind ≡ kinds.InvalidTypeForAny span))) }
 {
     let Some(fields) = any_fields(message.descriptor()) else {
         return Err(ParseErrorKind::InvalidTypeForAny { span });
@@ -351,6 +374,9 @@ fn value<'p>(
     ensures refused { IfErr result (TrueFor kind.entry) }
     ensures cause { IfErr result (Refutes (value_at (message_at braces) (remaining tokens.old))
         (λ v. IsUnfitValue v kind.entry)) }
+    ensures told { IfErr result (Told (ValueFault (MessageFault braces) kind.entry
+        (remaining tokens.old))) }
+    ensures bytes { IfOk result (λ p. ValueBytes braces kind.entry (remaining tokens.old) p.1) }
 {
     match kind {
         Kind::Message(descriptor) => {
@@ -374,6 +400,8 @@ fn message_value<'p>(
     ensures refused { IfErr result (TrueOf descriptor.entry.pool.now) }
     ensures cause { IfErr result (Refutes (message_at braces (remaining tokens.old))
         (λ m. CannotMake descriptor.entry (Unfit m.1))) }
+    ensures told { IfErr result (Told (MessageFault braces descriptor.entry (remaining tokens.old))) }
+    ensures bytes { IfOk result (λ p. MessageBytes braces (remaining tokens.old) p.1) }
 {
     let Some((open, closing)) = tokens.open_brace() else {
         return Err(tokens.refuse("'{' or '<'"));
@@ -403,6 +431,9 @@ fn fields_to_brace(
     ensures cause { IfErr result (Refutes
         (fields_at (at_sign (signs.closing closing)) (message_at braces) (remaining tokens.old))
         (λ fs. Unfit fs message.old)) }
+    ensures told { IfErr result (Told (BodyFault braces (MessageFault braces) closing message.old
+        (remaining tokens.old))) }
+    ensures closed { IfOk result (ClosesAt braces closing (remaining tokens.old)) }
 {
     'fields: loop {
         if let Some(close) = tokens.eat(closing.sign()) {

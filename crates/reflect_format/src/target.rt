@@ -1,6 +1,6 @@
 //! Fields and extensions alike, as a text sets them.
 
-ghost use Rattle.std.specs.Prelude.{◌≡◌, IfErr, IfNone, IfOk, IfSome, IsTrue, OnErr, OnOk, string_bytes};
+ghost use Rattle.std.specs.Prelude.{◌≡◌, IfErr, IfNone, IfOk, IfSome, IsTrue, OnErr, OnOk, Some, string_bytes};
 ghost use Rattle.reflect_pool.specs.Kinds.{IsKind};
 ghost use Rattle.reflect_format.specs.Filled.{IsAlone};
 ghost use Rattle.reflect_format.specs.Lacks.{FindsPlain, IsGroupCalled, LacksField, LacksGroup};
@@ -9,6 +9,8 @@ ghost use Rattle.reflect_format.specs.Reads.{IsCause};
 ghost use Rattle.reflect_format.specs.Refusals.{Holds, HoldsMember, IsTextName, RefusesExtension, RefusesField, Shares};
 ghost use Rattle.reflect_format.specs.Steps.{Adds, AddsPart, Puts, Stays, StaysAscending, StaysExclusive, is_set};
 ghost use Rattle.reflect_format.specs.Takes.{Takes, holds_many, target_pool, target_type};
+ghost use Rattle.reflect_format.specs.Told.{Told};
+ghost use Rattle.text_error.specs.Places.{place_of};
 
 use crate::fault::{float_field, unknown_extension, unknown_field};
 use reflect_extend::ExtendMessage;
@@ -41,6 +43,7 @@ impl<'p> Target<'p> {
         ensures named { IfOk result (NamesField descriptor.entry name.now) }
         ensures unnamed { IfErr result (IsCause (NoFieldNamed descriptor.entry name.now)) }
         ensures refused { IfErr result (RefusesField descriptor.entry name.now) }
+        ensures placed { IfErr result (Told (λ kind. place_of kind ≡ Some span)) }
     {
         if let Some(field) = plain_field(descriptor, name) {
             if holds_floats(&field) {
@@ -66,6 +69,7 @@ impl<'p> Target<'p> {
         ensures unnamed { IfErr result
             (IsCause (NoExtensionNamed descriptor.entry (string_bytes name))) }
         ensures refused { IfErr result (RefusesExtension descriptor.entry (string_bytes name)) }
+        ensures placed { IfErr result (Told (λ kind. place_of kind ≡ Some span)) }
     {
         let Some(extension) = descriptor.get_extension_by_full_name(name.as_str()) else {
             return Err(unknown_extension(alloc, name, descriptor, span)?);

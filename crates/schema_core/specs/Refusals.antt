@@ -17,7 +17,8 @@ use Rattle.reflect_bytes.specs.Spelled.{SpellsSet, RecordsLinked}
 use Rattle.reflect_decode.specs.Spelled.{TellsWhy}
 use Rattle.reflect_format.specs.Reads.{IsCause}
 use Rattle.reflect_format.specs.Truth.{TrueOf}
-use Rattle.text_format.specs.Texts.{MakesNone}
+use Rattle.reflect_format.specs.Told.{Told}
+use Rattle.text_format.specs.Texts.{IsFaultOf, MakesNone}
 use Rattle.reflect_pool.specs.declared.message.MessageDescriptor.{MessageDescriptor}
 use Rattle.schema_core.specs.Payloads.{IsType}
 use Rattle.text_error.specs.declared.error.ParseError as text
@@ -71,10 +72,11 @@ BytesRefused p name bytes TooLong = IsNoMessage p name bytes wire.TooLong
 BytesRefused p name bytes Memory = Unit {0}
 BytesRefused p name bytes _ = ⊥
 
--- the type is known, the text makes no message of it, and what is told is true of the pool
+-- the type is known, the text makes no message of it, and what is told is its first fault, true of
+-- the pool
 abbrev pub IsNoText : PoolType → List ℕ → List ℕ → ParseErrorKind → Type 0
 IsNoText p name text kind = (d : MessageDescriptor) × IsType p name d
-    × IsCause (MakesNone d text) kind × TrueOf p kind
+    × IsCause (MakesNone d text) kind × TrueOf p kind × Told (IsFaultOf d text) kind
 
 -- of a text: the type is unknown, or it is known and the text is refused
 abbrev pub TextRefused : PoolType → List ℕ → List ℕ → SchemaError → Type 0

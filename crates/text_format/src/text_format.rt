@@ -1,7 +1,8 @@
 ghost use Rattle.std.specs.Prelude.{◌≡◌, IfErr, IfOk, OnOk, string_bytes};
 ghost use Rattle.reflect_format.specs.Reads.{IsCause};
 ghost use Rattle.reflect_format.specs.Truth.{TrueOf};
-ghost use Rattle.text_format.specs.Texts.{Fills, IsUnfit, Makes, MakesNone, Stops};
+ghost use Rattle.reflect_format.specs.Told.{Told};
+ghost use Rattle.text_format.specs.Texts.{Fills, IsFault, IsFaultOf, IsUnfit, Makes, MakesNone, Stops};
 ghost use Rattle.reflect_print.specs.MessageTexts.{IsMessageText};
 ghost use Rattle.text_lines.specs.Forms.{usual_form};
 
@@ -30,7 +31,8 @@ pub trait TextFormat<'p>: Sized {
         ensures made { IfOk result (λ m. Makes descriptor.entry text.now (message m)) }
         ensures refused { IfErr result (λ e. TrueOf descriptor.entry.pool.now e.kind) }
         ensures cause { IfErr result
-            (λ e. IsCause (MakesNone descriptor.entry text.now) e.kind) };
+            (λ e. IsCause (MakesNone descriptor.entry text.now) e.kind) }
+        ensures told { IfErr result (λ e. Told (IsFaultOf descriptor.entry text.now) e.kind) };
 
     /// Reads a text into the message. The first fault ends it; the message then has the fields at
     /// the top that were read before the fault, and for want of memory perhaps a part of the map or
@@ -44,7 +46,8 @@ pub trait TextFormat<'p>: Sized {
         ensures cause { IfErr result
             (λ e. IsCause (IsUnfit text.now (message self.old)) e.kind) }
         ensures stops { IfErr result
-            (λ e. Stops text.now e.kind (message self.old) (message self.new)) };
+            (λ e. Stops text.now e.kind (message self.old) (message self.new)) }
+        ensures told { IfErr result (λ e. Told (IsFault text.now (message self.old)) e.kind) };
 
     /// The message's text in the form of [`FormatOptions::new`].
     fn to_text_format(&self, alloc: Global) -> Result<String, WriteError>

@@ -1,11 +1,16 @@
-use Rattle.std.proofs.Common.{◌≡◌, ◌∙◌, inl, inr, arith, rules, refl, ap, subst, sym, string_bytes, suc, ◌-◌, ◌++◌, ◌∷◌, [], Some, None, false}
+use Rattle.std.proofs.Common.{◌≡◌, ◌∙◌, inl, inr, arith, rules, refl, ap, subst, sym, string_bytes, suc, ◌-◌, ◌++◌, ◌∷◌, [], Some, None, false, true}
+use Rattle.std.specs.Prelude.{codes}
 use Rattle.std.proofs.lemmas.Result.{IfErr-weaker, IfOk-weaker, on_ok_weaker}
 use Rattle.reflect_pool.specs.FindsNames.{FindsMessage}
-use Rattle.text_model.specs.Tree.{Values, append, braced, listed, more_values, no_fields, no_values, one_message}
+use Rattle.text_error.specs.Places.{place_of}
+use Rattle.text_error.specs.declared.error.ParseErrorKind.{ParseErrorKind}
+use Rattle.text_model.specs.Tree.{FieldName, Values, append, braced, listed, more_values, no_fields, no_values, one_message}
 use Rattle.text_model.specs.Value.{written}
 use Rattle.text_scalars.specs.Braces.{closing}
 use Rattle.text_scalars.specs.Front.{behind, begins_name, sees, sign_bytes}
-use Rattle.text_scalars.specs.Names.{name_view}
+use Rattle.text_scalars.specs.Names.{name_at, name_view, separator_at, text_and_bytes, view_and_bytes}
+use Rattle.text_scalars.specs.Reading.{Tells, seen_as}
+use Rattle.text_scalars.specs.Refusals.{IsUnexpected}
 use Rattle.text_scalars.specs.Remaining.{remaining}
 use Rattle.text_syntax.specs.Syntax.{OneField, Read, alone, at_sign, brace_of, end_at, field_at, fields_at, list_at, message_at, more_at, value_at, values_by}
 use Rattle.text_syntax.proofs.Continuing.{all_read, begin_on, behind_begun, behind_values, fields_stop, first_of, first_value, joined, listed_on, listed_twice, none_listed, one, values_next, values_over, values_stop}
@@ -15,8 +20,11 @@ use Rattle.reflect_format.specs.Begun.{Begins, HoldsUrl}
 use Rattle.reflect_format.specs.Filled.{AreGiven, AreValues, Expands, FillsBody, FillsField, url_of}
 use Rattle.reflect_format.specs.Named.{NamesExtension, NamesField, NoExtensionNamed, NoFieldNamed}
 use Rattle.reflect_format.specs.Reads.{StaysUnless, There}
+use Rattle.reflect_format.specs.Refusals.{RefusesExtension, RefusesField}
+use Rattle.reflect_format.specs.Told.{AssignmentFault, BodyFault, ClosesAt, ExpansionFault, FieldFault, GivenFault, ListBegins, ListFault, MessageFault, NamedFault, SecondFault, ValueBytes, ValueFault}
 use Rattle.reflect_format.specs.Truth.{TrueOf}
 use Rattle.reflect_format.specs.Unfit.{AreUnfitValues, CannotMake, IsUnfitBody, IsUnfitField, RejectsExpansion, Unfit}
+use Rattle.reflect_format.proofs.Faults.{body_told, brace_told, depth_told, list_on, name_there, reading_told, scalar_bytes, scalar_told, tells_unseen, told_memory, told_on}
 use Rattle.reflect_format.proofs.Filling.{alone_are, alone_is, cause, cause_of, colon_told, expansion_only, extension_only, fills_on, given_message, name_told, passes, plain_only, unfit_all, unfit_body, unfit_listed, unfit_message, unfit_on, unfit_one, unfit_values_on, unread, values_on}
 use Rattle.reflect_format.proofs.Single.{scalar_reads, scalar_refutes}
 use Rattle.reflect_format.proofs.Telling.{field_true, extension_true, scalar_true, second_true, passed}
@@ -565,7 +573,7 @@ list-values-init t c =
     let ls = remaining c.args.tokens.now in
     let mid = remaining c.eat.new.self in
     let left = untaken_sign 93 ls mid c.eat.result c.eat.ensures.found (sym c.is_some.ensures ∙ c.if-is_some.false) c.eat.ensures.behind in
-    (omega arith, no_values, c.new-values.ensures.items, list_opened inner mid (ap (sign_bytes 93) left.same ∙ left.none) ∙ none_listed (values_by inner (more_at inner) mid))
+    (omega arith, no_values, c.new-values.ensures.items, list_opened inner mid (ap (sign_bytes 93) left.same ∙ left.none) ∙ none_listed (values_by inner (more_at inner) mid), refl)
 
 pub list-values-preserved : goal.list-values-preserved
 list-values-preserved t c =
@@ -585,6 +593,8 @@ list-values-preserved t c =
       joined inv.1 one_more,
       subst (AreValues (joined inv.1 one_more) c.args.kind) (sym items) (values_on inv.1 w.0 c.args.kind c.values.values.items c.in_ok-value.value inv.2 w.2),
       inv.3 ∙ ap (listed_on inv.1) (step ∙ ap (λ l. listed_on one_more (values_by inner (more_at inner) l)) (ap behind (sym left.same) ∙ sym it.rest)) ∙ listed_twice inv.1 one_more (values_by inner (more_at inner) last),
+      subst (λ l. ListBegins inner _ (joined inv.1 one_more) l) (ap behind (sym left.same) ∙ sym it.rest)
+          (list_on inner _ inv.1 here mid w.0 it.span inv.4 w.1 (ap (sign_bytes 44) (sym left.same) ∙ it.there)),
     )
 
 pub list-returns-in_err-value-clause-cause : goal.list-returns-in_err-value-clause-cause
@@ -635,3 +645,348 @@ list-returns-then-is_none-clause-cause t c =
     let stop = values_stop inner (more_is inner (message_shorter c.args.braces)) here mid w.0 w.1 none.none (ap (sign_bytes 44) (sym none.same) ∙ further.none) in
     cause _ c.refuse.result (λ vs rest h. unread (list_at inner ls) (λ vs. AreUnfitValues vs c.args.kind)
     (ap (list_at inner) (sym left.same) ∙ inv.3 ∙ ap (listed_on inv.1) stop) vs rest h)
+
+-- ---- what is told
+
+pub field-returns-in_err-name-clause-told : goal.field-returns-in_err-name-clause-told
+field-returns-in_err-name-clause-told t c =
+    let n = c.args.braces in
+    let ls = remaining c.args.tokens.now in
+    let k = c.in_err-name.field-0.0 in
+    let read = seen_as text_and_bytes (name_at ls) in
+    told_on (Tells read) (FieldFault n (MessageFault n) c.args.message.now ls) c.from_residual.result k c.from_residual.ensures.1
+    (λ h. inl (tells_unseen text_and_bytes (name_at ls) k h))
+    (reading_told view_and_bytes read k (remaining c.name.new.self) c.in_err-name.ensures.read)
+
+pub field-returns-in_err-separator-clause-told : goal.field-returns-in_err-separator-clause-told
+field-returns-in_err-separator-clause-told t c =
+    let n = c.args.braces in
+    let ls = remaining c.args.tokens.now in
+    let named = remaining c.name.new.self in
+    let there = name_there ls named _ c.in_ok-name.ensures.read in
+    let k = c.in_err-separator.field-0.0 in
+    let r = c.from_residual-in_err-separator in
+    told_on (Tells (separator_at named)) (FieldFault n (MessageFault n) c.args.message.now ls) r.result k r.ensures.1
+    (λ h. inr ((there.0, _), named, there.1, inl h))
+    (reading_told (λ x. x) (separator_at named) k (remaining c.separator.new.self) c.in_err-separator.ensures.read)
+
+pub field-returns-in_err-named_value-clause-told : goal.field-returns-in_err-named_value-clause-told
+field-returns-in_err-named_value-clause-told t c =
+    let n = c.args.braces in
+    let ls = remaining c.args.tokens.now in
+    let named = remaining c.name.new.self in
+    let parted = remaining c.separator.new.self in
+    let there = name_there ls named _ c.in_ok-name.ensures.read in
+    let k = c.in_err-named_value.field-0.0 in
+    let r = c.from_residual-in_err-named_value in
+    told_on (NamedFault n (MessageFault n) there.0 _ c.args.message.now parted) (FieldFault n (MessageFault n) c.args.message.now ls) r.result k r.ensures.1
+    (λ h. inr ((there.0, _), named, there.1, inr (parted, c.in_ok-separator.ensures.read, h)))
+    (c.in_err-named_value.ensures.told there.0 there.2)
+
+pub named_value-returns-in_err-target-in-Field-clause-told :
+    goal.named_value-returns-in_err-target-in-Field-clause-told
+named_value-returns-in_err-target-in-Field-clause-told t c = λ n same.
+    let b = c.args.braces in
+    let m = c.args.message.now in
+    let w = c.in-Field.name.now in
+    let fault = c.in_err-target-in-Field in
+    let k = fault.field-0.0 in
+    let Named : FieldName → ParseErrorKind → Type 0 = λ n k. NamedFault b (MessageFault b) n c.args.span m (remaining c.args.tokens.now) k in
+    told_on (λ e. place_of e ≡ Some c.args.span) (Named n) c.from_residual.result k c.from_residual.ensures.1
+    (λ place. plain_only (λ n. Named n k) n w (same ∙ ap name_view c.in-Field.is)
+    (inl (subst (λ d. RefusesField d w k) c.descriptor-descriptor.ensures fault.ensures.refused, place)))
+    fault.ensures.placed
+
+pub named_value-returns-in_err-target-in-Extension-clause-told :
+    goal.named_value-returns-in_err-target-in-Extension-clause-told
+named_value-returns-in_err-target-in-Extension-clause-told t c = λ n same.
+    let b = c.args.braces in
+    let m = c.args.message.now in
+    let w = string_bytes c.in-Extension.name in
+    let fault = c.in_err-target-in-Extension in
+    let k = fault.field-0.0 in
+    let r = c.from_residual-in_err-target-in-Extension in
+    let Named : FieldName → ParseErrorKind → Type 0 = λ n k. NamedFault b (MessageFault b) n c.args.span m (remaining c.args.tokens.now) k in
+    told_on (λ e. place_of e ≡ Some c.args.span) (Named n) r.result k r.ensures.1
+    (λ place. extension_only (λ n. Named n k) n w (same ∙ ap name_view c.in-Extension.is)
+    (λ e is. inl (subst (λ x. RefusesExtension m.descriptor x k) (sym is) (subst (λ d. RefusesExtension d w k) c.descriptor-descriptor.ensures fault.ensures.refused), place)))
+    fault.ensures.placed
+
+pub named_value-returns-in_ok-target-in-Field-clause-told :
+    goal.named_value-returns-in_ok-target-in-Field-clause-told
+named_value-returns-in_ok-target-in-Field-clause-told t c = λ n same.
+    let b = c.args.braces in
+    let m = c.args.message.now in
+    let target = c.in_ok-target-in-Field.target in
+    let w = c.in-Field.name.now in
+    let named = subst (λ d. NamesField d w target) c.descriptor-descriptor.ensures c.in_ok-target-in-Field.ensures.named in
+    IfErr-weaker c.assignment.result _ _ (λ k h. cause_of _ _ k
+    (λ a. plain_only (λ n. NamedFault b (MessageFault b) n c.args.span m (remaining c.args.tokens.now) k) n w (same ∙ ap name_view c.in-Field.is) (inr (target, named, a))) h)
+    c.assignment.ensures.told
+
+pub named_value-returns-in_ok-target-in-Extension-clause-told :
+    goal.named_value-returns-in_ok-target-in-Extension-clause-told
+named_value-returns-in_ok-target-in-Extension-clause-told t c = λ n same.
+    let b = c.args.braces in
+    let m = c.args.message.now in
+    let target = c.in_ok-target-in-Extension.target in
+    let w = string_bytes c.in-Extension.name in
+    let named = subst (λ d. NamesExtension d w target) c.descriptor-descriptor.ensures c.in_ok-target-in-Extension.ensures.named in
+    IfErr-weaker c.assignment-in-Extension.result _ _ (λ k h. cause_of _ _ k
+    (λ a. extension_only (λ n. NamedFault b (MessageFault b) n c.args.span m (remaining c.args.tokens.now) k) n w (same ∙ ap name_view c.in-Extension.is)
+    (λ e is. inr (target, subst (λ x. NamesExtension m.descriptor x target) (sym is) named, a))) h)
+    c.assignment-in-Extension.ensures.told
+
+pub named_value-returns-in-Any-clause-told : goal.named_value-returns-in-Any-clause-told
+named_value-returns-in-Any-clause-told t c = λ n same.
+    let b = c.args.braces in
+    let m = c.args.message.now in
+    let ls = remaining c.args.tokens.now in
+    let name = c.in-Any.name in
+    IfErr-weaker c.expansion.result _ _ (λ k h. cause_of _ _ k
+    (λ a. expansion_only (λ n. NamedFault b (MessageFault b) n c.args.span m ls k) n (string_bytes name.domain) (string_bytes name.message) (same ∙ ap name_view c.in-Any.is)
+    (λ d e is was. subst (λ x. ExpansionFault b (MessageFault b) x c.args.span m ls k) (sym was) a)) h)
+    c.expansion.ensures.told
+
+pub assignment-returns-in_err-values-clause-told : goal.assignment-returns-in_err-values-clause-told
+assignment-returns-in_err-values-clause-told t c =
+    let b = c.args.braces in
+    let ls = remaining c.args.tokens.now in
+    told_on (GivenFault b (MessageFault b) c.kind.result ls (sign_bytes 91 ls)) (AssignmentFault b (MessageFault b) c.args.target c.args.message.now ls) c.from_residual.result c.in_err-values.field-0.0 c.from_residual.ensures.1
+    (λ h. (c.kind.result, c.kind.ensures, inl (sym c.holds_many.ensures ∙ c.if-holds_many.true, h)))
+    c.in_err-values.ensures.told
+
+pub assignment-returns-in_err-add-clause-told : goal.assignment-returns-in_err-add-clause-told
+assignment-returns-in_err-add-clause-told t c =
+    told_memory _ c.from_residual-in_err-add.result c.from_residual-in_err-add.ensures.1
+
+pub assignment-returns-in_err-value-clause-told : goal.assignment-returns-in_err-value-clause-told
+assignment-returns-in_err-value-clause-told t c =
+    let b = c.args.braces in
+    let ls = remaining c.args.tokens.now in
+    let r = c.from_residual-in_err-value in
+    told_on (ValueFault (MessageFault b) c.kind-2.result ls) (AssignmentFault b (MessageFault b) c.args.target c.args.message.now ls) r.result c.in_err-value.field-0.0 r.ensures.1
+    (λ h. (c.kind-2.result, c.kind-2.ensures, inr (sym c.holds_many.ensures ∙ c.if-holds_many.false, inl h)))
+    c.in_err-value.ensures.told
+
+pub assignment-returns-in_err-refuse_second-clause-told :
+    goal.assignment-returns-in_err-refuse_second-clause-told
+assignment-returns-in_err-refuse_second-clause-told t c =
+    let b = c.args.braces in
+    let ls = remaining c.args.tokens.now in
+    let m = c.args.message.now in
+    let value = c.in_ok-value in
+    let w = value.ensures.read in
+    let r = c.from_residual-in_err-refuse_second in
+    told_on (λ e. SecondFault m c.args.target e × (place_of e ≡ Some value.span)) (AssignmentFault b (MessageFault b) c.args.target m ls) r.result c.in_err-refuse_second.field-0.0 r.ensures.1
+    (λ h. (
+      c.kind-2.result,
+      c.kind-2.ensures,
+      inr (sym c.holds_many.ensures ∙ c.if-holds_many.false, inr (w.0, remaining c.value.new.tokens, w.1, value.span, value.ensures.bytes, h.0, h.1)),
+    ))
+    c.in_err-refuse_second.ensures.told
+
+pub assignment-returns-in_err-set-clause-told : goal.assignment-returns-in_err-set-clause-told
+assignment-returns-in_err-set-clause-told t c =
+    told_memory _ c.from_residual-in_err-set.result c.from_residual-in_err-set.ensures.1
+
+pub values-returns-then-is_some-clause-told : goal.values-returns-then-is_some-clause-told
+values-returns-then-is_some-clause-told t c =
+    let b = c.args.braces in
+    let k = c.args.kind in
+    let ls = remaining c.args.tokens.now in
+    let mid = remaining c.eat.new.self in
+    let it = taken_sign 91 ls mid c.eat.result c.eat.ensures.found (sym c.is_some.ensures ∙ c.if-is_some.true) c.eat.ensures.behind in
+    IfErr-weaker c.list.result _ _ (λ e h. cause_of _ _ e
+    (λ a. subst (λ o. GivenFault b (MessageFault b) k ls o e) (sym it.there)
+    (subst (λ l. ListFault b (MessageFault b) k l e) it.rest a)) h)
+    c.list.ensures.told
+
+pub values-returns-in_err-value-clause-told : goal.values-returns-in_err-value-clause-told
+values-returns-in_err-value-clause-told t c =
+    let b = c.args.braces in
+    let k = c.args.kind in
+    let ls = remaining c.args.tokens.now in
+    let mid = remaining c.eat.new.self in
+    let e = c.in_err-value.field-0.0 in
+    let left = untaken_sign 91 ls mid c.eat.result c.eat.ensures.found (sym c.is_some.ensures ∙ c.if-is_some.false) c.eat.ensures.behind in
+    told_on (ValueFault (MessageFault b) k mid) (GivenFault b (MessageFault b) k ls (sign_bytes 91 ls)) c.from_residual.result e c.from_residual.ensures.1
+    (λ h. subst (λ o. GivenFault b (MessageFault b) k ls o e) (sym left.none)
+    (subst (λ l. ValueFault (MessageFault b) k l e) left.same h))
+    c.in_err-value.ensures.told
+
+pub values-returns-in_err-push-clause-told : goal.values-returns-in_err-push-clause-told
+values-returns-in_err-push-clause-told t c =
+    told_memory _ c.from_residual-in_err-push.result c.from_residual-in_err-push.ensures.1
+
+pub list-returns-in_err-value-clause-told : goal.list-returns-in_err-value-clause-told
+list-returns-in_err-value-clause-told t c =
+    let b = c.args.braces in
+    let k = c.args.kind in
+    let ls = remaining c.args.tokens.now in
+    let here = remaining c.values.tokens in
+    let inv = c.values.invariant in
+    let left = untaken_sign 93 ls (remaining c.eat.new.self) c.eat.result c.eat.ensures.found (sym c.is_some.ensures ∙ c.if-is_some.false) c.eat.ensures.behind in
+    told_on (ValueFault (MessageFault b) k here) (ListFault b (MessageFault b) k ls) c.from_residual.result c.in_err-value.field-0.0 c.from_residual.ensures.1
+    (λ h. (left.none, inv.1, c.values.values.items, inv.2, here, subst (λ l. ListBegins (message_at b) l inv.1 here) left.same inv.4, inl h))
+    c.in_err-value.ensures.told
+
+pub list-returns-in_err-push-clause-told : goal.list-returns-in_err-push-clause-told
+list-returns-in_err-push-clause-told t c =
+    told_memory _ c.from_residual-in_err-push.result c.from_residual-in_err-push.ensures.1
+
+pub list-returns-then-is_none-clause-told : goal.list-returns-then-is_none-clause-told
+list-returns-then-is_none-clause-told t c =
+    let b = c.args.braces in
+    let ls = remaining c.args.tokens.now in
+    let here = remaining c.values.tokens in
+    let mid = remaining c.value.new.tokens in
+    let closed = remaining c.eat-in-values.new.self in
+    let inv = c.values.invariant in
+    let w = c.in_ok-value.ensures.read in
+    let left = untaken_sign 93 ls (remaining c.eat.new.self) c.eat.result c.eat.ensures.found (sym c.is_some.ensures ∙ c.if-is_some.false) c.eat.ensures.behind in
+    let none = untaken_sign 93 mid closed c.eat-in-values.result c.eat-in-values.ensures.found (sym c.is_some-in-values.ensures ∙ c.if-is_some-2.false) c.eat-in-values.ensures.behind in
+    let further = untaken_sign 44 closed (remaining c.eat-in-values-2.new.self) c.eat-in-values-2.result c.eat-in-values-2.ensures.found c.if-is_none.ensures c.eat-in-values-2.ensures.behind in
+    cause (ListFault b (MessageFault b) c.args.kind ls c.refuse.result) c.refuse.result (
+      left.none,
+      inv.1,
+      c.values.values.items,
+      inv.2,
+      here,
+      subst (λ l. ListBegins (message_at b) l inv.1 here) left.same inv.4,
+      inr (w.0, mid, w.1, none.none, ap (sign_bytes 44) (sym none.same) ∙ further.none, subst (λ l. IsUnexpected (codes "',' or ']'") l c.refuse.result) (further.same ∙ none.same) c.refuse.ensures.told),
+    )
+
+pub expansion-returns-in_default-clause-told : goal.expansion-returns-in_default-clause-told
+expansion-returns-in_default-clause-told t c =
+    let none : FindsMessage c.args.message.now.descriptor.pool.now (string_bytes c.args.name.message) None = search rules in
+    cause _ c.unknown_message.result (inl (none, c.unknown_message.ensures.told, c.unknown_message.ensures.placed))
+
+pub expansion-returns-in_err-body-clause-told : goal.expansion-returns-in_err-body-clause-told
+expansion-returns-in_err-body-clause-told t c =
+    let b = c.args.braces in
+    let ls = remaining c.args.tokens.now in
+    let pool : c.in-Some.kind.pool.now ≡ c.args.message.now.descriptor.pool.now = search rules in
+    let finds : FindsMessage c.args.message.now.descriptor.pool.now (string_bytes c.args.name.message) (Some c.in-Some.kind) = search rules in
+    told_on (MessageFault b c.in-Some.kind ls) (ExpansionFault b (MessageFault b) (string_bytes c.args.name.message) c.args.span c.args.message.now ls) c.from_residual.result c.in_err-body.field-0.0 c.from_residual.ensures.1
+    (λ h. inr (c.in-Some.kind, pool, finds, inl h))
+    c.in_err-body.ensures.told
+
+pub expansion-returns-clause-told : goal.expansion-returns-clause-told
+expansion-returns-clause-told t c =
+    let pool : c.in-Some.kind.pool.now ≡ c.args.message.now.descriptor.pool.now = search rules in
+    let finds : FindsMessage c.args.message.now.descriptor.pool.now (string_bytes c.args.name.message) (Some c.in-Some.kind) = search rules in
+    let w = c.in_ok-body.ensures.made in
+    IfErr-weaker c.hold.result _ _ (λ k h. cause_of _ _ k
+    (λ a. inr (c.in-Some.kind, pool, finds, inr (w.0, remaining c.message_value.new.tokens, w.1, a.0, a.1))) h)
+    c.hold.ensures.told
+
+pub value-returns-in_err-message-in-Message-clause-told :
+    goal.value-returns-in_err-message-in-Message-clause-told
+value-returns-in_err-message-in-Message-clause-told t c =
+    let b = c.args.braces in
+    let ls = remaining c.args.tokens.now in
+    let fault = c.in_err-message-in-Message in
+    let k = fault.field-0.0 in
+    told_on (MessageFault b c.in-Message.descriptor ls) (ValueFault (MessageFault b) c.args.kind ls) c.from_residual.result k c.from_residual.ensures.1
+    (λ h. subst (λ x. ValueFault (MessageFault b) x ls k) (sym c.in-Message.is) h)
+    fault.ensures.told
+
+pub value-returns-in_ok-message-in-Message-clause-bytes :
+    goal.value-returns-in_ok-message-in-Message-clause-bytes
+value-returns-in_ok-message-in-Message-clause-bytes t c =
+    subst (λ x. ValueBytes c.args.braces x (remaining c.args.tokens.now) c.in_ok-message-in-Message.span) (sym c.in-Message.is)
+    c.in_ok-message-in-Message.ensures.bytes
+
+pub value-returns-in_default-clause-told : goal.value-returns-in_default-clause-told
+value-returns-in_default-clause-told t c =
+    IfErr-weaker c.scalar_value.result _ _
+    (λ k h. scalar_told (MessageFault c.args.braces) c.args.kind (remaining c.args.tokens.now) k c.in_default.not-Message h)
+    c.scalar_value.ensures.told
+
+pub value-returns-in_default-clause-bytes : goal.value-returns-in_default-clause-bytes
+value-returns-in_default-clause-bytes t c =
+    scalar_bytes c.args.braces c.args.kind (remaining c.args.tokens.now) (remaining c.scalar_value.new.tokens) c.scalar_value.result c.in_default.not-Message c.scalar_value.ensures.read
+
+pub message_value-returns-in_default-clause-told :
+    goal.message_value-returns-in_default-clause-told
+message_value-returns-in_default-clause-told t c =
+    let ls = remaining c.args.tokens.now in
+    let none = sym c.open_brace.ensures.found ∙ c.in_default.is in
+    let same : remaining c.open_brace.new.self ≡ ls = search rules in
+    cause _ c.refuse.result (brace_told c.args.braces c.args.descriptor ls c.refuse.result none
+    (subst (λ l. IsUnexpected (codes "'{' or '<'") l c.refuse.result) same c.refuse.ensures.told))
+
+pub message_value-returns-then-braces-eq0-clause-told :
+    goal.message_value-returns-then-braces-eq0-clause-told
+message_value-returns-then-braces-eq0-clause-told t c =
+    let brace = sym c.open_brace.ensures.found ∙ c.in-Some.is in
+    depth_told c.args.braces c.args.descriptor (remaining c.args.tokens.now) (c.in-Some.open, c.in-Some.closing) c.if-braces-eq0.true brace
+
+pub message_value-returns-in_err-close-clause-told :
+    goal.message_value-returns-in_err-close-clause-told
+message_value-returns-in_err-close-clause-told t c =
+    let n = c.args.braces in
+    let ls = remaining c.args.tokens.now in
+    let count : n ≡ suc (n - 1) = omega (arith, c.if-braces-eq0.false) in
+    let brace = sym c.open_brace.ensures.found ∙ c.in-Some.is in
+    let after : remaining c.open_brace.new.self ≡ behind ls = search rules in
+    let blank = c.new-message.result in
+    let closing = c.in-Some.closing in
+    let k = c.in_err-close.field-0.0 in
+    told_on (BodyFault (n - 1) (MessageFault (n - 1)) closing blank (remaining c.open_brace.new.self)) (MessageFault n c.args.descriptor ls) c.from_residual.result k c.from_residual.ensures.1
+    (λ h. body_told n (n - 1) c.args.descriptor ls (c.in-Some.open, closing) k count brace
+    (blank, c.new-message.ensures.same_type, c.new-message.ensures.empty, subst (λ l. BodyFault (n - 1) (MessageFault (n - 1)) closing blank l k) after h))
+    c.in_err-close.ensures.told
+
+pub message_value-returns-clause-bytes : goal.message_value-returns-clause-bytes
+message_value-returns-clause-bytes t c =
+    let n = c.args.braces in
+    let ls = remaining c.args.tokens.now in
+    let brace = sym c.open_brace.ensures.found ∙ c.in-Some.is in
+    let after : remaining c.open_brace.new.self ≡ behind ls = search rules in
+    let closing = c.in-Some.closing in
+    let close = c.in_ok-close.close in
+    ((c.in-Some.open, closing), brace, close, subst (λ l. ClosesAt (n - 1) closing l close) after c.in_ok-close.ensures.closed, c.through.ensures)
+
+pub fields_to_brace-returns-in-Some-clause-closed :
+    goal.fields_to_brace-returns-in-Some-clause-closed
+fields_to_brace-returns-in-Some-clause-closed t c =
+    let here = remaining c.fields.tokens in
+    let inv = c.fields.invariant in
+    let found : sign_bytes (closing c.args.closing) here ≡ Some c.in-Some.close = search rules in
+    (inv.2, here, inv.3, found)
+
+pub fields_to_brace-returns-then-not-is_at_name-clause-told :
+    goal.fields_to_brace-returns-then-not-is_at_name-clause-told
+fields_to_brace-returns-then-not-is_at_name-clause-told t c =
+    let here = remaining c.fields.tokens in
+    let inv = c.fields.invariant in
+    let same : remaining c.eat.new.self ≡ here = search rules in
+    let missing : sign_bytes (closing c.args.closing) here ≡ None = search rules in
+    let nameless : begins_name here ≡ false = search rules in
+    cause _ c.refuse.result (
+      inv.2,
+      here,
+      c.fields.message,
+      inv.3,
+      inv.4,
+      missing,
+      inl (nameless, subst (λ w. IsUnexpected w here c.refuse.result) c.expected.ensures (subst (λ l. IsUnexpected c.expected.result.now l c.refuse.result) same c.refuse.ensures.told)),
+    )
+
+pub fields_to_brace-returns-in_err-field-clause-told :
+    goal.fields_to_brace-returns-in_err-field-clause-told
+fields_to_brace-returns-in_err-field-clause-told t c =
+    let n = c.args.braces in
+    let ls = remaining c.args.tokens.now in
+    let here = remaining c.fields.tokens in
+    let mid = remaining c.eat.new.self in
+    let inv = c.fields.invariant in
+    let same : mid ≡ here = search rules in
+    let missing : sign_bytes (closing c.args.closing) here ≡ None = search rules in
+    let named : begins_name here ≡ true = search rules in
+    let k = c.in_err-field.field-0.0 in
+    told_on (FieldFault n (MessageFault n) c.fields.message mid) (BodyFault n (MessageFault n) c.args.closing c.args.message.now ls) c.from_residual.result k c.from_residual.ensures.1
+    (λ h. (inv.2, here, c.fields.message, inv.3, inv.4, missing, inr (named, subst (λ l. FieldFault n (MessageFault n) c.fields.message l k) same h)))
+    c.in_err-field.ensures.told

@@ -7,6 +7,7 @@ use Rattle.text_syntax.specs.Beginning.{BeginWith}
 use Rattle.text_syntax.specs.Syntax.{at_sign, list_at, message_at, more_at, values_by}
 use Rattle.text_syntax.proofs.Continuing.{listed_on}
 use Rattle.reflect_format.specs.Filled.{AreValues, Fills}
+use Rattle.reflect_format.specs.Told.{ListBegins}
 use Rattle.reflect_format.proofs.parser.+field.Given as goal
 
 abbrev pub decreases-message_value : goal.decreases-message_value
@@ -56,6 +57,7 @@ invariant-list-values l =
     × (list_at (message_at l.braces) (remaining l.initial.tokens)
     ≡ listed_on done
     (values_by (message_at l.braces) (more_at (message_at l.braces)) (remaining l.tokens)))
+    × ListBegins (message_at l.braces) (remaining l.initial.tokens) done (remaining l.tokens)
 
 abbrev pub decreases-list-values : goal.decreases-list-values
 decreases-list-values l = left l.tokens

@@ -7,7 +7,9 @@ use Rattle.text_syntax.proofs.Continuing.{all_read, begin_on, behind_begun, firs
 use Rattle.text_syntax.proofs.Parts.{more_goes_on, over_ends}
 use Rattle.text_syntax.proofs.Unfolding.{fields_is, message_shorter}
 use Rattle.reflect_format.specs.Reads.{Stops}
+use Rattle.reflect_format.specs.Told.{FieldFault, MessageFault, TextFault}
 use Rattle.reflect_format.specs.Unfit.{Unfit}
+use Rattle.reflect_format.proofs.Faults.{told_on}
 use Rattle.reflect_format.proofs.Filling.{fills_on, passes, unfit_on}
 use Rattle.reflect_format.proofs.Telling.{passed}
 use Rattle.reflect_format.proofs.parser.fields_to_end.Goals as goal
@@ -47,6 +49,15 @@ returns-in_err-field-clause-stops c =
     let inv = c.fields.invariant in
     passed r.result (λ k. Stops (remaining c.args.tokens.now) k c.args.message.now c.field.new.message) c.in_err-field.field-0.0 r.ensures.1
     (inv.1, remaining c.fields.tokens, c.fields.message, inv.2, inv.3, record { cause = c.in_err-field.ensures.cause; stays = c.in_err-field.ensures.stays })
+
+pub returns-in_err-field-clause-told : goal.returns-in_err-field-clause-told
+returns-in_err-field-clause-told c =
+    let ls = remaining c.args.tokens.now in
+    let here = remaining c.fields.tokens in
+    let inv = c.fields.invariant in
+    let more : is_over here ≡ false = search rules in
+    told_on (FieldFault 100 (MessageFault 100) c.fields.message here) (TextFault c.args.message.now ls) c.from_residual.result c.in_err-field.field-0.0 c.from_residual.ensures.1
+    (λ h. (inv.1, here, c.fields.message, inv.2, inv.3, more_goes_on here more, h)) c.in_err-field.ensures.told
 
 pub returns-clause-filled : goal.returns-clause-filled
 returns-clause-filled c =

@@ -3,6 +3,7 @@ use Rattle.protobuf_model.specs.Values.{Single, text, blob}
 use Rattle.reflect_entries.specs.Entries.{IsAscending}
 use Rattle.reflect_message.specs.Declares.{Declares}
 use Rattle.reflect_any.specs.Any.{IsAny}
+use Rattle.reflect_format.proofs.Faults.{told_memory}
 use Rattle.reflect_format.proofs.Stepping.{untouched, kept, unfinished}
 use Rattle.reflect_format.proofs.parser.hold.Goals as goal
 
@@ -51,3 +52,19 @@ returns-clause-held c =
       c.set_field.ensures.type_stays,
       subst (λ l. length l < 2 ^ 64) c.in-Ok.ensures.ok short,
     )
+
+pub returns-in_default-clause-told : goal.returns-in_default-clause-told
+returns-in_default-clause-told c =
+    let none : IsAny c.args.message.now.descriptor → ⊥ = search rules in
+    (none, refl)
+
+pub returns-in_err-type_url-clause-told : goal.returns-in_err-type_url-clause-told
+returns-in_err-type_url-clause-told c = told_memory _ c.from_residual.result c.from_residual.ensures.1
+
+pub returns-in_err-set_field-clause-told : goal.returns-in_err-set_field-clause-told
+returns-in_err-set_field-clause-told c =
+    told_memory _ c.from_residual-in_err-set_field.result c.from_residual-in_err-set_field.ensures.1
+
+pub returns-in_err-set_field-2-clause-told : goal.returns-in_err-set_field-2-clause-told
+returns-in_err-set_field-2-clause-told c =
+    told_memory _ c.from_residual-in_err-set_field-2.result c.from_residual-in_err-set_field-2.ensures.1

@@ -3,6 +3,7 @@ use Rattle.text_scalars.specs.Remaining.{remaining}
 use Rattle.text_syntax.proofs.Parts.{text_fields}
 use Rattle.text_syntax.proofs.Unfolding.{text_is}
 use Rattle.reflect_format.specs.Reads.{IsCause, Stops}
+use Rattle.reflect_format.specs.Told.{TextFault, Told}
 use Rattle.reflect_format.proofs.Filling.{cause_of}
 use Rattle.reflect_format.proofs.parser.Parser.parse_message.Goals as goal
 
@@ -21,3 +22,8 @@ pub returns-in-Err-clause-stops : goal.returns-in-Err-clause-stops
 returns-in-Err-clause-stops c =
     subst (λ k. Stops (remaining c.args.self.now.tokens) k c.args.message.now c.fields_to_end.new.message)
     (sym c.new.ensures) c.in-Err.ensures.stops
+
+pub returns-in-Err-clause-told : goal.returns-in-Err-clause-told
+returns-in-Err-clause-told c =
+    subst (Told (TextFault c.args.message.now (remaining c.args.self.now.tokens)))
+    (sym c.new.ensures) c.in-Err.ensures.told

@@ -12,7 +12,7 @@ returns-then-holds_floats-clause-refused c =
     let found = c.in-Some in
     let type = found.ensures.extendee in
     let holds : HoldsFloats (extension_pool found.extension) (extension_type found.extension) = search rules in
-    float_extension_told c.args.descriptor (string_bytes c.args.name) c.json_name.result.now _ c.in_ok-float_field.ensures
+    float_extension_told c.args.descriptor (string_bytes c.args.name) c.json_name.result.now _ c.in_ok-float_field.ensures.told
     (found.extension, (type.0, ap (λ p. (extension_at p found.extension.index).extendee) type.0 ∙ type.1), sym c.json_name.ensures, holds)
 
 pub returns-then-holds_floats-clause-unnamed : goal.returns-then-holds_floats-clause-unnamed
@@ -23,3 +23,7 @@ returns-then-holds_floats-clause-unnamed c =
     let finds : FindsAny (λ y. (y.extendee ≡ c.args.descriptor.index) × (y.field.full_name ≡ string_bytes c.args.name)) c.args.descriptor.pool.now (Some found.extension) = search rules in
     cause _ c.in_ok-float_field.field-0
     (inr (found.extension, ((type.0, ap (λ p. (extension_at p found.extension.index).extendee) type.0 ∙ type.1), finds), holds))
+
+pub returns-then-holds_floats-clause-placed : goal.returns-then-holds_floats-clause-placed
+returns-then-holds_floats-clause-placed c =
+    cause _ c.in_ok-float_field.field-0 c.in_ok-float_field.ensures.placed

@@ -11,7 +11,7 @@ returns-in_err-message-clause-err c =
     let type = c.in_ok-descriptor.ensures in
     let e = c.in_err-message.field-0.0 in
     rw (p.1, p.2) (of_text_kind c.args.self.now.pool c.args.type_name.now c.args.text.now e e.kind refl
-    (c.in_ok-descriptor.descriptor, (type.pool, type.ok), c.in_err-message.ensures.cause, subst (λ pool. TrueOf pool e.kind) type.pool c.in_err-message.ensures.refused))
+    (c.in_ok-descriptor.descriptor, (type.pool, type.ok), c.in_err-message.ensures.cause, subst (λ pool. TrueOf pool e.kind) type.pool c.in_err-message.ensures.refused, c.in_err-message.ensures.told))
 
 pub returns-clause-ok : goal.returns-clause-ok
 returns-clause-ok c =

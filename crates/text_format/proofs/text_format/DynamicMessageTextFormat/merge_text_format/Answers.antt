@@ -22,3 +22,9 @@ pub returns-clause-stops : goal.returns-clause-stops
 returns-clause-stops c =
     IfErr-weaker c.parse_message.result _ _
     (λ e h. (remaining c.new.result.tokens, c.new.ensures, h)) c.parse_message.ensures.stops
+
+pub returns-clause-told : goal.returns-clause-told
+returns-clause-told c =
+    IfErr-weaker c.parse_message.result _ _ (λ e h. cause_of _ _ e.kind
+    (λ fault. (remaining c.new.result.tokens, c.new.ensures, fault)) h)
+    c.parse_message.ensures.told

@@ -26,3 +26,16 @@ returns-in_err-parse_message-clause-cause c =
       u fs ((exact_text c.args.text.now ls fs c.new.ensures).1 is),
     ))
     c.in_err-parse_message.ensures.cause)
+
+pub returns-in_err-parse_message-clause-told : goal.returns-in_err-parse_message-clause-told
+returns-in_err-parse_message-clause-told c =
+    let r = c.from_residual in
+    let p = err_from_is_err_and r.result r.ensures.1 in
+    rw (p.1, p.2) (cause_of _ _ c.in_err-parse_message.field-0.0.kind
+    (λ fault. (
+      c.new-message.result,
+      c.new-message.ensures.same_type,
+      c.new-message.ensures.empty,
+      (remaining c.new.result.tokens, c.new.ensures, fault),
+    ))
+    c.in_err-parse_message.ensures.told)
