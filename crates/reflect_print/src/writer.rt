@@ -1,8 +1,9 @@
 //! From a message to text.
 
-ghost use Rattle.std.specs.Prelude.{◌≡◌, IfOk, OnOk, string_bytes};
+ghost use Rattle.std.specs.Prelude.{◌≡◌, IfErr, IfOk, OnOk, string_bytes};
 ghost use Rattle.text_lines.specs.Appends.{WritesOne};
 ghost use Rattle.text_lines.specs.UnknownTexts.{IsPayloadText, IsRecordText};
+ghost use Rattle.text_lines.specs.declared.error.WriteError.TheVariants.{Memory};
 ghost use Rattle.reflect_print.specs.MessageTexts.{IsItemsText, IsValueText, IsMessageText};
 ghost use Rattle.reflect_print.specs.Named.{kind_given};
 ghost use Rattle.reflect_wire.specs.Views.{field_view};
@@ -78,20 +79,25 @@ impl<'a, W: fmt::Write> Writer<'a, W> {
     }
 }
 
-/// The text of a message in the form of the options, without braces around it.
+/// The text of a message in the form of the options, without braces around it. Refused for want of
+/// memory alone.
 pub fn message_text(
     alloc: Global,
     message: &DynamicMessage<'_>,
     options: FormatOptions,
 ) -> Result<String, WriteError>
-    ensures { IfOk result (λ text. IsMessageText options message.now (string_bytes text)) }
+    ensures text { IfOk result (λ text. IsMessageText options message.now (string_bytes text)) }
+    ensures err { IfErr result (λ e. e ≡ Memory) }
 {
     let mut lines = Lines {
         alloc,
         options,
         output: String::new(alloc),
     };
-    items(&mut lines, message, false, Place::TOP)?;
+    let Ok(_any) = items(&mut lines, message, false, Place::TOP) else {
+        // a `String` refuses what is written to it for want of memory alone
+        return Err(WriteError::Memory);
+    };
     let Lines { output, .. } = lines;
     Ok(output)
 }

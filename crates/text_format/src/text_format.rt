@@ -5,6 +5,7 @@ ghost use Rattle.reflect_format.specs.Told.{Told};
 ghost use Rattle.text_format.specs.Texts.{Fills, IsFault, IsFaultOf, IsUnfit, Makes, MakesNone, Stops};
 ghost use Rattle.reflect_print.specs.MessageTexts.{IsMessageText};
 ghost use Rattle.text_lines.specs.Forms.{usual_form};
+ghost use Rattle.text_lines.specs.declared.error.WriteError.TheVariants.{Memory};
 
 use reflect_format::{ParseError, Parser};
 use reflect_message::{DynamicMessage, MessageParts};
@@ -49,19 +50,21 @@ pub trait TextFormat<'p>: Sized {
             (λ e. Stops text.now e.kind (message self.old) (message self.new)) }
         ensures told { IfErr result (λ e. Told (IsFault text.now (message self.old)) e.kind) };
 
-    /// The message's text in the form of [`FormatOptions::new`].
+    /// The message's text in the form of [`FormatOptions::new`]. Refused for want of memory alone.
     fn to_text_format(&self, alloc: Global) -> Result<String, WriteError>
-        ensures { IfOk result
-            (λ text. IsMessageText usual_form (message self.now) (string_bytes text)) };
+        ensures text { IfOk result
+            (λ text. IsMessageText usual_form (message self.now) (string_bytes text)) }
+        ensures err { IfErr result (λ e. e ≡ Memory) };
 
-    /// The message's text in the form of the options.
+    /// The message's text in the form of the options. Refused for want of memory alone.
     fn to_text_format_with_options(
         &self,
         alloc: Global,
         options: &FormatOptions,
     ) -> Result<String, WriteError>
-        ensures { IfOk result
-            (λ text. IsMessageText options.now (message self.now) (string_bytes text)) };
+        ensures text { IfOk result
+            (λ text. IsMessageText options.now (message self.now) (string_bytes text)) }
+        ensures err { IfErr result (λ e. e ≡ Memory) };
 }
 
 impl<'p> TextFormat<'p> for DynamicMessage<'p> {

@@ -7,5 +7,5 @@ pub returns-in-Ok-clause-ok : goal.returns-in-Ok-clause-ok
 returns-in-Ok-clause-ok c =
     let m = c.in_ok-message.message in
     let form : c.expand_any-options.result ≡ compact_form = search rules in
-    let printed = subst (λ f. IsMessageText f m (string_bytes c.in-Ok.text)) form c.in-Ok.ensures in
+    let printed = subst (λ f. IsMessageText f m (string_bytes c.in-Ok.text)) form c.in-Ok.ensures.text in
     (m, c.in_ok-message.ensures.ok, printed)
