@@ -46,6 +46,11 @@ pub told_memory : {T : Type 0} (Q : ParseErrorKind → Type 0) (r : Result T Par
     → IsErrAnd r (λ e. e ≡ kinds.Memory) → IfErr r (Told Q)
 told_memory Q r is = passed r (Told Q) kinds.Memory is tt
 
+pub both_told : (P Q : ParseErrorKind → Type 0) (k : ParseErrorKind) → Told P k → Told Q k
+    → Told (λ e. P e × Q e) k
+both_told P Q kinds.Memory p q = tt
+both_told P Q _ p q = (p, q)
+
 -- ---- names
 
 pub reading_told : {A B : Type 0} (view : B → A) (r : Reading A) (k : ParseErrorKind)
@@ -89,15 +94,21 @@ name_there ls rest v h = by (name_at ls) refl where
 
 -- ---- values
 
+scalar_fault : (inner : MessageFaults) (kind : Kind) (ls : List Lexeme) (k : ParseErrorKind)
+    → ((d : MessageDescriptor) → kind ≡ values.Message d → ⊥) → kind_value_at kind ls ≡ None
+    → RefusesKind kind ls k → ValueFault inner kind ls k
+scalar_fault inner (values.Message d) ls k not none h = absurd (not d refl)
+scalar_fault inner _ ls k not none h = (none, h)
+
 -- what is told of a value that is no message
-pub scalar_told : (inner : MessageFaults) (kind : Kind) (ls : List Lexeme) (k : ParseErrorKind)
-    → ((d : MessageDescriptor) → kind ≡ values.Message d → ⊥) → RefusesKind kind ls k
-    → Told (ValueFault inner kind ls) k
-scalar_told inner kind ls k not h = cause (ValueFault inner kind ls k) k (by kind not h) where
-  by : (x : Kind) → ((d : MessageDescriptor) → x ≡ values.Message d → ⊥) → RefusesKind x ls k
-      → ValueFault inner x ls k
-  by (values.Message d) not h = absurd (not d refl)
-  by _ not h = h
+pub scalar_told : (inner : MessageFaults) (kind : Kind) (ls rest : List Lexeme)
+    (r : Result (held.Value × Span) ParseErrorKind)
+    → ((d : MessageDescriptor) → kind ≡ values.Message d → ⊥)
+    → ReadsSingle (kind_value_at kind ls) r rest → IfErr r (RefusesKind kind ls)
+    → IfErr r (Told (ValueFault inner kind ls))
+scalar_told inner kind ls rest (Ok p) not none h = tt
+scalar_told inner kind ls rest (Err kinds.Memory) not none h = tt
+scalar_told inner kind ls rest (Err k) not none h = scalar_fault inner kind ls k not none h
 
 bytes_found : (enum : Text → Option ℤ) (s : Scalar) (o : Option Found) (v : Single) (bytes : Span)
     (rest : List Lexeme) → meaning enum s o ≡ Some (v, bytes, rest)

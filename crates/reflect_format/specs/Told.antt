@@ -11,10 +11,14 @@ use Rattle.reflect_message.specs.Names.{DynamicMessage}
 use Rattle.reflect_message.specs.Names as held
 use Rattle.reflect_pool.specs.FindsNames.{FindsMessage}
 use Rattle.reflect_pool.specs.Kinds.{IsKind}
+use Rattle.reflect_pool.specs.declared.extension.ExtensionDescriptor.{ExtensionDescriptor}
 use Rattle.reflect_pool.specs.declared.kind.Kind.{Kind}
 use Rattle.reflect_pool.specs.declared.kind.Kind.TheVariants as values
 use Rattle.reflect_pool.specs.declared.message.MessageDescriptor.{MessageDescriptor}
 use Rattle.reflect_pool.specs.declared.oneof.OneofDescriptor.{OneofDescriptor}
+use Rattle.reflect_scalar.specs.FieldTypes.{extension_pool, extension_type}
+use Rattle.reflect_scalar.specs.Floats.{HoldsFloats}
+use Rattle.reflect_tables.specs.Types.{extension_at}
 use Rattle.text_error.specs.Places.{place_of}
 use Rattle.text_error.specs.declared.error.ParseErrorKind.{ParseErrorKind}
 use Rattle.text_error.specs.declared.error.ParseErrorKind.TheVariants as kinds
@@ -31,11 +35,12 @@ use Rattle.text_scalars.specs.Scalars.{scalar_at}
 use Rattle.text_scalars.specs.declared.tokens.Brace.{Brace}
 use Rattle.text_syntax.specs.Beginning.{BeginWith}
 use Rattle.text_syntax.specs.Syntax.{Inner, at_end, at_sign, message_at, value_at}
-use Rattle.reflect_format.specs.Filled.{AreValues, Fills}
-use Rattle.reflect_format.specs.Kinds.{RefusesKind}
-use Rattle.reflect_format.specs.Named.{NamesExtension, NamesField}
+use Rattle.reflect_format.specs.Filled.{AreValues, Fills, IsValue, Makes}
+use Rattle.reflect_format.specs.Kinds.{RefusesKind, kind_value_at}
+use Rattle.reflect_format.specs.Lacks.{LacksExtension}
+use Rattle.reflect_format.specs.Named.{FindsExtension, NamesExtension, NamesField}
 use Rattle.reflect_format.specs.Reads.{IsCause}
-use Rattle.reflect_format.specs.Refusals.{HoldsMember, IsTextName, RefusesExtension, RefusesField, Shares, TellsMessage, TellsOneof}
+use Rattle.reflect_format.specs.Refusals.{HoldsMember, IsTextName, RefusesField, Shares, TellsExtension, TellsFloatField, TellsMessage, TellsOneof}
 use Rattle.reflect_format.specs.Steps.{is_set}
 use Rattle.reflect_format.specs.Takes.{holds_many, target_pool, target_type}
 use Rattle.reflect_format.specs.Unfit.{CannotMake}
@@ -78,7 +83,12 @@ ValueBytes n _ ls s = option_map (λ f. f.span) (scalar_at ls) ≡ Some s
 -- no value of the kind stands there
 abbrev pub ValueFault : MessageFaults → Kind → Fault
 ValueFault inner (values.Message d) ls kind = inner d ls kind
-ValueFault inner k ls kind = RefusesKind k ls kind
+ValueFault inner k ls kind = (kind_value_at k ls ≡ None) × RefusesKind k ls kind
+
+-- a value of the kind stands there, and these lexemes behind it
+abbrev pub TakesValue : ℕ → Kind → List Lexeme → List Lexeme → Type 0
+TakesValue n k ls rest =
+    (v : Value) × (x : held.Value) × (value_at (message_at n) ls ≡ Some (v, rest)) × IsValue v k x
 
 -- values stand there, a comma behind each
 abbrev pub ListBegins : Inner → List Lexeme → Values → List Lexeme → Type 0
@@ -87,10 +97,10 @@ ListBegins inner ls (more_values v vs) rest =
     (here : List Lexeme) × (value_at inner ls ≡ Some (v, here))
     × (comma : Span) × (sign_bytes 44 here ≡ Some comma) × ListBegins inner (behind here) vs rest
 
--- a value stands there, and behind it neither a comma nor what closes a list
-abbrev pub CommaFault : ℕ → Fault
-CommaFault n ls kind =
-    (v : Value) × (here : List Lexeme) × (value_at (message_at n) ls ≡ Some (v, here))
+-- a value of the kind stands there, and behind it neither a comma nor what closes a list
+abbrev pub CommaFault : ℕ → Kind → Fault
+CommaFault n k ls kind =
+    (here : List Lexeme) × TakesValue n k ls here
     × (sign_bytes 93 here ≡ None) × (sign_bytes 44 here ≡ None)
     × IsUnexpected (codes "',' or ']'") here kind
 
@@ -100,7 +110,7 @@ ListFault n inner k ls kind =
     (sign_bytes 93 ls ≡ None)
     × (done : Values) × (given : List held.Value) × AreValues done k given
     × (rest : List Lexeme) × ListBegins (message_at n) ls done rest
-    × (ValueFault inner k rest kind ⊎ CommaFault n rest kind)
+    × (ValueFault inner k rest kind ⊎ CommaFault n k rest kind)
 
 -- to a list or a map a list is given, where a bracket opens it, else one value
 abbrev pub GivenFault : ℕ → MessageFaults → Kind → List Lexeme → (opened : Option Span)
@@ -117,10 +127,10 @@ SecondFault m t (kinds.OneofAlreadySet oneof span) =
     × TellsOneof o (kinds.OneofAlreadySet oneof span)
 SecondFault m t _ = ⊥
 
--- so it is, and a value of these bytes stands there
+-- so it is, and a value of the kind stands there, which has these bytes
 abbrev pub SecondValueFault : ℕ → Target → Kind → DynamicMessage → Fault
 SecondValueFault n t k m ls kind =
-    (v : Value) × (rest : List Lexeme) × (value_at (message_at n) ls ≡ Some (v, rest))
+    (rest : List Lexeme) × TakesValue n k ls rest
     × (bytes : Span) × ValueBytes n k ls bytes
     × SecondFault m t kind × (place_of kind ≡ Some bytes)
 
@@ -134,10 +144,11 @@ AssignmentFault n inner t m ls kind =
 
 -- ---- fields
 
--- the message is no google.protobuf.Any, and one in braces stands there
-abbrev pub AnyFault : ℕ → (name : Span) → DynamicMessage → Fault
-AnyFault n name m ls kind =
+-- one of the type stands there in braces, and what is to hold it is no google.protobuf.Any
+abbrev pub AnyFault : ℕ → MessageDescriptor → (name : Span) → DynamicMessage → Fault
+AnyFault n d name m ls kind =
     (body : tree.Brace × Fields) × (rest : List Lexeme) × (message_at n ls ≡ Some (body, rest))
+    × (made : DynamicMessage) × Makes d (Fills body.1) made
     × (IsAny m.descriptor → ⊥) × (kind ≡ kinds.InvalidTypeForAny name)
 
 -- the pool has no type of the name, or there stands no message of it, or one in no Any
@@ -147,7 +158,16 @@ ExpansionFault n inner type name m ls kind =
     × TellsMessage type kind × (place_of kind ≡ Some name))
     ⊎ ((d : MessageDescriptor) × (d.pool.now ≡ m.descriptor.pool.now)
     × FindsMessage m.descriptor.pool.now type (Some d)
-    × (inner d ls kind ⊎ AnyFault n name m ls kind))
+    × (inner d ls kind ⊎ AnyFault n d name m ls kind))
+
+-- the type has no extension of the name, or one that holds floating-point numbers, which is told by
+-- its name in brackets
+abbrev pub ExtensionFault : MessageDescriptor → Text → ParseErrorKind → Type 0
+ExtensionFault d w kind =
+    (LacksExtension d w × TellsExtension d w kind)
+    ⊎ ((x : ExtensionDescriptor) × FindsExtension d w x
+    × HoldsFloats (extension_pool x) (extension_type x)
+    × TellsFloatField d (extension_at x.pool.now x.index).json_name kind)
 
 -- the message's type has nothing of the name, or what is given is at fault
 abbrev pub NamedFault : ℕ → MessageFaults → FieldName → (name : Span) → DynamicMessage → Fault
@@ -155,7 +175,7 @@ NamedFault n inner (plain w) name m ls kind =
     (RefusesField m.descriptor w kind × (place_of kind ≡ Some name))
     ⊎ ((t : Target) × NamesField m.descriptor w t × AssignmentFault n inner t m ls kind)
 NamedFault n inner (extension e) name m ls kind =
-    (RefusesExtension m.descriptor (written e) kind × (place_of kind ≡ Some name))
+    (ExtensionFault m.descriptor (written e) kind × (place_of kind ≡ Some name))
     ⊎ ((t : Target) × NamesExtension m.descriptor (written e) t × AssignmentFault n inner t m ls kind)
 NamedFault n inner (expansion domain e) name m ls kind =
     ExpansionFault n inner (written e) name m ls kind

@@ -9,7 +9,7 @@ ghost use Rattle.reflect_format.specs.Reads.{IsCause};
 ghost use Rattle.reflect_format.specs.Refusals.{Holds, HoldsMember, IsTextName, RefusesExtension, RefusesField, Shares};
 ghost use Rattle.reflect_format.specs.Steps.{Adds, AddsPart, Puts, Stays, StaysAscending, StaysExclusive, is_set};
 ghost use Rattle.reflect_format.specs.Takes.{Takes, holds_many, target_pool, target_type};
-ghost use Rattle.reflect_format.specs.Told.{Told};
+ghost use Rattle.reflect_format.specs.Told.{ExtensionFault, Told};
 ghost use Rattle.text_error.specs.Places.{place_of};
 
 use crate::fault::{float_field, unknown_extension, unknown_field};
@@ -69,6 +69,7 @@ impl<'p> Target<'p> {
         ensures unnamed { IfErr result
             (IsCause (NoExtensionNamed descriptor.entry (string_bytes name))) }
         ensures refused { IfErr result (RefusesExtension descriptor.entry (string_bytes name)) }
+        ensures told { IfErr result (Told (ExtensionFault descriptor.entry (string_bytes name))) }
         ensures placed { IfErr result (Told (λ kind. place_of kind ≡ Some span)) }
     {
         let Some(extension) = descriptor.get_extension_by_full_name(name.as_str()) else {

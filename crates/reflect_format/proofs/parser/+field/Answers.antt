@@ -20,11 +20,11 @@ use Rattle.reflect_format.specs.Begun.{Begins, HoldsUrl}
 use Rattle.reflect_format.specs.Filled.{AreGiven, AreValues, Expands, FillsBody, FillsField, url_of}
 use Rattle.reflect_format.specs.Named.{NamesExtension, NamesField, NoExtensionNamed, NoFieldNamed}
 use Rattle.reflect_format.specs.Reads.{StaysUnless, There}
-use Rattle.reflect_format.specs.Refusals.{RefusesExtension, RefusesField}
-use Rattle.reflect_format.specs.Told.{AssignmentFault, BodyFault, ClosesAt, ExpansionFault, FieldFault, GivenFault, ListBegins, ListFault, MessageFault, NamedFault, SecondFault, ValueBytes, ValueFault}
+use Rattle.reflect_format.specs.Refusals.{RefusesField}
+use Rattle.reflect_format.specs.Told.{AssignmentFault, BodyFault, ClosesAt, ExpansionFault, ExtensionFault, FieldFault, GivenFault, ListBegins, ListFault, MessageFault, NamedFault, SecondFault, ValueBytes, ValueFault}
 use Rattle.reflect_format.specs.Truth.{TrueOf}
 use Rattle.reflect_format.specs.Unfit.{AreUnfitValues, CannotMake, IsUnfitBody, IsUnfitField, RejectsExpansion, Unfit}
-use Rattle.reflect_format.proofs.Faults.{body_told, brace_told, depth_told, list_on, name_there, reading_told, scalar_bytes, scalar_told, tells_unseen, told_memory, told_on}
+use Rattle.reflect_format.proofs.Faults.{body_told, both_told, brace_told, depth_told, list_on, name_there, reading_told, scalar_bytes, scalar_told, tells_unseen, told_memory, told_on}
 use Rattle.reflect_format.proofs.Filling.{alone_are, alone_is, cause, cause_of, colon_told, expansion_only, extension_only, fills_on, given_message, name_told, passes, plain_only, unfit_all, unfit_body, unfit_listed, unfit_message, unfit_on, unfit_one, unfit_values_on, unread, values_on}
 use Rattle.reflect_format.proofs.Single.{scalar_reads, scalar_refutes}
 use Rattle.reflect_format.proofs.Telling.{field_true, extension_true, scalar_true, second_true, passed}
@@ -707,10 +707,10 @@ named_value-returns-in_err-target-in-Extension-clause-told t c = λ n same.
     let k = fault.field-0.0 in
     let r = c.from_residual-in_err-target-in-Extension in
     let Named : FieldName → ParseErrorKind → Type 0 = λ n k. NamedFault b (MessageFault b) n c.args.span m (remaining c.args.tokens.now) k in
-    told_on (λ e. place_of e ≡ Some c.args.span) (Named n) r.result k r.ensures.1
-    (λ place. extension_only (λ n. Named n k) n w (same ∙ ap name_view c.in-Extension.is)
-    (λ e is. inl (subst (λ x. RefusesExtension m.descriptor x k) (sym is) (subst (λ d. RefusesExtension d w k) c.descriptor-descriptor.ensures fault.ensures.refused), place)))
-    fault.ensures.placed
+    told_on (λ e. ExtensionFault c.descriptor-descriptor.result w e × (place_of e ≡ Some c.args.span)) (Named n) r.result k r.ensures.1
+    (λ h. extension_only (λ n. Named n k) n w (same ∙ ap name_view c.in-Extension.is)
+    (λ e is. inl (subst (λ x. ExtensionFault m.descriptor x k) (sym is) (subst (λ d. ExtensionFault d w k) c.descriptor-descriptor.ensures h.0), h.1)))
+    (both_told (ExtensionFault c.descriptor-descriptor.result w) (λ e. place_of e ≡ Some c.args.span) k fault.ensures.told fault.ensures.placed)
 
 pub named_value-returns-in_ok-target-in-Field-clause-told :
     goal.named_value-returns-in_ok-target-in-Field-clause-told
@@ -782,7 +782,7 @@ assignment-returns-in_err-refuse_second-clause-told t c =
     (λ h. (
       c.kind-2.result,
       c.kind-2.ensures,
-      inr (sym c.holds_many.ensures ∙ c.if-holds_many.false, inr (w.0, remaining c.value.new.tokens, w.1, value.span, value.ensures.bytes, h.0, h.1)),
+      inr (sym c.holds_many.ensures ∙ c.if-holds_many.false, inr (remaining c.value.new.tokens, (w.0, value.value, w.1, w.2), value.span, value.ensures.bytes, h.0, h.1)),
     ))
     c.in_err-refuse_second.ensures.told
 
@@ -854,7 +854,7 @@ list-returns-then-is_none-clause-told t c =
       inv.2,
       here,
       subst (λ l. ListBegins (message_at b) l inv.1 here) left.same inv.4,
-      inr (w.0, mid, w.1, none.none, ap (sign_bytes 44) (sym none.same) ∙ further.none, subst (λ l. IsUnexpected (codes "',' or ']'") l c.refuse.result) (further.same ∙ none.same) c.refuse.ensures.told),
+      inr (mid, (w.0, c.in_ok-value.value, w.1, w.2), none.none, ap (sign_bytes 44) (sym none.same) ∙ further.none, subst (λ l. IsUnexpected (codes "',' or ']'") l c.refuse.result) (further.same ∙ none.same) c.refuse.ensures.told),
     )
 
 pub expansion-returns-in_default-clause-told : goal.expansion-returns-in_default-clause-told
@@ -878,7 +878,7 @@ expansion-returns-clause-told t c =
     let finds : FindsMessage c.args.message.now.descriptor.pool.now (string_bytes c.args.name.message) (Some c.in-Some.kind) = search rules in
     let w = c.in_ok-body.ensures.made in
     IfErr-weaker c.hold.result _ _ (λ k h. cause_of _ _ k
-    (λ a. inr (c.in-Some.kind, pool, finds, inr (w.0, remaining c.message_value.new.tokens, w.1, a.0, a.1))) h)
+    (λ a. inr (c.in-Some.kind, pool, finds, inr (w.0, remaining c.message_value.new.tokens, w.1, c.in_ok-body.body, w.2, a.0, a.1))) h)
     c.hold.ensures.told
 
 pub value-returns-in_err-message-in-Message-clause-told :
@@ -900,9 +900,7 @@ value-returns-in_ok-message-in-Message-clause-bytes t c =
 
 pub value-returns-in_default-clause-told : goal.value-returns-in_default-clause-told
 value-returns-in_default-clause-told t c =
-    IfErr-weaker c.scalar_value.result _ _
-    (λ k h. scalar_told (MessageFault c.args.braces) c.args.kind (remaining c.args.tokens.now) k c.in_default.not-Message h)
-    c.scalar_value.ensures.told
+    scalar_told (MessageFault c.args.braces) c.args.kind (remaining c.args.tokens.now) (remaining c.scalar_value.new.tokens) c.scalar_value.result c.in_default.not-Message c.scalar_value.ensures.read c.scalar_value.ensures.told
 
 pub value-returns-in_default-clause-bytes : goal.value-returns-in_default-clause-bytes
 value-returns-in_default-clause-bytes t c =
