@@ -116,7 +116,8 @@ bytes_found : (enum : Text → Option ℤ) (s : Scalar) (o : Option Found) (v : 
 bytes_found enum s None v bytes rest h = absurd (cc h)
 bytes_found enum s (Some f) v bytes rest h = by (scalar_in enum s f.value) h where
   by : (x : Option Single)
-      → option_map (λ v. (v, f.span, f.rest)) x ≡ Some (v, bytes, rest)
+      → option_map {U = Single × Span × List Lexeme} (λ v. (v, f.span, f.rest)) x
+      ≡ Some (v, bytes, rest)
       → option_map (λ f. f.span) (Some f) ≡ Some bytes
   by None e = absurd (cc e)
   by (Some x) e = ap (λ o. option_map (λ p. p.1) o) e
@@ -180,16 +181,16 @@ unfolding MessageFault
 brace_told zero d ls k none h = inl (none, h)
 brace_told (suc n) d ls k none h = inl (none, h)
 
-pub depth_told : (n : ℕ) (d : MessageDescriptor) (ls : List Lexeme) (open : Span × Brace) → n ≡ zero
-    → opening_brace ls ≡ Some open → MessageFault n d ls (kinds.NestingTooDeep open.0)
+pub depth_told : (n : ℕ) (d : MessageDescriptor) (ls : List Lexeme) (opening : Span × Brace) → n ≡ zero
+    → opening_brace ls ≡ Some opening → MessageFault n d ls (kinds.NestingTooDeep opening.0)
 unfolding MessageFault
-depth_told zero d ls open none is = inr (open, is, refl)
-depth_told (suc n) d ls open none is = absurd (cc none)
+depth_told zero d ls opening none is = inr (opening, is, refl)
+depth_told (suc n) d ls opening none is = absurd (cc none)
 
-pub body_told : (n m : ℕ) (d : MessageDescriptor) (ls : List Lexeme) (open : Span × Brace)
-    (k : ParseErrorKind) → n ≡ suc m → opening_brace ls ≡ Some open
-    → CannotMake d (λ blank. BodyFault m (MessageFault m) open.1 blank (behind ls) k)
+pub body_told : (n m : ℕ) (d : MessageDescriptor) (ls : List Lexeme) (opening : Span × Brace)
+    (k : ParseErrorKind) → n ≡ suc m → opening_brace ls ≡ Some opening
+    → CannotMake d (λ blank. BodyFault m (MessageFault m) opening.1 blank (behind ls) k)
     → MessageFault n d ls k
 unfolding MessageFault
-body_told n m d ls open k count is h =
-    subst (λ x. MessageFault x d ls k) (sym count) (inr (open, is, h))
+body_told n m d ls opening k count is h =
+    subst (λ x. MessageFault x d ls k) (sym count) (inr (opening, is, h))

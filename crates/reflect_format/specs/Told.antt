@@ -69,9 +69,9 @@ ClosesAt n brace ls close =
 -- a message in braces, so many of which may be open, has the bytes from the one to the other
 abbrev pub MessageBytes : ℕ → List Lexeme → Span → Type 0
 MessageBytes n ls s =
-    (open : Span × Brace) × (opening_brace ls ≡ Some open)
-    × (close : Span) × ClosesAt (n - 1) open.1 (behind ls) close
-    × (s ≡ from_to open.0.start close.end)
+    (opening : Span × Brace) × (opening_brace ls ≡ Some opening)
+    × (close : Span) × ClosesAt (n - 1) opening.1 (behind ls) close
+    × (s ≡ from_to opening.0.start close.end)
 
 -- a value of the kind does
 abbrev pub ValueBytes : ℕ → Kind → List Lexeme → Span → Type 0
@@ -206,12 +206,12 @@ BraceFault ls kind = (opening_brace ls ≡ None) × IsUnexpected (codes "'{' or 
 unfoldable pub MessageFault : ℕ → MessageFaults
 MessageFault zero d ls kind =
     BraceFault ls kind
-    ⊎ ((open : Span × Brace) × (opening_brace ls ≡ Some open)
-    × (kind ≡ kinds.NestingTooDeep open.0))
+    ⊎ ((opening : Span × Brace) × (opening_brace ls ≡ Some opening)
+    × (kind ≡ kinds.NestingTooDeep opening.0))
 MessageFault (suc n) d ls kind =
     BraceFault ls kind
-    ⊎ ((open : Span × Brace) × (opening_brace ls ≡ Some open)
-    × CannotMake d (λ m. BodyFault n (MessageFault n) open.1 m (behind ls) kind))
+    ⊎ ((opening : Span × Brace) × (opening_brace ls ≡ Some opening)
+    × CannotMake d (λ m. BodyFault n (MessageFault n) opening.1 m (behind ls) kind))
 
 -- of a whole text, of which at most 100 braces may be open at once: the message takes the fields up
 -- to one, which is at fault

@@ -578,6 +578,7 @@ list-values-init t c =
 pub list-values-preserved : goal.list-values-preserved
 list-values-preserved t c =
     let inner = message_at c.args.braces in
+    let first = remaining c.eat.new.self in
     let here = remaining c.values.tokens in
     let mid = remaining c.value.new.tokens in
     let closed = remaining c.eat-in-values.new.self in
@@ -593,8 +594,8 @@ list-values-preserved t c =
       joined inv.1 one_more,
       subst (AreValues (joined inv.1 one_more) c.args.kind) (sym items) (values_on inv.1 w.0 c.args.kind c.values.values.items c.in_ok-value.value inv.2 w.2),
       inv.3 ∙ ap (listed_on inv.1) (step ∙ ap (λ l. listed_on one_more (values_by inner (more_at inner) l)) (ap behind (sym left.same) ∙ sym it.rest)) ∙ listed_twice inv.1 one_more (values_by inner (more_at inner) last),
-      subst (λ l. ListBegins inner _ (joined inv.1 one_more) l) (ap behind (sym left.same) ∙ sym it.rest)
-          (list_on inner _ inv.1 here mid w.0 it.span inv.4 w.1 (ap (sign_bytes 44) (sym left.same) ∙ it.there)),
+      subst (λ l. ListBegins inner first (joined inv.1 one_more) l) (ap behind (sym left.same) ∙ sym it.rest)
+          (list_on inner first inv.1 here mid w.0 it.span inv.4 w.1 (ap (sign_bytes 44) (sym left.same) ∙ it.there)),
     )
 
 pub list-returns-in_err-value-clause-cause : goal.list-returns-in_err-value-clause-cause
