@@ -1,5 +1,5 @@
 -- What `merge` says of bytes, in the words of the model.
-use Rattle.std.proofs.Common.{◌≡◌, inl, ℕ, List, [], ◌∷◌, ◌++◌, append-nil, append_assoc, refl, sym, ◌∙◌, subst}
+use Rattle.std.proofs.Common.{◌≡◌, ℕ, List, [], ◌∷◌, ◌++◌, append-nil, append_assoc, refl, sym, ◌∙◌, subst}
 use Rattle.std.specs.List.{AllByRecursion, concat}
 use Rattle.reflect_pool.specs.declared.message.MessageDescriptor.{MessageDescriptor}
 use Rattle.reflect_wire.specs.Written.{AreBytes}
@@ -7,10 +7,9 @@ use Rattle.reflect_message.specs.Contents.{content_of, nothing}
 use Rattle.reflect_message.specs.Oneofs.{AreChosen, IsExclusive}
 use Rattle.reflect_message.specs.Held.{choices_of, fields_of}
 use Rattle.reflect_message.specs.Names.{DynamicMessage}
-use Rattle.reflect_decode.specs.Levels.{MergesAt}
 use Rattle.reflect_decode.specs.Spelled.{IsMerged, IsSpelled}
 use Rattle.reflect_decode.specs.Suits.{Suits, SuitsBelow}
-use Rattle.reflect_decode.proofs.Suiting.{copy_suits, nothing_suits, suits_stay}
+use Rattle.reflect_decode.proofs.Suiting.{copy_suits, filled_suits, nothing_suits, suits_stay}
 use Rattle.protobuf_model.specs.Coded.{AreMerged, Mean, SuitsType}
 use Rattle.protobuf_model.specs.Values as model
 use Rattle.protobuf_model.proofs.Bytewise.{merged_in_pieces, merged_well, one_meaning}
@@ -31,7 +30,7 @@ use Rattle.merge_view.proofs.Merged.{merged_meaning}
 pub merged_means : (d : MessageDescriptor) → IsSound d.pool.now → (bytes : List ℕ) → AreBytes bytes → (old new : DynamicMessage) → old.descriptor ≡ d → new.descriptor ≡ d
     → Suits 100 d (content_of old) → SuitsType (types_of d.pool.now) (name_at d.pool.now d.index) (view old) → IsMerged d bytes old new
     → AreMerged (types_of d.pool.now) (name_at d.pool.now d.index) (view old) bytes (view new)
-merged_means d sound bytes b old new type also suits typed (rs, copy, spelled, copied, merges, accepts) =
+merged_means d sound bytes b old new type also suits typed (rs, copy, spelled, copied, ordered, merges, accepts) =
     let pool = d.pool.now in
     let types = types_of pool in
     let t = name_at pool d.index in
@@ -44,7 +43,7 @@ merged_means d sound bytes b old new type also suits typed (rs, copy, spelled, c
 
 -- and suits the type, in the program's words
 merged_fits : (d : MessageDescriptor) (bytes : List ℕ) (old new : DynamicMessage) → Suits 100 d (content_of old) → IsMerged d bytes old new → Suits 100 d (content_of new)
-merged_fits d bytes old new suits (rs, copy, spelled, copied, merges, accepts) = suits_stay 100 d copy (content_of new) rs merges (copy_suits 100 d (content_of old) copy copied suits)
+merged_fits d bytes old new suits (rs, copy, spelled, copied, ordered, merges, accepts) = suits_stay 100 d copy (content_of new) rs merges (copy_suits 100 d (content_of old) copy copied suits)
 
 -- and in the model's
 pub merged_suits : (d : MessageDescriptor) → IsSound d.pool.now → (bytes : List ℕ) → AreBytes bytes → (old new : DynamicMessage) → old.descriptor ≡ d → new.descriptor ≡ d
@@ -58,15 +57,9 @@ merged_suits d sound bytes b old new type also suits typed merged = (
 -- what is decoded suits its type
 pub decoded_fits : (d : MessageDescriptor) (bytes : List ℕ) (m : DynamicMessage) → m.descriptor ≡ d → IsSpelled d bytes m → IsExclusive m → Suits 100 d (content_of m)
 decoded_fits d bytes m type (rs, spelled, keeps, some, also, fields, (extensions, apart), accepts, ordered) chosen =
-    let merges : MergesAt 100 d nothing (content_of m) rs = record {
-      fields = record { spared = λ n spared. inl (some n spared) };
-      filled = λ _. record { each = fields; chosen = subst (λ d. AreChosen d (choices_of m) (fields_of m)) type chosen };
-      extensions = record { spared = also };
-      extended = record { each = extensions; behind = apart };
-      unknown = keeps;
-      ordered = λ _. ordered;
-    } in
-    suits_stay 100 d nothing (content_of m) rs merges (nothing_suits (SuitsBelow 100) d)
+    filled_suits 100 d nothing (content_of m) rs
+    (record { each = fields; chosen = subst (λ d. AreChosen d (choices_of m) (fields_of m)) type chosen })
+    (record { each = extensions; behind = apart }) (nothing_suits (SuitsBelow 100) d)
 
 -- bytes behind others
 pub behind_means : (d : MessageDescriptor) → IsSound d.pool.now → (a b : List ℕ) → AreBytes b → (old new : DynamicMessage) → old.descriptor ≡ d → new.descriptor ≡ d
