@@ -55,13 +55,13 @@ seen_message = fold-MessageOf MessageDescriptor Placed Content Message Placed he
 abbrev seen_parts : Parts → Placed
 seen_parts = fold-PartsOf MessageDescriptor Placed Content Message Placed held_step value_step message_step parts_step
 
-abbrev tree_held : blocks.Held → MessageTree
+abbrev pub tree_held : blocks.Held → MessageTree
 tree_held = fold-HeldOf MessageDescriptor MessageTree ValueTree ValueTree MessageTree trees.held_step trees.value_step trees.message_step trees.parts_step
 
-abbrev tree_message : DynamicMessage → ValueTree
+abbrev pub tree_message : DynamicMessage → ValueTree
 tree_message = fold-MessageOf MessageDescriptor MessageTree ValueTree ValueTree MessageTree trees.held_step trees.value_step trees.message_step trees.parts_step
 
-abbrev tree_parts : Parts → MessageTree
+abbrev pub tree_parts : Parts → MessageTree
 tree_parts = fold-PartsOf MessageDescriptor MessageTree ValueTree ValueTree MessageTree trees.held_step trees.value_step trees.message_step trees.parts_step
 
 -- what is to be shown of each

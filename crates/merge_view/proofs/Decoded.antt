@@ -1,20 +1,22 @@
 -- What `merge` says of bytes, in the words of the model.
-use Rattle.std.proofs.Common.{◌≡◌, inl, ℕ, List, [], ◌∷◌, ◌++◌, append-nil, append_assoc, refl, sym, ◌∙◌, subst}
+use Rattle.std.proofs.Common.{◌≡◌, ◌<◌, ◌^◌, ℕ, List, [], ◌∷◌, ◌++◌, length, append-nil, append_assoc, refl, sym, ap, ◌∙◌, subst}
 use Rattle.std.specs.List.{AllByRecursion, concat}
 use Rattle.reflect_pool.specs.declared.message.MessageDescriptor.{MessageDescriptor}
 use Rattle.reflect_wire.specs.Written.{AreBytes}
+use Rattle.reflect_message.specs.Bytes.{message_bytes}
 use Rattle.reflect_message.specs.Contents.{content_of, nothing}
 use Rattle.reflect_message.specs.Oneofs.{AreChosen, IsExclusive}
 use Rattle.reflect_message.specs.Held.{choices_of, fields_of}
 use Rattle.reflect_message.specs.Names.{DynamicMessage}
-use Rattle.reflect_decode.specs.Levels.{MergesAt}
 use Rattle.reflect_decode.specs.Spelled.{IsMerged, IsSpelled}
 use Rattle.reflect_decode.specs.Suits.{Suits, SuitsBelow}
-use Rattle.reflect_decode.proofs.Suiting.{copy_suits, nothing_suits, suits_stay}
+use Rattle.reflect_decode.proofs.Suiting.{copy_suits, filled_suits, nothing_suits, suits_stay}
+use Rattle.protobuf_model.specs.Bytes.{bytes_of}
 use Rattle.protobuf_model.specs.Coded.{AreMerged, Mean, SuitsType}
 use Rattle.protobuf_model.specs.Values as model
 use Rattle.protobuf_model.proofs.Bytewise.{merged_in_pieces, merged_well, one_meaning}
 use Rattle.protobuf_model.proofs.Merging.{nothing_typed}
+use Rattle.message_view.specs.Shaped.{IsInShape, IsShaped, Shaped}
 use Rattle.message_view.specs.Sound.{IsSound}
 use Rattle.message_view.specs.Types.{name_at, types_of}
 use Rattle.message_view.specs.Views.{view, view_of}
@@ -22,16 +24,20 @@ use Rattle.message_view.proofs.Accepting.{accepted}
 use Rattle.message_view.proofs.Decoded.{decoded_means}
 use Rattle.message_view.proofs.Defaults.{have_defaults}
 use Rattle.message_view.proofs.Elements.{seen_in}
+use Rattle.message_view.proofs.Encoded.{shape_decoded, shape_written}
+use Rattle.message_view.proofs.Recoded.{decoded_shaped}
+use Rattle.message_view.proofs.Shapes.{merged_shaped}
 use Rattle.message_view.proofs.Sound.{named}
 use Rattle.merge_view.specs.Pieces.{MergesEach}
 use Rattle.merge_view.proofs.Copied.{copy_seen}
 use Rattle.merge_view.proofs.Merged.{merged_meaning}
+use Rattle.merge_view.proofs.Shaped.{copy_shaped}
 
 -- what is merged into a message is what the bytes mean behind it
 pub merged_means : (d : MessageDescriptor) → IsSound d.pool.now → (bytes : List ℕ) → AreBytes bytes → (old new : DynamicMessage) → old.descriptor ≡ d → new.descriptor ≡ d
     → Suits 100 d (content_of old) → SuitsType (types_of d.pool.now) (name_at d.pool.now d.index) (view old) → IsMerged d bytes old new
     → AreMerged (types_of d.pool.now) (name_at d.pool.now d.index) (view old) bytes (view new)
-merged_means d sound bytes b old new type also suits typed (rs, copy, spelled, copied, merges, accepts) =
+merged_means d sound bytes b old new type also suits typed (rs, copy, spelled, copied, ordered, merges, accepts) =
     let pool = d.pool.now in
     let types = types_of pool in
     let t = name_at pool d.index in
@@ -44,7 +50,7 @@ merged_means d sound bytes b old new type also suits typed (rs, copy, spelled, c
 
 -- and suits the type, in the program's words
 merged_fits : (d : MessageDescriptor) (bytes : List ℕ) (old new : DynamicMessage) → Suits 100 d (content_of old) → IsMerged d bytes old new → Suits 100 d (content_of new)
-merged_fits d bytes old new suits (rs, copy, spelled, copied, merges, accepts) = suits_stay 100 d copy (content_of new) rs merges (copy_suits 100 d (content_of old) copy copied suits)
+merged_fits d bytes old new suits (rs, copy, spelled, copied, ordered, merges, accepts) = suits_stay 100 d copy (content_of new) rs merges (copy_suits 100 d (content_of old) copy copied suits)
 
 -- and in the model's
 pub merged_suits : (d : MessageDescriptor) → IsSound d.pool.now → (bytes : List ℕ) → AreBytes bytes → (old new : DynamicMessage) → old.descriptor ≡ d → new.descriptor ≡ d
@@ -58,15 +64,9 @@ merged_suits d sound bytes b old new type also suits typed merged = (
 -- what is decoded suits its type
 pub decoded_fits : (d : MessageDescriptor) (bytes : List ℕ) (m : DynamicMessage) → m.descriptor ≡ d → IsSpelled d bytes m → IsExclusive m → Suits 100 d (content_of m)
 decoded_fits d bytes m type (rs, spelled, keeps, some, also, fields, (extensions, apart), accepts, ordered) chosen =
-    let merges : MergesAt 100 d nothing (content_of m) rs = record {
-      fields = record { spared = λ n spared. inl (some n spared) };
-      filled = λ _. record { each = fields; chosen = subst (λ d. AreChosen d (choices_of m) (fields_of m)) type chosen };
-      extensions = record { spared = also };
-      extended = record { each = extensions; behind = apart };
-      unknown = keeps;
-      ordered = λ _. ordered;
-    } in
-    suits_stay 100 d nothing (content_of m) rs merges (nothing_suits (SuitsBelow 100) d)
+    filled_suits 100 d nothing (content_of m) rs
+    (record { each = fields; chosen = subst (λ d. AreChosen d (choices_of m) (fields_of m)) type chosen })
+    (record { each = extensions; behind = apart }) (nothing_suits (SuitsBelow 100) d)
 
 -- bytes behind others
 pub behind_means : (d : MessageDescriptor) → IsSound d.pool.now → (a b : List ℕ) → AreBytes b → (old new : DynamicMessage) → old.descriptor ≡ d → new.descriptor ≡ d
@@ -117,3 +117,46 @@ pieces_alike d sound a bs first all old new whole type also last spelled chosen 
     one_meaning (types_of d.pool.now) (name_at d.pool.now d.index) model.nothing (a ++ concat bs) (view new) (view whole)
     (each_means d sound a bs first all old new type also spelled chosen merges)
     (decoded_means d sound (a ++ concat bs) (bytes_joined a bs first all) whole last together)
+
+-- what is merged into a message in shape leaves it so
+pub merged_in_shape : (d : MessageDescriptor) (bytes : List ℕ) (old new : DynamicMessage) → old.descriptor ≡ d → new.descriptor ≡ d
+    → IsInShape old → Suits 100 d (content_of old) → IsMerged d bytes old new → IsInShape new
+merged_in_shape d bytes old new type also shape suits (rs, copy, spelled, copied, ordered, merges, accepts) =
+    let before : IsShaped (Shaped 100) d (content_of old) = subst (λ (d : MessageDescriptor). IsShaped (Shaped 100) d (content_of old)) type shape in
+    let held = copy_shaped 100 d (content_of old) copy copied ordered before in
+    let after = merged_shaped 100 d copy (content_of new) rs held (copy_suits 100 d (content_of old) copy copied suits) merges in
+    subst (λ (d : MessageDescriptor). IsShaped (Shaped 100) d (content_of new)) (sym also) after
+
+-- so it is written in one form
+pub merged_written : (d : MessageDescriptor) → IsSound d.pool.now → (bytes : List ℕ) (old new : DynamicMessage) → old.descriptor ≡ d → new.descriptor ≡ d
+    → IsInShape old → Suits 100 d (content_of old) → IsMerged d bytes old new
+    → message_bytes new ≡ bytes_of (types_of d.pool.now) (name_at d.pool.now d.index) (view new)
+merged_written d sound bytes old new type also shape suits merged = shape_written d sound new also (merged_in_shape d bytes old new type also shape suits merged)
+
+-- and read again
+pub merged_read : (d : MessageDescriptor) → IsSound d.pool.now → (bytes : List ℕ) → AreBytes bytes → (old new : DynamicMessage) → old.descriptor ≡ d → new.descriptor ≡ d
+    → IsInShape old → Suits 100 d (content_of old) → SuitsType (types_of d.pool.now) (name_at d.pool.now d.index) (view old) → IsMerged d bytes old new
+    → length (message_bytes new) < 2 ^ 64 → AreBytes (message_bytes new)
+    → (n : DynamicMessage) → n.descriptor ≡ d → IsSpelled d (message_bytes new) n → view n ≡ view new
+merged_read d sound bytes b old new type also shape suits typed merged =
+    shape_decoded d sound new also (merged_in_shape d bytes old new type also shape suits merged) (merged_suits d sound bytes b old new type also suits typed merged).1
+
+each_in_shape : (d : MessageDescriptor) (bs : List (List ℕ)) (old new : DynamicMessage) → old.descriptor ≡ d → new.descriptor ≡ d
+    → IsInShape old → Suits 100 d (content_of old) → MergesEach d old bs new → IsInShape new
+each_in_shape d [] old new type also shape suits same = subst IsInShape same shape
+each_in_shape d (b ∷ bs) old new type also shape suits (next, between, merged, rest) =
+    each_in_shape d bs next new between also (merged_in_shape d b old next type between shape suits merged) (merged_fits d b old next suits merged) rest
+
+-- a decoded message stays in shape
+pub pieces_in_shape : (d : MessageDescriptor) (a : List ℕ) (bs : List (List ℕ)) (old new : DynamicMessage) → old.descriptor ≡ d → new.descriptor ≡ d
+    → IsSpelled d a old → IsExclusive old → MergesEach d old bs new → IsInShape new
+pieces_in_shape d a bs old new type also spelled chosen merges = each_in_shape d bs old new type also (decoded_shaped d a old type spelled) (decoded_fits d a old type spelled chosen) merges
+
+-- and is written as what is decoded at once
+pub pieces_written : (d : MessageDescriptor) → IsSound d.pool.now → (a : List ℕ) (bs : List (List ℕ)) → AreBytes a → AllByRecursion AreBytes bs → (old new whole : DynamicMessage)
+    → old.descriptor ≡ d → new.descriptor ≡ d → whole.descriptor ≡ d
+    → IsSpelled d a old → IsExclusive old → MergesEach d old bs new → IsSpelled d (a ++ concat bs) whole → message_bytes new ≡ message_bytes whole
+pieces_written d sound a bs first all old new whole type also last spelled chosen merges together =
+    shape_written d sound new also (pieces_in_shape d a bs old new type also spelled chosen merges)
+    ∙ ap (bytes_of (types_of d.pool.now) (name_at d.pool.now d.index)) (pieces_alike d sound a bs first all old new whole type also last spelled chosen merges together)
+    ∙ sym (shape_written d sound whole last (decoded_shaped d (a ++ concat bs) whole last together))

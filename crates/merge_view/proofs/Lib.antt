@@ -2,5 +2,7 @@ pub mod Copied
 pub mod Elements
 pub mod Entries
 pub mod Merged
+pub mod Trees
+pub mod Shaped
 pub mod Decoded
 mod Example

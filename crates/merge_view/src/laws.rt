@@ -1,15 +1,18 @@
 //! Laws of what `merge` says of bytes and messages, each the contract of a function that does
 //! nothing. They speak of the types of a pool, and of a message as one of these.
-ghost use Rattle.std.specs.Prelude.{◌≡◌, ◌++◌, ℕ, List};
+ghost use Rattle.std.specs.Prelude.{◌≡◌, ◌<◌, ◌^◌, ◌++◌, ℕ, List, length};
 ghost use Rattle.std.specs.List.{AllByRecursion, concat};
+ghost use Rattle.protobuf_model.specs.Bytes.{bytes_of};
 ghost use Rattle.protobuf_model.specs.Coded.{AreMerged, Mean, SuitsType};
 ghost use Rattle.reflect_decode.specs.Spelled.{IsMerged, IsSpelled};
 ghost use Rattle.reflect_decode.specs.Suits.{Suits};
+ghost use Rattle.reflect_message.specs.Bytes.{message_bytes};
 ghost use Rattle.reflect_message.specs.Contents.{content_of};
 ghost use Rattle.reflect_message.specs.Oneofs.{IsExclusive};
 ghost use Rattle.reflect_message.specs.Names.{DynamicMessage};
 ghost use Rattle.reflect_pool.specs.declared.message.MessageDescriptor.{MessageDescriptor};
 ghost use Rattle.reflect_wire.specs.Written.{AreBytes};
+ghost use Rattle.message_view.specs.Shaped.{IsInShape};
 ghost use Rattle.message_view.specs.Sound.{IsSound};
 ghost use Rattle.message_view.specs.Types.{name_at, types_of};
 ghost use Rattle.message_view.specs.Views.{view};
@@ -35,6 +38,34 @@ pub fn merged_messages_suit_the_type()
         → IsMerged d bytes old new
         → Suits 100 d (content_of new)
         × SuitsType (types_of d.pool.now) (name_at d.pool.now d.index) (view new) }
+{}
+
+/// Where what the message held was in shape, so is what `merge` leaves.
+pub fn merged_messages_are_in_shape()
+    ensures { (d : MessageDescriptor) (bytes : List ℕ)
+        → (old new : DynamicMessage) → old.descriptor ≡ d → new.descriptor ≡ d
+        → IsInShape old → Suits 100 d (content_of old) → IsMerged d bytes old new → IsInShape new }
+{}
+
+/// `encode` writes it in the one form of what it holds.
+pub fn merged_messages_are_written_in_one_form()
+    ensures { (d : MessageDescriptor) → IsSound d.pool.now → (bytes : List ℕ)
+        → (old new : DynamicMessage) → old.descriptor ≡ d → new.descriptor ≡ d
+        → IsInShape old → Suits 100 d (content_of old) → IsMerged d bytes old new
+        → message_bytes new ≡ bytes_of (types_of d.pool.now) (name_at d.pool.now d.index) (view new) }
+{}
+
+/// What `decode` gives of these bytes is the message that was encoded, if they are no more than a
+/// length can say.
+pub fn merged_messages_are_decoded_as_they_were()
+    ensures { (d : MessageDescriptor) → IsSound d.pool.now → (bytes : List ℕ) → AreBytes bytes
+        → (old new : DynamicMessage) → old.descriptor ≡ d → new.descriptor ≡ d
+        → IsInShape old → Suits 100 d (content_of old)
+        → SuitsType (types_of d.pool.now) (name_at d.pool.now d.index) (view old)
+        → IsMerged d bytes old new
+        → length (message_bytes new) < 2 ^ 64 → AreBytes (message_bytes new)
+        → (n : DynamicMessage) → n.descriptor ≡ d → IsSpelled d (message_bytes new) n
+        → view n ≡ view new }
 {}
 
 /// What `decode` gives suits its type as `merge` asks for it.
@@ -80,4 +111,21 @@ pub fn pieces_are_merged_as_they_are_decoded()
         → old.descriptor ≡ d → new.descriptor ≡ d → whole.descriptor ≡ d
         → IsSpelled d a old → IsExclusive old → MergesEach d old bs new
         → IsSpelled d (a ++ concat bs) whole → view new ≡ view whole }
+{}
+
+/// A message of which one piece was decoded and the others merged is in shape.
+pub fn pieces_are_in_shape()
+    ensures { (d : MessageDescriptor) (a : List ℕ) (bs : List (List ℕ))
+        → (old new : DynamicMessage) → old.descriptor ≡ d → new.descriptor ≡ d
+        → IsSpelled d a old → IsExclusive old → MergesEach d old bs new → IsInShape new }
+{}
+
+/// `encode` writes it in the bytes that it writes of what `decode` gives of the pieces together.
+pub fn pieces_are_written_as_one()
+    ensures { (d : MessageDescriptor) → IsSound d.pool.now
+        → (a : List ℕ) (bs : List (List ℕ)) → AreBytes a → AllByRecursion AreBytes bs
+        → (old new whole : DynamicMessage)
+        → old.descriptor ≡ d → new.descriptor ≡ d → whole.descriptor ≡ d
+        → IsSpelled d a old → IsExclusive old → MergesEach d old bs new
+        → IsSpelled d (a ++ concat bs) whole → message_bytes new ≡ message_bytes whole }
 {}

@@ -1,5 +1,5 @@
 -- What the program accepts the type accepts.
-use Rattle.std.proofs.Common.{◌≡◌, ◌<◌, ◌⊎◌, inl, inr, ℕ, zero, suc, ◌==◌, ◌-◌, Bool, true, false, true≢false, cond, ◌&&◌, ◌||◌, List, [], ◌∷◌, length, Option, Some, None, refl, sym, ap, ◌∙◌, subst, arith}
+use Rattle.std.proofs.Common.{◌≡◌, ◌<◌, ◌⊎◌, inl, inr, ℕ, zero, suc, ◌==◌, ◌-◌, Bool, true, false, true≢false, cond, List, [], ◌∷◌, length, Option, Some, None, refl, sym, ap, ◌∙◌, subst, arith}
 use Rattle.std.specs.List.{AllByRecursion}
 use Rattle.std.specs.Option.{option_or}
 use Rattle.reflect_tables.specs.Types.{PoolType, FieldType, KindType}
@@ -17,11 +17,12 @@ use Rattle.reflect_scalar.specs.Meaning.{Means}
 use Rattle.reflect_scalar.specs.Singles as held
 use Rattle.reflect_scalar.proofs.Defaulted.{kind_is}
 use Rattle.reflect_message.specs.KindTypes.{IsScalarType, IsMessageType}
-use Rattle.reflect_message.specs.Known.{is_float, has_floats, holds_floats, known_field, known_extension}
+use Rattle.reflect_message.specs.Known.{is_float, holds_floats, known_field, known_extension}
 use Rattle.reflect_decode.specs.Accepts as decode
 use Rattle.reflect_decode.specs.Accepts.{AcceptsMessage}
 use Rattle.reflect_decode.specs.Messages.{IsInside}
 use Rattle.reflect_decode.specs.Packed as packed
+pub use Rattle.reflect_decode.proofs.Sorts.{not_float}
 use Rattle.message_laws.specs.MapKeys.{HaveMapKeys}
 use Rattle.protobuf_model.specs.Types.{Name, Types, Key, Part, one, many, keyed, scalar}
 use Rattle.protobuf_model.specs.Scalars.{Suits}
@@ -79,12 +80,6 @@ entry_record accept key part zero p h k = tt
 entry_record accept key part (suc zero) p h k = h refl
 entry_record accept key part (suc (suc zero)) p h k = k refl
 entry_record accept key part (suc (suc (suc n))) p h k = tt
-
-pub not_float : (pool : PoolType) (f : FieldType) → holds_floats pool f ≡ false → is_float f.kind ≡ false
-not_float pool f whole = first (is_float f.kind) (holds_map pool f && has_floats pool f.kind) whole where
-  first : (a b : Bool) → (a || b) ≡ false → a ≡ false
-  first true b e = absurd (cc e)
-  first false b e = refl
 
 -- what is known of messages one level below
 pub record Admits (pool : PoolType) (coded : decode.Acceptable) (accept : Acceptable) (levels : ℕ) : Type 0 where

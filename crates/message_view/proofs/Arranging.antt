@@ -6,15 +6,13 @@ use Rattle.reflect_tables.specs.Types.{PoolType, FieldType}
 use Rattle.reflect_pool.specs.FieldsLeft.{field_type}
 use Rattle.reflect_pool.specs.Shapes.{holds_list, holds_map}
 use Rattle.reflect_pool.specs.declared.message.MessageDescriptor.{MessageDescriptor}
-use Rattle.reflect_pool.specs.declared.field.FieldDescriptor.{FieldDescriptor}
-use Rattle.reflect_pool.specs.declared.extension.ExtensionDescriptor.{ExtensionDescriptor}
 use Rattle.reflect_wire.specs.Records.{Payload}
 use Rattle.reflect_entries.specs.Entries.{value_at}
 use Rattle.reflect_entries.specs.Sets.{up_to, above}
 use Rattle.reflect_scalar.specs.FieldTypes.{extension_type}
 use Rattle.reflect_message.specs.Bytes.{Form, content_bytes, declared_bytes, extension_bytes, others_down, content, form_of, forms, message_bytes}
 use Rattle.reflect_message.specs.Contents.{Content, content_of}
-use Rattle.reflect_message.specs.Declares.{Owns, OwnsExtension, IsDeclared, NoField}
+use Rattle.reflect_message.specs.Declares.{IsDeclared}
 use Rattle.reflect_message.specs.Known.{known_field, known_extension}
 use Rattle.reflect_message.specs.Names.{DynamicMessage, Value}
 use Rattle.message_laws.specs.MapKeys.{HaveMapKeys}

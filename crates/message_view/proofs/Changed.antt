@@ -1,12 +1,12 @@
 -- Messages stay in shape when fields and extensions are set and unset.
-use Rattle.std.proofs.Common.{◌≡◌, ◌≢◌, ◌⊎◌, inl, inr, ◌≤◌, ◌-◌, ◌^◌, ℕ, ◌==◌, Bool, true, false, List, Option, Some, None, refl, sym, ap, ◌∙◌, subst, arith}
+use Rattle.std.proofs.Common.{◌≡◌, ◌≢◌, ◌⊎◌, inl, inr, ◌≤◌, ℕ, ◌==◌, Bool, true, false, List, Option, Some, None, refl, sym, ap, ◌∙◌, subst, arith}
 use Rattle.protobuf_model.specs.Meaning.{payloads}
 use Rattle.reflect_decode.specs.Ordered.{AreNumbered, Ascend, last}
 use Rattle.reflect_decode.proofs.Ordering.{nothing_ordered, numbered_put}
 use Rattle.reflect_entries.specs.Entries.{IsAscending, Updates, value_at}
 use Rattle.reflect_message.specs.Contents.{Content, content_of, nothing}
 use Rattle.reflect_message.specs.Declares.{NoField, Owns, OwnsExtension}
-use Rattle.reflect_message.specs.Held.{Same, UpdatesExtension, UpdatesField, extensions_of, fields_of, unknown_of}
+use Rattle.reflect_message.specs.Held.{Same, UpdatesExtension, UpdatesField, fields_of}
 use Rattle.reflect_message.specs.Known.{known_extension, known_field}
 use Rattle.reflect_message.specs.Oneofs.{Changes, SetsField, sibling}
 use Rattle.reflect_message.specs.Names.{DynamicMessage, Value}
@@ -15,7 +15,7 @@ use Rattle.reflect_pool.specs.declared.extension.ExtensionDescriptor.{ExtensionD
 use Rattle.reflect_pool.specs.declared.field.FieldDescriptor.{FieldDescriptor}
 use Rattle.reflect_pool.specs.declared.message.MessageDescriptor.{MessageDescriptor}
 use Rattle.reflect_scalar.specs.FieldTypes.{extension_type}
-use Rattle.reflect_tables.specs.Types.{FieldType, extension_at, type_of_field}
+use Rattle.reflect_tables.specs.Types.{FieldType, extension_at}
 use Rattle.message_view.specs.Shaped.{Fits, IsShaped, IsInShape, Shaped}
 use Rattle.message_view.specs.Sound.{IsFieldNumber, IsNotKept, IsSound}
 use Rattle.message_view.proofs.Fields.{extension_owned, its_place, owned}
@@ -43,16 +43,22 @@ others_stay f choices old new changes n apart = by (sibling f choices) refl wher
           other same = grind (arith, e, same)
 
 -- nothing is held
-pub nothing_shaped : (levels : ℕ) (m : DynamicMessage) → content_of m ≡ nothing
-    → IsShaped (Shaped levels) m.descriptor (content_of m)
-nothing_shaped levels m empty = subst (IsShaped (Shaped levels) m.descriptor) (sym empty) (record {
+pub empty_shaped : (inner : DynamicMessage → Type 0) (d : MessageDescriptor)
+    → IsShaped inner d nothing
+empty_shaped inner d = record {
   ordered = nothing_ordered;
   fields = λ f owns v at. absurd (cc at);
   extensions = λ x owns none v at. absurd (cc at);
   apart = λ f owns. refl;
   unowned = λ n none. refl;
   declared = λ n is. refl;
-})
+}
+
+pub nothing_shaped : (levels : ℕ) (m : DynamicMessage) → content_of m ≡ nothing
+    → IsShaped (Shaped levels) m.descriptor (content_of m)
+nothing_shaped levels m empty =
+    subst (IsShaped (Shaped levels) m.descriptor) (sym empty)
+    (empty_shaped (Shaped levels) m.descriptor)
 
 module _ (inner : DynamicMessage → Type 0) (d : MessageDescriptor) (sound : IsSound d.pool.now) where
   field_number : (f : FieldDescriptor) → Owns d f → IsFieldNumber (field_type f).number

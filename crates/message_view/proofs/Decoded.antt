@@ -76,7 +76,7 @@ older_decodes old new sound also older bytes b m type h e other why =
 pub merged_accepted : (d : MessageDescriptor) → IsSound d.pool.now → (bytes : List ℕ) → AreBytes bytes
     → (old new : DynamicMessage) → Suits 100 d (content_of old) → IsMerged d bytes old new
     → IsAccepted (types_of d.pool.now) (name_at d.pool.now d.index) bytes
-merged_accepted d sound bytes b old new suits (rs, copy, spelled, copied, merges, accepts) =
+merged_accepted d sound bytes b old new suits (rs, copy, spelled, copied, ordered, merges, accepts) =
     let pool = d.pool.now in
     let told = named pool sound.names in (
       rs,

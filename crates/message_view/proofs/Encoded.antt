@@ -1,5 +1,5 @@
 -- What is encoded of a message, in whatever way it was made, in the words of the model.
-use Rattle.std.proofs.Common.{◌≡◌, ◌<◌, ◌^◌, ℕ, List, length, refl, sym, ap, ◌∙◌, subst}
+use Rattle.std.proofs.Common.{◌≡◌, ◌<◌, ◌^◌, length, sym, ap, ◌∙◌, subst}
 use Rattle.protobuf_model.proofs.Bytewise.{bytes_mean, one_meaning}
 use Rattle.protobuf_model.specs.Bytes.{bytes_of}
 use Rattle.protobuf_model.specs.Coded.{Mean, SuitsType}

@@ -1,18 +1,17 @@
 -- Records of maps, and what they leave.
-use Rattle.std.proofs.Common.{◌≡◌, ℕ, Bool, true, false, true≢false, not, ◌&&◌, ◌||◌, List, [], ◌∷◌, map, Option, Some, None, option_map, unwrap_or, refl, sym, ap, ◌∙◌, subst}
+use Rattle.std.proofs.Common.{◌≡◌, ℕ, Bool, true, false, true≢false, not, ◌&&◌, List, [], ◌∷◌, map, Option, Some, None, option_map, unwrap_or, refl, sym, ap, ◌∙◌, subst}
 use Rattle.std.specs.BTreeMap.{insert_entry}
 use Rattle.std.specs.List.{AllByRecursion, flat_map}
-use Rattle.std.specs.Option.{option_and_then, option_or}
 use Rattle.reflect_tables.specs.Types.{PoolType, FieldType, KindType, no_field}
 use Rattle.reflect_tables.specs.Types as types
 use Rattle.reflect_pool.specs.Shapes.{is_entry, is_repeated, holds_map}
 use Rattle.reflect_wire.specs.Records.{Payload, varint, fixed64, delimited, fixed32}
-use Rattle.reflect_scalar.specs.Defaults.{declared_in, kind_default, default_in}
+use Rattle.reflect_scalar.specs.Defaults.{default_in}
 use Rattle.reflect_scalar.specs.Keys.{key_view}
 use Rattle.reflect_scalar.specs.Singles as held
 use Rattle.reflect_scalar.specs.declared.map_key.MapKey.{MapKey}
-use Rattle.reflect_message.specs.KindTypes.{IsScalarType, IsMessageType}
-use Rattle.reflect_message.specs.Known.{is_float, entry_field, has_floats, holds_floats}
+use Rattle.reflect_message.specs.KindTypes.{IsScalarType}
+use Rattle.reflect_message.specs.Known.{entry_field, holds_floats}
 use Rattle.reflect_message.specs.Maps.{entries_held, key_order}
 use Rattle.reflect_message.specs.Singles as singles
 use Rattle.reflect_message.specs.Names.{Value}
@@ -20,6 +19,7 @@ use Rattle.reflect_decode.specs.Keeps as keeps
 use Rattle.reflect_decode.specs.Maps.{LeavesSingle, LeavesValue, IsEntry, PutEntries, ContinuesMap}
 use Rattle.reflect_decode.specs.Messages.{Takes}
 use Rattle.reflect_decode.specs.Refused.{IsKeyKind}
+pub use Rattle.reflect_decode.proofs.Sorts.{Sort, plain, floating, message_type, sort_of, some_default, no_float_values}
 use Rattle.protobuf_model.specs.Values as model
 use Rattle.protobuf_model.specs.Values.{Single, Content, single, message, dictionary, entries_of}
 use Rattle.protobuf_model.specs.Types.{Scalar, Part, Key}
@@ -98,30 +98,6 @@ forms s p = refl
 meant_form : (s : Scalar) (p : Payload) (v : Single) → meant s p ≡ v ∷ [] → form_of v ≡ form_at s
 meant_form s p v e = ap (first_form (form_at s)) (sym e) ∙ forms s p
 
--- a kind that is no message has a default
-kind_some : (pool : PoolType) (t : KindType) → IsScalarType t → (d : held.Single) × (kind_default pool t ≡ Some d)
-kind_some pool types.int32 h = (_, refl)
-kind_some pool types.int64 h = (_, refl)
-kind_some pool types.uint32 h = (_, refl)
-kind_some pool types.uint64 h = (_, refl)
-kind_some pool types.sint32 h = (_, refl)
-kind_some pool types.sint64 h = (_, refl)
-kind_some pool types.fixed32 h = (_, refl)
-kind_some pool types.fixed64 h = (_, refl)
-kind_some pool types.sfixed32 h = (_, refl)
-kind_some pool types.sfixed64 h = (_, refl)
-kind_some pool types.bool h = (_, refl)
-kind_some pool types.string h = (_, refl)
-kind_some pool types.bytes h = (_, refl)
-kind_some pool (types.enumeration i) h = (_, refl)
-kind_some pool t h = absurd h
-
-pub some_default : (pool : PoolType) (f : FieldType) → IsScalarType f.kind → (d : held.Single) × (default_in pool f ≡ Some d)
-some_default pool f h = by (option_and_then (declared_in pool f.kind) f.default) where
-  by : (o : Option held.Single) → (d : held.Single) × (option_or o (kind_default pool f.kind) ≡ Some d)
-  by (Some d) = (d, refl)
-  by None = kind_some pool f.kind h
-
 pub default_is : (pool : PoolType) (f : FieldType) (v : held.Single) → default_in pool f ≡ Some v → default_of pool f ≡ single_view v
 default_is pool f v e = ap (λ o. elim o [ None ↦ model.text [] | Some v ↦ single_view v ]) e
 
@@ -148,30 +124,6 @@ key_scalar (types.message i) h = absurd h
 key_scalar (types.enumeration i) h = absurd h
 key_scalar t h = tt
 
-pub data Sort (t : KindType) : Type 0 where
-  plain : IsScalarType t → Sort t
-  floating : is_float t ≡ true → Sort t
-  message_type : IsMessageType t → Sort t
-
-pub sort_of : (t : KindType) → Sort t
-sort_of types.double = floating refl
-sort_of types.float = floating refl
-sort_of (types.message i) = message_type tt
-sort_of types.int32 = plain tt
-sort_of types.int64 = plain tt
-sort_of types.uint32 = plain tt
-sort_of types.uint64 = plain tt
-sort_of types.sint32 = plain tt
-sort_of types.sint64 = plain tt
-sort_of types.fixed32 = plain tt
-sort_of types.fixed64 = plain tt
-sort_of types.sfixed32 = plain tt
-sort_of types.sfixed64 = plain tt
-sort_of types.bool = plain tt
-sort_of types.string = plain tt
-sort_of types.bytes = plain tt
-sort_of (types.enumeration i) = plain tt
-
 -- a map as it is held
 some_map : (pool : PoolType) (f : FieldType) (es : List (Single × Content)) → if_some es ≡ held_in pool f (Some (dictionary (entries_of es)))
 some_map pool f [] = refl
@@ -180,16 +132,6 @@ some_map pool f (e ∷ es) = refl
 pub map_held : (pool : PoolType) (f : FieldType) (new : Option Value) (after : List (MapKey × Value)) → entries_held new ≡ Some after → if_some (pairs_view after) ≡ held_in pool f (option_map content_view new)
 map_held pool f None after e = let none : after ≡ [] = cc e in ap (λ l. if_some (pairs_view l)) none
 map_held pool f (Some v) after e = some_map pool f (pairs_view after) ∙ sym (ap (λ c. held_in pool f (Some c)) (map_seen v after e))
-
--- of a map whose values are held no values are floating-point numbers
-pub no_float_values : (pool : PoolType) (f values : FieldType) → holds_floats pool f ≡ false → holds_map pool f ≡ true → entry_field pool f.kind 2 ≡ Some values → is_float values.kind ≡ false
-no_float_values pool f values unfloated map there =
-    let floats : has_floats pool f.kind ≡ is_float values.kind = ap (λ o. elim o [ None ↦ false | Some v ↦ is_float v.kind ]) there in
-    let whole : (is_float f.kind || (holds_map pool f && has_floats pool f.kind)) ≡ false = unfloated in
-    second (is_float f.kind) (is_float values.kind) (sym (ap (λ b. is_float f.kind || (b && has_floats pool f.kind)) map ∙ ap (λ b. is_float f.kind || b) floats) ∙ whole) where
-      second : (a b : Bool) → (a || b) ≡ false → b ≡ false
-      second true b e = absurd (cc e)
-      second false b e = e
 
 pub entry_of_map : (pool : PoolType) (f : FieldType) → holds_map pool f ≡ true → is_entry pool f.kind ≡ true
 entry_of_map pool f e = by (is_entry pool f.kind) e where

@@ -31,7 +31,7 @@ use Rattle.protobuf_model.specs.Values.{Message, nothing}
 use Rattle.protobuf_model.proofs.Bytewise.{bytes_mean, one_form, one_meaning}
 use Rattle.protobuf_model.proofs.Chains.{passes, passes_through, same_as_direct}
 use Rattle.message_view.specs.Recoded.{Recodes, type_of, RecodesThrough}
-use Rattle.message_view.specs.Shaped.{IsInShape, Shaped}
+use Rattle.message_view.specs.Shaped.{Shaped}
 use Rattle.message_view.specs.Sound.{IsSound}
 use Rattle.message_view.specs.Types.{name_at, types_of}
 use Rattle.message_view.specs.Views.{view}
@@ -44,8 +44,8 @@ use Rattle.message_view.proofs.Shapes.{AreKept, kept_shaped}
 -- what is decoded suits its type, in the order of its numbers
 pub decoded_shaped : (d : MessageDescriptor) (bytes : List ℕ) (m : DynamicMessage) → m.descriptor ≡ d → IsSpelled d bytes m → Shaped 101 m
 decoded_shaped d bytes m type (rs, spelled, keeps, some, also, fields, (extensions, apart), accepts, ordered) =
-    let left : AreKept (TakesAt 100) d (content_of m) rs = record { left = record { unknown = keeps; fields = fields; extensions = extensions }; apart = apart; unowned = λ n none. some n (inr none); ordered = ordered } in
-    kept_shaped 100 m rs (subst (λ d. AreKept (TakesAt 100) d (content_of m) rs) (sym type) left)
+    let left : AreKept (TakesAt 100) d contents.nothing (content_of m) rs = record { fields = fields; extensions = extensions; unknown = keeps; apart = apart; unowned = λ n none. some n (inr none); ordered = ordered } in
+    kept_shaped 100 m rs (subst (λ d. AreKept (TakesAt 100) d contents.nothing (content_of m) rs) (sym type) left)
 
 -- what is decoded is written in the one form of what it means
 pub decoded_written : (d : MessageDescriptor) → IsSound d.pool.now → (bytes : List ℕ) (m : DynamicMessage) → m.descriptor ≡ d → IsSpelled d bytes m → message_bytes m ≡ bytes_of (types_of d.pool.now) (name_at d.pool.now d.index) (view m)

@@ -1,4 +1,4 @@
--- What records leave suits its fields, at each depth.
+-- What records leave suits its fields, at each depth, behind what suited them.
 use Rattle.std.proofs.Common.{◌≡◌, ◌⊎◌, inl, inr, ℕ, zero, suc, Bool, true, false, true≢false, List, [], ◌∷◌, ◌++◌, map, Option, Some, None, Ordering, Less, Equal, Greater, refl, sym, ap, ◌∙◌, subst}
 use Rattle.std.specs.BTreeMap.{insert_entry}
 use Rattle.std.specs.List.{AllByRecursion}
@@ -14,7 +14,7 @@ use Rattle.reflect_pool.specs.declared.field.FieldDescriptor.{FieldDescriptor}
 use Rattle.reflect_pool.specs.declared.extension.ExtensionDescriptor.{ExtensionDescriptor}
 use Rattle.reflect_wire.specs.Records.{Payload}
 use Rattle.reflect_entries.specs.Entries.{value_at}
-use Rattle.reflect_scalar.specs.FieldTypes.{field_pool, extension_type}
+use Rattle.reflect_scalar.specs.FieldTypes.{extension_type}
 use Rattle.reflect_scalar.specs.Singles as held
 use Rattle.reflect_scalar.specs.declared.map_key.MapKey.{MapKey}
 use Rattle.reflect_message.specs.Contents.{Content, content_of, nothing}
@@ -22,27 +22,31 @@ use Rattle.reflect_message.specs.Declares.{NoField, Owns, OwnsExtension}
 use Rattle.reflect_message.specs.Held.{Same}
 use Rattle.reflect_message.specs.KindTypes.{IsScalarType, IsMessageType}
 use Rattle.reflect_message.specs.Known.{entry_field, holds_floats, known_field}
-use Rattle.reflect_message.specs.Maps.{key_order}
+use Rattle.reflect_message.specs.Lists.{items_held}
+use Rattle.reflect_message.specs.Maps.{entries_held, key_order}
 use Rattle.reflect_message.specs.Messages.{message_in}
+use Rattle.reflect_message.specs.Oneofs.{AreChosen}
 use Rattle.reflect_message.specs.Singles as singles
 use Rattle.reflect_message.specs.Names.{DynamicMessage, Value}
-use Rattle.reflect_decode.specs.Fields.{LeavesField}
+use Rattle.reflect_decode.specs.Fields.{LeavesExtension, LeavesField}
+use Rattle.reflect_decode.specs.Keeps.{Keeps}
 use Rattle.reflect_decode.specs.Keeps as keeps
-use Rattle.reflect_decode.specs.Levels.{TakenAt, TakesAt}
-use Rattle.reflect_decode.specs.Maps.{LeavesSingle, LeavesValue, IsEntry, PutEntries, ContinuesMap}
+use Rattle.reflect_decode.specs.Levels.{MergesAt, TakenAt, TakesAt}
+use Rattle.reflect_decode.specs.Maps.{LeavesValue, IsEntry, PutEntries, ContinuesMap}
 use Rattle.reflect_decode.specs.Messages.{Takes, IsMade, MergesMessage}
 use Rattle.reflect_decode.specs.Ordered.{IsOrdered}
 use Rattle.reflect_decode.specs.Scalars.{LeavesAs, HoldsLast, ContinuesWith}
 use Rattle.reflect_decode.specs.Spares.{Merges, ReadsMember}
+use Rattle.reflect_decode.specs.Suits.{HeldSuits, IsSuiting, Suiting, Suits, SuitsAs, SuitsBelow, SuitsBy}
 use Rattle.reflect_decode.specs.Taking.{AreMade, AddsMessages, TakesAs, Leaves}
-use Rattle.reflect_decode.proofs.Ordering.{nothing_ordered}
+use Rattle.protobuf_model.proofs.Arranged.{all_append}
+use Rattle.reflect_decode.proofs.Sorts.{Sort, plain, floating, message_type, left_single, not_float, sort_of}
+use Rattle.reflect_decode.proofs.Suiting.{nothing_suits}
 use Rattle.reflect_decode.proofs.Telling.{both_kinds}
-use Rattle.message_view.proofs.Accepting.{not_float}
-use Rattle.message_view.proofs.Entries.{Sort, plain, floating, message_type, sort_of, some_default}
+use Rattle.message_view.proofs.Changed.{empty_shaped}
 use Rattle.message_view.proofs.Fields.{owned_whole, extension_whole, none_owned}
-use Rattle.message_view.proofs.Left.{AreLeft, merged_left}
 use Rattle.message_view.proofs.Oneofs.{payloads_same}
-use Rattle.message_view.specs.Shaped.{FitsAs, FitsOne, IsShaped, Shaped}
+use Rattle.message_view.specs.Shaped.{Fits, FitsAs, FitsOne, IsShaped, Shaped}
 
 -- of a value as one
 one_plain : (inner : DynamicMessage → Type 0) (pool : PoolType) (f : FieldType) (v : Value) (w : held.Single) → IsScalarType f.kind → singles.single v ≡ Some w → FitsOne inner pool f v
@@ -51,16 +55,38 @@ one_plain inner pool f v w type is = record { plain = λ _. (w, is); nested = λ
 one_nested : (inner : DynamicMessage → Type 0) (pool : PoolType) (f : FieldType) (v : Value) (m : DynamicMessage) → IsMessageType f.kind → message_in v ≡ Some m → IsKind pool (publics.Message m.descriptor) f.kind → inner m → FitsOne inner pool f v
 one_nested inner pool f v m type is kind fits = record { plain = λ also. absurd (both_kinds f.kind also type); nested = λ _. (m, is, kind, fits) }
 
--- what is known of messages one level below
-pub record Makes (takes : Takes) (inner : DynamicMessage → Type 0) : Type 0 where
-  pub messages : (grouped : Bool) (m : DynamicMessage) (ps : List Payload) → takes.message grouped m.descriptor nothing (content_of m) ps → inner m
+-- what is held, if anything is, suits the field
+abbrev HeldFits : (DynamicMessage → Type 0) → PoolType → FieldType → Option Value → Type 0
+HeldFits inner pool f None = Unit {0}
+HeldFits inner pool f (Some v) = Fits inner pool f v
 
-module _ (takes : Takes) (inner : DynamicMessage → Type 0) (makes : Makes takes inner) (pool : PoolType) where
+held_fits : (inner : DynamicMessage → Type 0) (pool : PoolType) (f : FieldType) (o : Option Value) → ((v : Value) → o ≡ Some v → Fits inner pool f v) → HeldFits inner pool f o
+held_fits inner pool f None fits = tt
+held_fits inner pool f (Some v) fits = fits v refl
+
+-- what is known of messages one level below: of one that payloads make, and of one that takes them in
+pub record Makes (takes : Takes) (suits : Suiting) (inner : DynamicMessage → Type 0) : Type 0 where
+  pub messages : (grouped : Bool) (m : DynamicMessage) (ps : List Payload) → takes.message grouped m.descriptor nothing (content_of m) ps → inner m
+  pub further : (grouped : Bool) (old new : DynamicMessage) (ps : List Payload) → new.descriptor ≡ old.descriptor → inner old → suits old.descriptor (content_of old)
+      → takes.message grouped old.descriptor (content_of old) (content_of new) ps → inner new
+
+module _ (takes : Takes) (suits : Suiting) (inner : DynamicMessage → Type 0) (makes : Makes takes suits inner) (pool : PoolType) where
   merged_one : (f : FieldType) (v : Value) (ps : List Payload) → IsMessageType f.kind → MergesMessage (takes.message f.group) pool f.kind None (Some v) ps → FitsOne inner pool f v
   merged_one f v ps type (before, after, (is, empty), stands, same, takes_it) =
       let from_nothing = subst (λ c. takes.message f.group before.descriptor c (content_of after) ps) empty takes_it in
       let its = subst (λ (d : MessageDescriptor). takes.message f.group d nothing (content_of after) ps) (sym same) from_nothing in
       one_nested inner pool f v after type stands (subst (λ (d : MessageDescriptor). IsKind pool (publics.Message d) f.kind) (sym same) is) (makes.messages f.group after ps its)
+
+  -- a message that stood there
+  taken_one : (f : FieldType) (u v : Value) (ps : List Payload) → IsMessageType f.kind → FitsOne inner pool f u → IsSuiting suits pool f.kind u → MergesMessage (takes.message f.group) pool f.kind (Some u) (Some v) ps → FitsOne inner pool f v
+  taken_one f u v ps type fits suited (before, after, at, stands, same, takes_it) =
+      let one = fits.nested type in
+      let first : one.0 ≡ before = cc (one.1, at) in
+      let second : suited.0 ≡ before = cc (suited.1, at) in
+      let is = subst (λ (m : DynamicMessage). IsKind pool (publics.Message m.descriptor) f.kind) first one.2 in
+      let its = subst (λ (m : DynamicMessage). suits m.descriptor (content_of m)) second suited.3 in
+      one_nested inner pool f v after type stands (subst (λ (d : MessageDescriptor). IsKind pool (publics.Message d) f.kind) (sym same) is)
+      (makes.further f.group before after ps same (subst inner first one.3) its takes_it)
 
   made_one : (f : FieldType) (kind : Kind) (p : Payload) (v : Value) → IsMessageType f.kind → IsKind pool kind f.kind → IsMade (takes.message f.group) kind p v → FitsOne inner pool f v
   made_one f (publics.Message d) p v type is (m, there, same, takes_it) =
@@ -82,10 +108,7 @@ module _ (takes : Takes) (inner : DynamicMessage → Type 0) (makes : Makes take
 
   -- the value of an entry
   value_one : (f : FieldType) (v : Value) (ps : List Payload) → LeavesValue takes pool f v ps → FitsOne inner pool f v
-  value_one f v ps h = record { plain = λ type. single_there type ps (h.0 type); nested = λ type. (merged_one f v ps type (h.1 type)).nested type } where
-    single_there : IsScalarType f.kind → (ps : List Payload) → LeavesSingle pool f (singles.single v) ps → (w : held.Single) × (singles.single v ≡ Some w)
-    single_there type [] k = let d = some_default pool f type in (d.0, k ∙ d.1)
-    single_there type (p ∷ ps) k = (k.0, k.1)
+  value_one f v ps h = record { plain = λ type. left_single pool f (singles.single v) ps type (h.0 type); nested = λ type. (merged_one f v ps type (h.1 type)).nested type }
 
   abbrev Valued : KindType → MapKey × Value → Type 0
   Valued t e = (values : FieldType) → entry_field pool t 2 ≡ Some values → FitsOne inner pool values e.1
@@ -106,89 +129,141 @@ module _ (takes : Takes) (inner : DynamicMessage → Type 0) (makes : Makes take
         let same : values ≡ g = cc (sym second ∙ is) in
         value_one g v (keeps.payloads 2 rs) (subst (λ g. LeavesValue takes pool g v (keeps.payloads 2 rs)) same value_left)
 
-  -- a field that holds a value
-  field_fits : (f : FieldType) (v : Value) (ps : List Payload) → holds_floats pool f ≡ false → Leaves takes pool f None (Some v) ps → FitsAs inner pool f (holds_map pool f) (holds_list pool f) v
-  field_fits f v [] whole h = absurd (cc h)
-  field_fits f v (p ∷ ps) whole h = by (holds_map pool f) refl (holds_list pool f) refl where
-    map_fits : ContinuesMap takes pool f.kind None (Some v) (p ∷ ps) → FitsAs inner pool f true (holds_list pool f) v
-    map_fits (before, after, none, stands, put) =
-        let empty : before ≡ [] = cc none in
-        (after, stands, entries_all f.kind [] after (p ∷ ps) tt (subst (λ es. PutEntries takes pool f.kind es after (p ∷ ps)) empty put))
+  -- a field that holds a value, behind what it held
+  field_fits : (f : FieldType) (old : Option Value) (v : Value) (ps : List Payload) → holds_floats pool f ≡ false → HeldFits inner pool f old → HeldSuits suits pool f old → Leaves takes pool f old (Some v) ps → Fits inner pool f v
+  field_fits f old v [] whole fits suited h = subst (HeldFits inner pool f) (sym h) fits
+  field_fits f old v (p ∷ ps) whole fits suited h = by (holds_map pool f) refl (holds_list pool f) refl (sort_of f.kind) where
+    -- the entries that stood there, and the items
+    were_entries : holds_map pool f ≡ true → (o : Option Value) → HeldFits inner pool f o → (before : List (MapKey × Value)) → entries_held o ≡ Some before → AllByRecursion (Valued f.kind) before
+    were_entries keyed None all before was = let empty : before ≡ [] = cc was in subst (AllByRecursion (Valued f.kind)) (sym empty) tt
+    were_entries keyed (Some u) all before was =
+        let its = subst (λ b. FitsAs inner pool f b (holds_list pool f) u) keyed all in
+        let same : its.0 ≡ before = cc (its.1, was) in
+        subst (AllByRecursion (Valued f.kind)) same its.2
 
-    values_fit : IsScalarType f.kind → ContinuesWith pool f.kind None (Some v) (p ∷ ps) → FitsAs inner pool f false true v
-    values_fit type (before, after, vs, none, stands, values, (added, behind, seen)) =
-        let empty : before ≡ [] = cc none in
-        let same : after ≡ added = behind ∙ ap (λ l. l ++ added) empty in
-        (after, stands, subst (AllByRecursion (FitsOne inner pool f)) (sym same) (plain_all f added vs type seen))
+    were_items : holds_map pool f ≡ false → holds_list pool f ≡ true → (o : Option Value) → HeldFits inner pool f o → (before : List Value) → items_held o ≡ Some before → AllByRecursion (FitsOne inner pool f) before
+    were_items no_map list None all before was = let empty : before ≡ [] = cc was in subst (AllByRecursion (FitsOne inner pool f)) (sym empty) tt
+    were_items no_map list (Some u) all before was =
+        let its = subst (λ b. FitsAs inner pool f false b u) list (subst (λ b. FitsAs inner pool f b (holds_list pool f) u) no_map all) in
+        let same : its.0 ≡ before = cc (its.1, was) in
+        subst (AllByRecursion (FitsOne inner pool f)) same its.2
 
-    messages_fit : IsMessageType f.kind → AddsMessages (takes.message f.group) pool f.kind None (Some v) (p ∷ ps) → FitsAs inner pool f false true v
-    messages_fit type (before, after, added, none, stands, made, behind) =
-        let empty : before ≡ [] = cc none in
-        let same : after ≡ added = behind ∙ ap (λ l. l ++ added) empty in
-        (after, stands, subst (AllByRecursion (FitsOne inner pool f)) (sym same) (made_all f (p ∷ ps) added type made))
+    map_fits : holds_map pool f ≡ true → (listed : Bool) → ContinuesMap takes pool f.kind old (Some v) (p ∷ ps) → FitsAs inner pool f true listed v
+    map_fits keyed listed (before, after, was, stands, put) = (after, stands, entries_all f.kind before after (p ∷ ps) (were_entries keyed old fits before was) put)
+
+    longer_fits : holds_map pool f ≡ false → holds_list pool f ≡ true → (before after added : List Value) → items_held old ≡ Some before → items_held (Some v) ≡ Some after → after ≡ before ++ added
+        → AllByRecursion (FitsOne inner pool f) added → FitsAs inner pool f false true v
+    longer_fits no_map list before after added was stands behind all =
+        let each = all_append (FitsOne inner pool f) before added (were_items no_map list old fits before was) all in
+        (after, stands, subst (AllByRecursion (FitsOne inner pool f)) (sym behind) each)
+
+    values_fit : holds_map pool f ≡ false → holds_list pool f ≡ true → IsScalarType f.kind → ContinuesWith pool f.kind old (Some v) (p ∷ ps) → FitsAs inner pool f false true v
+    values_fit no_map list type (before, after, vs, was, stands, values, (added, behind, seen)) = longer_fits no_map list before after added was stands behind (plain_all f added vs type seen)
+
+    messages_fit : holds_map pool f ≡ false → holds_list pool f ≡ true → IsMessageType f.kind → AddsMessages (takes.message f.group) pool f.kind old (Some v) (p ∷ ps) → FitsAs inner pool f false true v
+    messages_fit no_map list type (before, after, added, was, stands, made, behind) = longer_fits no_map list before after added was stands behind (made_all f (p ∷ ps) added type made)
 
     single_fits : IsScalarType f.kind → HoldsLast pool f.kind (Some v) (p ∷ ps) → FitsOne inner pool f v
     single_fits type (u, w, put, is, last) = let same : v ≡ u = cc put in one_plain inner pool f v w type (ap singles.single same ∙ is)
 
-    lists : holds_map pool f ≡ false → (b : Bool) → holds_list pool f ≡ b → Sort f.kind → FitsAs inner pool f false b v
-    lists no_map b e (floating k) = absurd (true≢false (sym k ∙ not_float pool f whole))
-    lists no_map true e (plain type) = values_fit type (subst (λ b. LeavesAs b pool f.kind None (Some v) (p ∷ ps)) e (h.0 type))
-    lists no_map false e (plain type) = single_fits type (subst (λ b. LeavesAs b pool f.kind None (Some v) (p ∷ ps)) e (h.0 type))
-    lists no_map true e (message_type type) = messages_fit type (subst (λ b. TakesAs b (takes.message f.group) pool f.kind None (Some v) (p ∷ ps)) e (h.1 type no_map))
-    lists no_map false e (message_type type) = merged_one f v (p ∷ ps) type (subst (λ b. TakesAs b (takes.message f.group) pool f.kind None (Some v) (p ∷ ps)) e (h.1 type no_map))
+    message_fits : holds_map pool f ≡ false → holds_list pool f ≡ false → IsMessageType f.kind → (o : Option Value) → HeldFits inner pool f o → HeldSuits suits pool f o
+        → MergesMessage (takes.message f.group) pool f.kind o (Some v) (p ∷ ps) → FitsOne inner pool f v
+    message_fits no_map no_list type None all suits_it merged = merged_one f v (p ∷ ps) type merged
+    message_fits no_map no_list type (Some u) all suits_it merged =
+        let one = subst (λ b. FitsAs inner pool f false b u) no_list (subst (λ b. FitsAs inner pool f b (holds_list pool f) u) no_map all) in
+        let suiting = subst (λ b. SuitsAs suits pool f.kind false b u) no_list (subst (λ b. SuitsAs suits pool f.kind b (holds_list pool f) u) no_map suits_it) in
+        taken_one f u v (p ∷ ps) type one (suiting type) merged
 
-    by : (b : Bool) → holds_map pool f ≡ b → (c : Bool) → holds_list pool f ≡ c → FitsAs inner pool f b (holds_list pool f) v
-    by true is c e = map_fits (h.2 is)
-    by false is c e = lists is (holds_list pool f) refl (sort_of f.kind)
+    by : (keyed : Bool) → holds_map pool f ≡ keyed → (listed : Bool) → holds_list pool f ≡ listed → Sort f.kind → FitsAs inner pool f keyed listed v
+    by true is listed e sort = map_fits is listed (h.2 is)
+    by false is listed e (floating k) = absurd (true≢false (sym k ∙ not_float pool f whole))
+    by false is true e (plain type) = values_fit is e type (subst (λ b. LeavesAs b pool f.kind old (Some v) (p ∷ ps)) e (h.0 type))
+    by false is false e (plain type) = single_fits type (subst (λ b. LeavesAs b pool f.kind old (Some v) (p ∷ ps)) e (h.0 type))
+    by false is true e (message_type type) = messages_fit is e type (subst (λ b. TakesAs b (takes.message f.group) pool f.kind old (Some v) (p ∷ ps)) e (h.1 type is))
+    by false is false e (message_type type) = message_fits is e type old fits suited (subst (λ b. TakesAs b (takes.message f.group) pool f.kind old (Some v) (p ∷ ps)) e (h.1 type is))
 
--- a message where nothing stood
-pub record AreKept (takes : Takes) (d : MessageDescriptor) (c : Content) (rs : List (ℕ × Payload)) : Type 0 where
-  pub left : AreLeft takes d c rs
-  pub apart : (f : FieldDescriptor) → Owns d f → value_at c.extensions (field_type f).number ≡ None
-  pub unowned : (n : ℕ) → NoField d n → value_at c.fields n ≡ None
-  pub ordered : IsOrdered c
+-- a message that took in records, behind what it held
+pub record AreKept (takes : Takes) (d : MessageDescriptor) (old new : Content) (rs : List (ℕ × Payload)) : Type 0 where
+  pub fields : (f : FieldDescriptor) → Owns d f → LeavesField takes d f (value_at old.fields (field_type f).number) (value_at new.fields (field_type f).number) rs
+  pub extensions : (x : ExtensionDescriptor) → OwnsExtension d x → LeavesExtension takes d x (value_at old.extensions (extension_type x).number) (value_at new.extensions (extension_type x).number) rs
+  pub unknown : Keeps d old.unknown new.unknown rs
+  pub apart : (f : FieldDescriptor) → Owns d f → value_at new.extensions (field_type f).number ≡ None
+  pub unowned : (n : ℕ) → NoField d n → value_at new.fields n ≡ None
+  pub ordered : IsOrdered new
 
-pub merged_kept : (takes : Takes) (d : MessageDescriptor) (c : Content) (rs : List (ℕ × Payload)) → Merges takes d nothing c rs → AreKept takes d c rs
-merged_kept takes d c rs h = record { left = merged_left takes d c rs h; apart = h.extended.behind; unowned = λ n none. by n (h.fields.spared n (inr none)); ordered = h.ordered nothing_ordered } where
-  by : (n : ℕ) → Same nothing.fields c.fields n ⊎ ((value_at c.fields n ≡ None) × ReadsMember d rs) → value_at c.fields n ≡ None
-  by n (inl same) = same
-  by n (inr unset) = unset.0
+merged_kept : (takes : Takes) (inner : DynamicMessage → Type 0) (d : MessageDescriptor) (old new : Content) (rs : List (ℕ × Payload)) → IsShaped inner d old → AreChosen d old.choices old.fields → Merges takes d old new rs → AreKept takes d old new rs
+merged_kept takes inner d old new rs shape chosen h = record {
+  fields = (h.filled chosen).each;
+  extensions = h.extended.each;
+  unknown = h.unknown;
+  apart = λ f owns. h.extended.behind f owns ∙ shape.apart f owns;
+  unowned = λ n none. by n none (h.fields.spared n (inr none));
+  ordered = h.ordered shape.ordered;
+} where
+  by : (n : ℕ) → NoField d n → Same old.fields new.fields n ⊎ ((value_at new.fields n ≡ None) × ReadsMember d rs) → value_at new.fields n ≡ None
+  by n none (inl same) = same ∙ shape.unowned n none
+  by n none (inr unset) = unset.0
 
-module _ (takes : Takes) (shape : DynamicMessage → Type 0) (makes : Makes takes shape) (d : MessageDescriptor) (c : Content) (rs : List (ℕ × Payload)) (kept : AreKept takes d c rs) where
-  leaves_of : (f : FieldDescriptor) (new : Option Value) → LeavesField takes d f None new rs → (ps : List Payload) × Leaves takes (field_pool f) (field_type f) None new ps
-  leaves_of f new (inl h) = (_, h.1)
-  leaves_of f new (inr h) = (_, h.6)
-
-  fits_field : (f : FieldDescriptor) → Owns d f → (v : Value) → value_at c.fields (field_type f).number ≡ Some v → FitsAs shape d.pool.now (field_type f) (holds_map d.pool.now (field_type f)) (holds_list d.pool.now (field_type f)) v
-  fits_field f owns v at =
+module _ (takes : Takes) (suits : Suiting) (shape : DynamicMessage → Type 0) (makes : Makes takes suits shape) (d : MessageDescriptor) (old new : Content) (rs : List (ℕ × Payload))
+    (before : IsShaped shape d old) (suited : SuitsBy suits d old) (kept : AreKept takes d old new rs) where
+  field_left : (f : FieldDescriptor) → Owns d f → (v : Value) → LeavesField takes d f (value_at old.fields (field_type f).number) (Some v) rs → Fits shape d.pool.now (field_type f) v
+  field_left f owns v (inl h) =
       let g = field_type f in
-      let some = leaves_of f (value_at c.fields g.number) (kept.left.fields f owns) in
-      let leaves = subst (λ o. Leaves takes d.pool.now g None o some.0) at (subst (λ p. Leaves takes p g None (value_at c.fields g.number) some.0) owns.0.1 some.1) in
-      field_fits takes shape makes d.pool.now g v some.0 (owned_whole d f owns) leaves
+      let o = value_at old.fields g.number in
+      field_fits takes suits shape makes d.pool.now g o v (keeps.payloads g.number rs) (owned_whole d f owns)
+      (held_fits shape d.pool.now g o (before.fields f owns)) (subst (λ p. HeldSuits suits p g o) owns.0.1 (suited.fields f owns))
+      (subst (λ p. Leaves takes p g o (Some v) (keeps.payloads g.number rs)) owns.0.1 h.1)
+  field_left f owns v (inr h) =
+      let g = field_type f in
+      field_fits takes suits shape makes d.pool.now g None v (keeps.payloads g.number h.1) (owned_whole d f owns) tt tt
+      (subst (λ p. Leaves takes p g None (Some v) (keeps.payloads g.number h.1)) owns.0.1 h.6)
 
-  fits_extension : (x : ExtensionDescriptor) → OwnsExtension d x → known_field d.pool.now d.index (extension_type x).number ≡ None → (v : Value) → value_at c.extensions (extension_type x).number ≡ Some v
-      → FitsAs shape d.pool.now (extension_type x) (holds_map d.pool.now (extension_type x)) (holds_list d.pool.now (extension_type x)) v
+  fits_field : (f : FieldDescriptor) → Owns d f → (v : Value) → value_at new.fields (field_type f).number ≡ Some v → Fits shape d.pool.now (field_type f) v
+  fits_field f owns v at = field_left f owns v (subst (λ o. LeavesField takes d f (value_at old.fields (field_type f).number) o rs) at (kept.fields f owns))
+
+  fits_extension : (x : ExtensionDescriptor) → OwnsExtension d x → known_field d.pool.now d.index (extension_type x).number ≡ None → (v : Value) → value_at new.extensions (extension_type x).number ≡ Some v
+      → Fits shape d.pool.now (extension_type x) v
   fits_extension x owns none v at =
       let g = extension_type x in
+      let o = value_at old.extensions g.number in
       let ps = keeps.payloads g.number rs in
-      let leaves = subst (λ o. Leaves takes d.pool.now g None o ps) at (subst (λ p. Leaves takes p g None (value_at c.extensions g.number) ps) owns.0.0 (kept.left.extensions x owns (none_owned d g.number none))) in
-      field_fits takes shape makes d.pool.now g v ps (extension_whole d x owns) leaves
+      let free = none_owned d g.number none in
+      let leaves = subst (λ w. Leaves takes d.pool.now g o w ps) at (subst (λ p. Leaves takes p g o (value_at new.extensions g.number) ps) owns.0.0 (kept.extensions x owns free)) in
+      field_fits takes suits shape makes d.pool.now g o v ps (extension_whole d x owns)
+      (held_fits shape d.pool.now g o (before.extensions x owns none)) (subst (λ p. HeldSuits suits p g o) owns.0.0 (suited.extensions x owns free)) leaves
 
-  pub shapes : IsShaped shape d c
+  shapes : IsShaped shape d new
   shapes = record {
     ordered = kept.ordered;
     fields = fits_field;
     extensions = fits_extension;
     apart = kept.apart;
     unowned = kept.unowned;
-    declared = λ n is. sym (payloads_same n c.unknown) ∙ ap (map (λ (r : ℕ × Payload). r.1)) (kept.left.unknown.declared n is);
+    declared = λ n is. sym (payloads_same n new.unknown) ∙ ap (map (λ (r : ℕ × Payload). r.1)) (kept.unknown.declared n is) ∙ payloads_same n old.unknown ∙ before.declared n is;
   }
 
-makes_at : (levels : ℕ) → Makes (TakesAt levels) (Shaped levels)
+module _ (levels : ℕ) (makes : Makes (TakesAt levels) (SuitsBelow levels) (Shaped levels)) (d : MessageDescriptor) where
+  merged_by : (old new : Content) (rs : List (ℕ × Payload)) → IsShaped (Shaped levels) d old → Suits levels d old → MergesAt levels d old new rs → IsShaped (Shaped levels) d new
+  merged_by old new rs shape suits h =
+      shapes (TakesAt levels) (SuitsBelow levels) (Shaped levels) makes d old new rs shape suits (merged_kept (TakesAt levels) (Shaped levels) d old new rs shape suits.chosen h)
+
+  -- where nothing stood
+  kept_by : (c : Content) (rs : List (ℕ × Payload)) → AreKept (TakesAt levels) d nothing c rs → IsShaped (Shaped levels) d c
+  kept_by c rs kept = shapes (TakesAt levels) (SuitsBelow levels) (Shaped levels) makes d nothing c rs (empty_shaped (Shaped levels) d) (nothing_suits (SuitsBelow levels) d) kept
+
+makes_at : (levels : ℕ) → Makes (TakesAt levels) (SuitsBelow levels) (Shaped levels)
 unfolding TakenAt
-makes_at zero = record { messages = λ grouped m ps h. absurd h }
-makes_at (suc levels) = record { messages = λ grouped m ps h. shapes (TakesAt levels) (Shaped levels) (makes_at levels) m.descriptor (content_of m) h.0 (merged_kept (TakesAt levels) m.descriptor (content_of m) h.0 h.2) }
+makes_at zero = record { messages = λ grouped m ps h. absurd h; further = λ grouped old new ps same shape suits h. absurd h }
+makes_at (suc levels) = record {
+  messages = λ grouped m ps h. merged_by levels (makes_at levels) m.descriptor nothing (content_of m) h.0 (empty_shaped (Shaped levels) m.descriptor) (nothing_suits (SuitsBelow levels) m.descriptor) h.2;
+  further = λ grouped old new ps same shape suits h.
+      subst (λ (d : MessageDescriptor). IsShaped (Shaped levels) d (content_of new)) (sym same) (merged_by levels (makes_at levels) old.descriptor (content_of old) (content_of new) h.0 shape suits h.2);
+}
 
 -- a message that records leave where nothing stood
-pub kept_shaped : (levels : ℕ) (m : DynamicMessage) (rs : List (ℕ × Payload)) → AreKept (TakesAt levels) m.descriptor (content_of m) rs → Shaped (suc levels) m
-kept_shaped levels m rs kept = shapes (TakesAt levels) (Shaped levels) (makes_at levels) m.descriptor (content_of m) rs kept
+pub kept_shaped : (levels : ℕ) (m : DynamicMessage) (rs : List (ℕ × Payload)) → AreKept (TakesAt levels) m.descriptor nothing (content_of m) rs → Shaped (suc levels) m
+kept_shaped levels m rs kept = kept_by levels (makes_at levels) m.descriptor (content_of m) rs kept
+
+-- and what they leave behind what is in shape and suits the type
+pub merged_shaped : (levels : ℕ) (d : MessageDescriptor) (old new : Content) (rs : List (ℕ × Payload)) → IsShaped (Shaped levels) d old → Suits levels d old → MergesAt levels d old new rs → IsShaped (Shaped levels) d new
+merged_shaped levels = merged_by levels (makes_at levels)

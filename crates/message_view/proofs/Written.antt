@@ -24,8 +24,6 @@ use Rattle.reflect_message.specs.KindTypes.{IsScalarType, IsMessageType}
 use Rattle.reflect_message.specs.Known.{is_float, entry_field, holds_floats}
 use Rattle.reflect_message.specs.Lists.{list_items}
 use Rattle.reflect_message.specs.Maps.{map_entries}
-use Rattle.reflect_message.specs.Messages.{message_in}
-use Rattle.reflect_message.specs.Singles as singles
 use Rattle.reflect_message.specs.Names.{DynamicMessage, Value}
 use Rattle.message_laws.specs.MapKeys.{HaveMapKeys}
 use Rattle.protobuf_model.specs.Values.{Single, Content, single, message, list, dictionary, Held, content, Message, absent, chain_of, entries_of}

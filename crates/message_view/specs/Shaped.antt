@@ -1,5 +1,5 @@
 -- Messages that hold what suits the fields of their types, in order, at each depth.
-use Rattle.std.specs.Prelude.{◌≡◌, ℕ, zero, suc, Bool, true, false, List, [], Option, None, Some}
+use Rattle.std.specs.Prelude.{◌≡◌, ℕ, zero, suc, Bool, true, false, List, [], None, Some}
 use Rattle.std.specs.List.{AllByRecursion}
 use Rattle.protobuf_model.specs.Meaning.{payloads}
 use Rattle.reflect_decode.specs.Ordered.{IsOrdered}

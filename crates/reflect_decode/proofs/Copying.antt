@@ -12,6 +12,7 @@ use Rattle.reflect_decode.specs.Accepts.{Accepts}
 use Rattle.reflect_decode.specs.Levels.{MergesAt}
 use Rattle.reflect_decode.specs.Merging.{IsBody}
 use Rattle.reflect_decode.specs.Messages.{Takes}
+use Rattle.reflect_decode.specs.Ordered.{HoldsInOrder}
 use Rattle.reflect_decode.specs.Spares.{Merges}
 use Rattle.reflect_decode.specs.Suits.{Suits}
 use Rattle.reflect_decode.proofs.Running.{whole_body}
@@ -21,13 +22,16 @@ use Rattle.reflect_decode.proofs.Suiting.{copy_suits}
 pub merged : (levels : ℕ) (m type : MessageDescriptor) (bytes rest : List ℕ) (old a b : Content)
     (rs : List (ℕ × Payload)) → type ≡ m → Fronts (IsBody None levels) bytes rs rest → rest ≡ []
     → MergesAt levels type a b rs → (Suits levels type a → Accepts levels type rs) → IsCopy old a
+    → HoldsInOrder a
     → (rs : List (ℕ × Payload)) × (copy : Content) × SpellsRecords levels bytes (records_of rs)
-    × IsCopy old copy × MergesAt levels m copy b rs × (Suits levels m old → Accepts levels m rs)
-merged levels m type bytes rest old a b rs same read whole taken accepted copied = (
+    × IsCopy old copy × HoldsInOrder copy × MergesAt levels m copy b rs
+    × (Suits levels m old → Accepts levels m rs)
+merged levels m type bytes rest old a b rs same read whole taken accepted copied ordered = (
   rs,
   a,
   whole_body levels bytes rest rs read whole,
   copied,
+  ordered,
   subst (λ t. MergesAt levels t a b rs) same taken,
   λ suits.
       let before = subst (λ t. Suits levels t old) (sym same) suits in

@@ -4,6 +4,7 @@ pub mod Copying
 pub mod Extending
 pub mod Filling
 pub mod Holding
+pub mod InOrder
 pub mod Joining
 pub mod Keeping
 pub mod Kept
@@ -14,6 +15,7 @@ pub mod Owning
 pub mod Packing
 pub mod Refusing
 pub mod Running
+pub mod Sorts
 pub mod Sparing
 pub mod Suiting
 pub mod Taking

@@ -33,6 +33,7 @@ use Rattle.reflect_message.proofs.Choosing.{is_or_not, in_oneof, room_keeps, roo
 use Rattle.reflect_decode.proofs.Accepting.{run_of_extension, run_of_others}
 use Rattle.reflect_decode.proofs.Extending.{extended_none, extended_both, extended_apart, extended_run, extended_empty}
 use Rattle.reflect_decode.proofs.Filling.{filled_none, filled_both, filled_apart, filled_run, filled_empty}
+use Rattle.reflect_decode.proofs.InOrder.{Orders, extension_in_order, field_in_order, others_in_order}
 use Rattle.reflect_decode.proofs.Joining.{Joins}
 use Rattle.reflect_decode.proofs.Keeping.{two_empty, keeps_none, keeps_more, keeps_declared, field_declared}
 use Rattle.reflect_decode.proofs.Ordering.{Holds, numbered_put, nothing_ordered}
@@ -108,6 +109,7 @@ module _ (inner : Takes) (m : MessageDescriptor) where
     extended = extended_none inner m a.extensions;
     unknown = keeps_none m a.unknown;
     ordered = λ before. before;
+    in_order = λ before. before;
   }
 
   pub merges_more : Joins inner → (a b c : Content) (rs ts : List (ℕ × Payload)) → Merges inner m a b rs → Merges inner m b c ts → Merges inner m a c (rs ++ ts)
@@ -118,14 +120,15 @@ module _ (inner : Takes) (m : MessageDescriptor) where
     extended = extended_both inner m joins a.extensions b.extensions c.extensions rs ts h.extended k.extended;
     unknown = keeps_more m a.unknown b.unknown c.unknown rs ts h.unknown k.unknown;
     ordered = λ before. k.ordered (h.ordered before);
+    in_order = λ before. k.in_order (h.in_order before);
   }
 
   -- records of a field, for whose choice room is made, and which is then noted
-  pub merges_field : (g : FieldDescriptor) → Owns m g → (n : ℕ) → (field_type g).number ≡ n → (old new : Content) (room : List (ℕ × ℕ)) (between : List (ℕ × Value)) (run : List Payload × Payload)
+  pub merges_field : Orders inner → (g : FieldDescriptor) → Owns m g → (n : ℕ) → (field_type g).number ≡ n → (old new : Content) (room : List (ℕ × ℕ)) (between : List (ℕ × Value)) (run : List Payload × Payload)
       → MakesRoom g old.choices room → ((k : ℕ) → k ≢ n → Same old.fields between k) → Leaves inner (field_pool g) (field_type g) (value_at old.fields n) (value_at between n) (run.0 ++ run.1 ∷ [])
       → Unsets g room between new.fields → Chooses g room new.choices → new.extensions ≡ old.extensions → new.unknown ≡ old.unknown
       → (1 ≤ n) × (n ≤ last) → (IsAscending old.fields → IsAscending new.fields) → Merges inner m old new (run_records n run)
-  merges_field g owns n is old new room between run made put leaves unsets chooses extensions unknown within rising =
+  merges_field orders g owns n is old new room between run made put leaves unsets chooses extensions unknown within rising =
       let number = (field_type g).number in
       let there : (k : ℕ) → k ≢ number → Same old.fields between k = λ k e. put k (λ s. e (s ∙ sym is)) in
       let left = subst (λ n. Leaves inner (field_pool g) (field_type g) (value_at old.fields n) (value_at between n) (run.0 ++ run.1 ∷ [])) (sym is) leaves in
@@ -145,6 +148,7 @@ module _ (inner : Takes) (m : MessageDescriptor) where
           extensions = subst AreNumbered (sym extensions) before.extensions;
           unknown = subst (Ascend 1 last) (sym unknown) before.unknown;
         };
+        in_order = field_in_order inner orders m old new g owns between (run.0 ++ run.1 ∷ []) there left clears rising extensions;
       } in
       subst (λ n. Merges inner m old new (run_records n run)) is merged where
         by : (k : ℕ) → k ≢ n → (sibling g room ≡ Some k) ⊎ (sibling g room ≢ Some k) → Holds n within old.fields new.fields k
@@ -174,19 +178,20 @@ module _ (inner : Takes) (m : MessageDescriptor) where
           extensions = subst AreNumbered (sym extensions) before.extensions;
           unknown = h.3 before.unknown;
         };
+        in_order = others_in_order old new fields extensions;
       },
       λ suits. run_of_others levels m key.number h.0 no_field no_extension,
     )
     merges_kept (Err e) no_field no_extension none apart fields choices extensions h = tt
 
     -- records of an extension
-    pub merges_extension : (r : Result (Bor (List ℕ)) WireError) → NoField m key.number → (x : ExtensionDescriptor) → None ≡ known_field m.pool.now m.index key.number → Some (extension_type x) ≡ known_extension m.pool.now m.index key.number → OwnsExtension m x → (extension_type x).number ≡ key.number → new.fields ≡ old.fields → new.choices ≡ old.choices → new.unknown ≡ old.unknown
+    pub merges_extension : Orders inner → (r : Result (Bor (List ℕ)) WireError) → NoField m key.number → (x : ExtensionDescriptor) → None ≡ known_field m.pool.now m.index key.number → Some (extension_type x) ≡ known_extension m.pool.now m.index key.number → OwnsExtension m x → (extension_type x).number ≡ key.number → new.fields ≡ old.fields → new.choices ≡ old.choices → new.unknown ≡ old.unknown
         → (1 ≤ key.number) × (key.number ≤ last) → (IsAscending old.extensions → IsAscending new.extensions)
         → ((k : ℕ) → k ≢ key.number → Same old.extensions new.extensions k)
         → IfOk r (λ rest. (run : List Payload × Payload) × Fronts (IsRun levels key) bytes run rest.now × Leaves inner (extension_pool x) (extension_type x) (value_at old.extensions key.number) (value_at new.extensions key.number) (run.0 ++ run.1 ∷ [])
         × (HeldSuits (SuitsBelow levels) (extension_pool x) (extension_type x) (value_at old.extensions key.number) → AllByRecursion (AcceptsField levels (AcceptsMessage levels) (extension_pool x) (extension_type x)) (run.0 ++ run.1 ∷ [])))
         → IfOk r (λ rest. Answers rest.now)
-    merges_extension (Ok rest) none x no_field known owns is fields choices unknown within rising others h = (
+    merges_extension orders (Ok rest) none x no_field known owns is fields choices unknown within rising others h = (
       h.0,
       h.1,
       record {
@@ -202,12 +207,13 @@ module _ (inner : Takes) (m : MessageDescriptor) where
               (λ k other. inl (others k other)) before.extensions;
           unknown = subst (Ascend 1 last) (sym unknown) before.unknown;
         };
+        in_order = extension_in_order inner orders m old new x owns key.number (h.0.0 ++ h.0.1 ∷ []) fields rising others h.2;
       },
       λ suits. run_of_extension levels m key.number (extension_pool x) (extension_type x) h.0 no_field known owns.0.0 (h.3 (held suits)),
     ) where
       held : Suits levels m old → HeldSuits (SuitsBelow levels) (extension_pool x) (extension_type x) (value_at old.extensions key.number)
       held suits = subst (λ n. HeldSuits (SuitsBelow levels) (extension_pool x) (extension_type x) (value_at old.extensions n)) is (suits.extensions x owns (subst (NoField m) (sym is) none))
-    merges_extension (Err e) none x no_field known owns is fields choices unknown within rising others h = tt
+    merges_extension orders (Err e) none x no_field known owns is fields choices unknown within rising others h = tt
 
 -- what a message that held nothing holds of the records
 pub decoded : (inner : Takes) (m type : MessageDescriptor) (levels : ℕ) (bytes rest : List ℕ) (a b : Content) (rs : List (ℕ × Payload)) → type ≡ m → Fronts (IsBody None levels) bytes rs rest → rest ≡ [] → Merges inner type a b rs

@@ -27,6 +27,7 @@ use Rattle.reflect_decode.specs.Levels.{TakenAt, TakesAt, MergesAt}
 use Rattle.reflect_decode.specs.Maps.{ChangesPart}
 use Rattle.reflect_decode.specs.Messages.{MergesMessage}
 use Rattle.reflect_decode.specs.Scalars.{LeavesAs}
+use Rattle.reflect_decode.specs.Spares.{FillsExtensions, FillsFields}
 use Rattle.reflect_decode.specs.Suits.{Suiting, IsSuiting, SuitsAs, HeldSuits, SuitsBy, SuitsBelow, PartSuits}
 use Rattle.reflect_decode.specs.Taking.{TakesAs, Leaves}
 
@@ -125,21 +126,28 @@ module _ (levels : ℕ) (keeps : (grouped : Bool) (m : MessageDescriptor) (a b :
   field_stays m f old new rs owns (inl h) suits = held_stays (field_pool f) (field_type f) old new _ owns.2 h.1 suits
   field_stays m f old new rs owns (inr h) suits = held_stays (field_pool f) (field_type f) None new _ owns.2 h.6 tt
 
+  filled_stays : (m : MessageDescriptor) (a b : Content) (rs : List (ℕ × Payload)) → FillsFields (TakesAt levels) m a b rs → FillsExtensions (TakesAt levels) m a.extensions b.extensions rs
+      → SuitsBy (SuitsBelow levels) m a → SuitsBy (SuitsBelow levels) m b
+  filled_stays m a b rs filled extended suits = record {
+    chosen = filled.chosen;
+    fields = λ f owns. field_stays m f _ _ rs owns (filled.each f owns) (suits.fields f owns);
+    extensions = λ x owns free. let n = (extension_type x).number in held_stays (extension_pool x) (extension_type x) (value_at a.extensions n) (value_at b.extensions n) _ owns.2 (extended.each x owns free) (suits.extensions x owns free);
+  }
+
   stays_by : (m : MessageDescriptor) (a b : Content) (rs : List (ℕ × Payload)) → MergesAt levels m a b rs → SuitsBy (SuitsBelow levels) m a → SuitsBy (SuitsBelow levels) m b
-  stays_by m a b rs h suits =
-      let filled = h.filled suits.chosen in
-      record {
-        chosen = filled.chosen;
-        fields = λ f owns. field_stays m f _ _ rs owns (filled.each f owns) (suits.fields f owns);
-        extensions = λ x owns free. let n = (extension_type x).number in held_stays (extension_pool x) (extension_type x) (value_at a.extensions n) (value_at b.extensions n) _ owns.2 (h.extended.each x owns free) (suits.extensions x owns free);
-      }
+  stays_by m a b rs h suits = filled_stays m a b rs (h.filled suits.chosen) h.extended suits
 
 pub below_stays : (levels : ℕ) (grouped : Bool) (m : MessageDescriptor) (a b : Content) (ps : List Payload) → TakenAt levels grouped m a b ps → SuitsBelow levels m a → SuitsBelow levels m b
 unfolding TakenAt
 below_stays zero grouped m a b ps h suits = absurd h
 below_stays (suc levels) grouped m a b ps h suits = stays_by levels (below_stays levels) m a b h.0 h.2 suits
 
--- records that are taken in leave what suits the type
+-- records that leave their values leave what suits the type
+pub filled_suits : (levels : ℕ) (m : MessageDescriptor) (a b : Content) (rs : List (ℕ × Payload)) → FillsFields (TakesAt levels) m a b rs → FillsExtensions (TakesAt levels) m a.extensions b.extensions rs
+    → SuitsBy (SuitsBelow levels) m a → SuitsBy (SuitsBelow levels) m b
+filled_suits levels = filled_stays levels (below_stays levels)
+
+-- so do records that are taken in
 pub suits_stay : (levels : ℕ) (m : MessageDescriptor) (a b : Content) (rs : List (ℕ × Payload)) → MergesAt levels m a b rs → SuitsBy (SuitsBelow levels) m a → SuitsBy (SuitsBelow levels) m b
 suits_stay levels m a b rs h suits = stays_by levels (below_stays levels) m a b rs h suits
 

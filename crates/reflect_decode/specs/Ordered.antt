@@ -1,9 +1,10 @@
 -- In which order messages keep what they hold.
-use Rattle.std.specs.Prelude.{◌≤◌, ◌-◌, ◌^◌, ℕ, List, [], ◌∷◌}
+use Rattle.std.specs.Prelude.{◌≤◌, ◌-◌, ◌^◌, ℕ, List, [], ◌∷◌, IfSome, IsTrue}
 use Rattle.std.specs.Option.{IsSome}
 use Rattle.reflect_entries.specs.Entries.{IsAscending, value_at}
 use Rattle.reflect_wire.specs.Records.{Payload}
 use Rattle.reflect_message.specs.Contents.{Content}
+use Rattle.reflect_message.specs.InOrder.{in_order}
 use Rattle.reflect_message.specs.Names.{Value}
 
 -- the highest number that a field may have
@@ -26,3 +27,13 @@ pub record IsOrdered (c : Content) : Type 0 where
   pub fields : AreNumbered c.fields
   pub extensions : AreNumbered c.extensions
   pub unknown : Ascend 1 last c.unknown
+
+-- the numbers ascend, and what stands under each is in order itself
+pub record AreInOrder (entries : List (ℕ × Value)) : Type 0 where
+  pub ascending : IsAscending entries
+  pub each : (n : ℕ) → IfSome (value_at entries n) (λ v. IsTrue (in_order v))
+
+-- fields and extensions are in order, at each depth
+pub record HoldsInOrder (c : Content) : Type 0 where
+  pub fields : AreInOrder c.fields
+  pub extensions : AreInOrder c.extensions

@@ -13,7 +13,7 @@ use Rattle.reflect_message.specs.Declares.{Declares, NoField, Owns, OwnsExtensio
 use Rattle.reflect_decode.specs.Fields.{LeavesField, LeavesExtension}
 use Rattle.reflect_decode.specs.Keeps.{numbered, Keeps}
 use Rattle.reflect_decode.specs.Messages.{Takes}
-use Rattle.reflect_decode.specs.Ordered.{IsOrdered}
+use Rattle.reflect_decode.specs.Ordered.{HoldsInOrder, IsOrdered}
 use Rattle.reflect_message.specs.Oneofs.{AreChosen}
 use Rattle.reflect_message.specs.Held.{Same}
 use Rattle.reflect_message.specs.Names.{Value}
@@ -65,7 +65,7 @@ pub record FillsExtensions (inner : Takes) (m : MessageDescriptor) (old new : Li
   pub behind : (f : FieldDescriptor) → Owns m f → Same old new (field_type f).number
 
 -- the records are taken in: what they do not name stays, those of undeclared numbers are kept and
--- stand nowhere else, and what was in the order of its numbers stays so
+-- stand nowhere else, and what was in the order of its numbers stays so, here and at each depth
 pub record Merges (inner : Takes) (m : MessageDescriptor) (old new : Content)
     (read : List (ℕ × Payload)) : Type 0 where
   pub fields : SparesFields m old.fields new.fields read
@@ -74,3 +74,4 @@ pub record Merges (inner : Takes) (m : MessageDescriptor) (old new : Content)
   pub extended : FillsExtensions inner m old.extensions new.extensions read
   pub unknown : Keeps m old.unknown new.unknown read
   pub ordered : IsOrdered old → IsOrdered new
+  pub in_order : HoldsInOrder old → HoldsInOrder new

@@ -13,7 +13,7 @@ use Rattle.reflect_message.specs.Declares.{NoField}
 use Rattle.reflect_message.specs.Held.{fields_of, extensions_of, unknown_of}
 use Rattle.reflect_decode.specs.Keeps.{Keeps}
 use Rattle.reflect_decode.specs.Levels.{MergesAt, TakesAt}
-use Rattle.reflect_decode.specs.Ordered.{IsOrdered}
+use Rattle.reflect_decode.specs.Ordered.{HoldsInOrder, IsOrdered}
 use Rattle.reflect_decode.specs.Refused.{BodyFault}
 use Rattle.reflect_decode.specs.Spares.{HoldsRead, NoExtension}
 use Rattle.reflect_decode.specs.Suits.{Suits}
@@ -31,11 +31,12 @@ IsSpelled d bytes m =
     × Accepts 100 d rs × IsOrdered (content_of m)
 
 -- the bytes spell such records, and the new message holds exactly what these leave in a copy of the
--- old one; where what the old one holds suits the type, the type accepts each of them
+-- old one that is in order at each depth; where what the old one holds suits the type, the type
+-- accepts each of them
 abbrev pub IsMerged : MessageDescriptor → List ℕ → DynamicMessage → DynamicMessage → Type 0
 IsMerged d bytes old new =
     (rs : List (ℕ × Payload)) × (copy : Content) × SpellsRecords 100 bytes (records_of rs)
-    × IsCopy (content_of old) copy × MergesAt 100 d copy (content_of new) rs
+    × IsCopy (content_of old) copy × HoldsInOrder copy × MergesAt 100 d copy (content_of new) rs
     × (Suits 100 d (content_of old) → Accepts 100 d rs)
 
 -- why bytes are refused as a message of the type

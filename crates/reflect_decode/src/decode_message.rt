@@ -1,5 +1,6 @@
 ghost use Rattle.std.specs.Prelude.{◌≡◌, IfErr, IfOk, OnOk, OnErr};
 ghost use Rattle.reflect_message.specs.Contents.{content_of};
+ghost use Rattle.reflect_message.specs.InOrder.{IsInOrder};
 ghost use Rattle.reflect_message.specs.Oneofs.{IsExclusive};
 ghost use Rattle.reflect_decode.specs.Spelled.{IsSpelled, IsMerged, TellsWhy};
 ghost use Rattle.reflect_decode.specs.Suits.{Suits};
@@ -30,6 +31,7 @@ pub trait DecodeMessage<'p>: Sized {
         ensures same_type { IfOk result (λ m. (message m).descriptor ≡ descriptor.entry) }
         ensures read { IfOk result (λ m. IsSpelled descriptor.entry bytes.now (message m)) }
         ensures exclusive { IfOk result (λ m. IsExclusive (message m)) }
+        ensures in_order { IfOk result (λ m. IsInOrder (message m)) }
         ensures fault { IfErr result (TellsWhy descriptor.entry bytes.now) };
 
     /// Takes in the records that the bytes spell behind those that the message stands for: numbers
@@ -42,6 +44,7 @@ pub trait DecodeMessage<'p>: Sized {
             (message self.old)
             (message self.new)) }
         ensures exclusive { IsExclusive (message self.old) → IsExclusive (message self.new) }
+        ensures in_order { OnOk result (IsInOrder (message self.new)) }
         ensures err { OnErr result (self.new ≡ self.old) }
         ensures fault { Suits 100 (message self.old).descriptor (content_of (message self.old))
             → IfErr result (TellsWhy (message self.old).descriptor bytes.now) };

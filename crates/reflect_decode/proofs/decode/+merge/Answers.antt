@@ -33,6 +33,7 @@ use Rattle.reflect_message.specs.declared.value.ValueOf.{Message, the_lemmas}
 use Rattle.reflect_decode.proofs.Appending.{appends_value, appends_row, appends_message, appends_more, list_done}
 use Rattle.reflect_message.proofs.Choosing.{makes_room}
 use Rattle.reflect_decode.proofs.Holding.{same_content, merged_in, fault_in}
+use Rattle.reflect_decode.proofs.InOrder.{orders_at}
 use Rattle.reflect_decode.proofs.Keeping.{kept_if_read, not_declared}
 use Rattle.reflect_decode.proofs.Kept.{emptied, no_longer, key_shorter}
 use Rattle.reflect_decode.proofs.Nesting.{accepts_at, appends_at, joins_at, value_unset, delimited_taken, group_taken}
@@ -193,7 +194,7 @@ merge_record-returns-in-Some-clause-read t c =
     let made = makes_room found.field _ _ room.first room.stays room.others in (
       run.0,
       run.1,
-      merges_field (TakesAt raw.levels) type found.field found.ensures.owns raw.key.number found.ensures.number _ _ _ _ run.0 made c.in_ok-rest.ensures.others run.2 cleared.unsets (cleared.chooses room.room) cleared.extensions (ap undeclared cleared.unknown) (omega (arith, raw.positive), omega (arith, raw.small))
+      merges_field (TakesAt raw.levels) type (orders_at raw.levels) found.field found.ensures.owns raw.key.number found.ensures.number _ _ _ _ run.0 made c.in_ok-rest.ensures.others run.2 cleared.unsets (cleared.chooses room.room) cleared.extensions (ap undeclared cleared.unknown) (omega (arith, raw.positive), omega (arith, raw.small))
           (λ ascends. cleared.ascending (c.in_ok-rest.ensures.ascending ascends)),
       λ suits. run_of_field raw.levels type raw.key.number (field_pool found.field) (field_type found.field) run.0 (sym known ∙ c.declared_field.ensures.known) found.ensures.owns.0.1
           (run.3 (subst (λ n. HeldSuits (SuitsBelow raw.levels) (field_pool found.field) (field_type found.field) (value_at c.args.parts.now.fields n)) found.ensures.number (suits.fields found.field found.ensures.owns))),
@@ -206,7 +207,7 @@ merge_record-returns-in-Some-declared_extension-clause-read t c =
     let merged = c.merge_field-in-Some-declared_extension in
     let no_field : option_map field_type c.declared_field.result ≡ None = search rules in
     let known : option_map extension_type c.declared_extension.result ≡ Some (extension_type found.extension) = search rules in
-    merges_extension (TakesAt raw.levels) c.args.descriptor raw.levels raw.key raw.bytes.now _ _ merged.result c.in_default.ensures.none found.extension (sym no_field ∙ c.declared_field.ensures.known) (sym known ∙ c.declared_extension.ensures.known) found.ensures.owns found.ensures.number refl refl refl
+    merges_extension (TakesAt raw.levels) c.args.descriptor raw.levels raw.key raw.bytes.now _ _ (orders_at raw.levels) merged.result c.in_default.ensures.none found.extension (sym no_field ∙ c.declared_field.ensures.known) (sym known ∙ c.declared_extension.ensures.known) found.ensures.owns found.ensures.number refl refl refl
     (omega (arith, raw.positive), omega (arith, raw.small)) merged.ensures.ascending merged.ensures.others merged.ensures.read
 
 pub merge_record-returns-clause-read : goal.merge_record-returns-clause-read

@@ -6,6 +6,7 @@ use Rattle.reflect_decode.specs.Levels.{TakesAt}
 use Rattle.reflect_decode.specs.Spelled.{TellsWhy}
 use Rattle.reflect_decode.specs.Suits.{Suits}
 use Rattle.reflect_decode.proofs.Copying.{merged, merged_chosen}
+use Rattle.reflect_decode.proofs.InOrder.{message_from, message_tells}
 use Rattle.reflect_decode.proofs.Suiting.{copy_suits}
 use Rattle.reflect_decode.proofs.decode_message.DynamicMessageDecodeMessage.merge.Goals as goal
 
@@ -25,6 +26,7 @@ returns-clause-read c =
     merged 100 old.descriptor copy.merged.descriptor c.args.bytes.now c.in_ok-merge_body.field-0.now
     (content_of old) (content_of copy.merged) (content_of c.merge_body.new.message)
     read.0 made.same_type read.1 (taken.whole refl) read.2 read.3 copied
+    (message_tells copy.merged made.in_order)
 
 pub returns-clause-exclusive : goal.returns-clause-exclusive
 returns-clause-exclusive c =
@@ -62,3 +64,9 @@ returns-in_err-merge_body-clause-fault c =
     let before = subst (λ t. Suits 100 t (content_of old)) (sym made.same_type) suits in
     let held = copy_suits 100 type (content_of old) (content_of copy.merged) copied before in
     rw (p.1, p.2) (subst (λ d. TellsWhy d c.args.bytes.now failed.field-0.0) made.same_type (failed.ensures.fault held))
+
+pub returns-clause-in_order : goal.returns-clause-in_order
+returns-clause-in_order c =
+    let copy = c.in_ok-merged in
+    let before = message_tells copy.merged copy.ensures.in_order in
+    message_from c.merge_body.new.message (c.in_ok-merge_body.ensures.read.2.in_order before)
