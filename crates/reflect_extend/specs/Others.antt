@@ -1,4 +1,4 @@
--- What stands under a list's number and is no list.
+-- What stands under a field's number and stays.
 use Rattle.std.specs.Prelude.{◌≡◌, Option, None, Some}
 use Rattle.reflect_message.specs.Lists.{list_items}
 use Rattle.reflect_message.specs.Names.{Value}
@@ -7,3 +7,7 @@ use Rattle.reflect_message.specs.Names.{Value}
 abbrev pub KeepsOther : Option Value → Option Value → Type 0
 KeepsOther None new = Unit {0}
 KeepsOther (Some v) new = list_items v ≡ None → new ≡ Some v
+
+-- where nothing stood, nothing does
+abbrev pub StaysUnset : Option Value → Option Value → Type 0
+StaysUnset old new = old ≡ None → new ≡ None

@@ -9,7 +9,7 @@ ghost use Rattle.reflect_message.specs.Declares.{Declares};
 ghost use Rattle.reflect_message.specs.Lists.{list_items, Lengthens, KeepsList};
 ghost use Rattle.reflect_message.specs.Held.{fields_of, Same};
 ghost use Rattle.reflect_extend.specs.Gives.{Gives, GivesEntry, IsPart};
-ghost use Rattle.reflect_extend.specs.Others.{KeepsOther};
+ghost use Rattle.reflect_extend.specs.Others.{KeepsOther, StaysUnset};
 ghost use Rattle.reflect_extend.specs.Puts.{Puts, PutsAll, PutsFront, PutsEntries, PutsSome};
 
 use reflect_entries::Entries;
@@ -23,7 +23,8 @@ use std::collections::BTreeMap;
 /// stood under its key. Of a field that is neither nothing happens, nor where something else stands
 /// under its number.
 ///
-/// A refusal leaves the values of a list; a map has then perhaps some of the entries.
+/// A refusal leaves the values of a list; a map that stood there has then perhaps some of the
+/// entries. Where nothing stood nothing does.
 pub fn extend<'p, F: FieldDescriptorLike<'p>>(
     alloc: Global,
     content: &mut Entries<Value<'p>>,
@@ -47,18 +48,66 @@ pub fn extend<'p, F: FieldDescriptorLike<'p>>(
     ensures part { holds_map (F.pool field.now) (F.says field.now) ≡ true
         → OnErr result (PutsSome (value_at content.old (F.says field.now).number)
         (value_at content.new (F.says field.now).number) values.entry.items) }
+    ensures absent { OnErr result (StaysUnset (value_at content.old (F.says field.now).number)
+        (value_at content.new (F.says field.now).number)) }
     ensures neither { holds_list (F.pool field.now) (F.says field.now) ≡ false
         → holds_map (F.pool field.now) (F.says field.now) ≡ false → content.new ≡ content.old }
 {
-    let number = field.number();
     if field.is_list() {
-        let list = content.slot(number, Value::List(Vec::new(alloc)))?;
-        return append(list, values);
+        return extend_list(content, field.number(), values);
     }
     if field.is_map() {
-        let map = content.slot(number, Value::Map(BTreeMap::new(alloc)))?;
-        return insert(alloc, map, values);
+        return extend_map(alloc, content, field.number(), values);
     }
+    Ok(())
+}
+
+/// Puts values behind those of the list under a number; where nothing stands, they are the list.
+fn extend_list<'p>(
+    content: &mut Entries<Value<'p>>,
+    number: u32,
+    values: Vec<Value<'p>>,
+) -> Result<(), AllocError>
+    ensures others { (n : ℕ) → n ≢ number → Same content.old content.new n }
+    ensures ascending { IsAscending content.old → IsAscending content.new }
+    ensures list { OnOk result (Lengthens (value_at content.old number)
+        (value_at content.new number) values.entry.items) }
+    ensures left { OnErr result (KeepsList (value_at content.old number)
+        (value_at content.new number)) }
+    ensures other { KeepsOther (value_at content.old number) (value_at content.new number) }
+    ensures absent { OnErr result (StaysUnset (value_at content.old number)
+        (value_at content.new number)) }
+{
+    if let Some(list) = content.get_mut(number) {
+        return append(list, values);
+    }
+    content.set(number, Value::List(values))?;
+    Ok(())
+}
+
+/// Puts entries into the map under a number; where nothing stands, a map is made of them and put
+/// there whole.
+fn extend_map<'p>(
+    alloc: Global,
+    content: &mut Entries<Value<'p>>,
+    number: u32,
+    entries: Vec<Value<'p>>,
+) -> Result<(), AllocError>
+    ensures others { (n : ℕ) → n ≢ number → Same content.old content.new n }
+    ensures ascending { IsAscending content.old → IsAscending content.new }
+    ensures map { OnOk result (PutsEntries (value_at content.old number)
+        (value_at content.new number) entries.entry.items) }
+    ensures part { OnErr result (PutsSome (value_at content.old number)
+        (value_at content.new number) entries.entry.items) }
+    ensures absent { OnErr result (StaysUnset (value_at content.old number)
+        (value_at content.new number)) }
+{
+    if let Some(map) = content.get_mut(number) {
+        return insert(alloc, map, entries);
+    }
+    let mut map = Value::Map(BTreeMap::new(alloc));
+    insert(alloc, &mut map, entries)?;
+    content.set(number, map)?;
     Ok(())
 }
 

@@ -8,9 +8,9 @@ ghost use Rattle.reflect_message.specs.Declares.{Declares, Owns};
 ghost use Rattle.reflect_message.specs.Held.{fields_of, choices_of, extensions_of, unknown_of, Same};
 ghost use Rattle.reflect_message.specs.Lists.{Lengthens, KeepsList};
 ghost use Rattle.reflect_message.specs.Oneofs.{AreChosen, IsExclusive, sibling};
-ghost use Rattle.reflect_extend.specs.Others.{KeepsOther};
+ghost use Rattle.reflect_extend.specs.Others.{KeepsOther, StaysUnset};
 ghost use Rattle.reflect_extend.specs.Puts.{PutsEntries, PutsSome};
-ghost use Rattle.reflect_extend.specs.Siblings.{LacksSibling};
+ghost use Rattle.reflect_extend.specs.Siblings.{KeepsRest, LacksSibling};
 
 use crate::extend::extend;
 use reflect_message::{DynamicMessage, MessageParts, Parts, Value};
@@ -30,7 +30,8 @@ pub trait ExtendMessage<'p> {
     /// over what stood under its key. The other members of its oneof are unset. Of a field that
     /// holds one value nothing happens, nor to what stands under its number and is no list or map.
     ///
-    /// A refusal leaves the values of a list, and of a map perhaps some of the entries more.
+    /// A refusal leaves the other members, the values of a list, and where nothing was held nothing;
+    /// a map that was held has then perhaps some of the entries more.
     fn extend_field(
         &mut self,
         field: &FieldDescriptor<'p>,
@@ -60,6 +61,9 @@ pub trait ExtendMessage<'p> {
             (field_type field.now).number)
             (value_at (fields_of (message self.new)) (field_type field.now).number)
             values.entry.items) }
+        ensures absent { OnErr result (StaysUnset
+            (value_at (fields_of (message self.old)) (field_type field.now).number)
+            (value_at (fields_of (message self.new)) (field_type field.now).number)) }
         ensures neither { holds_list (field_pool field.now) (field_type field.now) ≡ false
             → holds_map (field_pool field.now) (field_type field.now) ≡ false
             → fields_of (message self.new) ≡ fields_of (message self.old) }
@@ -70,10 +74,12 @@ pub trait ExtendMessage<'p> {
             || holds_map (field_pool field.now) (field_type field.now)) ≡ true
             → OnOk result (LacksSibling field.now (choices_of (message self.old))
             (fields_of (message self.new))) }
+        ensures rest { OnErr result (KeepsRest field.now (fields_of (message self.old))
+            (fields_of (message self.new))) }
         ensures ascending { IsAscending (fields_of (message self.old))
             → IsAscending (fields_of (message self.new)) }
         ensures exclusive { Owns (message self.old).descriptor field.now
-            → IsExclusive (message self.old) → OnOk result (IsExclusive (message self.new)) }
+            → IsExclusive (message self.old) → IsExclusive (message self.new) }
         ensures extensions { extensions_of (message self.new) ≡ extensions_of (message self.old) }
         ensures unknown { unknown_of (message self.new) ≡ unknown_of (message self.old) };
 
@@ -108,6 +114,9 @@ pub trait ExtendMessage<'p> {
             (value_at (extensions_of (message self.old)) (extension_type extension.now).number)
             (value_at (extensions_of (message self.new)) (extension_type extension.now).number)
             values.entry.items) }
+        ensures absent { OnErr result (StaysUnset
+            (value_at (extensions_of (message self.old)) (extension_type extension.now).number)
+            (value_at (extensions_of (message self.new)) (extension_type extension.now).number)) }
         ensures neither { holds_list (extension_pool extension.now) (extension_type extension.now)
             ≡ false → holds_map (extension_pool extension.now) (extension_type extension.now)
             ≡ false → extensions_of (message self.new) ≡ extensions_of (message self.old) }
@@ -149,7 +158,8 @@ impl<'p> ExtendMessage<'p> for DynamicMessage<'p> {
 }
 
 /// Puts values behind those of a list, or entries into a map, as `extend` does, and unsets the
-/// other members of the field's oneof. Of a field that is neither nothing happens.
+/// other members of the field's oneof, which a refusal leaves. Of a field that is neither nothing
+/// happens.
 fn extend_parts<'p>(
     parts: &mut Parts<'p>,
     alloc: Global,
@@ -162,6 +172,7 @@ fn extend_parts<'p>(
     ensures unset { (holds_list (field_pool field.now) (field_type field.now)
         || holds_map (field_pool field.now) (field_type field.now)) ≡ true
         → OnOk result (LacksSibling field.now parts.old.choices.members parts.new.fields) }
+    ensures rest { OnErr result (KeepsRest field.now parts.old.fields parts.new.fields) }
     ensures ascending { IsAscending parts.old.fields → IsAscending parts.new.fields }
     ensures list { holds_list (field_pool field.now) (field_type field.now) ≡ true
         → OnOk result (Lengthens (value_at parts.old.fields (field_type field.now).number)
@@ -178,12 +189,15 @@ fn extend_parts<'p>(
     ensures part { holds_map (field_pool field.now) (field_type field.now) ≡ true
         → OnErr result (PutsSome (value_at parts.old.fields (field_type field.now).number)
         (value_at parts.new.fields (field_type field.now).number) values.entry.items) }
+    ensures absent { OnErr result (StaysUnset
+        (value_at parts.old.fields (field_type field.now).number)
+        (value_at parts.new.fields (field_type field.now).number)) }
     ensures neither { holds_list (field_pool field.now) (field_type field.now) ≡ false
         → holds_map (field_pool field.now) (field_type field.now) ≡ false
         → parts.new.fields ≡ parts.old.fields }
     ensures chosen { (m : MessageDescriptor) → Owns m field.now
         → AreChosen m parts.old.choices.members parts.old.fields
-        → OnOk result (AreChosen m parts.new.choices.members parts.new.fields) }
+        → AreChosen m parts.new.choices.members parts.new.fields }
     ensures extensions { parts.new.extensions ≡ parts.old.extensions }
     ensures unknown { parts.new.unknown ≡ parts.old.unknown }
 {

@@ -1,6 +1,7 @@
 -- What stands in messages of which a list or a map takes further values.
 use Rattle.std.proofs.Common.{◌≡◌, ◌≢◌, ◌⊎◌, inl, inr, ℕ, Option, None, Some, is_some, refl, sym, ap, ◌∙◌, subst}
 use Rattle.reflect_entries.specs.Entries.{value_at}
+use Rattle.reflect_extend.specs.Siblings.{LacksSibling}
 use Rattle.reflect_message.specs.Contents.{content_of}
 use Rattle.reflect_message.specs.Declares.{Owns, OwnsExtension}
 use Rattle.reflect_message.specs.Held.{Same, choices_of, extensions_of, fields_of}
@@ -30,12 +31,12 @@ module _ (old new : DynamicMessage) where
   stays_or_goes f extends n other = by (is_or_not (sibling f (choices_of old)) n) where
     by : (sibling f (choices_of old) ≡ Some n) ⊎ (sibling f (choices_of old) ≢ Some n)
         → Same (fields_of old) (fields_of new) n ⊎ (value_at (fields_of new) n ≡ None)
-    by (inl noted) = inr (extends.changes.unset n noted)
-    by (inr apart) = inl (extends.changes.others n other apart)
+    by (inl noted) = extends.noted n noted
+    by (inr apart) = inl (extends.others n other apart)
 
-  -- another member of the field's oneof holds nothing
-  pub sibling_gone : (f : FieldDescriptor) → IsExclusive old → ExtendsField old new f → (n : ℕ) → IsSibling d f n → value_at (fields_of new) n ≡ None
-  sibling_gone f exclusive extends n (first, g, owned, is, other, mine, its) = by (is_or_not (sibling f (choices_of old)) n) where
+  -- where the one that was noted holds nothing, no other member of the field's oneof does
+  pub sibling_gone : (f : FieldDescriptor) → IsExclusive old → ExtendsField old new f → LacksSibling f (choices_of old) (fields_of new) → (n : ℕ) → IsSibling d f n → value_at (fields_of new) n ≡ None
+  sibling_gone f exclusive extends lacks n (first, g, owned, is, other, mine, its) = by (is_or_not (sibling f (choices_of old)) n) where
     held : (o : Option Value) → value_at (fields_of old) n ≡ o → sibling f (choices_of old) ≢ Some n → o ≡ None
     held None at apart = refl
     held (Some v) at apart =
@@ -43,12 +44,12 @@ module _ (old new : DynamicMessage) where
         absurd (apart (sibling_of f (choices_of old) n first mine (noted ∙ ap Some is) other))
 
     by : (sibling f (choices_of old) ≡ Some n) ⊎ (sibling f (choices_of old) ≢ Some n) → value_at (fields_of new) n ≡ None
-    by (inl noted) = extends.changes.unset n noted
-    by (inr apart) = extends.changes.others n other apart ∙ held (value_at (fields_of old) n) refl apart
+    by (inl noted) = lacks n noted
+    by (inr apart) = extends.others n other apart ∙ held (value_at (fields_of old) n) refl apart
 
   -- what is no member of it stays
   pub other_stays : (f : FieldDescriptor) → IsExclusive old → ExtendsField old new f → (n : ℕ) → n ≢ (field_type f).number → (IsSibling d f n → ⊥) → Same (fields_of old) (fields_of new) n
-  other_stays f exclusive extends n other apart = extends.changes.others n other (λ noted.
+  other_stays f exclusive extends n other apart = extends.others n other (λ noted.
       let is = sibling_is f (choices_of old) n noted in
       let member = exclusive.member is.0 n is.2 in
       apart (is.0, member.0, member.1, member.2, other, is.1, member.3))

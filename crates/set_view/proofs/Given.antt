@@ -94,7 +94,7 @@ part_found pool apart i n place part g there =
     let same : first.0 ≡ place = apart.fields i first.0 place first.1.0 part.there (number ∙ sym part.number) in
     sym (ap (type_of_field pool i) same) ∙ ap (λ o. unwrap_or o g) (sym (first.2 no_field) ∙ there)
 
-value_of_pair : (o : Option MapKey) (value : Value) (e : Entry) → Some e ≡ option_map (λ k. (k, value)) o → value ≡ e.1
+pub value_of_pair : (o : Option MapKey) (value : Value) (e : Entry) → Some e ≡ option_map (λ k. (k, value)) o → value ≡ e.1
 value_of_pair None value e is = absurd (cc is)
 value_of_pair (Some k) value e is = ap (λ (p : Option Entry). elim p [ None ↦ value | Some q ↦ q.1 ]) (sym is)
 
@@ -119,7 +119,7 @@ module _ (inner : DynamicMessage → Type 0) (blank : (m : DynamicMessage) → c
   type_of place = type_of_field m.descriptor.pool.now m.descriptor.index place
 
   -- what the message holds under the number of a part suits the part
-  held_fits : (n place : ℕ) → IsPartAt d.pool.now d.index n place → numbered_field d.pool.now d.index n ≡ Some (type_of place)
+  pub held_fits : (n place : ℕ) → IsPartAt d.pool.now d.index n place → numbered_field d.pool.now d.index n ≡ Some (type_of place)
       → (u : Value) → value_at (fields_of m) n ≡ Some u → FitsOne inner d.pool.now (type_of place) u
   held_fits n place part there u at = by (is_float (type_of place).kind) refl where
     by : (b : Bool) → is_float (type_of place).kind ≡ b → FitsOne inner d.pool.now (type_of place) u
@@ -130,12 +130,14 @@ module _ (inner : DynamicMessage → Type 0) (blank : (m : DynamicMessage) → c
         let fits = shape.fields g.0 g.1 u (ap (value_at (fields_of m)) number ∙ at) in
         fits_one inner d.pool.now (type_of place) part.one u (subst (λ (t : FieldType). Fits inner d.pool.now t u) g.2 fits)
 
+  -- without its key it holds the same value
+  pub value_left : left_under its_key.number (fields_of m) its_value.number ≡ value_at (fields_of m) 2
+  value_left = ap (left_under its_key.number (fields_of m)) value_part.number ∙ ap (λ n. left_under n (fields_of m) 2) key_part.number
+
   pair_fits : numbered_field d.pool.now d.index 2 ≡ Some its_value → (e : Entry) → GivesPair d.pool.now its_key its_value (fields_of m) (Some e) → FitsOne inner d.pool.now its_value e.1
   pair_fits there e (key, value, of_key, of_value, given) =
-      let left : left_under its_key.number (fields_of m) its_value.number ≡ value_at (fields_of m) 2 =
-      ap (left_under its_key.number (fields_of m)) value_part.number ∙ ap (λ n. left_under n (fields_of m) 2) key_part.number in
       subst (FitsOne inner d.pool.now its_value) (value_of_pair (key_of_value key) value e given)
-      (part_fits inner d.pool.now its_value value_part.one blank (value_at (fields_of m) 2) (held_fits 2 s.value value_part there) value (subst (λ o. IsPart d.pool.now its_value o value) left of_value))
+      (part_fits inner d.pool.now its_value value_part.one blank (value_at (fields_of m) 2) (held_fits 2 s.value value_part there) value (subst (λ o. IsPart d.pool.now its_value o value) value_left of_value))
 
 -- a message of the entries' type
 module _ (pool : PoolType) (sound : IsSound pool) (f : FieldType) (v : Value) (fits : FitsOne IsInShape pool f v) where

@@ -1,9 +1,12 @@
+mod Entered
 mod Extended
 mod Given
 mod Keyed
 mod Lasting
+mod Leaving
 mod Listed
 mod Longer
 mod Mapped
+mod Parts
 mod Suited
 mod Viewed

@@ -9,8 +9,9 @@ use Rattle.protobuf_model.proofs.Pieces.{items-if_any, map_append, pairs-if_some
 use Rattle.reflect_entries.specs.Entries.{value_at}
 use Rattle.reflect_extend.specs.Gives.{Entry, Gives}
 use Rattle.reflect_extend.specs.Puts.{PutsAll, PutsEntries, with_given}
+use Rattle.reflect_extend.specs.Siblings.{LacksSibling}
 use Rattle.reflect_message.specs.Declares.{NoField, Owns, OwnsExtension}
-use Rattle.reflect_message.specs.Held.{extensions_of, fields_of}
+use Rattle.reflect_message.specs.Held.{choices_of, extensions_of, fields_of}
 use Rattle.reflect_message.specs.Lists.{Lengthens, items_held}
 use Rattle.reflect_message.specs.Maps.{entries_held}
 use Rattle.reflect_message.specs.Names.{DynamicMessage, Value}
@@ -109,34 +110,35 @@ module _ (old new : DynamicMessage) (sound : IsSound old.descriptor.pool.now) wh
   abbrev FieldIsPut : FieldDescriptor → Held → Type 0
   FieldIsPut f held = IsPut fields (field_type f).number held (view old) (view new)
 
-  field_is_put : IsExclusive old → (f : FieldDescriptor) → Owns d f → ExtendsField old new f → FieldIsPut f (held_as d.pool.now (field_type f) (value_at (fields_of new) (field_type f).number))
-  field_is_put exclusive f owns extends =
+  field_is_put : IsExclusive old → (f : FieldDescriptor) → Owns d f → ExtendsField old new f → LacksSibling f (choices_of old) (fields_of new)
+      → FieldIsPut f (held_as d.pool.now (field_type f) (value_at (fields_of new) (field_type f).number))
+  field_is_put exclusive f owns extends lacks =
       field_holds old new sound extends.same_type f owns (value_at (fields_of new) (field_type f).number) refl
-      (sibling_gone old new f exclusive extends) (other_stays old new f exclusive extends) extends.extensions extends.unknown
+      (sibling_gone old new f exclusive extends lacks) (other_stays old new f exclusive extends) extends.extensions extends.unknown
 
-  pub list_put : IsExclusive old → (f : FieldDescriptor) → Owns d f → ExtendsField old new f
+  pub list_put : IsExclusive old → (f : FieldDescriptor) → Owns d f → ExtendsField old new f → LacksSibling f (choices_of old) (fields_of new)
       → (vs : List Value) → IsSome (items_held (value_at (fields_of old) (field_type f).number))
       → Lengthens (value_at (fields_of old) (field_type f).number) (value_at (fields_of new) (field_type f).number) vs
       → FieldIsPut f (if_any (items (view old (field_type f).number) ++ map content_view vs))
-  list_put exclusive f owns extends vs some lengthens =
+  list_put exclusive f owns extends lacks vs some lengthens =
       let under = λ (m : DynamicMessage). value_at (fields_of m) (field_type f).number in
       let was = of_field old old refl f owns (under old) refl in
       subst (FieldIsPut f) (longer_held d.pool.now (field_type f) (under old) (under new) vs some lengthens ∙ ap (λ h. if_any (items h ++ map content_view vs)) (sym was))
-      (field_is_put exclusive f owns extends)
+      (field_is_put exclusive f owns extends lacks)
 
-  pub map_put : IsExclusive old → (f : FieldDescriptor) → Owns d f → ExtendsField old new f
+  pub map_put : IsExclusive old → (f : FieldDescriptor) → Owns d f → ExtendsField old new f → LacksSibling f (choices_of old) (fields_of new)
       → (before : List Entry) → entries_held (value_at (fields_of old) (field_type f).number) ≡ Some before
       → AllByRecursion (HasKey d.pool.now (field_type f)) before
       → (vs : List Value) → AllByRecursion (GivesKeyed d.pool.now (field_type f)) vs
       → PutsEntries (value_at (fields_of old) (field_type f).number) (value_at (fields_of new) (field_type f).number) vs
       → (es : List Entry) × AreGiven vs es × FieldIsPut f (if_some (put_all (pairs (view old (field_type f).number)) (map entry_view es)))
-  map_put exclusive f owns extends before at keys vs keyed puts =
+  map_put exclusive f owns extends lacks before at keys vs keyed puts =
       let under = λ (m : DynamicMessage). value_at (fields_of m) (field_type f).number in
       let was = of_field old old refl f owns (under old) refl in
       let more = fuller_held d.pool.now (field_type f) (under old) (under new) before vs at keys keyed puts in (
         more.0,
         more.1,
-        subst (FieldIsPut f) (more.2 ∙ ap (λ h. if_some (put_all (pairs h) (map entry_view more.0))) (sym was)) (field_is_put exclusive f owns extends),
+        subst (FieldIsPut f) (more.2 ∙ ap (λ h. if_some (put_all (pairs h) (map entry_view more.0))) (sym was)) (field_is_put exclusive f owns extends lacks),
       )
 
   abbrev ExtensionIsPut : ExtensionDescriptor → Held → Type 0

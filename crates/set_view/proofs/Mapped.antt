@@ -62,7 +62,7 @@ module _ (inner : DynamicMessage → Type 0) (pool : PoolType) (f : FieldType) w
     abbrev IsFittingMap : Option Value → Type 0
     IsFittingMap o = (before : List Entry) × (entries_held o ≡ Some before) × AllFit before
 
-    fitting : (o : Option Value) → ((v : Value) → o ≡ Some v → Fits inner pool f v) → IsFittingMap o
+    pub fitting : (o : Option Value) → ((v : Value) → o ≡ Some v → Fits inner pool f v) → IsFittingMap o
     fitting None fits = ([], refl, tt)
     fitting (Some v) fits = subst (λ b. FitsAs inner pool f b (holds_list pool f) v) is_map (fits v refl)
 

@@ -22,7 +22,7 @@ use Rattle.reflect_wire.specs.Records.{Payload}
 use Rattle.message_view.specs.Sound.{IsSound}
 use Rattle.message_view.specs.Types.{either_field, field_at, name_at, types_of}
 use Rattle.message_view.specs.Views.{content_view, contents_view, held_either, held_in, view}
-use Rattle.message_view.proofs.Fields.{extension_owned, known, owned}
+use Rattle.message_view.proofs.Fields.{extension_owned, none_known, owned}
 use Rattle.message_view.proofs.Oneofs.{rival_is_sibling, sibling_is_rival}
 use Rattle.message_view.proofs.Seen.{value_at-view, view_opened}
 use Rattle.message_view.proofs.Sound.{named}
@@ -48,7 +48,7 @@ view_at m n =
     ∙ ap (λ o. held_either d.pool.now f x (option_map content_view (value_at (fields_of m) n)) o (payloads n (unknown_of m))) (value_at-view (extensions_of m) n)
 
 -- nothing is set
-empty_view : (m : DynamicMessage) → content_of m ≡ nothing → (n : ℕ) → view m n ≡ absent
+pub empty_view : (m : DynamicMessage) → content_of m ≡ nothing → (n : ℕ) → view m n ≡ absent
 empty_view m empty n =
     let d = m.descriptor in
     view_at m n ∙ ap (λ (c : Content). seen d n (value_at c.fields n) (value_at c.extensions n) c.unknown) empty
@@ -61,13 +61,6 @@ empty_view m empty n =
 pub empty_suits : (types : Types) (t : Name) (m : DynamicMessage) → content_of m ≡ nothing → SuitsType types t (view m)
 empty_suits types t m empty = nothing_typed (IsTyped 99 types) 100 (types t) (view m) (empty_view m empty)
 
--- no field has the records of a number
-pub none_known : (d : MessageDescriptor) (n : ℕ) → NoField d n → known_field d.pool.now d.index n ≡ None
-none_known d n none = by (known_field d.pool.now d.index n) refl where
-  by : (o : Option FieldType) → known_field d.pool.now d.index n ≡ o → o ≡ None
-  by None is = refl
-  by (Some g) is = let f = known d n g is in absurd (none f.0 f.1 (ap (λ (t : FieldType). t.number) f.2 ∙ f.3))
-
 module _ (old new : DynamicMessage) (type : new.descriptor ≡ old.descriptor) where
   abbrev d : MessageDescriptor
   d = old.descriptor
@@ -76,7 +69,7 @@ module _ (old new : DynamicMessage) (type : new.descriptor ≡ old.descriptor) w
   view_new n = view_at new n ∙ ap (λ (d : MessageDescriptor). seen d n (value_at (fields_of new) n) (value_at (extensions_of new) n) (unknown_of new)) type
 
   -- under a number under which the same stands
-  stays : (n : ℕ) → value_at (fields_of new) n ≡ value_at (fields_of old) n → value_at (extensions_of new) n ≡ value_at (extensions_of old) n → unknown_of new ≡ unknown_of old → view new n ≡ view old n
+  pub stays : (n : ℕ) → value_at (fields_of new) n ≡ value_at (fields_of old) n → value_at (extensions_of new) n ≡ value_at (extensions_of old) n → unknown_of new ≡ unknown_of old → view new n ≡ view old n
   stays n fields extensions unknown =
       view_new n ∙ ap (λ o. seen d n o (value_at (extensions_of new) n) (unknown_of new)) fields
       ∙ ap (λ o. seen d n (value_at (fields_of old) n) o (unknown_of new)) extensions

@@ -6,3 +6,4 @@ pub mod laws;
 pub mod lists;
 pub mod maps;
 pub mod meant;
+pub mod refused;

@@ -1,6 +1,5 @@
 //! Laws of lists that values are put behind, as `extend_field` and `extend_extension` do. A call
-//! that is refused leaves the list: it is one of no values, where no other member of the field's
-//! oneof was noted.
+//! that is refused leaves the list: it is one of no values.
 ghost use Rattle.std.specs.Prelude.{◌≡◌, List, [], Option, true};
 ghost use Rattle.std.specs.List.{AllByRecursion};
 ghost use Rattle.reflect_entries.specs.Entries.{value_at};

@@ -1,6 +1,5 @@
 //! Laws of maps that values put their entries into, as `extend_field` and `extend_extension` do. A
-//! call that is refused has put those of the first of its values: it is one of these, where no
-//! other member of the field's oneof was noted.
+//! call that is refused has put those of the first of its values: it is one of these.
 ghost use Rattle.std.specs.Prelude.{◌≡◌, ◌++◌, List, Option, true};
 ghost use Rattle.std.specs.List.{AllByRecursion};
 ghost use Rattle.reflect_entries.specs.Entries.{value_at};

@@ -1,5 +1,5 @@
 //! Laws of what lists and maps mean that took further values.
-ghost use Rattle.std.specs.Prelude.{◌≡◌, ◌++◌, Bool, List, Some, map, true, ℕ};
+ghost use Rattle.std.specs.Prelude.{◌≡◌, ◌++◌, Bool, List, Some, false, map, true, ℕ};
 ghost use Rattle.std.specs.List.{AllByRecursion};
 ghost use Rattle.std.specs.Option.{IsSome};
 ghost use Rattle.protobuf_model.specs.Coded.{SuitsType};
@@ -10,8 +10,10 @@ ghost use Rattle.protobuf_model.specs.Values.{Content, Held, Single};
 ghost use Rattle.reflect_entries.specs.Entries.{value_at};
 ghost use Rattle.reflect_extend.specs.Gives.{Entry};
 ghost use Rattle.reflect_extend.specs.Puts.{PutsEntries};
+ghost use Rattle.reflect_extend.specs.Siblings.{LacksSibling};
 ghost use Rattle.reflect_message.specs.Declares.{NoField, Owns, OwnsExtension};
-ghost use Rattle.reflect_message.specs.Held.{extensions_of, fields_of};
+ghost use Rattle.reflect_message.specs.Held.{choices_of, extensions_of, fields_of};
+ghost use Rattle.reflect_message.specs.Known.{holds_floats};
 ghost use Rattle.reflect_message.specs.Lists.{Lengthens, items_held};
 ghost use Rattle.reflect_message.specs.Maps.{entries_held};
 ghost use Rattle.reflect_message.specs.Messages.{message_in};
@@ -28,7 +30,7 @@ ghost use Rattle.message_view.specs.Sound.{IsSound};
 ghost use Rattle.message_view.specs.Types.{name_at, types_of};
 ghost use Rattle.message_view.specs.Views.{content_view, view};
 ghost use Rattle.set_view.specs.Extends.{ExtendsExtension, ExtendsField};
-ghost use Rattle.set_view.specs.Given.{AreGiven, GivesKeyed, HasKey, entry_view};
+ghost use Rattle.set_view.specs.Given.{AreGiven, GivesKeyed, GivesSuiting, HasKey, SuitsEntries, entry_view};
 ghost use Rattle.set_view.specs.Puts.{IsPut};
 
 /// A field that values are put behind holds the list that it held, followed by what the values
@@ -36,6 +38,7 @@ ghost use Rattle.set_view.specs.Puts.{IsPut};
 pub fn extended_lists_are_put()
     ensures { (old new : DynamicMessage) → IsSound old.descriptor.pool.now → IsExclusive old
         → (f : FieldDescriptor) → Owns old.descriptor f → ExtendsField old new f
+        → LacksSibling f (choices_of old) (fields_of new)
         → (vs : List Value) → IsSome (items_held (value_at (fields_of old) (field_type f).number))
         → Lengthens (value_at (fields_of old) (field_type f).number)
         (value_at (fields_of new) (field_type f).number) vs
@@ -66,6 +69,7 @@ pub fn extended_list_extensions_are_put()
 pub fn extended_maps_are_put()
     ensures { (old new : DynamicMessage) → IsSound old.descriptor.pool.now → IsExclusive old
         → (f : FieldDescriptor) → Owns old.descriptor f → ExtendsField old new f
+        → LacksSibling f (choices_of old) (fields_of new)
         → (before : List Entry)
         → entries_held (value_at (fields_of old) (field_type f).number) ≡ Some before
         → AllByRecursion (HasKey old.descriptor.pool.now (field_type f)) before
@@ -131,6 +135,16 @@ pub fn entries_that_suit_give_their_keys()
         → GivesKeyed pool f v }
 {}
 
+/// It gives one that suits the map, where messages hold this: its values are no floating-point
+/// numbers.
+pub fn entries_that_suit_give_what_suits()
+    ensures { (pool : PoolType) → IsSound pool → (f : FieldType) → holds_map pool f ≡ true
+        → holds_floats pool f ≡ false → (v : Value) → FitsOne IsInShape pool f v
+        → ((m : DynamicMessage) → message_in v ≡ Some m
+        → SuitsType (types_of pool) (name_at pool m.descriptor.index) (view m))
+        → GivesSuiting pool f v }
+{}
+
 /// A list that suits its field does so with elements behind it that suit.
 pub fn longer_lists_suit_the_field()
     ensures { (types : Types) (t : Name) (n : ℕ) (f : Field) (packed : Bool) (held : Held)
@@ -147,4 +161,38 @@ pub fn fuller_maps_suit_the_field()
         → IsHeldOf (IsTyped 99 types) 100 (types t n) held
         → AllByRecursion (IsEntryOf (IsTyped 99 types) key f.part) es
         → IsHeldOf (IsTyped 99 types) 100 (types t n) (if_some (put_all (pairs held) es)) }
+{}
+
+/// Where a message is in shape and suits its type, it still does with entries put into a field that
+/// is a map, by messages that are in shape and suit the entries' type: so `encode` writes it in one
+/// form, and `decode` reads it again as it was.
+pub fn extended_maps_suit_the_type()
+    ensures { (old new : DynamicMessage) → IsSound old.descriptor.pool.now → IsInShape old
+        → SuitsType (types_of old.descriptor.pool.now)
+        (name_at old.descriptor.pool.now old.descriptor.index) (view old)
+        → IsExclusive old → (f : FieldDescriptor) → Owns old.descriptor f
+        → holds_map old.descriptor.pool.now (field_type f) ≡ true
+        → ExtendsField old new f → LacksSibling f (choices_of old) (fields_of new)
+        → (vs : List Value)
+        → AllByRecursion (SuitsEntries old.descriptor.pool.now (field_type f)) vs
+        → PutsEntries (value_at (fields_of old) (field_type f).number)
+        (value_at (fields_of new) (field_type f).number) vs
+        → IsInShape new × SuitsType (types_of old.descriptor.pool.now)
+        (name_at old.descriptor.pool.now old.descriptor.index) (view new) }
+{}
+
+/// So it does with entries put into an extension, under whose number no field stands.
+pub fn extended_map_extensions_suit_the_type()
+    ensures { (old new : DynamicMessage) → IsSound old.descriptor.pool.now → IsInShape old
+        → SuitsType (types_of old.descriptor.pool.now)
+        (name_at old.descriptor.pool.now old.descriptor.index) (view old)
+        → (x : ExtensionDescriptor) → OwnsExtension old.descriptor x
+        → NoField old.descriptor (extension_type x).number
+        → holds_map old.descriptor.pool.now (extension_type x) ≡ true
+        → ExtendsExtension old new x → (vs : List Value)
+        → AllByRecursion (SuitsEntries old.descriptor.pool.now (extension_type x)) vs
+        → PutsEntries (value_at (extensions_of old) (extension_type x).number)
+        (value_at (extensions_of new) (extension_type x).number) vs
+        → IsInShape new × SuitsType (types_of old.descriptor.pool.now)
+        (name_at old.descriptor.pool.now old.descriptor.index) (view new) }
 {}

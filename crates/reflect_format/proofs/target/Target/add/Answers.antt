@@ -23,11 +23,7 @@ module _ {T E : Type 0} (t : Target) (vs : List Value) (old new : DynamicMessage
   adds_part (Ok x) list map = tt
   adds_part (Err e) list map = (only, list, map)
 
--- what holds where a call is Ok, and only by premises
-under : {T E : Type 0} (P Q R : Type 0) (r : Result T E) → (P → Q → OnOk r R) → OnOk r (P → Q → R)
-under P Q R (Ok x) h = h
-under P Q R (Err e) h = tt
-
+-- what holds in any case
 always : {T E : Type 0} (P : Type 0) (r : Result T E) → P → OnOk r P
 always P (Ok x) h = h
 always P (Err e) h = tt
@@ -37,7 +33,7 @@ returns-in-Field-clause-ok c =
     let t : Target = targets.Field c.in-Field.field in
     let said = c.extend_field.ensures in
     subst (λ u. OnOk c.extend_field.result (Adds u c.args.values.items c.args.message.now c.extend_field.new.self)) (sym c.in-Field.is)
-    (adds t c.args.values.items c.args.message.now c.extend_field.new.self (said.others, said.extensions, said.unknown) c.extend_field.result said.list said.map (under _ _ _ c.extend_field.result said.exclusive)
+    (adds t c.args.values.items c.args.message.now c.extend_field.new.self (said.others, said.extensions, said.unknown) c.extend_field.result said.list said.map (always _ c.extend_field.result said.exclusive)
     (λ old. (said.ascending old.0, subst IsAscending (sym said.extensions) old.1)) said.unset)
 
 pub returns-in-Field-clause-left : goal.returns-in-Field-clause-left
