@@ -9,6 +9,7 @@ use Rattle.reflect_tables.specs.Types.{ArePooled, MessageWithin, EnumWithin, Ext
 use Rattle.reflect_tables.specs.Views.{file_of, record_of, places_of, message_of, enum_of, extension_of, service_of, pool_of}
 use Rattle.reflect_growth.specs.Growth.{Appended}
 use Rattle.reflect_growth.specs.Cut.{cut_to}
+use Rattle.reflect_growth.specs.Tested.{AreFrom}
 use Rattle.reflect_tables.specs.declared.stored.StoredFile.{StoredFile}
 use Rattle.reflect_tables.specs.declared.tables.Tables.{Tables}
 use Rattle.reflect_pool.proofs.Grown.{all_through}
@@ -40,13 +41,6 @@ back {Y = Y} f file n olds mores news e below above =
     ap (λ xs. filter test (map f xs)) e ∙ ap (filter test) (map-append f olds mores) ∙ filter-append test (map f olds) (map f mores)
     ∙ ap (λ ys. ys ++ filter test (map f mores)) (filter_below file n (map f olds) below)
     ∙ ap (λ ys. map f olds ++ ys) (filter_from file n (map f mores) above) ∙ append-nil (map f olds)
-
--- the further entries are declared in files from a place on
-pub record AreFrom (n : ℕ) (t : Tables) : Type 0 where
-  pub messages : AllByRecursion (λ m. n ≤ m.file) (map message_of t.messages.items)
-  pub enums : AllByRecursion (λ e. n ≤ e.file) (map enum_of t.enums.items)
-  pub extensions : AllByRecursion (λ x. n ≤ x.file) (map extension_of t.extensions.items)
-  pub services : AllByRecursion (λ s. n ≤ s.file) (map service_of t.services.items)
 
 files_back : {Y : Type 0} (f : StoredFile → Y) (old more new : Tables) → Appended old more new → take (length (map f old.files.items)) (map f new.files.items) ≡ map f old.files.items
 files_back f old more new e =

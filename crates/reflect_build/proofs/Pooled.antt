@@ -6,6 +6,7 @@ use Rattle.std.specs.List.{All, AllByRecursion}
 use Rattle.reflect_tables.specs.Types.{KindType, MessageType, FieldType, EnumType, ExtensionType, MethodType, ServiceType, message, enumeration, ArePooled, AreFew, ListsMembers, IsAmong, IsWithin, ChildPlaces, FilePlaces, ChildrenWithin, HoldsWithin, FileWithin, MessageWithin, EnumWithin, ExtensionWithin, MethodWithin, ServiceWithin, counts_of}
 use Rattle.reflect_tables.specs.Views.{file_of, places_of, message_of, enum_of, extension_of, service_of, pool_of}
 use Rattle.reflect_growth.specs.Growth.{Appended, Together}
+use Rattle.reflect_growth.specs.Tested.{AreWithin}
 use Rattle.reflect_tables.specs.declared.tables.Counts.{Counts}
 use Rattle.reflect_tables.specs.declared.tables.Tables.{Tables}
 use Rattle.reflect_pool.proofs.Grown.{all_behind, all_through}
@@ -99,15 +100,6 @@ joined f P Q olds mores news e step old more =
     let split : map f news ≡ map f olds ++ map f mores = ap (map f) e ∙ map-append f olds mores in
     subst (λ ys. AllByRecursion Q ys) (sym split) (all_behind Q (map f olds) (map f mores) (all_through P Q (map f olds) step old) more)
 
-pub record AreWithin (c : Counts) (t : Tables) : Type 0 where
-  pub declared : AllByRecursion (FileWithin c) (map places_of t.files.items)
-  pub messages : AllByRecursion (MessageWithin c) (map message_of t.messages.items)
-  pub children : AllByRecursion (HoldsWithin c) (map message_of t.messages.items)
-  pub listed : AllByRecursion ListsMembers (map message_of t.messages.items)
-  pub enums : AllByRecursion (EnumWithin c) (map enum_of t.enums.items)
-  pub extensions : AllByRecursion (ExtensionWithin c) (map extension_of t.extensions.items)
-  pub services : AllByRecursion (ServiceWithin c) (map service_of t.services.items)
-
 pub counted : (old more new : Tables) (c : Counts) → Appended old more new → Together old more c → counts_of (pool_of new) ≡ c
 counted old more new c e t =
     let files : length (map file_of new.files.items) ≡ c.files = long file_of old.files.items more.files.items new.files.items c.files e.files t.files in
@@ -117,8 +109,9 @@ counted old more new c e t =
     let services : length (map service_of new.services.items) ≡ c.services = long service_of old.services.items more.services.items new.services.items c.services e.services t.services in
     λ i. record { files = files i; messages = messages i; enums = enums i; extensions = extensions i; services = services i }
 
-pub pooled_more : (old more new : Tables) (c : Counts) → Appended old more new → Together old more c → AreFew c → ArePooled (pool_of old) → AreWithin c more → ArePooled (pool_of new)
-pooled_more old more new c e t small h w =
+pub pooled_more : (old more new : Tables) (c : Counts) → Appended old more new → Together old more c → AreFew c → ArePooled (pool_of old)
+    → AreWithin c more → AllByRecursion ListsMembers (map message_of more.messages.items) → ArePooled (pool_of new)
+pooled_more old more new c e t small h w listed =
     let a = counts_of (pool_of old) in
     let le : IsMore a c = record {
       files = fits file_of old.files.items more.files.items c.files t.files;
@@ -130,12 +123,12 @@ pooled_more old more new c e t small h w =
     let same : c ≡ counts_of (pool_of new) = sym (counted old more new c e t) in
     record {
       declared = subst (λ d. AllByRecursion (FileWithin d) (map places_of new.files.items)) same
-          (joined places_of (FileWithin a) (FileWithin c) old.files.items more.files.items new.files.items e.files (file_more a c le) h.declared w.declared);
+          (joined places_of (FileWithin a) (FileWithin c) old.files.items more.files.items new.files.items e.files (file_more a c le) h.declared w.files);
       children = subst (λ d. AllByRecursion (HoldsWithin d) (map message_of new.messages.items)) same
           (joined message_of (HoldsWithin a) (HoldsWithin c) old.messages.items more.messages.items new.messages.items e.messages (λ m k. children_more a c le m.children k) h.children w.children);
       messages = subst (λ d. AllByRecursion (MessageWithin d) (map message_of new.messages.items)) same
           (joined message_of (MessageWithin a) (MessageWithin c) old.messages.items more.messages.items new.messages.items e.messages (message_more a c le) h.messages w.messages);
-      listed = joined message_of ListsMembers ListsMembers old.messages.items more.messages.items new.messages.items e.messages (λ m l. l) h.listed w.listed;
+      listed = joined message_of ListsMembers ListsMembers old.messages.items more.messages.items new.messages.items e.messages (λ m l. l) h.listed listed;
       enums = subst (λ d. AllByRecursion (EnumWithin d) (map enum_of new.enums.items)) same
           (joined enum_of (EnumWithin a) (EnumWithin c) old.enums.items more.enums.items new.enums.items e.enums (enum_more a c le) h.enums w.enums);
       extensions = subst (λ d. AllByRecursion (ExtensionWithin d) (map extension_of new.extensions.items)) same

@@ -2,3 +2,4 @@ pub mod Growth
 pub mod Cut
 pub mod Settled
 pub mod Put
+pub mod Tested

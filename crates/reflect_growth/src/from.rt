@@ -1,13 +1,15 @@
 //! Whether entries are declared in files from a place on.
 
-ghost use Rattle.std.specs.Prelude.{◌≤◌, IsTrue, map};
+ghost use Rattle.std.specs.Bool.{Decides};
+ghost use Rattle.std.specs.Prelude.{◌≤◌, map};
 ghost use Rattle.std.specs.List.{AllByRecursion};
+ghost use Rattle.reflect_growth.specs.Tested.{AreFrom};
 ghost use Rattle.reflect_tables.specs.Views.{message_of, enum_of, extension_of, service_of};
 
 use reflect_tables::{StoredEnum, StoredExtension, StoredMessage, StoredService, Tables};
 
 fn messages_from(items: &[StoredMessage], first: u32) -> bool
-    ensures { IsTrue result → AllByRecursion (λ m. first ≤ m.file) (map message_of items.now) }
+    ensures { Decides result (AllByRecursion (λ m. first ≤ m.file) (map message_of items.now)) }
 {
     for message in items {
         if message.file < first {
@@ -18,7 +20,7 @@ fn messages_from(items: &[StoredMessage], first: u32) -> bool
 }
 
 fn enums_from(items: &[StoredEnum], first: u32) -> bool
-    ensures { IsTrue result → AllByRecursion (λ e. first ≤ e.file) (map enum_of items.now) }
+    ensures { Decides result (AllByRecursion (λ e. first ≤ e.file) (map enum_of items.now)) }
 {
     for enumeration in items {
         if enumeration.file < first {
@@ -29,7 +31,7 @@ fn enums_from(items: &[StoredEnum], first: u32) -> bool
 }
 
 fn extensions_from(items: &[StoredExtension], first: u32) -> bool
-    ensures { IsTrue result → AllByRecursion (λ x. first ≤ x.file) (map extension_of items.now) }
+    ensures { Decides result (AllByRecursion (λ x. first ≤ x.file) (map extension_of items.now)) }
 {
     for extension in items {
         if extension.file < first {
@@ -40,7 +42,7 @@ fn extensions_from(items: &[StoredExtension], first: u32) -> bool
 }
 
 fn services_from(items: &[StoredService], first: u32) -> bool
-    ensures { IsTrue result → AllByRecursion (λ s. first ≤ s.file) (map service_of items.now) }
+    ensures { Decides result (AllByRecursion (λ s. first ≤ s.file) (map service_of items.now)) }
 {
     for service in items {
         if service.file < first {
@@ -52,14 +54,7 @@ fn services_from(items: &[StoredService], first: u32) -> bool
 
 /// All entries are declared in the file at the place `first` or one behind it.
 pub fn are_from(tables: &Tables, first: u32) -> bool
-    ensures messages { IsTrue result
-        → AllByRecursion (λ m. first ≤ m.file) (map message_of tables.now.messages.items) }
-    ensures enums { IsTrue result → AllByRecursion (λ e. first ≤ e.file)
-        (map enum_of tables.now.enums.items) }
-    ensures extensions { IsTrue result
-        → AllByRecursion (λ x. first ≤ x.file) (map extension_of tables.now.extensions.items) }
-    ensures services { IsTrue result
-        → AllByRecursion (λ s. first ≤ s.file) (map service_of tables.now.services.items) }
+    ensures { Decides result (AreFrom first tables.now) }
 {
     messages_from(tables.messages.as_slice(), first)
         && enums_from(tables.enums.as_slice(), first)

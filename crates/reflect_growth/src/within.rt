@@ -1,9 +1,11 @@
 //! Whether what new entries name is there, among old and new ones.
 
-ghost use Rattle.std.specs.Prelude.{◌<◌, ◌^◌, IsTrue, map};
+ghost use Rattle.std.specs.Bool.{Decides};
+ghost use Rattle.std.specs.Prelude.{◌<◌, ◌^◌, map};
 ghost use Rattle.std.specs.List.{All, AllByRecursion};
 ghost use Rattle.reflect_tables.specs.Types.{IsWithin, MessageWithin, EnumWithin, ExtensionWithin, MethodWithin, ServiceWithin, IsAmong, HasParts, HaveMembers, ChildrenWithin, HoldsWithin, FileWithin};
 ghost use Rattle.reflect_tables.specs.Views.{message_of, enum_of, extension_of, service_of, method_of, field_of, oneof_of, kind_of, children_of, places_of};
+ghost use Rattle.reflect_growth.specs.Tested.{AreWithin};
 
 use reflect_tables::{
     Children, Counts, StoredEntry, StoredEnum, StoredExtension, StoredField, StoredFile,
@@ -12,7 +14,7 @@ use reflect_tables::{
 
 /// The type that a field names is one of so many.
 fn is_within(kind: StoredKind, counts: Counts) -> bool
-    ensures { IsTrue result → IsWithin counts (kind_of kind) }
+    ensures { Decides result (IsWithin counts (kind_of kind)) }
 {
     match kind {
         StoredKind::Message(index) => index < counts.messages,
@@ -22,8 +24,8 @@ fn is_within(kind: StoredKind, counts: Counts) -> bool
 }
 
 fn fields_within(fields: &[StoredField], counts: Counts) -> bool
-    ensures { IsTrue result → AllByRecursion (λ f. IsWithin counts f.kind)
-        (map field_of fields.now) }
+    ensures { Decides result (AllByRecursion (λ f. IsWithin counts f.kind)
+        (map field_of fields.now)) }
 {
     for field in fields {
         if !is_within(field.kind, counts) {
@@ -35,7 +37,7 @@ fn fields_within(fields: &[StoredField], counts: Counts) -> bool
 
 /// The place, if there is one, is one of so many.
 fn is_among(place: Option<u32>, count: usize) -> bool
-    ensures { IsTrue result → IsAmong count place }
+    ensures { Decides result (IsAmong count place) }
 {
     match place {
         Some(place) => (place as usize) < count,
@@ -45,8 +47,8 @@ fn is_among(place: Option<u32>, count: usize) -> bool
 
 /// The oneof of each field, if it is in one, is one of so many.
 fn oneofs_within(fields: &[StoredField], count: usize) -> bool
-    ensures { IsTrue result → AllByRecursion (λ f. IsAmong count f.oneof)
-        (map field_of fields.now) }
+    ensures { Decides result (AllByRecursion (λ f. IsAmong count f.oneof)
+        (map field_of fields.now)) }
 {
     for field in fields {
         if !is_among(field.oneof, count) {
@@ -58,14 +60,14 @@ fn oneofs_within(fields: &[StoredField], count: usize) -> bool
 
 /// Each place is one of so many.
 fn are_below(places: &[u32], count: usize) -> bool
-    ensures { IsTrue result → All (λ place. place < count) places.now }
+    ensures { Decides result (All (λ place. place < count) places.now) }
 {
     places.iter().all(|place| (*place as usize) < count)
 }
 
 /// The members of each oneof are among so many fields.
 fn have_members(oneofs: &[StoredOneof], fields: usize) -> bool
-    ensures { IsTrue result → HaveMembers fields (map oneof_of oneofs.now) }
+    ensures { Decides result (HaveMembers fields (map oneof_of oneofs.now)) }
 {
     for oneof in oneofs {
         if !are_below(oneof.fields.as_slice(), fields) {
@@ -77,13 +79,13 @@ fn have_members(oneofs: &[StoredOneof], fields: usize) -> bool
 
 /// There are so few that each place, and the one behind the last, fits a number of the program.
 fn is_few(count: usize) -> bool
-    ensures { IsTrue result → count < 2 ^ 31 }
+    ensures { Decides result (count < 2 ^ 31) }
 {
     count < 0x8000_0000
 }
 
 fn has_parts(entry: Option<StoredEntry>, fields: usize) -> bool
-    ensures { IsTrue result → HasParts fields entry }
+    ensures { Decides result (HasParts fields entry) }
 {
     match entry {
         Some(entry) => (entry.key as usize) < fields && (entry.value as usize) < fields,
@@ -93,7 +95,7 @@ fn has_parts(entry: Option<StoredEntry>, fields: usize) -> bool
 
 /// What a file or a message declares is one of so many.
 fn children_within(children: &Children, counts: Counts) -> bool
-    ensures { IsTrue result → ChildrenWithin counts (children_of children.now) }
+    ensures { Decides result (ChildrenWithin counts (children_of children.now)) }
 {
     are_below(children.messages.as_slice(), counts.messages as usize)
         && are_below(children.enums.as_slice(), counts.enums as usize)
@@ -101,14 +103,14 @@ fn children_within(children: &Children, counts: Counts) -> bool
 }
 
 fn file_within(file: &StoredFile, counts: Counts) -> bool
-    ensures { IsTrue result → FileWithin counts (places_of file.now) }
+    ensures { Decides result (FileWithin counts (places_of file.now)) }
 {
     children_within(&file.declared.children, counts)
         && are_below(file.declared.services.as_slice(), counts.services as usize)
 }
 
 fn files_within(items: &[StoredFile], counts: Counts) -> bool
-    ensures { IsTrue result → AllByRecursion (FileWithin counts) (map places_of items.now) }
+    ensures { Decides result (AllByRecursion (FileWithin counts) (map places_of items.now)) }
 {
     for file in items {
         if !file_within(file, counts) {
@@ -119,7 +121,7 @@ fn files_within(items: &[StoredFile], counts: Counts) -> bool
 }
 
 fn message_within(message: &StoredMessage, counts: Counts) -> bool
-    ensures { IsTrue result → MessageWithin counts (message_of message.now) }
+    ensures { Decides result (MessageWithin counts (message_of message.now)) }
 {
     message.file < counts.files
         && is_among(message.parent, counts.messages as usize)
@@ -132,7 +134,7 @@ fn message_within(message: &StoredMessage, counts: Counts) -> bool
 }
 
 fn messages_within(items: &[StoredMessage], counts: Counts) -> bool
-    ensures { IsTrue result → AllByRecursion (MessageWithin counts) (map message_of items.now) }
+    ensures { Decides result (AllByRecursion (MessageWithin counts) (map message_of items.now)) }
 {
     for message in items {
         if !message_within(message, counts) {
@@ -144,7 +146,7 @@ fn messages_within(items: &[StoredMessage], counts: Counts) -> bool
 
 /// What the messages declare is one of so many.
 fn hold_within(items: &[StoredMessage], counts: Counts) -> bool
-    ensures { IsTrue result → AllByRecursion (HoldsWithin counts) (map message_of items.now) }
+    ensures { Decides result (AllByRecursion (HoldsWithin counts) (map message_of items.now)) }
 {
     for message in items {
         if !children_within(&message.children, counts) {
@@ -155,7 +157,7 @@ fn hold_within(items: &[StoredMessage], counts: Counts) -> bool
 }
 
 fn enum_within(enumeration: &StoredEnum, counts: Counts) -> bool
-    ensures { IsTrue result → EnumWithin counts (enum_of enumeration.now) }
+    ensures { Decides result (EnumWithin counts (enum_of enumeration.now)) }
 {
     enumeration.file < counts.files
         && is_among(enumeration.parent, counts.messages as usize)
@@ -164,7 +166,7 @@ fn enum_within(enumeration: &StoredEnum, counts: Counts) -> bool
 }
 
 fn enums_within(items: &[StoredEnum], counts: Counts) -> bool
-    ensures { IsTrue result → AllByRecursion (EnumWithin counts) (map enum_of items.now) }
+    ensures { Decides result (AllByRecursion (EnumWithin counts) (map enum_of items.now)) }
 {
     for enumeration in items {
         if !enum_within(enumeration, counts) {
@@ -175,7 +177,7 @@ fn enums_within(items: &[StoredEnum], counts: Counts) -> bool
 }
 
 fn extension_within(extension: &StoredExtension, counts: Counts) -> bool
-    ensures { IsTrue result → ExtensionWithin counts (extension_of extension.now) }
+    ensures { Decides result (ExtensionWithin counts (extension_of extension.now)) }
 {
     extension.file < counts.files
         && is_among(extension.parent, counts.messages as usize)
@@ -184,7 +186,8 @@ fn extension_within(extension: &StoredExtension, counts: Counts) -> bool
 }
 
 fn extensions_within(items: &[StoredExtension], counts: Counts) -> bool
-    ensures { IsTrue result → AllByRecursion (ExtensionWithin counts) (map extension_of items.now) }
+    ensures { Decides result
+        (AllByRecursion (ExtensionWithin counts) (map extension_of items.now)) }
 {
     for extension in items {
         if !extension_within(extension, counts) {
@@ -194,11 +197,17 @@ fn extensions_within(items: &[StoredExtension], counts: Counts) -> bool
     true
 }
 
+fn method_within(method: &StoredMethod, counts: Counts) -> bool
+    ensures { Decides result (MethodWithin counts (method_of method.now)) }
+{
+    method.input < counts.messages && method.output < counts.messages
+}
+
 fn methods_within(items: &[StoredMethod], counts: Counts) -> bool
-    ensures { IsTrue result → AllByRecursion (MethodWithin counts) (map method_of items.now) }
+    ensures { Decides result (AllByRecursion (MethodWithin counts) (map method_of items.now)) }
 {
     for method in items {
-        if !(method.input < counts.messages && method.output < counts.messages) {
+        if !method_within(method, counts) {
             return false;
         }
     }
@@ -206,7 +215,7 @@ fn methods_within(items: &[StoredMethod], counts: Counts) -> bool
 }
 
 fn service_within(service: &StoredService, counts: Counts) -> bool
-    ensures { IsTrue result → ServiceWithin counts (service_of service.now) }
+    ensures { Decides result (ServiceWithin counts (service_of service.now)) }
 {
     service.file < counts.files
         && methods_within(service.methods.as_slice(), counts)
@@ -214,7 +223,7 @@ fn service_within(service: &StoredService, counts: Counts) -> bool
 }
 
 fn services_within(items: &[StoredService], counts: Counts) -> bool
-    ensures { IsTrue result → AllByRecursion (ServiceWithin counts) (map service_of items.now) }
+    ensures { Decides result (AllByRecursion (ServiceWithin counts) (map service_of items.now)) }
 {
     for service in items {
         if !service_within(service, counts) {
@@ -226,18 +235,7 @@ fn services_within(items: &[StoredService], counts: Counts) -> bool
 
 /// All that the entries name is among so many.
 pub fn are_within(tables: &Tables, counts: Counts) -> bool
-    ensures files { IsTrue result → AllByRecursion (FileWithin counts)
-        (map places_of tables.now.files.items) }
-    ensures messages { IsTrue result
-        → AllByRecursion (MessageWithin counts) (map message_of tables.now.messages.items) }
-    ensures children { IsTrue result
-        → AllByRecursion (HoldsWithin counts) (map message_of tables.now.messages.items) }
-    ensures enums { IsTrue result → AllByRecursion (EnumWithin counts)
-        (map enum_of tables.now.enums.items) }
-    ensures extensions { IsTrue result
-        → AllByRecursion (ExtensionWithin counts) (map extension_of tables.now.extensions.items) }
-    ensures services { IsTrue result
-        → AllByRecursion (ServiceWithin counts) (map service_of tables.now.services.items) }
+    ensures { Decides result (AreWithin counts tables.now) }
 {
     files_within(tables.files.as_slice(), counts)
         && messages_within(tables.messages.as_slice(), counts)
