@@ -5,9 +5,7 @@ use Rattle.descriptor_records.specs.declared.file.FileDescriptorProto.{FileDescr
 use Rattle.option_parts.specs.TypedOptions.{TypedFiles}
 use Rattle.reflect_build.specs.Refusals.{IsOf, Linking, new_files}
 use Rattle.reflect_tables.specs.Types.{PoolType}
-use Rattle.linked_messages.specs.Kept.{IsKept}
-use Rattle.linked_view.specs.Alone.{IsRecorded}
-use Rattle.linked_view.specs.Extended.{IsIndexed}
+use Rattle.types_view.specs.Pools.{IsIndexed, IsKept, IsRecorded}
 use Rattle.types_view.specs.Typed.{IsTyped}
 use Rattle.types_view.proofs.Settled.{typed_more}
 use Rattle.schema_core.specs.Refusals.{FilesLinked}

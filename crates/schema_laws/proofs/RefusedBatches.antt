@@ -9,9 +9,8 @@ use Rattle.reflect_build.specs.Refusals.{AreRefused, new_files}
 use Rattle.reflect_passes.specs.Errors.{is_memory, is_too_many, faults_of}
 use Rattle.reflect_passes.specs.declared.error.DescriptorError.{DescriptorError}
 use Rattle.reflect_tables.specs.Types.{PoolType}
-use Rattle.linked_messages.specs.Kept.{IsKept}
-use Rattle.settled_view.specs.BuiltBut.{IsBuiltBut}
-use Rattle.settled_view.proofs.Faults.{no_faults}
+use Rattle.types_view.specs.Pools.{IsBuiltBut, IsKept}
+use Rattle.types_view.proofs.Pools.{no_faults}
 use Rattle.schema_laws.specs.Batches.{AreNoBatch}
 
 -- what stands at no place is want of memory, or that there are too many

@@ -16,10 +16,7 @@ ghost use Rattle.text_error.specs.declared.error.ParseErrorKind.TheVariants as k
 ghost use Rattle.schema_view.specs.Lawful.{SameFiles, sources};
 ghost use Rattle.schema_view.specs.Plain.{IsPlainFile};
 ghost use Rattle.message_view.specs.Types.{types_of};
-ghost use Rattle.linked_messages.specs.Kept.{IsKept};
-ghost use Rattle.linked_view.specs.Alone.{IsRecorded};
-ghost use Rattle.linked_view.specs.Extended.{IsIndexed};
-ghost use Rattle.settled_view.specs.BuiltBut.{IsBuiltBut};
+ghost use Rattle.types_view.specs.Pools.{IsBuiltBut, IsIndexed, IsKept, IsRecorded};
 ghost use Rattle.types_view.specs.Typed.{IsTyped};
 ghost use Rattle.schema_core.specs.Payloads.{Decoded, Encoded, Recoded};
 ghost use Rattle.schema_core.specs.Refusals.{AreFilesOf, IsNoMessage, IsNoText, SetLinked};

@@ -10,9 +10,9 @@ use Rattle.schema_view.specs.Plain.{IsPlainFile}
 use Rattle.schema_view.specs.Views.{View, view_of}
 use Rattle.schema_view.proofs.Batches.{same_view}
 use Rattle.schema_view.proofs.Road.{built_linked}
-use Rattle.linked_messages.specs.Kept.{IsKept}
+use Rattle.types_view.specs.Pools.{IsKept}
 use Rattle.linked_view.specs.Built.{IsBuilt}
-use Rattle.settled_view.proofs.Transfer.{kept_before}
+use Rattle.types_view.proofs.Pools.{kept_before}
 use Rattle.text_view.specs.Schemas.{schema_of}
 use Rattle.types_view.specs.Fields.{TellsFields}
 use Rattle.types_view.specs.Typed.{IsTyped}

@@ -7,7 +7,7 @@ ghost use Rattle.reflect_tables.specs.Types.{PoolType};
 ghost use Rattle.schema_view.specs.Lawful.{SameFiles, sources};
 ghost use Rattle.schema_view.specs.Plain.{IsPlainFile};
 ghost use Rattle.schema_view.specs.Views.{view_of};
-ghost use Rattle.linked_messages.specs.Kept.{IsKept};
+ghost use Rattle.types_view.specs.Pools.{IsKept};
 ghost use Rattle.linked_view.specs.Built.{IsBuilt};
 ghost use Rattle.text_view.specs.Schemas.{schema_of};
 ghost use Rattle.types_view.specs.Fields.{TellsFields};

@@ -7,6 +7,7 @@ pub mod Held
 pub mod KindNumbers
 pub mod Listed
 pub mod Lone
+pub mod Pools
 pub mod Settled
 pub mod Told
 pub mod Types

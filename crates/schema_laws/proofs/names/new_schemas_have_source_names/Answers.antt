@@ -1,6 +1,6 @@
 use Rattle.std.proofs.Common.{[], ◌∷◌}
 use Rattle.reflect_pool.specs.Linked.{empty_pool}
-use Rattle.linked_messages.proofs.Stays.{empty_sound}
+use Rattle.types_view.proofs.Pools.{empty_sound}
 use Rattle.schema_core.specs.Refusals.{descriptor_name}
 use Rattle.schema_laws.proofs.Naming.{empty_sources, named_by_sources}
 use Rattle.schema_laws.proofs.names.new_schemas_have_source_names.Goals as goal
