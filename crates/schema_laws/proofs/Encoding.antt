@@ -71,9 +71,9 @@ module _ (p : PoolType) (sound : IsSound p) (decoded : Name → List ℕ → Opt
 
   pub refused : (name text : List ℕ) (kind : ParseErrorKind) → (kind ≡ kinds.Memory → ⊥) → IsNoText p name text kind
       → (m : Message) → Gives w (without_dot name) text m → ⊥
-  refused name text kind other (d, (there, found), told, true_of) m gives =
+  refused name text kind other (d, (there, found), none, true_of, told) m gives =
       let by_name = subst (λ t. Gives w t text m) (sym (found_named d p name found)) gives in
-      none_given d (subst IsSound (sym there) sound) decoded text (cause _ kind other told) m
+      none_given d (subst IsSound (sym there) sound) decoded text (cause _ kind other none) m
       (subst (λ (q : PoolType). Gives (schema_of q decoded) (name_at q d.index) text m) (sym there) by_name)
 
   pub one_encoding : (name text a b : List ℕ) → Encoded p name text a → Encoded p name text b → a ≡ b
