@@ -52,7 +52,8 @@ pub fn merged_messages_are_written_in_one_form()
     ensures { (d : MessageDescriptor) → IsSound d.pool.now → (bytes : List ℕ)
         → (old new : DynamicMessage) → old.descriptor ≡ d → new.descriptor ≡ d
         → IsInShape old → Suits 100 d (content_of old) → IsMerged d bytes old new
-        → message_bytes new ≡ bytes_of (types_of d.pool.now) (name_at d.pool.now d.index) (view new) }
+        → message_bytes new
+        ≡ bytes_of (types_of d.pool.now) (name_at d.pool.now d.index) (view new) }
 {}
 
 /// What `decode` gives of these bytes is the message that was encoded, if they are no more than a
