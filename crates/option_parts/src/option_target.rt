@@ -2,7 +2,7 @@
 
 use reflect_link::{ExtensionDescriptor, FieldDescriptor, Kind, MessageDescriptor};
 use reflect_message::{DynamicMessage, FieldDescriptorLike, Value};
-use reflect_numbered::FieldsByNumber;
+use reflect_numbered::{FieldsByNumber, FieldsByNumberMut, LendError};
 use std::alloc::AllocError;
 
 /// A field or an extension of a message of options.
@@ -64,7 +64,11 @@ impl<'p> OptionTarget<'p> {
         message: &'m mut DynamicMessage<'p>,
     ) -> Result<Option<&'m mut Value<'p>>, AllocError> {
         match self {
-            OptionTarget::Field(field) => message.get_field_by_number_mut(field.number()),
+            OptionTarget::Field(field) => match message.get_field_by_number_mut(field.number()) {
+                Ok(held) => Ok(Some(held)),
+                Err(LendError::NotFound) => Ok(None),
+                Err(LendError::Memory) => Err(AllocError),
+            },
             OptionTarget::Extension(extension) => Ok(Some(message.get_extension_mut(extension)?)),
         }
     }

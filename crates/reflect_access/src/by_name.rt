@@ -1,7 +1,7 @@
 //! Fields by their names.
 
 ghost use Rattle.std.specs.Prelude.{◌≡◌, IfErr, IfNone, IfOk, IfSome, OnErr, OnOk};
-ghost use Rattle.reflect_numbered.specs.Called.{HasName, IsMeant, Lends, LendsMut, NoneMeant, SetsMeant, StaysWhole, TakesMeant, TellsMeant, UnsetsMeant};
+ghost use Rattle.reflect_numbered.specs.Called.{HasName, IsMeant, Lends, NoneMeant, SetsMeant, StaysWhole, TakesMeant, TellsMeant, UnsetsMeant};
 ghost use Rattle.reflect_numbered.specs.Refused.{RefusesSet};
 
 use reflect_message::{DynamicMessage, FieldRef, Value};
@@ -11,7 +11,7 @@ use reflect_scalar::holds_floats;
 use std::alloc::AllocError;
 
 /// The field of a name that messages of the type hold.
-fn declared_field_by_name<'p>(
+pub fn declared_field_by_name<'p>(
     descriptor: MessageDescriptor<'p>,
     name: &str,
 ) -> Option<FieldDescriptor<'p>>
@@ -44,11 +44,6 @@ pub trait FieldsByName<'p> {
     /// What the field of the name holds, or its default; `None` where there is no such field.
     fn get_field_by_name(&self, name: &str) -> Result<Option<FieldRef<'_, 'p>>, AllocError>
         ensures { IfOk result (Lends (HasName name.now) (message self.now)) };
-
-    /// What the field of the name holds, to be changed, as `get_field_mut` gives it; `None` where
-    /// there is no such field.
-    fn get_field_by_name_mut(&mut self, name: &str) -> Result<Option<&mut Value<'p>>, AllocError>
-        ensures { IfOk result (LendsMut (HasName name.now) (message self.old)) };
 
     /// Sets the field of the name to a value that suits it; without such a field nothing happens. A
     /// refusal leaves the message.
@@ -98,13 +93,6 @@ impl<'p> FieldsByName<'p> for DynamicMessage<'p> {
     fn get_field_by_name(&self, name: &str) -> Result<Option<FieldRef<'_, 'p>>, AllocError> {
         match declared_field_by_name(self.descriptor(), name) {
             Some(field) => Ok(Some(self.get_field(&field)?)),
-            None => Ok(None),
-        }
-    }
-
-    fn get_field_by_name_mut(&mut self, name: &str) -> Result<Option<&mut Value<'p>>, AllocError> {
-        match declared_field_by_name(self.descriptor(), name) {
-            Some(field) => Ok(Some(self.get_field_mut(&field)?)),
             None => Ok(None),
         }
     }

@@ -2,12 +2,17 @@
 #![tactic(auto)]
 
 mod by_name;
+mod by_name_mut;
 mod value_tests;
 
 pub use by_name::FieldsByName;
+pub use by_name_mut::{FieldsByNameMut, NamedFields};
 pub use reflect_contents::{
     ExtensionValues, FieldValues, MessageWalks, TakeContents, TakenExtensions, TakenFields,
     UnknownFields,
 };
-pub use reflect_numbered::{FieldsByNumber, MessageTests, SetFieldError, TrySetField};
+pub use reflect_numbered::{
+    FieldsByNumber, FieldsByNumberMut, LendError, MessageTests, NumberedFields, SetFieldError,
+    TrySetField,
+};
 pub use value_tests::ValueTests;

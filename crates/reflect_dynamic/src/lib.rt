@@ -8,9 +8,9 @@ mod read_options;
 pub use descriptor_ext::{FieldDefault, KindExt};
 pub use read_options::ReadOptions;
 pub use reflect_access::{
-    ExtensionValues, FieldValues, FieldsByName, FieldsByNumber, MessageTests, MessageWalks,
-    SetFieldError, TakeContents, TakenExtensions, TakenFields, TrySetField, UnknownFields,
-    ValueTests,
+    ExtensionValues, FieldValues, FieldsByName, FieldsByNameMut, FieldsByNumber, FieldsByNumberMut,
+    LendError, MessageTests, MessageWalks, NamedFields, NumberedFields, SetFieldError,
+    TakeContents, TakenExtensions, TakenFields, TrySetField, UnknownFields, ValueTests,
 };
 pub use reflect_decode::DecodeMessage;
 pub use reflect_encode::EncodeMessage;

@@ -1,6 +1,5 @@
 -- The field that a call by number or by name means: the first of the type that has it, if messages
 -- hold it.
-use Rattle.std.specs.Borrow.{MutBor}
 use Rattle.std.specs.Prelude.{◌≡◌, ◌⊎◌, ℕ, Bool, false, List, Option, None, Some}
 use Rattle.reflect_entries.specs.Entries.{value_at}
 use Rattle.reflect_tables.specs.Types.{FieldType}
@@ -13,7 +12,7 @@ use Rattle.reflect_scalar.specs.Floats.{HoldsFloats}
 use Rattle.reflect_message.specs.Held.{fields_of, extensions_of, unknown_of, UpdatesField}
 use Rattle.reflect_message.specs.Oneofs.{SetsField}
 use Rattle.reflect_message.specs.Present.{held_if_set, is_held}
-use Rattle.reflect_message.specs.Shown.{IsHeldOrDefault, Shows}
+use Rattle.reflect_message.specs.Shown.{Shows}
 use Rattle.reflect_message.specs.declared.field_ref.FieldRef.{FieldRef}
 use Rattle.reflect_message.specs.Names.{DynamicMessage, Value}
 
@@ -37,10 +36,13 @@ pub record IsMeant (P : Asked) (m : MessageDescriptor) (f : FieldDescriptor) : T
 abbrev pub NoneMeant : Asked → MessageDescriptor → Type 0
 NoneMeant P m = (f : FieldDescriptor) → IsMeant P m f → ⊥
 
+-- one thing is so of what has P, or another where nothing has it
+abbrev pub IfAny : {F : Type 0} → (F → Type 0) → (F → Type 0) → Type 0 → Type 0
+IfAny {F} P of_it otherwise = ((f : F) × P f × of_it f) ⊎ (((f : F) → P f → ⊥) × otherwise)
+
 -- one thing is so of the field that is meant, or another where none is
 abbrev pub IfMeant : Asked → MessageDescriptor → (FieldDescriptor → Type 0) → Type 0 → Type 0
-IfMeant P m of_field otherwise =
-    ((f : FieldDescriptor) × IsMeant P m f × of_field f) ⊎ (NoneMeant P m × otherwise)
+IfMeant P m = IfAny (IsMeant P m)
 
 -- what a message has under the field's number
 abbrev pub under : DynamicMessage → FieldDescriptor → Option Value
@@ -56,11 +58,6 @@ abbrev pub Lends : Asked → DynamicMessage → Option FieldRef → Type 0
 Lends P m r =
     IfMeant P m.descriptor (λ f. HasOne (Shows (field_pool f) (field_type f) (under m f)) r)
     (r ≡ None)
-
--- so it is of what is lent to be changed
-abbrev pub LendsMut : Asked → DynamicMessage → Option (MutBor Value) → Type 0
-LendsMut P m r = IfMeant P m.descriptor
-    (λ f. HasOne (λ v. IsHeldOrDefault (field_pool f) (field_type f) (under m f) v.now) r) (r ≡ None)
 
 -- the field is set as by its descriptor, or nothing is changed where there is no field
 abbrev pub SetsMeant : Asked → DynamicMessage → DynamicMessage → Value → Type 0

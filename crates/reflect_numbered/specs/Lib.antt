@@ -1,3 +1,4 @@
 pub mod Called
 pub mod Fits
+pub mod Lent
 pub mod Refused

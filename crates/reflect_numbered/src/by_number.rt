@@ -4,7 +4,7 @@ ghost use Rattle.std.specs.Prelude.{◌≡◌, IfErr, IfOk, IsSome, IsTrue, OnEr
 ghost use Rattle.reflect_entries.specs.Entries.{value_at};
 ghost use Rattle.reflect_message.specs.Held.{fields_of};
 ghost use Rattle.reflect_message.specs.Oneofs.{IsExclusive};
-ghost use Rattle.reflect_numbered.specs.Called.{HasNumber, Lends, LendsMut, SetsMeant, StaysWhole, TakesMeant, TellsMeant, UnsetsMeant};
+ghost use Rattle.reflect_numbered.specs.Called.{HasNumber, Lends, SetsMeant, StaysWhole, TakesMeant, TellsMeant, UnsetsMeant};
 ghost use Rattle.reflect_numbered.specs.Refused.{RefusesSet};
 
 use crate::set_field_error::{SetFieldError, TrySetField};
@@ -26,11 +26,6 @@ pub trait FieldsByNumber<'p> {
     /// What the field of the number holds, or its default; `None` where there is no such field.
     fn get_field_by_number(&self, number: u32) -> Result<Option<FieldRef<'_, 'p>>, AllocError>
         ensures { IfOk result (Lends (HasNumber number) (message self.now)) };
-
-    /// What the field of the number holds, to be changed, as `get_field_mut` gives it; `None` where
-    /// there is no such field.
-    fn get_field_by_number_mut(&mut self, number: u32) -> Result<Option<&mut Value<'p>>, AllocError>
-        ensures { IfOk result (LendsMut (HasNumber number) (message self.old)) };
 
     /// Sets the field of the number to a value that suits it; without such a field nothing happens.
     /// A refusal leaves the message.
@@ -82,16 +77,6 @@ impl<'p> FieldsByNumber<'p> for DynamicMessage<'p> {
     fn get_field_by_number(&self, number: u32) -> Result<Option<FieldRef<'_, 'p>>, AllocError> {
         match declared_field(self.descriptor(), number) {
             Some(field) => Ok(Some(self.get_field(&field)?)),
-            None => Ok(None),
-        }
-    }
-
-    fn get_field_by_number_mut(
-        &mut self,
-        number: u32,
-    ) -> Result<Option<&mut Value<'p>>, AllocError> {
-        match declared_field(self.descriptor(), number) {
-            Some(field) => Ok(Some(self.get_field_mut(&field)?)),
             None => Ok(None),
         }
     }

@@ -2,9 +2,13 @@
 #![tactic(auto)]
 
 mod by_number;
+mod by_number_mut;
+mod lend_error;
 mod set_field_error;
 mod validity;
 
 pub use by_number::FieldsByNumber;
+pub use by_number_mut::{FieldsByNumberMut, NumberedFields};
+pub use lend_error::LendError;
 pub use set_field_error::{SetFieldError, TrySetField};
 pub use validity::{MessageTests, Strictness, is_valid_for, value_suits};

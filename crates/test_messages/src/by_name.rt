@@ -1,6 +1,6 @@
 //! Calls of fields by their names.
 
-use reflect_dynamic::{DynamicMessage, FieldsByName};
+use reflect_dynamic::{DynamicMessage, FieldsByName, FieldsByNameMut, LendError};
 use serde_json::Value as Json;
 use std::alloc::Global;
 use test_json::Text;
@@ -20,8 +20,9 @@ pub fn answer_by_name(
         "has" => write_truth(out, message.has_field_by_name(name)),
         "get" => write_held(out, message.get_field_by_name(name)),
         "change" => match message.get_field_by_name_mut(name) {
-            Ok(lent) => change_lent(alloc, out, lent, call),
-            Err(_) => out.give_up(),
+            Ok(held) => change_lent(alloc, out, Some(held), call),
+            Err(LendError::NotFound) => change_lent(alloc, out, None, call),
+            Err(LendError::Memory) => out.give_up(),
         },
         "set" => {
             let value = value_of(alloc, out, pool, call);
