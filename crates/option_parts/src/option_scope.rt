@@ -1,5 +1,8 @@
 //! Which options' types belong to which declarations.
 
+ghost use Rattle.std.specs.Prelude.{◌≡◌, option_map};
+ghost use Rattle.option_parts.specs.OptionTypes as types;
+
 /// A sort of declarations that have options.
 #[derive(Clone, Copy, PartialEq, Eq)]
 pub enum OptionScope {
@@ -29,7 +32,9 @@ impl OptionScope {
     ];
 
     /// The full name of the message type of the options, as `descriptor.proto` declares it.
-    pub fn type_name(self) -> &'static str {
+    pub fn type_name(self) -> &'static str
+        ensures { result.now ≡ types.type_name self }
+    {
         match self {
             OptionScope::File => "google.protobuf.FileOptions",
             OptionScope::Message => "google.protobuf.MessageOptions",
@@ -45,7 +50,9 @@ impl OptionScope {
 
     /// The name and the number of the option of these types that linking reads itself, if there is
     /// one.
-    pub fn typed_option(self) -> Option<(&'static str, u32)> {
+    pub fn typed_option(self) -> Option<(&'static str, u32)>
+        ensures { option_map (λ o. (o.0.now, o.1)) result ≡ types.typed_option self }
+    {
         match self {
             OptionScope::Field => Some(("packed", 2)),
             OptionScope::Enum => Some(("allow_alias", 2)),

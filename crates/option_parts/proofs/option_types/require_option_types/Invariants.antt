@@ -1,0 +1,5 @@
+use Rattle.option_parts.proofs.OptionTypes.{AllBefore, IsThere}
+use Rattle.option_parts.proofs.option_types.require_option_types.Given as goal
+
+abbrev pub invariant-loop-scope : goal.invariant-loop-scope
+invariant-loop-scope l = AllBefore (IsThere l.pool) l.scope-index
