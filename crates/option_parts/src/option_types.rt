@@ -1,6 +1,6 @@
 //! What the types of options must have, so that options can be read by them.
 
-ghost use Rattle.std.specs.Prelude.{◌≡◌, OnOk, IfOk, IfSome, IfNone, codes, string_bytes};
+ghost use Rattle.std.specs.Prelude.{IfOk, IfSome, IfNone};
 ghost use Rattle.std.specs.Bool.{Decides};
 ghost use Rattle.reflect_tables.specs.Types.{type_of_field};
 ghost use Rattle.option_parts.specs.OptionTypes.{HasField, ListsMessages, IsTruthValue, KeepsExtensions, IsOptionType, CanRead, Reads, TellsName, TellsType};
