@@ -30,8 +30,8 @@ pub trait ExtendMessage<'p> {
     /// over what stood under its key. The other members of its oneof are unset. Of a field that
     /// holds one value nothing happens, nor to what stands under its number and is no list or map.
     ///
-    /// A refusal leaves the other members, the values of a list, and where nothing was held nothing;
-    /// a map that was held has then perhaps some of the entries more.
+    /// A refusal leaves the other members, the values of a list, and nothing where nothing was
+    /// held; a map that was held has then perhaps some of the entries more.
     fn extend_field(
         &mut self,
         field: &FieldDescriptor<'p>,
