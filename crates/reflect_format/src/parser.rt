@@ -400,7 +400,8 @@ fn message_value<'p>(
     ensures refused { IfErr result (TrueOf descriptor.entry.pool.now) }
     ensures cause { IfErr result (Refutes (message_at braces (remaining tokens.old))
         (λ m. CannotMake descriptor.entry (Unfit m.1))) }
-    ensures told { IfErr result (Told (MessageFault braces descriptor.entry (remaining tokens.old))) }
+    ensures told { IfErr result
+        (Told (MessageFault braces descriptor.entry (remaining tokens.old))) }
     ensures bytes { IfOk result (λ p. MessageBytes braces (remaining tokens.old) p.1) }
 {
     let Some((open, closing)) = tokens.open_brace() else {
