@@ -1,6 +1,9 @@
 -- Where the faults of a text stand, and what is written there.
-use Rattle.std.specs.Prelude.{ℕ, List, [], Option, None, Some, codes}
+use Rattle.std.specs.Prelude.{ℕ, ◌+◌, ◌^◌, ◌&&◌, if◌then◌else◌, nat_lt, length, List, [], Option, None, Some, codes}
+use Rattle.std.specs.Option.{option_and_then}
 use Rattle.std.specs.declared.ops.Range.{Range}
+use Rattle.protox_lex.specs.Class.{Text}
+use Rattle.protox_lex.specs.Lines.{column_at, feeds_of, line_at}
 use Rattle.protox_lex.specs.declared.span.Span.{Span}
 use Rattle.text_error.specs.declared.error.ParseErrorKind.{ParseErrorKind}
 use Rattle.text_error.specs.declared.error.ParseErrorKind.TheVariants as kinds
@@ -32,6 +35,22 @@ place_of kinds.Memory = None
 -- from the first byte of a span up to the one behind its last
 abbrev pub bytes_of : Span → Range ℕ
 bytes_of s = record { start = s.start; end = s.end }
+
+-- the line feeds before an offset of a text, and the bytes behind the last of them, where the text
+-- has so many bytes
+abbrev pub line_and_column_at : Text → ℕ → Option (ℕ × ℕ)
+line_and_column_at text offset =
+    if nat_lt (length text) offset then None
+    else Some (line_at (feeds_of text) offset, column_at (feeds_of text) offset)
+
+-- both counted from 1, as far as a machine word counts
+abbrev pub from_one : ℕ × ℕ → Option (ℕ × ℕ)
+from_one at = if nat_lt (at.0 + 1) (2 ^ 64) && nat_lt (at.1 + 1) (2 ^ 64)
+    then Some (at.0 + 1, at.1 + 1) else None
+
+-- where a span begins in the text
+abbrev pub begins_in : Text → Span → Option (ℕ × ℕ)
+begins_in text s = option_and_then from_one (line_and_column_at text s.start)
 
 -- the words at the place: what is found there, defined, set or used
 abbrev pub label_of : ParseErrorKind → List ℕ

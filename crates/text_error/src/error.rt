@@ -1,7 +1,9 @@
+ghost use Rattle.std.specs.Option.{option_and_then};
 ghost use Rattle.std.specs.Prelude.{◌≡◌, Some, IfOk, option_map, string_bytes};
-ghost use Rattle.text_error.specs.Places.{bytes_of, label_of, place_of};
+ghost use Rattle.text_error.specs.Places.{begins_in, bytes_of, label_of, place_of};
 ghost use Rattle.text_error.specs.Texts.{help_of, plain_words, said};
 
+use crate::lines::line_and_column;
 use std::alloc::{AllocError, AllocFailed, Global};
 use std::error::Error;
 use std::fmt;
@@ -313,6 +315,16 @@ impl ParseError {
     {
         let span = self.kind.place()?;
         Some(span.start..span.end)
+    }
+
+    /// The line and the column of the first byte at fault in the text that was read, both counted
+    /// from 1 and the column in bytes; nothing where `span` gives nothing. Takes no memory.
+    pub fn position(&self, text: &str) -> Option<(usize, usize)>
+        ensures { result ≡ option_and_then (begins_in text.now) (place_of self.now.kind) }
+    {
+        let span = self.kind.place()?;
+        let (line, column) = line_and_column(text, span.start)?;
+        Some((line.checked_add(1)?, column.checked_add(1)?))
     }
 
     /// What to write at that place, empty where there is none.

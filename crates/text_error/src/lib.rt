@@ -2,5 +2,6 @@
 #![tactic(auto)]
 
 mod error;
+mod lines;
 
 pub use error::{ParseError, ParseErrorKind};
