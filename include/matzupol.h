@@ -14,7 +14,8 @@
  *
  * A call answers a code, MATZUPOL_DONE where it did what it is for. Where it is refused, the schema is as it was (`matzupol_open` leaves
  * it closed, `matzupol_link` keeps no source), and until the next
- * call that answers a code `matzupol_answer` gives the text of the fault, `matzupol_file` and `matzupol_place` its file and place.
+ * call that answers a code `matzupol_answer` gives the text of the fault, `matzupol_file` and `matzupol_place` its file and its
+ * place there, or, of a text that `matzupol_encode` refuses, its place in this text.
  * The calls that give these, and `matzupol_code_text`, change nothing.
  *
  * What a caller owes, and nothing tests:
@@ -48,7 +49,7 @@ typedef struct matzupol_schema {
 #define MATZUPOL_CLOSED {0, false}
 /* clang-format on */
 
-/* A place in a file: line and column, both from 1 and the column in bytes; 0 where it is not known. */
+/* A place in a file or a text: line and column, both from 1 and the column in bytes; 0 where it is not known. */
 typedef struct matzupol_place_at {
     size_t line;
     size_t column;

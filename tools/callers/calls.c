@@ -55,6 +55,7 @@ static void refusals(matzupol_schema *schema) {
     EXPECT(says(schema, "message type 'p.Q' not found"));
     EXPECT(matzupol_encode(schema, "p.M", 3, "foo: 150 foo: 1", 15) == MATZUPOL_TEXT);
     EXPECT(says(schema, "'foo' is already set"));
+    EXPECT(matzupol_file_len(schema) == 0 && matzupol_place(schema).line == 1 && matzupol_place(schema).column == 15);
     EXPECT(matzupol_decode(schema, "p.M", 3, "\x08\x96", 2) == MATZUPOL_WIRE);
     EXPECT(matzupol_file_len(schema) == 0 && matzupol_place(schema).line == 0);
     EXPECT(matzupol_add_set(schema, "\x08", 1) == MATZUPOL_WIRE);

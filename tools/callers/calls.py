@@ -27,7 +27,8 @@ with matzupol.Schema() as schema:
     refused(matzupol.NotUtf8Error, schema.add_sources, {"b.proto": "", b"\xff": ""})
     refused(matzupol.UnknownTypeError, schema.decode, "p.Q", b"")
     refused(matzupol.WireError, schema.decode, "p.M", b"\x08\x96")
-    assert str(refused(matzupol.TextError, schema.encode, "p.M", "foo: 1 foo: 2")) == "'foo' is already set"
+    error = refused(matzupol.TextError, schema.encode, "p.M", "foo: 1 foo: 2")
+    assert (str(error), error.file, error.line, error.column) == ("'foo' is already set", None, 1, 13), vars(error)
     refused(TypeError, schema.decode, "p.M", 7)
     other = matzupol.Schema()
     other.add_set(schema.set())

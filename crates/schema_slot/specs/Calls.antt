@@ -1,14 +1,17 @@
 -- What calls do with what a slot holds.
 use Rattle.std.specs.Prelude.{◌≡◌, ◌⊎◌, ◌<◌, ◌≤◌, ◌++◌, ◌∷◌, [], ℕ, List, Option, None, Some, IsUtf8, length, drop}
+use Rattle.std.specs.Option.{option_and_then}
 use Rattle.reflect_bytes.specs.Written.{pool_bytes}
 use Rattle.reflect_pool.specs.Linked.{empty_pool}
 use Rattle.schema_core.specs.Payloads.{Encoded, Decoded, Recoded}
+use Rattle.schema_core.specs.Places.{told_position}
 use Rattle.schema_core.specs.Refusals.{BytesRefused, TextRefused, SourcesLinked, SourcesRefused, SetLinked, SetRefused}
 use Rattle.schema_core.specs.Texts.{said}
 use Rattle.schema_core.specs.declared.error.SchemaError.{SchemaError}
 use Rattle.schema_core.specs.declared.error.SchemaError.TheVariants as error
+use Rattle.text_error.specs.Places as text
 use Rattle.schema_slot.specs.Codes.{code_of, number_of}
-use Rattle.schema_slot.specs.Held.{pool, waiting, answer, position, place_of, Keeps}
+use Rattle.schema_slot.specs.Held.{pool, waiting, answer, position, place_of, IsFaultless, Keeps}
 use Rattle.schema_slot.specs.declared.code.Code.{Code}
 use Rattle.schema_slot.specs.declared.code.Code.TheVariants as code
 use Rattle.schema_slot.specs.declared.session.Session.{Session}
@@ -17,10 +20,20 @@ use Rattle.schema_slot.specs.declared.session.Session.{Session}
 abbrev pub Call : Type 1
 Call = Session → Code → Session → Type 0
 
--- A refusal of the schema: its code, and the refusal itself, from which its place is told. The
--- answer is its text, or nothing where memory runs out for it.
-abbrev pub Tells : SchemaError → Code → Session → Type 0
-Tells e c new = (c ≡ code_of e) × (new.fault ≡ Some e) × ((answer new ≡ said e) ⊎ (answer new ≡ []))
+-- Where a refusal stands: line and column from 1, where they are known.
+abbrev pub Placing : Type 0
+Placing = SchemaError → Option (ℕ × ℕ)
+
+-- Of a text that is refused, those in this text.
+abbrev pub place_in : List ℕ → Placing
+place_in payload (error.Text e) = option_and_then (text.begins_in payload) (text.place_of e.kind)
+place_in payload e = told_position e
+
+-- A refusal of the schema: its code, the refusal itself, from which its file is told, and its
+-- place. The answer is its text, or nothing where memory runs out for it.
+abbrev pub Tells : Placing → SchemaError → Code → Session → Type 0
+Tells place e c new = (c ≡ code_of e) × (new.fault ≡ Some e) × (position new ≡ place e)
+    × ((answer new ≡ said e) ⊎ (answer new ≡ []))
 
 -- so it is unless the call is done
 abbrev pub Unless : Code → Type 0 → Type 0
@@ -29,12 +42,17 @@ Unless _ P = P
 
 -- How a call ends that reads texts: they are no UTF-8; or it is done, with no fault; or the schema
 -- refuses.
+abbrev pub EndsAt : Placing → Type 0 → (Session → Type 0) → (SchemaError → Type 0) → Code → Session
+    → Type 0
+EndsAt place Read Done Refused code.Done new = Read × IsFaultless new × Done new
+EndsAt place Read Done Refused code.NotUtf8 new = (¬ Read) × IsFaultless new × (answer new ≡ [])
+EndsAt place Read Done Refused code.Closed new = ⊥
+EndsAt place Read Done Refused code.Room new = ⊥
+EndsAt place Read Done Refused c new = (e : SchemaError) × Tells place e c new × Read × Refused e
+
+-- A refusal that is of no text stands where the schema tells it.
 abbrev pub Ends : Type 0 → (Session → Type 0) → (SchemaError → Type 0) → Code → Session → Type 0
-Ends Read Done Refused code.Done new = Read × (new.fault ≡ None) × Done new
-Ends Read Done Refused code.NotUtf8 new = (¬ Read) × (new.fault ≡ None) × (answer new ≡ [])
-Ends Read Done Refused code.Closed new = ⊥
-Ends Read Done Refused code.Room new = ⊥
-Ends Read Done Refused c new = (e : SchemaError) × Tells e c new × Read × Refused e
+Ends = EndsAt told_position
 
 -- ---- the schema
 
@@ -57,7 +75,7 @@ Links old c new =
 -- No source waits any more.
 abbrev pub Forgets : Call
 Forgets old c new = (c ≡ code.Done) × (pool new ≡ pool old) × (waiting new ≡ []) × (answer new ≡ [])
-    × (new.fault ≡ None)
+    × IsFaultless new
 
 -- The files of a descriptor set are linked as one batch, or refused so, which leaves the schema.
 abbrev pub AddsSet : List ℕ → Call
@@ -76,8 +94,8 @@ GivesSet old c new = Keeps old new
 -- Text to bytes, bytes to text, bytes to bytes, of the type of a name.
 abbrev pub Encodes : List ℕ → List ℕ → Call
 Encodes name text old c new =
-    Keeps old new × Ends (IsUtf8 name × IsUtf8 text) (λ s. Encoded (pool old) name text (answer s))
-    (TextRefused (pool old) name text) c new
+    Keeps old new × EndsAt (place_in text) (IsUtf8 name × IsUtf8 text)
+    (λ s. Encoded (pool old) name text (answer s)) (TextRefused (pool old) name text) c new
 
 abbrev pub Decodes : List ℕ → List ℕ → Call
 Decodes name bytes old c new =

@@ -2,7 +2,7 @@
 use Rattle.std.specs.Prelude.{◌≡◌, ℕ, List, [], Option, None, Some, map, string_bytes}
 use Rattle.std.specs.Option.{option_and_then}
 use Rattle.reflect_tables.specs.Types.{PoolType}
-use Rattle.schema_core.specs.Places.{told_file, told_position}
+use Rattle.schema_core.specs.Places.{told_file}
 use Rattle.schema_slot.specs.declared.session.Session.{Session}
 use Rattle.schema_slot.specs.declared.source.Source.{Source}
 
@@ -22,13 +22,17 @@ waiting s = map pair_of s.waiting.items
 abbrev pub answer : Session → List ℕ
 answer s = s.answer.items
 
--- the file in which the fault stands for which the last call was refused, and the line and column
--- there, from 1
+-- the file in which the fault stands for which the last call was refused
 abbrev pub file : Session → Option (List ℕ)
 file s = option_and_then told_file s.fault
 
+-- the line and the column there, from 1, or of a text that was refused those in this text
 abbrev pub position : Session → Option (ℕ × ℕ)
-position s = option_and_then told_position s.fault
+position s = s.place
+
+-- the last call was not refused by the schema
+abbrev pub IsFaultless : Session → Type 0
+IsFaultless s = (s.fault ≡ None) × (position s ≡ None)
 
 -- the schema and the sources that wait stay
 abbrev pub Keeps : Session → Session → Type 0

@@ -3,8 +3,9 @@
 ghost use Rattle.std.specs.Prelude.{◌≡◌, [], ◌++◌, ◌∷◌, None, IfErr, OnOk, OnErr, map, option_map};
 ghost use Rattle.reflect_pool.specs.Linked.{empty_pool};
 ghost use Rattle.schema_core.specs.Refusals.{SourcesLinked, SourcesRefused};
-ghost use Rattle.schema_slot.specs.Calls.{AddsSet, Decodes, Encodes, Forgets, GivesSet, Links, Recodes, Tells, Waits};
-ghost use Rattle.schema_slot.specs.Held.{Keeps, answer, file, pair_of, pool, position, waiting};
+ghost use Rattle.schema_slot.specs.Calls.{AddsSet, Decodes, Encodes, Forgets, GivesSet, Links, Recodes, Tells, Waits, place_in};
+ghost use Rattle.schema_core.specs.Places.{told_position};
+ghost use Rattle.schema_slot.specs.Held.{IsFaultless, Keeps, answer, file, pair_of, pool, position, waiting};
 ghost use Rattle.schema_slot.specs.declared.code.Code.TheVariants as code;
 
 use crate::code::Code;
@@ -13,8 +14,8 @@ use schema_core::{Schema, SchemaError};
 use std::alloc::{AllocError, Global};
 use std::mem;
 
-/// A place in a source: line and column, both from 1 and the column in bytes; 0 where it is not
-/// known.
+/// A place in a source or a text: line and column, both from 1 and the column in bytes; 0 where it
+/// is not known.
 #[repr(C)]
 #[derive(Clone, Copy, Drop)]
 pub struct Place {
@@ -32,6 +33,8 @@ pub struct Session {
     /// The answer, or the text of the refusal.
     answer: Vec<u8>,
     fault: Option<SchemaError>,
+    /// Where the fault stands: in the file, or in the text that was refused.
+    place: Option<(usize, usize)>,
 }
 
 impl Session {
@@ -39,7 +42,7 @@ impl Session {
     pub fn new(alloc: Global) -> Session
         ensures bare { pool result ≡ empty_pool }
         ensures none { waiting result ≡ [] }
-        ensures unasked { (answer result ≡ []) × (result.fault ≡ None) }
+        ensures unasked { (answer result ≡ []) × IsFaultless result }
     {
         Session {
             alloc,
@@ -47,6 +50,7 @@ impl Session {
             waiting: Vec::new(alloc),
             answer: Vec::new(alloc),
             fault: None,
+            place: None,
         }
     }
 
@@ -54,17 +58,28 @@ impl Session {
     fn done(&mut self, bytes: Vec<u8>) -> Code
         ensures code { result ≡ code.Done }
         ensures kept { Keeps self.old self.new }
-        ensures answered { (answer self.new ≡ bytes.items) × (self.new.fault ≡ None) }
+        ensures answered { (answer self.new ≡ bytes.items) × IsFaultless self.new }
     {
         self.answer = bytes;
         self.fault = None;
+        self.place = None;
         Code::Done
     }
 
-    /// Keeps why a call was refused, and its text as the answer: none where memory runs out for it.
+    /// Keeps why a call was refused, and where that stands in a file.
     fn refused(&mut self, error: SchemaError) -> Code
         ensures kept { Keeps self.old self.new }
-        ensures told { Tells error result self.new }
+        ensures told { Tells told_position error result self.new }
+    {
+        let place = error.position();
+        self.refused_at(error, place)
+    }
+
+    /// Keeps why a call was refused, where that stands, and its text as the answer: none where
+    /// memory runs out for it.
+    fn refused_at(&mut self, error: SchemaError, place: Option<(usize, usize)>) -> Code
+        ensures kept { Keeps self.old self.new }
+        ensures told { Tells (λ _. place) error result self.new }
     {
         self.answer = match format!(in self.alloc; "{error}") {
             Ok(text) => text.into_bytes(),
@@ -72,6 +87,7 @@ impl Session {
         };
         let code = Code::of(&error);
         self.fault = Some(error);
+        self.place = place;
         code
     }
 
@@ -79,10 +95,11 @@ impl Session {
     fn unread(&mut self) -> Code
         ensures code { result ≡ code.NotUtf8 }
         ensures kept { Keeps self.old self.new }
-        ensures answered { (answer self.new ≡ []) × (self.new.fault ≡ None) }
+        ensures answered { (answer self.new ≡ []) × IsFaultless self.new }
     {
         self.answer = Vec::new(self.alloc);
         self.fault = None;
+        self.place = None;
         Code::NotUtf8
     }
 
@@ -159,7 +176,8 @@ impl Session {
 
     /// The wire bytes of the message of a type that a text spells.
     ///
-    /// `NotUtf8` where the type's name or the text is none; else refused as `Schema::encode` is.
+    /// `NotUtf8` where the type's name or the text is none; else refused as `Schema::encode` is: a
+    /// text then has the place of its fault.
     pub fn encode(&mut self, type_name: &[u8], text: &[u8]) -> Code
         ensures { Encodes type_name.now text.now self.old result self.new }
     {
@@ -168,7 +186,10 @@ impl Session {
         };
         match self.schema.encode(type_name, text) {
             Ok(bytes) => self.done(bytes),
-            Err(error) => self.refused(error),
+            Err(error) => {
+                let place = place_in(text, &error);
+                self.refused_at(error, place)
+            }
         }
     }
 
@@ -216,11 +237,21 @@ impl Session {
         self.fault.as_ref()?.file()
     }
 
-    /// The place there.
+    /// The place there, or of a text that was refused in this text.
     pub fn position(&self) -> Option<(usize, usize)>
         ensures { result ≡ position self.now }
     {
-        self.fault.as_ref()?.position()
+        self.place
+    }
+}
+
+/// Where a refusal stands: of a text in this text, of anything else in its file.
+fn place_in(text: &str, error: &SchemaError) -> Option<(usize, usize)>
+    ensures { result ≡ place_in text.now error.now }
+{
+    match error {
+        SchemaError::Text(fault) => fault.position(text),
+        _ => error.position(),
     }
 }
 

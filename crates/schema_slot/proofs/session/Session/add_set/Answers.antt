@@ -11,6 +11,6 @@ returns-in-Ok c =
     let there : c.add_descriptor_set.new.self.pool ≡ pool c.done.new.self = search rules in (
       search rules,
       unless_done _ _ c.done.ensures.code,
-      ends_done _ (λ s. SetLinked (pool old) bytes (pool s) × (answer s ≡ [])) (SetRefused (pool old) bytes) _ _ c.done.ensures.code tt c.done.ensures.answered.1
+      ends_done _ _ (λ s. SetLinked (pool old) bytes (pool s) × (answer s ≡ [])) (SetRefused (pool old) bytes) _ _ c.done.ensures.code tt c.done.ensures.answered.1
           (subst (λ p. SetLinked (pool old) bytes p) there c.in-Ok.ensures.linked, search rules),
     )

@@ -15,6 +15,6 @@ returns-in-Ok-decode c =
     let same : answer c.done.new.self ≡ text = search rules in
     let decoded = subst (λ n. Decoded old n given text) named c.in-Ok-decode.ensures.ok in (
       c.done.ensures.kept,
-      ends_done _ (λ s. Decoded old name given (answer s)) (BytesRefused old name given) _ _ c.done.ensures.code (search rules) c.done.ensures.answered.1
+      ends_done _ _ (λ s. Decoded old name given (answer s)) (BytesRefused old name given) _ _ c.done.ensures.code (search rules) c.done.ensures.answered.1
           (subst (λ written. Decoded old name given written) (sym same) decoded),
     )

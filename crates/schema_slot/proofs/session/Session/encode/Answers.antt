@@ -14,6 +14,6 @@ returns-in-Ok c =
     let spelled : c.in-Ok-Ok.text.now ≡ z = search rules in
     let encoded = subst (λ z. Encoded old name z c.in-Ok.bytes.items) spelled (subst (λ n. Encoded old n c.in-Ok-Ok.text.now c.in-Ok.bytes.items) named c.in-Ok.ensures.ok) in (
       c.done.ensures.kept,
-      ends_done _ (λ s. Encoded old name z (answer s)) (TextRefused old name z) _ _ c.done.ensures.code (search rules) c.done.ensures.answered.1
+      ends_done _ _ (λ s. Encoded old name z (answer s)) (TextRefused old name z) _ _ c.done.ensures.code (search rules) c.done.ensures.answered.1
           (subst (λ written. Encoded old name z written) (sym c.done.ensures.answered.0) encoded),
     )

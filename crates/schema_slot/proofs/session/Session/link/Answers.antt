@@ -13,6 +13,6 @@ returns-in-Ok c =
     let linked = subst (λ w. SourcesLinked (pool old) w c.add.new.schema.pool) those c.in-Ok.ensures.ok in (
       search rules,
       unless_done _ _ c.done.ensures.code,
-      ends_done _ (λ s. SourcesLinked (pool old) (waiting old) (pool s) × (answer s ≡ [])) (SourcesRefused (pool old) (waiting old)) _ _ c.done.ensures.code tt c.done.ensures.answered.1
+      ends_done _ _ (λ s. SourcesLinked (pool old) (waiting old) (pool s) × (answer s ≡ [])) (SourcesRefused (pool old) (waiting old)) _ _ c.done.ensures.code tt c.done.ensures.answered.1
           (subst (λ p. SourcesLinked (pool old) (waiting old) p) there linked, search rules),
     )

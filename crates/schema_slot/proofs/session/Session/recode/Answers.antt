@@ -13,6 +13,6 @@ returns-in-Ok-recode c =
     let named : c.in-Ok.type_name.now ≡ name = search rules in
     let recoded = subst (λ n. Recoded old n given c.in-Ok-recode.bytes.items) named c.in-Ok-recode.ensures.ok in (
       c.done.ensures.kept,
-      ends_done _ (λ s. Recoded old name given (answer s)) (BytesRefused old name given) _ _ c.done.ensures.code (search rules) c.done.ensures.answered.1
+      ends_done _ _ (λ s. Recoded old name given (answer s)) (BytesRefused old name given) _ _ c.done.ensures.code (search rules) c.done.ensures.answered.1
           (subst (λ written. Recoded old name given written) (sym c.done.ensures.answered.0) recoded),
     )
