@@ -12,6 +12,7 @@ use std::alloc::{AllocError, Global};
 
 impl ReadRecord for EnumDescriptorProto {
     ghost facts = { λ levels fs r. IsEnum levels fs r };
+
     ghost faults = { λ levels fs e. InEnum levels fs e };
 
     fn from_fields(alloc: Global, fields: &Fields<'_>) -> Result<EnumDescriptorProto, WireError> {
@@ -40,6 +41,7 @@ impl WriteRecord for EnumDescriptorProto {
 
 impl ReadRecord for EnumValueDescriptorProto {
     ghost facts = { λ levels fs r. IsEnumValue levels fs r };
+
     ghost faults = { λ levels fs e. InEnumValue levels fs e };
 
     fn from_fields(
@@ -67,6 +69,7 @@ impl WriteRecord for EnumValueDescriptorProto {
 
 impl ReadRecord for EnumReservedRange {
     ghost facts = { λ levels fs r. IsEnumRange levels fs r };
+
     ghost faults = { λ levels fs e. InRange levels fs e };
 
     fn from_fields(alloc: Global, fields: &Fields<'_>) -> Result<EnumReservedRange, WireError> {

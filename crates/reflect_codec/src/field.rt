@@ -12,6 +12,7 @@ use std::alloc::{AllocError, Global};
 
 impl ReadRecord for FieldDescriptorProto {
     ghost facts = { λ levels fs r. IsField levels fs r };
+
     ghost faults = { λ levels fs e. InField levels fs e };
 
     fn from_fields(alloc: Global, fields: &Fields<'_>) -> Result<FieldDescriptorProto, WireError> {
@@ -52,6 +53,7 @@ impl WriteRecord for FieldDescriptorProto {
 
 impl ReadRecord for OneofDescriptorProto {
     ghost facts = { λ levels fs r. IsOneof levels fs r };
+
     ghost faults = { λ levels fs e. InOneof levels fs e };
 
     fn from_fields(alloc: Global, fields: &Fields<'_>) -> Result<OneofDescriptorProto, WireError> {

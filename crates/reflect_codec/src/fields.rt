@@ -345,6 +345,7 @@ fn with_packed(numbers: Vec<i32>, payload: &[u8]) -> Result<Vec<i32>, WireError>
 
 impl FieldValue for String {
     ghost means = { λ levels v t. IsText v (string_bytes t) };
+
     ghost faults = { λ levels v e. TextFault v e };
 
     fn from_value(alloc: Global, value: RawValue<'_>, _levels: u32) -> Result<String, WireError> {
@@ -357,6 +358,7 @@ impl FieldValue for String {
 
 impl FieldValue for Vec<u8> {
     ghost means = { λ levels v b. IsPayload v b.items };
+
     ghost faults = { λ levels v e. PayloadFault v e };
 
     fn from_value(alloc: Global, value: RawValue<'_>, _levels: u32) -> Result<Vec<u8>, WireError> {
@@ -367,6 +369,7 @@ impl FieldValue for Vec<u8> {
 /// The low 32 bits count.
 impl FieldValue for i32 {
     ghost means = { λ levels v z. IsInt32 v z };
+
     ghost faults = { λ levels v e. NumberFault v e };
 
     fn from_value(_alloc: Global, value: RawValue<'_>, _levels: u32) -> Result<i32, WireError> {
@@ -376,6 +379,7 @@ impl FieldValue for i32 {
 
 impl FieldValue for u64 {
     ghost means = { λ levels v n. IsNumber v n };
+
     ghost faults = { λ levels v e. NumberFault v e };
 
     fn from_value(_alloc: Global, value: RawValue<'_>, _levels: u32) -> Result<u64, WireError> {
@@ -385,6 +389,7 @@ impl FieldValue for u64 {
 
 impl FieldValue for i64 {
     ghost means = { λ levels v z. IsInt64 v z };
+
     ghost faults = { λ levels v e. NumberFault v e };
 
     fn from_value(_alloc: Global, value: RawValue<'_>, _levels: u32) -> Result<i64, WireError> {
@@ -395,6 +400,7 @@ impl FieldValue for i64 {
 /// Any number but 0 is true.
 impl FieldValue for bool {
     ghost means = { λ levels v b. IsBool v b };
+
     ghost faults = { λ levels v e. NumberFault v e };
 
     fn from_value(_alloc: Global, value: RawValue<'_>, _levels: u32) -> Result<bool, WireError> {
@@ -404,6 +410,7 @@ impl FieldValue for bool {
 
 impl FieldValue for DoubleValue {
     ghost means = { λ levels v d. IsDouble v d };
+
     ghost faults = { λ levels v e. DoubleFault v e };
 
     fn from_value(
@@ -420,6 +427,7 @@ impl FieldValue for DoubleValue {
 
 impl<R: ReadRecord> FieldValue for R {
     ghost means = { λ levels v r. IsRecord R.facts levels v r };
+
     ghost faults = { λ levels v e. RecordFault R.faults levels v e };
 
     fn from_value(alloc: Global, value: RawValue<'_>, levels: u32) -> Result<R, WireError> {

@@ -13,6 +13,7 @@ use std::alloc::{AllocError, Global};
 
 impl ReadRecord for FileDescriptorSet {
     ghost facts = { λ levels fs r. IsSet levels fs r };
+
     ghost faults = { λ levels fs e. InSet levels fs e };
 
     fn from_fields(alloc: Global, fields: &Fields<'_>) -> Result<FileDescriptorSet, WireError> {
@@ -33,6 +34,7 @@ impl WriteRecord for FileDescriptorSet {
 
 impl ReadRecord for FileDescriptorProto {
     ghost facts = { λ levels fs r. IsFile levels fs r };
+
     ghost faults = { λ levels fs e. InFile levels fs e };
 
     fn from_fields(alloc: Global, fields: &Fields<'_>) -> Result<FileDescriptorProto, WireError> {

@@ -111,6 +111,7 @@ fn put_message_type(message: &DescriptorProto, out: &mut Backward) -> Result<(),
 
 impl ReadRecord for ExtensionRange {
     ghost facts = { λ levels fs r. IsExtensionRange levels fs r };
+
     ghost faults = { λ levels fs e. InExtensionRange levels fs e };
 
     fn from_fields(alloc: Global, fields: &Fields<'_>) -> Result<ExtensionRange, WireError> {
@@ -135,6 +136,7 @@ impl WriteRecord for ExtensionRange {
 
 impl ReadRecord for ReservedRange {
     ghost facts = { λ levels fs r. IsReservedRange levels fs r };
+
     ghost faults = { λ levels fs e. InRange levels fs e };
 
     fn from_fields(alloc: Global, fields: &Fields<'_>) -> Result<ReservedRange, WireError> {

@@ -86,6 +86,7 @@ impl<'b> Fields<'b> {
 
 impl ReadRecord for UninterpretedOption {
     ghost facts = { λ levels fs r. IsUninterpretedOption levels fs r };
+
     ghost faults = { λ levels fs e. InUninterpretedOption levels fs e };
 
     fn from_fields(alloc: Global, fields: &Fields<'_>) -> Result<UninterpretedOption, WireError> {
@@ -103,6 +104,7 @@ impl ReadRecord for UninterpretedOption {
 
 impl ReadRecord for NamePart {
     ghost facts = { λ levels fs r. IsNamePart levels fs r };
+
     ghost faults = { λ levels fs e. InNamePart levels fs e };
 
     fn from_fields(alloc: Global, fields: &Fields<'_>) -> Result<NamePart, WireError> {

@@ -12,6 +12,7 @@ use std::alloc::{AllocError, Global};
 
 impl ReadRecord for ServiceDescriptorProto {
     ghost facts = { λ levels fs r. IsService levels fs r };
+
     ghost faults = { λ levels fs e. InService levels fs e };
 
     fn from_fields(
@@ -39,6 +40,7 @@ impl WriteRecord for ServiceDescriptorProto {
 
 impl ReadRecord for MethodDescriptorProto {
     ghost facts = { λ levels fs r. IsMethod levels fs r };
+
     ghost faults = { λ levels fs e. InMethod levels fs e };
 
     fn from_fields(alloc: Global, fields: &Fields<'_>) -> Result<MethodDescriptorProto, WireError> {

@@ -11,6 +11,7 @@ use std::alloc::{AllocError, Global};
 
 impl ReadRecord for SourceCodeInfo {
     ghost facts = { λ levels fs r. IsSourceInfo levels fs r };
+
     ghost faults = { λ levels fs e. InSourceInfo levels fs e };
 
     fn from_fields(alloc: Global, fields: &Fields<'_>) -> Result<SourceCodeInfo, WireError> {
@@ -31,6 +32,7 @@ impl WriteRecord for SourceCodeInfo {
 
 impl ReadRecord for Location {
     ghost facts = { λ levels fs r. IsLocation levels fs r };
+
     ghost faults = { λ levels fs e. InLocation levels fs e };
 
     fn from_fields(alloc: Global, fields: &Fields<'_>) -> Result<Location, WireError> {
