@@ -1,6 +1,8 @@
 //! Fields by their names.
 
 ghost use Rattle.std.specs.Prelude.{◌≡◌, IfErr, IfNone, IfOk, IfSome, OnErr, OnOk};
+ghost use Rattle.reflect_entries.specs.Entries.{IsAscending};
+ghost use Rattle.reflect_message.specs.Held.{fields_of};
 ghost use Rattle.reflect_numbered.specs.Called.{HasName, IsMeant, Lends, NoneMeant, SetsMeant, StaysWhole, TakesMeant, TellsMeant, UnsetsMeant};
 ghost use Rattle.reflect_numbered.specs.Refused.{RefusesSet};
 
@@ -51,6 +53,8 @@ pub trait FieldsByName<'p> {
         ensures type_stays { (message self.new).descriptor ≡ (message self.old).descriptor }
         ensures ok { OnOk result (SetsMeant (HasName name.now) (message self.old) (message self.new)
             value.entry) }
+        ensures ascending { OnOk result (IsAscending (fields_of (message self.old))
+            → IsAscending (fields_of (message self.new))) }
         ensures err { OnErr result (StaysWhole (message self.old) (message self.new)) };
 
     /// Sets the field of the name, as `try_set_field` does. `NotFound` where there is no such
@@ -63,6 +67,7 @@ pub trait FieldsByName<'p> {
         ensures type_stays { (message self.new).descriptor ≡ (message self.old).descriptor }
         ensures ok { OnOk result (SetsMeant (HasName name.now) (message self.old) (message self.new)
             value.entry) }
+        ensures ascending { OnOk result (IsAscending (fields_of (message self.new))) }
         ensures refused { IfErr result
             (RefusesSet (HasName name.now) (message self.old).descriptor value.entry) }
         ensures err { OnErr result (StaysWhole (message self.old) (message self.new)) };

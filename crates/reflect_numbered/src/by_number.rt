@@ -1,7 +1,7 @@
 //! Fields by their numbers.
 
 ghost use Rattle.std.specs.Prelude.{◌≡◌, IfErr, IfOk, IsSome, IsTrue, OnErr, OnOk};
-ghost use Rattle.reflect_entries.specs.Entries.{value_at};
+ghost use Rattle.reflect_entries.specs.Entries.{IsAscending, value_at};
 ghost use Rattle.reflect_message.specs.Held.{fields_of};
 ghost use Rattle.reflect_message.specs.Oneofs.{IsExclusive};
 ghost use Rattle.reflect_numbered.specs.Called.{HasNumber, Lends, SetsMeant, StaysWhole, TakesMeant, TellsMeant, UnsetsMeant};
@@ -33,6 +33,8 @@ pub trait FieldsByNumber<'p> {
         ensures type_stays { (message self.new).descriptor ≡ (message self.old).descriptor }
         ensures ok { OnOk result (SetsMeant (HasNumber number) (message self.old) (message self.new)
             value.entry) }
+        ensures ascending { OnOk result (IsAscending (fields_of (message self.old))
+            → IsAscending (fields_of (message self.new))) }
         ensures exclusive { IsExclusive (message self.old) → IsExclusive (message self.new) }
         ensures err { OnErr result (StaysWhole (message self.old) (message self.new)) };
 
@@ -46,6 +48,7 @@ pub trait FieldsByNumber<'p> {
         ensures type_stays { (message self.new).descriptor ≡ (message self.old).descriptor }
         ensures ok { OnOk result (SetsMeant (HasNumber number) (message self.old) (message self.new)
             value.entry) }
+        ensures ascending { OnOk result (IsAscending (fields_of (message self.new))) }
         ensures exclusive { IsExclusive (message self.old) → IsExclusive (message self.new) }
         ensures refused { IfErr result
             (RefusesSet (HasNumber number) (message self.old).descriptor value.entry) }

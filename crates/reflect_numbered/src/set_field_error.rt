@@ -3,7 +3,9 @@
 ghost use Rattle.std.specs.Prelude.{◌≡◌, IfErr, OnErr, OnOk};
 ghost use Rattle.reflect_pool.specs.FieldsLeft.{field_type};
 ghost use Rattle.reflect_scalar.specs.FieldTypes.{field_pool};
+ghost use Rattle.reflect_entries.specs.Entries.{IsAscending};
 ghost use Rattle.reflect_message.specs.Declares.{Declares, Owns};
+ghost use Rattle.reflect_message.specs.Held.{fields_of};
 ghost use Rattle.reflect_message.specs.Oneofs.{IsExclusive, SetsField};
 ghost use Rattle.reflect_numbered.specs.Called.{StaysWhole};
 ghost use Rattle.reflect_numbered.specs.Fits.{IsValidFor};
@@ -77,6 +79,7 @@ pub trait TrySetField<'p> {
             value.entry) }
         ensures ok { OnOk result (SetsField (message self.old) (message self.new) field.now
             value.entry) }
+        ensures ascending { OnOk result (IsAscending (fields_of (message self.new))) }
         ensures exclusive { Owns (message self.old).descriptor field.now
             → IsExclusive (message self.old) → IsExclusive (message self.new) }
         ensures refused { IfErr result (HandsBack field.now value.entry) }
