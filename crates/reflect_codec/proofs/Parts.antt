@@ -1,11 +1,12 @@
 -- A value holds one payload, with one list of fields.
-use Rattle.std.proofs.Common.{◌≡◌, ℕ, ℤ, List, [], ◌∷◌, Option, Some, None, Result, Ok, Err, Vec, Global, refl, sym, ap, ◌∙◌, subst}
+use Rattle.std.proofs.Common.{◌≡◌, ◌⊎◌, inr, ℕ, ℤ, List, [], ◌∷◌, Option, Some, None, Result, Ok, Err, Vec, Global, refl, sym, ap, ◌∙◌, subst}
 use Rattle.std.specs.Prelude.{option_map, unsigned_abs, IfSome}
 use Rattle.std.specs.List.{AllZip}
 use Rattle.reflect_wire.proofs.Spelling.{one_list}
 use Rattle.reflect_wire.specs.declared.wire_error.WireError.{WireError}
 use Rattle.reflect_codec.specs.declared.fields.RawField.{RawField}
 use Rattle.reflect_codec.specs.declared.fields.Fields.{Fields}
+use Rattle.reflect_codec.specs.Faults.{BytesFault, PartFault}
 use Rattle.reflect_codec.specs.Raw.{fields_view, MoreFields}
 use Rattle.reflect_codec.specs.Reading.{Value, number, eight_bytes, payload, other, Field, fields_in, values_at, Takes, SpellsFields, IsPayload, HasPayload, IsPart, AreJoined, joined, AlongOption}
 use Rattle.reflect_codec.proofs.Values.{rejects}
@@ -45,30 +46,31 @@ pub along_joined : {X : Type 0} (M : List Field → X → Type 0) (outside insid
 along_joined M outside inside vs fs found o g h along = some_along M fs o (subst (λ f. AlongOption M f o) (one_joined outside inside vs g (Some fs) h found) along)
 
 -- the fields of a payload are those of the record that the value holds
-pub part_read : (outside inside : ℕ) (old : List Field) (v : Value) (bytes : List ℕ) (r : Result (Vec RawField Global) WireError) → HasPayload outside v bytes → MoreFields (SpellsFields inside) old bytes r
-    → MoreFields (IsPart outside inside) old v r
+pub part_read : (outside inside : ℕ) (old : List Field) (v : Value) (bytes : List ℕ) (r : Result (Vec RawField Global) WireError) → HasPayload outside v bytes → MoreFields (SpellsFields inside) (BytesFault inside) old bytes r
+    → MoreFields (IsPart outside inside) (PartFault outside inside) old v r
 part_read outside inside old v bytes (Ok w) has h = (h.0, (bytes, has, h.1), h.2)
 part_read outside inside old v bytes (Err e) has h =
-    rejects (λ fs p. (fs, subst (λ b. SpellsFields inside b fs) (one_payload v p.0 bytes p.1.1 has.1) p.2)) h
+    rejects (λ fs p. (fs, subst (λ b. SpellsFields inside b fs) (one_payload v p.0 bytes p.1.1 has.1) p.2)) (λ fault. inr (bytes, has, fault)) h
 
 -- what is read of the only fields of a value is read of the value
-pub whole_read : {X : Type 0} (M : List Field → X → Type 0) (outside inside : ℕ) (v : Value) (fs : List Field) (r : Result X WireError) → IsPart outside inside v fs → Takes M fs r
-    → Takes (λ w x. (gs : List Field) × IsPart outside inside w gs × M gs x) v r
-whole_read M outside inside v fs (Ok x) part h = (fs, part, h)
-whole_read M outside inside v fs (Err e) part h = rejects (λ x w. (x, subst (λ gs. M gs x) (one_part outside inside v w.0 fs w.1 part) w.2)) h
+pub whole_read : {X : Type 0} (M : List Field → X → Type 0) (F : List Field → WireError → Type 0) (outside inside : ℕ) (v : Value) (fs : List Field) (r : Result X WireError) → IsPart outside inside v fs → Takes M F fs r
+    → Takes (λ w x. (gs : List Field) × IsPart outside inside w gs × M gs x) (λ w e. PartFault outside inside w e ⊎ ((gs : List Field) × IsPart outside inside w gs × F gs e)) v r
+whole_read M F outside inside v fs (Ok x) part h = (fs, part, h)
+whole_read M F outside inside v fs (Err e) part h = rejects (λ x w. (x, subst (λ gs. M gs x) (one_part outside inside v w.0 fs w.1 part) w.2)) (λ fault. inr (fs, part, fault)) h
 
 -- the same of bytes
-pub bytes_read : {X : Type 0} (M : List Field → X → Type 0) (levels : ℕ) (bytes : List ℕ) (fs : List Field) (r : Result X WireError) → SpellsFields levels bytes fs → Takes M fs r
-    → Takes (λ b x. (gs : List Field) × SpellsFields levels b gs × M gs x) bytes r
-bytes_read M levels bytes fs (Ok x) found h = (fs, found, h)
-bytes_read M levels bytes fs (Err e) found h = rejects (λ x w. (x, subst (λ gs. M gs x) (one_fields levels bytes w.0 fs w.1 found) w.2)) h
+pub bytes_read : {X : Type 0} (M : List Field → X → Type 0) (F : List Field → WireError → Type 0) (levels : ℕ) (bytes : List ℕ) (fs : List Field) (r : Result X WireError) → SpellsFields levels bytes fs → Takes M F fs r
+    → Takes (λ b x. (gs : List Field) × SpellsFields levels b gs × M gs x) (λ b e. BytesFault levels b e ⊎ ((gs : List Field) × SpellsFields levels b gs × F gs e)) bytes r
+bytes_read M F levels bytes fs (Ok x) found h = (fs, found, h)
+bytes_read M F levels bytes fs (Err e) found h = rejects (λ x w. (x, subst (λ gs. M gs x) (one_fields levels bytes w.0 fs w.1 found) w.2)) (λ fault. inr (fs, found, fault)) h
 
 pub payload_fields : (outside inside : ℕ) (v : Value) (bytes : List ℕ) (fs : List Field) → HasPayload outside v bytes → IsPart outside inside v fs → SpellsFields inside bytes fs
 payload_fields outside inside v bytes fs has p = subst (λ b. SpellsFields inside b fs) (one_payload v p.0 bytes p.1.1 has.1) p.2
 
-pub takes_as : {A X : Type 0} (R S : A → X → Type 0) (a : A) (r : Result X WireError) → ((x : X) → R a x → S a x) → ((x : X) → S a x → R a x) → Takes R a r → Takes S a r
-takes_as R S a (Ok x) to from h = to x h
-takes_as R S a (Err e) to from h = rejects (λ x s. (x, from x s)) h
+pub takes_as : {A X : Type 0} (R S : A → X → Type 0) (F G : A → WireError → Type 0) (a : A) (r : Result X WireError) → ((x : X) → R a x → S a x) → ((x : X) → S a x → R a x) → ((e : WireError) → F a e → G a e)
+    → Takes R F a r → Takes S G a r
+takes_as R S F G a (Ok x) to from told h = to x h
+takes_as R S F G a (Err e) to from told h = rejects (λ x s. (x, from x s)) (told e) h
 
 -- the fields that were joined, at the number and the levels that were asked for
 pub found_fields : (outside inside k : ℕ) (z y : ℤ) (fs : List Field) (o : Option Fields) (f : Fields) → y ≡ z → k ≡ inside → o ≡ Some f

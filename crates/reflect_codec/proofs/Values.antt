@@ -1,37 +1,51 @@
 -- Going over fields: the values of a number, one after another.
-use Rattle.std.proofs.Common.{◌≡◌, ℕ, suc, ◌+◌, ◌<◌, true, false, List, [], ◌∷◌, ◌++◌, map, filter, length, take, drop, get_or, refl, sym, ap, ◌∙◌, subst, append-nil, append_assoc, arith, Option, Some, None, Vec, Global}
+use Rattle.std.proofs.Common.{◌≡◌, ◌⊎◌, inl, inr, ℕ, suc, ◌+◌, ◌<◌, true, false, List, [], ◌∷◌, ◌++◌, map, filter, length, take, drop, get_or, refl, sym, ap, ◌∙◌, subst, append-nil, append_assoc, arith, Option, Some, None, Vec, Global}
 use Rattle.std.specs.Prelude.{◌==◌, option_map, unwrap_or}
-use Rattle.std.specs.List.{AllZip}
+use Rattle.std.specs.List.{AllZip, Any}
 use Rattle.std.proofs.lemmas.List.{map-append, take_more, take-append-drop}
 use Rattle.std.proofs.lemmas.List.Elements.{filter-append}
 use Rattle.std.proofs.lemmas.List.Concat.{flat_map-append}
 use Rattle.std.proofs.Math.Seq.{drop-cons}
+use Rattle.reflect_wire.specs.Faults.{Tells}
 use Rattle.reflect_wire.specs.Reads.{NoFront, Refuses}
 use Rattle.reflect_wire.specs.declared.wire_error.WireError.{WireError}
 use Rattle.reflect_wire.specs.declared.wire_error.WireError.TheVariants.{Truncated, BadVarint, BadKey, BadWireType, EndGroupMismatch, TooDeep, BadUtf8, TooLong, Memory}
 use Rattle.reflect_codec.specs.declared.fields.RawField.{RawField}
 use Rattle.reflect_codec.specs.declared.fields.RawValue.TheVariants.{Varint}
+use Rattle.reflect_codec.specs.Faults.{OneOf}
 use Rattle.reflect_codec.specs.Raw.{value_view, field_view, fields_view}
 use Rattle.reflect_codec.specs.Reading.{Value, number, eight_bytes, payload, other, Field, values_at, Rejects, IsText, IsPayload, last, joins, joined}
 
--- a refusal of one reading is one of another that could not be without it
-pub rejects : {A B X Y : Type 0} {R : A → X → Type 0} {S : B → Y → Type 0} {a : A} {b : B} {e : WireError} → ((y : Y) → S b y → (x : X) × R a x) → Rejects R a e → Rejects S b e
-rejects f h = record { none = λ other y s. let r = f y s in h.none other r.0 r.1 }
+-- what a refusal tells, in other words
+told_as : {P Q R : Type 0} → (Q → R) → P ⊎ Q → P ⊎ R
+told_as f (inl p) = inl p
+told_as f (inr q) = inr (f q)
 
-pub memory : {B Y : Type 0} {S : B → Y → Type 0} {b : B} → Rejects S b Memory
-memory = record { none = λ other y s. other refl }
+-- what is told but for want of memory is so
+pub true_told : {P : Type 0} (e : WireError) → (e ≡ Memory → ⊥) → (e ≡ Memory) ⊎ P → P
+true_told e more (inl p) = absurd (more p)
+true_told e more (inr q) = q
+
+-- a refusal of one reading is one of another that could not be without it and has its faults
+pub rejects : {A B X Y : Type 0} {R : A → X → Type 0} {F : A → WireError → Type 0} {S : B → Y → Type 0} {G : B → WireError → Type 0} {a : A} {b : B} {e : WireError}
+    → ((y : Y) → S b y → (x : X) × R a x) → (F a e → G b e) → Rejects R F a e → Rejects S G b e
+rejects f g h = record { none = λ other y s. let r = f y s in h.none other r.0 r.1; told = told_as g h.told }
+
+pub memory : {B Y : Type 0} {S : B → Y → Type 0} {G : B → WireError → Type 0} {b : B} → Rejects S G b Memory
+memory = record { none = λ other y s. other refl; told = inl refl }
 
 -- the same, from a reader that looks for a value at the front
-pub refused : {X B Y : Type 0} (R : List ℕ → X → Type 0) (S : B → Y → Type 0) (bytes : List ℕ) (b : B) (e : WireError) → (NoFront R bytes → (y : Y) → S b y → ⊥) → Refuses R bytes e → Rejects S b e
-refused R S bytes b Memory f h = memory
-refused R S bytes b Truncated f h = record { none = λ other. f h }
-refused R S bytes b BadVarint f h = record { none = λ other. f h }
-refused R S bytes b BadKey f h = record { none = λ other. f h }
-refused R S bytes b BadWireType f h = record { none = λ other. f h }
-refused R S bytes b EndGroupMismatch f h = record { none = λ other. f h }
-refused R S bytes b TooDeep f h = record { none = λ other. f h }
-refused R S bytes b BadUtf8 f h = record { none = λ other. f h }
-refused R S bytes b TooLong f h = record { none = λ other. f h }
+pub refused : {X B Y : Type 0} (R : List ℕ → X → Type 0) (F : List ℕ → WireError → Type 0) (S : B → Y → Type 0) (G : B → WireError → Type 0) (bytes : List ℕ) (b : B) (e : WireError)
+    → (NoFront R bytes → (y : Y) → S b y → ⊥) → (NoFront R bytes → F bytes e → G b e) → Refuses R bytes e → Tells F bytes e → Rejects S G b e
+refused R F S G bytes b Memory f g h t = memory
+refused R F S G bytes b Truncated f g h t = record { none = λ other. f h; told = inr (g h t) }
+refused R F S G bytes b BadVarint f g h t = record { none = λ other. f h; told = inr (g h t) }
+refused R F S G bytes b BadKey f g h t = record { none = λ other. f h; told = inr (g h t) }
+refused R F S G bytes b BadWireType f g h t = record { none = λ other. f h; told = inr (g h t) }
+refused R F S G bytes b EndGroupMismatch f g h t = record { none = λ other. f h; told = inr (g h t) }
+refused R F S G bytes b TooDeep f g h t = record { none = λ other. f h; told = inr (g h t) }
+refused R F S G bytes b BadUtf8 f g h t = record { none = λ other. f h; told = inr (g h t) }
+refused R F S G bytes b TooLong f g h t = record { none = λ other. f h; told = inr (g h t) }
 
 eq_same : (m n : ℕ) → m ≡ n → (m == n) ≡ true
 eq_same m n e = grind arith
@@ -58,6 +72,10 @@ one_of R [] rest a (x ∷ xs) h = (x, h.0)
 one_of R (b ∷ front) rest a [] h = absurd h
 one_of R (b ∷ front) rest a (x ∷ xs) h = one_of R front rest a xs h.1
 
+any_there : {A : Type 0} (P : A → Type 0) (front rest : List A) (a : A) → P a → Any P (front ++ a ∷ rest)
+any_there P [] rest a p = (0, a, omega arith, refl, p)
+any_there P (b ∷ front) rest a p = let i = any_there P front rest a p in (suc i.0, i.1, omega (arith, i.2), i.3, i.4)
+
 module _ (n : ℕ) (items : List RawField) (i : ℕ) (d : RawField) (inside : i < length items) where
   pub hit : (get_or items i d).number ≡ n
       → values_at n (fields_view (take (i + 1) items)) ≡ values_at n (fields_view (take i items)) ++ value_view (get_or items i d).value ∷ []
@@ -81,12 +99,24 @@ module _ (n : ℕ) (items : List RawField) (i : ℕ) (d : RawField) (inside : i 
       ∙ ap (values_at n) (fields_view-append (take i items) (f ∷ drop (suc i) items)) ∙ values_at-append n (fields_view (take i items)) (field_view f ∷ fields_view (drop (suc i) items))
       ∙ ap (λ vs. values_at n (fields_view (take i items)) ++ vs) (values_at-hit n (field_view f) (fields_view (drop (suc i) items)) e)
 
-  -- where each value means something, so does this one
-  pub each_at : (m : ℕ) (all : List RawField) → n ≡ m → items ≡ all → {X : Type 0} (R : Value → X → Type 0) (xs : List X) → (get_or items i d).number ≡ n → AllZip R (values_at m (fields_view all)) xs
-      → (x : X) × R (value_view (get_or items i d).value) x
-  each_at m all same_number same_items R xs e each =
+  -- the values of a number that was asked for, with this one among them
+  among : (m : ℕ) (all : List RawField) → n ≡ m → items ≡ all → (get_or items i d).number ≡ n
+      → values_at m (fields_view all) ≡ values_at n (fields_view (take i items)) ++ value_view (get_or items i d).value ∷ values_at n (fields_view (drop (suc i) items))
+  among m all same_number same_items e =
       let seen : values_at m (fields_view all) ≡ values_at n (fields_view items) = ap (λ k. values_at k (fields_view all)) (sym same_number) ∙ ap (λ fs. values_at n (fields_view fs)) (sym same_items) in
-      one_of R (values_at n (fields_view (take i items))) (values_at n (fields_view (drop (suc i) items))) (value_view (get_or items i d).value) xs (subst (λ vs. AllZip R vs xs) (seen ∙ whole e) each)
+      seen ∙ whole e
+
+  -- where this value is refused, so are those of the number, each of which has to mean something
+  pub rejects_at : (m : ℕ) (all : List RawField) → n ≡ m → items ≡ all → (get_or items i d).number ≡ n
+      → {X Y : Type 0} (R : Value → X → Type 0) (F : Value → WireError → Type 0) (S : List Value → Y → Type 0) (e : WireError)
+      → ((y : Y) → S (values_at m (fields_view all)) y → (xs : List X) × AllZip R (values_at m (fields_view all)) xs) → Rejects R F (value_view (get_or items i d).value) e
+      → Rejects S (OneOf F) (values_at m (fields_view all)) e
+  rejects_at m all same_number same_items hit R F S e f h =
+      let v = value_view (get_or items i d).value in
+      let front = values_at n (fields_view (take i items)) in
+      let rest = values_at n (fields_view (drop (suc i) items)) in
+      let here = among m all same_number same_items hit in
+      rejects (λ y s. let zs = f y s in one_of R front rest v zs.0 (subst (λ vs. AllZip R vs zs.0) here zs.1)) (λ fault. subst (λ vs. OneOf F vs e) (sym here) (any_there (λ w. F w e) front rest v fault)) h
 
 pub each_push : {A X : Type 0} (R : A → X → Type 0) (front : List A) (xs : List X) (a : A) (x : X) → AllZip R front xs → R a x → AllZip R (front ++ a ∷ []) (xs ++ x ∷ [])
 each_push R [] [] a x h r = (r, tt)

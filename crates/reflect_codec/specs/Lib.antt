@@ -1,3 +1,4 @@
+pub mod Faults
 pub mod Fields
 pub mod Held
 pub mod Meaning

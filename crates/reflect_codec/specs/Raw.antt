@@ -27,13 +27,13 @@ abbrev pub IsRawValue : ℕ → WireKey → List ℕ → Value → Type 0
 IsRawValue levels key bytes v = (p : Payload) × IsValue levels key bytes p × (v ≡ value_of p)
 
 -- the fields that something means stand behind those that were there
-abbrev pub MoreFields : {A : Type 0} → (A → List Field → Type 0) → List Field → A
-    → Result (Vec RawField Global) WireError → Type 0
-MoreFields R old a (Ok v) = (fs : List Field) × R a fs × (fields_view v.items ≡ old ++ fs)
-MoreFields R old a (Err e) = Rejects R a e
+abbrev pub MoreFields : {A : Type 0} → (A → List Field → Type 0) → (A → WireError → Type 0)
+    → List Field → A → Result (Vec RawField Global) WireError → Type 0
+MoreFields R Fault old a (Ok v) = (fs : List Field) × R a fs × (fields_view v.items ≡ old ++ fs)
+MoreFields R Fault old a (Err e) = Rejects R Fault a e
 
 -- the numbers that something means stand behind those that were there
-abbrev pub MoreNumbers : {A : Type 0} → (A → List ℤ → Type 0) → List ℤ → A
-    → Result (Vec ℤ Global) WireError → Type 0
-MoreNumbers R old a (Ok v) = (zs : List ℤ) × R a zs × (v.items ≡ old ++ zs)
-MoreNumbers R old a (Err e) = Rejects R a e
+abbrev pub MoreNumbers : {A : Type 0} → (A → List ℤ → Type 0) → (A → WireError → Type 0) → List ℤ
+    → A → Result (Vec ℤ Global) WireError → Type 0
+MoreNumbers R Fault old a (Ok v) = (zs : List ℤ) × R a zs × (v.items ≡ old ++ zs)
+MoreNumbers R Fault old a (Err e) = Rejects R Fault a e

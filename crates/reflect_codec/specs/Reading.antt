@@ -2,7 +2,7 @@
 --
 -- Source: "Encoding" at protobuf.dev: a field that came several times has the last value, lists are
 -- joined, records are merged.
-use Rattle.std.specs.Prelude.{◌≡◌, ℕ, ℤ, ◌<◌, ◌-◌, ◌%◌, ◌^◌, ◌==◌, Bool, not, List, [], ◌∷◌, ◌++◌, map, filter, flat_map, Option, Some, None, Result, Ok, Err, String, string_bytes}
+use Rattle.std.specs.Prelude.{◌≡◌, ◌⊎◌, ℕ, ℤ, ◌<◌, ◌-◌, ◌%◌, ◌^◌, ◌==◌, Bool, not, List, [], ◌∷◌, ◌++◌, map, filter, flat_map, Option, Some, None, Result, Ok, Err, String, string_bytes}
 use Rattle.std.specs.Int.{w32, w64, cast_signed}
 use Rattle.std.specs.List.{AllZip}
 use Rattle.std.specs.Str.{IsUtf8}
@@ -44,19 +44,23 @@ SpellsFields levels bytes fs = (rs : Records) × SpellsRecords levels bytes rs �
 abbrev pub values_at : ℕ → List Field → List Value
 values_at n fs = map (λ f. f.1) (filter (λ f. f.0 == n) fs)
 
--- what a refusal says: nothing is meant, unless memory ran out
-pub record Rejects {A X : Type 0} (R : A → X → Type 0) (a : A) (e : WireError) : Type 0 where
+-- what a refusal says: nothing is meant, and it tells what is so, unless memory ran out
+pub record Rejects {A X : Type 0} (R : A → X → Type 0) (Fault : A → WireError → Type 0) (a : A)
+    (e : WireError) : Type 0 where
   pub none : (e ≡ errors.Memory → ⊥) → (x : X) → R a x → ⊥
+  pub told : (e ≡ errors.Memory) ⊎ Fault a e
 
--- something is read exactly where something is meant, and that is read
-abbrev pub Takes : {A X : Type 0} → (A → X → Type 0) → A → Result X WireError → Type 0
-Takes R a (Ok x) = R a x
-Takes R a (Err e) = Rejects R a e
+-- something is read exactly where something is meant, and that is read; a refusal tells a fault
+abbrev pub Takes : {A X : Type 0} → (A → X → Type 0) → (A → WireError → Type 0) → A
+    → Result X WireError → Type 0
+Takes R Fault a (Ok x) = R a x
+Takes R Fault a (Err e) = Rejects R Fault a e
 
 -- the same, where the relation speaks of what view sees
-abbrev pub TakesBy : {A X Y : Type 0} → (X → Y) → (A → Y → Type 0) → A → Result X WireError → Type 0
-TakesBy view R a (Ok x) = R a (view x)
-TakesBy view R a (Err e) = Rejects R a e
+abbrev pub TakesBy : {A X Y : Type 0} → (X → Y) → (A → Y → Type 0) → (A → WireError → Type 0) → A
+    → Result X WireError → Type 0
+TakesBy view R Fault a (Ok x) = R a (view x)
+TakesBy view R Fault a (Err e) = Rejects R Fault a e
 
 abbrev pub IsText : Value → List ℕ → Type 0
 IsText (payload p) t = IsUtf8 p × (t ≡ p)

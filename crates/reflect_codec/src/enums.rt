@@ -1,5 +1,6 @@
 //! Enum types and their values.
 ghost use Rattle.reflect_codec.specs.Written.{enum_bytes, enum_value_bytes, enum_range_bytes};
+ghost use Rattle.reflect_codec.specs.Faults.{InEnum, InEnumValue, InRange};
 ghost use Rattle.reflect_codec.specs.Meaning.{IsEnum, IsEnumRange, IsEnumValue};
 
 use crate::backward::{Backward, WriteRecord};
@@ -11,6 +12,8 @@ use std::alloc::{AllocError, Global};
 
 impl ReadRecord for EnumDescriptorProto {
     ghost facts = { λ levels fs r. IsEnum levels fs r };
+
+    ghost faults = { λ levels fs e. InEnum levels fs e };
 
     fn from_fields(alloc: Global, fields: &Fields<'_>) -> Result<EnumDescriptorProto, WireError> {
         Ok(EnumDescriptorProto {
@@ -39,6 +42,8 @@ impl WriteRecord for EnumDescriptorProto {
 impl ReadRecord for EnumValueDescriptorProto {
     ghost facts = { λ levels fs r. IsEnumValue levels fs r };
 
+    ghost faults = { λ levels fs e. InEnumValue levels fs e };
+
     fn from_fields(
         alloc: Global,
         fields: &Fields<'_>,
@@ -64,6 +69,8 @@ impl WriteRecord for EnumValueDescriptorProto {
 
 impl ReadRecord for EnumReservedRange {
     ghost facts = { λ levels fs r. IsEnumRange levels fs r };
+
+    ghost faults = { λ levels fs e. InRange levels fs e };
 
     fn from_fields(alloc: Global, fields: &Fields<'_>) -> Result<EnumReservedRange, WireError> {
         Ok(EnumReservedRange {

@@ -1,5 +1,6 @@
 //! Fields, extensions and oneofs.
 ghost use Rattle.reflect_codec.specs.Written.{field_bytes, oneof_bytes};
+ghost use Rattle.reflect_codec.specs.Faults.{InField, InOneof};
 ghost use Rattle.reflect_codec.specs.Meaning.{IsField, IsOneof};
 
 use crate::backward::{Backward, WriteRecord};
@@ -11,6 +12,8 @@ use std::alloc::{AllocError, Global};
 
 impl ReadRecord for FieldDescriptorProto {
     ghost facts = { λ levels fs r. IsField levels fs r };
+
+    ghost faults = { λ levels fs e. InField levels fs e };
 
     fn from_fields(alloc: Global, fields: &Fields<'_>) -> Result<FieldDescriptorProto, WireError> {
         Ok(FieldDescriptorProto {
@@ -50,6 +53,8 @@ impl WriteRecord for FieldDescriptorProto {
 
 impl ReadRecord for OneofDescriptorProto {
     ghost facts = { λ levels fs r. IsOneof levels fs r };
+
+    ghost faults = { λ levels fs e. InOneof levels fs e };
 
     fn from_fields(alloc: Global, fields: &Fields<'_>) -> Result<OneofDescriptorProto, WireError> {
         Ok(OneofDescriptorProto {

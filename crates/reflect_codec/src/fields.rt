@@ -1,7 +1,9 @@
 //! The fields of a record that is being read, and the readers of what they hold.
-ghost use Rattle.std.specs.Prelude.{◌≡◌, ℕ, ◌-◌, ◌++◌, List, IfOk, IfSome, option_map, flat_map, length, string_bytes, unsigned_abs};
+ghost use Rattle.std.specs.Prelude.{◌≡◌, ℕ, ◌-◌, ◌++◌, List, IfOk, IfErr, IfSome, option_map, flat_map, length, string_bytes, unsigned_abs};
 ghost use Rattle.std.specs.List.{AllZip};
+ghost use Rattle.reflect_wire.specs.Faults.{ValueFault, Tells};
 ghost use Rattle.reflect_wire.specs.Reads.{ReadsBy};
+ghost use Rattle.reflect_codec.specs.Faults.{BytesFault, OneOf, NumberFault, DoubleFault, PayloadFault, TextFault, PackedFault, NumbersFault, PlaceFault, PartFault, RecordFault, MergedFault};
 ghost use Rattle.reflect_codec.specs.Raw.{value_view, fields_view, IsRawValue, MoreFields, MoreNumbers};
 ghost use Rattle.reflect_codec.specs.Reading.{Value, Field, Takes, TakesBy, SpellsFields, values_at, IsText, IsNumber, IsInt32, IsInt64, IsBool, IsDouble, IsPayload, IsNumbers, IsPart, IsRecord, IsLast, AreNumbers, AreJoined, IsMerged, SpellsNumbers, int32_of, HasPayload, ArePayloads};
 
@@ -39,24 +41,33 @@ pub struct Fields<'b> {
 
 /// What a single value of a field is read as.
 pub trait FieldValue: Sized + Drop {
+    ghost use Rattle.reflect_wire.specs.declared.wire_error.WireError.{WireError};
+
     /// The values that are read as this, below which so many levels may lie.
     ghost means: { ℕ → Value → Self → Type 0 };
+    /// Why a value is refused.
+    ghost faults: { ℕ → Value → WireError → Type 0 };
 
     /// The value, below which so many levels of records may lie.
     ///
     /// `BadWireType` where the value has another form, `BadUtf8` where a text is none.
     fn from_value(alloc: Global, value: RawValue<'_>, levels: u32) -> Result<Self, WireError>
-        ensures { Takes (means levels) (value_view value.entry) result };
+        ensures { Takes (means levels) (faults levels) (value_view value.entry) result };
 }
 
 /// A record that is read from its fields.
 pub trait ReadRecord: Sized + Drop {
+    ghost use Rattle.reflect_wire.specs.declared.wire_error.WireError.{WireError};
+
     /// What the fields mean, below which so many levels of records may lie.
     ghost facts: { ℕ → List Field → Self → Type 0 };
+    /// Why they are refused.
+    ghost faults: { ℕ → List Field → WireError → Type 0 };
 
     /// The record. Fields that it does not have are dropped.
     fn from_fields(alloc: Global, fields: &Fields<'_>) -> Result<Self, WireError>
-        ensures { Takes (facts fields.now.levels) (fields_view fields.now.list.items) result };
+        ensures { Takes (facts fields.now.levels) (faults fields.now.levels)
+            (fields_view fields.now.list.items) result };
 }
 
 /// The value behind a key. A value that no descriptor record has is passed over.
@@ -66,7 +77,8 @@ fn raw_value_at(
     bytes: &[u8],
     levels: u32,
 ) -> Result<(RawValue<'_>, &[u8]), WireError>
-    ensures { ReadsBy value_view (IsRawValue levels key) bytes.now result }
+    ensures read { ReadsBy value_view (IsRawValue levels key) bytes.now result }
+    ensures fault { IfErr result (Tells (ValueFault levels key) bytes.now) }
 {
     match key.wire {
         WireType::Varint => {
@@ -101,7 +113,8 @@ fn with_fields<'b>(
     bytes: &'b [u8],
     levels: u32,
 ) -> Result<Vec<RawField<'b>>, WireError>
-    ensures { MoreFields (SpellsFields levels) (fields_view fields.entry.items) bytes.now result }
+    ensures { MoreFields (SpellsFields levels) (BytesFault levels)
+        (fields_view fields.entry.items) bytes.now result }
 {
     let mut list = fields;
     let mut rest = bytes;
@@ -126,8 +139,8 @@ fn with_part<'b>(
     outside: u32,
     inside: u32,
 ) -> Result<Vec<RawField<'b>>, WireError>
-    ensures { MoreFields (IsPart outside inside) (fields_view fields.entry.items)
-        (value_view value.entry) result }
+    ensures { MoreFields (IsPart outside inside) (PartFault outside inside)
+        (fields_view fields.entry.items) (value_view value.entry) result }
 {
     let payload = value.record(outside)?;
     with_fields(fields, alloc, payload, inside)
@@ -137,7 +150,7 @@ impl<'b> Fields<'b> {
     /// The fields that the bytes spell, below which so many levels of records may lie.
     pub fn read(alloc: Global, bytes: &'b [u8], levels: u32) -> Result<Fields<'b>, WireError>
         ensures read { TakesBy (λ f. fields_view f.list.items) (SpellsFields levels)
-            bytes.now result }
+            (BytesFault levels) bytes.now result }
         ensures levels { IfOk result (λ f. f.levels ≡ levels) }
     {
         let room = Vec::with_capacity(alloc, first_room(bytes.len()))?;
@@ -162,7 +175,7 @@ impl<'b> Fields<'b> {
 
     /// The last value of a field.
     pub fn last<T: FieldValue>(&self, alloc: Global, number: i32) -> Result<Option<T>, WireError>
-        ensures { Takes (IsLast (T.means self.now.levels))
+        ensures { Takes (IsLast (T.means self.now.levels)) (OneOf (T.faults self.now.levels))
             (values_at (unsigned_abs number) (fields_view self.now.list.items)) result }
     {
         let wanted = number.unsigned_abs();
@@ -178,6 +191,7 @@ impl<'b> Fields<'b> {
     /// All values of a field.
     pub fn list<T: FieldValue>(&self, alloc: Global, number: i32) -> Result<Vec<T>, WireError>
         ensures { Takes (λ vs ts. AllZip (T.means self.now.levels) vs ts.items)
+            (OneOf (T.faults self.now.levels))
             (values_at (unsigned_abs number) (fields_view self.now.list.items)) result }
     {
         let wanted = number.unsigned_abs();
@@ -192,7 +206,7 @@ impl<'b> Fields<'b> {
 
     /// The numbers of a list, of which each value holds one or, packed, several.
     pub fn int32s(&self, alloc: Global, number: i32) -> Result<Vec<i32>, WireError>
-        ensures { Takes (λ vs zs. AreNumbers vs zs.items)
+        ensures { Takes (λ vs zs. AreNumbers vs zs.items) (OneOf NumbersFault)
             (values_at (unsigned_abs number) (fields_view self.now.list.items)) result }
     {
         let wanted = number.unsigned_abs();
@@ -214,7 +228,7 @@ impl<'b> Fields<'b> {
         levels: u32,
     ) -> Result<Option<Fields<'b>>, WireError>
         ensures read { TakesBy (option_map (λ f. fields_view f.list.items))
-            (AreJoined self.now.levels levels)
+            (AreJoined self.now.levels levels) (OneOf (PartFault self.now.levels levels))
             (values_at (unsigned_abs number) (fields_view self.now.list.items)) result }
         ensures levels { IfOk result (λ o. IfSome o (λ f. f.levels ≡ levels)) }
     {
@@ -236,7 +250,7 @@ impl<'b> Fields<'b> {
 
     /// A record, of which further ones are merged into the first.
     pub fn merged<R: ReadRecord>(&self, alloc: Global, number: i32) -> Result<Option<R>, WireError>
-        ensures { Takes (IsMerged R.facts self.now.levels)
+        ensures { Takes (IsMerged R.facts self.now.levels) (MergedFault R.faults self.now.levels)
             (values_at (unsigned_abs number) (fields_view self.now.list.items)) result }
     {
         match self.joined(alloc, number, self.levels.saturating_sub(1))? {
@@ -247,7 +261,7 @@ impl<'b> Fields<'b> {
 
     /// The payloads of a field, joined.
     pub fn joined_bytes(&self, alloc: Global, number: i32) -> Result<Vec<u8>, WireError>
-        ensures { Takes (λ vs bytes. ArePayloads vs bytes.items)
+        ensures { Takes (λ vs bytes. ArePayloads vs bytes.items) (OneOf PayloadFault)
             (values_at (unsigned_abs number) (fields_view self.now.list.items)) result }
     {
         let wanted = number.unsigned_abs();
@@ -263,7 +277,7 @@ impl<'b> Fields<'b> {
 
 impl<'b> RawValue<'b> {
     fn varint(self) -> Result<u64, WireError>
-        ensures { Takes IsNumber (value_view self.entry) result }
+        ensures { Takes IsNumber NumberFault (value_view self.entry) result }
     {
         match self {
             RawValue::Varint(n) => Ok(n),
@@ -272,7 +286,7 @@ impl<'b> RawValue<'b> {
     }
 
     fn payload(self) -> Result<&'b [u8], WireError>
-        ensures { TakesBy (λ p. p.now) IsPayload (value_view self.entry) result }
+        ensures { TakesBy (λ p. p.now) IsPayload PayloadFault (value_view self.entry) result }
     {
         match self {
             RawValue::Payload(payload) => Ok(payload),
@@ -282,7 +296,8 @@ impl<'b> RawValue<'b> {
 
     /// The payload of a record. `TooDeep` where none may lie below.
     pub fn record(self, levels: u32) -> Result<&'b [u8], WireError>
-        ensures { TakesBy (λ p. p.now) (HasPayload levels) (value_view self.entry) result }
+        ensures { TakesBy (λ p. p.now) (HasPayload levels) (PlaceFault levels)
+            (value_view self.entry) result }
     {
         let payload = self.payload()?;
         if levels == 0 {
@@ -301,7 +316,7 @@ fn int32_of(n: u64) -> i32
 
 /// The list with the number behind it that a value holds, or all those of a packed one.
 fn with_numbers(numbers: Vec<i32>, value: RawValue<'_>) -> Result<Vec<i32>, WireError>
-    ensures { MoreNumbers IsNumbers numbers.items (value_view value.entry) result }
+    ensures { MoreNumbers IsNumbers NumbersFault numbers.items (value_view value.entry) result }
 {
     let mut list = numbers;
     match value {
@@ -316,7 +331,7 @@ fn with_numbers(numbers: Vec<i32>, value: RawValue<'_>) -> Result<Vec<i32>, Wire
 
 /// The list with the numbers behind it that a packed list holds.
 fn with_packed(numbers: Vec<i32>, payload: &[u8]) -> Result<Vec<i32>, WireError>
-    ensures { MoreNumbers SpellsNumbers numbers.items payload.now result }
+    ensures { MoreNumbers SpellsNumbers PackedFault numbers.items payload.now result }
 {
     let mut list = numbers;
     let mut left = payload;
@@ -331,6 +346,8 @@ fn with_packed(numbers: Vec<i32>, payload: &[u8]) -> Result<Vec<i32>, WireError>
 impl FieldValue for String {
     ghost means = { λ levels v t. IsText v (string_bytes t) };
 
+    ghost faults = { λ levels v e. TextFault v e };
+
     fn from_value(alloc: Global, value: RawValue<'_>, _levels: u32) -> Result<String, WireError> {
         match str::from_utf8(value.payload()?) {
             Ok(text) => Ok(String::from_str(alloc, text)?),
@@ -342,6 +359,8 @@ impl FieldValue for String {
 impl FieldValue for Vec<u8> {
     ghost means = { λ levels v b. IsPayload v b.items };
 
+    ghost faults = { λ levels v e. PayloadFault v e };
+
     fn from_value(alloc: Global, value: RawValue<'_>, _levels: u32) -> Result<Vec<u8>, WireError> {
         Ok(value.payload()?.to_vec(alloc)?)
     }
@@ -351,6 +370,8 @@ impl FieldValue for Vec<u8> {
 impl FieldValue for i32 {
     ghost means = { λ levels v z. IsInt32 v z };
 
+    ghost faults = { λ levels v e. NumberFault v e };
+
     fn from_value(_alloc: Global, value: RawValue<'_>, _levels: u32) -> Result<i32, WireError> {
         Ok(int32_of(value.varint()?))
     }
@@ -359,6 +380,8 @@ impl FieldValue for i32 {
 impl FieldValue for u64 {
     ghost means = { λ levels v n. IsNumber v n };
 
+    ghost faults = { λ levels v e. NumberFault v e };
+
     fn from_value(_alloc: Global, value: RawValue<'_>, _levels: u32) -> Result<u64, WireError> {
         value.varint()
     }
@@ -366,6 +389,8 @@ impl FieldValue for u64 {
 
 impl FieldValue for i64 {
     ghost means = { λ levels v z. IsInt64 v z };
+
+    ghost faults = { λ levels v e. NumberFault v e };
 
     fn from_value(_alloc: Global, value: RawValue<'_>, _levels: u32) -> Result<i64, WireError> {
         Ok(value.varint()?.cast_signed())
@@ -376,6 +401,8 @@ impl FieldValue for i64 {
 impl FieldValue for bool {
     ghost means = { λ levels v b. IsBool v b };
 
+    ghost faults = { λ levels v e. NumberFault v e };
+
     fn from_value(_alloc: Global, value: RawValue<'_>, _levels: u32) -> Result<bool, WireError> {
         Ok(value.varint()? != 0)
     }
@@ -383,6 +410,8 @@ impl FieldValue for bool {
 
 impl FieldValue for DoubleValue {
     ghost means = { λ levels v d. IsDouble v d };
+
+    ghost faults = { λ levels v e. DoubleFault v e };
 
     fn from_value(
         _alloc: Global,
@@ -398,6 +427,8 @@ impl FieldValue for DoubleValue {
 
 impl<R: ReadRecord> FieldValue for R {
     ghost means = { λ levels v r. IsRecord R.facts levels v r };
+
+    ghost faults = { λ levels v e. RecordFault R.faults levels v e };
 
     fn from_value(alloc: Global, value: RawValue<'_>, levels: u32) -> Result<R, WireError> {
         let payload = value.record(levels)?;

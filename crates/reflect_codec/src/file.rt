@@ -1,5 +1,6 @@
 //! Files and sets of files.
 ghost use Rattle.reflect_codec.specs.Written.{set_bytes, file_bytes};
+ghost use Rattle.reflect_codec.specs.Faults.{InSet, InFile};
 ghost use Rattle.reflect_codec.specs.Meaning.{IsFile, IsSet};
 
 use crate::backward::{Backward, WriteRecord};
@@ -12,6 +13,8 @@ use std::alloc::{AllocError, Global};
 
 impl ReadRecord for FileDescriptorSet {
     ghost facts = { λ levels fs r. IsSet levels fs r };
+
+    ghost faults = { λ levels fs e. InSet levels fs e };
 
     fn from_fields(alloc: Global, fields: &Fields<'_>) -> Result<FileDescriptorSet, WireError> {
         Ok(FileDescriptorSet {
@@ -31,6 +34,8 @@ impl WriteRecord for FileDescriptorSet {
 
 impl ReadRecord for FileDescriptorProto {
     ghost facts = { λ levels fs r. IsFile levels fs r };
+
+    ghost faults = { λ levels fs e. InFile levels fs e };
 
     fn from_fields(alloc: Global, fields: &Fields<'_>) -> Result<FileDescriptorProto, WireError> {
         Ok(FileDescriptorProto {

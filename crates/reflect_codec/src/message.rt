@@ -7,6 +7,7 @@ ghost use Rattle.reflect_codec.specs.Held.{held};
 ghost use Rattle.reflect_codec.specs.Written.{extension_range_bytes, reserved_range_bytes, message_bytes};
 ghost use Rattle.reflect_codec.specs.Raw.{fields_view, value_view};
 ghost use Rattle.reflect_codec.specs.Reading.{Takes, values_at};
+ghost use Rattle.reflect_codec.specs.Faults.{OneOf, MessageFault, InLevel, InExtensionRange, InRange};
 ghost use Rattle.reflect_codec.specs.Meaning.{IsExtensionRange, IsLevel, IsMessage, IsReservedRange};
 
 use crate::backward::{Backward, WriteRecord};
@@ -24,6 +25,7 @@ pub fn message_types(
     number: i32,
 ) -> Result<Vec<DescriptorProto>, WireError>
     ensures { Takes (λ vs ms. AllZip (IsMessage fields.now.levels) vs ms.items)
+        (OneOf (MessageFault fields.now.levels))
         (values_at (unsigned_abs number) (fields_view fields.now.list.items)) result }
 {
     let wanted = number.unsigned_abs();
@@ -43,7 +45,7 @@ fn message_type(
     value: RawValue<'_>,
     levels: u32,
 ) -> Result<DescriptorProto, WireError>
-    ensures { Takes (IsMessage levels) (value_view value.entry) result }
+    ensures { Takes (IsMessage levels) (MessageFault levels) (value_view value.entry) result }
 {
     let payload = value.record(levels)?;
     let fields = Fields::read(alloc, payload, levels - 1)?;
@@ -53,7 +55,8 @@ fn message_type(
 #[cycle(read)]
 fn message_from_fields(alloc: Global, fields: &Fields<'_>) -> Result<DescriptorProto, WireError>
     ensures { Takes (λ fs m. IsLevel (IsMessage fields.now.levels) fields.now.levels fs
-        (out-DescriptorProto m)) (fields_view fields.now.list.items) result }
+        (out-DescriptorProto m)) (InLevel (MessageFault fields.now.levels) fields.now.levels)
+        (fields_view fields.now.list.items) result }
 {
     Ok(DescriptorProto {
         name: fields.last(alloc, tag::message::NAME)?,
@@ -109,6 +112,8 @@ fn put_message_type(message: &DescriptorProto, out: &mut Backward) -> Result<(),
 impl ReadRecord for ExtensionRange {
     ghost facts = { λ levels fs r. IsExtensionRange levels fs r };
 
+    ghost faults = { λ levels fs e. InExtensionRange levels fs e };
+
     fn from_fields(alloc: Global, fields: &Fields<'_>) -> Result<ExtensionRange, WireError> {
         Ok(ExtensionRange {
             start: fields.last(alloc, tag::extension_range::START)?,
@@ -131,6 +136,8 @@ impl WriteRecord for ExtensionRange {
 
 impl ReadRecord for ReservedRange {
     ghost facts = { λ levels fs r. IsReservedRange levels fs r };
+
+    ghost faults = { λ levels fs e. InRange levels fs e };
 
     fn from_fields(alloc: Global, fields: &Fields<'_>) -> Result<ReservedRange, WireError> {
         Ok(ReservedRange {

@@ -2,6 +2,7 @@
 ghost use Rattle.std.specs.Prelude.{◌≡◌, unsigned_abs};
 ghost use Rattle.reflect_codec.specs.Raw.{fields_view};
 ghost use Rattle.reflect_codec.specs.Reading.{Takes, IsLastIf, values_at};
+ghost use Rattle.reflect_codec.specs.Faults.{OneIf, OptionsFault, InNamePart, InUninterpretedOption};
 ghost use Rattle.reflect_codec.specs.Meaning.{AreOptions, IsNamePart, IsUninterpretedOption, is_enum, is_field, is_message};
 
 use crate::codec::MAX_LEVELS;
@@ -49,7 +50,7 @@ impl<'b> Fields<'b> {
         number: i32,
         of: OptionsOf,
     ) -> Result<Option<Options>, WireError>
-        ensures { Takes (AreOptions of self.now.levels)
+        ensures { Takes (AreOptions of self.now.levels) (OptionsFault of self.now.levels)
             (values_at (unsigned_abs number) (fields_view self.now.list.items)) result }
     {
         match self.joined(alloc, number, MAX_LEVELS)? {
@@ -72,6 +73,7 @@ impl<'b> Fields<'b> {
         number: i32,
     ) -> Result<Option<T>, WireError>
         ensures { Takes (IsLastIf wanted (T.means self.now.levels))
+            (OneIf wanted (T.faults self.now.levels))
             (values_at (unsigned_abs number) (fields_view self.now.list.items)) result }
     {
         if wanted {
@@ -84,6 +86,8 @@ impl<'b> Fields<'b> {
 
 impl ReadRecord for UninterpretedOption {
     ghost facts = { λ levels fs r. IsUninterpretedOption levels fs r };
+
+    ghost faults = { λ levels fs e. InUninterpretedOption levels fs e };
 
     fn from_fields(alloc: Global, fields: &Fields<'_>) -> Result<UninterpretedOption, WireError> {
         Ok(UninterpretedOption {
@@ -100,6 +104,8 @@ impl ReadRecord for UninterpretedOption {
 
 impl ReadRecord for NamePart {
     ghost facts = { λ levels fs r. IsNamePart levels fs r };
+
+    ghost faults = { λ levels fs e. InNamePart levels fs e };
 
     fn from_fields(alloc: Global, fields: &Fields<'_>) -> Result<NamePart, WireError> {
         let name_part: Option<String> = fields.last(alloc, tag::name_part::NAME_PART)?;

@@ -1,5 +1,6 @@
 //! Services and their methods.
 ghost use Rattle.reflect_codec.specs.Written.{service_bytes, method_bytes};
+ghost use Rattle.reflect_codec.specs.Faults.{InMethod, InService};
 ghost use Rattle.reflect_codec.specs.Meaning.{IsMethod, IsService};
 
 use crate::backward::{Backward, WriteRecord};
@@ -11,6 +12,8 @@ use std::alloc::{AllocError, Global};
 
 impl ReadRecord for ServiceDescriptorProto {
     ghost facts = { λ levels fs r. IsService levels fs r };
+
+    ghost faults = { λ levels fs e. InService levels fs e };
 
     fn from_fields(
         alloc: Global,
@@ -37,6 +40,8 @@ impl WriteRecord for ServiceDescriptorProto {
 
 impl ReadRecord for MethodDescriptorProto {
     ghost facts = { λ levels fs r. IsMethod levels fs r };
+
+    ghost faults = { λ levels fs e. InMethod levels fs e };
 
     fn from_fields(alloc: Global, fields: &Fields<'_>) -> Result<MethodDescriptorProto, WireError> {
         Ok(MethodDescriptorProto {

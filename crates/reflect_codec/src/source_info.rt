@@ -1,5 +1,6 @@
 //! Where declarations stand in their source.
 ghost use Rattle.reflect_codec.specs.Written.{source_info_bytes, location_bytes};
+ghost use Rattle.reflect_codec.specs.Faults.{InLocation, InSourceInfo};
 ghost use Rattle.reflect_codec.specs.Meaning.{IsLocation, IsSourceInfo};
 
 use crate::backward::{Backward, WriteRecord};
@@ -10,6 +11,8 @@ use std::alloc::{AllocError, Global};
 
 impl ReadRecord for SourceCodeInfo {
     ghost facts = { λ levels fs r. IsSourceInfo levels fs r };
+
+    ghost faults = { λ levels fs e. InSourceInfo levels fs e };
 
     fn from_fields(alloc: Global, fields: &Fields<'_>) -> Result<SourceCodeInfo, WireError> {
         Ok(SourceCodeInfo {
@@ -29,6 +32,8 @@ impl WriteRecord for SourceCodeInfo {
 
 impl ReadRecord for Location {
     ghost facts = { λ levels fs r. IsLocation levels fs r };
+
+    ghost faults = { λ levels fs e. InLocation levels fs e };
 
     fn from_fields(alloc: Global, fields: &Fields<'_>) -> Result<Location, WireError> {
         Ok(Location {

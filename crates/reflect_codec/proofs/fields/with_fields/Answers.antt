@@ -1,14 +1,12 @@
 use Rattle.std.proofs.Common.{◌≡◌, [], ◌++◌, refl, sym, ap, ◌∙◌, subst, append-nil, arith}
 use Rattle.std.proofs.lemmas.Grind.{common_steps}
 use Rattle.std.proofs.lemmas.Result.{err_from_is_err_and}
-use Rattle.reflect_wire.specs.Key.{IsKey}
 use Rattle.reflect_wire.specs.Records.{SpellsRecords, no_records}
-use Rattle.reflect_wire.proofs.Whole.{no_key_no_records, no_value_no_records}
 use Rattle.reflect_codec.specs.declared.fields.RawField.{RawField}
-use Rattle.reflect_codec.specs.Raw.{IsRawValue, fields_view}
-use Rattle.reflect_codec.specs.Reading.{SpellsFields, fields_in, value_of}
-use Rattle.reflect_codec.proofs.Spelled.{one_more, no_raw}
-use Rattle.reflect_codec.proofs.Values.{refused, more_seen}
+use Rattle.reflect_codec.specs.Raw.{fields_view}
+use Rattle.reflect_codec.specs.Reading.{fields_in, value_of}
+use Rattle.reflect_codec.proofs.Spelled.{one_more, no_key_no_fields, no_value_no_fields}
+use Rattle.reflect_codec.proofs.Values.{more_seen}
 use Rattle.reflect_codec.proofs.fields.with_fields.Goals as goal
 
 pub loop-rest-init : goal.loop-rest-init
@@ -19,8 +17,7 @@ returns-in_err-key c =
     let more : c.loop-rest.rest.now ≡ [] → ⊥ = λ e. grind (arith, common_steps) in
     let i = c.loop-rest.invariant in
     let p = err_from_is_err_and c.from_residual.result c.from_residual.ensures.1 in
-    rw (p.1, p.2) (refused IsKey (SpellsFields c.args.levels) c.loop-rest.rest.now c.args.bytes.now c.in_err-key.field-0.0
-    (λ none fs s. no_key_no_records c.args.levels c.args.bytes.now c.loop-rest.rest.now i.0 i.1 more none s.0 s.1) c.in_err-key.ensures.read)
+    rw (p.1, p.2) (no_key_no_fields c.args.levels c.args.bytes.now c.loop-rest.rest.now i.0 i.1 more c.in_err-key.field-0.0 c.in_err-key.ensures.read c.in_err-key.ensures.fault)
 
 pub returns-in_err-value : goal.returns-in_err-value
 returns-in_err-value c =
@@ -28,9 +25,8 @@ returns-in_err-value c =
     let i = c.loop-rest.invariant in
     let r = c.from_residual-in_err-value in
     let p = err_from_is_err_and r.result r.ensures.1 in
-    rw (p.1, p.2) (refused (IsRawValue c.args.levels c.in_ok-key.key) (SpellsFields c.args.levels) c.in_ok-key.behind.now c.args.bytes.now c.in_err-value.field-0.0
-    (λ none fs s. no_value_no_records c.args.levels c.args.bytes.now c.loop-rest.rest.now i.0 i.1 more c.in_ok-key.key c.in_ok-key.behind.now c.in_ok-key.ensures.read
-    (no_raw c.args.levels c.in_ok-key.key c.in_ok-key.behind.now none) s.0 s.1) c.in_err-value.ensures)
+    rw (p.1, p.2) (no_value_no_fields c.args.levels c.args.bytes.now c.loop-rest.rest.now i.0 i.1 more c.in_ok-key.key c.in_ok-key.behind.now c.in_ok-key.ensures.read c.in_err-value.field-0.0
+    c.in_err-value.ensures.read c.in_err-value.ensures.fault)
 
 pub returns : goal.returns
 returns c =
@@ -42,6 +38,6 @@ pub loop-rest-preserved : goal.loop-rest-preserved
 loop-rest-preserved c =
     let f : RawField = record { number = c.in_ok-key.key.number; value = c.in_ok-value.value } in
     let i = c.loop-rest.invariant in
-    let v = c.in_ok-value.ensures in
+    let v = c.in_ok-value.ensures.read in
     let m = one_more c.args.levels c.args.bytes.now c.loop-rest.rest.now c.in_ok-key.behind.now c.in_ok-value.behind.now i.0 c.in_ok-key.key v.0 v.1.0 i.1 c.in_ok-key.ensures.read v.1.1 v.2 in
     (m.0, m.1, ap fields_view c.in_ok-push.ensures.items ∙ more_seen c.loop-rest.list.items f (fields_view c.args.fields.items) (fields_in i.0) (fields_in m.0) (value_of v.1.0) i.2 v.1.2 m.2)

@@ -3,9 +3,10 @@ use Rattle.std.specs.Prelude.{unsigned_abs}
 use Rattle.std.proofs.lemmas.Result.{err_from_is_err_and}
 use Rattle.std.specs.Prelude.{option_map}
 use Rattle.reflect_codec.specs.declared.fields.RawField.{RawField}
+use Rattle.reflect_codec.specs.Faults.{PartFault}
 use Rattle.reflect_codec.specs.Raw.{fields_view}
 use Rattle.reflect_codec.specs.Reading.{IsPart}
-use Rattle.reflect_codec.proofs.Values.{rejects, each_at, each_hit, each_miss, joined-push, none_is_empty, none_seen, blank}
+use Rattle.reflect_codec.proofs.Values.{rejects_at, each_hit, each_miss, joined-push, none_is_empty, none_seen, blank}
 use Rattle.reflect_codec.proofs.fields.Fields.joined.Goals as goal
 use Rattle.reflect_codec.proofs.fields.Fields.joined.Goals.{then-field-wanted+in_ok-with_part, else-field-wanted}
 
@@ -13,8 +14,8 @@ pub returns-in_err-with_part-clause-read : goal.returns-in_err-with_part-clause-
 returns-in_err-with_part-clause-read c =
     let bits : to_z w32 (of_z w32 c.args.number) ≡ c.args.number = search rules in
     let p = err_from_is_err_and c.from_residual.result c.from_residual.ensures.1 in
-    rw (p.1, p.2) (rejects (λ o h. each_at c.unsigned_abs-wanted.result c.deref-field-items.result.now c.loop-field.field-index blank c.loop-field-test.true (unsigned_abs c.args.number) c.args.self.now.list.items
-    (c.unsigned_abs-wanted.ensures.value ∙ ap unsigned_abs bits) c.deref-field-items.ensures.value (IsPart c.args.self.now.levels c.args.levels) h.0 c.if-field-wanted.true h.1) c.in_err-with_part.ensures)
+    rw (p.1, p.2) (rejects_at c.unsigned_abs-wanted.result c.deref-field-items.result.now c.loop-field.field-index blank c.loop-field-test.true (unsigned_abs c.args.number) c.args.self.now.list.items (c.unsigned_abs-wanted.ensures.value ∙ ap unsigned_abs bits) c.deref-field-items.ensures.value
+    c.if-field-wanted.true (IsPart c.args.self.now.levels c.args.levels) (PartFault c.args.self.now.levels c.args.levels) _ _ (λ o h. (h.0, h.1)) c.in_err-with_part.ensures)
 
 pub loop-field-preserved : goal.loop-field-preserved
 loop-field-preserved c =

@@ -4,7 +4,7 @@ use Rattle.std.proofs.lemmas.Result.{err_from_is_err_and}
 use Rattle.std.specs.List.{AllZip}
 use Rattle.reflect_codec.specs.Raw.{fields_view}
 use Rattle.reflect_codec.specs.Reading.{values_at}
-use Rattle.reflect_codec.proofs.Values.{rejects, each_at, each_hit, each_miss, blank}
+use Rattle.reflect_codec.proofs.Values.{rejects_at, each_hit, each_miss, blank}
 use Rattle.reflect_codec.proofs.fields.Fields.list.Goals as goal
 use Rattle.reflect_codec.proofs.fields.Fields.list.Goals.{then-field-wanted+in_ok-from_value+in_ok-push, else-field-wanted}
 
@@ -12,8 +12,8 @@ pub returns-in_err-from_value : goal.returns-in_err-from_value
 returns-in_err-from_value g c =
     let bits : to_z w32 (of_z w32 c.args.number) ≡ c.args.number = search rules in
     let p = err_from_is_err_and c.from_residual-in_err-from_value.result c.from_residual-in_err-from_value.ensures.1 in
-    rw (p.1, p.2) (rejects (λ h each. each_at c.unsigned_abs-wanted.result c.deref-field-items.result.now c.loop-field.field-index blank c.loop-field-test.true (unsigned_abs c.args.number) c.args.self.now.list.items
-    (c.unsigned_abs-wanted.ensures.value ∙ ap unsigned_abs bits) c.deref-field-items.ensures.value (g.T.FieldValue.means c.args.self.now.levels) h.items c.if-field-wanted.true each) c.in_err-from_value.ensures)
+    rw (p.1, p.2) (rejects_at c.unsigned_abs-wanted.result c.deref-field-items.result.now c.loop-field.field-index blank c.loop-field-test.true (unsigned_abs c.args.number) c.args.self.now.list.items (c.unsigned_abs-wanted.ensures.value ∙ ap unsigned_abs bits) c.deref-field-items.ensures.value
+    c.if-field-wanted.true (g.T.FieldValue.means c.args.self.now.levels) (g.T.FieldValue.faults c.args.self.now.levels) _ _ (λ ts each. (ts.items, each)) c.in_err-from_value.ensures)
 
 pub loop-field-preserved : goal.loop-field-preserved
 loop-field-preserved g c =

@@ -1,3 +1,4 @@
+use Rattle.std.proofs.Common.{inl, inr, refl}
 use Rattle.std.proofs.lemmas.Result.{err_from_is_err_and}
 use Rattle.reflect_codec.proofs.Values.{rejects}
 use Rattle.reflect_codec.proofs.service.MethodDescriptorProtoReadRecord.from_fields.Goals as goal
@@ -5,29 +6,29 @@ use Rattle.reflect_codec.proofs.service.MethodDescriptorProtoReadRecord.from_fie
 pub returns-in_err-last : goal.returns-in_err-last
 returns-in_err-last c =
     let p = err_from_is_err_and c.from_residual.result c.from_residual.ensures.1 in
-    rw (p.1, p.2) (rejects (λ r m. (r.name, m.name)) c.in_err-last.ensures)
+    rw (p.1, p.2) (rejects (λ r m. (r.name, m.name)) (λ fault. record { why = inl (1, refl, fault) }) c.in_err-last.ensures)
 
 pub returns-in_err-last-2 : goal.returns-in_err-last-2
 returns-in_err-last-2 c =
     let p = err_from_is_err_and c.from_residual-in_err-last-2.result c.from_residual-in_err-last-2.ensures.1 in
-    rw (p.1, p.2) (rejects (λ r m. (r.input_type, m.input_type)) c.in_err-last-2.ensures)
+    rw (p.1, p.2) (rejects (λ r m. (r.input_type, m.input_type)) (λ fault. record { why = inl (2, refl, fault) }) c.in_err-last-2.ensures)
 
 pub returns-in_err-last-3 : goal.returns-in_err-last-3
 returns-in_err-last-3 c =
     let p = err_from_is_err_and c.from_residual-in_err-last-3.result c.from_residual-in_err-last-3.ensures.1 in
-    rw (p.1, p.2) (rejects (λ r m. (r.output_type, m.output_type)) c.in_err-last-3.ensures)
+    rw (p.1, p.2) (rejects (λ r m. (r.output_type, m.output_type)) (λ fault. record { why = inl (3, refl, fault) }) c.in_err-last-3.ensures)
 
 pub returns-in_err-options : goal.returns-in_err-options
 returns-in_err-options c =
     let p = err_from_is_err_and c.from_residual-in_err-options.result c.from_residual-in_err-options.ensures.1 in
-    rw (p.1, p.2) (rejects (λ r m. (r.options, m.options)) c.in_err-options.ensures)
+    rw (p.1, p.2) (rejects (λ r m. (r.options, m.options)) (λ fault. record { why = inr (inr fault) }) c.in_err-options.ensures)
 
 pub returns-in_err-last-4 : goal.returns-in_err-last-4
 returns-in_err-last-4 c =
     let p = err_from_is_err_and c.from_residual-in_err-last-4.result c.from_residual-in_err-last-4.ensures.1 in
-    rw (p.1, p.2) (rejects (λ r m. (r.client_streaming, m.client_streaming)) c.in_err-last-4.ensures)
+    rw (p.1, p.2) (rejects (λ r m. (r.client_streaming, m.client_streaming)) (λ fault. record { why = inr (inl (5, refl, fault)) }) c.in_err-last-4.ensures)
 
 pub returns-in_err-last-5 : goal.returns-in_err-last-5
 returns-in_err-last-5 c =
     let p = err_from_is_err_and c.from_residual-in_err-last-5.result c.from_residual-in_err-last-5.ensures.1 in
-    rw (p.1, p.2) (rejects (λ r m. (r.server_streaming, m.server_streaming)) c.in_err-last-5.ensures)
+    rw (p.1, p.2) (rejects (λ r m. (r.server_streaming, m.server_streaming)) (λ fault. record { why = inr (inl (6, refl, fault)) }) c.in_err-last-5.ensures)
