@@ -4,12 +4,13 @@ use Rattle.descriptor_records.specs.declared.file.FileDescriptorProto.{FileDescr
 use Rattle.reflect_wire.specs.declared.wire_error.WireError.{WireError}
 use Rattle.reflect_wire.specs.declared.wire_error.WireError.TheVariants as wire
 use Rattle.reflect_codec.specs.Reading.{Rejects}
+use Rattle.reflect_codec.proofs.Values.{true_told}
 use Rattle.reflect_tables.specs.Types.{PoolType}
 use Rattle.reflect_passes.specs.declared.error.DescriptorError.{DescriptorError}
 use Rattle.reflect_build.specs.Refusals.{AreRefused}
 use Rattle.reflect_bytes.specs.declared.pool_ext.PoolError.{PoolError}
 use Rattle.reflect_bytes.specs.declared.pool_ext.PoolError.TheVariants.{Wire, Link, Memory}
-use Rattle.reflect_bytes.specs.Spelled.{of_wire, RecordsRefused, BytesRefused}
+use Rattle.reflect_bytes.specs.Spelled.{of_wire, RecordsRefused, NotSpelled, BytesRefused}
 
 -- a linker's refusal of records is one of files
 pub of_link : (p : PoolType) (files : List FileDescriptorProto) (d : DescriptorError) (e : PoolError) → AreRefused p files d → (e ≡ Memory) ⊎ (e ≡ Link d) → RecordsRefused p files e
@@ -17,19 +18,27 @@ of_link p files d e r (inl m) = rw m tt
 of_link p files d e r (inr l) = rw l r
 
 -- what is refused as records is refused as the bytes that spell them
-pub of_records : (Spelled : List FileDescriptorProto → Type 0) (p : PoolType) (files : List FileDescriptorProto) (e : PoolError) → Spelled files → RecordsRefused p files e → BytesRefused Spelled p e
-of_records Spelled p files (Wire e) s r = absurd r
-of_records Spelled p files (Link e) s r = (files, s, r)
-of_records Spelled p files Memory s r = tt
+pub of_records : (Spelled : List FileDescriptorProto → Type 0) (Fault : WireError → Type 0) (p : PoolType) (files : List FileDescriptorProto) (e : PoolError) → Spelled files → RecordsRefused p files e → BytesRefused Spelled Fault p e
+of_records Spelled Fault p files (Wire e) s r = absurd r
+of_records Spelled Fault p files (Link e) s r = (files, s, r)
+of_records Spelled Fault p files Memory s r = tt
 
--- bytes that are read as nothing spell no files
-pub of_bytes : {X : Type 0} (R : List ℕ → X → Type 0) (files_of : X → List FileDescriptorProto) (p : PoolType) (bytes : List ℕ) (e : WireError) → Rejects R bytes e → BytesRefused (λ files. (x : X) × R bytes x × (files_of x ≡ files)) p (of_wire e)
-of_bytes R files_of p bytes wire.Memory h = tt
-of_bytes R files_of p bytes wire.Truncated h = λ files s. h.none (λ q. cc q) s.0 s.1
-of_bytes R files_of p bytes wire.BadVarint h = λ files s. h.none (λ q. cc q) s.0 s.1
-of_bytes R files_of p bytes wire.BadKey h = λ files s. h.none (λ q. cc q) s.0 s.1
-of_bytes R files_of p bytes wire.BadWireType h = λ files s. h.none (λ q. cc q) s.0 s.1
-of_bytes R files_of p bytes wire.EndGroupMismatch h = λ files s. h.none (λ q. cc q) s.0 s.1
-of_bytes R files_of p bytes wire.TooDeep h = λ files s. h.none (λ q. cc q) s.0 s.1
-of_bytes R files_of p bytes wire.BadUtf8 h = λ files s. h.none (λ q. cc q) s.0 s.1
-of_bytes R files_of p bytes wire.TooLong h = λ files s. h.none (λ q. cc q) s.0 s.1
+module _ {X : Type 0} (R : List ℕ → X → Type 0) (F : List ℕ → WireError → Type 0) (files_of : X → List FileDescriptorProto) (bytes : List ℕ) where
+  -- these are the files of what the bytes are read as
+  abbrev Files : List FileDescriptorProto → Type 0
+  Files files = (x : X) × R bytes x × (files_of x ≡ files)
+
+  -- bytes that are read as nothing spell no files, and have the fault that is told
+  pub unspelled : (e : WireError) → (e ≡ wire.Memory → ⊥) → Rejects R F bytes e → NotSpelled Files (F bytes) e
+  unspelled e more h = ((λ files s. h.none more s.0 s.1), true_told e more h.told)
+
+  pub of_bytes : (p : PoolType) (e : WireError) → Rejects R F bytes e → BytesRefused Files (F bytes) p (of_wire e)
+  of_bytes p wire.Memory h = tt
+  of_bytes p wire.Truncated h = unspelled wire.Truncated (λ q. cc q) h
+  of_bytes p wire.BadVarint h = unspelled wire.BadVarint (λ q. cc q) h
+  of_bytes p wire.BadKey h = unspelled wire.BadKey (λ q. cc q) h
+  of_bytes p wire.BadWireType h = unspelled wire.BadWireType (λ q. cc q) h
+  of_bytes p wire.EndGroupMismatch h = unspelled wire.EndGroupMismatch (λ q. cc q) h
+  of_bytes p wire.TooDeep h = unspelled wire.TooDeep (λ q. cc q) h
+  of_bytes p wire.BadUtf8 h = unspelled wire.BadUtf8 (λ q. cc q) h
+  of_bytes p wire.TooLong h = unspelled wire.TooLong (λ q. cc q) h

@@ -40,10 +40,16 @@ abbrev pub BytesLinked : (List FileDescriptorProto → Type 0) → PoolType → 
 BytesLinked Spelled p new = (files : List FileDescriptorProto) × Spelled files
     × RecordsLinked p files new
 
+-- bytes spell no files, and what is told of them is so
+abbrev pub NotSpelled : (List FileDescriptorProto → Type 0) → (WireError → Type 0) → WireError
+    → Type 0
+NotSpelled Spelled Fault e = ((files : List FileDescriptorProto) → Spelled files → ⊥) × Fault e
+
 -- bytes are refused where they spell no files, or where the files that they spell do not fit
 -- together
-abbrev pub BytesRefused : (List FileDescriptorProto → Type 0) → PoolType → PoolError → Type 0
-BytesRefused Spelled p (Wire e) = (files : List FileDescriptorProto) → Spelled files → ⊥
-BytesRefused Spelled p (Link e) = (files : List FileDescriptorProto) × Spelled files
+abbrev pub BytesRefused : (List FileDescriptorProto → Type 0) → (WireError → Type 0) → PoolType
+    → PoolError → Type 0
+BytesRefused Spelled Fault p (Wire e) = NotSpelled Spelled Fault e
+BytesRefused Spelled Fault p (Link e) = (files : List FileDescriptorProto) × Spelled files
     × AreRefused p files e
-BytesRefused Spelled p Memory = Unit {0}
+BytesRefused Spelled Fault p Memory = Unit {0}

@@ -1,6 +1,7 @@
 //! Files for a pool, from descriptor records and from the bytes of descriptor sets.
 
 ghost use Rattle.std.specs.Prelude.{◌≡◌, ◌⊎◌, ◌∷◌, [], Some, IfOk, OnOk, OnErr, IfErr};
+ghost use Rattle.reflect_codec.specs.Faults.{FileBytesFault, SetBytesFault};
 ghost use Rattle.reflect_tables.specs.Types.{PoolType};
 ghost use Rattle.reflect_pool.specs.Linked.{empty_pool};
 ghost use Rattle.reflect_bytes.specs.Texts.{said};
@@ -76,8 +77,8 @@ impl<T: Drop> From<AllocFailed<T>> for PoolError {
 }
 
 /// Calls that link files into a pool. They read no options. Files whose names the pool has are
-/// passed over, and a refusal leaves the pool as it was: `Wire` where bytes spell no such files,
-/// `Link` with exactly the faults of the first pass that finds any.
+/// passed over, and a refusal leaves the pool as it was: `Wire` where bytes spell no such files, with
+/// what is so of them, `Link` with exactly the faults of the first pass that finds any.
 pub trait PoolExt: Sized {
     /// What the pool holds.
     ghost holds: { Self → PoolType };
@@ -90,7 +91,8 @@ pub trait PoolExt: Sized {
     /// A pool of the files of a set, from the set's bytes.
     fn decode(alloc: Global, bytes: &[u8]) -> Result<Self, PoolError>
         ensures linked { IfOk result (λ p. BytesLinked (SpellsSet bytes.now) empty_pool (holds p)) }
-        ensures err { IfErr result (BytesRefused (SpellsSet bytes.now) empty_pool) };
+        ensures err { IfErr result (BytesRefused (SpellsSet bytes.now) (SetBytesFault bytes.now)
+            empty_pool) };
 
     /// Adds the set's files as one batch.
     fn add_file_descriptor_set(
@@ -128,14 +130,16 @@ pub trait PoolExt: Sized {
         ensures unchanged { OnErr result (self.new ≡ self.old) }
         ensures linked { OnOk result (BytesLinked (SpellsFile bytes.now) (holds self.old)
             (holds self.new)) }
-        ensures err { IfErr result (BytesRefused (SpellsFile bytes.now) (holds self.old)) };
+        ensures err { IfErr result (BytesRefused (SpellsFile bytes.now) (FileBytesFault bytes.now)
+            (holds self.old)) };
 
     /// Adds the files of a set as one batch, from the set's bytes.
     fn decode_file_descriptor_set(&mut self, alloc: Global, bytes: &[u8]) -> Result<(), PoolError>
         ensures unchanged { OnErr result (self.new ≡ self.old) }
         ensures linked { OnOk result (BytesLinked (SpellsSet bytes.now) (holds self.old)
             (holds self.new)) }
-        ensures err { IfErr result (BytesRefused (SpellsSet bytes.now) (holds self.old)) };
+        ensures err { IfErr result (BytesRefused (SpellsSet bytes.now) (SetBytesFault bytes.now)
+            (holds self.old)) };
 }
 
 impl PoolExt for DescriptorPool {

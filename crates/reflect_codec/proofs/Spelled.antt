@@ -1,6 +1,6 @@
 -- One record, or one number, more behind those that were read.
 use Rattle.std.proofs.Common.{◌≡◌, inl, inr, ℕ, ℤ, List, [], ◌∷◌, ◌++◌, refl, sym, ap, ◌∙◌, subst, append-nil, append_assoc}
-use Rattle.reflect_wire.specs.Faults.{KeyFault, ValueFault, Tells}
+use Rattle.reflect_wire.specs.Faults.{VarintFault, KeyFault, ValueFault, Tells}
 use Rattle.reflect_wire.specs.Key.{IsKey}
 use Rattle.reflect_wire.specs.Reads.{Fronts, NoFront, Refuses}
 use Rattle.reflect_wire.specs.Records.{Payload, Records, no_records, more_records, key_of, wire_of, SpellsPayload, SpellsRecords, IsValue}
@@ -10,7 +10,7 @@ use Rattle.reflect_wire.specs.declared.wire_key.WireKey.{WireKey}
 use Rattle.reflect_wire.proofs.Faulty.{tells_fault}
 use Rattle.reflect_wire.proofs.Varints.{one_form}
 use Rattle.reflect_wire.proofs.Whole.{no_key_no_records, no_value_no_records}
-use Rattle.reflect_codec.specs.Faults.{BytesFault}
+use Rattle.reflect_codec.specs.Faults.{BytesFault, PackedFault}
 use Rattle.reflect_codec.specs.Raw.{IsRawValue}
 use Rattle.reflect_codec.specs.Reading.{Field, value_of, fields_in, int32_of, SpellsFields, SpellsNumbers, Rejects}
 use Rattle.reflect_codec.proofs.Values.{refused}
@@ -69,9 +69,18 @@ module _ (left front rest : List ℕ) (n : ℕ) (h : IsVarint front n) (e : left
       (zs, subst (λ r. SpellsNumbers r zs) (sym one.2) s.5)
 
 -- where nothing is a number, nothing is a list of numbers but at the end
-pub no_numbers : (left : List ℕ) → (left ≡ [] → ⊥) → NoFront IsVarint left → (zs : List ℤ) → SpellsNumbers left zs → ⊥
+no_numbers : (left : List ℕ) → (left ≡ [] → ⊥) → NoFront IsVarint left → (zs : List ℤ) → SpellsNumbers left zs → ⊥
 no_numbers left more none [] s = more s
 no_numbers left more none (z ∷ zs) s = none s.0 s.1 s.2 s.3 s.6
+
+-- behind some numbers stands no further one
+module _ (bytes left : List ℕ) (done : List ℤ) (found : Fronts SpellsNumbers bytes done left) (behind : (zs : List ℤ) → SpellsNumbers bytes zs → (ys : List ℤ) × SpellsNumbers left ys) (more : left ≡ [] → ⊥) where
+  without_number : NoFront IsVarint left → (zs : List ℤ) → SpellsNumbers bytes zs → ⊥
+  without_number none zs s = let b = behind zs s in no_numbers left more none b.0 b.1
+
+  pub no_more_numbers : (e : WireError) → Refuses IsVarint left e → VarintFault 10 left e → Rejects SpellsNumbers PackedFault bytes e
+  no_more_numbers e h fault = refused IsVarint (VarintFault 10) SpellsNumbers PackedFault left bytes e without_number
+      (λ none told. record { none = without_number none; why = (done, left, found, told) }) h (tells_fault (VarintFault 10) left e fault)
 
 no_raw : (levels : ℕ) (key : WireKey) (bytes : List ℕ) → NoFront (IsRawValue levels key) bytes → NoFront (IsValue levels key) bytes
 no_raw levels key bytes none front more p h e = none front more (value_of p) (p, h, refl) e

@@ -1,5 +1,5 @@
--- Why bytes are refused as a descriptor record: what the error says of them is so, at whatever depth
--- it stands. Of several faults any one may be told.
+-- Why bytes are refused as a descriptor record: what the error says of them is so, at whatever
+-- depth it stands. Of several faults any one may be told.
 use Rattle.std.specs.Prelude.{◌≡◌, ◌⊎◌, ℕ, zero, suc, ℤ, ◌-◌, ◌==◌, Bool, true, false, List, [], ◌∷◌, Some}
 use Rattle.std.specs.List.{Any, list_any}
 use Rattle.std.specs.Str.{IsUtf8}
@@ -49,10 +49,11 @@ abbrev pub TextFault : Value → WireError → Type 0
 TextFault v e = PayloadFault v e
     ⊎ ((bytes : List ℕ) × IsPayload v bytes × (IsUtf8 bytes → ⊥) × (e ≡ BadUtf8))
 
--- behind some numbers of a packed list stands none
-abbrev pub PackedFault : List ℕ → WireError → Type 0
-PackedFault bytes e = (zs : List ℤ) × (rest : List ℕ) × Fronts SpellsNumbers bytes zs rest
-    × (rest ≡ [] → ⊥) × VarintFault 10 rest e
+-- the bytes of a packed list are no numbers: behind some of them stands none, and this is why
+pub record PackedFault (bytes : List ℕ) (e : WireError) : Type 0 where
+  pub none : (zs : List ℤ) → SpellsNumbers bytes zs → ⊥
+  pub why : (zs : List ℤ) × (rest : List ℕ) × Fronts SpellsNumbers bytes zs rest
+      × VarintFault 10 rest e
 
 abbrev pub NumbersFault : Value → WireError → Type 0
 NumbersFault (number n) e = ⊥
@@ -172,10 +173,10 @@ pub record InSet (levels : ℕ) (fs : List Field) (e : WireError) : Type 0 where
   pub why : InFields (RecordFault InFile levels) (1 ∷ []) fs e
 
 -- the bytes of a file, and of a set: they are no records, or their fields are refused
-abbrev pub FileFault : List ℕ → WireError → Type 0
-FileFault bytes e = BytesFault 100 bytes e
+abbrev pub FileBytesFault : List ℕ → WireError → Type 0
+FileBytesFault bytes e = BytesFault 100 bytes e
     ⊎ ((fs : List Field) × SpellsFields 100 bytes fs × InFile 100 fs e)
 
-abbrev pub FilesFault : List ℕ → WireError → Type 0
-FilesFault bytes e = BytesFault 100 bytes e
+abbrev pub SetBytesFault : List ℕ → WireError → Type 0
+SetBytesFault bytes e = BytesFault 100 bytes e
     ⊎ ((fs : List Field) × SpellsFields 100 bytes fs × InSet 100 fs e)

@@ -1,7 +1,7 @@
 //! Files and sets, and their bytes.
 ghost use Rattle.std.specs.Prelude.{◌≡◌, ◌++◌, IfErr, OnErr, OnOk};
 ghost use Rattle.reflect_wire.specs.declared.wire_error.WireError.TheVariants.{Memory};
-ghost use Rattle.reflect_codec.specs.Faults.{FileFault, FilesFault};
+ghost use Rattle.reflect_codec.specs.Faults.{FileBytesFault, SetBytesFault};
 ghost use Rattle.reflect_codec.specs.Meaning.{IsFileBytes, IsSetBytes};
 ghost use Rattle.reflect_codec.specs.Reading.{Takes};
 ghost use Rattle.reflect_codec.specs.Written.{file_bytes, set_bytes};
@@ -20,9 +20,10 @@ pub const MAX_LEVELS: u32 = 100;
 /// Lists of numbers are read packed and unpacked, unknown fields outside options are dropped, and
 /// the bytes of options are kept as they came. Refused where the bytes are no records of at most
 /// 100 levels (those in an options record counted by themselves), where a known field has another
-/// wire type (`BadWireType`), and where a text is not UTF-8.
+/// wire type (`BadWireType`), and where a text is not UTF-8. But for want of memory a refusal tells
+/// what is so of the bytes; which of several faults it tells is left open.
 pub fn decode_file(alloc: Global, bytes: &[u8]) -> Result<FileDescriptorProto, WireError>
-    ensures { Takes IsFileBytes FileFault bytes.now result }
+    ensures { Takes IsFileBytes FileBytesFault bytes.now result }
 {
     let fields = Fields::read(alloc, bytes, MAX_LEVELS)?;
     FileDescriptorProto::from_fields(alloc, &fields)
@@ -30,7 +31,7 @@ pub fn decode_file(alloc: Global, bytes: &[u8]) -> Result<FileDescriptorProto, W
 
 /// The descriptor set that the bytes spell, read and refused as `decode_file` says.
 pub fn decode_set(alloc: Global, bytes: &[u8]) -> Result<FileDescriptorSet, WireError>
-    ensures { Takes IsSetBytes FilesFault bytes.now result }
+    ensures { Takes IsSetBytes SetBytesFault bytes.now result }
 {
     let fields = Fields::read(alloc, bytes, MAX_LEVELS)?;
     FileDescriptorSet::from_fields(alloc, &fields)

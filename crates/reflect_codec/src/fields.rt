@@ -113,8 +113,8 @@ fn with_fields<'b>(
     bytes: &'b [u8],
     levels: u32,
 ) -> Result<Vec<RawField<'b>>, WireError>
-    ensures { MoreFields (SpellsFields levels) (BytesFault levels) (fields_view fields.entry.items)
-        bytes.now result }
+    ensures { MoreFields (SpellsFields levels) (BytesFault levels)
+        (fields_view fields.entry.items) bytes.now result }
 {
     let mut list = fields;
     let mut rest = bytes;

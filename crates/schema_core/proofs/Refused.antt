@@ -7,6 +7,7 @@ use Rattle.std.proofs.lemmas.Option.{slice_get-map, slice_get-get_or}
 use Rattle.descriptor_records.specs.declared.file.FileDescriptorProto.{FileDescriptorProto}
 use Rattle.reflect_wire.specs.declared.wire_error.WireError.{WireError}
 use Rattle.reflect_wire.specs.declared.wire_error.WireError.TheVariants as wire
+use Rattle.reflect_codec.specs.Faults.{SetBytesFault}
 use Rattle.reflect_codec.specs.Reading.{Rejects}
 use Rattle.reflect_codec.specs.Meaning.{IsSetBytes}
 use Rattle.protox_parse.specs.Answers.{IsAnswered}
@@ -18,6 +19,7 @@ use Rattle.reflect_names.specs.Faults.{Place, place_of}
 use Rattle.reflect_passes.specs.declared.error.DescriptorError.{DescriptorError}
 use Rattle.reflect_build.specs.Refusals.{AreRefused}
 use Rattle.reflect_bytes.specs.Spelled.{SpellsSet}
+use Rattle.reflect_bytes.proofs.Refused.{unspelled}
 use Rattle.reflect_format.specs.Truth.{TrueOf}
 use Rattle.text_error.specs.declared.error.ParseError as text
 use Rattle.text_error.specs.declared.error.ParseErrorKind.{ParseErrorKind}
@@ -32,7 +34,7 @@ use Rattle.reflect_decode.specs.Spelled.{TellsWhy}
 use Rattle.reflect_pool.specs.declared.message.MessageDescriptor.{MessageDescriptor}
 use Rattle.schema_core.specs.Payloads.{IsType}
 use Rattle.schema_core.specs.Serving.{IsPayload, PayloadRefused, of_schema}
-use Rattle.schema_core.specs.Refusals.{of_source, of_wire, of_text, IsKnown, IsNoText, BytesRefused, TextRefused, FilesFit, FilesRefused, sources_of, IsFileOf, AreFilesOf, SourcesLinked, SourcesRefused, SetRefused}
+use Rattle.schema_core.specs.Refusals.{of_source, of_wire, of_text, IsKnown, IsNoText, BytesRefused, TextRefused, IsNoSet, FilesFit, FilesRefused, sources_of, IsFileOf, AreFilesOf, SourcesLinked, SourcesRefused, SetRefused}
 
 -- a linker's refusal is one of files
 pub of_link : (p : PoolType) (files typed : List FileDescriptorProto) (d : DescriptorError) (e : SchemaError) → TypedFiles files typed → AreRefused p typed d → (e ≡ Memory) ⊎ (e ≡ Link d) → FilesRefused p files e
@@ -114,17 +116,20 @@ nowhere o Q none = subst (λ l. IfSome (option_map place_of l) Q) (sym none) tt
 pub sources_options : (p : PoolType) (batch : List (List ℕ × List ℕ)) (new : PoolType) (o : OptionError) (e : SchemaError) → SourcesLinked p batch new → o.place ≡ None → (e ≡ Memory) ⊎ (e ≡ Options o) → SourcesRefused p batch e
 sources_options p batch new o e (files, read, (linked, fit, settled, bare)) none x = of_sources p batch files e read (of_options p files linked o e fit (nowhere o (StandsFrom linked.records (length p.files)) none) x)
 
--- bytes that are read as no set spell none
-pub of_bytes : (p : PoolType) (bytes : List ℕ) (e : WireError) → Rejects IsSetBytes bytes e → SetRefused p bytes (of_wire e)
+-- bytes that are read as no set spell none, and have the fault that is told
+no_set : (bytes : List ℕ) (e : WireError) → (e ≡ wire.Memory → ⊥) → Rejects IsSetBytes SetBytesFault bytes e → IsNoSet bytes e
+no_set = unspelled IsSetBytes SetBytesFault (λ s. s.file.items)
+
+pub of_bytes : (p : PoolType) (bytes : List ℕ) (e : WireError) → Rejects IsSetBytes SetBytesFault bytes e → SetRefused p bytes (of_wire e)
 of_bytes p bytes wire.Memory h = tt
-of_bytes p bytes wire.Truncated h = λ files s. h.none (λ q. cc q) s.0 s.1
-of_bytes p bytes wire.BadVarint h = λ files s. h.none (λ q. cc q) s.0 s.1
-of_bytes p bytes wire.BadKey h = λ files s. h.none (λ q. cc q) s.0 s.1
-of_bytes p bytes wire.BadWireType h = λ files s. h.none (λ q. cc q) s.0 s.1
-of_bytes p bytes wire.EndGroupMismatch h = λ files s. h.none (λ q. cc q) s.0 s.1
-of_bytes p bytes wire.TooDeep h = λ files s. h.none (λ q. cc q) s.0 s.1
-of_bytes p bytes wire.BadUtf8 h = λ files s. h.none (λ q. cc q) s.0 s.1
-of_bytes p bytes wire.TooLong h = λ files s. h.none (λ q. cc q) s.0 s.1
+of_bytes p bytes wire.Truncated h = no_set bytes wire.Truncated (λ q. cc q) h
+of_bytes p bytes wire.BadVarint h = no_set bytes wire.BadVarint (λ q. cc q) h
+of_bytes p bytes wire.BadKey h = no_set bytes wire.BadKey (λ q. cc q) h
+of_bytes p bytes wire.BadWireType h = no_set bytes wire.BadWireType (λ q. cc q) h
+of_bytes p bytes wire.EndGroupMismatch h = no_set bytes wire.EndGroupMismatch (λ q. cc q) h
+of_bytes p bytes wire.TooDeep h = no_set bytes wire.TooDeep (λ q. cc q) h
+of_bytes p bytes wire.BadUtf8 h = no_set bytes wire.BadUtf8 (λ q. cc q) h
+of_bytes p bytes wire.TooLong h = no_set bytes wire.TooLong (λ q. cc q) h
 
 -- a text of a known type is refused with what is true of its pool
 pub of_text_kind : (p : PoolType) (name z : List ℕ) (e : text.ParseError) (kind : ParseErrorKind)

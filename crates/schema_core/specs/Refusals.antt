@@ -13,7 +13,8 @@ use Rattle.reflect_pool.specs.Dots.{without_dot}
 use Rattle.reflect_build.specs.Refusals.{AreRefused}
 use Rattle.reflect_wire.specs.declared.wire_error.WireError.{WireError}
 use Rattle.reflect_wire.specs.declared.wire_error.WireError.TheVariants as wire
-use Rattle.reflect_bytes.specs.Spelled.{SpellsSet, RecordsLinked}
+use Rattle.reflect_codec.specs.Faults.{SetBytesFault}
+use Rattle.reflect_bytes.specs.Spelled.{SpellsSet, NotSpelled, RecordsLinked}
 use Rattle.reflect_decode.specs.Spelled.{TellsWhy}
 use Rattle.reflect_format.specs.Reads.{IsCause}
 use Rattle.reflect_format.specs.Truth.{TrueOf}
@@ -154,10 +155,14 @@ abbrev pub SetLinked : PoolType → List ℕ → PoolType → Type 0
 SetLinked p bytes new = (files : List FileDescriptorProto) × SpellsSet bytes files
     × FilesLinked p files new
 
+-- the bytes are no descriptor set, and what is told of them is so
+abbrev pub IsNoSet : List ℕ → WireError → Type 0
+IsNoSet bytes e = NotSpelled (SpellsSet bytes) (SetBytesFault bytes) e
+
 -- of a descriptor set: the bytes are none, or they are one whose files are refused
 abbrev pub SetRefused : PoolType → List ℕ → SchemaError → Type 0
-SetRefused p bytes (Wire e) = (files : List FileDescriptorProto) → SpellsSet bytes files → ⊥
-SetRefused p bytes TooLong = (files : List FileDescriptorProto) → SpellsSet bytes files → ⊥
+SetRefused p bytes (Wire e) = IsNoSet bytes e
+SetRefused p bytes TooLong = IsNoSet bytes wire.TooLong
 SetRefused p bytes (Link e) = (files : List FileDescriptorProto) × SpellsSet bytes files
     × FilesRefused p files (Link e)
 SetRefused p bytes (Options e) = (files : List FileDescriptorProto) × SpellsSet bytes files

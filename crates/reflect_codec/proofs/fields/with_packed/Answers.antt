@@ -1,13 +1,8 @@
 use Rattle.std.proofs.Common.{◌≡◌, ℤ, List, [], ◌∷◌, ◌++◌, refl, sym, ap, ◌∙◌, subst, append-nil, append_assoc, arith, rules, to_z, of_z, w32}
 use Rattle.std.proofs.lemmas.Grind.{common_steps}
 use Rattle.std.proofs.lemmas.Result.{err_from_is_err_and}
-use Rattle.reflect_wire.specs.Faults.{VarintFault}
-use Rattle.reflect_wire.specs.Varint.{IsVarint}
-use Rattle.reflect_wire.proofs.Faulty.{tells_fault}
-use Rattle.reflect_codec.specs.Faults.{PackedFault}
 use Rattle.reflect_codec.specs.Reading.{SpellsNumbers, int32_of}
-use Rattle.reflect_codec.proofs.Spelled.{number_more, numbers_behind, no_numbers}
-use Rattle.reflect_codec.proofs.Values.{refused}
+use Rattle.reflect_codec.proofs.Spelled.{number_more, numbers_behind, no_more_numbers}
 use Rattle.reflect_codec.proofs.fields.with_packed.Goals as goal
 
 pub loop-left-init : goal.loop-left-init
@@ -18,9 +13,7 @@ returns-in_err-n c =
     let more : c.loop-left.left.now ≡ [] → ⊥ = λ e. grind (arith, common_steps) in
     let i = c.loop-left.invariant in
     let p = err_from_is_err_and c.from_residual.result c.from_residual.ensures.1 in
-    rw (p.1, p.2) (refused IsVarint (VarintFault 10) SpellsNumbers PackedFault c.loop-left.left.now c.args.payload.now c.in_err-n.field-0.0
-    (λ none zs s. let b = i.3 zs s in no_numbers c.loop-left.left.now more none b.0 b.1) (λ none fault. (i.0, c.loop-left.left.now, i.2, more, fault)) c.in_err-n.ensures.read
-    (tells_fault (VarintFault 10) c.loop-left.left.now c.in_err-n.field-0.0 c.in_err-n.ensures.fault))
+    rw (p.1, p.2) (no_more_numbers c.args.payload.now c.loop-left.left.now i.0 i.2 i.3 more c.in_err-n.field-0.0 c.in_err-n.ensures.read c.in_err-n.ensures.fault)
 
 pub returns : goal.returns
 returns c =
