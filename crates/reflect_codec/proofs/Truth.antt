@@ -167,7 +167,6 @@ uninterpreted_option levels fs e r f h = neither (in_fields (RecordFault InNameP
 
 in_options : (kind : OptionsOf) (vs : List Value) → Apart (InOptions kind) (IsOptions kind vs)
 in_options kind vs fs e r f h = neither (wanted (values_at 2 fs) e (is_field kind) r.packed h.packed) (neither (wanted (values_at 2 fs) e (is_enum kind) r.allow_alias h.allow_alias)
-   
     (neither (wanted (values_at 7 fs) e (is_message kind) r.map_entry h.map_entry) (records InUninterpretedOption IsUninterpretedOption uninterpreted_option 100 (values_at 999 fs) e r.uninterpreted_option.items h.uninterpreted_option))) f.why
 
 options : (kind : OptionsOf) (levels : ℕ) (vs : List Value) (e : WireError) (o : Option Options) → AreOptions kind levels vs o → OptionsFault kind levels vs e → ⊥
