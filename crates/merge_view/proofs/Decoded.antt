@@ -1,5 +1,5 @@
 -- What `merge` says of bytes, in the words of the model.
-use Rattle.std.proofs.Common.{◌≡◌, ◌<◌, ◌^◌, ℕ, List, [], ◌∷◌, ◌++◌, length, append-nil, append_assoc, refl, sym, ap, ◌∙◌, subst}
+use Rattle.std.proofs.Common.{◌≡◌, ◌<◌, ◌≤◌, ◌+◌, ◌^◌, ℕ, suc, Bool, false, List, [], ◌∷◌, ◌++◌, length, append-nil, append_assoc, refl, sym, ap, ◌∙◌, subst, arith}
 use Rattle.std.specs.List.{AllByRecursion, concat}
 use Rattle.reflect_pool.specs.declared.message.MessageDescriptor.{MessageDescriptor}
 use Rattle.reflect_wire.specs.Written.{AreBytes}
@@ -8,6 +8,7 @@ use Rattle.reflect_message.specs.Contents.{content_of, nothing}
 use Rattle.reflect_message.specs.Oneofs.{AreChosen, IsExclusive}
 use Rattle.reflect_message.specs.Held.{choices_of, fields_of}
 use Rattle.reflect_message.specs.Names.{DynamicMessage}
+use Rattle.reflect_decode.specs.Ordered.{IsOrdered}
 use Rattle.reflect_decode.specs.Spelled.{IsMerged, IsSpelled}
 use Rattle.reflect_decode.specs.Suits.{Suits, SuitsBelow}
 use Rattle.reflect_decode.proofs.Suiting.{copy_suits, filled_suits, nothing_suits, suits_stay}
@@ -16,22 +17,23 @@ use Rattle.protobuf_model.specs.Coded.{AreMerged, Mean, SuitsType}
 use Rattle.protobuf_model.specs.Values as model
 use Rattle.protobuf_model.proofs.Bytewise.{merged_in_pieces, merged_well, one_meaning}
 use Rattle.protobuf_model.proofs.Merging.{nothing_typed}
-use Rattle.message_view.specs.Shaped.{IsInShape, IsShaped, Shaped}
+use Rattle.message_view.specs.Shaped.{HasShape, IsShaped, Shaped}
 use Rattle.message_view.specs.Sound.{IsSound}
 use Rattle.message_view.specs.Types.{name_at, types_of}
 use Rattle.message_view.specs.Views.{view, view_of}
 use Rattle.message_view.proofs.Accepting.{accepted}
 use Rattle.message_view.proofs.Decoded.{decoded_means}
+use Rattle.message_view.proofs.Deeper.{deeper_shape, one_level, whole_shape}
 use Rattle.message_view.proofs.Defaults.{have_defaults}
 use Rattle.message_view.proofs.Elements.{seen_in}
 use Rattle.message_view.proofs.Encoded.{shape_decoded, shape_written}
-use Rattle.message_view.proofs.Recoded.{decoded_shaped}
+use Rattle.message_view.proofs.Recoded.{decoded_shape, decoded_shaped}
 use Rattle.message_view.proofs.Shapes.{merged_shaped}
 use Rattle.message_view.proofs.Sound.{named}
 use Rattle.merge_view.specs.Pieces.{MergesEach}
 use Rattle.merge_view.proofs.Copied.{copy_seen}
 use Rattle.merge_view.proofs.Merged.{merged_meaning}
-use Rattle.merge_view.proofs.Shaped.{copy_shaped}
+use Rattle.merge_view.proofs.Shaped.{copy_ordered, copy_shaped}
 
 -- what is merged into a message is what the bytes mean behind it
 pub merged_means : (d : MessageDescriptor) → IsSound d.pool.now → (bytes : List ℕ) → AreBytes bytes → (old new : DynamicMessage) → old.descriptor ≡ d → new.descriptor ≡ d
@@ -118,45 +120,57 @@ pieces_alike d sound a bs first all old new whole type also last spelled chosen 
     (each_means d sound a bs first all old new type also spelled chosen merges)
     (decoded_means d sound (a ++ concat bs) (bytes_joined a bs first all) whole last together)
 
--- what is merged into a message in shape leaves it so
-pub merged_in_shape : (d : MessageDescriptor) (bytes : List ℕ) (old new : DynamicMessage) → old.descriptor ≡ d → new.descriptor ≡ d
-    → IsInShape old → Suits 100 d (content_of old) → IsMerged d bytes old new → IsInShape new
-merged_in_shape d bytes old new type also shape suits (rs, copy, spelled, copied, ordered, merges, accepts) =
-    let before : IsShaped (Shaped 100) d (content_of old) = subst (λ (d : MessageDescriptor). IsShaped (Shaped 100) d (content_of old)) type shape in
-    let held = copy_shaped 100 d (content_of old) copy copied ordered before in
-    let after = merged_shaped 100 d copy (content_of new) rs held (copy_suits 100 d (content_of old) copy copied suits) merges in
-    subst (λ (d : MessageDescriptor). IsShaped (Shaped 100) d (content_of new)) (sym also) after
+-- what is merged into a message in order leaves it so
+pub merged_in_order : (d : MessageDescriptor) (bytes : List ℕ) (old new : DynamicMessage) → IsOrdered (content_of old) → IsMerged d bytes old new → IsOrdered (content_of new)
+merged_in_order d bytes old new before (rs, copy, spelled, copied, ordered, merges, accepts) =
+    merges.ordered (copy_ordered (content_of old) copy copied ordered before)
+
+-- and into a message in shape, of as many levels as bytes have, or more
+pub merged_in_shape : (exclusive : Bool) (d : MessageDescriptor) (bytes : List ℕ) (old new : DynamicMessage) → old.descriptor ≡ d → new.descriptor ≡ d
+    → (levels : ℕ) → 100 ≤ levels → HasShape exclusive (suc levels) old → Suits 100 d (content_of old) → IsMerged d bytes old new → HasShape exclusive (suc levels) new
+merged_in_shape exclusive d bytes old new type also levels le shape suits (rs, copy, spelled, copied, ordered, merges, accepts) =
+    let before : IsShaped (HasShape exclusive levels) d (content_of old) =
+    subst (λ (d : MessageDescriptor). IsShaped (HasShape exclusive levels) d (content_of old)) type (one_level exclusive levels old shape) in
+    let held = copy_shaped exclusive levels d (content_of old) copy copied ordered before in
+    merged_shaped exclusive 100 levels le new d also copy rs held (copy_suits 100 d (content_of old) copy copied suits) merges
+
+merged_deep : (d : MessageDescriptor) (bytes : List ℕ) (old new : DynamicMessage) → old.descriptor ≡ d → new.descriptor ≡ d
+    → (levels : ℕ) → Shaped levels old → Suits 100 d (content_of old) → IsMerged d bytes old new → Shaped (suc (levels + 100)) new
+merged_deep d bytes old new type also levels shape =
+    merged_in_shape false d bytes old new type also (levels + 100) (omega arith) (deeper_shape false levels (suc (levels + 100)) (omega arith) old shape)
 
 -- so it is written in one form
 pub merged_written : (d : MessageDescriptor) → IsSound d.pool.now → (bytes : List ℕ) (old new : DynamicMessage) → old.descriptor ≡ d → new.descriptor ≡ d
-    → IsInShape old → Suits 100 d (content_of old) → IsMerged d bytes old new
+    → (levels : ℕ) → Shaped levels old → Suits 100 d (content_of old) → IsMerged d bytes old new
     → message_bytes new ≡ bytes_of (types_of d.pool.now) (name_at d.pool.now d.index) (view new)
-merged_written d sound bytes old new type also shape suits merged = shape_written d sound new also (merged_in_shape d bytes old new type also shape suits merged)
+merged_written d sound bytes old new type also levels shape suits merged =
+    shape_written d sound new also (suc (levels + 100)) (merged_deep d bytes old new type also levels shape suits merged)
 
 -- and read again
 pub merged_read : (d : MessageDescriptor) → IsSound d.pool.now → (bytes : List ℕ) → AreBytes bytes → (old new : DynamicMessage) → old.descriptor ≡ d → new.descriptor ≡ d
-    → IsInShape old → Suits 100 d (content_of old) → SuitsType (types_of d.pool.now) (name_at d.pool.now d.index) (view old) → IsMerged d bytes old new
+    → (levels : ℕ) → Shaped levels old → Suits 100 d (content_of old) → SuitsType (types_of d.pool.now) (name_at d.pool.now d.index) (view old) → IsMerged d bytes old new
     → length (message_bytes new) < 2 ^ 64 → AreBytes (message_bytes new)
     → (n : DynamicMessage) → n.descriptor ≡ d → IsSpelled d (message_bytes new) n → view n ≡ view new
-merged_read d sound bytes b old new type also shape suits typed merged =
-    shape_decoded d sound new also (merged_in_shape d bytes old new type also shape suits merged) (merged_suits d sound bytes b old new type also suits typed merged).1
+merged_read d sound bytes b old new type also levels shape suits typed merged =
+    shape_decoded d sound new also (suc (levels + 100)) (merged_deep d bytes old new type also levels shape suits merged) (merged_suits d sound bytes b old new type also suits typed merged).1
 
-each_in_shape : (d : MessageDescriptor) (bs : List (List ℕ)) (old new : DynamicMessage) → old.descriptor ≡ d → new.descriptor ≡ d
-    → IsInShape old → Suits 100 d (content_of old) → MergesEach d old bs new → IsInShape new
-each_in_shape d [] old new type also shape suits same = subst IsInShape same shape
-each_in_shape d (b ∷ bs) old new type also shape suits (next, between, merged, rest) =
-    each_in_shape d bs next new between also (merged_in_shape d b old next type between shape suits merged) (merged_fits d b old next suits merged) rest
+each_in_shape : (exclusive : Bool) (d : MessageDescriptor) (bs : List (List ℕ)) (old new : DynamicMessage) → old.descriptor ≡ d → new.descriptor ≡ d
+    → HasShape exclusive 101 old → Suits 100 d (content_of old) → MergesEach d old bs new → HasShape exclusive 101 new
+each_in_shape exclusive d [] old new type also shape suits same = subst (HasShape exclusive 101) same shape
+each_in_shape exclusive d (b ∷ bs) old new type also shape suits (next, between, merged, rest) =
+    each_in_shape exclusive d bs next new between also (merged_in_shape exclusive d b old next type between 100 (omega arith) shape suits merged) (merged_fits d b old next suits merged) rest
 
 -- a decoded message stays in shape
-pub pieces_in_shape : (d : MessageDescriptor) (a : List ℕ) (bs : List (List ℕ)) (old new : DynamicMessage) → old.descriptor ≡ d → new.descriptor ≡ d
-    → IsSpelled d a old → IsExclusive old → MergesEach d old bs new → IsInShape new
-pieces_in_shape d a bs old new type also spelled chosen merges = each_in_shape d bs old new type also (decoded_shaped d a old type spelled) (decoded_fits d a old type spelled chosen) merges
+pub pieces_in_shape : (exclusive : Bool) (d : MessageDescriptor) (a : List ℕ) (bs : List (List ℕ)) (old new : DynamicMessage) → old.descriptor ≡ d → new.descriptor ≡ d
+    → IsSpelled d a old → IsExclusive old → MergesEach d old bs new → HasShape exclusive 101 new
+pieces_in_shape exclusive d a bs old new type also spelled chosen merges =
+    each_in_shape exclusive d bs old new type also (whole_shape exclusive 100 old (decoded_shape exclusive d a old type spelled) chosen) (decoded_fits d a old type spelled chosen) merges
 
 -- and is written as what is decoded at once
 pub pieces_written : (d : MessageDescriptor) → IsSound d.pool.now → (a : List ℕ) (bs : List (List ℕ)) → AreBytes a → AllByRecursion AreBytes bs → (old new whole : DynamicMessage)
     → old.descriptor ≡ d → new.descriptor ≡ d → whole.descriptor ≡ d
     → IsSpelled d a old → IsExclusive old → MergesEach d old bs new → IsSpelled d (a ++ concat bs) whole → message_bytes new ≡ message_bytes whole
 pieces_written d sound a bs first all old new whole type also last spelled chosen merges together =
-    shape_written d sound new also (pieces_in_shape d a bs old new type also spelled chosen merges)
+    shape_written d sound new also 101 (pieces_in_shape false d a bs old new type also spelled chosen merges)
     ∙ ap (bytes_of (types_of d.pool.now) (name_at d.pool.now d.index)) (pieces_alike d sound a bs first all old new whole type also last spelled chosen merges together)
-    ∙ sym (shape_written d sound whole last (decoded_shaped d (a ++ concat bs) whole last together))
+    ∙ sym (shape_written d sound whole last 101 (decoded_shaped d (a ++ concat bs) whole last together))

@@ -14,15 +14,18 @@ use Rattle.reflect_scalar.specs.Singles.{Single}
 use Rattle.reflect_scalar.specs.declared.map_key.MapKey.{MapKey}
 use Rattle.reflect_message.specs.Contents.{Content, content_of}
 use Rattle.reflect_message.specs.Copies.{AreCopies, IsCopy}
+use Rattle.reflect_message.specs.Held.{choices_of, fields_of}
 use Rattle.reflect_message.specs.InOrder.{in_order, IsInOrder}
 use Rattle.reflect_message.specs.Names.{DynamicMessage, Value}
+use Rattle.reflect_message.specs.Oneofs.{AreChosen, IsExclusive}
 use Rattle.reflect_message.specs.Trees.{ValueTree, tree, entry_tree}
 use Rattle.reflect_message.proofs.Alike.{content_alike, message_alike}
+use Rattle.reflect_message.proofs.Copying.{chosen_copied}
 use Rattle.reflect_message.proofs.InOrder.{entries_below, items_below, message_below}
-use Rattle.reflect_decode.specs.Ordered.{AreInOrder, AreNumbered, Ascend, HoldsInOrder, last}
+use Rattle.reflect_decode.specs.Ordered.{AreInOrder, AreNumbered, Ascend, HoldsInOrder, IsOrdered, last}
 use Rattle.reflect_decode.proofs.InOrder.{message_tells}
 use Rattle.protobuf_model.specs.Meaning.{payloads}
-use Rattle.message_view.specs.Shaped.{Fits, FitsAs, FitsEntry, FitsOne, IsShaped, Shaped}
+use Rattle.message_view.specs.Shaped.{Exclusive, Fits, FitsAs, FitsEntry, FitsOne, HasShape, IsShaped, Shaped}
 use Rattle.merge_view.proofs.Trees.{entries_alike, items_alike, single_alike}
 
 abbrev Sorted : Value → Type 0
@@ -129,18 +132,22 @@ numbers_copied es gs copied sorted numbered = record {
 
 -- ---- messages
 
+-- what is copied of a message in order is in order
+pub copy_ordered : (old copy : Content) → IsCopy old copy → HoldsInOrder copy → IsOrdered old
+    → IsOrdered copy
+copy_ordered old copy copied sorted ordered = record {
+  fields = numbers_copied old.fields copy.fields copied.fields sorted.fields ordered.fields;
+  extensions =
+      numbers_copied old.extensions copy.extensions copied.extensions sorted.extensions
+      ordered.extensions;
+  unknown = subst (Ascend 1 last) (sym copied.unknown) ordered.unknown;
+}
+
 module _ (inner : DynamicMessage → Type 0) (copies : Copies inner) (d : MessageDescriptor) where
   shape_copied : (old copy : Content) → IsCopy old copy → HoldsInOrder copy
       → IsShaped inner d old → IsShaped inner d copy
   shape_copied old copy copied sorted shape = record {
-    ordered = record {
-      fields =
-          numbers_copied old.fields copy.fields copied.fields sorted.fields shape.ordered.fields;
-      extensions =
-          numbers_copied old.extensions copy.extensions copied.extensions sorted.extensions
-          shape.ordered.extensions;
-      unknown = subst (Ascend 1 last) (sym copied.unknown) shape.ordered.unknown;
-    };
+    ordered = copy_ordered old copy copied sorted shape.ordered;
     fields = λ f owns.
         value_copied inner copies d.pool.now old.fields copy.fields copied.fields sorted.fields
         (field_type f) (field_type f).number (shape.fields f owns);
@@ -156,14 +163,41 @@ module _ (inner : DynamicMessage → Type 0) (copies : Copies inner) (d : Messag
     declared = λ n is. ap (payloads n) copied.unknown ∙ shape.declared n is;
   }
 
-copies_at : (levels : ℕ) → Copies (Shaped levels)
-copies_at zero m n same copied sorted h = absurd h
-copies_at (suc levels) m n same copied sorted h =
-    subst (λ (d : MessageDescriptor). IsShaped (Shaped levels) d (content_of n)) (sym same)
-    (shape_copied (Shaped levels) (copies_at levels) m.descriptor (content_of m) (content_of n)
-    copied (message_tells n sorted) h)
+-- a copy of a message, where copies of those inside are what these are
+copied_shape : (inner : DynamicMessage → Type 0) → Copies inner → (m n : DynamicMessage)
+    → n.descriptor ≡ m.descriptor → IsCopy (content_of m) (content_of n) → IsInOrder n
+    → IsShaped inner m.descriptor (content_of m) → IsShaped inner n.descriptor (content_of n)
+copied_shape inner copies m n same copied sorted shape =
+    subst (λ (d : MessageDescriptor). IsShaped inner d (content_of n)) (sym same)
+    (shape_copied inner copies m.descriptor (content_of m) (content_of n) copied
+    (message_tells n sorted) shape)
+
+copied_alone : (m n : DynamicMessage) → n.descriptor ≡ m.descriptor
+    → IsCopy (content_of m) (content_of n) → IsExclusive m → IsExclusive n
+copied_alone m n same copied chosen =
+    subst (λ (d : MessageDescriptor). AreChosen d (choices_of n) (fields_of n)) (sym same)
+    (chosen_copied m.descriptor (choices_of m) (choices_of n) (fields_of m) (fields_of n)
+    copied.choices copied.fields chosen)
+
+copies_shaped : (levels : ℕ) → Copies (Shaped levels)
+copies_shaped zero m n same copied sorted h = absurd h
+copies_shaped (suc levels) m n same copied sorted h =
+    copied_shape (Shaped levels) (copies_shaped levels) m n same copied sorted h
+
+copies_exclusive : (levels : ℕ) → Copies (Exclusive levels)
+copies_exclusive zero m n same copied sorted h = absurd h
+copies_exclusive (suc levels) m n same copied sorted h = (
+  copied_shape (Exclusive levels) (copies_exclusive levels) m n same copied sorted h.0,
+  copied_alone m n same copied h.1,
+)
 
 -- of so many levels
-pub copy_shaped : (levels : ℕ) (d : MessageDescriptor) (old copy : Content) → IsCopy old copy
-    → HoldsInOrder copy → IsShaped (Shaped levels) d old → IsShaped (Shaped levels) d copy
-copy_shaped levels = shape_copied (Shaped levels) (copies_at levels)
+pub copies_at : (exclusive : Bool) (levels : ℕ) → Copies (HasShape exclusive levels)
+copies_at true levels = copies_exclusive levels
+copies_at false levels = copies_shaped levels
+
+pub copy_shaped : (exclusive : Bool) (levels : ℕ) (d : MessageDescriptor) (old copy : Content)
+    → IsCopy old copy → HoldsInOrder copy → IsShaped (HasShape exclusive levels) d old
+    → IsShaped (HasShape exclusive levels) d copy
+copy_shaped exclusive levels =
+    shape_copied (HasShape exclusive levels) (copies_at exclusive levels)

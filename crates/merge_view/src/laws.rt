@@ -1,9 +1,10 @@
 //! Laws of what `merge` says of bytes and messages, each the contract of a function that does
 //! nothing. They speak of the types of a pool, and of a message as one of these.
-ghost use Rattle.std.specs.Prelude.{◌≡◌, ◌<◌, ◌^◌, ◌++◌, ℕ, List, length};
+ghost use Rattle.std.specs.Prelude.{◌≡◌, ◌<◌, ◌≤◌, ◌^◌, ◌++◌, ℕ, Bool, List, length, suc};
 ghost use Rattle.std.specs.List.{AllByRecursion, concat};
 ghost use Rattle.protobuf_model.specs.Bytes.{bytes_of};
 ghost use Rattle.protobuf_model.specs.Coded.{AreMerged, Mean, SuitsType};
+ghost use Rattle.reflect_decode.specs.Ordered.{IsOrdered};
 ghost use Rattle.reflect_decode.specs.Spelled.{IsMerged, IsSpelled};
 ghost use Rattle.reflect_decode.specs.Suits.{Suits};
 ghost use Rattle.reflect_message.specs.Bytes.{message_bytes};
@@ -12,7 +13,7 @@ ghost use Rattle.reflect_message.specs.Oneofs.{IsExclusive};
 ghost use Rattle.reflect_message.specs.Names.{DynamicMessage};
 ghost use Rattle.reflect_pool.specs.declared.message.MessageDescriptor.{MessageDescriptor};
 ghost use Rattle.reflect_wire.specs.Written.{AreBytes};
-ghost use Rattle.message_view.specs.Shaped.{IsInShape};
+ghost use Rattle.message_view.specs.Shaped.{Exclusive, HasShape, Shaped};
 ghost use Rattle.message_view.specs.Sound.{IsSound};
 ghost use Rattle.message_view.specs.Types.{name_at, types_of};
 ghost use Rattle.message_view.specs.Views.{view};
@@ -40,18 +41,28 @@ pub fn merged_messages_suit_the_type()
         × SuitsType (types_of d.pool.now) (name_at d.pool.now d.index) (view new) }
 {}
 
-/// Where what the message held was in shape, so is what `merge` leaves.
+/// Where the message was in order, whether or not what it held suited its fields, it is so still.
+pub fn merged_messages_are_in_order()
+    ensures { (d : MessageDescriptor) (bytes : List ℕ) (old new : DynamicMessage)
+        → IsOrdered (content_of old) → IsMerged d bytes old new → IsOrdered (content_of new) }
+{}
+
+/// Where what the message held was in shape, so is what `merge` leaves, of as many levels as bytes
+/// have, or more. Where it was exclusive at each depth, it is so still.
 pub fn merged_messages_are_in_shape()
-    ensures { (d : MessageDescriptor) (bytes : List ℕ)
+    ensures { (exclusive : Bool) (d : MessageDescriptor) (bytes : List ℕ)
         → (old new : DynamicMessage) → old.descriptor ≡ d → new.descriptor ≡ d
-        → IsInShape old → Suits 100 d (content_of old) → IsMerged d bytes old new → IsInShape new }
+        → (levels : ℕ) → 100 ≤ levels → HasShape exclusive (suc levels) old
+        → Suits 100 d (content_of old) → IsMerged d bytes old new
+        → HasShape exclusive (suc levels) new }
 {}
 
 /// `encode` writes it in the one form of what it holds.
 pub fn merged_messages_are_written_in_one_form()
     ensures { (d : MessageDescriptor) → IsSound d.pool.now → (bytes : List ℕ)
         → (old new : DynamicMessage) → old.descriptor ≡ d → new.descriptor ≡ d
-        → IsInShape old → Suits 100 d (content_of old) → IsMerged d bytes old new
+        → (levels : ℕ) → Shaped levels old → Suits 100 d (content_of old)
+        → IsMerged d bytes old new
         → message_bytes new
         ≡ bytes_of (types_of d.pool.now) (name_at d.pool.now d.index) (view new) }
 {}
@@ -61,7 +72,7 @@ pub fn merged_messages_are_written_in_one_form()
 pub fn merged_messages_are_decoded_as_they_were()
     ensures { (d : MessageDescriptor) → IsSound d.pool.now → (bytes : List ℕ) → AreBytes bytes
         → (old new : DynamicMessage) → old.descriptor ≡ d → new.descriptor ≡ d
-        → IsInShape old → Suits 100 d (content_of old)
+        → (levels : ℕ) → Shaped levels old → Suits 100 d (content_of old)
         → SuitsType (types_of d.pool.now) (name_at d.pool.now d.index) (view old)
         → IsMerged d bytes old new
         → length (message_bytes new) < 2 ^ 64 → AreBytes (message_bytes new)
@@ -74,6 +85,13 @@ pub fn decoded_messages_may_be_merged_into()
     ensures { (d : MessageDescriptor) → (bytes : List ℕ)
         → (m : DynamicMessage) → m.descriptor ≡ d → IsSpelled d bytes m → IsExclusive m
         → Suits 100 d (content_of m) }
+{}
+
+/// So does a message that is exclusive at each depth, in whatever way it was made and however deep
+/// it is.
+pub fn exclusive_messages_may_be_merged_into()
+    ensures { (d : MessageDescriptor) (m : DynamicMessage) → m.descriptor ≡ d
+        → (levels below : ℕ) → Exclusive levels m → Suits below d (content_of m) }
 {}
 
 /// Bytes that are merged into what others mean leave what both mean, one behind the other.
@@ -114,11 +132,13 @@ pub fn pieces_are_merged_as_they_are_decoded()
         → IsSpelled d (a ++ concat bs) whole → view new ≡ view whole }
 {}
 
-/// A message of which one piece was decoded and the others merged is in shape.
+/// A message of which one piece was decoded and the others merged is in shape, and exclusive at
+/// each depth.
 pub fn pieces_are_in_shape()
-    ensures { (d : MessageDescriptor) (a : List ℕ) (bs : List (List ℕ))
+    ensures { (exclusive : Bool) (d : MessageDescriptor) (a : List ℕ) (bs : List (List ℕ))
         → (old new : DynamicMessage) → old.descriptor ≡ d → new.descriptor ≡ d
-        → IsSpelled d a old → IsExclusive old → MergesEach d old bs new → IsInShape new }
+        → IsSpelled d a old → IsExclusive old → MergesEach d old bs new
+        → HasShape exclusive 101 new }
 {}
 
 /// `encode` writes it in the bytes that it writes of what `decode` gives of the pieces together.

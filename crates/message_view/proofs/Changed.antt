@@ -1,14 +1,14 @@
 -- Messages stay in shape when fields and extensions are set and unset.
-use Rattle.std.proofs.Common.{◌≡◌, ◌≢◌, ◌⊎◌, inl, inr, ◌≤◌, ℕ, ◌==◌, Bool, true, false, List, Option, Some, None, refl, sym, ap, ◌∙◌, subst, arith}
+use Rattle.std.proofs.Common.{◌≡◌, ◌≢◌, ◌⊎◌, inl, inr, ◌≤◌, ℕ, suc, ◌==◌, Bool, true, false, List, Option, Some, None, refl, sym, ap, ◌∙◌, subst, arith}
 use Rattle.protobuf_model.specs.Meaning.{payloads}
-use Rattle.reflect_decode.specs.Ordered.{AreNumbered, Ascend, last}
+use Rattle.reflect_decode.specs.Ordered.{AreNumbered, Ascend, IsOrdered, last}
 use Rattle.reflect_decode.proofs.Ordering.{nothing_ordered, numbered_put}
 use Rattle.reflect_entries.specs.Entries.{IsAscending, Updates, value_at}
 use Rattle.reflect_message.specs.Contents.{Content, content_of, nothing}
 use Rattle.reflect_message.specs.Declares.{NoField, Owns, OwnsExtension}
 use Rattle.reflect_message.specs.Held.{Same, UpdatesExtension, UpdatesField, fields_of}
 use Rattle.reflect_message.specs.Known.{known_extension, known_field}
-use Rattle.reflect_message.specs.Oneofs.{Changes, SetsField, sibling}
+use Rattle.reflect_message.specs.Oneofs.{AreChosen, Changes, SetsField, sibling}
 use Rattle.reflect_message.specs.Names.{DynamicMessage, Value}
 use Rattle.reflect_pool.specs.FieldsLeft.{field_type}
 use Rattle.reflect_pool.specs.declared.extension.ExtensionDescriptor.{ExtensionDescriptor}
@@ -16,19 +16,21 @@ use Rattle.reflect_pool.specs.declared.field.FieldDescriptor.{FieldDescriptor}
 use Rattle.reflect_pool.specs.declared.message.MessageDescriptor.{MessageDescriptor}
 use Rattle.reflect_scalar.specs.FieldTypes.{extension_type}
 use Rattle.reflect_tables.specs.Types.{FieldType, extension_at}
-use Rattle.message_view.specs.Shaped.{Fits, IsShaped, IsInShape, Shaped}
+use Rattle.message_view.specs.Shaped.{Fits, HasShape, IsShaped}
 use Rattle.message_view.specs.Sound.{IsFieldNumber, IsNotKept, IsSound}
+use Rattle.message_view.proofs.Deeper.{whole_shape}
 use Rattle.message_view.proofs.Fields.{extension_owned, its_place, owned}
+use Rattle.message_view.proofs.Left.{nothing_chosen}
 
 -- under a number stands what stood there, or nothing
-abbrev StaysOrGoes : List (ℕ × Value) → List (ℕ × Value) → ℕ → Type 0
+abbrev pub StaysOrGoes : List (ℕ × Value) → List (ℕ × Value) → ℕ → Type 0
 StaysOrGoes old new n = Same old new n ⊎ (value_at new n ≡ None)
 
 within_bounds : (n : ℕ) → IsFieldNumber n → (1 ≤ n) × (n ≤ last)
 within_bounds n h = (omega (arith, h.0), omega (arith, h.1))
 
 -- a field that is set drives out the member of its oneof that was noted, and nothing else
-others_stay : (f : FieldDescriptor) (choices : List (ℕ × ℕ)) (old new : List (ℕ × Value))
+pub others_stay : (f : FieldDescriptor) (choices : List (ℕ × ℕ)) (old new : List (ℕ × Value))
     → Changes f choices old new → (n : ℕ) → n ≢ (field_type f).number → StaysOrGoes old new n
 others_stay f choices old new changes n apart = by (sibling f choices) refl where
   by : (o : Option ℕ) → sibling f choices ≡ o → StaysOrGoes old new n
@@ -42,6 +44,24 @@ others_stay f choices old new changes n apart = by (sibling f choices) refl wher
           other : q ≡ n → ⊥
           other same = grind (arith, e, same)
 
+-- numbers and records stay in order, where what stands under one number is changed
+module _ (k : ℕ) (number : IsFieldNumber k) (old new : Content) (same_unknown : new.unknown ≡ old.unknown) where
+  pub field_ordered : new.extensions ≡ old.extensions → (IsAscending old.fields → IsAscending new.fields)
+      → ((n : ℕ) → n ≢ k → StaysOrGoes old.fields new.fields n) → IsOrdered old → IsOrdered new
+  field_ordered same_extensions rising others ordered = record {
+    fields = numbered_put k (within_bounds k number) old.fields new.fields rising others ordered.fields;
+    extensions = subst AreNumbered (sym same_extensions) ordered.extensions;
+    unknown = subst (Ascend 1 last) (sym same_unknown) ordered.unknown;
+  }
+
+  pub extension_ordered : new.fields ≡ old.fields → (IsAscending old.extensions → IsAscending new.extensions)
+      → ((n : ℕ) → n ≢ k → Same old.extensions new.extensions n) → IsOrdered old → IsOrdered new
+  extension_ordered same_fields rising others ordered = record {
+    fields = subst AreNumbered (sym same_fields) ordered.fields;
+    extensions = numbered_put k (within_bounds k number) old.extensions new.extensions rising (λ n apart. inl (others n apart)) ordered.extensions;
+    unknown = subst (Ascend 1 last) (sym same_unknown) ordered.unknown;
+  }
+
 -- nothing is held
 pub empty_shaped : (inner : DynamicMessage → Type 0) (d : MessageDescriptor)
     → IsShaped inner d nothing
@@ -54,11 +74,14 @@ empty_shaped inner d = record {
   declared = λ n is. refl;
 }
 
-pub nothing_shaped : (levels : ℕ) (m : DynamicMessage) → content_of m ≡ nothing
-    → IsShaped (Shaped levels) m.descriptor (content_of m)
-nothing_shaped levels m empty =
-    subst (IsShaped (Shaped levels) m.descriptor) (sym empty)
-    (empty_shaped (Shaped levels) m.descriptor)
+pub nothing_shaped : (exclusive : Bool) (levels : ℕ) (m : DynamicMessage) → content_of m ≡ nothing
+    → HasShape exclusive (suc levels) m
+nothing_shaped exclusive levels m empty =
+    let d = m.descriptor in
+    whole_shape exclusive levels m
+    (subst (IsShaped (HasShape exclusive levels) d) (sym empty)
+    (empty_shaped (HasShape exclusive levels) d))
+    (subst (λ (c : Content). AreChosen d c.choices c.fields) (sym empty) (nothing_chosen d))
 
 module _ (inner : DynamicMessage → Type 0) (d : MessageDescriptor) (sound : IsSound d.pool.now) where
   field_number : (f : FieldDescriptor) → Owns d f → IsFieldNumber (field_type f).number
@@ -84,11 +107,7 @@ module _ (inner : DynamicMessage → Type 0) (d : MessageDescriptor) (sound : Is
       → ((v : Value) → value_at new.fields (field_type f).number ≡ Some v → Fits inner d.pool.now (field_type f) v)
       → IsShaped inner d new
   field_shaped f owns old new shape same_extensions same_unknown ascending others here = record {
-    ordered = record {
-      fields = numbered_put (field_type f).number (within_bounds (field_type f).number (field_number f owns)) old.fields new.fields (λ h. ascending) others shape.ordered.fields;
-      extensions = subst AreNumbered (sym same_extensions) shape.ordered.extensions;
-      unknown = subst (Ascend 1 last) (sym same_unknown) shape.ordered.unknown;
-    };
+    ordered = field_ordered (field_type f).number (field_number f owns) old new same_unknown same_extensions (λ h. ascending) others shape.ordered;
     fields = each_field;
     extensions = λ x extends none v at. shape.extensions x extends none v (ap (λ es. value_at es (extension_type x).number) (sym same_extensions) ∙ at);
     apart = λ g own. ap (λ es. value_at es (field_type g).number) same_extensions ∙ shape.apart g own;
@@ -119,11 +138,7 @@ module _ (inner : DynamicMessage → Type 0) (d : MessageDescriptor) (sound : Is
       → ((v : Value) → given ≡ Some v → Fits inner d.pool.now (extension_type x) v)
       → IsShaped inner d new
   extension_shaped x extends old new shape same_fields same_unknown given updates fits = record {
-    ordered = record {
-      fields = subst AreNumbered (sym same_fields) shape.ordered.fields;
-      extensions = numbered_put (extension_type x).number (within_bounds (extension_type x).number (extension_number x extends)) old.extensions new.extensions (λ h. updates.ascending) (λ n apart. inl (updates.others n apart)) shape.ordered.extensions;
-      unknown = subst (Ascend 1 last) (sym same_unknown) shape.ordered.unknown;
-    };
+    ordered = extension_ordered (extension_type x).number (extension_number x extends) old new same_unknown same_fields (λ h. updates.ascending) updates.others shape.ordered;
     fields = λ f own v at. shape.fields f own v (ap (λ es. value_at es (field_type f).number) (sym same_fields) ∙ at);
     extensions = each_extension;
     apart = λ f own. updates.others (field_type f).number (numbers_differ f x own extends) ∙ shape.apart f own;
@@ -141,30 +156,30 @@ module _ (inner : DynamicMessage → Type 0) (d : MessageDescriptor) (sound : Is
       by false e = shape.extensions y own none v (sym (updates.others (extension_type y).number (λ same. grind (arith, e, same))) ∙ at)
 
 -- what set, cleared and taken fields and extensions leave
-module _ (old new : DynamicMessage) (sound : IsSound old.descriptor.pool.now) (type : new.descriptor ≡ old.descriptor) (shape : IsInShape old) where
+module _ (inner : DynamicMessage → Type 0) (old new : DynamicMessage) (sound : IsSound old.descriptor.pool.now) (type : new.descriptor ≡ old.descriptor) (shape : IsShaped inner old.descriptor (content_of old)) where
   -- the new message is of the same type
-  its_own : IsShaped (Shaped 100) old.descriptor (content_of new) → IsInShape new
-  its_own = subst (λ (d : MessageDescriptor). IsShaped (Shaped 100) d (content_of new)) (sym type)
+  its_own : IsShaped inner old.descriptor (content_of new) → IsShaped inner new.descriptor (content_of new)
+  its_own = subst (λ (d : MessageDescriptor). IsShaped inner d (content_of new)) (sym type)
 
-  pub set_shaped : (f : FieldDescriptor) → Owns old.descriptor f → (v : Value) → Fits (Shaped 100) old.descriptor.pool.now (field_type f) v
-      → SetsField old new f v → IsAscending (fields_of new) → IsInShape new
+  pub set_shaped : (f : FieldDescriptor) → Owns old.descriptor f → (v : Value) → Fits inner old.descriptor.pool.now (field_type f) v
+      → SetsField old new f v → IsAscending (fields_of new) → IsShaped inner new.descriptor (content_of new)
   set_shaped f owns v fits sets ascending =
-      its_own (field_shaped (Shaped 100) old.descriptor sound f owns (content_of old) (content_of new) shape sets.extensions sets.unknown ascending
+      its_own (field_shaped inner old.descriptor sound f owns (content_of old) (content_of new) shape sets.extensions sets.unknown ascending
       (others_stay f (content_of old).choices (fields_of old) (fields_of new) sets.changes)
-      (λ w at. subst (Fits (Shaped 100) old.descriptor.pool.now (field_type f)) (cc (sym sets.here ∙ at)) fits))
+      (λ w at. subst (Fits inner old.descriptor.pool.now (field_type f)) (cc (sym sets.here ∙ at)) fits))
 
-  pub unset_shaped : (f : FieldDescriptor) → Owns old.descriptor f → UpdatesField old new (field_type f).number None → IsInShape new
+  pub unset_shaped : (f : FieldDescriptor) → Owns old.descriptor f → UpdatesField old new (field_type f).number None → IsShaped inner new.descriptor (content_of new)
   unset_shaped f owns updates =
-      its_own (field_shaped (Shaped 100) old.descriptor sound f owns (content_of old) (content_of new) shape updates.extensions updates.unknown updates.field.ascending
+      its_own (field_shaped inner old.descriptor sound f owns (content_of old) (content_of new) shape updates.extensions updates.unknown updates.field.ascending
       (λ n apart. inl (updates.field.others n apart)) (λ w at. absurd (cc (sym updates.field.here ∙ at))))
 
-  pub set_extension_shaped : (x : ExtensionDescriptor) → OwnsExtension old.descriptor x → (v : Value) → Fits (Shaped 100) old.descriptor.pool.now (extension_type x) v
-      → UpdatesExtension old new (extension_type x).number (Some v) → IsInShape new
+  pub set_extension_shaped : (x : ExtensionDescriptor) → OwnsExtension old.descriptor x → (v : Value) → Fits inner old.descriptor.pool.now (extension_type x) v
+      → UpdatesExtension old new (extension_type x).number (Some v) → IsShaped inner new.descriptor (content_of new)
   set_extension_shaped x extends v fits updates =
-      its_own (extension_shaped (Shaped 100) old.descriptor sound x extends (content_of old) (content_of new) shape updates.fields updates.unknown (Some v) updates.extension
-      (λ w is. subst (Fits (Shaped 100) old.descriptor.pool.now (extension_type x)) (cc is) fits))
+      its_own (extension_shaped inner old.descriptor sound x extends (content_of old) (content_of new) shape updates.fields updates.unknown (Some v) updates.extension
+      (λ w is. subst (Fits inner old.descriptor.pool.now (extension_type x)) (cc is) fits))
 
-  pub unset_extension_shaped : (x : ExtensionDescriptor) → OwnsExtension old.descriptor x → UpdatesExtension old new (extension_type x).number None → IsInShape new
+  pub unset_extension_shaped : (x : ExtensionDescriptor) → OwnsExtension old.descriptor x → UpdatesExtension old new (extension_type x).number None → IsShaped inner new.descriptor (content_of new)
   unset_extension_shaped x extends updates =
-      its_own (extension_shaped (Shaped 100) old.descriptor sound x extends (content_of old) (content_of new) shape updates.fields updates.unknown None updates.extension
+      its_own (extension_shaped inner old.descriptor sound x extends (content_of old) (content_of new) shape updates.fields updates.unknown None updates.extension
       (λ w is. absurd (cc is)))

@@ -1,5 +1,5 @@
 -- What is encoded of a message, in whatever way it was made, in the words of the model.
-use Rattle.std.proofs.Common.{◌≡◌, ◌<◌, ◌^◌, length, sym, ap, ◌∙◌, subst}
+use Rattle.std.proofs.Common.{◌≡◌, ◌<◌, ◌^◌, ℕ, length, sym, ap, ◌∙◌, subst}
 use Rattle.protobuf_model.proofs.Bytewise.{bytes_mean, one_meaning}
 use Rattle.protobuf_model.specs.Bytes.{bytes_of}
 use Rattle.protobuf_model.specs.Coded.{Mean, SuitsType}
@@ -11,7 +11,7 @@ use Rattle.reflect_pool.specs.declared.message.MessageDescriptor.{MessageDescrip
 use Rattle.reflect_wire.specs.Written.{AreBytes}
 use Rattle.reflect_wire.specs.declared.wire_error.WireError.{WireError}
 use Rattle.reflect_wire.specs.declared.wire_error.WireError.TheVariants as errors
-use Rattle.message_view.specs.Shaped.{IsInShape}
+use Rattle.message_view.specs.Shaped.{Shaped}
 use Rattle.message_view.specs.Sound.{IsSound}
 use Rattle.message_view.specs.Types.{name_at, types_of}
 use Rattle.message_view.specs.Views.{view}
@@ -19,12 +19,12 @@ use Rattle.message_view.proofs.Arranging.{shaped_bytes}
 use Rattle.message_view.proofs.Decoded.{decoded_means, told_refused}
 use Rattle.message_view.proofs.Sound.{named}
 
-module _ (d : MessageDescriptor) (sound : IsSound d.pool.now) (m : DynamicMessage) (type : m.descriptor ≡ d) (shape : IsInShape m) where
+module _ (d : MessageDescriptor) (sound : IsSound d.pool.now) (m : DynamicMessage) (type : m.descriptor ≡ d) (levels : ℕ) (shape : Shaped levels m) where
   -- its bytes are the one form of what it holds
   pub shape_written : message_bytes m ≡ bytes_of (types_of d.pool.now) (name_at d.pool.now d.index) (view m)
   shape_written =
       let pool = d.pool.now in
-      shaped_bytes pool sound.keys sound.entries sound.lists (types_of pool) (named pool sound.names) 101 m (ap (λ (d : MessageDescriptor). d.pool.now) type) shape
+      shaped_bytes pool sound.keys sound.entries sound.lists (types_of pool) (named pool sound.names) levels m (ap (λ (d : MessageDescriptor). d.pool.now) type) shape
       ∙ ap (λ (d : MessageDescriptor). bytes_of (types_of pool) (name_at pool d.index) (view m)) type
 
   module _ (suits : SuitsType (types_of d.pool.now) (name_at d.pool.now d.index) (view m)) (short : length (message_bytes m) < 2 ^ 64) where

@@ -176,7 +176,7 @@ module _ (d : MessageDescriptor) (keyed_maps : HaveMapKeys d.pool.now) (defaults
     by n None none None also = at_neither n none also
 
 -- where nothing stood nothing is noted
-nothing_chosen : (d : MessageDescriptor) → AreChosen d [] []
+pub nothing_chosen : (d : MessageDescriptor) → AreChosen d [] []
 nothing_chosen d = record { member = λ first n e. absurd (cc e); noted = λ f owns first is some. absurd (cc some) }
 
 pub merged_left : (takes : Takes) (d : MessageDescriptor) (c : Content) (rs : List (ℕ × Payload)) → Merges takes d nothing c rs → AreLeft takes d c rs

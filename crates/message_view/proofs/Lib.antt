@@ -3,6 +3,7 @@ pub mod Admitting
 pub mod Decoded
 pub mod Encoded
 pub mod Changed
+pub mod Deeper
 pub mod Defaults
 pub mod Elements
 pub mod Entries
@@ -10,12 +11,14 @@ pub mod Fields
 pub mod Forms
 pub mod Keys
 pub mod Left
+pub mod Numbered
 pub mod Oneofs
 pub mod Ordering
 pub mod Plain
 pub mod Scalars
 pub mod Seen
 pub mod Sound
+pub mod Taken
 pub mod Written
 pub mod Arranging
 pub mod Shapes

@@ -1,5 +1,5 @@
 -- What is recoded, in the words of the model.
-use Rattle.std.proofs.Common.{◌≡◌, inl, inr, None, refl, ◌↔◌, ◌<◌, ◌^◌, ℕ, List, [], ◌∷◌, map, length, sym, ap, ◌∙◌, subst, Some}
+use Rattle.std.proofs.Common.{◌≡◌, inl, inr, None, refl, ◌↔◌, ◌<◌, ◌^◌, ℕ, Bool, true, false, List, [], ◌∷◌, map, length, sym, ap, ◌∙◌, subst, Some}
 use Rattle.std.specs.List.{AllByRecursion}
 use Rattle.reflect_tables.specs.Types.{PoolType, no_type}
 use Rattle.reflect_pool.specs.Dots.{without_dot}
@@ -16,6 +16,7 @@ use Rattle.reflect_message.specs.Bytes.{content, forms, message_bytes}
 use Rattle.reflect_message.specs.Contents as contents
 use Rattle.reflect_message.specs.Declares.{NoField, OwnsExtension}
 use Rattle.reflect_message.specs.Names.{Value, DynamicMessage}
+use Rattle.reflect_message.specs.Oneofs.{IsExclusive}
 use Rattle.reflect_decode.specs.Fields.{HoldFields, LeavesExtension}
 use Rattle.reflect_decode.specs.Keeps.{Keeps}
 use Rattle.reflect_decode.specs.Spares.{HoldsRead, NoExtension}
@@ -31,7 +32,7 @@ use Rattle.protobuf_model.specs.Values.{Message, nothing}
 use Rattle.protobuf_model.proofs.Bytewise.{bytes_mean, one_form, one_meaning}
 use Rattle.protobuf_model.proofs.Chains.{passes, passes_through, same_as_direct}
 use Rattle.message_view.specs.Recoded.{Recodes, type_of, RecodesThrough}
-use Rattle.message_view.specs.Shaped.{Shaped}
+use Rattle.message_view.specs.Shaped.{Exclusive, HasShape, IsShaped, Shaped}
 use Rattle.message_view.specs.Sound.{IsSound}
 use Rattle.message_view.specs.Types.{name_at, types_of}
 use Rattle.message_view.specs.Views.{view}
@@ -42,14 +43,20 @@ use Rattle.message_view.proofs.Defaults.{have_defaults}
 use Rattle.message_view.proofs.Shapes.{AreKept, kept_shaped}
 
 -- what is decoded suits its type, in the order of its numbers
-pub decoded_shaped : (d : MessageDescriptor) (bytes : List ℕ) (m : DynamicMessage) → m.descriptor ≡ d → IsSpelled d bytes m → Shaped 101 m
-decoded_shaped d bytes m type (rs, spelled, keeps, some, also, fields, (extensions, apart), accepts, ordered) =
+pub decoded_shape : (exclusive : Bool) (d : MessageDescriptor) (bytes : List ℕ) (m : DynamicMessage) → m.descriptor ≡ d → IsSpelled d bytes m → IsShaped (HasShape exclusive 100) m.descriptor (content_of m)
+decoded_shape exclusive d bytes m type (rs, spelled, keeps, some, also, fields, (extensions, apart), accepts, ordered) =
     let left : AreKept (TakesAt 100) d contents.nothing (content_of m) rs = record { fields = fields; extensions = extensions; unknown = keeps; apart = apart; unowned = λ n none. some n (inr none); ordered = ordered } in
-    kept_shaped 100 m rs (subst (λ d. AreKept (TakesAt 100) d contents.nothing (content_of m) rs) (sym type) left)
+    kept_shaped exclusive 100 m rs (subst (λ d. AreKept (TakesAt 100) d contents.nothing (content_of m) rs) (sym type) left)
+
+pub decoded_shaped : (d : MessageDescriptor) (bytes : List ℕ) (m : DynamicMessage) → m.descriptor ≡ d → IsSpelled d bytes m → Shaped 101 m
+decoded_shaped d bytes m type spelled = decoded_shape false d bytes m type spelled
+
+pub decoded_exclusive : (d : MessageDescriptor) (bytes : List ℕ) (m : DynamicMessage) → m.descriptor ≡ d → IsSpelled d bytes m → IsExclusive m → Exclusive 101 m
+decoded_exclusive d bytes m type spelled sole = (decoded_shape true d bytes m type spelled, sole)
 
 -- what is decoded is written in the one form of what it means
 pub decoded_written : (d : MessageDescriptor) → IsSound d.pool.now → (bytes : List ℕ) (m : DynamicMessage) → m.descriptor ≡ d → IsSpelled d bytes m → message_bytes m ≡ bytes_of (types_of d.pool.now) (name_at d.pool.now d.index) (view m)
-decoded_written d sound bytes m type spelled = shape_written d sound m type (decoded_shaped d bytes m type spelled)
+decoded_written d sound bytes m type spelled = shape_written d sound m type 101 (decoded_shaped d bytes m type spelled)
 
 -- recoding is the model's
 pub recodes : (d : MessageDescriptor) → IsSound d.pool.now → (bytes out : List ℕ) → AreBytes bytes → Recodes d bytes out → IsRecoded (types_of d.pool.now) (name_at d.pool.now d.index) bytes out

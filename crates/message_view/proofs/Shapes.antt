@@ -1,5 +1,5 @@
 -- What records leave suits its fields, at each depth, behind what suited them.
-use Rattle.std.proofs.Common.{◌≡◌, ◌⊎◌, inl, inr, ℕ, zero, suc, Bool, true, false, true≢false, List, [], ◌∷◌, ◌++◌, map, Option, Some, None, Ordering, Less, Equal, Greater, refl, sym, ap, ◌∙◌, subst}
+use Rattle.std.proofs.Common.{◌≡◌, ◌⊎◌, inl, inr, ◌≤◌, ℕ, zero, suc, Bool, true, false, true≢false, List, [], ◌∷◌, ◌++◌, map, Option, Some, None, Ordering, Less, Equal, Greater, refl, sym, ap, ◌∙◌, subst, arith}
 use Rattle.std.specs.BTreeMap.{insert_entry}
 use Rattle.std.specs.List.{AllByRecursion}
 use Rattle.std.specs.Ordering.{match_ordering}
@@ -19,7 +19,7 @@ use Rattle.reflect_scalar.specs.Singles as held
 use Rattle.reflect_scalar.specs.declared.map_key.MapKey.{MapKey}
 use Rattle.reflect_message.specs.Contents.{Content, content_of, nothing}
 use Rattle.reflect_message.specs.Declares.{NoField, Owns, OwnsExtension}
-use Rattle.reflect_message.specs.Held.{Same}
+use Rattle.reflect_message.specs.Held.{Same, choices_of, fields_of}
 use Rattle.reflect_message.specs.KindTypes.{IsScalarType, IsMessageType}
 use Rattle.reflect_message.specs.Known.{entry_field, holds_floats, known_field}
 use Rattle.reflect_message.specs.Lists.{items_held}
@@ -44,9 +44,10 @@ use Rattle.reflect_decode.proofs.Sorts.{Sort, plain, floating, message_type, lef
 use Rattle.reflect_decode.proofs.Suiting.{nothing_suits}
 use Rattle.reflect_decode.proofs.Telling.{both_kinds}
 use Rattle.message_view.proofs.Changed.{empty_shaped}
+use Rattle.message_view.proofs.Deeper.{one_level, whole_shape}
 use Rattle.message_view.proofs.Fields.{owned_whole, extension_whole, none_owned}
 use Rattle.message_view.proofs.Oneofs.{payloads_same}
-use Rattle.message_view.specs.Shaped.{Fits, FitsAs, FitsOne, IsShaped, Shaped}
+use Rattle.message_view.specs.Shaped.{Fits, FitsAs, FitsOne, HasShape, IsShaped}
 
 -- of a value as one
 one_plain : (inner : DynamicMessage → Type 0) (pool : PoolType) (f : FieldType) (v : Value) (w : held.Single) → IsScalarType f.kind → singles.single v ≡ Some w → FitsOne inner pool f v
@@ -242,28 +243,44 @@ module _ (takes : Takes) (suits : Suiting) (shape : DynamicMessage → Type 0) (
     declared = λ n is. sym (payloads_same n new.unknown) ∙ ap (map (λ (r : ℕ × Payload). r.1)) (kept.unknown.declared n is) ∙ payloads_same n old.unknown ∙ before.declared n is;
   }
 
-module _ (levels : ℕ) (makes : Makes (TakesAt levels) (SuitsBelow levels) (Shaped levels)) (d : MessageDescriptor) where
-  merged_by : (old new : Content) (rs : List (ℕ × Payload)) → IsShaped (Shaped levels) d old → Suits levels d old → MergesAt levels d old new rs → IsShaped (Shaped levels) d new
+module _ (levels : ℕ) (inner : DynamicMessage → Type 0) (makes : Makes (TakesAt levels) (SuitsBelow levels) inner) (d : MessageDescriptor) where
+  merged_by : (old new : Content) (rs : List (ℕ × Payload)) → IsShaped inner d old → Suits levels d old → MergesAt levels d old new rs → IsShaped inner d new
   merged_by old new rs shape suits h =
-      shapes (TakesAt levels) (SuitsBelow levels) (Shaped levels) makes d old new rs shape suits (merged_kept (TakesAt levels) (Shaped levels) d old new rs shape suits.chosen h)
+      shapes (TakesAt levels) (SuitsBelow levels) inner makes d old new rs shape suits (merged_kept (TakesAt levels) inner d old new rs shape suits.chosen h)
 
   -- where nothing stood
-  kept_by : (c : Content) (rs : List (ℕ × Payload)) → AreKept (TakesAt levels) d nothing c rs → IsShaped (Shaped levels) d c
-  kept_by c rs kept = shapes (TakesAt levels) (SuitsBelow levels) (Shaped levels) makes d nothing c rs (empty_shaped (Shaped levels) d) (nothing_suits (SuitsBelow levels) d) kept
+  kept_by : (c : Content) (rs : List (ℕ × Payload)) → AreKept (TakesAt levels) d nothing c rs → IsShaped inner d c
+  kept_by c rs kept = shapes (TakesAt levels) (SuitsBelow levels) inner makes d nothing c rs (empty_shaped inner d) (nothing_suits (SuitsBelow levels) d) kept
 
-makes_at : (levels : ℕ) → Makes (TakesAt levels) (SuitsBelow levels) (Shaped levels)
+-- a message that took in records, of the old one's type, where the messages inside have the shape
+module _ (exclusive : Bool) (levels below : ℕ) (makes : Makes (TakesAt levels) (SuitsBelow levels) (HasShape exclusive below)) where
+  taken_in : (new : DynamicMessage) (d : MessageDescriptor) → new.descriptor ≡ d → (old : Content) (rs : List (ℕ × Payload))
+      → IsShaped (HasShape exclusive below) d old → Suits levels d old → MergesAt levels d old (content_of new) rs → HasShape exclusive (suc below) new
+  taken_in new d same old rs shape suits h =
+      whole_shape exclusive below new
+      (subst (λ (d : MessageDescriptor). IsShaped (HasShape exclusive below) d (content_of new)) (sym same) (merged_by levels (HasShape exclusive below) makes d old (content_of new) rs shape suits h))
+      (subst (λ (d : MessageDescriptor). AreChosen d (choices_of new) (fields_of new)) (sym same) (h.filled suits.chosen).chosen)
+
+-- records of so many levels, in messages of as many or more
+makes_at : (exclusive : Bool) (levels below : ℕ) → levels ≤ below → Makes (TakesAt levels) (SuitsBelow levels) (HasShape exclusive below)
 unfolding TakenAt
-makes_at zero = record { messages = λ grouped m ps h. absurd h; further = λ grouped old new ps same shape suits h. absurd h }
-makes_at (suc levels) = record {
-  messages = λ grouped m ps h. merged_by levels (makes_at levels) m.descriptor nothing (content_of m) h.0 (empty_shaped (Shaped levels) m.descriptor) (nothing_suits (SuitsBelow levels) m.descriptor) h.2;
+makes_at exclusive zero below le = record { messages = λ grouped m ps h. absurd h; further = λ grouped old new ps same shape suits h. absurd h }
+makes_at exclusive (suc levels) zero le = absurd (omega (arith, le))
+makes_at exclusive (suc levels) (suc below) le = record {
+  messages = λ grouped m ps h.
+      taken_in exclusive levels below (makes_at exclusive levels below (omega (arith, le))) m m.descriptor refl nothing h.0
+      (empty_shaped (HasShape exclusive below) m.descriptor) (nothing_suits (SuitsBelow levels) m.descriptor) h.2;
   further = λ grouped old new ps same shape suits h.
-      subst (λ (d : MessageDescriptor). IsShaped (Shaped levels) d (content_of new)) (sym same) (merged_by levels (makes_at levels) old.descriptor (content_of old) (content_of new) h.0 shape suits h.2);
+      taken_in exclusive levels below (makes_at exclusive levels below (omega (arith, le))) new old.descriptor same (content_of old) h.0
+      (one_level exclusive below old shape) suits h.2;
 }
 
 -- a message that records leave where nothing stood
-pub kept_shaped : (levels : ℕ) (m : DynamicMessage) (rs : List (ℕ × Payload)) → AreKept (TakesAt levels) m.descriptor nothing (content_of m) rs → Shaped (suc levels) m
-kept_shaped levels m rs kept = kept_by levels (makes_at levels) m.descriptor (content_of m) rs kept
+pub kept_shaped : (exclusive : Bool) (levels : ℕ) (m : DynamicMessage) (rs : List (ℕ × Payload)) → AreKept (TakesAt levels) m.descriptor nothing (content_of m) rs
+    → IsShaped (HasShape exclusive levels) m.descriptor (content_of m)
+kept_shaped exclusive levels m rs kept = kept_by levels (HasShape exclusive levels) (makes_at exclusive levels levels (omega arith)) m.descriptor (content_of m) rs kept
 
 -- and what they leave behind what is in shape and suits the type
-pub merged_shaped : (levels : ℕ) (d : MessageDescriptor) (old new : Content) (rs : List (ℕ × Payload)) → IsShaped (Shaped levels) d old → Suits levels d old → MergesAt levels d old new rs → IsShaped (Shaped levels) d new
-merged_shaped levels = merged_by levels (makes_at levels)
+pub merged_shaped : (exclusive : Bool) (levels below : ℕ) → levels ≤ below → (new : DynamicMessage) (d : MessageDescriptor) → new.descriptor ≡ d → (old : Content) (rs : List (ℕ × Payload))
+    → IsShaped (HasShape exclusive below) d old → Suits levels d old → MergesAt levels d old (content_of new) rs → HasShape exclusive (suc below) new
+merged_shaped exclusive levels below le = taken_in exclusive levels below (makes_at exclusive levels below le)

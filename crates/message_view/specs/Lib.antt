@@ -4,3 +4,4 @@ pub mod Types
 pub mod Views
 pub mod Recoded
 pub mod Shaped
+pub mod Taken

@@ -13,6 +13,7 @@ use Rattle.reflect_message.specs.Maps.{map_entries}
 use Rattle.reflect_message.specs.Messages.{message_in}
 use Rattle.reflect_message.specs.Singles as singles
 use Rattle.reflect_message.specs.Names.{DynamicMessage, Value}
+use Rattle.reflect_message.specs.Oneofs.{IsExclusive}
 use Rattle.reflect_pool.specs.FieldsLeft.{field_type}
 use Rattle.reflect_pool.specs.Kinds.{IsKind}
 use Rattle.reflect_pool.specs.Shapes.{holds_list, holds_map}
@@ -70,6 +71,16 @@ pub record IsShaped (inner : DynamicMessage → Type 0) (d : MessageDescriptor)
 abbrev pub Shaped : ℕ → DynamicMessage → Type 0
 Shaped zero m = ⊥
 Shaped (suc levels) m = IsShaped (Shaped levels) m.descriptor (content_of m)
+
+-- so they are, and of each of their oneofs one member at most holds anything
+abbrev pub Exclusive : ℕ → DynamicMessage → Type 0
+Exclusive zero m = ⊥
+Exclusive (suc levels) m = IsShaped (Exclusive levels) m.descriptor (content_of m) × IsExclusive m
+
+-- the second where that is asked, else the first
+abbrev pub HasShape : Bool → ℕ → DynamicMessage → Type 0
+HasShape true = Exclusive
+HasShape false = Shaped
 
 -- a message that has at most 100 levels of messages below it
 abbrev pub IsInShape : DynamicMessage → Type 0

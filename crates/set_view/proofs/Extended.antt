@@ -15,7 +15,7 @@ use Rattle.reflect_pool.specs.declared.field.FieldDescriptor.{FieldDescriptor}
 use Rattle.reflect_pool.specs.declared.message.MessageDescriptor.{MessageDescriptor}
 use Rattle.reflect_scalar.specs.FieldTypes.{extension_type}
 use Rattle.reflect_tables.specs.Types.{FieldType}
-use Rattle.message_view.specs.Shaped.{Fits, IsInShape, IsShaped, Shaped}
+use Rattle.message_view.specs.Shaped.{Fits, IsShaped}
 use Rattle.message_view.specs.Sound.{IsSound}
 use Rattle.message_view.proofs.Changed.{extension_shaped, field_shaped}
 use Rattle.message_view.proofs.Fields.{known}
@@ -26,7 +26,7 @@ module _ (old new : DynamicMessage) where
   d = old.descriptor
 
   -- under another number stands what stood there, or nothing
-  stays_or_goes : (f : FieldDescriptor) → ExtendsField old new f → (n : ℕ) → n ≢ (field_type f).number
+  pub stays_or_goes : (f : FieldDescriptor) → ExtendsField old new f → (n : ℕ) → n ≢ (field_type f).number
       → Same (fields_of old) (fields_of new) n ⊎ (value_at (fields_of new) n ≡ None)
   stays_or_goes f extends n other = by (is_or_not (sibling f (choices_of old)) n) where
     by : (sibling f (choices_of old) ≡ Some n) ⊎ (sibling f (choices_of old) ≢ Some n)
@@ -54,37 +54,34 @@ module _ (old new : DynamicMessage) where
       let member = exclusive.member is.0 n is.2 in
       apart (is.0, member.0, member.1, member.2, other, is.1, member.3))
 
-  module _ (sound : IsSound old.descriptor.pool.now) (shape : IsInShape old) where
-    its_shape : IsShaped (Shaped 100) old.descriptor (content_of old)
-    its_shape = shape
-
+  module _ (inner : DynamicMessage → Type 0) (sound : IsSound old.descriptor.pool.now) (shape : IsShaped inner old.descriptor (content_of old)) where
     -- where what then stands under the number fits, the message is in shape
     pub field_in_shape : (f : FieldDescriptor) → Owns d f → ExtendsField old new f
-        → ((v : Value) → value_at (fields_of new) (field_type f).number ≡ Some v → Fits (Shaped 100) d.pool.now (field_type f) v)
-        → IsInShape new
+        → ((v : Value) → value_at (fields_of new) (field_type f).number ≡ Some v → Fits inner d.pool.now (field_type f) v)
+        → IsShaped inner new.descriptor (content_of new)
     field_in_shape f owns extends fits =
-        subst (λ (d : MessageDescriptor). IsShaped (Shaped 100) d (content_of new)) (sym extends.same_type)
-        (field_shaped (Shaped 100) d sound f owns (content_of old) (content_of new) its_shape extends.extensions extends.unknown
-        (extends.ascending its_shape.ordered.fields.ascending) (stays_or_goes f extends) fits)
+        subst (λ (d : MessageDescriptor). IsShaped inner d (content_of new)) (sym extends.same_type)
+        (field_shaped inner d sound f owns (content_of old) (content_of new) shape extends.extensions extends.unknown
+        (extends.ascending shape.ordered.fields.ascending) (stays_or_goes f extends) fits)
 
     pub extension_in_shape : (x : ExtensionDescriptor) → OwnsExtension d x → ExtendsExtension old new x
-        → ((v : Value) → value_at (extensions_of new) (extension_type x).number ≡ Some v → Fits (Shaped 100) d.pool.now (extension_type x) v)
-        → IsInShape new
+        → ((v : Value) → value_at (extensions_of new) (extension_type x).number ≡ Some v → Fits inner d.pool.now (extension_type x) v)
+        → IsShaped inner new.descriptor (content_of new)
     extension_in_shape x owns extends fits =
         let under = value_at (extensions_of new) (extension_type x).number in
-        subst (λ (d : MessageDescriptor). IsShaped (Shaped 100) d (content_of new)) (sym extends.same_type)
-        (extension_shaped (Shaped 100) d sound x owns (content_of old) (content_of new) its_shape extends.fields extends.unknown under
-        (record { here = refl; others = extends.others; ascending = extends.ascending its_shape.ordered.extensions.ascending }) fits)
+        subst (λ (d : MessageDescriptor). IsShaped inner d (content_of new)) (sym extends.same_type)
+        (extension_shaped inner d sound x owns (content_of old) (content_of new) shape extends.fields extends.unknown under
+        (record { here = refl; others = extends.others; ascending = extends.ascending shape.ordered.extensions.ascending }) fits)
 
     -- what stands there before fits
-    pub field_fits : (f : FieldDescriptor) → Owns d f → (v : Value) → value_at (fields_of old) (field_type f).number ≡ Some v → Fits (Shaped 100) d.pool.now (field_type f) v
-    field_fits f owns v at = its_shape.fields f owns v at
+    pub field_fits : (f : FieldDescriptor) → Owns d f → (v : Value) → value_at (fields_of old) (field_type f).number ≡ Some v → Fits inner d.pool.now (field_type f) v
+    field_fits f owns v at = shape.fields f owns v at
 
-    pub extension_fits : (x : ExtensionDescriptor) → OwnsExtension d x → (v : Value) → value_at (extensions_of old) (extension_type x).number ≡ Some v → Fits (Shaped 100) d.pool.now (extension_type x) v
+    pub extension_fits : (x : ExtensionDescriptor) → OwnsExtension d x → (v : Value) → value_at (extensions_of old) (extension_type x).number ≡ Some v → Fits inner d.pool.now (extension_type x) v
     extension_fits x owns v at = by (known_field d.pool.now d.index (extension_type x).number) refl where
-      by : (o : Option FieldType) → known_field d.pool.now d.index (extension_type x).number ≡ o → Fits (Shaped 100) d.pool.now (extension_type x) v
-      by None none = its_shape.extensions x owns none v at
+      by : (o : Option FieldType) → known_field d.pool.now d.index (extension_type x).number ≡ o → Fits inner d.pool.now (extension_type x) v
+      by None none = shape.extensions x owns none v at
       by (Some g) is =
           let f = known d (extension_type x).number g is in
           let same : (field_type f.0).number ≡ (extension_type x).number = ap (λ (t : FieldType). t.number) f.2 ∙ f.3 in
-          absurd (cc (sym at ∙ ap (value_at (extensions_of old)) (sym same) ∙ its_shape.apart f.0 f.1))
+          absurd (cc (sym at ∙ ap (value_at (extensions_of old)) (sym same) ∙ shape.apart f.0 f.1))

@@ -1,5 +1,5 @@
 -- The entry that a message in shape gives to a map.
-use Rattle.std.proofs.Common.{◌≡◌, ℕ, ◌==◌, ◌&&◌, ◌||◌, not, Bool, true, false, cond, Option, None, Some, option_map, unwrap_or, refl, sym, ap, ◌∙◌, subst, arith}
+use Rattle.std.proofs.Common.{◌≡◌, ℕ, suc, ◌==◌, ◌&&◌, ◌||◌, not, Bool, true, false, cond, Option, None, Some, option_map, unwrap_or, refl, sym, ap, ◌∙◌, subst, arith}
 use Rattle.std.specs.Option.{option_and_then}
 use Rattle.reflect_entries.specs.Entries.{value_at}
 use Rattle.reflect_extend.specs.Gives.{Entry, GivesAs, GivesIn, GivesPair, IsPart, left_under}
@@ -20,9 +20,10 @@ use Rattle.reflect_scalar.specs.declared.map_key.MapKey.{MapKey}
 use Rattle.reflect_tables.specs.Types.{FieldType, KindType, PoolType, no_field, type_at, type_of_field}
 use Rattle.reflect_tables.specs.Types as types
 use Rattle.reflect_tables.specs.declared.stored.StoredEntry.{StoredEntry}
-use Rattle.message_view.specs.Shaped.{Fits, FitsAs, FitsOne, IsInShape, IsShaped, Shaped}
+use Rattle.message_view.specs.Shaped.{Fits, FitsAs, FitsOne, HasShape, IsShaped}
 use Rattle.message_view.specs.Sound.{AreApart, IsPartAt, IsSound}
 use Rattle.message_view.proofs.Changed.{nothing_shaped}
+use Rattle.message_view.proofs.Deeper.{one_level}
 use Rattle.message_view.proofs.Entries.{some_default}
 use Rattle.message_view.proofs.Fields.{known}
 use Rattle.set_view.specs.Given.{GivesFitting}
@@ -140,20 +141,23 @@ module _ (inner : DynamicMessage → Type 0) (blank : (m : DynamicMessage) → c
       (part_fits inner d.pool.now its_value value_part.one blank (value_at (fields_of m) 2) (held_fits 2 s.value value_part there) value (subst (λ o. IsPart d.pool.now its_value o value) value_left of_value))
 
 -- a message of the entries' type
-module _ (pool : PoolType) (sound : IsSound pool) (f : FieldType) (v : Value) (fits : FitsOne IsInShape pool f v) where
-  pub given_fits : GivesFitting (Shaped 100) pool f v
+module _ (exclusive : Bool) (levels : ℕ) (pool : PoolType) (sound : IsSound pool) (f : FieldType) (v : Value) (fits : FitsOne (HasShape exclusive (suc (suc levels))) pool f v) where
+  abbrev inside : DynamicMessage → Type 0
+  inside = HasShape exclusive (suc levels)
+
+  pub given_fits : GivesFitting inside pool f v
   given_fits e gives values there =
       let entry = fits.nested (entry_type pool f.kind 2 values there) in
       by entry.0 entry.2.0 entry.2.1 entry.3 (type_at entry.0.descriptor.pool.now entry.0.descriptor.index).entry refl (subst (λ o. GivesIn o (Some e)) entry.1 gives) where
-        by : (m : DynamicMessage) → m.descriptor.pool.now ≡ pool → f.kind ≡ types.message m.descriptor.index → IsInShape m
+        by : (m : DynamicMessage) → m.descriptor.pool.now ≡ pool → f.kind ≡ types.message m.descriptor.index → HasShape exclusive (suc (suc levels)) m
             → (o : Option StoredEntry) → (type_at m.descriptor.pool.now m.descriptor.index).entry ≡ o → GivesAs m.descriptor.pool.now m.descriptor.index o (fields_of m) (Some e)
-            → FitsOne (Shaped 100) pool values e.1
+            → FitsOne inside pool values e.1
         by m its_pool its_kind shape None is h = absurd (cc h)
         by m its_pool its_kind shape (Some s) is h =
             let found : numbered_field m.descriptor.pool.now m.descriptor.index 2 ≡ Some values =
             ap (λ p. numbered_field p m.descriptor.index 2) its_pool ∙ sym (ap (λ t. entry_field pool t 2) its_kind) ∙ there in
             let its_sound = subst IsSound (sym its_pool) sound in
             let same = part_found m.descriptor.pool.now its_sound.apart m.descriptor.index 2 s.value (its_sound.parts m.descriptor.index s is).1 values found in
-            subst (λ p. FitsOne (Shaped 100) p values e.1) its_pool
-            (subst (λ (t : FieldType). FitsOne (Shaped 100) m.descriptor.pool.now t e.1) same
-            (pair_fits (Shaped 100) (nothing_shaped 99) m its_sound shape s is (found ∙ ap Some (sym same)) e h))
+            subst (λ p. FitsOne inside p values e.1) its_pool
+            (subst (λ (t : FieldType). FitsOne inside m.descriptor.pool.now t e.1) same
+            (pair_fits inside (nothing_shaped exclusive levels) m its_sound (one_level exclusive (suc levels) m shape) s is (found ∙ ap Some (sym same)) e h))

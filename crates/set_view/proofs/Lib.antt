@@ -7,6 +7,8 @@ mod Leaving
 mod Listed
 mod Longer
 mod Mapped
+mod Numbered
 mod Parts
 mod Suited
+mod Taken
 mod Viewed

@@ -3,6 +3,7 @@ use Rattle.std.proofs.Common.{◌≡◌, ◌&&◌, not, Bool, true, false, List,
 use Rattle.std.specs.List.{AllByRecursion}
 use Rattle.protobuf_model.proofs.Arranged.{all_append}
 use Rattle.reflect_entries.specs.Entries.{value_at}
+use Rattle.reflect_message.specs.Contents.{content_of}
 use Rattle.reflect_message.specs.Declares.{Owns, OwnsExtension}
 use Rattle.reflect_message.specs.Held.{extensions_of, fields_of}
 use Rattle.reflect_message.specs.Lists.{KeepsList, Lengthens, items_held}
@@ -14,7 +15,7 @@ use Rattle.reflect_pool.specs.declared.field.FieldDescriptor.{FieldDescriptor}
 use Rattle.reflect_pool.specs.declared.message.MessageDescriptor.{MessageDescriptor}
 use Rattle.reflect_scalar.specs.FieldTypes.{extension_type}
 use Rattle.reflect_tables.specs.Types.{FieldType, PoolType}
-use Rattle.message_view.specs.Shaped.{Fits, FitsAs, FitsOne, IsInShape, Shaped}
+use Rattle.message_view.specs.Shaped.{Fits, FitsAs, FitsOne, IsShaped}
 use Rattle.message_view.specs.Sound.{IsSound}
 use Rattle.set_view.specs.Extends.{ExtendsExtension, ExtendsField}
 use Rattle.set_view.proofs.Extended.{extension_fits, extension_in_shape, field_fits, field_in_shape}
@@ -60,23 +61,22 @@ module _ (inner : DynamicMessage → Type 0) (pool : PoolType) (f : FieldType) (
       list_fits v (was.0 ++ vs, ap items_held (sym is) ∙ lengthened old new was.0 vs was.1 lengthens, all_append (FitsOne inner pool f) was.0 vs was.2 all)
 
 -- ---- messages
-module _ (old new : DynamicMessage) (sound : IsSound old.descriptor.pool.now) where
+module _ (inner : DynamicMessage → Type 0) (old new : DynamicMessage) (sound : IsSound old.descriptor.pool.now) (shape : IsShaped inner old.descriptor (content_of old)) where
   abbrev d : MessageDescriptor
   d = old.descriptor
 
-  module _ (shape : IsInShape old) where
-    pub list_in_shape : (f : FieldDescriptor) → Owns d f → holds_list d.pool.now (field_type f) ≡ true → ExtendsField old new f
-        → (vs : List Value) → AllByRecursion (FitsOne (Shaped 100) d.pool.now (field_type f)) vs
-        → Lengthens (value_at (fields_of old) (field_type f).number) (value_at (fields_of new) (field_type f).number) vs → IsInShape new
-    list_in_shape f owns many extends vs all lengthens =
-        let under = λ (m : DynamicMessage). value_at (fields_of m) (field_type f).number in
-        field_in_shape old new sound shape f owns extends
-        (longer_fits (Shaped 100) d.pool.now (field_type f) many (under old) (under new) vs (field_fits old new sound shape f owns) all lengthens)
+  pub list_in_shape : (f : FieldDescriptor) → Owns d f → holds_list d.pool.now (field_type f) ≡ true → ExtendsField old new f
+      → (vs : List Value) → AllByRecursion (FitsOne inner d.pool.now (field_type f)) vs
+      → Lengthens (value_at (fields_of old) (field_type f).number) (value_at (fields_of new) (field_type f).number) vs → IsShaped inner new.descriptor (content_of new)
+  list_in_shape f owns many extends vs all lengthens =
+      let under = λ (m : DynamicMessage). value_at (fields_of m) (field_type f).number in
+      field_in_shape old new inner sound shape f owns extends
+      (longer_fits inner d.pool.now (field_type f) many (under old) (under new) vs (field_fits old new inner sound shape f owns) all lengthens)
 
-    pub list_extension_in_shape : (x : ExtensionDescriptor) → OwnsExtension d x → holds_list d.pool.now (extension_type x) ≡ true → ExtendsExtension old new x
-        → (vs : List Value) → AllByRecursion (FitsOne (Shaped 100) d.pool.now (extension_type x)) vs
-        → Lengthens (value_at (extensions_of old) (extension_type x).number) (value_at (extensions_of new) (extension_type x).number) vs → IsInShape new
-    list_extension_in_shape x owns many extends vs all lengthens =
-        let under = λ (m : DynamicMessage). value_at (extensions_of m) (extension_type x).number in
-        extension_in_shape old new sound shape x owns extends
-        (longer_fits (Shaped 100) d.pool.now (extension_type x) many (under old) (under new) vs (extension_fits old new sound shape x owns) all lengthens)
+  pub list_extension_in_shape : (x : ExtensionDescriptor) → OwnsExtension d x → holds_list d.pool.now (extension_type x) ≡ true → ExtendsExtension old new x
+      → (vs : List Value) → AllByRecursion (FitsOne inner d.pool.now (extension_type x)) vs
+      → Lengthens (value_at (extensions_of old) (extension_type x).number) (value_at (extensions_of new) (extension_type x).number) vs → IsShaped inner new.descriptor (content_of new)
+  list_extension_in_shape x owns many extends vs all lengthens =
+      let under = λ (m : DynamicMessage). value_at (extensions_of m) (extension_type x).number in
+      extension_in_shape old new inner sound shape x owns extends
+      (longer_fits inner d.pool.now (extension_type x) many (under old) (under new) vs (extension_fits old new inner sound shape x owns) all lengthens)

@@ -6,6 +6,7 @@ use Rattle.std.specs.Ordering.{match_ordering}
 use Rattle.reflect_entries.specs.Entries.{value_at}
 use Rattle.reflect_extend.specs.Gives.{Entry, Gives}
 use Rattle.reflect_extend.specs.Puts.{PutsAll, PutsEntries, PutsFront, PutsSome, with_given}
+use Rattle.reflect_message.specs.Contents.{content_of}
 use Rattle.reflect_message.specs.Declares.{Owns, OwnsExtension}
 use Rattle.reflect_message.specs.Held.{extensions_of, fields_of}
 use Rattle.reflect_message.specs.Maps.{entries_held, key_order}
@@ -18,7 +19,7 @@ use Rattle.reflect_pool.specs.declared.message.MessageDescriptor.{MessageDescrip
 use Rattle.reflect_scalar.specs.FieldTypes.{extension_type}
 use Rattle.reflect_scalar.specs.declared.map_key.MapKey.{MapKey}
 use Rattle.reflect_tables.specs.Types.{FieldType, PoolType}
-use Rattle.message_view.specs.Shaped.{Fits, FitsAs, FitsEntry, IsInShape, Shaped}
+use Rattle.message_view.specs.Shaped.{Fits, FitsAs, FitsEntry, IsShaped}
 use Rattle.message_view.specs.Sound.{IsSound}
 use Rattle.set_view.specs.Extends.{ExtendsExtension, ExtendsField}
 use Rattle.set_view.specs.Given.{GivesFitting}
@@ -75,22 +76,22 @@ module _ (inner : DynamicMessage → Type 0) (pool : PoolType) (f : FieldType) w
         subst (λ b. FitsAs inner pool f b (holds_list pool f) v) (sym is_map) (now.0, ap entries_held (sym is) ∙ now.1, all_fit was.0 now.0 vs was.2 all now.2)
 
 -- ---- messages
-module _ (old new : DynamicMessage) (sound : IsSound old.descriptor.pool.now) (shape : IsInShape old) where
+module _ (inner : DynamicMessage → Type 0) (old new : DynamicMessage) (sound : IsSound old.descriptor.pool.now) (shape : IsShaped inner old.descriptor (content_of old)) where
   abbrev d : MessageDescriptor
   d = old.descriptor
 
   pub map_in_shape : (f : FieldDescriptor) → Owns d f → holds_map d.pool.now (field_type f) ≡ true → ExtendsField old new f
-      → (vs : List Value) → AllByRecursion (GivesFitting (Shaped 100) d.pool.now (field_type f)) vs
-      → PutsEntries (value_at (fields_of old) (field_type f).number) (value_at (fields_of new) (field_type f).number) vs → IsInShape new
+      → (vs : List Value) → AllByRecursion (GivesFitting inner d.pool.now (field_type f)) vs
+      → PutsEntries (value_at (fields_of old) (field_type f).number) (value_at (fields_of new) (field_type f).number) vs → IsShaped inner new.descriptor (content_of new)
   map_in_shape f owns is_map extends vs all puts =
       let under = λ (m : DynamicMessage). value_at (fields_of m) (field_type f).number in
-      field_in_shape old new sound shape f owns extends
-      (fuller_fits (Shaped 100) d.pool.now (field_type f) is_map (under old) (under new) vs (field_fits old new sound shape f owns) all puts)
+      field_in_shape old new inner sound shape f owns extends
+      (fuller_fits inner d.pool.now (field_type f) is_map (under old) (under new) vs (field_fits old new inner sound shape f owns) all puts)
 
   pub map_extension_in_shape : (x : ExtensionDescriptor) → OwnsExtension d x → holds_map d.pool.now (extension_type x) ≡ true → ExtendsExtension old new x
-      → (vs : List Value) → AllByRecursion (GivesFitting (Shaped 100) d.pool.now (extension_type x)) vs
-      → PutsEntries (value_at (extensions_of old) (extension_type x).number) (value_at (extensions_of new) (extension_type x).number) vs → IsInShape new
+      → (vs : List Value) → AllByRecursion (GivesFitting inner d.pool.now (extension_type x)) vs
+      → PutsEntries (value_at (extensions_of old) (extension_type x).number) (value_at (extensions_of new) (extension_type x).number) vs → IsShaped inner new.descriptor (content_of new)
   map_extension_in_shape x owns is_map extends vs all puts =
       let under = λ (m : DynamicMessage). value_at (extensions_of m) (extension_type x).number in
-      extension_in_shape old new sound shape x owns extends
-      (fuller_fits (Shaped 100) d.pool.now (extension_type x) is_map (under old) (under new) vs (extension_fits old new sound shape x owns) all puts)
+      extension_in_shape old new inner sound shape x owns extends
+      (fuller_fits inner d.pool.now (extension_type x) is_map (under old) (under new) vs (extension_fits old new inner sound shape x owns) all puts)

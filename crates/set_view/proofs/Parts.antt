@@ -1,6 +1,6 @@
 -- The key and the value of the entry that a message gives to a map, where the message suits its
 -- type.
-use Rattle.std.proofs.Common.{◌≡◌, ℕ, ◌||◌, not, Bool, true, false, true≢false, cond, is_some, Option, None, Some, option_map, refl, sym, ap, ◌∙◌, subst}
+use Rattle.std.proofs.Common.{◌≡◌, ℕ, suc, ◌||◌, not, Bool, true, false, true≢false, cond, is_some, Option, None, Some, option_map, refl, sym, ap, ◌∙◌, subst}
 use Rattle.std.specs.Option.{option_and_then}
 use Rattle.protobuf_model.specs.Coded.{SuitsType}
 use Rattle.protobuf_model.specs.Scalars.{Suits, same}
@@ -33,7 +33,7 @@ use Rattle.reflect_scalar.specs.declared.map_key.MapKey.TheVariants as keys
 use Rattle.reflect_tables.specs.Types.{FieldType, KindType, PoolType, type_at, type_of_field}
 use Rattle.reflect_tables.specs.Types as types
 use Rattle.reflect_tables.specs.declared.stored.StoredEntry.{StoredEntry}
-use Rattle.message_view.specs.Shaped.{FitsOne, IsInShape, IsShaped, Shaped}
+use Rattle.message_view.specs.Shaped.{FitsOne, IsShaped, Shaped}
 use Rattle.message_view.specs.Singles.{scalar_of, single_view}
 use Rattle.message_view.specs.Sound.{IsPartAt, IsSound}
 use Rattle.message_view.specs.Types.{default_of, entry_part, field_of, key_of, kind_in, name_at, oneof_at, part_of, types_of, values_of}
@@ -163,7 +163,7 @@ default_suits pool f whole default v h = by (sort_of f.kind) where
       (nothing_typed (IsTyped 98 (types_of pool)) 99 (types_of pool (name_at pool m.0.descriptor.index)) (view m.0) (empty_view m.0 m.2.1)))
 
 -- ---- the parts of an entry
-module _ (m : DynamicMessage) (sound : IsSound m.descriptor.pool.now) (shape : IsShaped (Shaped 100) m.descriptor (content_of m))
+module _ (levels : ℕ) (m : DynamicMessage) (sound : IsSound m.descriptor.pool.now) (shape : IsShaped (Shaped (suc levels)) m.descriptor (content_of m))
     (suits : SuitsType (types_of m.descriptor.pool.now) (name_at m.descriptor.pool.now m.descriptor.index) (view m))
     (s : StoredEntry) (is : (type_at m.descriptor.pool.now m.descriptor.index).entry ≡ Some s) where
   abbrev its : MessageDescriptor
@@ -190,7 +190,7 @@ module _ (m : DynamicMessage) (sound : IsSound m.descriptor.pool.now) (shape : I
     held_typed u at =
         let f = type_of place in
         let o = oneof_at its.pool.now its.index f in
-        held_suits (IsTyped 99 (types_of its.pool.now)) its.pool.now f 100 part.one o false (Shaped 100) whole default u (held_fits (Shaped 100) (nothing_shaped 99) m sound shape s is n place part there u at)
+        held_suits (IsTyped 99 (types_of its.pool.now)) its.pool.now f 100 part.one o false (Shaped (suc levels)) whole default u (held_fits (Shaped (suc levels)) (nothing_shaped false levels) m sound shape s is n place part there u at)
         (subst (λ h. IsHeldOf (IsTyped 99 (types_of its.pool.now)) 100 (Some (field_of its.pool.now o false f)) (held_in its.pool.now f (option_map content_view h))) at (field_typed m sound suits n f known))
 
     default_typed : (v : Value) → IsDefault its.pool.now (type_of place) v → IsOfPart place v
@@ -238,7 +238,7 @@ module _ (m : DynamicMessage) (sound : IsSound m.descriptor.pool.now) (shape : I
   pair_valued whole e (key, value, of_key, of_value, given) =
       subst (IsOfPart s.value) (value_of_pair (key_of_value key) value e given)
       (part_typed 2 s.value value_part value_there whole (value_at (fields_of m) 2) refl value
-      (subst (λ o. IsPart its.pool.now (type_of s.value) o value) (value_left (Shaped 100) (nothing_shaped 99) m sound shape s is) of_value))
+      (subst (λ o. IsPart its.pool.now (type_of s.value) o value) (value_left (Shaped (suc levels)) (nothing_shaped false levels) m sound shape s is) of_value))
 
 -- ---- a message of the entries' type
 map_of_messages : (pool : PoolType) (f : FieldType) → holds_map pool f ≡ true → IsMessageType f.kind
@@ -247,11 +247,11 @@ map_of_messages pool f is_map = by f.kind (entry_of_map pool f is_map) where
   by (types.message i) e = tt
   by t e = absurd (cc e)
 
-module _ (pool : PoolType) (sound : IsSound pool) (f : FieldType) (is_map : holds_map pool f ≡ true) (v : Value) (fits : FitsOne IsInShape pool f v)
+module _ (levels : ℕ) (pool : PoolType) (sound : IsSound pool) (f : FieldType) (is_map : holds_map pool f ≡ true) (v : Value) (fits : FitsOne (Shaped (suc (suc levels))) pool f v)
     (suits : (m : DynamicMessage) → message_in v ≡ Some m → SuitsType (types_of pool) (name_at pool m.descriptor.index) (view m)) where
   -- what holds of the entry of each such message
   of_pair : (P : Entry → Type 0)
-      → ((m : DynamicMessage) → m.descriptor.pool.now ≡ pool → f.kind ≡ types.message m.descriptor.index → IsInShape m
+      → ((m : DynamicMessage) → m.descriptor.pool.now ≡ pool → f.kind ≡ types.message m.descriptor.index → Shaped (suc (suc levels)) m
       → SuitsType (types_of m.descriptor.pool.now) (name_at m.descriptor.pool.now m.descriptor.index) (view m)
       → (s : StoredEntry) → (type_at m.descriptor.pool.now m.descriptor.index).entry ≡ Some s
       → (e : Entry) → GivesPair m.descriptor.pool.now (type_of_field m.descriptor.pool.now m.descriptor.index s.key) (type_of_field m.descriptor.pool.now m.descriptor.index s.value) (fields_of m) (Some e) → P e)
@@ -259,7 +259,7 @@ module _ (pool : PoolType) (sound : IsSound pool) (f : FieldType) (is_map : hold
   of_pair P each e gives =
       let entry = fits.nested (map_of_messages pool f is_map) in
       by entry.0 entry.2.0 entry.2.1 entry.3 (suits entry.0 entry.1) (type_at entry.0.descriptor.pool.now entry.0.descriptor.index).entry refl (subst (λ o. GivesIn o (Some e)) entry.1 gives) where
-        by : (m : DynamicMessage) → m.descriptor.pool.now ≡ pool → f.kind ≡ types.message m.descriptor.index → IsInShape m → SuitsType (types_of pool) (name_at pool m.descriptor.index) (view m)
+        by : (m : DynamicMessage) → m.descriptor.pool.now ≡ pool → f.kind ≡ types.message m.descriptor.index → Shaped (suc (suc levels)) m → SuitsType (types_of pool) (name_at pool m.descriptor.index) (view m)
             → (o : Option StoredEntry) → (type_at m.descriptor.pool.now m.descriptor.index).entry ≡ o → GivesAs m.descriptor.pool.now m.descriptor.index o (fields_of m) (Some e)
             → P e
         by m its_pool its_kind shape suit None is h = absurd (cc h)
@@ -275,8 +275,8 @@ module _ (pool : PoolType) (sound : IsSound pool) (f : FieldType) (is_map : hold
   given_keyed = of_pair (HasKey pool f) (λ m its_pool its_kind shape suit s is e h.
       let its_sound = subst IsSound (sym its_pool) sound in
       let key = type_of_field m.descriptor.pool.now m.descriptor.index s.key in
-      let there = as_part m its_pool its_kind 1 key (key_there m its_sound shape suit s is) in
-      subst (λ (g : FieldType). Suits (scalar_of g.kind) (single_view (key_view e.0))) (sym (part_is pool f 1 key there)) (pair_keyed m its_sound shape suit s is e h))
+      let there = as_part m its_pool its_kind 1 key (key_there levels m its_sound shape suit s is) in
+      subst (λ (g : FieldType). Suits (scalar_of g.kind) (single_view (key_view e.0))) (sym (part_is pool f 1 key there)) (pair_keyed levels m its_sound shape suit s is e h))
 
   module _ (whole : holds_floats pool f ≡ false) where
     abbrev HasValue : Entry → Type 0
@@ -286,8 +286,8 @@ module _ (pool : PoolType) (sound : IsSound pool) (f : FieldType) (is_map : hold
     given_valued = of_pair HasValue (λ m its_pool its_kind shape suit s is e h.
         let its_sound = subst IsSound (sym its_pool) sound in
         let value = type_of_field m.descriptor.pool.now m.descriptor.index s.value in
-        let there = as_part m its_pool its_kind 2 value (value_there m its_sound shape suit s is) in
-        let typed = pair_valued m its_sound shape suit s is (no_float_values pool f value whole is_map there) e h in
+        let there = as_part m its_pool its_kind 2 value (value_there levels m its_sound shape suit s is) in
+        let typed = pair_valued levels m its_sound shape suit s is (no_float_values pool f value whole is_map there) e h in
         let below = IsTyped 99 (types_of pool) in
         subst (λ b. IsOf below (part_of pool (cond b (entry_part pool f 2) f)).kind (content_view e.1)) (sym is_map)
         (subst (λ (g : FieldType). IsOf below (kind_in pool g.group g.kind) (content_view e.1)) (sym (part_is pool f 2 value there))

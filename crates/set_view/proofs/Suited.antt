@@ -65,13 +65,16 @@ module _ (inner : Name → Message → Type 0) (levels : ℕ) (type : ℕ → Op
       by (inl none) = inl (same ∙ none)
       by (inr none) = inr (other ∙ none)
 
-    -- one number is unset
-    pub unset_typed : (n : ℕ) → IsUnset n old new → IsTypedBy inner levels type new
-    unset_typed n unset = record {
+    pub left_typed : ((q : ℕ) → StaysOrGoes q) → IsTypedBy inner levels type new
+    left_typed each = record {
       numbers = λ q. within q (each q);
       contents = λ q. kept q (each q);
       exclusive = λ a b rivals. one_of a b rivals (each a) (each b);
-    } where
+    }
+
+    -- one number is unset
+    pub unset_typed : (n : ℕ) → IsUnset n old new → IsTypedBy inner levels type new
+    unset_typed n unset = left_typed each where
       each : (q : ℕ) → StaysOrGoes q
       each q = by (q == n) refl where
         by : (c : Bool) → (q == n) ≡ c → StaysOrGoes q

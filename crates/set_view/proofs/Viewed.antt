@@ -35,7 +35,7 @@ seen d n field extension unknown =
     held_either d.pool.now (known_field d.pool.now d.index n) (known_extension d.pool.now d.index n)
     (option_map content_view field) (option_map content_view extension) (payloads n unknown)
 
-abbrev by_fields : MessageDescriptor → ℕ → Option FieldType → Option FieldType → (field extension : Option Value) → List (ℕ × Payload) → Held
+abbrev pub by_fields : MessageDescriptor → ℕ → Option FieldType → Option FieldType → (field extension : Option Value) → List (ℕ × Payload) → Held
 by_fields d n f x field extension unknown = held_either d.pool.now f x (option_map content_view field) (option_map content_view extension) (payloads n unknown)
 
 pub view_at : (m : DynamicMessage) (n : ℕ) → view m n ≡ seen m.descriptor n (value_at (fields_of m) n) (value_at (extensions_of m) n) (unknown_of m)
@@ -65,7 +65,7 @@ module _ (old new : DynamicMessage) (type : new.descriptor ≡ old.descriptor) w
   abbrev d : MessageDescriptor
   d = old.descriptor
 
-  view_new : (n : ℕ) → view new n ≡ seen d n (value_at (fields_of new) n) (value_at (extensions_of new) n) (unknown_of new)
+  pub view_new : (n : ℕ) → view new n ≡ seen d n (value_at (fields_of new) n) (value_at (extensions_of new) n) (unknown_of new)
   view_new n = view_at new n ∙ ap (λ (d : MessageDescriptor). seen d n (value_at (fields_of new) n) (value_at (extensions_of new) n) (unknown_of new)) type
 
   -- under a number under which the same stands

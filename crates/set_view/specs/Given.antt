@@ -1,5 +1,5 @@
 -- Entries that values give to a map, and which of them suit it.
-use Rattle.std.specs.Prelude.{◌≡◌, List, [], ◌∷◌, Option, None, Some}
+use Rattle.std.specs.Prelude.{◌≡◌, ℕ, suc, List, [], ◌∷◌, Option, None, Some}
 use Rattle.protobuf_model.specs.Coded.{SuitsType}
 use Rattle.protobuf_model.specs.Scalars.{Suits}
 use Rattle.protobuf_model.specs.Typed.{IsEntryOf, IsTyped}
@@ -9,7 +9,7 @@ use Rattle.reflect_message.specs.Messages.{message_in}
 use Rattle.reflect_message.specs.Names.{DynamicMessage, Value}
 use Rattle.reflect_scalar.specs.Keys.{key_view}
 use Rattle.reflect_tables.specs.Types.{FieldType, PoolType}
-use Rattle.message_view.specs.Shaped.{FitsEntry, FitsOne, IsInShape}
+use Rattle.message_view.specs.Shaped.{FitsEntry, FitsOne, Shaped}
 use Rattle.message_view.specs.Singles.{scalar_of, single_view}
 use Rattle.message_view.specs.Types.{entry_part, key_of, name_at, part_of, types_of, values_of}
 use Rattle.message_view.specs.Views.{content_view, view}
@@ -36,9 +36,10 @@ abbrev pub GivesSuiting : PoolType → FieldType → Value → Type 0
 GivesSuiting pool f v = (e : Entry) → Gives v (Some e) → IsEntryOf (IsTyped 99 (types_of pool))
     (key_of pool (entry_part pool f 1)) (part_of pool (values_of pool f)) (entry_view e)
 
--- the value is a message in shape, of the type of the map's entries, and suits this type
-pub record SuitsEntries (pool : PoolType) (f : FieldType) (v : Value) : Type 0 where
-  pub shape : FitsOne IsInShape pool f v
+-- the value is a message in shape, of the type of the map's entries, and suits this type: there are
+-- so many levels below the message that its value may be
+pub record SuitsEntries (levels : ℕ) (pool : PoolType) (f : FieldType) (v : Value) : Type 0 where
+  pub shape : FitsOne (Shaped (suc (suc levels))) pool f v
   pub type : (m : DynamicMessage) → message_in v ≡ Some m
       → SuitsType (types_of pool) (name_at pool m.descriptor.index) (view m)
 

@@ -18,6 +18,7 @@ ghost use Rattle.reflect_pool.specs.declared.extension.ExtensionDescriptor.{Exte
 ghost use Rattle.reflect_pool.specs.declared.field.FieldDescriptor.{FieldDescriptor};
 ghost use Rattle.reflect_scalar.specs.FieldTypes.{extension_type};
 ghost use Rattle.message_view.specs.Sound.{IsSound};
+ghost use Rattle.message_view.specs.Taken.{TakesOut};
 ghost use Rattle.message_view.specs.Types.{name_at, types_of};
 ghost use Rattle.message_view.specs.Views.{content_view, held_in, view};
 ghost use Rattle.set_view.specs.Puts.{IsPut, IsUnset};
@@ -83,4 +84,10 @@ pub fn put_messages_suit_the_type()
 pub fn unset_messages_suit_the_type()
     ensures { (types : Types) (t : Name) (n : ℕ) (old new : Message)
         → IsUnset n old new → SuitsType types t old → SuitsType types t new }
+{}
+
+/// And where fields, extensions or other records are taken out.
+pub fn what_is_taken_out_suits_the_type()
+    ensures { (types : Types) (t : Name) (old new : DynamicMessage) → TakesOut old new
+        → SuitsType types t (view old) → SuitsType types t (view new) }
 {}

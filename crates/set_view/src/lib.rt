@@ -6,4 +6,5 @@ pub mod laws;
 pub mod lists;
 pub mod maps;
 pub mod meant;
+pub mod order;
 pub mod refused;

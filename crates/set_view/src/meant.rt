@@ -1,5 +1,5 @@
 //! Laws of what lists and maps mean that took further values.
-ghost use Rattle.std.specs.Prelude.{◌≡◌, ◌++◌, Bool, List, Some, false, map, true, ℕ};
+ghost use Rattle.std.specs.Prelude.{◌≡◌, ◌++◌, Bool, List, Some, false, map, suc, true, ℕ};
 ghost use Rattle.std.specs.List.{AllByRecursion};
 ghost use Rattle.std.specs.Option.{IsSome};
 ghost use Rattle.protobuf_model.specs.Coded.{SuitsType};
@@ -25,7 +25,7 @@ ghost use Rattle.reflect_pool.specs.declared.extension.ExtensionDescriptor.{Exte
 ghost use Rattle.reflect_pool.specs.declared.field.FieldDescriptor.{FieldDescriptor};
 ghost use Rattle.reflect_scalar.specs.FieldTypes.{extension_type};
 ghost use Rattle.reflect_tables.specs.Types.{FieldType, PoolType};
-ghost use Rattle.message_view.specs.Shaped.{FitsOne, IsInShape};
+ghost use Rattle.message_view.specs.Shaped.{FitsOne, Shaped};
 ghost use Rattle.message_view.specs.Sound.{IsSound};
 ghost use Rattle.message_view.specs.Types.{name_at, types_of};
 ghost use Rattle.message_view.specs.Views.{content_view, view};
@@ -128,8 +128,9 @@ pub fn map_extensions_that_suit_have_their_keys()
 
 /// A message in shape that suits the type of a map's entries gives an entry with such a key.
 pub fn entries_that_suit_give_their_keys()
-    ensures { (pool : PoolType) → IsSound pool → (f : FieldType) → holds_map pool f ≡ true
-        → (v : Value) → FitsOne IsInShape pool f v
+    ensures { (levels : ℕ) (pool : PoolType) → IsSound pool
+        → (f : FieldType) → holds_map pool f ≡ true
+        → (v : Value) → FitsOne (Shaped (suc (suc levels))) pool f v
         → ((m : DynamicMessage) → message_in v ≡ Some m
         → SuitsType (types_of pool) (name_at pool m.descriptor.index) (view m))
         → GivesKeyed pool f v }
@@ -138,8 +139,9 @@ pub fn entries_that_suit_give_their_keys()
 /// It gives one that suits the map, where messages hold this: its values are no floating-point
 /// numbers.
 pub fn entries_that_suit_give_what_suits()
-    ensures { (pool : PoolType) → IsSound pool → (f : FieldType) → holds_map pool f ≡ true
-        → holds_floats pool f ≡ false → (v : Value) → FitsOne IsInShape pool f v
+    ensures { (levels : ℕ) (pool : PoolType) → IsSound pool
+        → (f : FieldType) → holds_map pool f ≡ true → holds_floats pool f ≡ false
+        → (v : Value) → FitsOne (Shaped (suc (suc levels))) pool f v
         → ((m : DynamicMessage) → message_in v ≡ Some m
         → SuitsType (types_of pool) (name_at pool m.descriptor.index) (view m))
         → GivesSuiting pool f v }
@@ -167,32 +169,34 @@ pub fn fuller_maps_suit_the_field()
 /// is a map, by messages that are in shape and suit the entries' type: so `encode` writes it in one
 /// form, and `decode` reads it again as it was.
 pub fn extended_maps_suit_the_type()
-    ensures { (old new : DynamicMessage) → IsSound old.descriptor.pool.now → IsInShape old
+    ensures { (levels : ℕ) (old new : DynamicMessage) → IsSound old.descriptor.pool.now
+        → Shaped (suc (suc levels)) old
         → SuitsType (types_of old.descriptor.pool.now)
         (name_at old.descriptor.pool.now old.descriptor.index) (view old)
         → IsExclusive old → (f : FieldDescriptor) → Owns old.descriptor f
         → holds_map old.descriptor.pool.now (field_type f) ≡ true
         → ExtendsField old new f → LacksSibling f (choices_of old) (fields_of new)
         → (vs : List Value)
-        → AllByRecursion (SuitsEntries old.descriptor.pool.now (field_type f)) vs
+        → AllByRecursion (SuitsEntries levels old.descriptor.pool.now (field_type f)) vs
         → PutsEntries (value_at (fields_of old) (field_type f).number)
         (value_at (fields_of new) (field_type f).number) vs
-        → IsInShape new × SuitsType (types_of old.descriptor.pool.now)
+        → Shaped (suc (suc levels)) new × SuitsType (types_of old.descriptor.pool.now)
         (name_at old.descriptor.pool.now old.descriptor.index) (view new) }
 {}
 
 /// So it does with entries put into an extension, under whose number no field stands.
 pub fn extended_map_extensions_suit_the_type()
-    ensures { (old new : DynamicMessage) → IsSound old.descriptor.pool.now → IsInShape old
+    ensures { (levels : ℕ) (old new : DynamicMessage) → IsSound old.descriptor.pool.now
+        → Shaped (suc (suc levels)) old
         → SuitsType (types_of old.descriptor.pool.now)
         (name_at old.descriptor.pool.now old.descriptor.index) (view old)
         → (x : ExtensionDescriptor) → OwnsExtension old.descriptor x
         → NoField old.descriptor (extension_type x).number
         → holds_map old.descriptor.pool.now (extension_type x) ≡ true
         → ExtendsExtension old new x → (vs : List Value)
-        → AllByRecursion (SuitsEntries old.descriptor.pool.now (extension_type x)) vs
+        → AllByRecursion (SuitsEntries levels old.descriptor.pool.now (extension_type x)) vs
         → PutsEntries (value_at (extensions_of old) (extension_type x).number)
         (value_at (extensions_of new) (extension_type x).number) vs
-        → IsInShape new × SuitsType (types_of old.descriptor.pool.now)
+        → Shaped (suc (suc levels)) new × SuitsType (types_of old.descriptor.pool.now)
         (name_at old.descriptor.pool.now old.descriptor.index) (view new) }
 {}

@@ -1,5 +1,6 @@
+use Rattle.message_view.specs.Shaped.{HasShape}
 use Rattle.message_view.proofs.Changed.{unset_extension_shaped}
 use Rattle.message_view.proofs.shape.unset_extensions_leave_the_shape.Goals as goal
 
 pub returns : goal.returns
-returns c = unset_extension_shaped
+returns c = λ exclusive levels. unset_extension_shaped (HasShape exclusive levels)

@@ -1,5 +1,6 @@
+use Rattle.message_view.specs.Shaped.{HasShape}
 use Rattle.set_view.proofs.Listed.{list_in_shape}
 use Rattle.set_view.proofs.lists.extended_lists_leave_the_shape.Goals as goal
 
 pub returns : goal.returns
-returns c = list_in_shape
+returns c = λ exclusive levels. list_in_shape (HasShape exclusive levels)

@@ -1,5 +1,6 @@
+use Rattle.message_view.specs.Shaped.{HasShape}
 use Rattle.set_view.proofs.Mapped.{map_extension_in_shape}
 use Rattle.set_view.proofs.maps.extended_map_extensions_leave_the_shape.Goals as goal
 
 pub returns : goal.returns
-returns c = map_extension_in_shape
+returns c = λ exclusive levels. map_extension_in_shape (HasShape exclusive levels)
