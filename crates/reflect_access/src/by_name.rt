@@ -3,7 +3,8 @@
 ghost use Rattle.std.specs.Prelude.{◌≡◌, IfErr, IfNone, IfOk, IfSome, OnErr, OnOk};
 ghost use Rattle.reflect_entries.specs.Entries.{IsAscending};
 ghost use Rattle.reflect_message.specs.Held.{fields_of};
-ghost use Rattle.reflect_numbered.specs.Called.{HasName, IsMeant, Lends, NoneMeant, SetsMeant, StaysWhole, TakesMeant, TellsMeant, UnsetsMeant};
+ghost use Rattle.reflect_message.specs.Oneofs.{IsExclusive};
+ghost use Rattle.reflect_numbered.specs.Called.{HasName, IsMeant, Lends, NoneMeant, OwnsMeant, SetsMeant, StaysWhole, TakesMeant, TellsMeant, UnsetsMeant};
 ghost use Rattle.reflect_numbered.specs.Refused.{RefusesSet};
 
 use reflect_message::{DynamicMessage, FieldRef, Value};
@@ -55,6 +56,8 @@ pub trait FieldsByName<'p> {
             value.entry) }
         ensures ascending { OnOk result (IsAscending (fields_of (message self.old))
             → IsAscending (fields_of (message self.new))) }
+        ensures exclusive { OwnsMeant (HasName name.now) (message self.old).descriptor
+            → IsExclusive (message self.old) → IsExclusive (message self.new) }
         ensures err { OnErr result (StaysWhole (message self.old) (message self.new)) };
 
     /// Sets the field of the name, as `try_set_field` does. `NotFound` where there is no such
@@ -68,6 +71,8 @@ pub trait FieldsByName<'p> {
         ensures ok { OnOk result (SetsMeant (HasName name.now) (message self.old) (message self.new)
             value.entry) }
         ensures ascending { OnOk result (IsAscending (fields_of (message self.new))) }
+        ensures exclusive { OwnsMeant (HasName name.now) (message self.old).descriptor
+            → IsExclusive (message self.old) → IsExclusive (message self.new) }
         ensures refused { IfErr result
             (RefusesSet (HasName name.now) (message self.old).descriptor value.entry) }
         ensures err { OnErr result (StaysWhole (message self.old) (message self.new)) };
@@ -75,14 +80,16 @@ pub trait FieldsByName<'p> {
     /// Unsets the field of the name, if there is one. Takes no memory.
     fn clear_field_by_name(&mut self, name: &str)
         ensures type_stays { (message self.new).descriptor ≡ (message self.old).descriptor }
-        ensures unsets { UnsetsMeant (HasName name.now) (message self.old) (message self.new) };
+        ensures unsets { UnsetsMeant (HasName name.now) (message self.old) (message self.new) }
+        ensures exclusive { IsExclusive (message self.old) → IsExclusive (message self.new) };
 
     /// Unsets the field of the name and gives what it held, if there is one and it was set. Takes
     /// no memory.
     fn take_field_by_name(&mut self, name: &str) -> Option<Value<'p>>
         ensures type_stays { (message self.new).descriptor ≡ (message self.old).descriptor }
         ensures takes { TakesMeant (HasName name.now) (message self.old)
-            (message self.new) result };
+            (message self.new) result }
+        ensures exclusive { IsExclusive (message self.old) → IsExclusive (message self.new) };
 }
 
 impl<'p> FieldsByName<'p> for DynamicMessage<'p> {

@@ -9,6 +9,7 @@ use Rattle.reflect_pool.specs.declared.field.FieldDescriptor.{FieldDescriptor}
 use Rattle.reflect_pool.specs.declared.message.MessageDescriptor.{MessageDescriptor}
 use Rattle.reflect_scalar.specs.FieldTypes.{field_pool}
 use Rattle.reflect_scalar.specs.Floats.{HoldsFloats}
+use Rattle.reflect_message.specs.Declares.{Owns}
 use Rattle.reflect_message.specs.Held.{fields_of, extensions_of, unknown_of, UpdatesField}
 use Rattle.reflect_message.specs.Oneofs.{SetsField}
 use Rattle.reflect_message.specs.Present.{held_if_set, is_held}
@@ -31,6 +32,10 @@ pub record IsMeant (P : Asked) (m : MessageDescriptor) (f : FieldDescriptor) : T
   pub message : f.message ≡ m
   pub first : FindsField P m (Some f)
   pub held : HoldsFloats (field_pool f) (field_type f) → ⊥
+
+-- what is meant is the message's own: the first field of its number, as each is in a linked pool
+abbrev pub OwnsMeant : Asked → MessageDescriptor → Type 0
+OwnsMeant P m = (f : FieldDescriptor) → IsMeant P m f → Owns m f
 
 -- no field is meant
 abbrev pub NoneMeant : Asked → MessageDescriptor → Type 0

@@ -57,14 +57,16 @@ pub trait FieldsByNumber<'p> {
     /// Unsets the field of the number, if there is one. Takes no memory.
     fn clear_field_by_number(&mut self, number: u32)
         ensures type_stays { (message self.new).descriptor ≡ (message self.old).descriptor }
-        ensures unsets { UnsetsMeant (HasNumber number) (message self.old) (message self.new) };
+        ensures unsets { UnsetsMeant (HasNumber number) (message self.old) (message self.new) }
+        ensures exclusive { IsExclusive (message self.old) → IsExclusive (message self.new) };
 
     /// Unsets the field of the number and gives what it held, if there is one and it was set. Takes
     /// no memory.
     fn take_field_by_number(&mut self, number: u32) -> Option<Value<'p>>
         ensures type_stays { (message self.new).descriptor ≡ (message self.old).descriptor }
         ensures takes { TakesMeant (HasNumber number) (message self.old)
-            (message self.new) result };
+            (message self.new) result }
+        ensures exclusive { IsExclusive (message self.old) → IsExclusive (message self.new) };
 }
 
 impl<'p> FieldsByNumber<'p> for DynamicMessage<'p> {

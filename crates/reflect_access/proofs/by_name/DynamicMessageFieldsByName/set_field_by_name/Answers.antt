@@ -9,3 +9,9 @@ returns-in-Some-clause-ok c =
     let f = c.in-Some.field in
     let meant = subst (λ (d : MessageDescriptor). IsMeant (HasName c.args.name.now) d f) c.descriptor.ensures c.in-Some.ensures.meant in
     if_ok c.set_field.result (λ sets. inl (f, meant, sets)) c.set_field.ensures.ok
+
+pub returns-in-Some-clause-exclusive : goal.returns-in-Some-clause-exclusive
+returns-in-Some-clause-exclusive c whole =
+    let f = c.in-Some.field in
+    let meant = subst (λ (d : MessageDescriptor). IsMeant (HasName c.args.name.now) d f) c.descriptor.ensures c.in-Some.ensures.meant in
+    c.set_field.ensures.exclusive (whole f meant)

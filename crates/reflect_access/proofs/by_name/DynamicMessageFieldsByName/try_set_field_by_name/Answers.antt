@@ -10,6 +10,12 @@ returns-in-Some-clause-ok c =
     let meant = subst (λ (d : MessageDescriptor). IsMeant (HasName c.args.name.now) d f) c.descriptor.ensures c.in-Some.ensures.meant in
     if_ok c.try_set_field.result (λ sets. inl (f, meant, sets)) c.try_set_field.ensures.ok
 
+pub returns-in-Some-clause-exclusive : goal.returns-in-Some-clause-exclusive
+returns-in-Some-clause-exclusive c whole =
+    let f = c.in-Some.field in
+    let meant = subst (λ (d : MessageDescriptor). IsMeant (HasName c.args.name.now) d f) c.descriptor.ensures c.in-Some.ensures.meant in
+    c.try_set_field.ensures.exclusive (whole f meant)
+
 pub returns-in-Some-clause-refused : goal.returns-in-Some-clause-refused
 returns-in-Some-clause-refused c =
     let d = c.args.self.now.descriptor in
