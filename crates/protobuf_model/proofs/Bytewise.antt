@@ -1,5 +1,5 @@
 -- The laws of records as laws of bytes.
-use Rattle.std.proofs.Common.{◌≡◌, ◌↔◌, ℕ, zero, suc, ◌<◌, ◌^◌, List, [], ◌∷◌, ◌++◌, length, refl, sym, ap, ◌∙◌, subst, append_assoc}
+use Rattle.std.proofs.Common.{◌≡◌, ◌↔◌, ℕ, zero, suc, ◌<◌, ◌≤◌, ◌^◌, List, [], ◌∷◌, ◌++◌, length, refl, sym, ap, ◌∙◌, subst, append_assoc, arith}
 use Rattle.std.specs.List.{AllByRecursion}
 use Rattle.reflect_wire.specs.declared.wire_key.WireKey.{WireKey}
 use Rattle.reflect_wire.specs.Key.{IsKey}
@@ -12,7 +12,7 @@ use Rattle.protobuf_model.specs.Types.{Name, Types}
 use Rattle.protobuf_model.specs.Reader.{inside_of, list_of}
 use Rattle.protobuf_model.specs.Meaning.{meaning}
 use Rattle.protobuf_model.specs.Accepts.{IsFramed, AcceptsRecord, Accepts}
-use Rattle.protobuf_model.specs.Typed.{HaveDefaults}
+use Rattle.protobuf_model.specs.Typed.{HaveDefaults, IsTyped}
 use Rattle.protobuf_model.specs.Bytes.{written, bytes_of}
 use Rattle.protobuf_model.specs.Coded.{AreRead, IsAccepted, AreMerged, Mean, SuitsType}
 use Rattle.protobuf_model.proofs.Pieces.{meaning_in_pieces}
@@ -111,5 +111,8 @@ one_form types i m n s t y z = (
   (λ e. ap (bytes_of types i) e),
 )
 
+pub merged_deep : (types : Types) → HaveDefaults types → (i : Name) (start m : Message) (bytes : List ℕ) (levels : ℕ) → 100 ≤ levels → IsTyped levels types i start → AreMerged types i start bytes m → IsTyped levels types i m
+merged_deep types d i start m bytes levels le t h = subst (IsTyped levels types i) h.2 (merged_typed 100 levels le types d i start h.0 t h.1.accepted)
+
 pub merged_well : (types : Types) → HaveDefaults types → (i : Name) (start m : Message) (bytes : List ℕ) → SuitsType types i start → AreMerged types i start bytes m → SuitsType types i m
-merged_well types d i start m bytes t h = subst (SuitsType types i) h.2 (merged_typed 100 types d i start h.0 t h.1.accepted)
+merged_well types d i start m bytes = merged_deep types d i start m bytes 100 (omega arith)

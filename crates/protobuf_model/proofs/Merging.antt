@@ -1,5 +1,5 @@
 -- A message that suits its type still does with the accepted records that are merged into it.
-use Rattle.std.proofs.Common.{◌≡◌, ◌⊎◌, inl, inr, ℕ, zero, suc, Bool, true, false, cond, List, [], ◌∷◌, Option, Some, None, refl, ap, ◌∙◌, subst, arith}
+use Rattle.std.proofs.Common.{◌≡◌, ◌⊎◌, ◌≤◌, inl, inr, ℕ, zero, suc, Bool, true, false, cond, List, [], ◌∷◌, Option, Some, None, refl, ap, ◌∙◌, subst, arith}
 use Rattle.std.specs.List.{AllByRecursion}
 use Rattle.reflect_wire.specs.Records.{Payload}
 use Rattle.reflect_wire.specs.Written.{FitsPayload}
@@ -12,6 +12,7 @@ use Rattle.protobuf_model.specs.Typed.{IsHeldOf, IsTypedBy, IsTyped, HaveDefault
 use Rattle.protobuf_model.proofs.Pieces.{Inner}
 use Rattle.protobuf_model.proofs.Arranged.{InRange, all_append, all_standing}
 use Rattle.protobuf_model.proofs.Exclusive.{rival_sym, standing_without, standing_apart}
+use Rattle.protobuf_model.proofs.Deeper.{accepted_deeper}
 use Rattle.protobuf_model.proofs.Lists.{all_map}
 use Rattle.protobuf_model.proofs.Typing.{KeepsTyped, held_typed, held_kept, absent_typed}
 
@@ -73,8 +74,9 @@ module _ (types : Types) (accept : Acceptable) (inner : Inner) (typed : Name →
 pub none_keeps : KeepsTyped (λ frame j p. ⊥) (λ j m rs. m) (λ j m. ⊥) zero
 none_keeps = record { fresh = λ j h. omega arith; merged = λ frame j m ps t a. absurd t; deeper = λ frame j p h. absurd h }
 
-abbrev pub Merges : ℕ → Types → Type 0
-Merges levels types = (i : Name) (m : Message) (rs : List (ℕ × Payload)) → IsTyped levels types i m → Accepts levels types i rs → IsTyped levels types i (meaning levels types i m rs)
+-- records of some levels leave a message that suits its type with as many below, or more, as it was
+abbrev pub Merges : ℕ → ℕ → Types → Type 0
+Merges levels depth types = (i : Name) (m : Message) (rs : List (ℕ × Payload)) → IsTyped depth types i m → Accepts levels types i rs → IsTyped depth types i (meaning levels types i m rs)
 
 pub joined_accepted : (levels : ℕ) (types : Types) (frame : Frame) (j : Name) (ps : List Payload) → AllByRecursion (λ p. IsFramed levels frame p × Accepts levels types j (inside_of p)) ps → Accepts levels types j (joined ps)
 joined_accepted zero types frame j [] a = tt
@@ -86,17 +88,10 @@ joined_accepted (suc levels) types frame j (p ∷ ps) a =
 abbrev pub Accept : ℕ → Types → Acceptable
 Accept levels types = λ frame j p. IsFramed levels frame p × Accepts levels types j (inside_of p)
 
-pub more_keeps : (levels : ℕ) (types : Types) → ((i : Name) → IsTyped levels types i nothing) → Merges levels types → KeepsTyped (Accept levels types) (meaning levels types) (IsTyped levels types) (suc levels)
-more_keeps levels types fresh each = record {
-  fresh = λ j h. fresh j;
-  merged = λ frame j m ps t a. each j m (joined ps) t (joined_accepted levels types frame j ps a);
-  deeper = λ frame j p h. omega arith;
-}
-
 -- nothing suits each type
-nothing_at : (levels : ℕ) (types : Types) (i : Name) → IsTyped levels types i nothing
-nothing_at zero types i = nothing_typed_by (λ frame j p. ⊥) (λ j m rs. m) (λ j m. ⊥) zero none_keeps (types i)
-nothing_at (suc levels) types i = record {
+pub nothing_typed : (levels : ℕ) (types : Types) (i : Name) → IsTyped levels types i nothing
+nothing_typed zero types i = nothing_typed_by (λ frame j p. ⊥) (λ j m rs. m) (λ j m. ⊥) zero none_keeps (types i)
+nothing_typed (suc levels) types i = record {
   numbers = λ n. inl refl;
   contents = λ n. by (types i n);
   exclusive = λ n q e. inl refl;
@@ -105,11 +100,24 @@ nothing_at (suc levels) types i = record {
   by None = tt
   by (Some f) = refl
 
-pub nothing_typed : (levels : ℕ) (types : Types) (i : Name) → IsTyped levels types i nothing
-nothing_typed = nothing_at
+pub more_keeps : (levels depth : ℕ) (types : Types) → Merges levels depth types → KeepsTyped (Accept levels types) (meaning levels types) (IsTyped depth types) (suc depth)
+more_keeps levels depth types each = record {
+  fresh = λ j h. nothing_typed depth types j;
+  merged = λ frame j m ps t a. each j m (joined ps) t (joined_accepted levels types frame j ps a);
+  deeper = λ frame j p h. omega arith;
+}
+
+-- no record reaches the messages below
+none_reach : (depth : ℕ) (types : Types) → KeepsTyped (λ frame j p. ⊥) (λ j m rs. m) (IsTyped depth types) (suc depth)
+none_reach depth types = record { fresh = λ j h. nothing_typed depth types j; merged = λ frame j m ps t a. t; deeper = λ frame j p h. absurd h }
 
 -- records that are accepted, merged into a message that suits the type
-pub merged_typed : (levels : ℕ) (types : Types) → HaveDefaults types → Merges levels types
-merged_typed zero types d i m rs t a = typed_after types (λ frame j p. ⊥) (λ j m rs. m) (λ j m. ⊥) zero none_keeps i m t rs a d
-merged_typed (suc levels) types d i m rs t a =
-    typed_after types (Accept levels types) (meaning levels types) (IsTyped levels types) (suc levels) (more_keeps levels types (nothing_typed levels types) (merged_typed levels types d)) i m t rs a d
+pub merged_typed : (levels depth : ℕ) → levels ≤ depth → (types : Types) → HaveDefaults types → Merges levels depth types
+merged_typed zero zero le types d i m rs t a = typed_after types (λ frame j p. ⊥) (λ j m rs. m) (λ j m. ⊥) zero none_keeps i m t rs a d
+merged_typed zero (suc depth) le types d i m rs t a =
+    typed_after types (λ frame j p. ⊥) (λ j m rs. m) (IsTyped depth types) (suc depth) (none_reach depth types) i m t rs
+    (accepted_deeper (λ frame j p. ⊥) zero (suc depth) le (types i) rs a) d
+merged_typed (suc levels) zero le types d i m rs t a = absurd (omega (arith, le))
+merged_typed (suc levels) (suc depth) le types d i m rs t a =
+    typed_after types (Accept levels types) (meaning levels types) (IsTyped depth types) (suc depth) (more_keeps levels depth types (merged_typed levels depth (omega (arith, le)) types d)) i m t rs
+    (accepted_deeper (Accept levels types) (suc levels) (suc depth) le (types i) rs a) d

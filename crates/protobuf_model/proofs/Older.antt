@@ -171,7 +171,7 @@ more_passes levels old new Pair defaults deeper = record {
   opens = λ frame j p a. a.1;
   joins = λ frame j p ps a. joined_accepted levels new frame j (p ∷ ps) a;
   empties = λ j h. no_records_accepted levels new j;
-  suits = λ j rs a. merged_typed levels new defaults j nothing rs (nothing_typed levels new j) a;
+  suits = λ j rs a. merged_typed levels levels (omega arith) new defaults j nothing rs (nothing_typed levels new j) a;
 }
 
 pub passage : (levels : ℕ) (old new : Types) (Pair : Name → Name → Type 0) → AreOlder old new Pair → HaveDefaults new → ArePassages levels old new Pair
@@ -182,7 +182,7 @@ passage zero old new Pair older defaults i j pair rs a z = record {
 passage (suc levels) old new Pair older defaults i j pair rs a z =
     let deeper = more_passes levels old new Pair defaults (passage levels old new Pair older defaults) in
     let each = more_back levels new (round_trip levels new) in
-    let keeps = more_keeps levels new (nothing_typed levels new) (merged_typed levels new defaults) in
+    let keeps = more_keeps levels levels new (merged_typed levels levels (omega arith) new defaults) in
     record {
       accepted = passage_accepted old new Pair older defaults (Accept levels new) (meaning levels old) (meaning levels new) (IsTyped levels new) (λ j rs. Accepts levels new j rs) (suc levels) deeper each keeps i j pair rs a z;
       means = passage_means old new Pair older defaults (Accept levels new) (meaning levels old) (meaning levels new) (IsTyped levels new) (λ j rs. Accepts levels new j rs) (suc levels) deeper each keeps i j pair rs a z;

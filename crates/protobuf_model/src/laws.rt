@@ -1,9 +1,9 @@
 //! Laws of messages and their bytes, each the contract of a function that does nothing.
-ghost use Rattle.std.specs.Prelude.{◌≡◌, ◌↔◌, ◌<◌, ◌^◌, ◌++◌, ℕ, List, length};
+ghost use Rattle.std.specs.Prelude.{◌≡◌, ◌↔◌, ◌<◌, ◌≤◌, ◌^◌, ◌++◌, ℕ, List, length};
 ghost use Rattle.protobuf_model.specs.Bytes.{bytes_of};
 ghost use Rattle.protobuf_model.specs.Coded.{AreMerged, AreOlderThan, IsAccepted, IsRecoded, IsRecodedThrough, SuitsType, Mean};
 ghost use Rattle.protobuf_model.specs.Older.{IsOlder};
-ghost use Rattle.protobuf_model.specs.Typed.{HaveDefaults};
+ghost use Rattle.protobuf_model.specs.Typed.{HaveDefaults, IsTyped};
 ghost use Rattle.protobuf_model.specs.Types.{Name, Types};
 ghost use Rattle.protobuf_model.specs.Values.{Message, nothing};
 
@@ -42,11 +42,12 @@ pub fn equal_messages_have_equal_bytes()
         → (bytes_of types t m ≡ bytes_of types t n) ↔ (m ≡ n) }
 {}
 
-/// What accepted bytes mean suits the type, also behind a start that does, where the defaults of
-/// maps' keys and values are values of their kinds.
+/// What accepted bytes mean suits the type, also behind a start that does, of as many levels as
+/// bytes have, or more, where the defaults of maps' keys and values are values of their kinds.
 pub fn merged_bytes_suit_the_type()
     ensures { (types : Types) → HaveDefaults types → (t : Name) (start m : Message) (bytes : List ℕ)
-        → SuitsType types t start → AreMerged types t start bytes m → SuitsType types t m }
+        → (levels : ℕ) → 100 ≤ levels → IsTyped levels types t start
+        → AreMerged types t start bytes m → IsTyped levels types t m }
 {}
 
 /// The message in which nothing is set suits each type.
