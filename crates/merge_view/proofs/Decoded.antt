@@ -14,8 +14,9 @@ use Rattle.reflect_decode.specs.Suits.{Suits, SuitsBelow}
 use Rattle.reflect_decode.proofs.Suiting.{copy_suits, filled_suits, nothing_suits, suits_stay}
 use Rattle.protobuf_model.specs.Bytes.{bytes_of}
 use Rattle.protobuf_model.specs.Coded.{AreMerged, Mean, SuitsType}
+use Rattle.protobuf_model.specs.Typed.{IsTyped}
 use Rattle.protobuf_model.specs.Values as model
-use Rattle.protobuf_model.proofs.Bytewise.{merged_in_pieces, merged_well, one_meaning}
+use Rattle.protobuf_model.proofs.Bytewise.{merged_deep, merged_in_pieces, merged_well, one_meaning}
 use Rattle.protobuf_model.proofs.Merging.{nothing_typed}
 use Rattle.message_view.specs.Shaped.{HasShape, IsShaped, Shaped}
 use Rattle.message_view.specs.Sound.{IsSound}
@@ -37,15 +38,15 @@ use Rattle.merge_view.proofs.Shaped.{copy_ordered, copy_shaped}
 
 -- what is merged into a message is what the bytes mean behind it
 pub merged_means : (d : MessageDescriptor) → IsSound d.pool.now → (bytes : List ℕ) → AreBytes bytes → (old new : DynamicMessage) → old.descriptor ≡ d → new.descriptor ≡ d
-    → Suits 100 d (content_of old) → SuitsType (types_of d.pool.now) (name_at d.pool.now d.index) (view old) → IsMerged d bytes old new
+    → Suits 100 d (content_of old) → (depth : ℕ) → IsTyped depth (types_of d.pool.now) (name_at d.pool.now d.index) (view old) → IsMerged d bytes old new
     → AreMerged (types_of d.pool.now) (name_at d.pool.now d.index) (view old) bytes (view new)
-merged_means d sound bytes b old new type also suits typed (rs, copy, spelled, copied, ordered, merges, accepts) =
+merged_means d sound bytes b old new type also suits depth typed (rs, copy, spelled, copied, ordered, merges, accepts) =
     let pool = d.pool.now in
     let types = types_of pool in
     let t = name_at pool d.index in
     let told = named pool sound.names in
     let same : view old ≡ view_of pool d.index copy = seen_in pool d old type refl ∙ sym (copy_seen pool d.index (content_of old) copy copied) in
-    let means = merged_meaning pool sound.keys sound.defaults types told 100 d refl copy (content_of new) rs (copy_suits 100 d (content_of old) copy copied suits) (subst (SuitsType types t) same typed) merges in
+    let means = merged_meaning pool sound.keys sound.defaults types told 100 depth d refl copy (content_of new) rs (copy_suits 100 d (content_of old) copy copied suits) (subst (IsTyped depth types t) same typed) merges in
     let whole = subst (λ start. AreMerged types t start bytes (view_of pool d.index (content_of new))) (sym same)
     (rs, record { spelled = spelled; accepted = accepted pool sound.keys types told 100 d refl bytes rs b spelled (accepts suits) }, means) in
     subst (AreMerged types t (view old) bytes) (sym (seen_in pool d new also refl)) whole
@@ -54,13 +55,14 @@ merged_means d sound bytes b old new type also suits typed (rs, copy, spelled, c
 merged_fits : (d : MessageDescriptor) (bytes : List ℕ) (old new : DynamicMessage) → Suits 100 d (content_of old) → IsMerged d bytes old new → Suits 100 d (content_of new)
 merged_fits d bytes old new suits (rs, copy, spelled, copied, ordered, merges, accepts) = suits_stay 100 d copy (content_of new) rs merges (copy_suits 100 d (content_of old) copy copied suits)
 
--- and in the model's
+-- and in the model's, where it was as deep as bytes may be, or deeper
 pub merged_suits : (d : MessageDescriptor) → IsSound d.pool.now → (bytes : List ℕ) → AreBytes bytes → (old new : DynamicMessage) → old.descriptor ≡ d → new.descriptor ≡ d
-    → Suits 100 d (content_of old) → SuitsType (types_of d.pool.now) (name_at d.pool.now d.index) (view old) → IsMerged d bytes old new
-    → Suits 100 d (content_of new) × SuitsType (types_of d.pool.now) (name_at d.pool.now d.index) (view new)
-merged_suits d sound bytes b old new type also suits typed merged = (
+    → Suits 100 d (content_of old) → (depth : ℕ) → 100 ≤ depth → IsTyped depth (types_of d.pool.now) (name_at d.pool.now d.index) (view old) → IsMerged d bytes old new
+    → Suits 100 d (content_of new) × IsTyped depth (types_of d.pool.now) (name_at d.pool.now d.index) (view new)
+merged_suits d sound bytes b old new type also suits depth le typed merged = (
   merged_fits d bytes old new suits merged,
-  merged_well (types_of d.pool.now) (have_defaults d.pool.now sound.keys sound.defaults) (name_at d.pool.now d.index) (view old) (view new) bytes typed (merged_means d sound bytes b old new type also suits typed merged),
+  merged_deep (types_of d.pool.now) (have_defaults d.pool.now sound.keys sound.defaults) (name_at d.pool.now d.index) (view old) (view new) bytes depth le typed
+  (merged_means d sound bytes b old new type also suits depth typed merged),
 )
 
 -- what is decoded suits its type
@@ -78,7 +80,7 @@ behind_means d sound a b second old new type also suits means merged =
     let types = types_of d.pool.now in
     let t = name_at d.pool.now d.index in
     let typed = merged_well types (have_defaults d.pool.now sound.keys sound.defaults) t model.nothing (view old) a (nothing_typed 100 types t) means in
-    merged_in_pieces types t a b model.nothing (view old) (view new) means (merged_means d sound b second old new type also suits typed merged)
+    merged_in_pieces types t a b model.nothing (view old) (view new) means (merged_means d sound b second old new type also suits 100 typed merged)
 
 -- one piece decoded and another merged
 pub pieces_mean : (d : MessageDescriptor) → IsSound d.pool.now → (a b : List ℕ) → AreBytes a → AreBytes b → (old new : DynamicMessage) → old.descriptor ≡ d → new.descriptor ≡ d
@@ -152,7 +154,7 @@ pub merged_read : (d : MessageDescriptor) → IsSound d.pool.now → (bytes : Li
     → length (message_bytes new) < 2 ^ 64 → AreBytes (message_bytes new)
     → (n : DynamicMessage) → n.descriptor ≡ d → IsSpelled d (message_bytes new) n → view n ≡ view new
 merged_read d sound bytes b old new type also levels shape suits typed merged =
-    shape_decoded d sound new also (suc (levels + 100)) (merged_deep d bytes old new type also levels shape suits merged) (merged_suits d sound bytes b old new type also suits typed merged).1
+    shape_decoded d sound new also (suc (levels + 100)) (merged_deep d bytes old new type also levels shape suits merged) (merged_suits d sound bytes b old new type also suits 100 (omega arith) typed merged).1
 
 each_in_shape : (exclusive : Bool) (d : MessageDescriptor) (bs : List (List ℕ)) (old new : DynamicMessage) → old.descriptor ≡ d → new.descriptor ≡ d
     → HasShape exclusive 101 old → Suits 100 d (content_of old) → MergesEach d old bs new → HasShape exclusive 101 new

@@ -240,31 +240,33 @@ module _ (pool : PoolType) (keyed_maps : HaveMapKeys pool) (defaults : HaveEntry
     entries = λ p rs h. entry_at (suc levels) p rs h;
   }
 
-  whole : (levels : ℕ) → GoesOn pool (inner_of levels types) (TakesAt levels) (SuitsBelow levels) (typed_of levels types) → (d : MessageDescriptor) → d.pool.now ≡ pool → (old new : Content) (rs : List (ℕ × Payload))
-      → Suits levels d old → IsTyped levels types (name_at pool d.index) (view_of pool d.index old) → MergesAt levels d old new rs
+  -- the message that was held is of any depth
+  whole : (levels depth : ℕ) → GoesOn pool (inner_of levels types) (TakesAt levels) (SuitsBelow levels) (typed_of depth types) → (d : MessageDescriptor) → d.pool.now ≡ pool → (old new : Content) (rs : List (ℕ × Payload))
+      → Suits levels d old → IsTyped depth types (name_at pool d.index) (view_of pool d.index old) → MergesAt levels d old new rs
       → meaning levels types (name_at pool d.index) (view_of pool d.index old) rs ≡ view_of pool d.index new
-  whole levels goes_on d there old new rs suited is_typed merges =
+  whole levels depth goes_on d there old new rs suited is_typed merges =
       let here = sym there in
-      let holds = contents_of levels types (name_at pool d.index) (view_of pool d.index old) is_typed in
+      let holds = contents_of depth types (name_at pool d.index) (view_of pool d.index old) is_typed in
       subst (λ p. meaning levels types (name_at p d.index) (view_of p d.index old) rs ≡ view_of p d.index new) there
       (ap (λ (m : Merge). m (name_at d.pool.now d.index) (view_of d.pool.now d.index old) rs) (meaning_at levels types)
       ∙ all_behind d (subst HaveMapKeys here keyed_maps) (subst HaveEntryDefaults here defaults) types
       (λ n. subst (λ p. types (name_at p d.index) n ≡ field_at p d.index n) here (told d.index n (subst (λ p. d.index < length p.messages) there d.in_range)))
       (inner_of levels types) (TakesAt levels) (subst (λ p. Nests p (inner_of levels types) (TakesAt levels)) here (nests_at levels))
-      (SuitsBelow levels) (typed_of levels types) levels (subst (λ p. GoesOn p (inner_of levels types) (TakesAt levels) (SuitsBelow levels) (typed_of levels types)) here goes_on)
-      old new rs merges suited (subst (λ p. (n : ℕ) → IsHeldOf (typed_of levels types) levels (types (name_at p d.index) n) (view_of p d.index old n)) here holds))
+      (SuitsBelow levels) (typed_of depth types) depth (subst (λ p. GoesOn p (inner_of levels types) (TakesAt levels) (SuitsBelow levels) (typed_of depth types)) here goes_on)
+      old new rs merges suited (subst (λ p. (n : ℕ) → IsHeldOf (typed_of depth types) depth (types (name_at p d.index) n) (view_of p d.index old n)) here holds))
 
-  goes_on_at : (levels : ℕ) → GoesOn pool (inner_of levels types) (TakesAt levels) (SuitsBelow levels) (typed_of levels types)
+  goes_on_at : (levels depth : ℕ) → GoesOn pool (inner_of levels types) (TakesAt levels) (SuitsBelow levels) (typed_of depth types)
   unfolding TakenAt
-  goes_on_at zero = record { messages = λ grouped d there old new ps suited is_typed h. absurd h }
-  goes_on_at (suc levels) = record {
+  goes_on_at zero depth = record { messages = λ grouped d there old new ps suited is_typed h. absurd h }
+  goes_on_at (suc levels) zero = record { messages = λ grouped d there old new ps suited is_typed h. absurd is_typed }
+  goes_on_at (suc levels) (suc depth) = record {
     messages = λ grouped d there old new ps suited is_typed h.
         ap (meaning levels types (name_at pool d.index) (view_of pool d.index old)) (joined_at grouped levels ps h.0 h.1)
-        ∙ whole levels (goes_on_at levels) d there old new h.0 suited is_typed h.2;
+        ∙ whole levels depth (goes_on_at levels depth) d there old new h.0 suited is_typed h.2;
   }
 
   -- what records leave is what they mean behind what was held
-  pub merged_meaning : (levels : ℕ) (d : MessageDescriptor) → d.pool.now ≡ pool → (old new : Content) (rs : List (ℕ × Payload))
-      → Suits levels d old → IsTyped levels types (name_at pool d.index) (view_of pool d.index old) → MergesAt levels d old new rs
+  pub merged_meaning : (levels depth : ℕ) (d : MessageDescriptor) → d.pool.now ≡ pool → (old new : Content) (rs : List (ℕ × Payload))
+      → Suits levels d old → IsTyped depth types (name_at pool d.index) (view_of pool d.index old) → MergesAt levels d old new rs
       → meaning levels types (name_at pool d.index) (view_of pool d.index old) rs ≡ view_of pool d.index new
-  merged_meaning levels = whole levels (goes_on_at levels)
+  merged_meaning levels depth = whole levels depth (goes_on_at levels depth)

@@ -4,6 +4,7 @@ ghost use Rattle.std.specs.Prelude.{◌≡◌, ◌<◌, ◌≤◌, ◌^◌, ◌+
 ghost use Rattle.std.specs.List.{AllByRecursion, concat};
 ghost use Rattle.protobuf_model.specs.Bytes.{bytes_of};
 ghost use Rattle.protobuf_model.specs.Coded.{AreMerged, Mean, SuitsType};
+ghost use Rattle.protobuf_model.specs.Typed.{IsTyped};
 ghost use Rattle.reflect_decode.specs.Ordered.{IsOrdered};
 ghost use Rattle.reflect_decode.specs.Spelled.{IsMerged, IsSpelled};
 ghost use Rattle.reflect_decode.specs.Suits.{Suits};
@@ -20,25 +21,25 @@ ghost use Rattle.message_view.specs.Views.{view};
 ghost use Rattle.merge_view.specs.Pieces.{MergesEach};
 
 /// What `merge` leaves is what the bytes mean behind what the message held, where this suits the
-/// type.
+/// type, however deep it is.
 pub fn merged_bytes_mean_what_they_leave()
     ensures { (d : MessageDescriptor) → IsSound d.pool.now → (bytes : List ℕ) → AreBytes bytes
         → (old new : DynamicMessage) → old.descriptor ≡ d → new.descriptor ≡ d
         → Suits 100 d (content_of old)
-        → SuitsType (types_of d.pool.now) (name_at d.pool.now d.index) (view old)
+        → (levels : ℕ) → IsTyped levels (types_of d.pool.now) (name_at d.pool.now d.index) (view old)
         → IsMerged d bytes old new
         → AreMerged (types_of d.pool.now) (name_at d.pool.now d.index) (view old) bytes (view new) }
 {}
 
-/// It suits the type again, in both words.
+/// It suits the type again, in both words, where the message was as deep as bytes may be, or deeper.
 pub fn merged_messages_suit_the_type()
     ensures { (d : MessageDescriptor) → IsSound d.pool.now → (bytes : List ℕ) → AreBytes bytes
         → (old new : DynamicMessage) → old.descriptor ≡ d → new.descriptor ≡ d
-        → Suits 100 d (content_of old)
-        → SuitsType (types_of d.pool.now) (name_at d.pool.now d.index) (view old)
+        → Suits 100 d (content_of old) → (levels : ℕ) → 100 ≤ levels
+        → IsTyped levels (types_of d.pool.now) (name_at d.pool.now d.index) (view old)
         → IsMerged d bytes old new
         → Suits 100 d (content_of new)
-        × SuitsType (types_of d.pool.now) (name_at d.pool.now d.index) (view new) }
+        × IsTyped levels (types_of d.pool.now) (name_at d.pool.now d.index) (view new) }
 {}
 
 /// Where the message was in order, whether or not what it held suited its fields, it is so still.

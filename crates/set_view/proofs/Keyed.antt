@@ -1,7 +1,6 @@
 -- The keys of maps, where the message that holds them suits its type.
-use Rattle.std.proofs.Common.{◌≡◌, ℕ, Bool, true, false, cond, List, [], ◌∷◌, map, Option, None, Some, option_map, refl, sym, ap, ◌∙◌, subst}
+use Rattle.std.proofs.Common.{◌≡◌, ℕ, suc, Bool, true, false, cond, List, [], ◌∷◌, map, Option, None, Some, option_map, refl, sym, ap, ◌∙◌, subst}
 use Rattle.std.specs.List.{AllByRecursion}
-use Rattle.protobuf_model.specs.Coded.{SuitsType}
 use Rattle.protobuf_model.specs.Meaning.{if_some, payloads}
 use Rattle.protobuf_model.specs.Typed.{IsEntryOf, IsFieldOf, IsHeldOf, IsTyped, IsTypedBy}
 use Rattle.protobuf_model.specs.Types.{Field, Key, Name, Part, keyed, many, one}
@@ -63,7 +62,7 @@ module _ (d : MessageDescriptor) (sound : IsSound d.pool.now) where
       ∙ ap (either_field d.pool.now d.index None) (extension_owned d x owns)
 
 -- maps of a message that suits its type
-module _ (m : DynamicMessage) (sound : IsSound m.descriptor.pool.now) (suits : SuitsType (types_of m.descriptor.pool.now) (name_at m.descriptor.pool.now m.descriptor.index) (view m)) where
+module _ (depth : ℕ) (m : DynamicMessage) (sound : IsSound m.descriptor.pool.now) (suits : IsTyped (suc depth) (types_of m.descriptor.pool.now) (name_at m.descriptor.pool.now m.descriptor.index) (view m)) where
   abbrev d : MessageDescriptor
   d = m.descriptor
 
@@ -71,30 +70,30 @@ module _ (m : DynamicMessage) (sound : IsSound m.descriptor.pool.now) (suits : S
   fields = types_of d.pool.now (name_at d.pool.now d.index)
 
   abbrev Below : Name → Message → Type 0
-  Below = IsTyped 99 (types_of d.pool.now)
+  Below = IsTyped depth (types_of d.pool.now)
 
-  typed : IsTypedBy (IsTyped 99 (types_of m.descriptor.pool.now)) 100 (types_of m.descriptor.pool.now (name_at m.descriptor.pool.now m.descriptor.index)) (view m)
+  typed : IsTypedBy (IsTyped depth (types_of m.descriptor.pool.now)) (suc depth) (types_of m.descriptor.pool.now (name_at m.descriptor.pool.now m.descriptor.index)) (view m)
   typed = suits
 
   -- what is held under a field's number suits it
   pub field_typed : (n : ℕ) (f : FieldType) → known_field d.pool.now d.index n ≡ Some f
-      → IsHeldOf Below 100 (Some (field_of d.pool.now (oneof_at d.pool.now d.index f) false f)) (held_in d.pool.now f (option_map content_view (value_at (fields_of m) n)))
+      → IsHeldOf Below (suc depth) (Some (field_of d.pool.now (oneof_at d.pool.now d.index f) false f)) (held_in d.pool.now f (option_map content_view (value_at (fields_of m) n)))
   field_typed n f is =
       let held = held_in d.pool.now f (option_map content_view (value_at (fields_of m) n)) in
       let seen : view m n ≡ held =
       view_at m n ∙ ap (λ k. held_either d.pool.now k (known_extension d.pool.now d.index n) (option_map content_view (value_at (fields_of m) n)) (option_map content_view (value_at (extensions_of m) n)) (payloads n (unknown_of m))) is in
-      subst (λ o. IsHeldOf Below 100 o held) (field_told d sound n f is) (subst (IsHeldOf Below 100 (fields n)) seen (typed.contents n))
+      subst (λ o. IsHeldOf Below (suc depth) o held) (field_told d sound n f is) (subst (IsHeldOf Below (suc depth) (fields n)) seen (typed.contents n))
 
   pub field_keys : (f : FieldDescriptor) → Owns d f → holds_map d.pool.now (field_type f) ≡ true
       → (es : List Entry) → entries_held (value_at (fields_of m) (field_type f).number) ≡ Some es → AllByRecursion (HasKey d.pool.now (field_type f)) es
   field_keys f owns is_map es at =
       let n = (field_type f).number in
-      of_held Below 100 d.pool.now (field_type f) is_map (oneof_at d.pool.now d.index (field_type f)) false (value_at (fields_of m) n) es at (field_typed n (field_type f) (owned d f owns))
+      of_held Below (suc depth) d.pool.now (field_type f) is_map (oneof_at d.pool.now d.index (field_type f)) false (value_at (fields_of m) n) es at (field_typed n (field_type f) (owned d f owns))
 
   pub extension_keys : (x : ExtensionDescriptor) → OwnsExtension d x → NoField d (extension_type x).number → holds_map d.pool.now (extension_type x) ≡ true
       → (es : List Entry) → entries_held (value_at (extensions_of m) (extension_type x).number) ≡ Some es → AllByRecursion (HasKey d.pool.now (extension_type x)) es
   extension_keys x owns none is_map es at =
       let n = (extension_type x).number in
-      of_held Below 100 d.pool.now (extension_type x) is_map None true (value_at (extensions_of m) n) es at
-      (subst (λ o. IsHeldOf Below 100 o (held_in d.pool.now (extension_type x) (option_map content_view (value_at (extensions_of m) n)))) (extension_told d sound x owns none)
-      (subst (IsHeldOf Below 100 (fields n)) (of_extension m m refl x owns none (value_at (extensions_of m) n) refl) (typed.contents n)))
+      of_held Below (suc depth) d.pool.now (extension_type x) is_map None true (value_at (extensions_of m) n) es at
+      (subst (λ o. IsHeldOf Below (suc depth) o (held_in d.pool.now (extension_type x) (option_map content_view (value_at (extensions_of m) n)))) (extension_told d sound x owns none)
+      (subst (IsHeldOf Below (suc depth) (fields n)) (of_extension m m refl x owns none (value_at (extensions_of m) n) refl) (typed.contents n)))

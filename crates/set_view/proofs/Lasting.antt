@@ -1,5 +1,5 @@
 -- Lists and maps still suit their fields when they take further values.
-use Rattle.std.proofs.Common.{◌≡◌, ℕ, Bool, List, [], ◌∷◌, ◌++◌, Option, Some, refl, sym, subst}
+use Rattle.std.proofs.Common.{◌≡◌, ℕ, suc, Bool, List, [], ◌∷◌, ◌++◌, Option, Some, refl, sym, subst}
 use Rattle.std.specs.List.{AllByRecursion}
 use Rattle.protobuf_model.specs.Meaning.{if_any, if_some, items, pairs, put_all}
 use Rattle.protobuf_model.specs.Typed.{IsEntryOf, IsFieldOf, IsHeldOf, IsOf, IsTyped}
@@ -58,10 +58,10 @@ module _ (inner : Name → Message → Type 0) (levels : ℕ) where
       let after = if_some_suits key f.part (put_all (pairs h) es) (put_all_map inner key f.part (pairs h) es before all) in
       subst (λ o. IsHeldOf inner levels o (if_some (put_all (pairs h) es))) (sym there) (in_field f (keyed key) is (if_some (put_all (pairs h) es)) after)
 
-pub list_suits : (types : Types) (t : Name) (n : ℕ) (f : Field) (packed : Bool) (h : Held) (cs : List Content) → types t n ≡ Some f → f.label ≡ many packed
-    → IsHeldOf (IsTyped 99 types) 100 (types t n) h → AllByRecursion (IsOf (IsTyped 99 types) f.part.kind) cs → IsHeldOf (IsTyped 99 types) 100 (types t n) (if_any (items h ++ cs))
-list_suits types t n f packed h cs there is suits all = longer_suits (IsTyped 99 types) 100 (types t n) f packed h cs there is suits all
+pub list_suits : (levels : ℕ) (types : Types) (t : Name) (n : ℕ) (f : Field) (packed : Bool) (h : Held) (cs : List Content) → types t n ≡ Some f → f.label ≡ many packed
+    → IsHeldOf (IsTyped levels types) (suc levels) (types t n) h → AllByRecursion (IsOf (IsTyped levels types) f.part.kind) cs → IsHeldOf (IsTyped levels types) (suc levels) (types t n) (if_any (items h ++ cs))
+list_suits levels types t n f packed h cs there is suits all = longer_suits (IsTyped levels types) (suc levels) (types t n) f packed h cs there is suits all
 
-pub map_suits : (types : Types) (t : Name) (n : ℕ) (f : Field) (key : Key) (h : Held) (es : List (Single × Content)) → types t n ≡ Some f → f.label ≡ keyed key
-    → IsHeldOf (IsTyped 99 types) 100 (types t n) h → AllByRecursion (IsEntryOf (IsTyped 99 types) key f.part) es → IsHeldOf (IsTyped 99 types) 100 (types t n) (if_some (put_all (pairs h) es))
-map_suits types t n f key h es there is suits all = fuller_suits (IsTyped 99 types) 100 (types t n) f key h es there is suits all
+pub map_suits : (levels : ℕ) (types : Types) (t : Name) (n : ℕ) (f : Field) (key : Key) (h : Held) (es : List (Single × Content)) → types t n ≡ Some f → f.label ≡ keyed key
+    → IsHeldOf (IsTyped levels types) (suc levels) (types t n) h → AllByRecursion (IsEntryOf (IsTyped levels types) key f.part) es → IsHeldOf (IsTyped levels types) (suc levels) (types t n) (if_some (put_all (pairs h) es))
+map_suits levels types t n f key h es there is suits all = fuller_suits (IsTyped levels types) (suc levels) (types t n) f key h es there is suits all

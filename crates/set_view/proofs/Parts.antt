@@ -2,7 +2,6 @@
 -- type.
 use Rattle.std.proofs.Common.{◌≡◌, ℕ, suc, ◌||◌, not, Bool, true, false, true≢false, cond, is_some, Option, None, Some, option_map, refl, sym, ap, ◌∙◌, subst}
 use Rattle.std.specs.Option.{option_and_then}
-use Rattle.protobuf_model.specs.Coded.{SuitsType}
 use Rattle.protobuf_model.specs.Scalars.{Suits, same}
 use Rattle.protobuf_model.specs.Typed.{IsHeldOf, IsOf, IsTyped}
 use Rattle.protobuf_model.specs.Types.{Field, Name, keyed, many, one}
@@ -45,8 +44,7 @@ use Rattle.message_view.proofs.Seen.{message_seen, single_in, single_seen}
 use Rattle.set_view.specs.Given.{GivesKeyed, GivesSuiting, HasKey}
 use Rattle.set_view.proofs.Given.{held_fits, if_whole, no_list, no_map, part_found, value_left, value_of_pair}
 use Rattle.set_view.proofs.Keyed.{field_typed}
-use Rattle.set_view.proofs.Suited.{nothing_typed}
-use Rattle.set_view.proofs.Viewed.{empty_view}
+use Rattle.set_view.proofs.Viewed.{empty_suits}
 
 -- ---- keys as single values
 abbrev key_in : ValueOf-F MessageDescriptor blocks.Held Value DynamicMessage Parts → Option MapKey
@@ -148,23 +146,23 @@ module _ (inner : Name → Message → Type 0) (pool : PoolType) (f : FieldType)
           of_message v m.0 m.1 (content_suits (message (view m.0)) (subst (λ c. SuitsField (held_in pool f (Some c))) (message_seen v m.0 m.1) h))
 
 -- its default, which of a message type is an empty message
-default_suits : (pool : PoolType) (f : FieldType) → is_float f.kind ≡ false → (IsScalarType f.kind → Suits (scalar_of f.kind) (default_of pool f))
-    → (v : Value) → IsDefaultOne pool f v → IsOfKind (IsTyped 99 (types_of pool)) pool f v
-default_suits pool f whole default v h = by (sort_of f.kind) where
-  by : Sort f.kind → IsOfKind (IsTyped 99 (types_of pool)) pool f v
+default_suits : (depth : ℕ) (pool : PoolType) (f : FieldType) → is_float f.kind ≡ false → (IsScalarType f.kind → Suits (scalar_of f.kind) (default_of pool f))
+    → (v : Value) → IsDefaultOne pool f v → IsOfKind (IsTyped depth (types_of pool)) pool f v
+default_suits depth pool f whole default v h = by (sort_of f.kind) where
+  by : Sort f.kind → IsOfKind (IsTyped depth (types_of pool)) pool f v
   by (floating e) = absurd (true≢false (sym e ∙ whole))
   by (plain type) =
       let w = some_default pool f type in
-      of_single (IsTyped 99 (types_of pool)) pool f v w.0 (h.0 type ∙ w.1) type (subst (Suits (scalar_of f.kind)) (default_is pool f w.0 w.1) (default type))
+      of_single (IsTyped depth (types_of pool)) pool f v w.0 (h.0 type ∙ w.1) type (subst (Suits (scalar_of f.kind)) (default_is pool f w.0 w.1) (default type))
   by (message_type type) =
       let m = h.1 type in
-      of_message (IsTyped 99 (types_of pool)) pool f v m.0 m.1
-      (subst (λ k. IsOf (IsTyped 99 (types_of pool)) k (message (view m.0))) (sym (kind_message pool f.group f.kind m.0.descriptor.index m.2.0.1))
-      (nothing_typed (IsTyped 98 (types_of pool)) 99 (types_of pool (name_at pool m.0.descriptor.index)) (view m.0) (empty_view m.0 m.2.1)))
+      of_message (IsTyped depth (types_of pool)) pool f v m.0 m.1
+      (subst (λ k. IsOf (IsTyped depth (types_of pool)) k (message (view m.0))) (sym (kind_message pool f.group f.kind m.0.descriptor.index m.2.0.1))
+      (empty_suits depth (types_of pool) (name_at pool m.0.descriptor.index) m.0 m.2.1))
 
 -- ---- the parts of an entry
-module _ (levels : ℕ) (m : DynamicMessage) (sound : IsSound m.descriptor.pool.now) (shape : IsShaped (Shaped (suc levels)) m.descriptor (content_of m))
-    (suits : SuitsType (types_of m.descriptor.pool.now) (name_at m.descriptor.pool.now m.descriptor.index) (view m))
+module _ (levels depth : ℕ) (m : DynamicMessage) (sound : IsSound m.descriptor.pool.now) (shape : IsShaped (Shaped (suc levels)) m.descriptor (content_of m))
+    (suits : IsTyped (suc depth) (types_of m.descriptor.pool.now) (name_at m.descriptor.pool.now m.descriptor.index) (view m))
     (s : StoredEntry) (is : (type_at m.descriptor.pool.now m.descriptor.index).entry ≡ Some s) where
   abbrev its : MessageDescriptor
   its = m.descriptor
@@ -173,7 +171,7 @@ module _ (levels : ℕ) (m : DynamicMessage) (sound : IsSound m.descriptor.pool.
   type_of place = type_of_field m.descriptor.pool.now m.descriptor.index place
 
   abbrev IsOfPart : ℕ → Value → Type 0
-  IsOfPart place v = IsOf (IsTyped 99 (types_of its.pool.now)) (kind_in its.pool.now (type_of place).group (type_of place).kind) (content_view v)
+  IsOfPart place v = IsOf (IsTyped depth (types_of its.pool.now)) (kind_in its.pool.now (type_of place).group (type_of place).kind) (content_view v)
 
   is_entry_type : is_entry its.pool.now (types.message its.index) ≡ true
   is_entry_type = ap is_some is
@@ -190,11 +188,11 @@ module _ (levels : ℕ) (m : DynamicMessage) (sound : IsSound m.descriptor.pool.
     held_typed u at =
         let f = type_of place in
         let o = oneof_at its.pool.now its.index f in
-        held_suits (IsTyped 99 (types_of its.pool.now)) its.pool.now f 100 part.one o false (Shaped (suc levels)) whole default u (held_fits (Shaped (suc levels)) (nothing_shaped false levels) m sound shape s is n place part there u at)
-        (subst (λ h. IsHeldOf (IsTyped 99 (types_of its.pool.now)) 100 (Some (field_of its.pool.now o false f)) (held_in its.pool.now f (option_map content_view h))) at (field_typed m sound suits n f known))
+        held_suits (IsTyped depth (types_of its.pool.now)) its.pool.now f (suc depth) part.one o false (Shaped (suc levels)) whole default u (held_fits (Shaped (suc levels)) (nothing_shaped false levels) m sound shape s is n place part there u at)
+        (subst (λ h. IsHeldOf (IsTyped depth (types_of its.pool.now)) (suc depth) (Some (field_of its.pool.now o false f)) (held_in its.pool.now f (option_map content_view h))) at (field_typed depth m sound suits n f known))
 
     default_typed : (v : Value) → IsDefault its.pool.now (type_of place) v → IsOfPart place v
-    default_typed v h = default_suits its.pool.now (type_of place) whole default v (h.2 (no_list its.pool.now (type_of place) part.one) (no_map its.pool.now (type_of place) part.one))
+    default_typed v h = default_suits depth its.pool.now (type_of place) whole default v (h.2 (no_list its.pool.now (type_of place) part.one) (no_map its.pool.now (type_of place) part.one))
 
     part_typed : (o : Option Value) → value_at (fields_of m) n ≡ o → (v : Value) → IsPart its.pool.now (type_of place) o v → IsOfPart place v
     part_typed None at v h = default_typed v h
@@ -228,7 +226,7 @@ module _ (levels : ℕ) (m : DynamicMessage) (sound : IsSound m.descriptor.pool.
   pub pair_keyed : (e : Entry) → GivesThis e → Suits (scalar_of (type_of s.key).kind) (single_view (key_view e.0))
   pair_keyed e (key, value, of_key, of_value, given) =
       let f = type_of s.key in
-      let below = IsTyped 99 (types_of its.pool.now) in
+      let below = IsTyped depth (types_of its.pool.now) in
       let seen = single_seen key (key_view e.0) (key_seen key e.0 (key_of_pair (key_of_value key) value e given)) in
       let typed = part_typed 1 s.key key_part key_there (scalar_whole f.kind key_type) (value_at (fields_of m) 1) refl key
       (subst (λ n. IsPart its.pool.now f (value_at (fields_of m) n) key) key_part.number of_key) in
@@ -247,24 +245,24 @@ map_of_messages pool f is_map = by f.kind (entry_of_map pool f is_map) where
   by (types.message i) e = tt
   by t e = absurd (cc e)
 
-module _ (levels : ℕ) (pool : PoolType) (sound : IsSound pool) (f : FieldType) (is_map : holds_map pool f ≡ true) (v : Value) (fits : FitsOne (Shaped (suc (suc levels))) pool f v)
-    (suits : (m : DynamicMessage) → message_in v ≡ Some m → SuitsType (types_of pool) (name_at pool m.descriptor.index) (view m)) where
+module _ (levels depth : ℕ) (pool : PoolType) (sound : IsSound pool) (f : FieldType) (is_map : holds_map pool f ≡ true) (v : Value) (fits : FitsOne (Shaped (suc (suc levels))) pool f v)
+    (suits : (m : DynamicMessage) → message_in v ≡ Some m → IsTyped (suc depth) (types_of pool) (name_at pool m.descriptor.index) (view m)) where
   -- what holds of the entry of each such message
   of_pair : (P : Entry → Type 0)
       → ((m : DynamicMessage) → m.descriptor.pool.now ≡ pool → f.kind ≡ types.message m.descriptor.index → Shaped (suc (suc levels)) m
-      → SuitsType (types_of m.descriptor.pool.now) (name_at m.descriptor.pool.now m.descriptor.index) (view m)
+      → IsTyped (suc depth) (types_of m.descriptor.pool.now) (name_at m.descriptor.pool.now m.descriptor.index) (view m)
       → (s : StoredEntry) → (type_at m.descriptor.pool.now m.descriptor.index).entry ≡ Some s
       → (e : Entry) → GivesPair m.descriptor.pool.now (type_of_field m.descriptor.pool.now m.descriptor.index s.key) (type_of_field m.descriptor.pool.now m.descriptor.index s.value) (fields_of m) (Some e) → P e)
       → (e : Entry) → Gives v (Some e) → P e
   of_pair P each e gives =
       let entry = fits.nested (map_of_messages pool f is_map) in
       by entry.0 entry.2.0 entry.2.1 entry.3 (suits entry.0 entry.1) (type_at entry.0.descriptor.pool.now entry.0.descriptor.index).entry refl (subst (λ o. GivesIn o (Some e)) entry.1 gives) where
-        by : (m : DynamicMessage) → m.descriptor.pool.now ≡ pool → f.kind ≡ types.message m.descriptor.index → Shaped (suc (suc levels)) m → SuitsType (types_of pool) (name_at pool m.descriptor.index) (view m)
+        by : (m : DynamicMessage) → m.descriptor.pool.now ≡ pool → f.kind ≡ types.message m.descriptor.index → Shaped (suc (suc levels)) m → IsTyped (suc depth) (types_of pool) (name_at pool m.descriptor.index) (view m)
             → (o : Option StoredEntry) → (type_at m.descriptor.pool.now m.descriptor.index).entry ≡ o → GivesAs m.descriptor.pool.now m.descriptor.index o (fields_of m) (Some e)
             → P e
         by m its_pool its_kind shape suit None is h = absurd (cc h)
         by m its_pool its_kind shape suit (Some s) is h =
-            each m its_pool its_kind shape (subst (λ p. SuitsType (types_of p) (name_at p m.descriptor.index) (view m)) (sym its_pool) suit) s is e h
+            each m its_pool its_kind shape (subst (λ p. IsTyped (suc depth) (types_of p) (name_at p m.descriptor.index) (view m)) (sym its_pool) suit) s is e h
 
   -- a field of the entries' type as the map has it
   as_part : (m : DynamicMessage) → m.descriptor.pool.now ≡ pool → f.kind ≡ types.message m.descriptor.index → (n : ℕ) (g : FieldType)
@@ -275,23 +273,23 @@ module _ (levels : ℕ) (pool : PoolType) (sound : IsSound pool) (f : FieldType)
   given_keyed = of_pair (HasKey pool f) (λ m its_pool its_kind shape suit s is e h.
       let its_sound = subst IsSound (sym its_pool) sound in
       let key = type_of_field m.descriptor.pool.now m.descriptor.index s.key in
-      let there = as_part m its_pool its_kind 1 key (key_there levels m its_sound shape suit s is) in
-      subst (λ (g : FieldType). Suits (scalar_of g.kind) (single_view (key_view e.0))) (sym (part_is pool f 1 key there)) (pair_keyed levels m its_sound shape suit s is e h))
+      let there = as_part m its_pool its_kind 1 key (key_there levels depth m its_sound shape suit s is) in
+      subst (λ (g : FieldType). Suits (scalar_of g.kind) (single_view (key_view e.0))) (sym (part_is pool f 1 key there)) (pair_keyed levels depth m its_sound shape suit s is e h))
 
   module _ (whole : holds_floats pool f ≡ false) where
     abbrev HasValue : Entry → Type 0
-    HasValue e = IsOf (IsTyped 99 (types_of pool)) (part_of pool (values_of pool f)).kind (content_view e.1)
+    HasValue e = IsOf (IsTyped depth (types_of pool)) (part_of pool (values_of pool f)).kind (content_view e.1)
 
     given_valued : (e : Entry) → Gives v (Some e) → HasValue e
     given_valued = of_pair HasValue (λ m its_pool its_kind shape suit s is e h.
         let its_sound = subst IsSound (sym its_pool) sound in
         let value = type_of_field m.descriptor.pool.now m.descriptor.index s.value in
-        let there = as_part m its_pool its_kind 2 value (value_there levels m its_sound shape suit s is) in
-        let typed = pair_valued levels m its_sound shape suit s is (no_float_values pool f value whole is_map there) e h in
-        let below = IsTyped 99 (types_of pool) in
+        let there = as_part m its_pool its_kind 2 value (value_there levels depth m its_sound shape suit s is) in
+        let typed = pair_valued levels depth m its_sound shape suit s is (no_float_values pool f value whole is_map there) e h in
+        let below = IsTyped depth (types_of pool) in
         subst (λ b. IsOf below (part_of pool (cond b (entry_part pool f 2) f)).kind (content_view e.1)) (sym is_map)
         (subst (λ (g : FieldType). IsOf below (kind_in pool g.group g.kind) (content_view e.1)) (sym (part_is pool f 2 value there))
-        (subst (λ p. IsOf (IsTyped 99 (types_of p)) (kind_in p value.group value.kind) (content_view e.1)) its_pool typed)))
+        (subst (λ p. IsOf (IsTyped depth (types_of p)) (kind_in p value.group value.kind) (content_view e.1)) its_pool typed)))
 
-    pub given_suits : GivesSuiting pool f v
+    pub given_suits : GivesSuiting depth pool f v
     given_suits e gives = (given_keyed e gives, given_valued e gives)

@@ -1,7 +1,6 @@
 -- Messages still suit their types when a number is put or unset.
-use Rattle.std.proofs.Common.{◌≡◌, ◌⊎◌, inl, inr, ◌<◌, ◌^◌, ℕ, ◌==◌, ◌&&◌, not, Bool, true, false, true≢false, Option, None, Some, refl, sym, ap, ◌∙◌, subst, arith}
+use Rattle.std.proofs.Common.{◌≡◌, ◌⊎◌, inl, inr, ◌<◌, ◌^◌, ℕ, zero, suc, ◌==◌, ◌&&◌, not, Bool, true, false, true≢false, Option, None, Some, refl, sym, ap, ◌∙◌, subst, arith}
 use Rattle.std.proofs.lemmas.Bool.{and_parts}
-use Rattle.protobuf_model.specs.Coded.{SuitsType}
 use Rattle.protobuf_model.specs.Typed.{IsHeldOf, IsTyped, IsTypedBy}
 use Rattle.protobuf_model.specs.Types.{Field, Name, Types, oneof_of, rival, same_oneof}
 use Rattle.protobuf_model.specs.Values.{Held, Message, absent}
@@ -115,9 +114,10 @@ module _ (inner : Name → Message → Type 0) (levels : ℕ) (type : ℕ → Op
         exclusive a b rivals (inr other) (inr also) = one_of a b rivals (others a other) (others b also)
 
 -- ---- messages of a type
-pub put_suits : (types : Types) (t : Name) (n : ℕ) (held : Held) (old new : Message) → IsPut (types t) n held old new → 0 < n → n < 2 ^ 29
-    → IsHeldOf (IsTyped 99 types) 100 (types t n) held → SuitsType types t old → SuitsType types t new
-put_suits types t n held old new put least most suits typed = put_typed (IsTyped 99 types) 100 (types t) old new typed n held put least most suits
+pub put_suits : (levels : ℕ) (types : Types) (t : Name) (n : ℕ) (held : Held) (old new : Message) → IsPut (types t) n held old new → 0 < n → n < 2 ^ 29
+    → IsHeldOf (IsTyped levels types) (suc levels) (types t n) held → IsTyped (suc levels) types t old → IsTyped (suc levels) types t new
+put_suits levels types t n held old new put least most suits typed = put_typed (IsTyped levels types) (suc levels) (types t) old new typed n held put least most suits
 
-pub unset_suits : (types : Types) (t : Name) (n : ℕ) (old new : Message) → IsUnset n old new → SuitsType types t old → SuitsType types t new
-unset_suits types t n old new unset typed = unset_typed (IsTyped 99 types) 100 (types t) old new typed n unset
+pub unset_suits : (levels : ℕ) (types : Types) (t : Name) (n : ℕ) (old new : Message) → IsUnset n old new → IsTyped levels types t old → IsTyped levels types t new
+unset_suits zero types t n old new unset typed = unset_typed (λ u m. ⊥) zero (types t) old new typed n unset
+unset_suits (suc levels) types t n old new unset typed = unset_typed (IsTyped levels types) (suc levels) (types t) old new typed n unset

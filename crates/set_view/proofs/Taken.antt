@@ -1,6 +1,5 @@
 -- What messages mean out of which fields, extensions or records are taken.
-use Rattle.std.proofs.Common.{◌≡◌, ◌⊎◌, inl, inr, ℕ, List, Option, None, Some, option_map, refl, sym, ◌∙◌}
-use Rattle.protobuf_model.specs.Coded.{SuitsType}
+use Rattle.std.proofs.Common.{◌≡◌, ◌⊎◌, inl, inr, ℕ, zero, suc, List, Option, None, Some, option_map, refl, sym, ◌∙◌}
 use Rattle.protobuf_model.specs.Meaning.{payloads}
 use Rattle.protobuf_model.specs.Typed.{IsTyped}
 use Rattle.protobuf_model.specs.Types.{Name, Types}
@@ -58,8 +57,10 @@ module _ (old new : DynamicMessage) (taken : TakesOut old new) where
         by (inl same) = inl (now ∙ same ∙ sym (view_at old n))
         by (inr gone) = inr (now ∙ gone)
 
-pub taken_suits : (types : Types) (t : Name) (old new : DynamicMessage) → TakesOut old new
-    → SuitsType types t (view old) → SuitsType types t (view new)
-taken_suits types t old new taken typed =
-    left_typed (IsTyped 99 types) 100 (types t) (view old) (view new) typed
+pub taken_suits : (levels : ℕ) (types : Types) (t : Name) (old new : DynamicMessage)
+    → TakesOut old new → IsTyped levels types t (view old) → IsTyped levels types t (view new)
+taken_suits zero types t old new taken typed =
+    left_typed (λ u m. ⊥) zero (types t) (view old) (view new) typed (view_left old new taken)
+taken_suits (suc levels) types t old new taken typed =
+    left_typed (IsTyped levels types) (suc levels) (types t) (view old) (view new) typed
     (view_left old new taken)

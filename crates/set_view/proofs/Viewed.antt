@@ -1,6 +1,5 @@
 -- What is set and unset in a message, as the view of it has it.
-use Rattle.std.proofs.Common.{◌≡◌, ◌≢◌, ℕ, ◌==◌, ◌&&◌, not, Bool, true, false, true≢false, List, [], Option, None, Some, option_map, refl, sym, ap, ◌∙◌}
-use Rattle.protobuf_model.specs.Coded.{SuitsType}
+use Rattle.std.proofs.Common.{◌≡◌, ◌≢◌, ℕ, zero, suc, ◌==◌, ◌&&◌, not, Bool, true, false, true≢false, List, [], Option, None, Some, option_map, refl, sym, ap, ◌∙◌}
 use Rattle.protobuf_model.specs.Meaning.{payloads}
 use Rattle.protobuf_model.specs.Typed.{IsTyped}
 use Rattle.protobuf_model.specs.Types.{Field, Name, Types, oneof_of, rival, same_oneof}
@@ -58,8 +57,9 @@ empty_view m empty n =
       none None (Some x) = refl
       none None None = refl
 
-pub empty_suits : (types : Types) (t : Name) (m : DynamicMessage) → content_of m ≡ nothing → SuitsType types t (view m)
-empty_suits types t m empty = nothing_typed (IsTyped 99 types) 100 (types t) (view m) (empty_view m empty)
+pub empty_suits : (levels : ℕ) (types : Types) (t : Name) (m : DynamicMessage) → content_of m ≡ nothing → IsTyped levels types t (view m)
+empty_suits zero types t m empty = nothing_typed (λ u m. ⊥) zero (types t) (view m) (empty_view m empty)
+empty_suits (suc levels) types t m empty = nothing_typed (IsTyped levels types) (suc levels) (types t) (view m) (empty_view m empty)
 
 module _ (old new : DynamicMessage) (type : new.descriptor ≡ old.descriptor) where
   abbrev d : MessageDescriptor

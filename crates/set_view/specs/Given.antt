@@ -1,6 +1,5 @@
 -- Entries that values give to a map, and which of them suit it.
 use Rattle.std.specs.Prelude.{◌≡◌, ℕ, suc, List, [], ◌∷◌, Option, None, Some}
-use Rattle.protobuf_model.specs.Coded.{SuitsType}
 use Rattle.protobuf_model.specs.Scalars.{Suits}
 use Rattle.protobuf_model.specs.Typed.{IsEntryOf, IsTyped}
 use Rattle.protobuf_model.specs.Values.{Content, Single}
@@ -31,17 +30,19 @@ GivesFitting inner pool f v = (e : Entry) → Gives v (Some e) → FitsEntry inn
 abbrev pub GivesKeyed : PoolType → FieldType → Value → Type 0
 GivesKeyed pool f v = (e : Entry) → Gives v (Some e) → HasKey pool f e
 
--- and suits the map, in messages of 99 levels at most
-abbrev pub GivesSuiting : PoolType → FieldType → Value → Type 0
-GivesSuiting pool f v = (e : Entry) → Gives v (Some e) → IsEntryOf (IsTyped 99 (types_of pool))
-    (key_of pool (entry_part pool f 1)) (part_of pool (values_of pool f)) (entry_view e)
+-- and suits the map, in messages of so many levels at most
+abbrev pub GivesSuiting : ℕ → PoolType → FieldType → Value → Type 0
+GivesSuiting depth pool f v = (e : Entry) → Gives v (Some e)
+    → IsEntryOf (IsTyped depth (types_of pool)) (key_of pool (entry_part pool f 1))
+    (part_of pool (values_of pool f)) (entry_view e)
 
 -- the value is a message in shape, of the type of the map's entries, and suits this type: there are
--- so many levels below the message that its value may be
-pub record SuitsEntries (levels : ℕ) (pool : PoolType) (f : FieldType) (v : Value) : Type 0 where
+-- so many levels below the message that its value may be, by its shape and by its type
+pub record SuitsEntries (levels depth : ℕ) (pool : PoolType) (f : FieldType)
+    (v : Value) : Type 0 where
   pub shape : FitsOne (Shaped (suc (suc levels))) pool f v
   pub type : (m : DynamicMessage) → message_in v ≡ Some m
-      → SuitsType (types_of pool) (name_at pool m.descriptor.index) (view m)
+      → IsTyped (suc depth) (types_of pool) (name_at pool m.descriptor.index) (view m)
 
 -- an entry, if there is one, in front of others
 abbrev pub in_front : Option Entry → List Entry → List Entry

@@ -3,8 +3,7 @@
 //!
 //! With those of `message_view` on what is in shape, what such calls make of an empty message is
 //! written in one form, and read again as it was.
-ghost use Rattle.std.specs.Prelude.{◌≡◌, ◌<◌, ◌^◌, ℕ, None, Some};
-ghost use Rattle.protobuf_model.specs.Coded.{SuitsType};
+ghost use Rattle.std.specs.Prelude.{◌≡◌, ◌<◌, ◌^◌, ℕ, None, Some, suc};
 ghost use Rattle.protobuf_model.specs.Typed.{IsHeldOf, IsTyped};
 ghost use Rattle.protobuf_model.specs.Types.{Name, Types};
 ghost use Rattle.protobuf_model.specs.Values.{Held, Message};
@@ -65,29 +64,30 @@ pub fn unset_extensions_hold_nothing()
         → IsUnset (extension_type x).number (view old) (view new) }
 {}
 
-/// A message in which nothing is set suits each type.
+/// A message in which nothing is set suits each type, of any levels.
 pub fn empty_messages_suit_the_type()
-    ensures { (types : Types) (t : Name) (m : DynamicMessage) → content_of m ≡ nothing
-        → SuitsType types t (view m) }
+    ensures { (levels : ℕ) (types : Types) (t : Name) (m : DynamicMessage)
+        → content_of m ≡ nothing → IsTyped levels types t (view m) }
 {}
 
-/// Where what is put suits the field of its number, in messages of 99 levels at most, the message
-/// suits its type as before.
+/// Where what is put suits the field of its number, in messages of fewer levels, the message suits
+/// its type as before.
 pub fn put_messages_suit_the_type()
-    ensures { (types : Types) (t : Name) (n : ℕ) (held : Held) (old new : Message)
+    ensures { (levels : ℕ) (types : Types) (t : Name) (n : ℕ) (held : Held) (old new : Message)
         → IsPut (types t) n held old new → 0 < n → n < 2 ^ 29
-        → IsHeldOf (IsTyped 99 types) 100 (types t n) held
-        → SuitsType types t old → SuitsType types t new }
+        → IsHeldOf (IsTyped levels types) (suc levels) (types t n) held
+        → IsTyped (suc levels) types t old → IsTyped (suc levels) types t new }
 {}
 
 /// So it does where a number is unset.
 pub fn unset_messages_suit_the_type()
-    ensures { (types : Types) (t : Name) (n : ℕ) (old new : Message)
-        → IsUnset n old new → SuitsType types t old → SuitsType types t new }
+    ensures { (levels : ℕ) (types : Types) (t : Name) (n : ℕ) (old new : Message)
+        → IsUnset n old new → IsTyped levels types t old → IsTyped levels types t new }
 {}
 
 /// And where fields, extensions or other records are taken out.
 pub fn what_is_taken_out_suits_the_type()
-    ensures { (types : Types) (t : Name) (old new : DynamicMessage) → TakesOut old new
-        → SuitsType types t (view old) → SuitsType types t (view new) }
+    ensures { (levels : ℕ) (types : Types) (t : Name) (old new : DynamicMessage)
+        → TakesOut old new
+        → IsTyped levels types t (view old) → IsTyped levels types t (view new) }
 {}

@@ -2,7 +2,6 @@
 ghost use Rattle.std.specs.Prelude.{◌≡◌, ◌++◌, Bool, List, Some, false, map, suc, true, ℕ};
 ghost use Rattle.std.specs.List.{AllByRecursion};
 ghost use Rattle.std.specs.Option.{IsSome};
-ghost use Rattle.protobuf_model.specs.Coded.{SuitsType};
 ghost use Rattle.protobuf_model.specs.Meaning.{if_any, if_some, items, pairs, put_all};
 ghost use Rattle.protobuf_model.specs.Typed.{IsEntryOf, IsHeldOf, IsOf, IsTyped};
 ghost use Rattle.protobuf_model.specs.Types.{Field, Key, Name, Types, keyed, many};
@@ -103,8 +102,8 @@ pub fn extended_map_extensions_are_put()
 
 /// Where a message suits its type, the keys of a field that is a map are of the map's kind.
 pub fn maps_that_suit_have_their_keys()
-    ensures { (m : DynamicMessage) → IsSound m.descriptor.pool.now
-        → SuitsType (types_of m.descriptor.pool.now)
+    ensures { (depth : ℕ) (m : DynamicMessage) → IsSound m.descriptor.pool.now
+        → IsTyped (suc depth) (types_of m.descriptor.pool.now)
         (name_at m.descriptor.pool.now m.descriptor.index) (view m)
         → (f : FieldDescriptor) → Owns m.descriptor f
         → holds_map m.descriptor.pool.now (field_type f) ≡ true
@@ -115,8 +114,8 @@ pub fn maps_that_suit_have_their_keys()
 
 /// So are those of an extension.
 pub fn map_extensions_that_suit_have_their_keys()
-    ensures { (m : DynamicMessage) → IsSound m.descriptor.pool.now
-        → SuitsType (types_of m.descriptor.pool.now)
+    ensures { (depth : ℕ) (m : DynamicMessage) → IsSound m.descriptor.pool.now
+        → IsTyped (suc depth) (types_of m.descriptor.pool.now)
         (name_at m.descriptor.pool.now m.descriptor.index) (view m)
         → (x : ExtensionDescriptor) → OwnsExtension m.descriptor x
         → NoField m.descriptor (extension_type x).number
@@ -128,75 +127,75 @@ pub fn map_extensions_that_suit_have_their_keys()
 
 /// A message in shape that suits the type of a map's entries gives an entry with such a key.
 pub fn entries_that_suit_give_their_keys()
-    ensures { (levels : ℕ) (pool : PoolType) → IsSound pool
+    ensures { (levels depth : ℕ) (pool : PoolType) → IsSound pool
         → (f : FieldType) → holds_map pool f ≡ true
         → (v : Value) → FitsOne (Shaped (suc (suc levels))) pool f v
         → ((m : DynamicMessage) → message_in v ≡ Some m
-        → SuitsType (types_of pool) (name_at pool m.descriptor.index) (view m))
+        → IsTyped (suc depth) (types_of pool) (name_at pool m.descriptor.index) (view m))
         → GivesKeyed pool f v }
 {}
 
 /// It gives one that suits the map, where messages hold this: its values are no floating-point
 /// numbers.
 pub fn entries_that_suit_give_what_suits()
-    ensures { (levels : ℕ) (pool : PoolType) → IsSound pool
+    ensures { (levels depth : ℕ) (pool : PoolType) → IsSound pool
         → (f : FieldType) → holds_map pool f ≡ true → holds_floats pool f ≡ false
         → (v : Value) → FitsOne (Shaped (suc (suc levels))) pool f v
         → ((m : DynamicMessage) → message_in v ≡ Some m
-        → SuitsType (types_of pool) (name_at pool m.descriptor.index) (view m))
-        → GivesSuiting pool f v }
+        → IsTyped (suc depth) (types_of pool) (name_at pool m.descriptor.index) (view m))
+        → GivesSuiting depth pool f v }
 {}
 
 /// A list that suits its field does so with elements behind it that suit.
 pub fn longer_lists_suit_the_field()
-    ensures { (types : Types) (t : Name) (n : ℕ) (f : Field) (packed : Bool) (held : Held)
+    ensures { (depth : ℕ) (types : Types) (t : Name) (n : ℕ) (f : Field) (packed : Bool) (held : Held)
         (cs : List Content) → types t n ≡ Some f → f.label ≡ many packed
-        → IsHeldOf (IsTyped 99 types) 100 (types t n) held
-        → AllByRecursion (IsOf (IsTyped 99 types) f.part.kind) cs
-        → IsHeldOf (IsTyped 99 types) 100 (types t n) (if_any (items held ++ cs)) }
+        → IsHeldOf (IsTyped depth types) (suc depth) (types t n) held
+        → AllByRecursion (IsOf (IsTyped depth types) f.part.kind) cs
+        → IsHeldOf (IsTyped depth types) (suc depth) (types t n) (if_any (items held ++ cs)) }
 {}
 
 /// So does a map with entries put in that suit.
 pub fn fuller_maps_suit_the_field()
-    ensures { (types : Types) (t : Name) (n : ℕ) (f : Field) (key : Key) (held : Held)
+    ensures { (depth : ℕ) (types : Types) (t : Name) (n : ℕ) (f : Field) (key : Key) (held : Held)
         (es : List (Single × Content)) → types t n ≡ Some f → f.label ≡ keyed key
-        → IsHeldOf (IsTyped 99 types) 100 (types t n) held
-        → AllByRecursion (IsEntryOf (IsTyped 99 types) key f.part) es
-        → IsHeldOf (IsTyped 99 types) 100 (types t n) (if_some (put_all (pairs held) es)) }
+        → IsHeldOf (IsTyped depth types) (suc depth) (types t n) held
+        → AllByRecursion (IsEntryOf (IsTyped depth types) key f.part) es
+        → IsHeldOf (IsTyped depth types) (suc depth) (types t n) (if_some (put_all (pairs held) es)) }
 {}
 
 /// Where a message is in shape and suits its type, it still does with entries put into a field that
 /// is a map, by messages that are in shape and suit the entries' type: so `encode` writes it in one
 /// form, and `decode` reads it again as it was.
 pub fn extended_maps_suit_the_type()
-    ensures { (levels : ℕ) (old new : DynamicMessage) → IsSound old.descriptor.pool.now
+    ensures { (levels depth : ℕ) (old new : DynamicMessage) → IsSound old.descriptor.pool.now
         → Shaped (suc (suc levels)) old
-        → SuitsType (types_of old.descriptor.pool.now)
+        → IsTyped (suc depth) (types_of old.descriptor.pool.now)
         (name_at old.descriptor.pool.now old.descriptor.index) (view old)
         → IsExclusive old → (f : FieldDescriptor) → Owns old.descriptor f
         → holds_map old.descriptor.pool.now (field_type f) ≡ true
         → ExtendsField old new f → LacksSibling f (choices_of old) (fields_of new)
         → (vs : List Value)
-        → AllByRecursion (SuitsEntries levels old.descriptor.pool.now (field_type f)) vs
+        → AllByRecursion (SuitsEntries levels depth old.descriptor.pool.now (field_type f)) vs
         → PutsEntries (value_at (fields_of old) (field_type f).number)
         (value_at (fields_of new) (field_type f).number) vs
-        → Shaped (suc (suc levels)) new × SuitsType (types_of old.descriptor.pool.now)
+        → Shaped (suc (suc levels)) new × IsTyped (suc depth) (types_of old.descriptor.pool.now)
         (name_at old.descriptor.pool.now old.descriptor.index) (view new) }
 {}
 
 /// So it does with entries put into an extension, under whose number no field stands.
 pub fn extended_map_extensions_suit_the_type()
-    ensures { (levels : ℕ) (old new : DynamicMessage) → IsSound old.descriptor.pool.now
+    ensures { (levels depth : ℕ) (old new : DynamicMessage) → IsSound old.descriptor.pool.now
         → Shaped (suc (suc levels)) old
-        → SuitsType (types_of old.descriptor.pool.now)
+        → IsTyped (suc depth) (types_of old.descriptor.pool.now)
         (name_at old.descriptor.pool.now old.descriptor.index) (view old)
         → (x : ExtensionDescriptor) → OwnsExtension old.descriptor x
         → NoField old.descriptor (extension_type x).number
         → holds_map old.descriptor.pool.now (extension_type x) ≡ true
         → ExtendsExtension old new x → (vs : List Value)
-        → AllByRecursion (SuitsEntries levels old.descriptor.pool.now (extension_type x)) vs
+        → AllByRecursion (SuitsEntries levels depth old.descriptor.pool.now (extension_type x)) vs
         → PutsEntries (value_at (extensions_of old) (extension_type x).number)
         (value_at (extensions_of new) (extension_type x).number) vs
-        → Shaped (suc (suc levels)) new × SuitsType (types_of old.descriptor.pool.now)
+        → Shaped (suc (suc levels)) new × IsTyped (suc depth) (types_of old.descriptor.pool.now)
         (name_at old.descriptor.pool.now old.descriptor.index) (view new) }
 {}
