@@ -17,6 +17,7 @@ use Rattle.reflect_scalar.specs.Floats.{IsFloat, HoldsFloats}
 use Rattle.reflect_message.specs.Declares.{Owns, OwnsExtension}
 use Rattle.reflect_scalar.proofs.First.{Tells, find_place, find_some}
 use Rattle.reflect_message.specs.Known.{if_held, known_field, known_extension, numbered_field}
+use Rattle.reflect_numbered.specs.Called.{HasName, OwnsMeant}
 use Rattle.reflect_format.specs.Named.{NamesField, NamesExtension}
 use Rattle.reflect_format.specs.declared.target.Target.TheVariants as targets
 use Rattle.message_view.specs.Types.{either_field, field_at}
@@ -76,6 +77,10 @@ module _ (m : MessageDescriptor) (apart : AreApart m.pool.now) where
   pub named_owns : (w : Text) (f : FieldDescriptor) → NamesField m w (targets.Field f) → Owns m f
   named_owns w f (inl h) = field_owns f h.0.0 h.0.1.0 h.1
   named_owns w f (inr h) = field_owns f h.0 h.2.0 (group_whole (field_pool f) (field_type f) h.3.1 h.3.0 h.3.2)
+
+  -- and what a call by name means
+  pub called_owns : (w : Text) → OwnsMeant (HasName w) m
+  called_owns w f meant = field_owns f meant.message meant.first.0 meant.held
 
   extension_first : (x : ExtensionDescriptor) → x.pool.now ≡ m.pool.now → (extension_at x.pool.now x.index).extendee ≡ m.index → x.index < length m.pool.now.extensions
       → FindsAny (λ y. (y.extendee ≡ m.index) × (y.field.number ≡ (extension_type x).number)) m.pool.now (Some x)

@@ -29,9 +29,9 @@ use Rattle.reflect_format.specs.Takes.{target_type}
 use Rattle.reflect_format.specs.declared.target.Target.{Target}
 use Rattle.reflect_format.specs.declared.target.Target.TheVariants as targets
 use Rattle.text_model.specs.Tree.{ScalarValue}
-use Rattle.message_view.proofs.Fields.{extension_owned, its_place, none_known, owned}
+use Rattle.message_view.proofs.Fields.{extension_owned, its_place, known, known_extension_is, none_known, none_owned, owned}
 use Rattle.message_view.specs.Shaped.{Fits, FitsAs, FitsOne, IsShaped}
-use Rattle.message_view.specs.Sound.{AreApart, HaveFieldNumbers, IsFieldNumber}
+use Rattle.message_view.specs.Sound.{AreApart, HasField, HaveFieldNumbers, IsFieldNumber}
 use Rattle.text_view.proofs.Apart.{no_field_there}
 use Rattle.text_view.proofs.Kept.{LeavesOthers, StaysOrGoes}
 use Rattle.text_view.proofs.Owned.{OwnsTarget}
@@ -42,7 +42,8 @@ use Rattle.text_view.proofs.Set.{singled}
 pub record IsShapely (inner : DynamicMessage → Type 0) (pool : PoolType) (i : ℕ) (c : Content) : Type 0 where
   pub in_fields : AreNumbered c.fields
   pub in_extensions : AreNumbered c.extensions
-  pub unknown : c.unknown ≡ []
+  pub in_unknown : Ascend 1 (2 ^ 29 - 1) c.unknown
+  pub unknown : (n : ℕ) (f : FieldType) → HasField pool i n f → payloads n c.unknown ≡ []
   pub field : (n : ℕ) (f : FieldType) → known_field pool i n ≡ Some f → (v : Value) → value_at c.fields n ≡ Some v → Fits inner pool f v
   pub extension : (n : ℕ) (f : FieldType) → known_field pool i n ≡ None → known_extension pool i n ≡ Some f → (v : Value) → value_at c.extensions n ≡ Some v → Fits inner pool f v
   pub apart : (n : ℕ) (f : FieldType) → known_field pool i n ≡ Some f → value_at c.extensions n ≡ None
@@ -53,20 +54,48 @@ shaped inner d c h = record {
   ordered = record {
     fields = h.in_fields;
     extensions = h.in_extensions;
-    unknown = subst (Ascend 1 (2 ^ 29 - 1)) (sym h.unknown) (omega arith);
+    unknown = h.in_unknown;
   };
   fields = λ f owns v at. h.field (field_type f).number (field_type f) (owned d f owns) v at;
   extensions = λ x owns none v at. h.extension (extension_type x).number (extension_type x) none (extension_owned d x owns) v at;
   apart = λ f owns. h.apart (field_type f).number (field_type f) (owned d f owns);
   unowned = λ n none. h.unowned n (none_known d n none);
-  declared = λ n is. ap (payloads n) h.unknown;
+  declared = λ n is. elim is [
+    | inl o ↦ subst (λ n. payloads n c.unknown ≡ []) o.2 (h.unknown (field_type o.0).number (field_type o.0) (inl (owned d o.0 o.1)))
+    | inr o ↦ subst (λ n. payloads n c.unknown ≡ []) o.2 (h.unknown (extension_type o.0).number (extension_type o.0) (inr (extension_owned d o.0 o.1)))
+  ];
+}
+
+-- and back
+pub shapely : (inner : DynamicMessage → Type 0) (d : MessageDescriptor) (c : Content) → IsShaped inner d c → IsShapely inner d.pool.now d.index c
+shapely inner d c h = record {
+  in_fields = h.ordered.fields;
+  in_extensions = h.ordered.extensions;
+  in_unknown = h.ordered.unknown;
+  unknown = λ n f has. elim has [
+    | inl is ↦ (let o = known d n f is in h.declared n (inl (o.0, o.1, ap (λ (g : FieldType). g.number) o.2 ∙ o.3)))
+    | inr is ↦ (let o = known_extension_is d n f is in h.declared n (inr (o.0, o.1, ap (λ (g : FieldType). g.number) o.2 ∙ o.3)))
+  ];
+  field = λ n f is v at.
+      let o = known d n f is in
+      let same : (field_type o.0).number ≡ n = ap (λ (g : FieldType). g.number) o.2 ∙ o.3 in
+      subst (λ g. Fits inner d.pool.now g v) o.2 (h.fields o.0 o.1 v (ap (value_at c.fields) same ∙ at));
+  extension = λ n f none is v at.
+      let o = known_extension_is d n f is in
+      let same : (extension_type o.0).number ≡ n = ap (λ (g : FieldType). g.number) o.2 ∙ o.3 in
+      subst (λ g. Fits inner d.pool.now g v) o.2 (h.extensions o.0 o.1 (ap (known_field d.pool.now d.index) same ∙ none) v (ap (value_at c.extensions) same ∙ at));
+  apart = λ n f is.
+      let o = known d n f is in
+      subst (λ n. value_at c.extensions n ≡ None) (ap (λ (g : FieldType). g.number) o.2 ∙ o.3) (h.apart o.0 o.1);
+  unowned = λ n none. h.unowned n (none_owned d n none);
 }
 
 pub blank_shapely : (inner : DynamicMessage → Type 0) (pool : PoolType) (i : ℕ) (c : Content) → c ≡ nothing → IsShapely inner pool i c
 blank_shapely inner pool i c empty = subst (IsShapely inner pool i) (sym empty) (record {
   in_fields = nothing_ordered.fields;
   in_extensions = nothing_ordered.extensions;
-  unknown = refl;
+  in_unknown = nothing_ordered.unknown;
+  unknown = λ n f has. refl;
   field = λ n f known v at. absurd (cc at);
   extension = λ n f none known v at. absurd (cc at);
   apart = λ n f known. refl;
@@ -92,7 +121,8 @@ module _ (inner : DynamicMessage → Type 0) (d : MessageDescriptor) (apart : Ar
   shape_kept (targets.Field f) owns number old new leaves unknown ascending also here h = record {
     in_fields = record { ascending = ascending; within = within };
     in_extensions = subst AreNumbered (sym leaves.1) h.in_extensions;
-    unknown = unknown ∙ h.unknown;
+    in_unknown = subst (Ascend 1 (2 ^ 29 - 1)) (sym unknown) h.in_unknown;
+    unknown = λ n g has. ap (payloads n) unknown ∙ h.unknown n g has;
     field = field;
     extension = λ n g none known v at. h.extension n g none known v (ap (λ es. value_at es n) (sym leaves.1) ∙ at);
     apart = λ n g known. ap (λ es. value_at es n) leaves.1 ∙ h.apart n g known;
@@ -132,7 +162,8 @@ module _ (inner : DynamicMessage → Type 0) (d : MessageDescriptor) (apart : Ar
   shape_kept (targets.Extension x) owns number old new leaves unknown also ascending here h = record {
     in_fields = subst AreNumbered (sym leaves.1) h.in_fields;
     in_extensions = record { ascending = ascending; within = within };
-    unknown = unknown ∙ h.unknown;
+    in_unknown = subst (Ascend 1 (2 ^ 29 - 1)) (sym unknown) h.in_unknown;
+    unknown = λ n g has. ap (payloads n) unknown ∙ h.unknown n g has;
     field = λ n g known v at. h.field n g known v (ap (λ es. value_at es n) (sym leaves.1) ∙ at);
     extension = extension;
     apart = free;

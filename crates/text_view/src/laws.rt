@@ -1,6 +1,6 @@
 //! Laws of pools and messages in the words of the model of texts, each the contract of a function
 //! that does nothing.
-ghost use Rattle.std.specs.Prelude.{◌≡◌, ◌⊎◌, ◌↔◌, ◌<◌, ℕ, length, Option, false, true, map, Bool, List, None, Some};
+ghost use Rattle.std.specs.Prelude.{◌≡◌, ◌⊎◌, ◌↔◌, ◌<◌, ◌≤◌, ℕ, length, suc, Option, false, true, map, Bool, List, None, Some};
 ghost use Rattle.std.specs.List.{AllByRecursion};
 ghost use Rattle.protox_lex.specs.Class.{Text};
 ghost use Rattle.reflect_pool.specs.declared.message.MessageDescriptor.{MessageDescriptor};
@@ -18,6 +18,7 @@ ghost use Rattle.reflect_message.specs.Lists.{items_held};
 ghost use Rattle.reflect_message.specs.Oneofs.{IsExclusive};
 ghost use Rattle.reflect_pool.specs.FindsNames.{FindsMessage};
 ghost use Rattle.reflect_pool.specs.Shapes.{holds_list, holds_map};
+ghost use Rattle.reflect_numbered.specs.Called.{HasName, OwnsMeant};
 ghost use Rattle.reflect_format.specs.Filled.{Fills, HasRival, IsScalar, Makes, PutsOne};
 ghost use Rattle.reflect_format.specs.Kinds.{scalar_given};
 ghost use Rattle.reflect_format.specs.Named.{NamesExtension, NamesField, NoExtensionNamed, NoFieldNamed};
@@ -28,11 +29,13 @@ ghost use Rattle.reflect_format.specs.declared.target.Target.{Target};
 ghost use Rattle.protobuf_model.specs.Bytes.{bytes_of};
 ghost use Rattle.protobuf_model.specs.Types.{Name};
 ghost use Rattle.protobuf_model.specs.Values.{blob, nothing, text, Content, Message};
+ghost use Rattle.message_view.specs.Shaped.{HasShape};
 ghost use Rattle.message_view.specs.Sound.{HaveNames, AreApart, IsSound};
 ghost use Rattle.message_view.specs.Types.{field_at, kind_in, name_at, types_of};
 ghost use Rattle.message_view.specs.Views.{content_view, view};
 ghost use Rattle.text_model.specs.Schemas.{shape_of, Schema};
 ghost use Rattle.text_model.specs.Texts.{Gives, IsText};
+ghost use Rattle.text_model.specs.Tokens.{open_braces};
 ghost use Rattle.text_model.specs.Tree.{Fields, ScalarValue};
 ghost use Rattle.text_model.specs.Value.{add_all, assign, hold, of_message, scalar_content, set_one, settled, value, wanted_in, wanted_of};
 ghost use Rattle.text_view.specs.Holds.{HoldsKinds};
@@ -97,6 +100,12 @@ pub fn what_is_named_stands_under_its_number()
         → (w : Text) (t : Target) → NamesField m w t ⊎ NamesExtension m w t
         → types_of m.pool.now (name_at m.pool.now m.index) (target_type t).number
         ≡ Some (target_field m t) }
+{}
+
+/// So is the field that a call by name means: the first of its number.
+pub fn fields_called_by_name_are_the_types_own()
+    ensures { (m : MessageDescriptor) → AreApart m.pool.now → (w : Text)
+        → OwnsMeant (HasName w) m }
 {}
 
 /// A type is told to keep a message of any type exactly where it does.
@@ -295,6 +304,15 @@ pub fn filled_messages_stay_so()
     ensures { (old new : DynamicMessage) → IsSound old.descriptor.pool.now → IsExclusive old
         → HoldsKinds old → (fs : Fields) → Fills fs old new
         → IsExclusive new × HoldsKinds new }
+{}
+
+/// A message in shape that a text fills is in shape, of as many levels as braces are open in the
+/// text, or more. Where it was exclusive at each depth, it is so still.
+pub fn filled_messages_stay_in_shape()
+    ensures { (exclusive : Bool) (old new : DynamicMessage) → IsSound old.descriptor.pool.now
+        → (fs : Fields) (levels : ℕ) → open_braces fs ≤ levels
+        → HasShape exclusive (suc levels) old → Fills fs old new
+        → HasShape exclusive (suc levels) new }
 {}
 
 /// What a text makes of a type is the message that the text gives, and is written in the one form
