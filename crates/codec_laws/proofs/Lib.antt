@@ -1,0 +1,4 @@
+mod FieldKinds
+mod Parts
+mod Said
+mod Written

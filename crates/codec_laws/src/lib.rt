@@ -1,0 +1,4 @@
+//! Laws of descriptor sets and their bytes. It has no code.
+#![tactic(auto)]
+
+pub mod laws;
