@@ -1,3 +1,4 @@
+mod Again
 mod FieldKinds
 mod Parts
 mod Said

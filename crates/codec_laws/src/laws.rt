@@ -1,6 +1,7 @@
 //! Laws of files and sets, and of the bytes that are written of them, each the contract of a
 //! function that does nothing.
-ghost use Rattle.std.specs.Prelude.{◌<◌, ◌^◌, ℕ, List, length};
+ghost use Rattle.std.specs.Prelude.{◌≡◌, ◌<◌, ◌^◌, ℕ, List, length};
+ghost use Rattle.descriptor_records.specs.Content.{set_view};
 ghost use Rattle.descriptor_records.specs.declared.file.FileDescriptorProto.{FileDescriptorProto};
 ghost use Rattle.descriptor_records.specs.declared.file.FileDescriptorSet.{FileDescriptorSet};
 ghost use Rattle.reflect_codec.specs.Meaning.{IsFileBytes, IsSetBytes};
@@ -25,8 +26,13 @@ pub fn written_sets_are_read()
         → IsSetBytes (set_bytes s) s }
 {}
 
-/// The files of a set that bytes mean are plain. So a set that was read is written in bytes that
-/// are read as it.
+/// The files of a set that bytes mean are plain.
 pub fn read_sets_are_plain()
     ensures { (bytes : List ℕ) (s : FileDescriptorSet) → IsSetBytes bytes s → IsPlainSet s }
+{}
+
+/// What bytes that are written of such a set mean has its content, and nothing else.
+pub fn written_sets_are_read_as_they_were()
+    ensures { (s t : FileDescriptorSet) → IsPlainSet s → length (set_bytes s) < 2 ^ 64
+        → IsSetBytes (set_bytes s) t → set_view t ≡ set_view s }
 {}
