@@ -62,7 +62,7 @@ pub merged_suits : (d : MessageDescriptor) → IsSound d.pool.now → (bytes : L
 merged_suits d sound bytes b old new type also suits depth le typed merged = (
   merged_fits d bytes old new suits merged,
   merged_deep (types_of d.pool.now) (have_defaults d.pool.now sound.keys sound.defaults) (name_at d.pool.now d.index) (view old) (view new) bytes depth le typed
-  (merged_means d sound bytes b old new type also suits depth typed merged),
+      (merged_means d sound bytes b old new type also suits depth typed merged),
 )
 
 -- what is decoded suits its type
@@ -136,9 +136,9 @@ merged_in_shape exclusive d bytes old new type also levels le shape suits (rs, c
     let held = copy_shaped exclusive levels d (content_of old) copy copied ordered before in
     merged_shaped exclusive 100 levels le new d also copy rs held (copy_suits 100 d (content_of old) copy copied suits) merges
 
-merged_deep : (d : MessageDescriptor) (bytes : List ℕ) (old new : DynamicMessage) → old.descriptor ≡ d → new.descriptor ≡ d
+merged_deeper : (d : MessageDescriptor) (bytes : List ℕ) (old new : DynamicMessage) → old.descriptor ≡ d → new.descriptor ≡ d
     → (levels : ℕ) → Shaped levels old → Suits 100 d (content_of old) → IsMerged d bytes old new → Shaped (suc (levels + 100)) new
-merged_deep d bytes old new type also levels shape =
+merged_deeper d bytes old new type also levels shape =
     merged_in_shape false d bytes old new type also (levels + 100) (omega arith) (deeper_shape false levels (suc (levels + 100)) (omega arith) old shape)
 
 -- so it is written in one form
@@ -146,7 +146,7 @@ pub merged_written : (d : MessageDescriptor) → IsSound d.pool.now → (bytes :
     → (levels : ℕ) → Shaped levels old → Suits 100 d (content_of old) → IsMerged d bytes old new
     → message_bytes new ≡ bytes_of (types_of d.pool.now) (name_at d.pool.now d.index) (view new)
 merged_written d sound bytes old new type also levels shape suits merged =
-    shape_written d sound new also (suc (levels + 100)) (merged_deep d bytes old new type also levels shape suits merged)
+    shape_written d sound new also (suc (levels + 100)) (merged_deeper d bytes old new type also levels shape suits merged)
 
 -- and read again
 pub merged_read : (d : MessageDescriptor) → IsSound d.pool.now → (bytes : List ℕ) → AreBytes bytes → (old new : DynamicMessage) → old.descriptor ≡ d → new.descriptor ≡ d
@@ -154,7 +154,7 @@ pub merged_read : (d : MessageDescriptor) → IsSound d.pool.now → (bytes : Li
     → length (message_bytes new) < 2 ^ 64 → AreBytes (message_bytes new)
     → (n : DynamicMessage) → n.descriptor ≡ d → IsSpelled d (message_bytes new) n → view n ≡ view new
 merged_read d sound bytes b old new type also levels shape suits typed merged =
-    shape_decoded d sound new also (suc (levels + 100)) (merged_deep d bytes old new type also levels shape suits merged) (merged_suits d sound bytes b old new type also suits 100 (omega arith) typed merged).1
+    shape_decoded d sound new also (suc (levels + 100)) (merged_deeper d bytes old new type also levels shape suits merged) (merged_suits d sound bytes b old new type also suits 100 (omega arith) typed merged).1
 
 each_in_shape : (exclusive : Bool) (d : MessageDescriptor) (bs : List (List ℕ)) (old new : DynamicMessage) → old.descriptor ≡ d → new.descriptor ≡ d
     → HasShape exclusive 101 old → Suits 100 d (content_of old) → MergesEach d old bs new → HasShape exclusive 101 new
