@@ -14,7 +14,6 @@ use Rattle.reflect_pool.specs.declared.message.MessageDescriptor.{MessageDescrip
 use Rattle.reflect_scalar.specs.FieldTypes.{extension_type}
 use Rattle.reflect_decode.specs.Ordered.{AreNumbered, Ascend}
 use Rattle.reflect_decode.proofs.Ordering.{nothing_ordered}
-use Rattle.reflect_message.specs.Declares.{NoField}
 use Rattle.reflect_message.specs.Contents.{Content, content_of, nothing}
 use Rattle.reflect_message.specs.Held.{fields_of, extensions_of, unknown_of}
 use Rattle.reflect_message.specs.KindTypes.{IsScalarType, IsMessageType}
