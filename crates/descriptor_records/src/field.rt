@@ -5,6 +5,9 @@ ghost use Rattle.descriptor_records.specs.FieldNumbers.{label_number, type_numbe
 use crate::options::Options;
 use std::alloc::AllocError;
 
+/// The highest number of a field, for which `max` stands in a range of a message.
+pub const MAX_FIELD_NUMBER: i32 = 536_870_911;
+
 /// A field, or an extension.
 #[derive(PartialEq, Drop)]
 pub struct FieldDescriptorProto {

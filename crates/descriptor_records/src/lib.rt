@@ -15,7 +15,7 @@ mod source_info;
 pub mod tag;
 
 pub use enums::{EnumDescriptorProto, EnumReservedRange, EnumValueDescriptorProto};
-pub use field::{FieldDescriptorProto, FieldType, Label, OneofDescriptorProto};
+pub use field::{FieldDescriptorProto, FieldType, Label, MAX_FIELD_NUMBER, OneofDescriptorProto};
 pub use file::{FileDescriptorProto, FileDescriptorSet};
 pub use message::{DescriptorProto, ExtensionRange, ReservedRange};
 pub use options::{DoubleValue, NamePart, Options, UninterpretedOption};

@@ -31,12 +31,12 @@ use Rattle.reflect_passes.specs.declared.linked_types.LinkedTypes.{LinkedTypes}
 use Rattle.reflect_build.specs.Accepted.{FaultlessBatch, FaultlessFiles}
 use Rattle.reflect_build.specs.Refusals.{AreTypes, Linking, with_declared, IsOf, new_files}
 use Rattle.linked_messages.specs.Kept.{IsKept}
-use Rattle.reflect_index.proofs.Among.{Among, all_of}
+use Rattle.reflect_index.proofs.Among.{Among, all_of, get_map, got_map}
 use Rattle.linked_messages.proofs.Declared.{stands_in_batch, declared_at}
 use Rattle.schema_view.specs.Outlines.{outline_of}
 use Rattle.schema_view.specs.Files.{file_name}
 use Rattle.schema_view.specs.References.{Reference as Naming, references}
-use Rattle.schema_view.specs.Means.{Means}
+use Rattle.schema_view.specs.Means.{ReferenceMeans}
 use Rattle.schema_view.specs.Lawful.{outlines, all_linked}
 use Rattle.linked_view.specs.Alone.{IsWellNamed, AreLawfulAlone}
 use Rattle.linked_view.specs.Known.{AreKnown}
@@ -54,7 +54,6 @@ use Rattle.linked_view.proofs.Faults.{none_both}
 use Rattle.linked_view.proofs.Fitting.{batch_fits}
 use Rattle.linked_view.proofs.Named.{named_to}
 use Rattle.linked_view.proofs.Linked.{meanings, targets_in, batch_targets, files_mean}
-use Rattle.linked_view.proofs.Places.{get_map, get_map_cases}
 use Rattle.linked_view.proofs.Taken.{files_written}
 use Rattle.linked_view.proofs.References.{referred_to}
 use Rattle.linked_view.proofs.Sound.{parts_sound}
@@ -90,7 +89,7 @@ module _ (t : LinkedTypes) (before : Offsets) (first : ℕ) (files : List FileDe
       let place = stands_in_batch before first files d own h is in
       let r = kept_at (messages_in ds) (map stored_ranges t.new.now.messages.items) place.0 own ranges
       place.2 in
-      let m = get_map_cases stored_ranges t.new.now.messages.items place.0 r.0 r.1 in
+      let m = got_map stored_ranges t.new.now.messages.items place.0 r.0 r.1 in
       let declared = declared_at (messages_in ds) (map stored_ranges t.new.now.messages.items) place.0
       own (stored_ranges m.0) ranges place.2
       (get_map stored_ranges t.new.now.messages.items place.0 m.0 m.1) in
@@ -205,7 +204,7 @@ module _ (old new : PoolType) (ns : List FileDescriptorProto) (w : Linking) (is 
       (map file_view ns))
 
   means_of : (f : FileContent) (r : Naming) → Contains (map file_view ns) f
-      → Contains (references f) r → Means (outlines (map file_view all_files)) (outline_of f) r
+      → Contains (references f) r → ReferenceMeans (outlines (map file_view all_files)) (outline_of f) r
       (meanings all_files known known_all indexes sees f r)
   means_of = files_mean all_files known known_all indexes sees w.first ns names_at seen_all refs.2
 
@@ -238,7 +237,7 @@ module _ (old new : PoolType) (ns : List FileDescriptorProto) (w : Linking) (is 
   lawful_alone = record {
     meanings = meanings all_files known known_all indexes sees;
     names = have_names;
-    means = λ f r j k. subst (λ fs. Means (outlines fs) (outline_of f) r
+    means = λ f r j k. subst (λ fs. ReferenceMeans (outlines fs) (outline_of f) r
         (meanings all_files known known_all indexes sees f r))
         views_of_both (means_of f r j k);
     sound = parts_sound (map file_view ns) (

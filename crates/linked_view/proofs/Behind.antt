@@ -18,6 +18,7 @@ use Rattle.reflect_tables.specs.Types.{PoolType}
 use Rattle.reflect_tables.specs.Views.{record_file}
 use Rattle.reflect_index.proofs.Batched.{known_on}
 use Rattle.reflect_index.proofs.Behind.{get_behind}
+use Rattle.reflect_index.proofs.Among.{get_map}
 use Rattle.reflect_pool.specs.Imports.{names_of_files, imported_places}
 use Rattle.reflect_pool.specs.Linked.{AreIndexed}
 use Rattle.reflect_build.specs.Refusals.{AreLinked, Linking, with_declared, IsOf}
@@ -36,7 +37,7 @@ use Rattle.linked_view.specs.Referred.{AreSeenBy}
 use Rattle.linked_view.proofs.Counts.{IsPlaced}
 use Rattle.linked_view.proofs.Known.{files_known}
 use Rattle.linked_view.proofs.NamedFiles.{names_recorded}
-use Rattle.linked_view.proofs.Places.{get_map, get_less}
+use Rattle.linked_view.proofs.Places.{get_less}
 use Rattle.linked_view.proofs.Walked.{text_seen}
 use Rattle.linked_view.proofs.Sees.{sees_to, sees_from}
 

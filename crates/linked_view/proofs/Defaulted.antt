@@ -17,6 +17,7 @@ use Rattle.reflect_tables.specs.Types.{PoolType, EnumType, ValueType}
 use Rattle.reflect_tables.specs.Views.{enum_of}
 use Rattle.reflect_tables.specs.declared.stored.StoredEnum.{StoredEnum}
 use Rattle.reflect_tables.specs.declared.tables.Tables.{Tables}
+use Rattle.reflect_tables.proofs.Founds.{front}
 use Rattle.reflect_declarations.specs.Batches.{batch_declarations}
 use Rattle.reflect_build.specs.Accepted.{FaultlessBatch, FaultlessFiles}
 use Rattle.reflect_build.specs.Refusals.{Linking, with_declared, IsOf, new_files}
@@ -34,12 +35,13 @@ use Rattle.schema_view.proofs.Renames.{map_same}
 use Rattle.linked_view.specs.Valued.{NamedValues, NumberedValue, called, kept_value, kept_values, numbered_value, values_in, written_values, TellsValues, SuitEnums}
 use Rattle.linked_view.proofs.Accepted.{all_met, known, known_all, indexes, names_at, lawful_alone, meanings_alone}
 use Rattle.reflect_index.proofs.Behind.{get_behind}
+use Rattle.reflect_index.proofs.Among.{get_map, got_map}
 use Rattle.linked_view.proofs.Found.{enum_place, found_place}
 use Rattle.linked_view.proofs.Linked.{meanings}
-use Rattle.linked_view.proofs.Places.{contains_get, get_contains, get_less, get_map, get_map_cases}
+use Rattle.linked_view.proofs.Places.{contains_get, get_contains, get_less}
 use Rattle.linked_view.proofs.Settling.{all_good, batch_holds}
 use Rattle.linked_view.proofs.Suited.{IsValueOf, suits_seen}
-use Rattle.linked_view.proofs.Telling.{get_before, known_new}
+use Rattle.linked_view.proofs.Telling.{known_new}
 use Rattle.linked_view.proofs.Valued.{values_new}
 
 -- the names of values, by their records and by their entries
@@ -77,7 +79,7 @@ at_both {X} xs ys i x e = by (nat_lt i (length xs)) refl where
   at_last b is = sym (ap (λ c. cond c (slice_get xs i) (slice_get ys (i - length xs))) is) ∙ e
 
   by : (b : Bool) → nat_lt i (length xs) ≡ b → slice_get (xs ++ ys) i ≡ Some x
-  by true is = get_before xs ys i x (at_last true is)
+  by true is = front xs ys i x (at_last true is)
   by false is =
       let place : length xs + (i - length xs) ≡ i = grind (arith, is) in
       ap (slice_get (xs ++ ys)) (sym place) ∙ get_behind xs ys (i - length xs) x (at_last false is)
@@ -201,8 +203,8 @@ module _ (t : LinkedTypes) (fs : List FileContent) (known : Known) (names : List
       let v = values_written fs full values declared in
       let k = contains_get (map kept_values (map enum_of stored)) (full, v.numbered)
       (subst (λ vs. Contains vs (full, v.numbered)) (sym written) v.there) in
-      let e = get_map_cases kept_values (map enum_of stored) k.0 (full, v.numbered) k.1 in
-      let s = get_map_cases enum_of stored k.0 e.0 e.1 in
+      let e = got_map kept_values (map enum_of stored) k.0 (full, v.numbered) k.1 in
+      let s = got_map enum_of stored k.0 e.0 e.1 in
       let own : slice_get names k.0 ≡ Some (full, e.0.file) =
       ap (λ ns. slice_get ns k.0) named
       ∙ get_map enum_name (map enum_of stored) k.0 e.0 e.1

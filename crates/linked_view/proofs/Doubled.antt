@@ -21,6 +21,7 @@ use Rattle.reflect_tables.specs.Names.{FullName}
 use Rattle.reflect_tables.specs.Types.{PoolType, ExtensionType}
 use Rattle.reflect_tables.specs.Views.{extension_of}
 use Rattle.reflect_tables.specs.declared.stored.StoredExtension.{StoredExtension}
+use Rattle.reflect_tables.proofs.Founds.{front}
 use Rattle.schema_view.specs.Declarations.{declarations, Body, of_message, of_field, of_oneof, of_enum, of_value, of_service, of_method, of_extension}
 use Rattle.schema_view.specs.Lawful.{Key}
 use Rattle.schema_view.specs.Rules.{IsFieldNumber, IsSound}
@@ -29,11 +30,11 @@ use Rattle.schema_view.proofs.Lists.{contains_here, contains_there, contains_cas
 use Rattle.schema_view.proofs.Road.{AreLinked}
 use Rattle.linked_view.specs.Extended.{WrittenKey, keys_of, written_keys, HasWritten}
 use Rattle.reflect_index.proofs.Behind.{get_behind}
+use Rattle.reflect_index.proofs.Among.{get_map, zip_place}
 use Rattle.linked_view.proofs.Counts.{bytes_refl}
-use Rattle.linked_view.proofs.Extended.{at_zip, one_place, times_written, writes_key}
+use Rattle.linked_view.proofs.Extended.{one_place, times_written, writes_key}
 use Rattle.linked_view.proofs.Faults.{both_none, when_from}
-use Rattle.linked_view.proofs.Places.{contains_get, get_contains, get_less, get_map}
-use Rattle.linked_view.proofs.Telling.{get_before}
+use Rattle.linked_view.proofs.Places.{contains_get, get_contains, get_less}
 
 natural_number : (z : ℤ) → IsFieldNumber z → (n : ℕ) × (z ≡ pos n)
 natural_number (pos n) h = (n, refl)
@@ -82,7 +83,7 @@ module _ (names : List FullName) (fs : List FileContent) (linked : AreLinked fs)
 
   written_at : (i : ℕ) (x : ExtensionType) → slice_get es i ≡ Some x → IsWrittenAt i x
   written_at i x e =
-      let v = at_zip (HasWritten names) (written_keys fs) es i x zip e in
+      let v = zip_place (HasWritten names) (written_keys fs) es i x zip e in
       let m = number_written fs linked v.0 (get_contains (written_keys fs) i v.0 v.1) in
       let number : x.field.number ≡ m.0 =
       v.2.number ∙ ap (λ o. unwrap_or (natural o) 0) m.1 in
@@ -181,7 +182,7 @@ module _ (old : PoolType) (w : Linking) (is : IsOf old w) (t : LinkedTypes)
         let i = contains_get old.extensions y.0 y.1 in
         let j = contains_get items x h in
         let place = keys_apart names fs linked all zip i.0 (length old.extensions + j.0) y.0
-        (extension_of x) (get_before old.extensions (map extension_of items) i.0 y.0 i.1)
+        (extension_of x) (front old.extensions (map extension_of items) i.0 y.0 i.1)
         (stands j.0 x j.1) y.2 in
         let less = get_less old.extensions i.0 y.0 i.1 in
         absurd (omega (arith, place, less))

@@ -10,13 +10,14 @@ use Rattle.reflect_fields.specs.Fields.{natural}
 use Rattle.reflect_pool.specs.Linked.{key_of}
 use Rattle.reflect_tables.specs.Names.{FullName, names_of, messages}
 use Rattle.reflect_tables.specs.Types.{PoolType, ExtensionType}
+use Rattle.reflect_index.proofs.Among.{get_map}
 use Rattle.schema_view.specs.Declarations.{declarations, Body, of_message, of_field, of_oneof, of_enum, of_value, of_service, of_method, of_extension}
 use Rattle.schema_view.specs.Lawful.{Key, is_dotted, has_key, times_by}
 use Rattle.schema_view.specs.Rules.{is_number}
 use Rattle.schema_view.proofs.Lists.{sum_same, sum_some}
 use Rattle.linked_view.specs.Extended.{WrittenKey, keys_of, written_keys, IsIndexed, HasWritten, TellsExtensions}
 use Rattle.linked_view.proofs.Counts.{one_if, bytes_same, some_weight, weighs, weighed}
-use Rattle.linked_view.proofs.Places.{get_contains, get_map, contains_get}
+use Rattle.linked_view.proofs.Places.{get_contains, contains_get}
 
 -- what has its part on the right has it at its place
 pub zip_at : {X Y : Type 0} (R : X → Y → Type 0) (xs : List X) (ys : List Y) (i : ℕ) (x : X)
@@ -26,16 +27,6 @@ zip_at R (z ∷ xs) [] i x h e = absurd h
 zip_at R (z ∷ xs) (y ∷ ys) zero x h e =
     let same : z ≡ x = cc e in (y, refl, subst (λ a. R a y) same h.0)
 zip_at R (z ∷ xs) (y ∷ ys) (suc i) x h e = zip_at R xs ys i x h.1 e
-
--- and back
-pub at_zip : {X Y : Type 0} (R : X → Y → Type 0) (xs : List X) (ys : List Y) (i : ℕ) (y : Y)
-    → AllZip R xs ys → slice_get ys i ≡ Some y → (x : X) × (slice_get xs i ≡ Some x) × R x y
-at_zip R [] [] i y h e = absurd (cc e)
-at_zip R [] (z ∷ ys) i y h e = absurd h
-at_zip R (x ∷ xs) [] i y h e = absurd h
-at_zip R (x ∷ xs) (z ∷ ys) zero y h e =
-    let same : z ≡ y = cc e in (x, refl, subst (λ b. R x b) same h.0)
-at_zip R (x ∷ xs) (z ∷ ys) (suc i) y h e = at_zip R xs ys i y h.1 e
 
 -- what passes a test at one place alone passes it once
 pub once : {X : Type 0} (test : X → Bool) (xs : List X)

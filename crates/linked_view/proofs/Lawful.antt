@@ -8,7 +8,7 @@ use Rattle.std.proofs.lemmas.List.Elements.{Contains-append_right}
 use Rattle.descriptor_records.specs.Content.{FileContent, file_view}
 use Rattle.descriptor_records.specs.declared.file.FileDescriptorProto.{FileDescriptorProto}
 use Rattle.reflect_build.proofs.Stored.{zip_both}
-use Rattle.reflect_build.specs.Refusals.{AreTypes, Linking, with_declared, Faulty, FaultyExtensions, FaultyNumbers, FaultyReferences, IsOf, Means}
+use Rattle.reflect_build.specs.Refusals.{AreTypes, Linking, with_declared, Faulty, FaultyExtensions, FaultyNumbers, FaultyReferences, IsOf, ReferencesMean}
 use Rattle.reflect_index.specs.Along.{before_files}
 use Rattle.reflect_index.specs.DraftNames.{stored_enum_name}
 use Rattle.reflect_known.specs.DeclaredNames.{with_names}
@@ -129,7 +129,7 @@ module _ (earlier : List (List FileContent)) (old : PoolType) (w : Linking)
     (ns : List FileDescriptorProto) (meanings : Meanings) (built : IsBuilt earlier old)
     (pooled : ArePooled old) (is : IsOf old w)
     (lawful : IsLawful (map file_view old.records) (map file_view ns) meanings)
-    (rs : List Reference) (t : LinkedTypes) (means : Means (with_declared w ns) ns rs)
+    (rs : List Reference) (t : LinkedTypes) (means : ReferencesMean (with_declared w ns) ns rs)
     (declared : AreTypes (with_declared w ns) ns rs t) where
   abbrev given : List FileContent
   given = map file_view old.records

@@ -23,7 +23,7 @@ use Rattle.schema_view.specs.Files.{file_name}
 use Rattle.schema_view.specs.References.{a_message, a_type, Reference, to_message, to_type, references_of, references}
 use Rattle.schema_view.specs.Outlines.{Outline, outline_of}
 use Rattle.schema_view.specs.Lawful.{outlines, Meanings}
-use Rattle.schema_view.specs.Means.{Means}
+use Rattle.schema_view.specs.Means.{ReferenceMeans}
 use Rattle.schema_view.proofs.Lists.{contains_here, contains_there, contains_map, contains_map_cases, contains_flat}
 use Rattle.linked_view.specs.Known.{AreKnown}
 use Rattle.linked_view.specs.Referred.{HasMeaning, AreMeant, AreSeenBy}
@@ -66,13 +66,13 @@ module _ (files : List FileDescriptorProto) (known : Known) (are : AreKnown file
 
   -- what is found is what it means
   pub means_found : (r : Reference) → IsMeant r
-      → Means os from r (record {
+      → ReferenceMeans os from r (record {
         name = (found_by (meaning_in known sees r)).0;
         type = type_of (found_by (meaning_in known sees r)).1.kind;
       })
   means_found r h =
       let m = reference_from files known are from sees those r.want r.scope r.name h in
-      subst (λ x. Means os from r (record { name = (found_by x).0; type = type_of (found_by x).1.kind }))
+      subst (λ x. ReferenceMeans os from r (record { name = (found_by x).0; type = type_of (found_by x).1.kind }))
       (sym m.2) (meaning_to files known are from sees those r.want r.scope r.name m.0 m.1 m.2 m.3)
 
   message_target : (scope : Text) (o : Option (String Global))
@@ -229,9 +229,9 @@ module _ (files : List FileDescriptorProto) (known : Known) (are : AreKnown file
       → AreMeant (outlines (map file_view files)) (map file_view fs)
       → (k : ℕ) (f : FileDescriptorProto) → slice_get fs k ≡ Some f → (r : Reference)
       → Contains (references (file_view f)) r → Contains (map file_view fs) (file_view f)
-      → Means (outlines (map file_view files)) (outline_of (file_view f)) r (meanings (file_view f) r)
+      → ReferenceMeans (outlines (map file_view files)) (outline_of (file_view f)) r (meanings (file_view f) r)
   batch_means i fs at those meant k f e r j there =
-      subst (λ s. Means (outlines (map file_view files)) (outline_of (file_view f)) r (record {
+      subst (λ s. ReferenceMeans (outlines (map file_view files)) (outline_of (file_view f)) r (record {
         name = (found_by (meaning_in known s r)).0;
         type = type_of (found_by (meaning_in known s r)).1.kind;
       })) (sym (sees_at f (i + k) (at k f e)))
@@ -243,10 +243,10 @@ module _ (files : List FileDescriptorProto) (known : Known) (are : AreKnown file
       → AreMeant (outlines (map file_view files)) (map file_view fs)
       → (c : FileContent) (r : Reference) → Contains (map file_view fs) c
       → Contains (references c) r
-      → Means (outlines (map file_view files)) (outline_of c) r (meanings c r)
+      → ReferenceMeans (outlines (map file_view files)) (outline_of c) r (meanings c r)
   files_mean i fs at those meant c r j k =
       let f = contains_map_cases file_view fs c j in
       let place = contains_get fs f.0 f.1 in
-      subst (λ x. Means (outlines (map file_view files)) (outline_of x) r (meanings x r)) f.2
+      subst (λ x. ReferenceMeans (outlines (map file_view files)) (outline_of x) r (meanings x r)) f.2
       (batch_means i fs at those meant place.0 f.0 place.1 r
       (subst (λ x. Contains (references x) r) (sym f.2) k) (contains_map file_view fs f.0 f.1))

@@ -19,9 +19,11 @@ use Rattle.reflect_tables.specs.Types.{MessageType, PoolType}
 use Rattle.reflect_tables.specs.Views.{message_of}
 use Rattle.reflect_tables.specs.declared.stored.StoredMessage.{StoredMessage}
 use Rattle.reflect_tables.specs.declared.tables.Tables.{Tables}
+use Rattle.reflect_tables.proofs.Founds.{front}
 use Rattle.reflect_declarations.specs.Declarations as walk
 use Rattle.reflect_walk.specs.MapEntries.{says_entry}
 use Rattle.reflect_declarations.specs.Tree.{MessageParts}
+use Rattle.reflect_index.proofs.Among.{got_map}
 use Rattle.schema_view.specs.Declarations.{of_message, declarations}
 use Rattle.schema_view.specs.Lawful.{IsOneMap, Meanings, all_linked}
 use Rattle.schema_view.specs.References.{Reference, Target, dotted, linked}
@@ -31,10 +33,9 @@ use Rattle.schema_view.proofs.Road.{AreLinked}
 use Rattle.linked_view.specs.Entries.{DeclaresEntry, HasDeclaredEntries}
 use Rattle.linked_view.proofs.Defaulted.{both_at, split_at}
 use Rattle.linked_view.proofs.Named.{in_all}
-use Rattle.linked_view.proofs.Places.{get_contains, get_map_cases}
+use Rattle.linked_view.proofs.Places.{get_contains}
 use Rattle.linked_view.proofs.Shapes.{entry_to}
 use Rattle.linked_view.proofs.Shown.{IsShown}
-use Rattle.linked_view.proofs.Telling.{get_before}
 use Rattle.linked_view.proofs.Unused.{Unused, map_left_only}
 use Rattle.linked_view.proofs.Walked.{facts_in, seen_body}
 
@@ -101,7 +102,7 @@ pub older_at : (w : Linking) (t : LinkedTypes) → t.old.now ≡ w.tables → (i
 older_at w t tables i m e =
     let olds = t.old.now.messages.items in
     let news = t.new.now.messages.items in
-    both_at olds news i m (get_before olds news i m
+    both_at olds news i m (front olds news i m
     (ap (λ (x : Tables). slice_get x.messages.items i) tables ∙ e))
 
 module _ (old : PoolType) (w : Linking) (is : IsOf old w) (declared : HasDeclaredEntries old)
@@ -114,8 +115,8 @@ module _ (old : PoolType) (w : Linking) (is : IsOf old w) (declared : HasDeclare
       → (linked_says t).is_entry i ≡ true → DeclaresEntry given full
   older_declared i file full named entry =
       let stored = w.tables.messages.items in
-      let m = get_map_cases message_name old.messages i (full, file) named in
-      let s = get_map_cases message_of stored i m.0
+      let m = got_map message_name old.messages i (full, file) named in
+      let s = got_map message_of stored i m.0
       (ap (λ (p : PoolType). slice_get p.messages i) is.tables ∙ m.1) in
       let says : s.0.is_entry ≡ true = sym (ap marks_by (older_at w t tables i s.0 s.1)) ∙ entry in
       let marks : s.0.is_entry ≡ is_some s.0.entry =

@@ -8,7 +8,7 @@ use Rattle.reflect_scope.specs.declared.definition.ResolveNameFilter.{ResolveNam
 use Rattle.reflect_scope.specs.Known.{Known}
 use Rattle.reflect_scope.specs.Means.{Meaning, means, not_found, wrong_kind, shadowed, is_wanted, is_seen, standing, is_holder, settled, rooted, resolve}
 use Rattle.reflect_scope.specs.Means as scope
-use Rattle.reflect_scope.specs.Says.{SaysUndotted, SaysDotted, SaysPlain, Means}
+use Rattle.reflect_scope.specs.Says.{SaysUndotted, SaysDotted, SaysPlain, NameMeans}
 use Rattle.reflect_scope.proofs.Says.{resolve_means}
 use Rattle.descriptor_records.specs.Content.{Text}
 use Rattle.schema_view.specs.Files.{join}
@@ -173,7 +173,7 @@ module _ (known : Known) (sees : ℕ → Bool) (f : ResolveNameFilter) where
               )
 
   by_dot : (around : Text) (b : ℕ) (name : Text) (m : Meaning) (v : Bool) → eqb b 46 ≡ v
-      → Means known sees f around (b ∷ name) m
+      → NameMeans known sees f around (b ∷ name) m
       → MatchBool v (m ≡ rooted (standing sees f (known name)) name)
       (SaysPlain known sees f around (b ∷ name) m)
   by_dot around b name m v is h =
@@ -184,10 +184,10 @@ module _ (known : Known) (sees : ℕ → Bool) (f : ResolveNameFilter) where
       → resolve known sees f around name ≡ means full d
       → MeansBy Wanted Holding around name full × IsFound full d
   resolved_to around [] full d e =
-      plain_to around [] full d (subst (Means known sees f around []) e (resolve_means known sees f around []))
+      plain_to around [] full d (subst (NameMeans known sees f around []) e (resolve_means known sees f around []))
   resolved_to around (b ∷ name) full d e = by (eqb b 46) refl where
-    says : Means known sees f around (b ∷ name) (means full d)
-    says = subst (Means known sees f around (b ∷ name)) e (resolve_means known sees f around (b ∷ name))
+    says : NameMeans known sees f around (b ∷ name) (means full d)
+    says = subst (NameMeans known sees f around (b ∷ name)) e (resolve_means known sees f around (b ∷ name))
 
     by : (v : Bool) → eqb b 46 ≡ v
         → MeansBy Wanted Holding around (b ∷ name) full × IsFound full d
@@ -299,7 +299,7 @@ module _ (known : Known) (sees : ℕ → Bool) (f : ResolveNameFilter) where
   resolved_from around [] full h =
       plain_from around [] full h (resolve known sees f around []) (resolve_means known sees f around [])
   resolved_from around (b ∷ name) full h = by (eqb b 46) refl where
-    says : Means known sees f around (b ∷ name) (resolve known sees f around (b ∷ name))
+    says : NameMeans known sees f around (b ∷ name) (resolve known sees f around (b ∷ name))
     says = resolve_means known sees f around (b ∷ name)
 
     by : (v : Bool) → eqb b 46 ≡ v

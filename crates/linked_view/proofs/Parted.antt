@@ -8,7 +8,7 @@ use Rattle.descriptor_records.specs.declared.file.FileDescriptorProto.{FileDescr
 use Rattle.reflect_build.proofs.Marked.{all_say, marked}
 use Rattle.reflect_build.specs.Accepted.{FaultlessBatch, FaultlessFiles}
 use Rattle.reflect_build.specs.Refusals.{Linking, with_declared, IsOf, new_files}
-use Rattle.reflect_index.proofs.Among.{place_of}
+use Rattle.reflect_index.proofs.Among.{place_of, get_map, got_map}
 use Rattle.reflect_index.proofs.Behind.{get_behind}
 use Rattle.reflect_index.specs.OfDeclarations.{messages_in, stored_ranges}
 use Rattle.reflect_known.specs.KnownNames.{definition_of}
@@ -37,7 +37,7 @@ use Rattle.linked_view.proofs.Entries.{IsAlong, are_found, knows_along, message_
 use Rattle.linked_view.proofs.Indexed.{among}
 use Rattle.linked_view.proofs.Marked.{declares_behind, declares_linked, declares_more}
 use Rattle.linked_view.proofs.Named.{in_all}
-use Rattle.linked_view.proofs.Places.{contains_get, get_contains, get_map, get_map_cases}
+use Rattle.linked_view.proofs.Places.{contains_get, get_contains}
 use Rattle.linked_view.proofs.Shapes.{entry_from}
 use Rattle.linked_view.proofs.Shown.{shown_in}
 use Rattle.linked_view.proofs.Walked.{facts_in}
@@ -102,7 +102,7 @@ module _ (old new : PoolType) (ns : List FileDescriptorProto) (w : Linking) (is 
         let place = stands_in_batch w.before w.first ns x.own own (among ds x.own x.there) x.body in
         let r = kept_at (messages_in ds) (map stored_ranges items) place.0 own batch.declared.ranges
         place.2 in
-        let s = get_map_cases stored_ranges items place.0 r.0 r.1 in
+        let s = got_map stored_ranges items place.0 r.0 r.1 in
         let declared = declared_at (messages_in ds) (map stored_ranges items) place.0 own
         (stored_ranges s.0) batch.declared.ranges place.2
         (get_map stored_ranges items place.0 s.0 s.1) in

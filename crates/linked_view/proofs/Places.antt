@@ -17,18 +17,6 @@ contains_get (y ∷ xs) x h = elim (contains_cases y xs x h) [
   | inr j ↦ (let r = contains_get xs x j in (suc r.0, r.1))
 ]
 
-pub get_map : {X Y : Type 0} (h : X → Y) (xs : List X) (i : ℕ) (x : X) → slice_get xs i ≡ Some x
-    → slice_get (map h xs) i ≡ Some (h x)
-get_map h [] i x e = absurd (cc e)
-get_map h (y ∷ xs) zero x e = let same : y ≡ x = cc e in ap (λ z. Some (h z)) same
-get_map h (y ∷ xs) (suc i) x e = get_map h xs i x e
-
-pub get_map_cases : {X Y : Type 0} (h : X → Y) (xs : List X) (i : ℕ) (y : Y)
-    → slice_get (map h xs) i ≡ Some y → (x : X) × (slice_get xs i ≡ Some x) × (h x ≡ y)
-get_map_cases h [] i y e = absurd (cc e)
-get_map_cases h (x ∷ xs) zero y e = let same : h x ≡ y = cc e in (x, refl, same)
-get_map_cases h (x ∷ xs) (suc i) y e = get_map_cases h xs i y e
-
 pub get_less : {X : Type 0} (xs : List X) (i : ℕ) (x : X) → slice_get xs i ≡ Some x → i < length xs
 get_less [] i x e = absurd (cc e)
 get_less (y ∷ xs) zero x e = omega arith

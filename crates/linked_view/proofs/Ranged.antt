@@ -27,7 +27,6 @@ use Rattle.linked_view.specs.Passed.{facts_of}
 use Rattle.linked_view.proofs.Accepted.{all_met, known_files, named_files, known, known_all, indexes, names_at, lawful_alone, meanings_alone}
 use Rattle.linked_view.proofs.Along.{none_reserved}
 use Rattle.linked_view.proofs.Linked.{meanings}
-use Rattle.linked_view.proofs.Places.{get_map}
 use Rattle.linked_view.proofs.Settling.{all_good, batch_holds}
 use Rattle.std.specs.Prelude.{ℤ}
 use Rattle.std.proofs.lemmas.List.Sorted.{Contains-permutation, IsPermutation-sym}
@@ -36,6 +35,7 @@ use Rattle.std.proofs.Common.{zero-add}
 use Rattle.descriptor_records.specs.Content.{extension_range_view}
 use Rattle.descriptor_records.specs.Content as content
 use Rattle.reflect_index.specs.OfDeclarations.{message_in, messages_in}
+use Rattle.reflect_index.proofs.Among.{get_map}
 use Rattle.reflect_known.specs.KnownNames.{definition_of, nothing_before, known_of_files}
 use Rattle.reflect_passes.specs.Linked.{message_at, linked_says}
 use Rattle.reflect_passes.specs.declared.linked_types.LinkedTypes.{LinkedTypes}

@@ -26,7 +26,7 @@ use Rattle.schema_view.specs.Declarations as view
 use Rattle.schema_view.specs.References.{Want, a_message, a_type, Reference, to_message, to_type, references_of, references}
 use Rattle.schema_view.specs.Outlines.{Sort, message_sort, enum_sort, service_sort, other_sort, Outline, outline_of}
 use Rattle.schema_view.specs.Lawful.{outlines}
-use Rattle.schema_view.specs.Means.{SuitsWant, Means}
+use Rattle.schema_view.specs.Means.{SuitsWant, ReferenceMeans}
 use Rattle.schema_view.specs.Means as meant
 use Rattle.schema_view.specs.Rules.{HasLabel, HasType}
 use Rattle.schema_view.specs.Scalars.{is_scalar}
@@ -359,7 +359,7 @@ module _ (files : List FileDescriptorProto) (known : Known) (are : AreKnown file
   -- one reference
   pub meaning_to : (w : Want) (scope name full : Text) (d : Definition)
       → resolve known sees (filter_of w) scope name ≡ means full d → Fits w d.kind
-      → Means os from (record { want = w; scope = scope; name = name })
+      → ReferenceMeans os from (record { want = w; scope = scope; name = name })
       (record { name = full; type = type_of d.kind })
   meaning_to w scope name full d e fits =
       let r = names_to files known are from sees those w scope name full d e in

@@ -11,6 +11,7 @@ use Rattle.reflect_scope.specs.Sees as by_index
 use Rattle.reflect_scope.specs.declared.seen.Links.{Links}
 use Rattle.reflect_declarations.specs.Tree.{text_of}
 use Rattle.reflect_names.specs.ImportedFiles.{file_of, import_at, links_to}
+use Rattle.reflect_index.proofs.Among.{get_map, got_map}
 use Rattle.schema_view.specs.Files.{Import, has_place, imports_from, imports_of, file_name}
 use Rattle.schema_view.specs.Outlines.{Outline, outline_of, IsChain, Sees}
 use Rattle.schema_view.specs.Lawful.{outlines}
@@ -18,7 +19,7 @@ use Rattle.schema_view.proofs.Lists.{contains_here, contains_there, contains_cas
 use Rattle.schema_view.proofs.Renames.{map_same}
 use Rattle.linked_view.proofs.Counts.{IsPlaced}
 use Rattle.linked_view.proofs.NamedFiles.{names_in}
-use Rattle.linked_view.proofs.Places.{get_contains, contains_get, get_map, get_map_cases, index_map, found_in, in_found}
+use Rattle.linked_view.proofs.Places.{get_contains, contains_get, index_map, found_in, in_found}
 use Rattle.linked_view.proofs.Walked.{text_seen}
 
 -- imports by their places
@@ -136,7 +137,7 @@ module _ (indexes : Indexes) (links : List Links) (files : List FileDescriptorPr
   -- the file of an index, and of a name
   file_at : (t : Text) (i : ℕ) → indexes t ≡ Some i
       → (f : FileDescriptorProto) × (slice_get files i ≡ Some f) × (named f ≡ t)
-  file_at t i e = get_map_cases named files i t ((placed t i).0 e)
+  file_at t i e = got_map named files i t ((placed t i).0 e)
 
   index_of : (i : ℕ) (f : FileDescriptorProto) → slice_get files i ≡ Some f → indexes (named f) ≡ Some i
   index_of i f e = (placed (named f) i).1 (get_map named files i f e)
@@ -201,7 +202,7 @@ module _ (indexes : Indexes) (links : List Links) (files : List FileDescriptorPr
       let place : 0 + x.0 ≡ x.0 = omega arith in
       let k = place_has x.0 f.public_dependency.items
       (ap (λ n. has_place n f.public_dependency.items) (sym place) ∙ x.2) in
-      let s = get_map_cases string_bytes f.dependency.items x.0 t x.1 in
+      let s = got_map string_bytes f.dependency.items x.0 t x.1 in
       let found : import_at indexes f.dependency.items (pos x.0) ≡ Some j =
       ap (λ (o : Option (String Global)). elim o [ None ↦ None | Some name ↦ file_of indexes name ]) s.1
       ∙ ap indexes s.2 ∙ known in

@@ -9,7 +9,7 @@ use Rattle.descriptor_records.specs.Content.{Text, FieldContent, OneofContent, E
 use Rattle.reflect_scope.specs.declared.definition.DefinitionKind.{DefinitionKind}
 use Rattle.reflect_scope.specs.declared.definition.DefinitionKind.TheVariants as kind
 use Rattle.reflect_names.specs.References as pass
-use Rattle.reflect_index.specs.Rewriting.{Writes, write_name, filled, write_type, write_extension, write_each, write_message, write_messages, write_method, write_service, write_file}
+use Rattle.reflect_index.specs.Rewriting.{Rewrites, write_name, filled, write_type, write_extension, write_each, write_message, write_messages, write_method, write_service, write_file}
 use Rattle.schema_view.specs.Files.{text_of, join, package_of}
 use Rattle.schema_view.specs.Declarations.{Declaration, one_field, one_oneof, one_extension, one_value, one_enum, one_method, one_service, in_message, in_messages}
 use Rattle.schema_view.specs.References.{a_type, Reference, to_message, to_type, references_of, references, Target, fill_type, rename_message_type, rename_type, rename_field, rename_extension, rename_method, rename_service, rename_message, rename_messages, rename_references}
@@ -63,7 +63,7 @@ module _ (targets : Reference → pass.Target) where
   names = names_of targets
 
   -- one after another
-  each_written : {A : Type 0} (one : Writes A) (refs : A → List Reference) (written : A → A)
+  each_written : {A : Type 0} (one : Rewrites A) (refs : A → List Reference) (written : A → A)
       → ((x : A) (rest : List pass.Target)
       → one (map targets (refs x) ++ rest) x ≡ (written x, rest))
       → (xs : List A) (rest : List pass.Target)

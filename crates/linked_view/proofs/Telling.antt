@@ -1,5 +1,5 @@
 -- A pool's entries of extensions stay those of its records where files are accepted.
-use Rattle.std.proofs.Common.{◌≡◌, ◌∙◌, ℕ, zero, suc, List, [], ◌∷◌, ◌++◌, Some, map, slice_get, ap, sym, subst}
+use Rattle.std.proofs.Common.{◌≡◌, ◌∙◌, List, [], ◌∷◌, ◌++◌, map, ap, sym, subst}
 use Rattle.std.specs.List.{AllZip, flat_map}
 use Rattle.std.proofs.lemmas.List.{map-append}
 use Rattle.std.proofs.lemmas.List.Concat.{flat_map-append}
@@ -14,6 +14,7 @@ use Rattle.reflect_passes.specs.NameFaults.{name_faults}
 use Rattle.reflect_tables.specs.Names.{FullName, AreFound, found, message_name, names_of, messages}
 use Rattle.reflect_tables.specs.Types.{PoolType, ExtensionType}
 use Rattle.reflect_tables.specs.Views.{message_of, extension_of}
+use Rattle.reflect_tables.proofs.Founds.{front}
 use Rattle.reflect_build.proofs.Stored.{zip_both}
 use Rattle.reflect_build.specs.Accepted.{FaultlessBatch, FaultlessFiles}
 use Rattle.reflect_build.specs.Refusals.{Linking, with_declared, IsOf, new_files}
@@ -26,12 +27,6 @@ use Rattle.linked_view.proofs.Accepted.{known_files, known_all, indexes, known, 
 use Rattle.linked_view.proofs.Extensions.{keys_zipped}
 use Rattle.linked_view.proofs.Linked.{meanings}
 
-pub get_before : {X : Type 0} (xs ys : List X) (i : ℕ) (x : X) → slice_get xs i ≡ Some x
-    → slice_get (xs ++ ys) i ≡ Some x
-get_before [] ys i x e = absurd (cc e)
-get_before (z ∷ xs) ys zero x e = e
-get_before (z ∷ xs) ys (suc i) x e = get_before xs ys i x e
-
 pub zip_more : (names more : List FullName) (ks : List WrittenKey) (xs : List ExtensionType)
     → AllZip (HasWritten names) ks xs → AllZip (HasWritten (names ++ more)) ks xs
 zip_more names more [] [] h = tt
@@ -42,7 +37,7 @@ zip_more names more (k ∷ ks) (x ∷ xs) h = (
     full = h.0.full;
     file = h.0.file;
     extendee = h.0.extendee;
-    message = get_before names more x.extendee (h.0.full, h.0.file) h.0.message;
+    message = front names more x.extendee (h.0.full, h.0.file) h.0.message;
     number = h.0.number;
   },
   zip_more names more ks xs h.1,

@@ -19,7 +19,9 @@ use Rattle.reflect_tables.specs.Names.{AreFound, found, message_name, messages, 
 use Rattle.reflect_tables.specs.Types.{MessageType, PoolType}
 use Rattle.reflect_tables.specs.Views.{message_of}
 use Rattle.reflect_tables.specs.declared.stored.StoredMessage.{StoredMessage}
+use Rattle.reflect_tables.proofs.Founds.{front}
 use Rattle.reflect_declarations.specs.Batches.{batch_declarations}
+use Rattle.reflect_index.proofs.Among.{get_map, got_map}
 use Rattle.linked_messages.specs.Kept.{IsKept}
 use Rattle.schema_view.specs.Declarations.{MessageFacts, of_message, Declaration, declarations}
 use Rattle.schema_view.specs.Lawful.{outlines, Adds, all_linked, IsOneMap, Key, has_key, is_use, times_by}
@@ -45,10 +47,10 @@ use Rattle.linked_view.proofs.Linked.{meanings}
 use Rattle.linked_view.proofs.Marked.{marks_by, older_at}
 use Rattle.linked_view.proofs.Named.{in_all}
 use Rattle.linked_view.proofs.Parted.{empty_declared, empty_entries, pool_declared, pool_entries}
-use Rattle.linked_view.proofs.Places.{contains_get, get_contains, get_less, get_map, get_map_cases}
+use Rattle.linked_view.proofs.Places.{contains_get, get_contains, get_less}
 use Rattle.linked_view.proofs.Ranged.{numbers_keep}
 use Rattle.linked_view.proofs.Settling.{all_good, batch_holds}
-use Rattle.linked_view.proofs.Telling.{get_before, pool_tells, tells_new}
+use Rattle.linked_view.proofs.Telling.{pool_tells, tells_new}
 use Rattle.linked_view.proofs.Valued.{pool_values}
 use Rattle.linked_view.proofs.Unused.{Unused, one_map_left, one_map_right, unused_before, unused_seen}
 
@@ -83,7 +85,7 @@ module _ (old new : PoolType) (ns : List FileDescriptorProto) (w : Linking) (is 
     older_known : (i : ℕ) (t : MessageType) → slice_get old.messages i ≡ Some t
         → (d : Definition) × (all_known t.full_name ≡ Some d) × (d.kind ≡ kind.Message i)
     older_known i t e =
-        let here = get_before old.messages (map message_of batch.types.new.now.messages.items) i t e in
+        let here = front old.messages (map message_of batch.types.new.now.messages.items) i t e in
         let named : slice_get (names_of new messages) i ≡ Some (t.full_name, t.file) =
         get_map message_name new.messages i t
         (ap (λ (ms : List MessageType). slice_get ms i) types_are ∙ here) in
@@ -95,7 +97,7 @@ module _ (old new : PoolType) (ns : List FileDescriptorProto) (w : Linking) (is 
     older_entry : (i : ℕ) (t : MessageType) → slice_get old.messages i ≡ Some t
         → is_some t.entry ≡ true → (linked_says batch.types).is_entry i ≡ true
     older_entry i t e parts =
-        let x = get_map_cases message_of stored i t
+        let x = got_map message_of stored i t
         (ap (λ (p : PoolType). slice_get p.messages i) is.tables ∙ e) in
         let marks : x.0.is_entry ≡ is_some x.0.entry =
         in_all MarksEntry stored is.stored.entries x.0 (get_contains stored i x.0 x.1) in

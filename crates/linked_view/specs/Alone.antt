@@ -9,7 +9,7 @@ use Rattle.schema_view.specs.Declarations.{Declaration, declarations}
 use Rattle.schema_view.specs.References.{Reference, references, linked}
 use Rattle.schema_view.specs.Outlines.{outline_of}
 use Rattle.schema_view.specs.Lawful.{outlines, Meanings, all_linked, AreSettled, IsSettled}
-use Rattle.schema_view.specs.Means.{Means}
+use Rattle.schema_view.specs.Means.{ReferenceMeans}
 use Rattle.linked_view.specs.Named.{AreWellNamed}
 use Rattle.linked_view.specs.Whole.{AreSound}
 
@@ -30,7 +30,7 @@ pub record AreLawfulAlone (old new after : List FileContent) : Type 0 where
   pub names : AreWellNamed old new
   pub means : (f : FileContent) (r : Reference)
       → Contains new f → Contains (references f) r
-      → Means (outlines (old ++ new)) (outline_of f) r (meanings f r)
+      → ReferenceMeans (outlines (old ++ new)) (outline_of f) r (meanings f r)
   pub sound : AreSound new
   pub stand : after ≡ old ++ all_linked meanings new
 

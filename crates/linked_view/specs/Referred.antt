@@ -4,12 +4,12 @@ use Rattle.descriptor_records.specs.Content.{FileContent, file_view}
 use Rattle.descriptor_records.specs.declared.file.FileDescriptorProto.{FileDescriptorProto}
 use Rattle.schema_view.specs.References.{Reference, references, Target}
 use Rattle.schema_view.specs.Outlines.{Outline, outline_of}
-use Rattle.schema_view.specs.Means.{Means}
+use Rattle.schema_view.specs.Means.{ReferenceMeans}
 use Rattle.linked_view.specs.Resolved.{SeesThose}
 
 -- it means something of the kind that it needs
 abbrev pub HasMeaning : List Outline → Outline → Reference → Type 0
-HasMeaning os from r = (t : Target) × Means os from r t
+HasMeaning os from r = (t : Target) × ReferenceMeans os from r t
 
 abbrev pub AreMeant : List Outline → List FileContent → Type 0
 AreMeant os fs = (f : FileContent) (r : Reference) → Contains fs f → Contains (references f) r

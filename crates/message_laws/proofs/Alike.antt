@@ -9,7 +9,7 @@ use Rattle.reflect_wire.specs.Records.{Payload, varint, fixed64, delimited, grou
 use Rattle.reflect_wire.specs.declared.wire_key.WireType.{WireType}
 use Rattle.reflect_wire.specs.declared.wire_key.WireType.TheVariants as wires
 use Rattle.reflect_scalar.specs.Kinds.{kind_type, wire_type}
-use Rattle.reflect_scalar.specs.Meaning.{Means, IsScalar}
+use Rattle.reflect_scalar.specs.Meaning.{StandsFor, IsScalar}
 use Rattle.reflect_scalar.specs.Singles.{Single}
 use Rattle.reflect_scalar.proofs.Defaulted.{kind_is}
 use Rattle.reflect_scalar.proofs.Meanings.{form_of_meaning}
@@ -53,11 +53,11 @@ form_is (kinds.Enum e) = refl
 pub same_form : (k l : Kind) → kind_type k ≡ kind_type l → wire_type k ≡ wire_type l
 same_form k l e = form_is k ∙ ap form_of_type e ∙ sym (form_is l)
 
-one_enum : (a b : EnumDescriptor) (p : Payload) (v : Single) → Means (kinds.Enum a) p v → Means (kinds.Enum b) p v
+one_enum : (a b : EnumDescriptor) (p : Payload) (v : Single) → StandsFor (kinds.Enum a) p v → StandsFor (kinds.Enum b) p v
 one_enum a b (varint n) v h = h
 one_enum a b p v h = absurd h
 
-pub same_meaning : (k l : Kind) (p : Payload) (v : Single) → kind_type k ≡ kind_type l → Means l p v → Means k p v
+pub same_meaning : (k l : Kind) (p : Payload) (v : Single) → kind_type k ≡ kind_type l → StandsFor l p v → StandsFor k p v
 same_meaning kinds.Int32 kinds.Int32 p v e h = h
 same_meaning kinds.Int64 kinds.Int64 p v e h = h
 same_meaning kinds.Uint32 kinds.Uint32 p v e h = h
@@ -92,7 +92,7 @@ no_group_form kinds.Float e = cc
 no_group_form k e = cc
 
 -- what means a value is no group, and so is spelled at each level and under each number
-pub plain : (k : Kind) (levels n : ℕ) (front : List ℕ) (p : Payload) (v : Single) → Means k p v → SpellsPayload levels n front p → SpellsPayload 0 0 front p
+pub plain : (k : Kind) (levels n : ℕ) (front : List ℕ) (p : Payload) (v : Single) → StandsFor k p v → SpellsPayload levels n front p → SpellsPayload 0 0 front p
 plain k levels n front (varint x) v means h = h
 plain k levels n front (fixed64 x) v means h = h
 plain k levels n front (delimited x) v means h = h

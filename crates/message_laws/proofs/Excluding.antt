@@ -18,7 +18,7 @@ use Rattle.reflect_wire.specs.declared.wire_key.WireType.TheVariants as wires
 use Rattle.reflect_wire.proofs.Unique.{one_key, one_payload, one_delimited, not_end, regrouped}
 use Rattle.reflect_scalar.specs.Kinds.{kind_type, packs}
 use Rattle.reflect_wire.specs.Faults.{KeyFault, IsEndMismatch}
-use Rattle.reflect_scalar.specs.Meaning.{Means, ScalarFault}
+use Rattle.reflect_scalar.specs.Meaning.{StandsFor, ScalarFault}
 use Rattle.reflect_scalar.specs.Singles.{Single}
 use Rattle.reflect_scalar.proofs.Defaulted.{kind_is}
 use Rattle.reflect_scalar.proofs.Meanings.{form_of_meaning}
@@ -89,12 +89,12 @@ module _ (pool : PoolType) (keyed : HaveMapKeys pool) (levels : ℕ) (inner : Re
     in_message true i (inl other) h = other.0 (value.0 ∙ excludes.forms true i p h)
     in_message true i (inr (wire, fault)) h = excludes.tagged i key.number bytes front rest e p fault (excludes.forms true i p h) value.1 is h
 
-    accepted_value : (grouped : Bool) (l : Kind) → ((d : MessageDescriptor) → l ≡ kinds.Message d → ⊥) → AcceptsKind accepts grouped l p → (v : Single) × Means l p v
+    accepted_value : (grouped : Bool) (l : Kind) → ((d : MessageDescriptor) → l ≡ kinds.Message d → ⊥) → AcceptsKind accepts grouped l p → (v : Single) × StandsFor l p v
     accepted_value grouped (kinds.Message d) other h = absurd (other d refl)
     accepted_value grouped l other h = h
 
     -- a value that is single, of either public kind of the type
-    in_scalar : (k l : Kind) → kind_type k ≡ kind_type l → ScalarFault k key.wire bytes e → (v : Single) → Means l p v → ⊥
+    in_scalar : (k l : Kind) → kind_type k ≡ kind_type l → ScalarFault k key.wire bytes e → (v : Single) → StandsFor l p v → ⊥
     in_scalar k l same fault v means =
         let meant = same_meaning k l p v same means in
         no_scalar_there k key.wire bytes e fault front rest v (p, (value.0, plain k levels key.number front p v meant value.1), meant) is

@@ -14,9 +14,9 @@ use Rattle.reflect_wire.proofs.Varints.{one_form}
 use Rattle.reflect_pool.specs.declared.kind.Kind.{Kind}
 use Rattle.reflect_pool.specs.declared.kind.Kind.TheVariants as kinds
 use Rattle.reflect_scalar.specs.Kinds.{wire_type}
-use Rattle.reflect_scalar.specs.Meaning.{Means, IsPlain, IsScalar, IsUnread, PlainFault, ScalarFault}
+use Rattle.reflect_scalar.specs.Meaning.{IsPlain, IsScalar, PlainFault, ScalarFault}
 use Rattle.reflect_scalar.specs.Singles.{Single}
-use Rattle.reflect_scalar.proofs.Meanings.{form_of_meaning, meaning_refused}
+use Rattle.reflect_scalar.proofs.Meanings.{form_of_meaning, meaning_refused, unread_means_nothing}
 use Rattle.reflect_decode.specs.Packed.{IsPacked, PackedFault}
 use Rattle.reflect_decode.proofs.Packing.{no_row}
 
@@ -71,18 +71,12 @@ no_payload_there bytes front rest e (fixed32 n) fault h is = too_short 4 bytes f
 no_plain : (wire : WireType) (bytes : List ℕ) (e : WireError) → PlainFault wire bytes e → NoFront (IsPlain wire) bytes
 no_plain wire bytes e fault front rest p h is = no_payload_there bytes front rest e p (subst (λ w. PlainFault w bytes e) h.0 fault) h.1 is
 
-unread : (kind : Kind) (p : Payload) (v : Single) → IsUnread kind → Means kind p v → ⊥
-unread kinds.Double p v u h = h
-unread kinds.Float p v u h = h
-unread (kinds.Message m) p v u h = h
-unread kind p v u h = absurd u
-
 plain_refused : (kind : Kind) (wire : WireType) (bytes : List ℕ) (e : WireError) → PlainFault wire bytes e → NoFront (IsScalar kind wire) bytes
 plain_refused kind wire bytes e fault front rest v h is = no_plain wire bytes e fault front rest h.0 h.1 is
 
 pub no_scalar_there : (kind : Kind) (wire : WireType) (bytes : List ℕ) (e : WireError) → ScalarFault kind wire bytes e → NoFront (IsScalar kind wire) bytes
 no_scalar_there kind wire bytes BadWireType (inl other) = λ front rest v h is. other (h.1.0 ∙ form_of_meaning kind h.0 v h.2)
-no_scalar_there kind wire bytes BadWireType (inr none) = λ front rest v h is. unread kind h.0 v none h.2
+no_scalar_there kind wire bytes BadWireType (inr none) = λ front rest v h is. unread_means_nothing kind h.0 v none h.2
 no_scalar_there kind wire bytes BadUtf8 fault = meaning_refused kind wire bytes fault.1.1.0 fault.1.0 fault.1.1.1 BadUtf8 fault.1.1.2
 no_scalar_there kind wire bytes Truncated fault = plain_refused kind wire bytes Truncated fault.1
 no_scalar_there kind wire bytes BadVarint fault = plain_refused kind wire bytes BadVarint fault.1

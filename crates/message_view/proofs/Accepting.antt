@@ -13,7 +13,7 @@ use Rattle.reflect_wire.specs.Records.{Payload, delimited, group, SpellsRecords}
 use Rattle.reflect_wire.specs.Views.{records_of}
 use Rattle.reflect_wire.specs.Written.{AreBytes, FitsPayload, FitsRecords}
 use Rattle.reflect_scalar.specs.Kinds.{kind_type, wire_type, packs}
-use Rattle.reflect_scalar.specs.Meaning.{Means}
+use Rattle.reflect_scalar.specs.Meaning.{StandsFor}
 use Rattle.reflect_scalar.specs.Singles as held
 use Rattle.reflect_scalar.proofs.Defaulted.{kind_is}
 use Rattle.reflect_message.specs.KindTypes.{IsScalarType, IsMessageType}
@@ -43,7 +43,7 @@ use Rattle.message_view.proofs.Oneofs.{payloads_same}
 use Rattle.message_view.proofs.Plain.{HasBytes, HaveBytes, IsPlainRecord, front_bytes, back_bytes, plain_records, spelled_plain, packed_fits}
 
 -- a kind whose payloads mean single values
-means_scalar : (kind : Kind) (p : Payload) (v : held.Single) → Means kind p v → IsScalarType (kind_type kind)
+means_scalar : (kind : Kind) (p : Payload) (v : held.Single) → StandsFor kind p v → IsScalarType (kind_type kind)
 means_scalar publics.Double p v h = h
 means_scalar publics.Float p v h = h
 means_scalar (publics.Message d) p v h = h
@@ -86,7 +86,7 @@ pub record Admits (pool : PoolType) (coded : decode.Acceptable) (accept : Accept
   pub messages : (grouped : Bool) (d : MessageDescriptor) → d.pool.now ≡ pool → (p : Payload) → FitsPayload levels p → HasBytes p → coded grouped d.pool.now d.index p → accept (frame_of grouped) (name_at pool d.index) p
 
 module _ (pool : PoolType) (coded : decode.Acceptable) (accept : Acceptable) (levels : ℕ) (admits : Admits pool coded accept levels) where
-  single_accepted : (g : Bool) (t : KindType) (kind : Kind) (p : Payload) (v : held.Single) → IsKind pool kind t → Means kind p v → FitsPayload levels p → AcceptsPart accept (kind_in pool g t) p
+  single_accepted : (g : Bool) (t : KindType) (kind : Kind) (p : Payload) (v : held.Single) → IsKind pool kind t → StandsFor kind p v → FitsPayload levels p → AcceptsPart accept (kind_in pool g t) p
   single_accepted g t kind p v is means fits =
       let type = subst IsScalarType (sym (kind_is pool kind t is)) (means_scalar kind p v means) in
       let suits = subst (λ t. Suits (scalar_of t) (single_view v)) (sym (kind_is pool kind t is)) (suits_is kind p v levels means fits) in

@@ -13,7 +13,7 @@ use Rattle.reflect_pool.specs.declared.kind.Kind.TheVariants as publics
 use Rattle.reflect_pool.specs.declared.message.MessageDescriptor.{MessageDescriptor}
 use Rattle.reflect_wire.specs.Records.{Payload, varint, fixed64, delimited, group, fixed32}
 use Rattle.reflect_scalar.specs.Kinds.{kind_type, wire_type, packs}
-use Rattle.reflect_scalar.specs.Meaning.{Means}
+use Rattle.reflect_scalar.specs.Meaning.{StandsFor}
 use Rattle.reflect_scalar.specs.Meaning as means
 use Rattle.reflect_scalar.specs.Singles as held
 use Rattle.reflect_scalar.proofs.Defaulted.{kind_is}
@@ -50,7 +50,7 @@ zigzag_forth n = by (n % 2 == 0) refl where
   by false e = let odd : n % 2 ≡ 1 = grind (arith, e) in omega (arith, odd)
 
 -- what a payload means as a value of the kind
-means_back : (kind : Kind) (p : Payload) (v : model.Single) → IsScalarType (kind_type kind) → meant (scalar_of (kind_type kind)) p ≡ v ∷ [] → Suits (scalar_of (kind_type kind)) v → (w : held.Single) × Means kind p w
+means_back : (kind : Kind) (p : Payload) (v : model.Single) → IsScalarType (kind_type kind) → meant (scalar_of (kind_type kind)) p ≡ v ∷ [] → Suits (scalar_of (kind_type kind)) v → (w : held.Single) × StandsFor kind p w
 means_back publics.Double p v type e s = absurd type
 means_back publics.Float p v type e s = absurd type
 means_back (publics.Message d) p v type e s = absurd type
@@ -126,7 +126,7 @@ module _ (d : MessageDescriptor) (pooled : ArePooled d.pool.now) (coded : decode
   abbrev pool : PoolType
   pool = d.pool.now
 
-  single_taken : (t : KindType) (kind : Kind) (p : Payload) → IsKind pool kind t → IsScalarType t → IsScalar (scalar_of t) p → (v : held.Single) × Means kind p v
+  single_taken : (t : KindType) (kind : Kind) (p : Payload) → IsKind pool kind t → IsScalarType t → IsScalar (scalar_of t) p → (v : held.Single) × StandsFor kind p v
   single_taken t kind p is type h =
       let same = kind_is pool kind t is in
       let there = subst (λ t. IsScalar (scalar_of t) p) same h in

@@ -9,7 +9,7 @@ use Rattle.reflect_pool.specs.declared.kind.Kind.TheVariants as publics
 use Rattle.reflect_pool.specs.declared.message.MessageDescriptor.{MessageDescriptor}
 use Rattle.reflect_wire.specs.Records.{Payload}
 use Rattle.reflect_scalar.specs.Kinds.{kind_type, wire_type, packs}
-use Rattle.reflect_scalar.specs.Meaning.{Means}
+use Rattle.reflect_scalar.specs.Meaning.{StandsFor}
 use Rattle.reflect_scalar.specs.Singles as held
 use Rattle.reflect_scalar.proofs.Defaulted.{kind_is}
 use Rattle.reflect_scalar.proofs.Meanings.{form_of_meaning}
@@ -47,7 +47,7 @@ pub kind_message : (pool : PoolType) (group : Bool) (t : KindType) (i : ℕ) →
 kind_message pool group t i e = ap (kind_in pool group) e
 
 -- what the last record means
-pub meant_in : (pool : PoolType) (kind : Kind) (t : KindType) (p : Payload) (v : held.Single) → IsKind pool kind t → Means kind p v → meant (scalar_of t) p ≡ single_view v ∷ []
+pub meant_in : (pool : PoolType) (kind : Kind) (t : KindType) (p : Payload) (v : held.Single) → IsKind pool kind t → StandsFor kind p v → meant (scalar_of t) p ≡ single_view v ∷ []
 meant_in pool kind t p v is h = ap (λ t. meant (scalar_of t) p) (kind_is pool kind t is) ∙ meant_is kind p v h
 
 -- the wire type, and whether values are packed, of each kind

@@ -6,7 +6,7 @@ use Rattle.reflect_pool.specs.declared.kind.Kind.TheVariants as publics
 use Rattle.reflect_wire.specs.Records.{Payload, varint, fixed64, delimited, fixed32}
 use Rattle.reflect_wire.specs.Written.{FitsPayload}
 use Rattle.reflect_scalar.specs.Kinds.{kind_type}
-use Rattle.reflect_scalar.specs.Meaning.{Means}
+use Rattle.reflect_scalar.specs.Meaning.{StandsFor}
 use Rattle.reflect_scalar.specs.Meaning as means
 use Rattle.reflect_scalar.specs.Singles as held
 use Rattle.protobuf_model.specs.Values.{int32, int64}
@@ -24,7 +24,7 @@ signed_back : (n : ℕ) (z : ℤ) → n ≡ means.zigzag z → unzigzag n ≡ z
 signed_back n z e = ap unzigzag (e ∙ zigzag_same z) ∙ zigzag_back z
 
 -- what a payload means, in the model's words
-pub meant_is : (kind : Kind) (p : Payload) (v : held.Single) → Means kind p v → meant (scalar_of (kind_type kind)) p ≡ single_view v ∷ []
+pub meant_is : (kind : Kind) (p : Payload) (v : held.Single) → StandsFor kind p v → meant (scalar_of (kind_type kind)) p ≡ single_view v ∷ []
 meant_is publics.Int32 (varint n) v h = ap (λ v. single_view v ∷ []) (sym h)
 meant_is publics.Int64 (varint n) v h = ap (λ v. single_view v ∷ []) (sym h)
 meant_is publics.Uint32 (varint n) v h = ap (λ v. single_view v ∷ []) (sym h)
@@ -45,7 +45,7 @@ low_small : (n : ℕ) → low n < 2 ^ 32
 low_small n = omega arith
 
 -- and the value is one of the kind, where the payload fits its form
-pub suits_is : (kind : Kind) (p : Payload) (v : held.Single) (levels : ℕ) → Means kind p v → FitsPayload levels p → Suits (scalar_of (kind_type kind)) (single_view v)
+pub suits_is : (kind : Kind) (p : Payload) (v : held.Single) (levels : ℕ) → StandsFor kind p v → FitsPayload levels p → Suits (scalar_of (kind_type kind)) (single_view v)
 suits_is publics.Int32 (varint n) v levels h f = subst (λ v. Suits kinds.int32 (single_view v)) (sym h) (sfits_to_z (record { fits = low_small n }))
 suits_is publics.Int64 (varint n) v levels h f = subst (λ v. Suits kinds.int64 (single_view v)) (sym h) (sfits_to_z (record { fits = f }))
 suits_is publics.Uint32 (varint n) v levels h f = subst (λ v. Suits kinds.uint32 (single_view v)) (sym h) (low_small n)

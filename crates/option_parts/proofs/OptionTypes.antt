@@ -7,6 +7,7 @@ use Rattle.std.specs.List.{list_any}
 use Rattle.descriptor_records.specs.declared.message.DescriptorProto.{DescriptorProto}
 use Rattle.descriptor_records.specs.declared.message.DescriptorProto.TheViews.{out-DescriptorProto}
 use Rattle.reflect_tables.specs.Finding.{IsFirst}
+use Rattle.reflect_tables.proofs.Firsts.{one_first}
 use Rattle.reflect_tables.specs.Types.{PoolType, FieldType, MessageType, no_type, type_at}
 use Rattle.reflect_pool.specs.Dots.{without_dot}
 use Rattle.reflect_pool.specs.FindsNames.{FindsMessage}
@@ -15,7 +16,7 @@ use Rattle.reflect_pool.specs.Records.{message_along}
 use Rattle.reflect_link.specs.Lent.{IsMessageOf}
 use Rattle.reflect_link.specs.Reserved.{extension_bounds}
 use Rattle.reflect_message.specs.Known.{numbered_field}
-use Rattle.option_parts.specs.OptionTypes.{HasField, KeepsExtensions, is_custom, type_name, IsNamedType, IsOptionType, CanRead, Reads, TellsType}
+use Rattle.option_parts.specs.OptionTypes.{HasField, KeepsExtensions, is_custom, type_name, IsNamedType, IsOptionType, CanRead, ReadsOptions, TellsType}
 use Rattle.option_parts.specs.declared.option_error.OptionErrorKind.{OptionErrorKind}
 use Rattle.option_parts.specs.declared.option_scope.OptionScope.{OptionScope}
 use Rattle.option_parts.specs.declared.option_scope.OptionScope.TheVariants as each
@@ -46,14 +47,6 @@ ranges_decide pool m r ranges b own same here =
     let all = λ (x : DescriptorProto). list_any is_custom (map extension_bounds (out-DescriptorProto x).extension_range.items) in
     let told : all r ≡ b = ap (list_any is_custom) (sym same) ∙ here in
     (λ e. (r, own, told ∙ e), λ h. sym told ∙ ap all (one_record pool m r h.0 own h.1) ∙ h.2)
-
--- a list has one first element with a property
-one_first : {X : Type 0} (P : X → Type 0) (xs : List X) (d : X) (i j : ℕ) → IsFirst P xs (Some i) → IsFirst P xs (Some j) → i ≡ j
-one_first P xs d i j a b = by (nat_lt i j) refl (nat_lt j i) refl where
-  by : (u : Bool) → nat_lt i j ≡ u → (v : Bool) → nat_lt j i ≡ v → i ≡ j
-  by true lt v other = absurd (b.1.1 i d (omega arith) (grind (arith, lt)) (a.1.0 d))
-  by false other true lt = absurd (a.1.1 j d (omega arith) (grind (arith, lt)) (b.1.0 d))
-  by false x false y = grind (arith, x, y)
 
 nothing : (b : Bool) → b && false ≡ false
 nothing true = refl
@@ -124,7 +117,7 @@ module _ (pool : PoolType) (s : OptionScope) (name : List ℕ) (is : name ≡ ty
     pub none_can_read : CanRead pool s
     none_can_read m h = absurd (never m h)
 
-    pub none_reads : Reads pool s → ⊥
+    pub none_reads : ReadsOptions pool s → ⊥
     none_reads r = never r.0 r.1
 
   -- this type has it
@@ -139,17 +132,17 @@ module _ (pool : PoolType) (s : OptionScope) (name : List ℕ) (is : name ≡ ty
     one_named = named (Some i) first
 
 -- what can be read by no type is read by none
-pub cannot_reads : (pool : PoolType) (s : OptionScope) → (CanRead pool s → ⊥) → Reads pool s → ⊥
+pub cannot_reads : (pool : PoolType) (s : OptionScope) → (CanRead pool s → ⊥) → ReadsOptions pool s → ⊥
 cannot_reads pool s bad r = bad (λ m h. subst (IsOptionType pool s) (one_first (λ (t : MessageType). t.full_name ≡ type_name s) pool.messages no_type r.0 m r.1 h) r.2)
 
 -- what is told of the one is told of the other
-told_reads : (pool : PoolType) (kind : OptionErrorKind) → TellsType (CanRead pool) kind → TellsType (Reads pool) kind
+told_reads : (pool : PoolType) (kind : OptionErrorKind) → TellsType (CanRead pool) kind → TellsType (ReadsOptions pool) kind
 told_reads pool kind t = (t.0, t.1, cannot_reads pool t.0 t.2)
 
 abbrev pub IsThere : PoolType → OptionScope → Type 0
 IsThere pool s = (m : ℕ) × IsNamedType pool s m
 
-there_reads : (pool : PoolType) (s : OptionScope) → IsThere pool s → CanRead pool s → Reads pool s
+there_reads : (pool : PoolType) (s : OptionScope) → IsThere pool s → CanRead pool s → ReadsOptions pool s
 there_reads pool s t all = (t.0, t.1, all t.0 t.1)
 
 -- one that is found is there
@@ -163,16 +156,16 @@ fails false d f p = cc (d.1 p)
 
 -- where all are there, what is said of each that is there is said of all
 module _ {E : Type 0} (pool : PoolType) (r : Result (Option OptionErrorKind) E) where
-  pub all_good : ((s : OptionScope) → IsThere pool s) → IfOk r (λ fault. IfNone fault ((s : OptionScope) → CanRead pool s)) → IfOk r (λ fault. IfNone fault ((s : OptionScope) → Reads pool s))
+  pub all_good : ((s : OptionScope) → IsThere pool s) → IfOk r (λ fault. IfNone fault ((s : OptionScope) → CanRead pool s)) → IfOk r (λ fault. IfNone fault ((s : OptionScope) → ReadsOptions pool s))
   all_good all = by r where
-    by : (r : Result (Option OptionErrorKind) E) → IfOk r (λ fault. IfNone fault ((s : OptionScope) → CanRead pool s)) → IfOk r (λ fault. IfNone fault ((s : OptionScope) → Reads pool s))
+    by : (r : Result (Option OptionErrorKind) E) → IfOk r (λ fault. IfNone fault ((s : OptionScope) → CanRead pool s)) → IfOk r (λ fault. IfNone fault ((s : OptionScope) → ReadsOptions pool s))
     by (Ok None) h = λ s. there_reads pool s (all s) (h s)
     by (Ok (Some kind)) h = tt
     by (Err e) h = tt
 
-  pub one_told : IfOk r (λ fault. IfSome fault (TellsType (CanRead pool))) → IfOk r (λ fault. IfSome fault (TellsType (Reads pool)))
+  pub one_told : IfOk r (λ fault. IfSome fault (TellsType (CanRead pool))) → IfOk r (λ fault. IfSome fault (TellsType (ReadsOptions pool)))
   one_told = by r where
-    by : (r : Result (Option OptionErrorKind) E) → IfOk r (λ fault. IfSome fault (TellsType (CanRead pool))) → IfOk r (λ fault. IfSome fault (TellsType (Reads pool)))
+    by : (r : Result (Option OptionErrorKind) E) → IfOk r (λ fault. IfSome fault (TellsType (CanRead pool))) → IfOk r (λ fault. IfSome fault (TellsType (ReadsOptions pool)))
     by (Ok None) h = tt
     by (Ok (Some kind)) h = told_reads pool kind h
     by (Err e) h = tt

@@ -82,8 +82,8 @@ abbrev pub CanRead : PoolType → OptionScope → Type 0
 CanRead pool scope = (m : ℕ) → IsNamedType pool scope m → IsOptionType pool scope m
 
 -- there is one, and it is such a type
-abbrev pub Reads : PoolType → OptionScope → Type 0
-Reads pool scope = (m : ℕ) × IsNamedType pool scope m × IsOptionType pool scope m
+abbrev pub ReadsOptions : PoolType → OptionScope → Type 0
+ReadsOptions pool scope = (m : ℕ) × IsNamedType pool scope m × IsOptionType pool scope m
 
 -- what is told is that the type of this name is none to read options by
 abbrev pub TellsName : List ℕ → OptionErrorKind → Type 0

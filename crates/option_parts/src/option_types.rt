@@ -3,13 +3,14 @@
 ghost use Rattle.std.specs.Prelude.{IfOk, IfSome, IfNone};
 ghost use Rattle.std.specs.Bool.{Decides};
 ghost use Rattle.reflect_tables.specs.Types.{type_of_field};
-ghost use Rattle.option_parts.specs.OptionTypes.{HasField, ListsMessages, IsTruthValue, KeepsExtensions, IsOptionType, CanRead, Reads, TellsName, TellsType};
+ghost use Rattle.option_parts.specs.OptionTypes.{HasField, ListsMessages, IsTruthValue, KeepsExtensions, IsOptionType, CanRead, ReadsOptions, TellsName, TellsType};
 ghost use Rattle.option_parts.specs.OptionTypes as types;
 
 use crate::option_error::OptionErrorKind;
 use crate::option_scope::OptionScope;
 use reflect_link::{DescriptorPool, MessageReaders};
 use reflect_pool::{FieldDescriptor, Kind, MessageDescriptor};
+use reflect_wire::MAX_FIELD_NUMBER;
 use std::alloc::{AllocError, Global};
 
 /// The number of the list of uninterpreted options in each type of options.
@@ -19,7 +20,7 @@ pub const UNINTERPRETED_OPTION: u32 = 999;
 const FIRST_EXTENSION: u32 = 1000;
 
 /// The number behind the last one.
-const BEHIND_EXTENSIONS: u32 = 536_870_912;
+const BEHIND_EXTENSIONS: u32 = MAX_FIELD_NUMBER + 1;
 
 /// The field is a list of messages, each behind its length, of the name of uninterpreted options.
 fn lists_messages(field: FieldDescriptor<'_>) -> bool
@@ -127,8 +128,8 @@ pub fn require_option_types(
     pool: &DescriptorPool,
 ) -> Result<Option<OptionErrorKind>, AllocError>
     ensures good { IfOk result (λ fault. IfNone fault ((scope : OptionScope)
-        → Reads pool.now scope)) }
-    ensures told { IfOk result (λ fault. IfSome fault (TellsType (Reads pool.now))) }
+        → ReadsOptions pool.now scope)) }
+    ensures told { IfOk result (λ fault. IfSome fault (TellsType (ReadsOptions pool.now))) }
 {
     for scope in OptionScope::ALL {
         if pool.get_message_by_name(scope.type_name()).is_none() {

@@ -7,10 +7,8 @@ use reflect_link::{DescriptorPool, Kind, MessageDescriptor};
 use reflect_message::{DynamicMessage, MapKey, Value};
 use reflect_names::{Links, ResolveNameError, ResolveNameFilter, SeenFiles, resolve_name};
 use reflect_numbered::FieldsByNumber;
+use reflect_wire::MAX_LEVELS;
 use std::alloc::{AllocError, Global};
-
-/// How many levels of messages may lie below a message of options.
-const MAX_LEVELS: u32 = 100;
 
 /// Where the names of extensions are looked up.
 #[derive(Clone, Copy)]

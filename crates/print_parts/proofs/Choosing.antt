@@ -11,7 +11,7 @@ use Rattle.reflect_message.specs.Names.{DynamicMessage}
 use Rattle.text_lines.specs.declared.options.FormatOptions.{FormatOptions}
 use Rattle.print_parts.specs.Pairwise.{Pairwise}
 use Rattle.print_parts.specs.Entries.{Entry, IsByNumber, IsFieldOf, PutsField, is_printed, number_of, pool_of, printed_fields}
-use Rattle.print_parts.proofs.Viewed.{ascend_viewed, stable_viewed}
+use Rattle.protox_lex.proofs.Sorting.{ascend_viewed, stable_viewed}
 
 abbrev known_in : DynamicMessage → FieldType → Option FieldType
 known_in m f = known_field (pool_of m) m.descriptor.index f.number

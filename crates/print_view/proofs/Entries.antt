@@ -10,9 +10,9 @@ use Rattle.reflect_tables.specs.Types.{PoolType, FieldType, ExtensionType, no_fi
 use Rattle.reflect_wire.specs.Records.{Payload, varint}
 use Rattle.reflect_pool.specs.Shapes.{is_repeated, holds_list, holds_map}
 use Rattle.reflect_entries.specs.Entries.{value_at}
-use Rattle.reflect_scalar.proofs.First.{Tells}
 use Rattle.reflect_scalar.specs.FieldTypes.{extension_type}
 use Rattle.reflect_contents.specs.Walked.{Holding, if_set, set_field, set_extension}
+use Rattle.reflect_message.proofs.Known.{numbered as numbered_at}
 use Rattle.reflect_message.specs.Bytes as forms
 use Rattle.reflect_message.specs.Contents.{content_of}
 use Rattle.reflect_message.specs.Held.{fields_of, extensions_of, unknown_of}
@@ -103,9 +103,6 @@ module _ (pool : PoolType) (inner : DynamicMessage → Type 0) where
 module _ (pool : PoolType) (i : ℕ) (apart : AreApart pool) where
   abbrev IsFound : FieldType → Type 0
   IsFound f = numbered_field pool i f.number ≡ Some f
-
-  numbered_at : (n : ℕ) → Tells (λ (f : FieldType). f.number ≡ n) (λ f. f.number == n)
-  numbered_at n = record { says = λ f e. grind (arith, e); passes = λ f e. grind (arith, e) }
 
   found_at : (k : ℕ) → k < length (type_at pool i).fields → IsFound (type_of_field pool i k)
   found_at k lt =

@@ -1,12 +1,12 @@
 -- The laws of records as laws of bytes.
-use Rattle.std.proofs.Common.{◌≡◌, ◌↔◌, ℕ, zero, suc, ◌<◌, ◌≤◌, ◌^◌, List, [], ◌∷◌, ◌++◌, length, refl, sym, ap, ◌∙◌, subst, append_assoc, arith}
+use Rattle.std.proofs.Common.{◌≡◌, ◌↔◌, ℕ, zero, suc, ◌<◌, ◌≤◌, ◌^◌, List, [], ◌∷◌, ◌++◌, length, refl, sym, ap, ◌∙◌, subst, arith}
 use Rattle.std.specs.List.{AllByRecursion}
 use Rattle.reflect_wire.specs.declared.wire_key.WireKey.{WireKey}
-use Rattle.reflect_wire.specs.Key.{IsKey}
 use Rattle.reflect_wire.specs.Records.{Payload, Records, no_records, more_records, SpellsPayload, SpellsRecords}
 use Rattle.reflect_wire.specs.Views.{records_of}
 use Rattle.reflect_wire.proofs.Spelling.{one_list, records_spelled}
 use Rattle.reflect_wire.proofs.Unique.{one_key, one_payload}
+use Rattle.reflect_wire.proofs.Whole.{key_there, regrouped}
 use Rattle.protobuf_model.specs.Values.{Message, nothing}
 use Rattle.protobuf_model.specs.Types.{Name, Types}
 use Rattle.protobuf_model.specs.Reader.{inside_of, list_of}
@@ -29,16 +29,9 @@ join_lists : (rs ts : List (ℕ × Payload)) → records_of (rs ++ ts) ≡ join 
 join_lists [] ts = refl
 join_lists (r ∷ rs) ts = ap (more_records r.0 r.1) (join_lists rs ts)
 
-regrouped : (key value rest more : List ℕ) → (key ++ (value ++ rest)) ++ more ≡ key ++ (value ++ (rest ++ more))
-regrouped key value rest more = simp append_assoc
-
 spells_join : (levels : ℕ) (a b : List ℕ) (rs ts : Records) → SpellsRecords levels a rs → SpellsRecords levels b ts → SpellsRecords levels (a ++ b) (join rs ts)
 spells_join levels a b no_records ts h k = subst (λ a. SpellsRecords levels (a ++ b) ts) (sym h) k
 spells_join levels a b (more_records n p rs) ts h k = (h.0, h.1, h.2 ++ b, h.3, h.4, spells_join levels h.2 b rs ts h.5 k, ap (λ a. a ++ b) h.6 ∙ regrouped h.0 h.1 h.2 b)
-
-key_there : (key more : List ℕ) (k : WireKey) → IsKey key k → key ++ more ≡ [] → ⊥
-key_there [] more k h e = h.spelled.spelled
-key_there (b ∷ bs) more k h e = cc
 
 -- behind the records that were read stand the others
 spells_rest : (levels : ℕ) (a b whole : List ℕ) (rs ts : Records) → SpellsRecords levels a rs → SpellsRecords levels whole ts → a ++ b ≡ whole → (us : Records) × SpellsRecords levels b us × (ts ≡ join rs us)

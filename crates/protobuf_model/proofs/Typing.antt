@@ -39,7 +39,7 @@ form_of kinds.bytes (delimited n) v e = refl
 form_of k p v e = cc
 
 -- entries of a map that is put into
-all_put : (Q : Single × Content → Type 0) (k : Single) (c : Content) (es : List (Single × Content)) → Q (k, c) → AllByRecursion Q es → AllByRecursion Q (put k c es)
+pub all_put : (Q : Single × Content → Type 0) (k : Single) (c : Content) (es : List (Single × Content)) → Q (k, c) → AllByRecursion Q es → AllByRecursion Q (put k c es)
 all_put Q k c [] q h = (q, tt)
 all_put Q k c (e ∷ es) q h = by (all_put Q k c es q h.1) (same k e.0) (below k e.0) where
   by : AllByRecursion Q (put k c es) → (s b : Bool) → AllByRecursion Q (cond s ((k, c) ∷ es) (cond b ((k, c) ∷ e ∷ es) (e ∷ put k c es)))

@@ -10,13 +10,10 @@ ghost use Rattle.protox_tokens.specs.Reads.{Reads};
 ghost use Rattle.protox_tokens.specs.Refusal.{expected_view};
 ghost use Rattle.protox_tokens.specs.Stream.{stream, text as text_format};
 
-use protox_lex::{Lexeme, Sign, Token};
+use protox_lex::{Lexeme, MAX_BRACES, Sign, Token};
 use protox_tokens::{Fault, Stop, Tokens, across};
 use protox_tree::{Aggregate, ExpectedToken};
 use std::alloc::{AllocError, Global};
-
-/// The braces that may be open at once inside the outer pair.
-const MAX_BRACES: u8 = 100;
 
 /// Adds a token to the text of those before it.
 fn add(text: &mut String, token: Token<'_>) -> Result<(), AllocError>
@@ -225,7 +222,7 @@ fn closing(tokens: &Tokens<'_>) -> Option<(Sign, Sign)>
 
 #[cycle(aggregate)]
 #[tactic(auto, unfolding(crate::specs::AggregateGrammar::value_with))]
-fn value<'a>(tokens: &mut Tokens<'a>, text: &mut String, levels: u8) -> Result<(), Stop<'a>>
+fn value<'a>(tokens: &mut Tokens<'a>, text: &mut String, levels: u32) -> Result<(), Stop<'a>>
     ensures reads { Reads (λ x. x) (spec.value_with (spec.braces levels) (stream tokens.old))
         result tokens.new }
     ensures writes { OnOk result (texts.Writes (stream tokens.old) (string_bytes text.old)
@@ -242,7 +239,7 @@ fn value<'a>(tokens: &mut Tokens<'a>, text: &mut String, levels: u8) -> Result<(
 /// The elements of a list, behind its opening bracket, and the closing one.
 #[cycle(aggregate)]
 #[tactic(auto, unfolding(crate::specs::AggregateGrammar::list_with))]
-fn list<'a>(tokens: &mut Tokens<'a>, text: &mut String, levels: u8) -> Result<(), Stop<'a>>
+fn list<'a>(tokens: &mut Tokens<'a>, text: &mut String, levels: u32) -> Result<(), Stop<'a>>
     ensures reads { Reads (λ x. x) (spec.list_with (spec.braces levels) (stream tokens.old))
         result tokens.new }
     ensures writes { OnOk result (texts.Writes (stream tokens.old) (string_bytes text.old)
@@ -262,7 +259,7 @@ fn list<'a>(tokens: &mut Tokens<'a>, text: &mut String, levels: u8) -> Result<()
 /// Fields in braces of either kind.
 #[cycle(aggregate)]
 #[tactic(auto, unfolding(crate::specs::AggregateGrammar::braces))]
-fn braces<'a>(tokens: &mut Tokens<'a>, text: &mut String, levels: u8) -> Result<(), Stop<'a>>
+fn braces<'a>(tokens: &mut Tokens<'a>, text: &mut String, levels: u32) -> Result<(), Stop<'a>>
     ensures reads { Reads (λ x. x) (spec.braces levels (stream tokens.old)) result tokens.new }
     ensures writes { OnOk result (texts.Writes (stream tokens.old) (string_bytes text.old)
         (stream tokens.new) (string_bytes text.new)) }
@@ -287,7 +284,7 @@ fn fields<'a>(
     tokens: &mut Tokens<'a>,
     text: &mut String,
     close: Sign,
-    levels: u8,
+    levels: u32,
 ) -> Result<(), Stop<'a>>
     ensures reads { Reads (λ x. x) (spec.fields_with (spec.braces levels) close (stream tokens.old))
         result tokens.new }
@@ -304,7 +301,7 @@ fn fields<'a>(
 /// The value of a field behind its name: only braces may stand there without a colon.
 #[cycle(aggregate)]
 #[tactic(auto, unfolding(crate::specs::AggregateGrammar::field_value_with))]
-fn field_value<'a>(tokens: &mut Tokens<'a>, text: &mut String, levels: u8) -> Result<(), Stop<'a>>
+fn field_value<'a>(tokens: &mut Tokens<'a>, text: &mut String, levels: u32) -> Result<(), Stop<'a>>
     ensures reads { Reads (λ x. x) (spec.field_value_with (spec.braces levels) (stream tokens.old))
         result tokens.new }
     ensures writes { OnOk result (texts.Writes (stream tokens.old) (string_bytes text.old)
@@ -337,7 +334,7 @@ fn separator<'a>(tokens: &mut Tokens<'a>, text: &mut String) -> Result<(), Stop<
 
 #[cycle(aggregate)]
 #[tactic(auto, unfolding(crate::specs::AggregateGrammar::field_with))]
-fn field<'a>(tokens: &mut Tokens<'a>, text: &mut String, levels: u8) -> Result<(), Stop<'a>>
+fn field<'a>(tokens: &mut Tokens<'a>, text: &mut String, levels: u32) -> Result<(), Stop<'a>>
     ensures reads { Reads (λ x. x) (spec.field_with (spec.braces levels) (stream tokens.old))
         result tokens.new }
     ensures writes { OnOk result (texts.Writes (stream tokens.old) (string_bytes text.old)

@@ -7,12 +7,10 @@ ghost use Rattle.protox_tree.specs.Scalar.{scalar_type};
 ghost use Rattle.protox_tree.specs.View.{ident_view, ty_view};
 
 use crate::{is_proto3, tell, tell_if};
-use descriptor_records::{FieldType, Label};
+use descriptor_records::{FieldType, Label, MAX_FIELD_NUMBER};
 use protox_lex::{Int, Span};
 use protox_tree::{Field, FieldKind, Ident, ParseErrorKind, Syntax, Ty};
 use std::alloc::AllocError;
-
-const MAX_FIELD_NUMBER: i32 = 536870911;
 
 /// What a field stands in directly.
 #[derive(Clone, Copy)]

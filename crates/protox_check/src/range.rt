@@ -12,6 +12,7 @@ ghost use Rattle.protox_tree.specs.View.{enum_item_view, enum_view, names_view, 
 ghost use Rattle.protox_tree.specs.declared.error.ParseErrorKind.TheVariants as kinds;
 
 use crate::{check_text, is_proto3, tell_if};
+use descriptor_records::MAX_FIELD_NUMBER;
 use protox_lex::Int;
 use protox_tree::{
     Enum, EnumItem, Extensions, ParseErrorKind, RangeEnd, Reserved, ReservedItems, ReservedRange,
@@ -32,7 +33,7 @@ fn bound(numbers: Numbers, int: Int) -> Option<i32>
 {
     let bound = int.as_i32()?;
     match numbers {
-        Numbers::Fields if bound < 1 || bound > 536870911 => None,
+        Numbers::Fields if bound < 1 || bound > MAX_FIELD_NUMBER => None,
         _ => Some(bound),
     }
 }

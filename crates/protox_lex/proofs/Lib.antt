@@ -26,3 +26,4 @@ pub mod OneReading
 pub mod EscapedTexts
 pub mod EscapeForms
 pub mod StringMeaning
+pub mod Sorting

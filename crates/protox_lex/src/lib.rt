@@ -23,4 +23,4 @@ pub use lexer::{Lexeme, Lexer};
 pub use lines::LineResolver;
 pub use literal::{Float, Int, String};
 pub use span::Span;
-pub use token::{Sign, Token};
+pub use token::{MAX_BRACES, Sign, Token};

@@ -5,6 +5,9 @@ ghost use Rattle.std.specs.Prelude.{◌≡◌, Some};
 use crate::escape::write_contents;
 use std::fmt;
 
+/// How many braces of text format may be open at once; those around an option's value do not count.
+pub const MAX_BRACES: u32 = 100;
+
 /// A sign of one byte.
 #[derive(Clone, Copy, PartialEq, Eq, Debug)]
 pub enum Sign {

@@ -1,5 +1,4 @@
 pub mod Belonging
-pub mod ByPath
 pub mod Collects
 pub mod Finds
 pub mod Margins

@@ -8,8 +8,8 @@ ghost use Rattle.protox_declaration_records.specs.OptionRecords.{options_of};
 ghost use Rattle.protox_message_records.specs.MessageRecords as messages;
 
 use descriptor_records::{
-    EnumDescriptorProto, ExtensionRange, FieldDescriptorProto, OneofDescriptorProto, Options,
-    ReservedRange as ReservedRangeRecord,
+    EnumDescriptorProto, ExtensionRange, FieldDescriptorProto, MAX_FIELD_NUMBER,
+    OneofDescriptorProto, Options, ReservedRange as ReservedRangeRecord,
 };
 use protox_declaration_records::{
     add_reserved_names, declared, enum_record, i32_of, last, list_options, option_record,
@@ -17,9 +17,6 @@ use protox_declaration_records::{
 use protox_field_records::extensions;
 use protox_tree::{Extensions, MessageItem, Oneof, OneofItem, ReservedItems, ReservedRange};
 use std::alloc::{AllocError, Global};
-
-/// The greatest field number, for which `max` stands.
-const MAX_FIELD_NUMBER: i32 = 536870911;
 
 /// The extensions that are declared in a message.
 pub fn own_extensions(

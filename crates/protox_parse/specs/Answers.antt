@@ -18,8 +18,8 @@ use Rattle.protox_tree.specs.declared.error.ParseErrorKind.{ParseErrorKind}
 use Rattle.std.specs.Prelude.{◌≡◌, ◌<◌, ◌⊎◌, ◌∷◌, [], List, Some, Result, Ok, Err, length}
 
 -- this fault, alone
-abbrev pub Tells : Fault → List ParseErrorKind → Type 0
-Tells fault faults = (kind : ParseErrorKind) × (faults ≡ kind ∷ []) × IsToldAs fault kind
+abbrev pub TellsFault : Fault → List ParseErrorKind → Type 0
+TellsFault fault faults = (kind : ParseErrorKind) × (faults ≡ kind ∷ []) × IsToldAs fault kind
 
 -- these are all faults of a tree, in order, and there are some
 abbrev pub HasFaults : File → List ParseErrorKind → Type 0
@@ -29,7 +29,7 @@ HasFaults tree faults = (faults ≡ checks.faults_of tree) × (0 < length faults
 -- has faults, and all of them are told.
 abbrev pub AreAtFault : Text → List ParseErrorKind → Type 0
 AreAtFault z faults =
-    ((fault : Fault) × RefusedBy z fault × Tells fault faults)
+    ((fault : Fault) × RefusedBy z fault × TellsFault fault faults)
     ⊎ ((tree : File) × Spells z tree × HasFaults tree faults)
 
 -- The record of a tree under a name, with the locations that the tree has in a text.

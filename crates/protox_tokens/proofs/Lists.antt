@@ -9,7 +9,7 @@ use Rattle.std.specs.Prelude.{is_some}
 use Rattle.protox_tokens.specs.Parser.{behind, when, some_by}
 use Rattle.protox_tokens.specs.Marks.{Mark, Spells, any, if_there, each, Each, listed, IsAny, IsSome_of, anywhere}
 use Rattle.protox_tokens.proofs.Loops.{Shortens, loop-is}
-use Rattle.protox_tokens.proofs.Local.{good, same_ok, bound}
+use Rattle.protox_tokens.proofs.Local.{bound, good, none_is, none_not, same_ok, some_not, some_of}
 use Rattle.protox_tokens.proofs.Both.{Both, Always, IsNamed, spells-append, spells-split, then_ok}
 use Rattle.protox_tokens.proofs.Steps.{eat_none, eat_some, eat_sound, placed, Absent, sees_first}
 
@@ -99,22 +99,6 @@ module _ {A : Type 0} (m : A → List Mark) (P : A → Type 0) (F : A → Stream
         (then_ok (λ xs. pure (x ∷ xs)) (loop_complete xs s.0 r s.2 all.1 e (lastly_rest x xs r l)) refl))
 
 -- ---- steps
-
-some_of : {A : Type 0} (p : Parser A) (ts r : Stream) (x : A) → (Some <$> p) ts ≡ Ok (Some x, r) → p ts ≡ Ok (x, r)
-some_of {A = A} p ts r x e =
-    let b = bound (p ts) (λ x. pure (Some x)) (Some x, r) e in
-    let y = same_ok (Some b.0.0, b.0.1) (Some x, r) b.2 in
-    let first : b.0.0 ≡ x = let z : Some b.0.0 ≡ Some x = ap (λ (y : Option A × Stream). y.0) y in cc in
-    b.1 ∙ ap (λ x. Ok (x, b.0.1)) first ∙ ap (λ s. Ok (x, s)) (ap (λ (y : Option A × Stream). y.1) y)
-
-some_not : {A : Type 0} {X : Type 0} (p : Parser A) (ts r : Stream) → (Some <$> p) ts ≡ Ok (None, r) → X
-some_not {A = A} p ts r e = let b = bound (p ts) (λ x. pure (Some x)) (None, r) e in absurd (let wrong : ◌≡◌ {A = Option A} (Some b.0.0) None = ap (λ (y : Option A × Stream). y.0) (same_ok (Some b.0.0, b.0.1) (None, r) b.2) in cc)
-
-none_is : {A : Type 0} (ts r : Stream) → pure {A = Option A} None ts ≡ Ok (None, r) → ts ≡ r
-none_is {A = A} ts r e = ap (λ (y : Option A × Stream). y.1) (same_ok (None, ts) (None, r) e)
-
-none_not : {A : Type 0} {X : Type 0} (ts r : Stream) (x : A) → pure {A = Option A} None ts ≡ Ok (Some x, r) → X
-none_not {A = A} ts r x e = absurd (let wrong : ◌≡◌ {A = Option A} None (Some x) = ap (λ (y : Option A × Stream). y.0) (same_ok (None, ts) (Some x, r) e) in cc)
 
 module _ {A : Type 0} (f : Stream → Bool) (p : Parser A) (m : A → List Mark) (P : A → Type 0) (F : A → Stream → Type 0) (rule : Both (λ ts. f ts ≡ true) p m IsAny P F) where
   when_sound : (ts r : Stream) (o : Option A) → when f p ts ≡ Ok (o, r) → Step m P F (λ r. f r ≡ false) ts (o, r)

@@ -345,14 +345,20 @@ Moves-map f m = Moves-first m (λ x. Keeps-local (Local-pure (f x)))
 
 -- ---- steps of loops take a token
 
-some_of : {A : Type 0} (p : Parser A) (ts r : Stream) (x : A) → (Some <$> p) ts ≡ Ok (Some x, r) → p ts ≡ Ok (x, r)
+pub some_of : {A : Type 0} (p : Parser A) (ts r : Stream) (x : A) → (Some <$> p) ts ≡ Ok (Some x, r) → p ts ≡ Ok (x, r)
 some_of {A = A} p ts r x e =
     let b = bound (p ts) (λ x. pure (Some x)) (Some x, r) e in
     let y = same_ok (Some b.0.0, b.0.1) (Some x, r) b.2 in
     let first : b.0.0 ≡ x = let z : Some b.0.0 ≡ Some x = ap (λ (y : Option A × Stream). y.0) y in cc in
     b.1 ∙ ap (λ x. Ok (x, b.0.1)) first ∙ ap (λ s. Ok (x, s)) (ap (λ (y : Option A × Stream). y.1) y)
 
-none_not : {A : Type 0} {P : Type 0} (ts r : Stream) (x : A) → pure {A = Option A} None ts ≡ Ok (Some x, r) → P
+pub some_not : {A : Type 0} {X : Type 0} (p : Parser A) (ts r : Stream) → (Some <$> p) ts ≡ Ok (None, r) → X
+some_not {A = A} p ts r e = let b = bound (p ts) (λ x. pure (Some x)) (None, r) e in absurd (let wrong : ◌≡◌ {A = Option A} (Some b.0.0) None = ap (λ (y : Option A × Stream). y.0) (same_ok (Some b.0.0, b.0.1) (None, r) b.2) in cc)
+
+pub none_is : {A : Type 0} (ts r : Stream) → pure {A = Option A} None ts ≡ Ok (None, r) → ts ≡ r
+none_is {A = A} ts r e = ap (λ (y : Option A × Stream). y.1) (same_ok (None, ts) (None, r) e)
+
+pub none_not : {A : Type 0} {P : Type 0} (ts r : Stream) (x : A) → pure {A = Option A} None ts ≡ Ok (Some x, r) → P
 none_not {A = A} ts r x e = absurd (let wrong : ◌≡◌ {A = Option A} None (Some x) = ap (λ (y : Option A × Stream). y.0) (same_ok (None, ts) (Some x, r) e) in cc)
 
 pub Shortens-when : {A : Type 0} (f : Stream → Bool) {p : Parser A} → Moves p → Shortens (when f p)

@@ -16,7 +16,7 @@ use Rattle.reflect_index.specs.Rewriting.{written}
 use Rattle.reflect_index.proofs.Known.{none_right}
 use Rattle.reflect_passes.specs.NumberFaults.{NumberFaults, doubled}
 use Rattle.reflect_passes.specs.declared.linked_types.LinkedTypes.{LinkedTypes}
-use Rattle.reflect_build.specs.Refusals.{Linking, Means, AreTypes, IsOf, new_files}
+use Rattle.reflect_build.specs.Refusals.{Linking, ReferencesMean, AreTypes, IsOf, new_files}
 use Rattle.reflect_build.specs.Accepted.{AddsRecords, AreAdded, FaultlessBatch, Faultless, FaultlessFiles, AddsNames, AddsFiles}
 use Rattle.reflect_build.proofs.Pooled.{map-append}
 use Rattle.reflect_build.proofs.Refused.{types_with}
@@ -66,7 +66,7 @@ records_behind old more new rs fs a records names = record {
   names = names;
 }
 
-pub faultless : (w : Linking) (fs : List FileDescriptorProto) (new : PoolType) (rs : List Reference) (t : LinkedTypes) → Means w fs rs → AreTypes w fs rs t → AreAdded (pool_of w.tables) fs t new
+pub faultless : (w : Linking) (fs : List FileDescriptorProto) (new : PoolType) (rs : List Reference) (t : LinkedTypes) → ReferencesMean w fs rs → AreTypes w fs rs t → AreAdded (pool_of w.tables) fs t new
     → NumberFaults t w.before w.first fs rs [] → (f : Faults) → place_at f ≡ batch_places fs w.first
     → list_of f ++ doubled w.numbers t (place_at f) ≡ []
     → map file_view new.records ≡ map file_view (pool_of w.tables).records

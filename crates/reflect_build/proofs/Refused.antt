@@ -11,7 +11,7 @@ use Rattle.reflect_tables.specs.declared.tables.Tables.{Tables}
 use Rattle.reflect_tables.specs.ExtensionNumbers.{KeyType, numbers_of}
 use Rattle.reflect_passes.specs.Extensions.{is_known}
 use Rattle.reflect_pool.specs.Linked.{IsLinked}
-use Rattle.reflect_build.specs.Refusals.{CountsOf, Linking, linking, with_declared, AreLinked, Means, AreTypes, FaultyBatch, Faulty, IsOf, new_files, FaultyFiles}
+use Rattle.reflect_build.specs.Refusals.{CountsOf, Linking, linking, with_declared, AreLinked, ReferencesMean, AreTypes, FaultyBatch, Faulty, IsOf, new_files, FaultyFiles}
 use Rattle.reflect_pool.proofs.Numbered.{has_number}
 use Rattle.reflect_build.proofs.Stands.{counts_are}
 use Rattle.std.proofs.lemmas.Result.{err_from_is_err_and, IfErr-weaker}
@@ -32,7 +32,7 @@ use Rattle.reflect_index.specs.declared.batch.Batch.{Batch}
 use Rattle.reflect_names.specs.Faults.{Fault, another, batch_places, list_of, place_at}
 use Rattle.reflect_names.specs.declared.faults.Faults.{Faults}
 use Rattle.reflect_names.specs.declared.resolve_visitor.Reference.{Reference}
-use Rattle.reflect_passes.specs.Errors.{Refuses, faults_of}
+use Rattle.reflect_passes.specs.Errors.{ListsFaults, faults_of}
 use Rattle.reflect_passes.specs.NameFaults.{name_faults}
 use Rattle.reflect_passes.specs.NumberFaults.{NumberFaults, doubled}
 use Rattle.reflect_passes.specs.declared.error.DescriptorError.{DescriptorError}
@@ -59,11 +59,11 @@ mapped_error Gives (Err e) s other all y is =
     subst (λ z. faults_of z ≡ another ∷ []) same (all e p.0 p.2)
 
 -- another list of faults that an error may give
-refuses_as : {P Q : List Fault → Type 0} (e : DescriptorError) → ((xs : List Fault) → P xs → Q xs) → Refuses P e → Refuses Q e
+refuses_as : {P Q : List Fault → Type 0} (e : DescriptorError) → ((xs : List Fault) → P xs → Q xs) → ListsFaults P e → ListsFaults Q e
 refuses_as e f h = ⊎_elim (λ a. inl a) (λ b. inr (f (faults_of e) b)) h
 
-refused_with : {T : Type 0} (Q : List Fault → Type 0) (r : Result T DescriptorError) (e : DescriptorError) → r ≡ Err e → Refuses Q e → IfErr r (λ x. Refuses Q x)
-refused_with Q r e is h = subst (λ x. IfErr x (λ y. Refuses Q y)) (sym is) h
+refused_with : {T : Type 0} (Q : List Fault → Type 0) (r : Result T DescriptorError) (e : DescriptorError) → r ≡ Err e → ListsFaults Q e → IfErr r (λ x. ListsFaults Q x)
+refused_with Q r e is h = subst (λ x. IfErr x (λ y. ListsFaults Q y)) (sym is) h
 
 -- the types that a batch adds
 abbrev pub types_with : Linking → Batch → LinkedTypes
@@ -91,7 +91,7 @@ types_of w fs files rs given Gives r s same used cases ms ranges es vs xs entrie
 
 pub means_of : (w : Linking) (fs : List FileDescriptorProto) (rs : List Reference) (linked found : List FileDescriptorProto) (links seen : List Links) → linked ≡ fs → found ≡ fs → seen ≡ links
     → map link_view links ≡ map link_view w.links ++ map (links_to w.indexes) linked
-    → BatchReferences w.known seen (batch_places found w.first) w.before w.first found (map target_of rs) [] → Means w fs rs
+    → BatchReferences w.known seen (batch_places found w.first) w.before w.first found (map target_of rs) [] → ReferencesMean w fs rs
 means_of w fs rs linked found links seen a b e added right = record {
   links = links;
   linked = subst (λ l. AreLinked w l links) a added;
@@ -99,41 +99,41 @@ means_of w fs rs linked found links seen a b e added right = record {
       (subst (λ l. BatchReferences w.known l (batch_places found w.first) w.before w.first found (map target_of rs) []) e right);
 }
 
-module _ {T : Type 0} (w : Linking) (fs : List FileDescriptorProto) (rs : List Reference) (t : LinkedTypes) (means : Means w fs rs) (types : AreTypes w fs rs t)
+module _ {T : Type 0} (w : Linking) (fs : List FileDescriptorProto) (rs : List Reference) (t : LinkedTypes) (means : ReferencesMean w fs rs) (types : AreTypes w fs rs t)
     (r : Result T DescriptorError) (e : DescriptorError) (is : r ≡ Err e) where
-  pub refused_numbers : Refuses (NumberFaults t w.before w.first fs rs) e → IfErr r (λ x. Refuses (FaultyBatch w fs) x)
+  pub refused_numbers : ListsFaults (NumberFaults t w.before w.first fs rs) e → IfErr r (λ x. ListsFaults (FaultyBatch w fs) x)
   refused_numbers h = refused_with (FaultyBatch w fs) r e is (refuses_as {P = NumberFaults t w.before w.first fs rs} {Q = FaultyBatch w fs} e (λ xs n. inr (inl (rs, t, means, types, n))) h)
 
   pub refused_extensions : (f : Faults) → NumberFaults t w.before w.first fs rs [] → list_of f ≡ [] → place_at f ≡ batch_places fs w.first
-      → Refuses (λ xs. xs ≡ list_of f ++ doubled w.numbers t (place_at f)) e → IfErr r (λ x. Refuses (FaultyBatch w fs) x)
+      → ListsFaults (λ xs. xs ≡ list_of f ++ doubled w.numbers t (place_at f)) e → IfErr r (λ x. ListsFaults (FaultyBatch w fs) x)
   refused_extensions f none empty at h =
       refused_with (FaultyBatch w fs) r e is
       (refuses_as {P = λ xs. xs ≡ list_of f ++ doubled w.numbers t (place_at f)} {Q = FaultyBatch w fs} e
       (λ xs n. inr (inr (rs, t, means, types, none, n ∙ ap (λ l. l ++ doubled w.numbers t (place_at f)) empty ∙ ap (doubled w.numbers t) at))) h)
 
 module _ {T : Type 0} (w : Linking) (fs : List FileDescriptorProto) (r : Result T DescriptorError) where
-  pub refused_names : (files : List FileDescriptorProto) (e : DescriptorError) → r ≡ Err e → files ≡ fs → Refuses (λ xs. xs ≡ name_faults w.indexes w.known w.before w.first files) e → IfErr r (λ x. Refuses (Faulty w fs) x)
+  pub refused_names : (files : List FileDescriptorProto) (e : DescriptorError) → r ≡ Err e → files ≡ fs → ListsFaults (λ xs. xs ≡ name_faults w.indexes w.known w.before w.first files) e → IfErr r (λ x. ListsFaults (Faulty w fs) x)
   refused_names files e is same h =
-      let names = subst (λ l. Refuses (λ xs. xs ≡ name_faults w.indexes w.known w.before w.first l) e) same h in
+      let names = subst (λ l. ListsFaults (λ xs. xs ≡ name_faults w.indexes w.known w.before w.first l) e) same h in
       refused_with (Faulty w fs) r e is (refuses_as {P = λ xs. xs ≡ name_faults w.indexes w.known w.before w.first fs} {Q = Faulty w fs} e (λ xs n. inl n) names)
 
-  pub refused_behind : (v : Linking) → name_faults w.indexes w.known w.before w.first fs ≡ [] → v ≡ with_declared w fs → IfErr r (λ x. Refuses (FaultyBatch v fs) x) → IfErr r (λ x. Refuses (Faulty w fs) x)
+  pub refused_behind : (v : Linking) → name_faults w.indexes w.known w.before w.first fs ≡ [] → v ≡ with_declared w fs → IfErr r (λ x. ListsFaults (FaultyBatch v fs) x) → IfErr r (λ x. ListsFaults (Faulty w fs) x)
   refused_behind v none is h =
-      let later = subst (λ u. IfErr r (λ x. Refuses (FaultyBatch u fs) x)) is h in
-      IfErr-weaker r (λ x. Refuses (FaultyBatch (with_declared w fs) fs) x) (λ x. Refuses (Faulty w fs) x)
+      let later = subst (λ u. IfErr r (λ x. ListsFaults (FaultyBatch u fs) x)) is h in
+      IfErr-weaker r (λ x. ListsFaults (FaultyBatch (with_declared w fs) fs) x) (λ x. ListsFaults (Faulty w fs) x)
       (λ e n. refuses_as {P = FaultyBatch (with_declared w fs) fs} {Q = Faulty w fs} e (λ xs b. inr (none, b)) n) later
 
 -- a walk that ended early is refused with its error alone
 module _ {A V : Type 0} (w : Linking) (fs : List FileDescriptorProto) (Gives : V → DescriptorError → Type 0) (r : Result A V) (s : Result A DescriptorError)
     (cases : MatchResult r (λ x. s ≡ Ok x) (λ e. IsErrAnd s (Gives e))) (alone : (e : V) (y : DescriptorError) → Gives e y → faults_of y ≡ another ∷ []) where
-  pub refused_walk : {T : Type 0} (y : DescriptorError) → s ≡ Err y → (out : Result T DescriptorError) → IsErrAnd out (λ z. z ≡ y) → IfErr out (λ e. Refuses (FaultyBatch w fs) e)
+  pub refused_walk : {T : Type 0} (y : DescriptorError) → s ≡ Err y → (out : Result T DescriptorError) → IsErrAnd out (λ z. z ≡ y) → IfErr out (λ e. ListsFaults (FaultyBatch w fs) e)
   refused_walk y is out err =
       let p = err_from_is_err_and out err in
       refused_with (FaultyBatch w fs) out p.0 p.1 (inl (ap faults_of p.2 ∙ mapped_error Gives r s cases alone y is))
 
-  pub refused_last : IfErr s (λ e. Refuses (FaultyBatch w fs) e)
+  pub refused_last : IfErr s (λ e. ListsFaults (FaultyBatch w fs) e)
   refused_last = by s refl where
-    by : (t : Result A DescriptorError) → s ≡ t → IfErr t (λ e. Refuses (FaultyBatch w fs) e)
+    by : (t : Result A DescriptorError) → s ≡ t → IfErr t (λ e. ListsFaults (FaultyBatch w fs) e)
     by (Ok x) is = tt
     by (Err y) is = inl (mapped_error Gives r s cases alone y is)
 
@@ -157,13 +157,13 @@ is_of tables names file_names links numbers before first p linked counts start s
 
 -- a pool's faulty files are faulty with what it knows
 pub refused_files : {T : Type 0} (p : PoolType) (w : Linking) (fs news : List FileDescriptorProto) (r : Result T DescriptorError) → IsOf p w → news ≡ new_files w.indexes fs
-    → IfErr r (λ x. Refuses (Faulty w news) x) → IfErr r (λ x. Refuses (FaultyFiles p fs) x)
+    → IfErr r (λ x. ListsFaults (Faulty w news) x) → IfErr r (λ x. ListsFaults (FaultyFiles p fs) x)
 refused_files p w fs news r of same h =
-    IfErr-weaker r (λ x. Refuses (Faulty w news) x) (λ x. Refuses (FaultyFiles p fs) x)
+    IfErr-weaker r (λ x. ListsFaults (Faulty w news) x) (λ x. ListsFaults (FaultyFiles p fs) x)
     (λ e n. refuses_as {P = Faulty w news} {Q = FaultyFiles p fs} e (λ xs b. (w, of, subst (λ l. Faulty w l xs) same b)) n) h
 
 -- what is refused as such, or for want of memory, is refused
 pub still_refused : (P : List Fault → Type 0) (e f : DescriptorError)
-    → (f ≡ e) ⊎ (faults_of f ≡ another ∷ []) → Refuses P e → Refuses P f
-still_refused P e f (inl same) h = subst (Refuses P) (sym same) h
+    → (f ≡ e) ⊎ (faults_of f ≡ another ∷ []) → ListsFaults P e → ListsFaults P f
+still_refused P e f (inl same) h = subst (ListsFaults P) (sym same) h
 still_refused P e f (inr few) h = inl few

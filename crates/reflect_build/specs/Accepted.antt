@@ -14,7 +14,7 @@ use Rattle.reflect_tables.specs.Views.{record_file, declared_of, message_of, enu
 use Rattle.reflect_passes.specs.NameFaults.{name_faults}
 use Rattle.reflect_passes.specs.NumberFaults.{NumberFaults, doubled}
 use Rattle.reflect_passes.specs.declared.linked_types.LinkedTypes.{LinkedTypes}
-use Rattle.reflect_build.specs.Refusals.{Linking, with_declared, Means, AreTypes, IsOf, new_files}
+use Rattle.reflect_build.specs.Refusals.{Linking, with_declared, ReferencesMean, AreTypes, IsOf, new_files}
 
 -- the records of a pool, and behind them those of further files, which give the same names
 pub record AddsRecords (old : PoolType) (fs : List FileDescriptorProto) (new : PoolType) : Type 0
@@ -43,7 +43,7 @@ pub record FaultlessBatch (w : Linking) (fs : List FileDescriptorProto)
     (new : PoolType) : Type 0 where
   pub references : List Reference
   pub types : LinkedTypes
-  pub means : Means w fs references
+  pub means : ReferencesMean w fs references
   pub declared : AreTypes w fs references types
   pub added : AreAdded (pool_of w.tables) fs types new
   pub numbers : NumberFaults types w.before w.first fs references []

@@ -28,7 +28,7 @@ use Rattle.reflect_tables.specs.Views.{pool_of}
 use Rattle.reflect_index.specs.OfDeclarations.{AllDeclared, messages_in, enums_in, stored_ranges, stored_values, declared_values}
 use Rattle.reflect_tables.specs.declared.tables.Tables.{Tables}
 use Rattle.reflect_tables.specs.ExtensionNumbers.{KeyType}
-use Rattle.reflect_passes.specs.Errors.{Refuses, is_too_many}
+use Rattle.reflect_passes.specs.Errors.{ListsFaults, is_too_many}
 use Rattle.reflect_passes.specs.Extensions.{is_known}
 use Rattle.reflect_passes.specs.NameFaults.{name_faults, ReferenceFaults}
 use Rattle.reflect_passes.specs.NumberFaults.{NumberFaults, doubled}
@@ -84,7 +84,7 @@ abbrev pub AreLinked : Linking → List FileDescriptorProto → List Links → T
 AreLinked w fs links = map link_view links ≡ map link_view w.links ++ map (links_to w.indexes) fs
 
 -- each reference of the files means this
-pub record Means (w : Linking) (fs : List FileDescriptorProto)
+pub record ReferencesMean (w : Linking) (fs : List FileDescriptorProto)
     (references : List Reference) : Type 0 where
   pub links : List Links
   pub linked : AreLinked w fs links
@@ -115,13 +115,13 @@ FaultyReferences w fs xs = (links : List Links) × AreLinked w fs links
 
 -- where all of them mean something, the faults by the rules of numbers
 abbrev pub FaultyNumbers : Linking → List FileDescriptorProto → List Fault → Type 0
-FaultyNumbers w fs xs = (rs : List Reference) × (t : LinkedTypes) × Means w fs rs
+FaultyNumbers w fs xs = (rs : List Reference) × (t : LinkedTypes) × ReferencesMean w fs rs
     × AreTypes w fs rs t × NumberFaults t w.before w.first fs rs xs
 
 -- where there are none, the extensions whose message and number are taken
 abbrev pub FaultyExtensions : Linking → List FileDescriptorProto → List Fault → Type 0
 FaultyExtensions w fs xs =
-    (rs : List Reference) × (t : LinkedTypes) × Means w fs rs × AreTypes w fs rs t
+    (rs : List Reference) × (t : LinkedTypes) × ReferencesMean w fs rs × AreTypes w fs rs t
     × NumberFaults t w.before w.first fs rs []
     × (xs ≡ doubled w.numbers t (batch_places fs w.first))
 
@@ -171,4 +171,4 @@ AreTooMany p fs = (w : Linking) × IsOf p w
 -- files are refused for the faults of the first pass that finds any, since they are too many, or
 -- for want of memory
 abbrev pub AreRefused : PoolType → List FileDescriptorProto → DescriptorError → Type 0
-AreRefused p fs e = Refuses (FaultyFiles p fs) e × (is_too_many e.first ≡ true → AreTooMany p fs)
+AreRefused p fs e = ListsFaults (FaultyFiles p fs) e × (is_too_many e.first ≡ true → AreTooMany p fs)

@@ -13,7 +13,7 @@ ghost use Rattle.reflect_tables.specs.Views.{file_of, record_file, message_of, p
 ghost use Rattle.reflect_tables.specs.Names.{messages, enums, extensions, services};
 ghost use Rattle.reflect_known.specs.DeclaredNames.{with_names};
 ghost use Rattle.reflect_index.specs.DraftNames.{stored_message_name, stored_enum_name, stored_extension_name, stored_service_name};
-ghost use Rattle.reflect_passes.specs.Errors.{Refuses};
+ghost use Rattle.reflect_passes.specs.Errors.{ListsFaults};
 ghost use Rattle.reflect_tables.specs.ExtensionNumbers.{KeepsNumbers, numbers_of};
 ghost use Rattle.reflect_pool.specs.Linked.{IsLinked, AreNumbered, key_of};
 ghost use Rattle.reflect_pool.specs.Stored.{AreStored};
@@ -137,7 +137,7 @@ fn link_declared(
         (FaultlessBatch (linking file_names.now names.now links.old.items tables.old
         extension_numbers.old before first) files.items (pool_of tables.new)) }
     ensures refused { IfErr result
-        (λ e. Refuses (FaultyBatch (linking file_names.now names.now links.old.items tables.old
+        (λ e. ListsFaults (FaultyBatch (linking file_names.now names.now links.old.items tables.old
         extension_numbers.old before first) files.items) e) }
 {
     add_links(alloc, file_names, links, files.as_slice()).map_err(|error| walk_error(
@@ -242,7 +242,7 @@ pub fn link(
         (Faultless (linking file_names.old names.old links.old.items tables.old
         extension_numbers.old before first) files.items (pool_of tables.new)) }
     ensures refused { IfErr result
-        (λ e. Refuses (Faulty (linking file_names.old names.old links.old.items tables.old
+        (λ e. ListsFaults (Faulty (linking file_names.old names.old links.old.items tables.old
         extension_numbers.old before first) files.items) e) }
 {
     declare_names(alloc, before, first, files.as_slice(), file_names, names)?;

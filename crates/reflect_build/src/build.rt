@@ -9,7 +9,7 @@ ghost use Rattle.reflect_tables.specs.Types.{PoolType, IsSettled};
 ghost use Rattle.reflect_growth.specs.Cut.{cut_to};
 ghost use Rattle.reflect_growth.specs.Put.{edited};
 ghost use Rattle.reflect_growth.specs.Settled.{bare_of};
-ghost use Rattle.reflect_passes.specs.Errors.{Refuses, is_too_many, faults_of};
+ghost use Rattle.reflect_passes.specs.Errors.{ListsFaults, is_too_many, faults_of};
 ghost use Rattle.reflect_pool.specs.Imports.{StandsAlone};
 ghost use Rattle.reflect_build.specs.Accepted.{Faultless, FaultlessFiles, AddsNames, AddsFiles};
 ghost use Rattle.reflect_build.specs.Parts.{AreParts, StaysOrGrows, holds_of, linking_of};
@@ -52,7 +52,7 @@ fn add_new(
     ensures accepted { OnOk result (Faultless (linking_of parts.old) files.items
         (holds_of parts.new)) }
     ensures refused { IfErr result
-        (λ e. Refuses (Faulty (linking_of parts.old) files.items) e) }
+        (λ e. ListsFaults (Faulty (linking_of parts.old) files.items) e) }
 {
     let before = offsets(&parts.tables).map_err(|error| walk_error(alloc, error))?;
     let first = next_place(parts.tables.files.len()).map_err(|error| walk_error(alloc, error))?;

@@ -8,7 +8,7 @@ use Rattle.reflect_codec.specs.declared.fields.RawField.{RawField}
 use Rattle.reflect_codec.specs.declared.fields.Fields.{Fields}
 use Rattle.reflect_codec.specs.Faults.{BytesFault, PartFault}
 use Rattle.reflect_codec.specs.Raw.{fields_view, MoreFields}
-use Rattle.reflect_codec.specs.Reading.{Value, number, eight_bytes, payload, other, Field, fields_in, values_at, Takes, SpellsFields, IsPayload, HasPayload, IsPart, AreJoined, joined, AlongOption}
+use Rattle.reflect_codec.specs.Reading.{Value, number, eight_bytes, payload, other, Field, fields_in, values_at, ReadsMeant, SpellsFields, IsPayload, HasPayload, IsPart, AreJoined, joined, AlongOption}
 use Rattle.reflect_codec.proofs.Values.{rejects}
 
 pub one_payload : (v : Value) (a b : List ℕ) → IsPayload v a → IsPayload v b → a ≡ b
@@ -53,14 +53,14 @@ part_read outside inside old v bytes (Err e) has h =
     rejects (λ fs p. (fs, subst (λ b. SpellsFields inside b fs) (one_payload v p.0 bytes p.1.1 has.1) p.2)) (λ fault. inr (bytes, has, fault)) h
 
 -- what is read of the only fields of a value is read of the value
-pub whole_read : {X : Type 0} (M : List Field → X → Type 0) (F : List Field → WireError → Type 0) (outside inside : ℕ) (v : Value) (fs : List Field) (r : Result X WireError) → IsPart outside inside v fs → Takes M F fs r
-    → Takes (λ w x. (gs : List Field) × IsPart outside inside w gs × M gs x) (λ w e. PartFault outside inside w e ⊎ ((gs : List Field) × IsPart outside inside w gs × F gs e)) v r
+pub whole_read : {X : Type 0} (M : List Field → X → Type 0) (F : List Field → WireError → Type 0) (outside inside : ℕ) (v : Value) (fs : List Field) (r : Result X WireError) → IsPart outside inside v fs → ReadsMeant M F fs r
+    → ReadsMeant (λ w x. (gs : List Field) × IsPart outside inside w gs × M gs x) (λ w e. PartFault outside inside w e ⊎ ((gs : List Field) × IsPart outside inside w gs × F gs e)) v r
 whole_read M F outside inside v fs (Ok x) part h = (fs, part, h)
 whole_read M F outside inside v fs (Err e) part h = rejects (λ x w. (x, subst (λ gs. M gs x) (one_part outside inside v w.0 fs w.1 part) w.2)) (λ fault. inr (fs, part, fault)) h
 
 -- the same of bytes
-pub bytes_read : {X : Type 0} (M : List Field → X → Type 0) (F : List Field → WireError → Type 0) (levels : ℕ) (bytes : List ℕ) (fs : List Field) (r : Result X WireError) → SpellsFields levels bytes fs → Takes M F fs r
-    → Takes (λ b x. (gs : List Field) × SpellsFields levels b gs × M gs x) (λ b e. BytesFault levels b e ⊎ ((gs : List Field) × SpellsFields levels b gs × F gs e)) bytes r
+pub bytes_read : {X : Type 0} (M : List Field → X → Type 0) (F : List Field → WireError → Type 0) (levels : ℕ) (bytes : List ℕ) (fs : List Field) (r : Result X WireError) → SpellsFields levels bytes fs → ReadsMeant M F fs r
+    → ReadsMeant (λ b x. (gs : List Field) × SpellsFields levels b gs × M gs x) (λ b e. BytesFault levels b e ⊎ ((gs : List Field) × SpellsFields levels b gs × F gs e)) bytes r
 bytes_read M F levels bytes fs (Ok x) found h = (fs, found, h)
 bytes_read M F levels bytes fs (Err e) found h = rejects (λ x w. (x, subst (λ gs. M gs x) (one_fields levels bytes w.0 fs w.1 found) w.2)) (λ fault. inr (fs, found, fault)) h
 
@@ -68,7 +68,7 @@ pub payload_fields : (outside inside : ℕ) (v : Value) (bytes : List ℕ) (fs :
 payload_fields outside inside v bytes fs has p = subst (λ b. SpellsFields inside b fs) (one_payload v p.0 bytes p.1.1 has.1) p.2
 
 pub takes_as : {A X : Type 0} (R S : A → X → Type 0) (F G : A → WireError → Type 0) (a : A) (r : Result X WireError) → ((x : X) → R a x → S a x) → ((x : X) → S a x → R a x) → ((e : WireError) → F a e → G a e)
-    → Takes R F a r → Takes S G a r
+    → ReadsMeant R F a r → ReadsMeant S G a r
 takes_as R S F G a (Ok x) to from told h = to x h
 takes_as R S F G a (Err e) to from told h = rejects (λ x s. (x, from x s)) (told e) h
 

@@ -1,8 +1,8 @@
 -- One record, or one number, more behind those that were read.
 use Rattle.std.proofs.Common.{◌≡◌, inl, inr, ℕ, ℤ, List, [], ◌∷◌, ◌++◌, refl, sym, ap, ◌∙◌, subst, append-nil, append_assoc}
-use Rattle.reflect_wire.specs.Faults.{VarintFault, KeyFault, ValueFault, Tells}
+use Rattle.reflect_wire.specs.Faults.{VarintFault, KeyFault, ValueFault, TellsTrue}
 use Rattle.reflect_wire.specs.Key.{IsKey}
-use Rattle.reflect_wire.specs.Reads.{Fronts, NoFront, Refuses}
+use Rattle.reflect_wire.specs.Reads.{Fronts, NoFront, RefusesFront}
 use Rattle.reflect_wire.specs.Records.{Payload, Records, no_records, more_records, key_of, wire_of, SpellsPayload, SpellsRecords, IsValue}
 use Rattle.reflect_wire.specs.Varint.{IsVarint}
 use Rattle.reflect_wire.specs.declared.wire_error.WireError.{WireError}
@@ -78,7 +78,7 @@ module _ (bytes left : List ℕ) (done : List ℤ) (found : Fronts SpellsNumbers
   without_number : NoFront IsVarint left → (zs : List ℤ) → SpellsNumbers bytes zs → ⊥
   without_number none zs s = let b = behind zs s in no_numbers left more none b.0 b.1
 
-  pub no_more_numbers : (e : WireError) → Refuses IsVarint left e → VarintFault 10 left e → Rejects SpellsNumbers PackedFault bytes e
+  pub no_more_numbers : (e : WireError) → RefusesFront IsVarint left e → VarintFault 10 left e → Rejects SpellsNumbers PackedFault bytes e
   no_more_numbers e h fault = refused IsVarint (VarintFault 10) SpellsNumbers PackedFault left bytes e without_number
       (λ none told. record { none = without_number none; why = (done, left, found, told) }) h (tells_fault (VarintFault 10) left e fault)
 
@@ -90,7 +90,7 @@ module _ (levels : ℕ) (bytes rest : List ℕ) (done : Records) (found : Fronts
   without_key : NoFront IsKey rest → (fs : List Field) → SpellsFields levels bytes fs → ⊥
   without_key none fs s = no_key_no_records levels bytes rest done found more none s.0 s.1
 
-  pub no_key_no_fields : (e : WireError) → Refuses IsKey rest e → KeyFault rest e → Rejects (SpellsFields levels) (BytesFault levels) bytes e
+  pub no_key_no_fields : (e : WireError) → RefusesFront IsKey rest e → KeyFault rest e → Rejects (SpellsFields levels) (BytesFault levels) bytes e
   no_key_no_fields e h fault =
       refused IsKey KeyFault (SpellsFields levels) (BytesFault levels) rest bytes e without_key (λ none told. record { none = without_key none; why = (done, (rest, found, inl told)) }) h (tells_fault KeyFault rest e fault)
 
@@ -98,6 +98,6 @@ module _ (levels : ℕ) (bytes rest : List ℕ) (done : Records) (found : Fronts
     without_value : NoFront (IsRawValue levels key) behind → (fs : List Field) → SpellsFields levels bytes fs → ⊥
     without_value none fs s = no_value_no_records levels bytes rest done found more key behind read (no_raw levels key behind none) s.0 s.1
 
-    pub no_value_no_fields : (e : WireError) → Refuses (IsRawValue levels key) behind e → Tells (ValueFault levels key) behind e → Rejects (SpellsFields levels) (BytesFault levels) bytes e
+    pub no_value_no_fields : (e : WireError) → RefusesFront (IsRawValue levels key) behind e → TellsTrue (ValueFault levels key) behind e → Rejects (SpellsFields levels) (BytesFault levels) bytes e
     no_value_no_fields e h fault = refused (IsRawValue levels key) (ValueFault levels key) (SpellsFields levels) (BytesFault levels) behind bytes e without_value
         (λ none told. record { none = without_value none; why = (done, (rest, found, inr (key, (behind, read, told)))) }) h fault

@@ -6,8 +6,8 @@ use Rattle.std.proofs.lemmas.List.{map-append, take_more, take-append-drop}
 use Rattle.std.proofs.lemmas.List.Elements.{filter-append}
 use Rattle.std.proofs.lemmas.List.Concat.{flat_map-append}
 use Rattle.std.proofs.Math.Seq.{drop-cons}
-use Rattle.reflect_wire.specs.Faults.{Tells}
-use Rattle.reflect_wire.specs.Reads.{NoFront, Refuses}
+use Rattle.reflect_wire.specs.Faults.{TellsTrue}
+use Rattle.reflect_wire.specs.Reads.{NoFront, RefusesFront}
 use Rattle.reflect_wire.specs.declared.wire_error.WireError.{WireError}
 use Rattle.reflect_wire.specs.declared.wire_error.WireError.TheVariants.{Truncated, BadVarint, BadKey, BadWireType, EndGroupMismatch, TooDeep, BadUtf8, TooLong, Memory}
 use Rattle.reflect_codec.specs.declared.fields.RawField.{RawField}
@@ -36,7 +36,7 @@ memory = record { none = λ other y s. other refl; told = inl refl }
 
 -- the same, from a reader that looks for a value at the front
 pub refused : {X B Y : Type 0} (R : List ℕ → X → Type 0) (F : List ℕ → WireError → Type 0) (S : B → Y → Type 0) (G : B → WireError → Type 0) (bytes : List ℕ) (b : B) (e : WireError)
-    → (NoFront R bytes → (y : Y) → S b y → ⊥) → (NoFront R bytes → F bytes e → G b e) → Refuses R bytes e → Tells F bytes e → Rejects S G b e
+    → (NoFront R bytes → (y : Y) → S b y → ⊥) → (NoFront R bytes → F bytes e → G b e) → RefusesFront R bytes e → TellsTrue F bytes e → Rejects S G b e
 refused R F S G bytes b Memory f g h t = memory
 refused R F S G bytes b Truncated f g h t = record { none = λ other. f h; told = inr (g h t) }
 refused R F S G bytes b BadVarint f g h t = record { none = λ other. f h; told = inr (g h t) }

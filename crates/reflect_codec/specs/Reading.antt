@@ -51,16 +51,16 @@ pub record Rejects {A X : Type 0} (R : A → X → Type 0) (Fault : A → WireEr
   pub told : (e ≡ errors.Memory) ⊎ Fault a e
 
 -- something is read exactly where something is meant, and that is read; a refusal tells a fault
-abbrev pub Takes : {A X : Type 0} → (A → X → Type 0) → (A → WireError → Type 0) → A
+abbrev pub ReadsMeant : {A X : Type 0} → (A → X → Type 0) → (A → WireError → Type 0) → A
     → Result X WireError → Type 0
-Takes R Fault a (Ok x) = R a x
-Takes R Fault a (Err e) = Rejects R Fault a e
+ReadsMeant R Fault a (Ok x) = R a x
+ReadsMeant R Fault a (Err e) = Rejects R Fault a e
 
 -- the same, where the relation speaks of what view sees
-abbrev pub TakesBy : {A X Y : Type 0} → (X → Y) → (A → Y → Type 0) → (A → WireError → Type 0) → A
+abbrev pub ReadsMeantBy : {A X Y : Type 0} → (X → Y) → (A → Y → Type 0) → (A → WireError → Type 0) → A
     → Result X WireError → Type 0
-TakesBy view R Fault a (Ok x) = R a (view x)
-TakesBy view R Fault a (Err e) = Rejects R Fault a e
+ReadsMeantBy view R Fault a (Ok x) = R a (view x)
+ReadsMeantBy view R Fault a (Err e) = Rejects R Fault a e
 
 abbrev pub IsText : Value → List ℕ → Type 0
 IsText (payload p) t = IsUtf8 p × (t ≡ p)

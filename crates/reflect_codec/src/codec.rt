@@ -3,17 +3,14 @@ ghost use Rattle.std.specs.Prelude.{◌≡◌, ◌++◌, IfErr, OnErr, OnOk};
 ghost use Rattle.reflect_wire.specs.declared.wire_error.WireError.TheVariants.{Memory};
 ghost use Rattle.reflect_codec.specs.Faults.{FileBytesFault, SetBytesFault};
 ghost use Rattle.reflect_codec.specs.Meaning.{IsFileBytes, IsSetBytes};
-ghost use Rattle.reflect_codec.specs.Reading.{Takes};
+ghost use Rattle.reflect_codec.specs.Reading.{ReadsMeant};
 ghost use Rattle.reflect_codec.specs.Written.{file_bytes, set_bytes};
 
 use crate::backward::{Backward, WriteRecord};
 use crate::fields::{Fields, ReadRecord};
 use descriptor_records::{FileDescriptorProto, FileDescriptorSet};
-use reflect_wire::WireError;
+use reflect_wire::{MAX_LEVELS, WireError};
 use std::alloc::Global;
-
-/// How many levels of records may lie below the top.
-pub const MAX_LEVELS: u32 = 100;
 
 /// The file that the bytes spell.
 ///
@@ -23,7 +20,7 @@ pub const MAX_LEVELS: u32 = 100;
 /// wire type (`BadWireType`), and where a text is not UTF-8. But for want of memory a refusal tells
 /// what is so of the bytes; which of several faults it tells is left open.
 pub fn decode_file(alloc: Global, bytes: &[u8]) -> Result<FileDescriptorProto, WireError>
-    ensures { Takes IsFileBytes FileBytesFault bytes.now result }
+    ensures { ReadsMeant IsFileBytes FileBytesFault bytes.now result }
 {
     let fields = Fields::read(alloc, bytes, MAX_LEVELS)?;
     FileDescriptorProto::from_fields(alloc, &fields)
@@ -31,7 +28,7 @@ pub fn decode_file(alloc: Global, bytes: &[u8]) -> Result<FileDescriptorProto, W
 
 /// The descriptor set that the bytes spell, read and refused as `decode_file` says.
 pub fn decode_set(alloc: Global, bytes: &[u8]) -> Result<FileDescriptorSet, WireError>
-    ensures { Takes IsSetBytes SetBytesFault bytes.now result }
+    ensures { ReadsMeant IsSetBytes SetBytesFault bytes.now result }
 {
     let fields = Fields::read(alloc, bytes, MAX_LEVELS)?;
     FileDescriptorSet::from_fields(alloc, &fields)

@@ -1,11 +1,11 @@
 //! The fields of a record that is being read, and the readers of what they hold.
 ghost use Rattle.std.specs.Prelude.{◌≡◌, ℕ, ◌-◌, ◌++◌, List, IfOk, IfErr, IfSome, option_map, flat_map, length, string_bytes, unsigned_abs};
 ghost use Rattle.std.specs.List.{AllZip};
-ghost use Rattle.reflect_wire.specs.Faults.{ValueFault, Tells};
+ghost use Rattle.reflect_wire.specs.Faults.{ValueFault, TellsTrue};
 ghost use Rattle.reflect_wire.specs.Reads.{ReadsBy};
 ghost use Rattle.reflect_codec.specs.Faults.{BytesFault, OneOf, NumberFault, DoubleFault, PayloadFault, TextFault, PackedFault, NumbersFault, PlaceFault, PartFault, RecordFault, MergedFault};
 ghost use Rattle.reflect_codec.specs.Raw.{value_view, fields_view, IsRawValue, MoreFields, MoreNumbers};
-ghost use Rattle.reflect_codec.specs.Reading.{Value, Field, Takes, TakesBy, SpellsFields, values_at, IsText, IsNumber, IsInt32, IsInt64, IsBool, IsDouble, IsPayload, IsNumbers, IsPart, IsRecord, IsLast, AreNumbers, AreJoined, IsMerged, SpellsNumbers, int32_of, HasPayload, ArePayloads};
+ghost use Rattle.reflect_codec.specs.Reading.{Value, Field, ReadsMeant, ReadsMeantBy, SpellsFields, values_at, IsText, IsNumber, IsInt32, IsInt64, IsBool, IsDouble, IsPayload, IsNumbers, IsPart, IsRecord, IsLast, AreNumbers, AreJoined, IsMerged, SpellsNumbers, int32_of, HasPayload, ArePayloads};
 
 use descriptor_records::DoubleValue;
 use reflect_wire::{
@@ -52,7 +52,7 @@ pub trait FieldValue: Sized + Drop {
     ///
     /// `BadWireType` where the value has another form, `BadUtf8` where a text is none.
     fn from_value(alloc: Global, value: RawValue<'_>, levels: u32) -> Result<Self, WireError>
-        ensures { Takes (means levels) (faults levels) (value_view value.entry) result };
+        ensures { ReadsMeant (means levels) (faults levels) (value_view value.entry) result };
 }
 
 /// A record that is read from its fields.
@@ -66,7 +66,7 @@ pub trait ReadRecord: Sized + Drop {
 
     /// The record. Fields that it does not have are dropped.
     fn from_fields(alloc: Global, fields: &Fields<'_>) -> Result<Self, WireError>
-        ensures { Takes (facts fields.now.levels) (faults fields.now.levels)
+        ensures { ReadsMeant (facts fields.now.levels) (faults fields.now.levels)
             (fields_view fields.now.list.items) result };
 }
 
@@ -78,7 +78,7 @@ fn raw_value_at(
     levels: u32,
 ) -> Result<(RawValue<'_>, &[u8]), WireError>
     ensures read { ReadsBy value_view (IsRawValue levels key) bytes.now result }
-    ensures fault { IfErr result (Tells (ValueFault levels key) bytes.now) }
+    ensures fault { IfErr result (TellsTrue (ValueFault levels key) bytes.now) }
 {
     match key.wire {
         WireType::Varint => {
@@ -149,7 +149,7 @@ fn with_part<'b>(
 impl<'b> Fields<'b> {
     /// The fields that the bytes spell, below which so many levels of records may lie.
     pub fn read(alloc: Global, bytes: &'b [u8], levels: u32) -> Result<Fields<'b>, WireError>
-        ensures read { TakesBy (λ f. fields_view f.list.items) (SpellsFields levels)
+        ensures read { ReadsMeantBy (λ f. fields_view f.list.items) (SpellsFields levels)
             (BytesFault levels) bytes.now result }
         ensures levels { IfOk result (λ f. f.levels ≡ levels) }
     {
@@ -175,7 +175,7 @@ impl<'b> Fields<'b> {
 
     /// The last value of a field.
     pub fn last<T: FieldValue>(&self, alloc: Global, number: i32) -> Result<Option<T>, WireError>
-        ensures { Takes (IsLast (T.means self.now.levels)) (OneOf (T.faults self.now.levels))
+        ensures { ReadsMeant (IsLast (T.means self.now.levels)) (OneOf (T.faults self.now.levels))
             (values_at (unsigned_abs number) (fields_view self.now.list.items)) result }
     {
         let wanted = number.unsigned_abs();
@@ -190,7 +190,7 @@ impl<'b> Fields<'b> {
 
     /// All values of a field.
     pub fn list<T: FieldValue>(&self, alloc: Global, number: i32) -> Result<Vec<T>, WireError>
-        ensures { Takes (λ vs ts. AllZip (T.means self.now.levels) vs ts.items)
+        ensures { ReadsMeant (λ vs ts. AllZip (T.means self.now.levels) vs ts.items)
             (OneOf (T.faults self.now.levels))
             (values_at (unsigned_abs number) (fields_view self.now.list.items)) result }
     {
@@ -206,7 +206,7 @@ impl<'b> Fields<'b> {
 
     /// The numbers of a list, of which each value holds one or, packed, several.
     pub fn int32s(&self, alloc: Global, number: i32) -> Result<Vec<i32>, WireError>
-        ensures { Takes (λ vs zs. AreNumbers vs zs.items) (OneOf NumbersFault)
+        ensures { ReadsMeant (λ vs zs. AreNumbers vs zs.items) (OneOf NumbersFault)
             (values_at (unsigned_abs number) (fields_view self.now.list.items)) result }
     {
         let wanted = number.unsigned_abs();
@@ -227,7 +227,7 @@ impl<'b> Fields<'b> {
         number: i32,
         levels: u32,
     ) -> Result<Option<Fields<'b>>, WireError>
-        ensures read { TakesBy (option_map (λ f. fields_view f.list.items))
+        ensures read { ReadsMeantBy (option_map (λ f. fields_view f.list.items))
             (AreJoined self.now.levels levels) (OneOf (PartFault self.now.levels levels))
             (values_at (unsigned_abs number) (fields_view self.now.list.items)) result }
         ensures levels { IfOk result (λ o. IfSome o (λ f. f.levels ≡ levels)) }
@@ -250,7 +250,8 @@ impl<'b> Fields<'b> {
 
     /// A record, of which further ones are merged into the first.
     pub fn merged<R: ReadRecord>(&self, alloc: Global, number: i32) -> Result<Option<R>, WireError>
-        ensures { Takes (IsMerged R.facts self.now.levels) (MergedFault R.faults self.now.levels)
+        ensures { ReadsMeant (IsMerged R.facts self.now.levels)
+            (MergedFault R.faults self.now.levels)
             (values_at (unsigned_abs number) (fields_view self.now.list.items)) result }
     {
         match self.joined(alloc, number, self.levels.saturating_sub(1))? {
@@ -261,7 +262,7 @@ impl<'b> Fields<'b> {
 
     /// The payloads of a field, joined.
     pub fn joined_bytes(&self, alloc: Global, number: i32) -> Result<Vec<u8>, WireError>
-        ensures { Takes (λ vs bytes. ArePayloads vs bytes.items) (OneOf PayloadFault)
+        ensures { ReadsMeant (λ vs bytes. ArePayloads vs bytes.items) (OneOf PayloadFault)
             (values_at (unsigned_abs number) (fields_view self.now.list.items)) result }
     {
         let wanted = number.unsigned_abs();
@@ -277,7 +278,7 @@ impl<'b> Fields<'b> {
 
 impl<'b> RawValue<'b> {
     fn varint(self) -> Result<u64, WireError>
-        ensures { Takes IsNumber NumberFault (value_view self.entry) result }
+        ensures { ReadsMeant IsNumber NumberFault (value_view self.entry) result }
     {
         match self {
             RawValue::Varint(n) => Ok(n),
@@ -286,7 +287,7 @@ impl<'b> RawValue<'b> {
     }
 
     fn payload(self) -> Result<&'b [u8], WireError>
-        ensures { TakesBy (λ p. p.now) IsPayload PayloadFault (value_view self.entry) result }
+        ensures { ReadsMeantBy (λ p. p.now) IsPayload PayloadFault (value_view self.entry) result }
     {
         match self {
             RawValue::Payload(payload) => Ok(payload),
@@ -296,7 +297,7 @@ impl<'b> RawValue<'b> {
 
     /// The payload of a record. `TooDeep` where none may lie below.
     pub fn record(self, levels: u32) -> Result<&'b [u8], WireError>
-        ensures { TakesBy (λ p. p.now) (HasPayload levels) (PlaceFault levels)
+        ensures { ReadsMeantBy (λ p. p.now) (HasPayload levels) (PlaceFault levels)
             (value_view self.entry) result }
     {
         let payload = self.payload()?;

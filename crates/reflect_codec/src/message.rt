@@ -6,7 +6,7 @@ ghost use Rattle.reflect_codec.specs.Fields.{records_field};
 ghost use Rattle.reflect_codec.specs.Held.{held};
 ghost use Rattle.reflect_codec.specs.Written.{extension_range_bytes, reserved_range_bytes, message_bytes};
 ghost use Rattle.reflect_codec.specs.Raw.{fields_view, value_view};
-ghost use Rattle.reflect_codec.specs.Reading.{Takes, values_at};
+ghost use Rattle.reflect_codec.specs.Reading.{ReadsMeant, values_at};
 ghost use Rattle.reflect_codec.specs.Faults.{OneOf, MessageFault, InLevel, InExtensionRange, InRange};
 ghost use Rattle.reflect_codec.specs.Meaning.{IsExtensionRange, IsLevel, IsMessage, IsReservedRange};
 
@@ -24,7 +24,7 @@ pub fn message_types(
     fields: &Fields<'_>,
     number: i32,
 ) -> Result<Vec<DescriptorProto>, WireError>
-    ensures { Takes (λ vs ms. AllZip (IsMessage fields.now.levels) vs ms.items)
+    ensures { ReadsMeant (λ vs ms. AllZip (IsMessage fields.now.levels) vs ms.items)
         (OneOf (MessageFault fields.now.levels))
         (values_at (unsigned_abs number) (fields_view fields.now.list.items)) result }
 {
@@ -45,7 +45,7 @@ fn message_type(
     value: RawValue<'_>,
     levels: u32,
 ) -> Result<DescriptorProto, WireError>
-    ensures { Takes (IsMessage levels) (MessageFault levels) (value_view value.entry) result }
+    ensures { ReadsMeant (IsMessage levels) (MessageFault levels) (value_view value.entry) result }
 {
     let payload = value.record(levels)?;
     let fields = Fields::read(alloc, payload, levels - 1)?;
@@ -54,7 +54,7 @@ fn message_type(
 
 #[cycle(read)]
 fn message_from_fields(alloc: Global, fields: &Fields<'_>) -> Result<DescriptorProto, WireError>
-    ensures { Takes (λ fs m. IsLevel (IsMessage fields.now.levels) fields.now.levels fs
+    ensures { ReadsMeant (λ fs m. IsLevel (IsMessage fields.now.levels) fields.now.levels fs
         (out-DescriptorProto m)) (InLevel (MessageFault fields.now.levels) fields.now.levels)
         (fields_view fields.now.list.items) result }
 {

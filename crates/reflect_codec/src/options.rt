@@ -1,14 +1,13 @@
 //! Options, whose bytes are kept, and from which the few that linking needs are read.
 ghost use Rattle.std.specs.Prelude.{◌≡◌, unsigned_abs};
 ghost use Rattle.reflect_codec.specs.Raw.{fields_view};
-ghost use Rattle.reflect_codec.specs.Reading.{Takes, IsLastIf, values_at};
+ghost use Rattle.reflect_codec.specs.Reading.{ReadsMeant, IsLastIf, values_at};
 ghost use Rattle.reflect_codec.specs.Faults.{OneIf, OptionsFault, InNamePart, InUninterpretedOption};
 ghost use Rattle.reflect_codec.specs.Meaning.{AreOptions, IsNamePart, IsUninterpretedOption, is_enum, is_field, is_message};
 
-use crate::codec::MAX_LEVELS;
 use crate::fields::{FieldValue, Fields, ReadRecord};
 use descriptor_records::{NamePart, Options, UninterpretedOption, tag};
-use reflect_wire::WireError;
+use reflect_wire::{MAX_LEVELS, WireError};
 use std::alloc::Global;
 
 /// What the options are of, by the option that linking needs of it.
@@ -50,7 +49,7 @@ impl<'b> Fields<'b> {
         number: i32,
         of: OptionsOf,
     ) -> Result<Option<Options>, WireError>
-        ensures { Takes (AreOptions of self.now.levels) (OptionsFault of self.now.levels)
+        ensures { ReadsMeant (AreOptions of self.now.levels) (OptionsFault of self.now.levels)
             (values_at (unsigned_abs number) (fields_view self.now.list.items)) result }
     {
         match self.joined(alloc, number, MAX_LEVELS)? {
@@ -72,7 +71,7 @@ impl<'b> Fields<'b> {
         alloc: Global,
         number: i32,
     ) -> Result<Option<T>, WireError>
-        ensures { Takes (IsLastIf wanted (T.means self.now.levels))
+        ensures { ReadsMeant (IsLastIf wanted (T.means self.now.levels))
             (OneIf wanted (T.faults self.now.levels))
             (values_at (unsigned_abs number) (fields_view self.now.list.items)) result }
     {

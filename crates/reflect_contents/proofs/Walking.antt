@@ -1,5 +1,6 @@
 -- One step of a walk over what a message holds.
 use Rattle.std.proofs.Common.{◌≡◌, ℕ, ◌==◌, ◌&&◌, not, Bool, true, false, true≢false, cond, List, [], ◌∷◌, map, MatchOption, Option, None, Some, is_some, option_map, refl, sym, ap, ◌∙◌, arith}
+use Rattle.std.proofs.lemmas.Bool.{and_parts}
 use Rattle.std.specs.List.{filter_map}
 use Rattle.std.specs.Option.{option_and_then}
 use Rattle.reflect_tables.specs.Types.{ExtensionType, no_extension}
@@ -55,13 +56,9 @@ module _ (m : MessageDescriptor) (n : ℕ) (v : Value) where
       ∙ ap (λ (d : MessageDescriptor). if_set d.pool.now v (field_type f)) (sym is)
       ∙ ap (λ b. cond b (Some (field_type f, v)) None) (sym told)
 
-  both : (a b : Bool) → a && b ≡ true → (a ≡ true) × (b ≡ true)
-  both true b e = (refl, e)
-  both false b e = absurd (cc e)
-
   told : Tells (λ (x : ExtensionType). (x.extendee ≡ m.index) × (x.field.number ≡ n)) (λ x. (x.extendee == m.index) && (x.field.number == n))
   told = record {
-    says = λ x e. let two = both (x.extendee == m.index) (x.field.number == n) e in (grind (arith, two.0), grind (arith, two.1));
+    says = λ x e. let two = and_parts (x.extendee == m.index) (x.field.number == n) e in (grind (arith, two.0), grind (arith, two.1));
     passes = λ x h. grind (arith, h.0, h.1);
   }
 

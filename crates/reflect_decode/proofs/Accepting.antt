@@ -9,7 +9,7 @@ use Rattle.reflect_pool.specs.declared.kind.Kind.{Kind}
 use Rattle.reflect_pool.specs.declared.kind.Kind.TheVariants as kinds
 use Rattle.reflect_pool.specs.declared.message.MessageDescriptor.{MessageDescriptor}
 use Rattle.reflect_wire.specs.Records.{Payload}
-use Rattle.reflect_scalar.specs.Meaning.{Means}
+use Rattle.reflect_scalar.specs.Meaning.{StandsFor}
 use Rattle.reflect_scalar.specs.Singles.{Single}
 use Rattle.reflect_message.specs.Contents.{Content}
 use Rattle.reflect_message.specs.Known.{known_field, known_extension}
@@ -33,7 +33,7 @@ module _ {X : Type 0} (P : X → Type 0) where
   all_from Q to [] h = tt
   all_from Q to (x ∷ xs) h = (to x h.0, all_from Q to xs h.1)
 
-pub accepts_value : (inner : Acceptable) (grouped : Bool) (kind : Kind) (p : Payload) (v : Single) → Means kind p v → AcceptsKind inner grouped kind p
+pub accepts_value : (inner : Acceptable) (grouped : Bool) (kind : Kind) (p : Payload) (v : Single) → StandsFor kind p v → AcceptsKind inner grouped kind p
 accepts_value inner grouped (kinds.Message d) p v h = absurd h
 accepts_value inner grouped kind p v h = (v, h)
 

@@ -2,7 +2,7 @@
 use Rattle.std.proofs.Common.{◌≡◌, ℕ, List, Option, Result, Ok, Err, IfOk, IfErr, sym, ap, ◌∙◌, subst}
 use Rattle.std.specs.Borrow.{Bor}
 use Rattle.reflect_pool.specs.declared.message.MessageDescriptor.{MessageDescriptor}
-use Rattle.reflect_wire.specs.Faults.{Tells}
+use Rattle.reflect_wire.specs.Faults.{TellsTrue}
 use Rattle.reflect_wire.specs.Reads.{Fronts}
 use Rattle.reflect_wire.specs.Records.{Payload}
 use Rattle.reflect_wire.specs.declared.wire_error.WireError.{WireError}
@@ -37,7 +37,7 @@ merged_in levels group bytes m type old new before after (Ok rest) same was is h
 merged_in levels group bytes m type old new before after (Err e) same was is h = tt
 
 pub fault_in : (levels : ℕ) (group : Option ℕ) (bytes : List ℕ) (m type : MessageDescriptor) (old before : Content) (r : Result (Bor (List ℕ)) WireError) → type ≡ m → before ≡ old
-    → (Suits levels type before → IfErr r (Tells (BodyFault levels type.pool.now type.index group) bytes)) → Suits levels m old → IfErr r (Tells (BodyFault levels m.pool.now m.index group) bytes)
+    → (Suits levels type before → IfErr r (TellsTrue (BodyFault levels type.pool.now type.index group) bytes)) → Suits levels m old → IfErr r (TellsTrue (BodyFault levels m.pool.now m.index group) bytes)
 fault_in levels group bytes m type old before r same was h suits =
     let told = h (subst (λ t. Suits levels t before) (sym same) (subst (Suits levels m) (sym was) suits)) in
-    subst (λ (t : MessageDescriptor). IfErr r (Tells (BodyFault levels t.pool.now t.index group) bytes)) same told
+    subst (λ (t : MessageDescriptor). IfErr r (TellsTrue (BodyFault levels t.pool.now t.index group) bytes)) same told

@@ -1,5 +1,5 @@
 -- What is in order at each depth stays so while records are taken in.
-use Rattle.std.proofs.Common.{◌≡◌, ◌≢◌, ◌⊎◌, inl, inr, ℕ, zero, suc, Bool, true, false, true≢false, cond, List, [], ◌∷◌, ◌++◌, map, Option, None, Some, unwrap_or, Box, Global, refl, sym, ap, ◌∙◌, subst, arith}
+use Rattle.std.proofs.Common.{◌≡◌, ◌≢◌, ◌⊎◌, inl, inr, ℕ, zero, suc, Bool, true, false, true≢false, cond, List, [], ◌∷◌, ◌++◌, map, Option, None, Some, unwrap_or, refl, sym, ap, ◌∙◌, subst, arith}
 use Rattle.std.proofs.lemmas.Bool.{and_from}
 use Rattle.std.proofs.lemmas.Bool.Decides.{eqb_tells}
 use Rattle.std.proofs.lemmas.List.Folds.{list_all-append}
@@ -22,7 +22,7 @@ use Rattle.reflect_scalar.specs.declared.map_key.MapKey.{MapKey}
 use Rattle.reflect_message.specs.Contents.{Content, content_of, nothing}
 use Rattle.reflect_message.specs.Declares.{Owns, OwnsExtension}
 use Rattle.reflect_message.specs.Held.{Same, fields_of, extensions_of}
-use Rattle.reflect_message.specs.InOrder.{held_order, parts_order, value_order, message_order, in_order, held_in_order, entries_in_order, items_in_order, map_in_order, parts_in_order, IsInOrder}
+use Rattle.reflect_message.specs.InOrder.{held_order, parts_order, value_order, message_order, in_order, held_in_order, entries_in_order, items_in_order, map_in_order, IsInOrder}
 use Rattle.reflect_message.specs.Known.{holds_floats, is_float}
 use Rattle.reflect_message.specs.Lists.{items_held}
 use Rattle.reflect_message.specs.Maps.{entries_held, key_order}
@@ -31,12 +31,12 @@ use Rattle.reflect_message.specs.Names.{DynamicMessage, Held, Parts, Value}
 use Rattle.reflect_message.specs.Oneofs.{Unsets, sibling}
 use Rattle.reflect_message.specs.Singles.{single}
 use Rattle.reflect_message.specs.declared.parts.HeldOf.{out-HeldOf}
-use Rattle.reflect_message.specs.declared.parts.HeldOf.TheFolds.{map-HeldOf, map-ValueOf, fold-MessageOf, fold-PartsOf, fold-roll-HeldOf, fold_out-HeldOf, fold_out-ValueOf}
+use Rattle.reflect_message.specs.declared.parts.HeldOf.TheFolds.{map-HeldOf, map-ValueOf, fold_out-HeldOf, fold_out-ValueOf}
 use Rattle.reflect_message.specs.declared.parts.HeldOf.TheOpen.{HeldOf-F, ValueOf-F}
-use Rattle.reflect_message.specs.declared.parts.HeldOf.TheViews.{out-ValueOf, roll-HeldOf}
+use Rattle.reflect_message.specs.declared.parts.HeldOf.TheViews.{out-ValueOf}
 use Rattle.reflect_message.proofs.Alike.{Open, extensions_in_block, fields_in_block}
 use Rattle.reflect_message.proofs.Choosing.{is_or_not}
-use Rattle.reflect_message.proofs.InOrder.{copy_put, entries_from, extensions_ascend, extensions_in_order, fields_ascend, fields_in_order, held_in_order-Block, message_below, order_of_list, order_of_map, order_of_message}
+use Rattle.reflect_message.proofs.InOrder.{copy_put, entries_from, extensions_ascend, extensions_in_order, fields_ascend, fields_in_order, message_below, message_folded, order_of_list, order_of_map, order_of_message, parts_folded, parts_folded_in}
 use Rattle.reflect_message.proofs.Known.{kept}
 use Rattle.reflect_decode.specs.Keeps.{payloads}
 use Rattle.reflect_decode.specs.Levels.{TakenAt, TakesAt}
@@ -46,18 +46,9 @@ use Rattle.reflect_decode.specs.Ordered.{AreInOrder, HoldsInOrder}
 use Rattle.reflect_decode.specs.Scalars.{LeavesAs}
 use Rattle.reflect_decode.specs.Taking.{AreMade, Leaves, TakesAs}
 use Rattle.reflect_decode.proofs.Sorts.{Sort, plain, floating, message_type, left_single, no_float_values, not_float, sort_of}
-use denote.Hole.Carrier.{roll}
 
 abbrev Sorted : Option Value → Type 0
 Sorted o = IfSome o (λ v. IsTrue (in_order v))
-
-abbrev message_folded : DynamicMessage → Bool
-message_folded =
-    fold-MessageOf MessageDescriptor Bool Bool Bool Bool held_order value_order message_order parts_order
-
-abbrev parts_folded_in : Parts → Bool
-parts_folded_in =
-    fold-PartsOf MessageDescriptor Bool Bool Bool Bool held_order value_order message_order parts_order
 
 -- ---- single values
 
@@ -100,13 +91,6 @@ all_single (v ∷ vs) (s ∷ ss) e =
 
 -- ---- messages
 
-parts_folded : (b : Box Parts Global) → parts_folded_in b.value ≡ parts_in_order b.value
-unfolding roll-HeldOf roll
-parts_folded b =
-    sym (fold-roll-HeldOf MessageDescriptor Bool Bool Bool Bool
-    held_order value_order message_order parts_order (HeldOf-F.Block b))
-    ∙ held_in_order-Block b
-
 -- what its content tells of a message
 pub message_from : (m : DynamicMessage) → HoldsInOrder (content_of m) → IsInOrder m
 message_from m content =
@@ -121,7 +105,7 @@ message_from m content =
           → held_order (map-HeldOf MessageDescriptor Held Value DynamicMessage Parts Bool Bool Bool Bool
           held_in_order in_order message_folded parts_folded_in o) ≡ true
       by HeldOf-F.Nothing h k = refl
-      by (HeldOf-F.Block b) h k = parts_folded b ∙ and_from _ _ h k
+      by (HeldOf-F.Block b) h k = parts_folded b.value ∙ and_from _ _ h k
 
 -- and a message of its content
 pub message_tells : (m : DynamicMessage) → IsInOrder m → HoldsInOrder (content_of m)

@@ -11,9 +11,9 @@ use Rattle.reflect_pool.specs.Shapes.{holds_list, holds_map}
 use Rattle.reflect_pool.specs.declared.kind.Kind.{Kind}
 use Rattle.reflect_pool.specs.declared.kind.Kind.TheVariants as kinds
 use Rattle.reflect_pool.specs.declared.message.MessageDescriptor.{MessageDescriptor}
-use Rattle.reflect_wire.specs.Faults.{KeyFault, DelimitedFault, ValueFault, Tells}
+use Rattle.reflect_wire.specs.Faults.{KeyFault, DelimitedFault, ValueFault, TellsTrue}
 use Rattle.reflect_wire.specs.Key.{IsKey, IsDelimited}
-use Rattle.reflect_wire.specs.Reads.{Fronts, Refuses}
+use Rattle.reflect_wire.specs.Reads.{Fronts, RefusesFront}
 use Rattle.reflect_wire.specs.Records.{Payload, varint, fixed64, delimited, fixed32, key_of, IsValue, SpellsRecords}
 use Rattle.reflect_wire.specs.Views.{records_of}
 use Rattle.reflect_wire.specs.declared.wire_error.WireError.{WireError}
@@ -21,7 +21,7 @@ use Rattle.reflect_wire.specs.declared.wire_error.WireError.TheVariants.{Truncat
 use Rattle.reflect_wire.specs.declared.wire_key.WireKey.{WireKey}
 use Rattle.reflect_wire.specs.declared.wire_key.WireType.TheVariants.{LengthDelimited, StartGroup, EndGroup}
 use Rattle.reflect_wire.proofs.Faulty.{tells_as, tells_fault}
-use Rattle.reflect_scalar.specs.Meaning.{Means, ScalarFault}
+use Rattle.reflect_scalar.specs.Meaning.{StandsFor, ScalarFault}
 use Rattle.reflect_scalar.specs.Singles.{Single, truth, int32, int64, uint32, uint64, text, blob, enumerated}
 use Rattle.reflect_scalar.specs.declared.map_key.MapKey.{MapKey}
 use Rattle.reflect_scalar.specs.declared.map_key.MapKey.TheVariants as keys
@@ -50,10 +50,10 @@ use Rattle.reflect_decode.proofs.Suiting.{Begins, begun, standing}
 use Rattle.reflect_decode.proofs.Telling.{list_no_map}
 
 -- a fault where the value stands that was to be read
-pub run_begins : (levels : ℕ) (key : WireKey) (F : List ℕ → WireError → Type 0) (bytes : List ℕ) (e : WireError) → Tells F bytes e → Tells (RunFault levels key F) bytes e
+pub run_begins : (levels : ℕ) (key : WireKey) (F : List ℕ → WireError → Type 0) (bytes : List ℕ) (e : WireError) → TellsTrue F bytes e → TellsTrue (RunFault levels key F) bytes e
 run_begins levels key F bytes e h = tells_as F (RunFault levels key F) bytes bytes e (λ f. ([], bytes, ([], refl, refl), f)) h
 
-pub run_as : (levels : ℕ) (key : WireKey) (F G : List ℕ → WireError → Type 0) (bytes : List ℕ) (e : WireError) → ((rest : List ℕ) → F rest e → G rest e) → Tells (RunFault levels key F) bytes e → Tells (RunFault levels key G) bytes e
+pub run_as : (levels : ℕ) (key : WireKey) (F G : List ℕ → WireError → Type 0) (bytes : List ℕ) (e : WireError) → ((rest : List ℕ) → F rest e → G rest e) → TellsTrue (RunFault levels key F) bytes e → TellsTrue (RunFault levels key G) bytes e
 run_as levels key F G bytes e to h = tells_as (RunFault levels key F) (RunFault levels key G) bytes bytes e (λ f. (f.0, f.1, f.2, to f.1 f.3)) h
 
 -- what a run of records leads on to
@@ -74,17 +74,17 @@ module _ (levels : ℕ) (pool : PoolType) (i : ℕ) (group : Option ℕ) (bytes 
   abbrev Body : List ℕ → WireError → Type 0
   Body = BodyFault levels pool i group
 
-  pub key_refused : (e : WireError) → rest ≢ [] → KeyFault rest e → Tells Body bytes e
+  pub key_refused : (e : WireError) → rest ≢ [] → KeyFault rest e → TellsTrue Body bytes e
   key_refused e some fault = tells_fault Body bytes e (done, rest, found, inl ((λ none. some), fault))
 
-  pub ends_inside_group : (n : ℕ) → group ≡ Some n → rest ≡ [] → Tells Body bytes Truncated
+  pub ends_inside_group : (n : ℕ) → group ≡ Some n → rest ≡ [] → TellsTrue Body bytes Truncated
   ends_inside_group n is none = (done, rest, found, inl ((λ not. absurd (cc (is, not))), subst (λ r. KeyFault r Truncated) (sym none) (tt, omega arith)))
 
-  pub end_refused : (key : WireKey) (behind : List ℕ) → Fronts IsKey rest key behind → IsWrongEnd group key → Tells Body bytes EndGroupMismatch
+  pub end_refused : (key : WireKey) (behind : List ℕ) → Fronts IsKey rest key behind → IsWrongEnd group key → TellsTrue Body bytes EndGroupMismatch
   end_refused key behind k wrong = (done, rest, found, inr (key, behind, k, inl (wrong, tt)))
 
   pub record_refused : (key : WireKey) (behind : List ℕ) (e : WireError) → Fronts IsKey rest key behind → key.wire ≢ EndGroup
-      → Tells (RunFault levels key (RecordFault levels (Within levels) pool (declared_at pool i key.number) key)) behind e → Tells Body bytes e
+      → TellsTrue (RunFault levels key (RecordFault levels (Within levels) pool (declared_at pool i key.number) key)) behind e → TellsTrue Body bytes e
   record_refused key behind e k wire h = tells_as (RunFault levels key (RecordFault levels (Within levels) pool (declared_at pool i key.number) key)) Body behind bytes e to h where
     to : RunFault levels key (RecordFault levels (Within levels) pool (declared_at pool i key.number) key) behind e → Body bytes e
     to f =
@@ -97,7 +97,7 @@ module _ (levels : ℕ) (pool : PoolType) (i : ℕ) (group : Option ℕ) (bytes 
         )
 
 -- a record that is no field's
-pub other_told : (levels : ℕ) (key : WireKey) (bytes : List ℕ) (e : WireError) → Refuses (IsValue levels key) bytes e → Tells (ValueFault levels key) bytes e → Tells (OtherFault levels key) bytes e
+pub other_told : (levels : ℕ) (key : WireKey) (bytes : List ℕ) (e : WireError) → RefusesFront (IsValue levels key) bytes e → TellsTrue (ValueFault levels key) bytes e → TellsTrue (OtherFault levels key) bytes e
 other_told levels key bytes Memory none h = tt
 other_told levels key bytes e none h = (none, h)
 
@@ -107,21 +107,21 @@ module _ (levels : ℕ) (pool : PoolType) (i n : ℕ) (key : WireKey) (bytes : L
   Record o = RecordFault levels (Within levels) pool o key
 
   of_field : (own : PoolType) (f : FieldType) → own ≡ pool → declared_at pool i n ≡ Some f
-      → Tells (RunFault levels key (FieldFault levels (Within levels) own f key)) bytes e → Tells (RunFault levels key (Record (declared_at pool i n))) bytes e
-  of_field own f same is h = subst (λ o. Tells (RunFault levels key (Record o)) bytes e) (sym is) (subst (λ p. Tells (RunFault levels key (FieldFault levels (Within levels) p f key)) bytes e) same h)
+      → TellsTrue (RunFault levels key (FieldFault levels (Within levels) own f key)) bytes e → TellsTrue (RunFault levels key (Record (declared_at pool i n))) bytes e
+  of_field own f same is h = subst (λ o. TellsTrue (RunFault levels key (Record o)) bytes e) (sym is) (subst (λ p. TellsTrue (RunFault levels key (FieldFault levels (Within levels) p f key)) bytes e) same h)
 
   pub field_refused : (own : PoolType) (f : FieldType) → own ≡ pool → Some f ≡ known_field pool i n
-      → Tells (RunFault levels key (FieldFault levels (Within levels) own f key)) bytes e → Tells (RunFault levels key (Record (declared_at pool i n))) bytes e
+      → TellsTrue (RunFault levels key (FieldFault levels (Within levels) own f key)) bytes e → TellsTrue (RunFault levels key (Record (declared_at pool i n))) bytes e
   field_refused own f same known h = of_field own f same (ap (λ o. option_or o (known_extension pool i n)) (sym known)) h
 
   pub extension_refused : (own : PoolType) (f : FieldType) → own ≡ pool → None ≡ known_field pool i n → Some f ≡ known_extension pool i n
-      → Tells (RunFault levels key (FieldFault levels (Within levels) own f key)) bytes e → Tells (RunFault levels key (Record (declared_at pool i n))) bytes e
+      → TellsTrue (RunFault levels key (FieldFault levels (Within levels) own f key)) bytes e → TellsTrue (RunFault levels key (Record (declared_at pool i n))) bytes e
   extension_refused own f same none known h = of_field own f same (ap (λ o. option_or o (known_extension pool i n)) (sym none) ∙ sym known) h
 
-  pub other_refused : None ≡ known_field pool i n → None ≡ known_extension pool i n → Refuses (IsValue levels key) bytes e → Tells (ValueFault levels key) bytes e → Tells (RunFault levels key (Record (declared_at pool i n))) bytes e
+  pub other_refused : None ≡ known_field pool i n → None ≡ known_extension pool i n → RefusesFront (IsValue levels key) bytes e → TellsTrue (ValueFault levels key) bytes e → TellsTrue (RunFault levels key (Record (declared_at pool i n))) bytes e
   other_refused none also refused h =
       let is : declared_at pool i n ≡ None = ap (λ o. option_or o (known_extension pool i n)) (sym none) ∙ sym also in
-      subst (λ o. Tells (RunFault levels key (Record o)) bytes e) (sym is) (run_begins levels key (OtherFault levels key) bytes e (other_told levels key bytes e refused h))
+      subst (λ o. TellsTrue (RunFault levels key (Record o)) bytes e) (sym is) (run_begins levels key (OtherFault levels key) bytes e (other_told levels key bytes e refused h))
 
 -- what refuses a field's record
 module _ (levels : ℕ) (pool : PoolType) (f : FieldType) (key : WireKey) (bytes : List ℕ) (e : WireError) where
@@ -135,23 +135,23 @@ module _ (levels : ℕ) (pool : PoolType) (f : FieldType) (key : WireKey) (bytes
   by_shape map list is also rest h = subst (λ m. As m (holds_list pool f) rest e) (sym is) (subst (λ l. As map l rest e) (sym also) h)
 
   pub list_refused : (grouped : Bool) (kind : Kind) → grouped ≡ f.group → IsKind pool kind f.kind → holds_list pool f ≡ true
-      → Tells (RunFault levels key (ElementFault (Within levels) grouped kind key)) bytes e → Tells (RunFault levels key Field) bytes e
+      → TellsTrue (RunFault levels key (ElementFault (Within levels) grouped kind key)) bytes e → TellsTrue (RunFault levels key Field) bytes e
   list_refused grouped kind form is list h = run_as levels key (ElementFault (Within levels) grouped kind key) Field bytes e to h where
     to : (rest : List ℕ) → ElementFault (Within levels) grouped kind key rest e → Field rest e
     to rest fault = by_shape false true (is_false (holds_map pool f) (list_no_map pool f list)) list rest (kind, is, subst (λ g. ElementFault (Within levels) g kind key rest e) form fault)
 
   pub map_refused : holds_map pool f ≡ true
-      → Tells (RunFault levels key (MapFault levels (Within levels) pool f.kind key)) bytes e → Tells (RunFault levels key Field) bytes e
+      → TellsTrue (RunFault levels key (MapFault levels (Within levels) pool f.kind key)) bytes e → TellsTrue (RunFault levels key Field) bytes e
   map_refused map h = run_as levels key (MapFault levels (Within levels) pool f.kind key) Field bytes e to h where
     to : (rest : List ℕ) → MapFault levels (Within levels) pool f.kind key rest e → Field rest e
     to rest fault = subst (λ m. As m (holds_list pool f) rest e) (sym map) fault
 
-  pub one_refused : holds_map pool f ≡ false → holds_list pool f ≡ false → Tells (OneFault (Within levels) pool f key) bytes e → Tells (RunFault levels key Field) bytes e
+  pub one_refused : holds_map pool f ≡ false → holds_list pool f ≡ false → TellsTrue (OneFault (Within levels) pool f key) bytes e → TellsTrue (RunFault levels key Field) bytes e
   one_refused no_map no_list h = run_begins levels key Field bytes e (tells_as (OneFault (Within levels) pool f key) Field bytes bytes e (by_shape false false no_map no_list bytes) h)
 
 -- a message of the field's kind
 pub message_refused : (inner : Refusal) (pool : PoolType) (f : FieldType) (grouped : Bool) (d : MessageDescriptor) (key : WireKey) (bytes : List ℕ) (e : WireError) → grouped ≡ f.group → IsKind pool (kinds.Message d) f.kind
-    → Tells (MessageFault inner grouped d.pool.now d.index key) bytes e → Tells (OneFault inner pool f key) bytes e
+    → TellsTrue (MessageFault inner grouped d.pool.now d.index key) bytes e → TellsTrue (OneFault inner pool f key) bytes e
 message_refused inner pool f grouped d key bytes e form is h =
     tells_as (MessageFault inner grouped d.pool.now d.index key) (OneFault inner pool f key) bytes bytes e (λ fault. (kinds.Message d, is, subst (λ g. MessageFault inner g d.pool.now d.index key bytes e) form fault)) h
 
@@ -164,20 +164,20 @@ message_unpacked : (d : MessageDescriptor) (key : WireKey) → IsPackedKey (kind
 message_unpacked d key h = absurd (cc (h.1))
 
 module _ (inner : Refusal) (grouped : Bool) (kind : Kind) (key : WireKey) (bytes : List ℕ) (e : WireError) where
-  pub single_refused : (pool : PoolType) (f : FieldType) → IsKind pool kind f.kind → grouped ≡ f.group → ((d : MessageDescriptor) → kind ≡ kinds.Message d → ⊥) → ScalarFault kind key.wire bytes e → Tells (OneFault inner pool f key) bytes e
+  pub single_refused : (pool : PoolType) (f : FieldType) → IsKind pool kind f.kind → grouped ≡ f.group → ((d : MessageDescriptor) → kind ≡ kinds.Message d → ⊥) → ScalarFault kind key.wire bytes e → TellsTrue (OneFault inner pool f key) bytes e
   single_refused pool f is form other h = tells_fault (OneFault inner pool f key) bytes e (kind, is, scalar_fault inner f.group kind key bytes e other h)
 
-  pub element_refused : (IsPackedKey kind key → ⊥) → ((d : MessageDescriptor) → kind ≡ kinds.Message d → ⊥) → ScalarFault kind key.wire bytes e → Tells (ElementFault inner grouped kind key) bytes e
+  pub element_refused : (IsPackedKey kind key → ⊥) → ((d : MessageDescriptor) → kind ≡ kinds.Message d → ⊥) → ScalarFault kind key.wire bytes e → TellsTrue (ElementFault inner grouped kind key) bytes e
   element_refused unpacked other h = tells_fault (ElementFault inner grouped kind key) bytes e (inl (unpacked, scalar_fault inner grouped kind key bytes e other h))
 
-  pub nested_refused : (d : MessageDescriptor) → kind ≡ kinds.Message d → Tells (MessageFault inner grouped d.pool.now d.index key) bytes e → Tells (ElementFault inner grouped kind key) bytes e
+  pub nested_refused : (d : MessageDescriptor) → kind ≡ kinds.Message d → TellsTrue (MessageFault inner grouped d.pool.now d.index key) bytes e → TellsTrue (ElementFault inner grouped kind key) bytes e
   nested_refused d is h =
       tells_as (MessageFault inner grouped d.pool.now d.index key) (ElementFault inner grouped kind key) bytes bytes e (λ fault. subst (λ k. ElementFault inner grouped k key bytes e) (sym is) (inl (message_unpacked d key, fault))) h
 
-  pub length_refused : IsPackedKey kind key → DelimitedFault bytes e → Tells (ElementFault inner grouped kind key) bytes e
+  pub length_refused : IsPackedKey kind key → DelimitedFault bytes e → TellsTrue (ElementFault inner grouped kind key) bytes e
   length_refused packed h = tells_fault (ElementFault inner grouped kind key) bytes e (inr (packed, inl h))
 
-  pub row_refused : (body rest : List ℕ) → IsPackedKey kind key → Fronts IsDelimited bytes body rest → Tells (PackedFault kind) body e → Tells (ElementFault inner grouped kind key) bytes e
+  pub row_refused : (body rest : List ℕ) → IsPackedKey kind key → Fronts IsDelimited bytes body rest → TellsTrue (PackedFault kind) body e → TellsTrue (ElementFault inner grouped kind key) bytes e
   row_refused body rest packed h t = tells_as (PackedFault kind) (ElementFault inner grouped kind key) body bytes e (λ fault. inr (packed, inr (body, rest, h, fault))) t
 
 -- a message behind its length, and one between its tags
@@ -189,13 +189,13 @@ module _ (levels : ℕ) (pool : PoolType) (i : ℕ) (key : WireKey) (bytes : Lis
   none_left : (end : Option ℕ) (body : List ℕ) → levels ≡ 0 → Within levels pool i end body TooDeep
   none_left end body none = subst (λ l. Within l pool i end body TooDeep) (sym none) tt
 
-  pub sized_length : (grouped : Bool) (e : WireError) → grouped ≡ false → key.wire ≡ LengthDelimited → DelimitedFault bytes e → Tells (Message grouped) bytes e
+  pub sized_length : (grouped : Bool) (e : WireError) → grouped ≡ false → key.wire ≡ LengthDelimited → DelimitedFault bytes e → TellsTrue (Message grouped) bytes e
   sized_length grouped e form wire h = tells_fault (Message grouped) bytes e (subst (λ g. Message g bytes e) (sym form) (inr (wire, inl h)))
 
-  pub sized_too_deep : (grouped : Bool) (body rest : List ℕ) → grouped ≡ false → key.wire ≡ LengthDelimited → Fronts IsDelimited bytes body rest → levels ≡ 0 → Tells (Message grouped) bytes TooDeep
+  pub sized_too_deep : (grouped : Bool) (body rest : List ℕ) → grouped ≡ false → key.wire ≡ LengthDelimited → Fronts IsDelimited bytes body rest → levels ≡ 0 → TellsTrue (Message grouped) bytes TooDeep
   sized_too_deep grouped body rest form wire h none = subst (λ g. Message g bytes TooDeep) (sym form) (inr (wire, inr (body, rest, h, none_left None body none)))
 
-  pub group_too_deep : (grouped : Bool) → grouped ≡ true → key.wire ≡ StartGroup → levels ≡ 0 → Tells (Message grouped) bytes TooDeep
+  pub group_too_deep : (grouped : Bool) → grouped ≡ true → key.wire ≡ StartGroup → levels ≡ 0 → TellsTrue (Message grouped) bytes TooDeep
   group_too_deep grouped form wire none = subst (λ g. Message g bytes TooDeep) (sym form) (inr (wire, none_left (Some key.number) bytes none))
 
   module _ (below : ℕ) (above : below + 1 ≡ levels) where
@@ -204,15 +204,15 @@ module _ (levels : ℕ) (pool : PoolType) (i : ℕ) (key : WireKey) (bytes : Lis
         let up : suc below ≡ levels = omega (arith, above) in
         subst (λ l. Within l pool i end body e) up h
 
-    pub sized_refused : (grouped : Bool) (body rest : List ℕ) (e : WireError) → grouped ≡ false → key.wire ≡ LengthDelimited → Fronts IsDelimited bytes body rest → Tells (BodyFault below pool i None) body e → Tells (Message grouped) bytes e
+    pub sized_refused : (grouped : Bool) (body rest : List ℕ) (e : WireError) → grouped ≡ false → key.wire ≡ LengthDelimited → Fronts IsDelimited bytes body rest → TellsTrue (BodyFault below pool i None) body e → TellsTrue (Message grouped) bytes e
     sized_refused grouped body rest e form wire h t =
         tells_as (BodyFault below pool i None) (Message grouped) body bytes e (λ fault. subst (λ g. Message g bytes e) (sym form) (inr (wire, inr (body, rest, h, body_below None body e fault)))) t
 
-    pub group_refused : (grouped : Bool) (e : WireError) → grouped ≡ true → key.wire ≡ StartGroup → Tells (BodyFault below pool i (Some key.number)) bytes e → Tells (Message grouped) bytes e
+    pub group_refused : (grouped : Bool) (e : WireError) → grouped ≡ true → key.wire ≡ StartGroup → TellsTrue (BodyFault below pool i (Some key.number)) bytes e → TellsTrue (Message grouped) bytes e
     group_refused grouped e form wire t =
         tells_as (BodyFault below pool i (Some key.number)) (Message grouped) bytes bytes e (λ fault. subst (λ g. Message g bytes e) (sym form) (inr (wire, body_below (Some key.number) bytes e fault))) t
 
-  pub wrong_form : (grouped : Bool) → (grouped ≡ false → key.wire ≢ LengthDelimited) → (grouped ≡ true → key.wire ≢ StartGroup) → Tells (Message grouped) bytes BadWireType
+  pub wrong_form : (grouped : Bool) → (grouped ≡ false → key.wire ≢ LengthDelimited) → (grouped ≡ true → key.wire ≢ StartGroup) → TellsTrue (Message grouped) bytes BadWireType
   wrong_form false sized tagged = inl (sized refl, tt)
   wrong_form true sized tagged = inl (tagged refl, tt)
 
@@ -221,17 +221,17 @@ module _ (levels : ℕ) (inner : Refusal) (pool : PoolType) (t : KindType) (key 
   abbrev Map : List ℕ → WireError → Type 0
   Map = MapFault levels inner pool t key
 
-  pub no_length : key.wire ≢ LengthDelimited → Tells Map bytes BadWireType
+  pub no_length : key.wire ≢ LengthDelimited → TellsTrue Map bytes BadWireType
   no_length wire = inl (wire, tt)
 
-  pub no_parts : (entry_field pool t 1 ≡ None) ⊎ (entry_field pool t 2 ≡ None) → Tells Map bytes BadWireType
+  pub no_parts : (entry_field pool t 1 ≡ None) ⊎ (entry_field pool t 2 ≡ None) → TellsTrue Map bytes BadWireType
   no_parts none = inr (inl (none, tt))
 
-  pub entry_length : (e : WireError) → key.wire ≡ LengthDelimited → DelimitedFault bytes e → Tells Map bytes e
+  pub entry_length : (e : WireError) → key.wire ≡ LengthDelimited → DelimitedFault bytes e → TellsTrue Map bytes e
   entry_length e wire h = tells_fault Map bytes e (inr (inr (inl (wire, h))))
 
   pub entry_refused : (p q : PoolType) (keys values : FieldType) (body rest : List ℕ) (e : WireError) → p ≡ pool → q ≡ pool → entry_field pool t 1 ≡ Some keys → entry_field pool t 2 ≡ Some values → key.wire ≡ LengthDelimited → Fronts IsDelimited bytes body rest
-      → Tells (EntryFault levels inner p keys q values) body e → Tells Map bytes e
+      → TellsTrue (EntryFault levels inner p keys q values) body e → TellsTrue Map bytes e
   entry_refused p q keys values body rest e same also one two wire h told =
       tells_as (EntryFault levels inner p keys q values) Map body bytes e (λ fault. inr (inr (inr (keys, values, body, rest, one, two, wire, h, subst (λ q. EntryFault levels inner pool keys q values body e) also (subst (λ p. EntryFault levels inner p keys q values body e) same fault))))) told
 
@@ -239,27 +239,27 @@ module _ (levels : ℕ) (inner : Refusal) (p : PoolType) (keys : FieldType) (q :
   abbrev Entry : List ℕ → WireError → Type 0
   Entry = EntryFault levels inner p keys q values
 
-  pub entry_too_deep : IsMessageType values.kind → levels ≡ 0 → Tells Entry body TooDeep
+  pub entry_too_deep : IsMessageType values.kind → levels ≡ 0 → TellsTrue Entry body TooDeep
   entry_too_deep type none = inl (type, none, tt)
 
-  pub no_key : (HoldsKeys p keys → ⊥) → Tells Entry body BadWireType
+  pub no_key : (HoldsKeys p keys → ⊥) → TellsTrue Entry body BadWireType
   no_key none = inr (inl (none, tt))
 
   module _ (rest : List ℕ) (done : List (ℕ × Payload)) (found : Fronts (IsBody None levels) body done rest) (some : rest ≢ []) where
-    pub entry_key_refused : (e : WireError) → KeyFault rest e → Tells Entry body e
+    pub entry_key_refused : (e : WireError) → KeyFault rest e → TellsTrue Entry body e
     entry_key_refused e h = tells_fault Entry body e (inr (inr (done, rest, found, some, inl h)))
 
-    pub part_refused : (key : WireKey) (behind : List ℕ) (e : WireError) → Fronts IsKey rest key behind → Tells (PartFault levels inner p keys q values key) behind e → Tells Entry body e
+    pub part_refused : (key : WireKey) (behind : List ℕ) (e : WireError) → Fronts IsKey rest key behind → TellsTrue (PartFault levels inner p keys q values key) behind e → TellsTrue Entry body e
     part_refused key behind e k told = tells_as (PartFault levels inner p keys q values key) Entry behind body e (λ fault. inr (inr (done, rest, found, some, inr (key, behind, k, fault)))) told
 
   module _ (key : WireKey) (e : WireError) where
-    pub key_part : key.number ≡ 1 → Tells (OneFault inner p keys key) body e → Tells (PartFault levels inner p keys q values key) body e
+    pub key_part : key.number ≡ 1 → TellsTrue (OneFault inner p keys key) body e → TellsTrue (PartFault levels inner p keys q values key) body e
     key_part is told = tells_as (OneFault inner p keys key) (PartFault levels inner p keys q values key) body body e (λ fault. inl (is, fault)) told
 
-    pub value_part : key.number ≡ 2 → Tells (OneFault inner q values key) body e → Tells (PartFault levels inner p keys q values key) body e
+    pub value_part : key.number ≡ 2 → TellsTrue (OneFault inner q values key) body e → TellsTrue (PartFault levels inner p keys q values key) body e
     value_part is told = tells_as (OneFault inner q values key) (PartFault levels inner p keys q values key) body body e (λ fault. inr (inl (is, fault))) told
 
-    pub other_part : key.number ≢ 1 → key.number ≢ 2 → Refuses (IsValue levels key) body e → Tells (ValueFault levels key) body e → Tells (PartFault levels inner p keys q values key) body e
+    pub other_part : key.number ≢ 1 → key.number ≢ 2 → RefusesFront (IsValue levels key) body e → TellsTrue (ValueFault levels key) body e → TellsTrue (PartFault levels inner p keys q values key) body e
     other_part one two none told = tells_as (OtherFault levels key) (PartFault levels inner p keys q values key) body body e (λ fault. inr (inr (one, two, fault))) (other_told levels key body e none told)
 
 -- a kind of keys is scalar
@@ -283,7 +283,7 @@ key_scalar (types.message i) h = absurd h
 key_scalar (types.enumeration i) h = absurd h
 
 -- and what means a value of it is a key
-key_meant : (pool : PoolType) (t : KindType) (kind : Kind) (p : Payload) (v : Single) → IsKind pool kind t → IsKeyKind t → Means kind p v → IsKeyValue (Some v)
+key_meant : (pool : PoolType) (t : KindType) (kind : Kind) (p : Payload) (v : Single) → IsKind pool kind t → IsKeyKind t → StandsFor kind p v → IsKeyValue (Some v)
 key_meant pool t kinds.Int32 (varint n) v is key h = subst (λ v. IsKeyValue (Some v)) (sym h) tt
 key_meant pool t kinds.Int64 (varint n) v is key h = subst (λ v. IsKeyValue (Some v)) (sym h) tt
 key_meant pool t kinds.Uint32 (varint n) v is key h = subst (λ v. IsKeyValue (Some v)) (sym h) tt
@@ -476,28 +476,28 @@ refused_both (Ok rest) F G H to h k = tt
 refused_both (Err e) F G H to h k = to e h k
 
 -- a fault behind some records with one key
-pub run_at : (levels : ℕ) (key : WireKey) (F : List ℕ → WireError → Type 0) (bytes rest : List ℕ) (ps : List Payload) (e : WireError) → Fronts (LeadsOn levels key) bytes ps rest → Tells F rest e → Tells (RunFault levels key F) bytes e
+pub run_at : (levels : ℕ) (key : WireKey) (F : List ℕ → WireError → Type 0) (bytes rest : List ℕ) (ps : List Payload) (e : WireError) → Fronts (LeadsOn levels key) bytes ps rest → TellsTrue F rest e → TellsTrue (RunFault levels key F) bytes e
 run_at levels key F bytes rest ps e h told = tells_as F (RunFault levels key F) rest bytes e (λ f. (ps, rest, h, f)) told
 
 -- a fault of an element behind others with the same key
 pub list_at : (levels here : ℕ) (grouped : Bool) (kind : Kind) (key again : WireKey) (bytes rest : List ℕ) (ps : List Payload) (e : WireError) → here ≡ levels → again ≡ key → Fronts (LeadsOn levels key) bytes ps rest
-    → Tells (ElementFault (Within here) grouped kind again) rest e → Tells (RunFault levels key (ElementFault (Within levels) grouped kind key)) bytes e
+    → TellsTrue (ElementFault (Within here) grouped kind again) rest e → TellsTrue (RunFault levels key (ElementFault (Within levels) grouped kind key)) bytes e
 list_at levels here grouped kind key again bytes rest ps e same is h told =
-    let there = subst (λ k. Tells (ElementFault (Within levels) grouped kind k) rest e) is (subst (λ l. Tells (ElementFault (Within l) grouped kind again) rest e) same told) in
+    let there = subst (λ k. TellsTrue (ElementFault (Within levels) grouped kind k) rest e) is (subst (λ l. TellsTrue (ElementFault (Within l) grouped kind again) rest e) same told) in
     tells_as (ElementFault (Within levels) grouped kind key) (RunFault levels key (ElementFault (Within levels) grouped kind key)) rest bytes e (λ f. (ps, rest, h, f)) there
 
 -- what a message that stands in a field, or for an entry's part, is refused for
 module _ (levels : ℕ) (pool : PoolType) (f : FieldType) (key : WireKey) (bytes : List ℕ) (grouped : Bool) (form : grouped ≡ f.group) where
   abbrev Told : DynamicMessage → Result (Bor (List ℕ)) WireError → Type 0
-  Told m r = SuitsBelow levels m.descriptor (content_of m) → IfErr r (Tells (MessageFault (Within levels) grouped m.descriptor.pool.now m.descriptor.index key) bytes)
+  Told m r = SuitsBelow levels m.descriptor (content_of m) → IfErr r (TellsTrue (MessageFault (Within levels) grouped m.descriptor.pool.now m.descriptor.index key) bytes)
 
   -- of a message of the field's type
-  as_one : (m : DynamicMessage) (r : Result (Bor (List ℕ)) WireError) → Begins levels pool f.kind m → Told m r → IfErr r (Tells (OneFault (Within levels) pool f key) bytes)
+  as_one : (m : DynamicMessage) (r : Result (Bor (List ℕ)) WireError) → Begins levels pool f.kind m → Told m r → IfErr r (TellsTrue (OneFault (Within levels) pool f key) bytes)
   as_one m r begins told = refused_as r _ _ (λ e h. message_refused (Within levels) pool f grouped m.descriptor key bytes e form begins.0 h) (told begins.1)
 
   pub message_fault : (d : MessageDescriptor) (fresh before taken : DynamicMessage) (old : Option Value) (empty slot : Value) (r : Result (Bor (List ℕ)) WireError) → IsKind pool (kinds.Message d) f.kind → holds_map pool f ≡ false → holds_list pool f ≡ false
       → slot ≡ unwrap_or old empty → message_in empty ≡ Some fresh → fresh.descriptor ≡ d → content_of fresh ≡ nothing → message_in slot ≡ Some before → taken ≡ before → Told taken r
-      → HeldSuits (SuitsBelow levels) pool f old → IfErr r (Tells (RunFault levels key (FieldFault levels (Within levels) pool f key)) bytes)
+      → HeldSuits (SuitsBelow levels) pool f old → IfErr r (TellsTrue (RunFault levels key (FieldFault levels (Within levels) pool f key)) bytes)
   message_fault d fresh before taken old empty slot r is no_map no_list there made type none at one told suits =
       let begins = begun levels pool f old no_map no_list (subst IsMessageType (sym is.1) tt) suits before (started old there) in
       refused_as r _ _ (λ e h. one_refused levels pool f key bytes e no_map no_list h) (as_one taken r (subst (Begins levels pool f.kind) (sym one) begins) told) where
@@ -507,5 +507,5 @@ module _ (levels : ℕ) (pool : PoolType) (f : FieldType) (key : WireKey) (bytes
             subst (λ m. IsStart pool f.kind None m) (sym made_now) (subst (λ d. IsKind pool (kinds.Message d) f.kind) (sym type) is, none)
         started (Some v) e = sym (ap message_in e) ∙ at
 
-  pub part_fault : (d : MessageDescriptor) (held : Value) (m : DynamicMessage) (r : Result (Bor (List ℕ)) WireError) → IsKind pool (kinds.Message d) f.kind → message_in held ≡ Some m → Told m r → PartSuits levels pool f held → IfErr r (Tells (OneFault (Within levels) pool f key) bytes)
+  pub part_fault : (d : MessageDescriptor) (held : Value) (m : DynamicMessage) (r : Result (Bor (List ℕ)) WireError) → IsKind pool (kinds.Message d) f.kind → message_in held ≡ Some m → Told m r → PartSuits levels pool f held → IfErr r (TellsTrue (OneFault (Within levels) pool f key) bytes)
   part_fault d held m r is at told suits = as_one m r (standing levels pool f.kind held m (suits (subst IsMessageType (sym is.1) tt)) at) told

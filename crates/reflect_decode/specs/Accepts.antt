@@ -10,7 +10,7 @@ use Rattle.reflect_pool.specs.declared.kind.Kind.{Kind}
 use Rattle.reflect_pool.specs.declared.kind.Kind.TheVariants as kinds
 use Rattle.reflect_pool.specs.declared.message.MessageDescriptor.{MessageDescriptor}
 use Rattle.reflect_wire.specs.Records.{Payload}
-use Rattle.reflect_scalar.specs.Meaning.{Means}
+use Rattle.reflect_scalar.specs.Meaning.{StandsFor}
 use Rattle.reflect_scalar.specs.Singles.{Single}
 use Rattle.reflect_message.specs.KindTypes.{IsMessageType}
 use Rattle.reflect_message.specs.Known.{entry_field, known_field, known_extension}
@@ -25,7 +25,7 @@ Acceptable = Bool → PoolType → ℕ → Payload → Type 0
 -- the payload of one value of the kind
 abbrev pub AcceptsKind : Acceptable → Bool → Kind → Payload → Type 0
 AcceptsKind inner grouped (kinds.Message d) p = inner grouped d.pool.now d.index p
-AcceptsKind inner grouped kind p = (v : Single) × Means kind p v
+AcceptsKind inner grouped kind p = (v : Single) × StandsFor kind p v
 
 -- the payload of one value of a list, or of values that are packed
 abbrev pub AcceptsElement : Acceptable → Bool → Kind → Payload → Type 0

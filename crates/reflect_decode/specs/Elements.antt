@@ -3,7 +3,7 @@ use Rattle.std.specs.Prelude.{◌≡◌, ◌⊎◌, ℕ, true, List, [], ◌∷�
 use Rattle.reflect_wire.specs.Records.{Payload, delimited}
 use Rattle.reflect_pool.specs.declared.kind.Kind.{Kind}
 use Rattle.reflect_scalar.specs.Kinds.{wire_type, packs}
-use Rattle.reflect_scalar.specs.Meaning.{Means}
+use Rattle.reflect_scalar.specs.Meaning.{StandsFor}
 use Rattle.reflect_scalar.specs.Singles.{Single}
 use Rattle.reflect_decode.specs.Messages.{Taken, IsMade}
 use Rattle.reflect_decode.specs.Packed.{IsPacked, Continues}
@@ -17,7 +17,7 @@ IsRow kind p vs = (body : List ℕ) × (p ≡ delimited body) × (packs (wire_ty
 
 -- one value of the kind, or, of a kind that may be packed, any number of them
 abbrev pub AreElements : Kind → Payload → List Single → Type 0
-AreElements kind p vs = ((v : Single) × (vs ≡ v ∷ []) × Means kind p v) ⊎ IsRow kind p vs
+AreElements kind p vs = ((v : Single) × (vs ≡ v ∷ []) × StandsFor kind p v) ⊎ IsRow kind p vs
 
 -- behind the old values stands the record's message, or, of another kind, the values that it spells
 abbrev pub Appends : Taken → Kind → List Value → List Value → Payload → Type 0

@@ -8,7 +8,7 @@ use Rattle.reflect_tables.specs.Types.{PoolType, FieldType, KindType}
 use Rattle.reflect_pool.specs.Kinds.{IsKind}
 use Rattle.reflect_pool.specs.declared.kind.Kind.{Kind}
 use Rattle.reflect_pool.specs.declared.message.MessageDescriptor.{MessageDescriptor}
-use Rattle.reflect_wire.specs.Faults.{Tells}
+use Rattle.reflect_wire.specs.Faults.{TellsTrue}
 use Rattle.reflect_wire.specs.Reads.{Fronts}
 use Rattle.reflect_wire.specs.Records.{Payload, IsValue, SpellsRecords}
 use Rattle.reflect_wire.specs.Views.{records_of}
@@ -43,7 +43,7 @@ ReadsBody levels group m old new bytes r =
 
 abbrev pub TellsBody : ℕ → Option ℕ → MessageDescriptor → Content → List ℕ → Outcome → Type 0
 TellsBody levels group m old bytes r =
-    Suits levels m old → IfErr r (Tells (BodyFault levels m.pool.now m.index group) bytes)
+    Suits levels m old → IfErr r (TellsTrue (BodyFault levels m.pool.now m.index group) bytes)
 
 -- a record whose key was read, with those behind that have the same key
 abbrev pub ReadsRecord : ℕ → WireKey → MessageDescriptor → Content → Content → List ℕ → Outcome
@@ -56,7 +56,7 @@ ReadsRecord levels key m old new bytes r =
 abbrev pub TellsRecord : ℕ → WireKey → MessageDescriptor → Content → List ℕ → Outcome → Type 0
 TellsRecord levels key m old bytes r =
     Suits levels m old
-    → IfErr r (Tells (RunFault levels key (RecordFault levels (Within levels) m.pool.now
+    → IfErr r (TellsTrue (RunFault levels key (RecordFault levels (Within levels) m.pool.now
     (declared_at m.pool.now m.index key.number) key)) bytes)
 
 -- such records of a field
@@ -72,7 +72,7 @@ abbrev pub TellsField : ℕ → WireKey → PoolType → FieldType → Option Va
     → Type 0
 TellsField levels key pool f old bytes r =
     HeldSuits (SuitsBelow levels) pool f old
-    → IfErr r (Tells (RunFault levels key (FieldFault levels (Within levels) pool f key)) bytes)
+    → IfErr r (TellsTrue (RunFault levels key (FieldFault levels (Within levels) pool f key)) bytes)
 
 -- a record of an undeclared number, which is put behind those of its number
 abbrev pub KeepsRecord : ℕ → WireKey → List (ℕ × Payload) → List (ℕ × Payload) → List ℕ → Outcome
@@ -93,7 +93,7 @@ abbrev pub TellsMessage : ℕ → WireKey → Bool → MessageDescriptor → Con
     → Type 0
 TellsMessage levels key grouped m old bytes r =
     SuitsBelow levels m old
-    → IfErr r (Tells (MessageFault (Within levels) grouped m.pool.now m.index key) bytes)
+    → IfErr r (TellsTrue (MessageFault (Within levels) grouped m.pool.now m.index key) bytes)
 
 -- elements of a list, with those behind that have the same key
 abbrev pub ReadsList : ℕ → WireKey → Bool → Kind → Value → Value → List ℕ → Outcome → Type 0
@@ -105,7 +105,7 @@ ReadsList levels key grouped kind old new bytes r =
 abbrev pub TellsList : ℕ → WireKey → Bool → Kind → Value → List ℕ → Outcome → Type 0
 TellsList levels key grouped kind old bytes r =
     IsSome (list_items old)
-    → IfErr r (Tells (RunFault levels key (ElementFault (Within levels) grouped kind key)) bytes)
+    → IfErr r (TellsTrue (RunFault levels key (ElementFault (Within levels) grouped kind key)) bytes)
 
 -- one element, or a packed record
 abbrev pub ReadsElement : ℕ → WireKey → Bool → Kind → List Value → List Value → List ℕ → Outcome
@@ -117,7 +117,7 @@ ReadsElement levels key grouped kind old new bytes r =
 
 abbrev pub TellsElement : ℕ → WireKey → Bool → Kind → List ℕ → Outcome → Type 0
 TellsElement levels key grouped kind bytes r =
-    IfErr r (Tells (ElementFault (Within levels) grouped kind key) bytes)
+    IfErr r (TellsTrue (ElementFault (Within levels) grouped kind key) bytes)
 
 -- entries of a map, with those behind that have the same key; the pool and the type are those
 -- of the public kind
@@ -144,7 +144,7 @@ ReadsEntries levels key kind old new bytes r =
 abbrev pub TellsEntries : ℕ → WireKey → Kind → List ℕ → Outcome → Type 0
 TellsEntries levels key kind bytes r =
     (pool : PoolType) (t : KindType) → IsKind pool kind t
-    → IfErr r (Tells (RunFault levels key (MapFault levels (Within levels) pool t key)) bytes)
+    → IfErr r (TellsTrue (RunFault levels key (MapFault levels (Within levels) pool t key)) bytes)
 
 -- the records of one entry
 abbrev pub ReadsEntry : ℕ → PoolType → FieldType → PoolType → FieldType → List ℕ
@@ -175,7 +175,7 @@ abbrev pub TellsEntryRecord : ℕ → WireKey → PoolType → FieldType → Poo
     → Value × Value → List ℕ → Outcome → Type 0
 TellsEntryRecord levels key p keys q values old bytes r =
     PartSuits levels p keys old.0 → PartSuits levels q values old.1
-    → IfErr r (Tells (PartFault levels (Within levels) p keys q values key) bytes)
+    → IfErr r (TellsTrue (PartFault levels (Within levels) p keys q values key) bytes)
 
 -- one of the key or the value
 abbrev pub ReadsPart : ℕ → WireKey → PoolType → FieldType → Value → Value → List ℕ → Outcome
@@ -187,4 +187,4 @@ ReadsPart levels key pool f old new bytes r =
 
 abbrev pub TellsPart : ℕ → WireKey → PoolType → FieldType → Value → List ℕ → Outcome → Type 0
 TellsPart levels key pool f old bytes r =
-    PartSuits levels pool f old → IfErr r (Tells (OneFault (Within levels) pool f key) bytes)
+    PartSuits levels pool f old → IfErr r (TellsTrue (OneFault (Within levels) pool f key) bytes)

@@ -4,7 +4,7 @@ use Rattle.reflect_tables.specs.Types.{PoolType, KindType}
 use Rattle.reflect_pool.specs.Kinds.{IsKind}
 use Rattle.reflect_pool.specs.declared.kind.Kind.{Kind}
 use Rattle.reflect_wire.specs.Records.{Payload}
-use Rattle.reflect_scalar.specs.Meaning.{Means}
+use Rattle.reflect_scalar.specs.Meaning.{StandsFor}
 use Rattle.reflect_scalar.specs.Singles.{Single}
 use Rattle.reflect_decode.specs.Elements.{AreElements}
 use Rattle.reflect_message.specs.Lists.{items_held}
@@ -27,7 +27,7 @@ ContinuesWith pool t old new ps = (before after : List Value) × (vs : List Sing
 -- the value that the last record means
 abbrev pub IsLast : PoolType → KindType → List Payload → Single → Type 0
 IsLast pool t ps v = (kind : Kind) × (lead : List Payload) × (p : Payload) × IsKind pool kind t
-    × (ps ≡ lead ++ p ∷ []) × Means kind p v
+    × (ps ≡ lead ++ p ∷ []) × StandsFor kind p v
 
 -- it is held
 abbrev pub HoldsLast : PoolType → KindType → Option Value → List Payload → Type 0

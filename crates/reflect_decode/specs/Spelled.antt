@@ -1,7 +1,7 @@
 -- What wire bytes leave in a message.
 use Rattle.std.specs.Prelude.{ℕ, List, [], None}
 use Rattle.reflect_pool.specs.declared.message.MessageDescriptor.{MessageDescriptor}
-use Rattle.reflect_wire.specs.Faults.{Tells}
+use Rattle.reflect_wire.specs.Faults.{TellsTrue}
 use Rattle.reflect_wire.specs.Records.{Payload, SpellsRecords}
 use Rattle.reflect_wire.specs.declared.wire_error.WireError.{WireError}
 use Rattle.reflect_wire.specs.Views.{records_of}
@@ -41,4 +41,4 @@ IsMerged d bytes old new =
 
 -- why bytes are refused as a message of the type
 abbrev pub TellsWhy : MessageDescriptor → List ℕ → WireError → Type 0
-TellsWhy d bytes e = Tells (BodyFault 100 d.pool.now d.index None) bytes e
+TellsWhy d bytes e = TellsTrue (BodyFault 100 d.pool.now d.index None) bytes e

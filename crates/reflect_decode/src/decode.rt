@@ -3,12 +3,14 @@
 ghost use Rattle.std.specs.Prelude.{◌≡◌, ◌≢◌, ℕ, ◌+◌, ◌<◌, ◌≤◌, List, [], None, Some, length, IfOk, IfErr, OnOk, OnErr, IfSome};
 ghost use Rattle.std.specs.BTreeMap.{insert_entry};
 ghost use Rattle.std.specs.Option.{IsSome};
-ghost use Rattle.reflect_wire.specs.Faults.{Tells, ValueFault};
+ghost use Rattle.reflect_wire.specs.Faults.{TellsTrue, ValueFault};
 ghost use Rattle.reflect_wire.specs.Key.{IsKey};
-ghost use Rattle.reflect_wire.specs.Reads.{Fronts, Refuses, RefusesWhole};
+ghost use Rattle.reflect_wire.specs.Reads.{Fronts, RefusesFront, RefusesWhole};
 ghost use Rattle.reflect_wire.specs.Records.{IsValue};
 ghost use Rattle.reflect_wire.specs.Views.{field_view};
+ghost use Rattle.reflect_wire.specs.declared.unknown.TheConstants.{MAX_LEVELS};
 ghost use Rattle.reflect_wire.specs.declared.wire_error.WireError.TheVariants.{TooDeep};
+ghost use Rattle.reflect_wire.specs.declared.wire_key.TheConstants.{MAX_FIELD_NUMBER};
 ghost use Rattle.reflect_wire.specs.declared.wire_key.WireType.TheVariants.{Varint};
 ghost use Rattle.reflect_pool.specs.FieldsLeft.{field_type};
 ghost use Rattle.reflect_entries.specs.Entries.{IsAscending, value_at};
@@ -33,12 +35,11 @@ use reflect_pool::{FieldDescriptor, Kind, MessageDescriptor};
 use reflect_scalar::{
     AnyField, FieldDescriptorLike, MapKey, is_packable, scalar_at, varint_scalar, wire_type,
 };
-use reflect_wire::{UnknownField, WireError, WireKey, WireType, delimited_at, key_at, varint_at};
+use reflect_wire::{
+    MAX_LEVELS, UnknownField, WireError, WireKey, WireType, delimited_at, key_at, varint_at,
+};
 use std::alloc::{AllocError, Global};
 use std::collections::BTreeMap;
-
-/// How many levels of messages and groups may lie below the top.
-pub const MAX_LEVELS: u32 = 100;
 
 /// A record whose key was read: its value stands at the front of `bytes`.
 #[derive(Clone, Copy)]
@@ -48,8 +49,8 @@ pub struct RawRecord<'b> {
     /// How many levels of messages and groups may lie below the message that the record is of.
     levels: u32,
     ghost positive: { 0 < key.number },
-    ghost small: { key.number ≤ 536870911 },
-    ghost nested: { levels ≤ 100 },
+    ghost small: { key.number ≤ MAX_FIELD_NUMBER },
+    ghost nested: { levels ≤ MAX_LEVELS },
 }
 
 impl<'b> RawRecord<'b> {
@@ -94,7 +95,7 @@ pub fn merge_body<'p, 'b>(
     group: Option<u32>,
     levels: u32,
 ) -> Result<&'b [u8], WireError>
-    requires nested { levels ≤ 100 }
+    requires nested { levels ≤ MAX_LEVELS }
     ensures same_type { message.new.descriptor ≡ message.old.descriptor }
     ensures read { ReadsBody levels group message.old.descriptor (content_of message.old)
         (content_of message.new) bytes.now result }
@@ -129,7 +130,7 @@ fn merge_records<'p, 'b>(
     group: Option<u32>,
     levels: u32,
 ) -> Result<&'b [u8], WireError>
-    requires nested { levels ≤ 100 }
+    requires nested { levels ≤ MAX_LEVELS }
     ensures read { ReadsBody levels group descriptor.entry (content_in parts.old)
         (content_in parts.new)
         bytes.now result }
@@ -195,9 +196,9 @@ fn unknown_at<'b>(alloc: Global, raw: RawRecord<'b>) -> Result<(UnknownField, &'
     ensures number { IfOk result (λ found. (field_view found.0).0 ≡ raw.entry.key.number) }
     ensures read { IfOk result (λ found. Fronts (IsValue raw.entry.levels raw.entry.key)
         raw.entry.bytes.now (field_view found.0).1 found.1.now) }
-    ensures err { IfErr result (Refuses (IsValue raw.entry.levels raw.entry.key)
+    ensures err { IfErr result (RefusesFront (IsValue raw.entry.levels raw.entry.key)
         raw.entry.bytes.now) }
-    ensures fault { IfErr result (Tells (ValueFault raw.entry.levels raw.entry.key)
+    ensures fault { IfErr result (TellsTrue (ValueFault raw.entry.levels raw.entry.key)
         raw.entry.bytes.now) }
     ensures shorter { IfOk result (λ found. length found.1.now ≤ length raw.entry.bytes.now) }
 {
@@ -216,9 +217,9 @@ fn keep_unknown<'b>(
     ensures kept { KeepsRecord raw.entry.levels raw.entry.key (undeclared unknown.old)
         (undeclared unknown.new)
         raw.entry.bytes.now result }
-    ensures err { IfErr result (Refuses (IsValue raw.entry.levels raw.entry.key)
+    ensures err { IfErr result (RefusesFront (IsValue raw.entry.levels raw.entry.key)
         raw.entry.bytes.now) }
-    ensures fault { IfErr result (Tells (ValueFault raw.entry.levels raw.entry.key)
+    ensures fault { IfErr result (TellsTrue (ValueFault raw.entry.levels raw.entry.key)
         raw.entry.bytes.now) }
     ensures left { OnErr result (undeclared unknown.new ≡ undeclared unknown.old) }
     ensures shorter { IfOk result (λ rest. length rest.now ≤ length raw.entry.bytes.now) }
@@ -386,7 +387,7 @@ fn push_packed(
     ensures read { OnOk result ((vs : List Single) × IsPacked kind.now body.now vs
         × Continues values.old.items values.new.items vs) }
     ensures err { IfErr result (RefusesWhole (IsPacked kind.now) body.now) }
-    ensures fault { IfErr result (Tells (PackedFault kind.now) body.now) }
+    ensures fault { IfErr result (TellsTrue (PackedFault kind.now) body.now) }
 {
     values.reserve(packed_count(kind, body))?;
     match wire_type(kind) {
@@ -407,7 +408,7 @@ fn push_varints(
     ensures read { OnOk result ((vs : List Single) × IsPacked kind.now body.now vs
         × Continues values.old.items values.new.items vs) }
     ensures err { IfErr result (RefusesWhole (IsPacked kind.now) body.now) }
-    ensures fault { IfErr result (Tells (PackedFault kind.now) body.now) }
+    ensures fault { IfErr result (TellsTrue (PackedFault kind.now) body.now) }
 {
     let mut rest = body;
     'values: while !rest.is_empty() {
@@ -431,7 +432,7 @@ fn push_fixed(
     ensures read { OnOk result ((vs : List Single) × IsPacked kind.now body.now vs
         × Continues values.old.items values.new.items vs) }
     ensures err { IfErr result (RefusesWhole (IsPacked kind.now) body.now) }
-    ensures fault { IfErr result (Tells (PackedFault kind.now) body.now) }
+    ensures fault { IfErr result (TellsTrue (PackedFault kind.now) body.now) }
 {
     let mut rest = body;
     'values: while !rest.is_empty() {
@@ -535,11 +536,12 @@ fn entry_of<'p>(
     body: &[u8],
     levels: u32,
 ) -> Result<(MapKey, Value<'p>), WireError>
-    requires nested { levels ≤ 100 }
+    requires nested { levels ≤ MAX_LEVELS }
     ensures read { ReadsEntry levels (field_pool keys.entry) (field_type keys.entry)
         (field_pool values.entry) (field_type values.entry) body.now result }
-    ensures fault { IfErr result (Tells (EntryFault levels (Within levels) (field_pool keys.entry)
-        (field_type keys.entry) (field_pool values.entry) (field_type values.entry)) body.now) }
+    ensures fault { IfErr result (TellsTrue (EntryFault levels (Within levels)
+        (field_pool keys.entry) (field_type keys.entry)
+        (field_pool values.entry) (field_type values.entry)) body.now) }
 {
     check_level(&values, levels)?;
     let mut held_key = default_one(alloc, &keys)?;

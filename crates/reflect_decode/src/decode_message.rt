@@ -5,10 +5,10 @@ ghost use Rattle.reflect_message.specs.Oneofs.{IsExclusive};
 ghost use Rattle.reflect_decode.specs.Spelled.{IsSpelled, IsMerged, TellsWhy};
 ghost use Rattle.reflect_decode.specs.Suits.{Suits};
 
-use crate::decode::{MAX_LEVELS, merge_body};
+use crate::decode::merge_body;
 use reflect_message::{DynamicMessage, MessageParts};
 use reflect_pool::MessageDescriptor;
-use reflect_wire::WireError;
+use reflect_wire::{MAX_LEVELS, WireError};
 use std::alloc::Global;
 
 /// Messages that are read from wire bytes (protobuf.dev, "Encoding").

@@ -39,13 +39,6 @@ module _ {A B : Type 0} (left front : List A) (x : A) (mine fore : List B) (y : 
   pub zip_ends : zip left mine ≡ zip front fore ++ (x, y) ∷ []
   zip_ends = ap (λ l. zip l mine) e ∙ ap (zip (front ++ x ∷ [])) k ∙ zip_back front fore x y shorter
 
--- the pairs of a list, taken apart and put together
-pub zip_parts : {A B : Type 0} → (es : List (A × B)) (xs : List A) (ys : List B) → xs ≡ map (λ (e : A × B). e.0) es → ys ≡ map (λ (e : A × B). e.1) es → zip xs ys ≡ es
-zip_parts {A} {B} es xs ys a b = ap (λ l. zip l ys) a ∙ ap (zip (map (λ (e : A × B). e.0) es)) b ∙ same es where
-  same : (es : List (A × B)) → zip (map (λ (e : A × B). e.0) es) (map (λ (e : A × B). e.1) es) ≡ es
-  same [] = refl
-  same (e ∷ es) = ap (λ l. e ∷ l) (same es)
-
 -- what stands under a number is put, where it is known
 pub known_put : (pool : PoolType) (o known : Option FieldType) (f : FieldType) (w : Form) (old new : List ℕ) → o ≡ known → o ≡ Some f → new ≡ content_bytes pool f w ++ old
     → new ≡ elim known [ None ↦ [] | Some f ↦ content_bytes pool f w ] ++ old

@@ -1,6 +1,6 @@
 -- Lengths of what is put, counted part by part.
 use Rattle.std.proofs.Common.{◌≡◌, ℕ, zero, suc, ◌+◌, ◌*◌, ◌/◌, ◌<◌, ◌≤◌, nat_lt, nat_le, Bool, true, false, List, [], ◌∷◌, ◌++◌, length, map, take, get_or, reverse, cond, Option, None, Some, refl, sym, ap, ◌∙◌, arith, length-append, append-nil, subst, ◌^◌}
-use Rattle.std.specs.List.{filter, flat_map, zip}
+use Rattle.std.specs.List.{filter, flat_map}
 use Rattle.std.specs.Option.{SomeIff}
 use Rattle.std.proofs.lemmas.Bool.{lt-ltb, le-ltb, ltb-true, ltb-false, leb-true, leb-false}
 use Rattle.std.proofs.lemmas.List.{reverse-append, take_more}
@@ -67,13 +67,6 @@ module _ {A B : Type 0} (g : A → B) (f : B → List ℕ) where
   most_length xs zero = omega arith
   most_length [] (suc i) = omega arith
   most_length (x ∷ xs) (suc i) = omega (arith, most_length xs i, length-append (f (g x)) (flat_map f (map g (take i xs))), length-append (f (g x)) (flat_map f (map g xs)))
-
-pub zip_ended : {A B : Type 0} → (xs : List A) (ys : List B) → length xs ≡ 0 → zip xs ys ≡ []
-zip_ended [] ys e = refl
-zip_ended (x ∷ xs) ys e = absurd (cc e)
-
-pub zip_next : {A B : Type 0} → (xs ms : List A) (ys ws : List B) (x : A) (y : B) → xs ≡ x ∷ ms → ys ≡ y ∷ ws → zip xs ys ≡ (x, y) ∷ zip ms ws
-zip_next xs ms ys ws x y a b = ap (λ l. zip l ys) a ∙ ap (zip (x ∷ ms)) b
 
 -- ---- what stands under a number
 

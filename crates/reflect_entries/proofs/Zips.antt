@@ -1,5 +1,6 @@
 -- Numbers and values side by side, seen as pairs.
 use Rattle.std.proofs.Common.{◌≡◌, ℕ, zero, suc, ◌+◌, ◌<◌, ◌≤◌, List, [], ◌∷◌, ◌++◌, length, get_or, set, take, drop, map, refl, sym, ap, ◌∙◌, subst, arith, nat_cmp, Less}
+use Rattle.std.proofs.lemmas.List.{length-map}
 use Rattle.std.proofs.lemmas.Map.Keys.{sorted_head, sorted_tail}
 use Rattle.std.proofs.lemmas.Slice.Zip.{get_or-zip, length-zip, firsts-zip}
 use Rattle.std.specs.List.{AllByRecursion, HoldsAt, zip, insert, remove}
@@ -30,6 +31,24 @@ sorted_from [] h = tt
 sorted_from (k ∷ ks) h = (all_above k ks (λ j d lt. h zero (suc j) d (omega arith) (omega (arith, lt))), sorted_from ks (λ i j d lt short. h (suc i) (suc j) d (omega (arith, lt)) (omega (arith, short))))
 
 -- ---- pairs
+
+-- the pairs of a list, taken apart and put together
+pub zip_parts : {A B : Type 0} → (es : List (A × B)) (xs : List A) (ys : List B) → xs ≡ map (λ (e : A × B). e.0) es → ys ≡ map (λ (e : A × B). e.1) es → zip xs ys ≡ es
+zip_parts {A} {B} es xs ys a b = ap (λ l. zip l ys) a ∙ ap (zip (map (λ (e : A × B). e.0) es)) b ∙ same es where
+  same : (es : List (A × B)) → zip (map (λ (e : A × B). e.0) es) (map (λ (e : A × B). e.1) es) ≡ es
+  same [] = refl
+  same (e ∷ es) = ap (λ l. e ∷ l) (same es)
+
+-- halves of one list are as long as each other
+pub even_parts : {A B : Type 0} → (es : List (A × B)) (xs : List A) (ys : List B) → xs ≡ map (λ (e : A × B). e.0) es → ys ≡ map (λ (e : A × B). e.1) es → length xs ≡ length ys
+even_parts {A} {B} es xs ys a b = ap length a ∙ length-map es (λ (e : A × B). e.0) ∙ sym (length-map es (λ (e : A × B). e.1)) ∙ sym (ap length b)
+
+pub zip_next : {A B : Type 0} → (xs ms : List A) (ys ws : List B) (x : A) (y : B) → xs ≡ x ∷ ms → ys ≡ y ∷ ws → zip xs ys ≡ (x, y) ∷ zip ms ws
+zip_next xs ms ys ws x y a b = ap (λ l. zip l ys) a ∙ ap (zip (x ∷ ms)) b
+
+pub zip_ended : {A B : Type 0} → (xs : List A) (ys : List B) → length xs ≡ 0 → zip xs ys ≡ []
+zip_ended [] ys e = refl
+zip_ended (x ∷ xs) ys e = absurd (cc e)
 
 module _ {V : Type 0} where
   pub pairs_ascend : (ks : List ℕ) (vs : List V) → length vs ≡ length ks → Ascend ks → IsAscending (zip ks vs)

@@ -54,14 +54,14 @@ both_told P Q _ p q = (p, q)
 -- ---- names
 
 pub reading_told : {A B : Type 0} (view : B → A) (r : Reading A) (k : ParseErrorKind)
-    (rest : List Lexeme) → told.Reads view r (Err k) rest → Told (told.Tells r) k
+    (rest : List Lexeme) → told.Reads view r (Err k) rest → Told (told.TellsStop r) k
 reading_told view (Ok p) kinds.Memory rest h = tt
 reading_told view (Ok p) _ rest h = absurd h
 reading_told view (Err stop) kinds.Memory rest h = tt
 reading_told view (Err stop) _ rest h = h
 
 pub tells_unseen : {A B : Type 0} (f : A → B) (r : Reading A) (k : ParseErrorKind)
-    → told.Tells (seen_as f r) k → told.Tells r k
+    → told.TellsStop (seen_as f r) k → told.TellsStop r k
 tells_unseen f (Ok p) k h = absurd h
 tells_unseen f (Err stop) k h = h
 

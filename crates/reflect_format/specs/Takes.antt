@@ -29,5 +29,5 @@ type_place (target.Field f) = f.message.index
 type_place (target.Extension x) = (extension_at x.pool.now x.index).extendee
 
 -- the field or the extension is one of the type
-abbrev pub Takes : MessageDescriptor → Target → Type 0
-Takes m t = (target_pool t ≡ m.pool.now) × (type_place t ≡ m.index)
+abbrev pub BelongsTo : MessageDescriptor → Target → Type 0
+BelongsTo m t = (target_pool t ≡ m.pool.now) × (type_place t ≡ m.index)

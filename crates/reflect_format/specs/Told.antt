@@ -29,7 +29,7 @@ use Rattle.text_model.specs.Value.{written}
 use Rattle.text_scalars.specs.Braces.{closing, closing_words, opening_brace}
 use Rattle.text_scalars.specs.Front.{begins_name, behind, from_to, sign_bytes}
 use Rattle.text_scalars.specs.Names.{name_at, separator_at}
-use Rattle.text_scalars.specs.Reading.{Tells}
+use Rattle.text_scalars.specs.Reading.{TellsStop}
 use Rattle.text_scalars.specs.Refusals.{IsUnexpected}
 use Rattle.text_scalars.specs.Scalars.{scalar_at}
 use Rattle.text_scalars.specs.declared.tokens.Brace.{Brace}
@@ -183,9 +183,9 @@ NamedFault n inner (expansion domain e) name m ls kind =
 -- no name stands there, or no colon where one has to be, or what stands under the name is at fault
 abbrev pub FieldFault : ℕ → MessageFaults → DynamicMessage → Fault
 FieldFault n inner m ls kind =
-    Tells (name_at ls) kind
+    TellsStop (name_at ls) kind
     ⊎ ((name : FieldName × Span) × (named : List Lexeme) × (name_at ls ≡ Ok (name, named))
-    × (Tells (separator_at named) kind
+    × (TellsStop (separator_at named) kind
     ⊎ ((parted : List Lexeme) × (separator_at named ≡ Ok (tt, parted))
     × NamedFault n inner name.0 name.1 m parted kind)))
 

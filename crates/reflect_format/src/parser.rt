@@ -6,7 +6,7 @@ ghost use Rattle.reflect_format.specs.Filled.{AreGiven, AreValues, Assigns, Expa
 ghost use Rattle.reflect_format.specs.Reads.{IsCause, Reads, Refutes, StaysUnless, Stops, There};
 ghost use Rattle.reflect_format.specs.Refusals.{RefusesSecond};
 ghost use Rattle.reflect_format.specs.Steps.{is_set};
-ghost use Rattle.reflect_format.specs.Takes.{Takes};
+ghost use Rattle.reflect_format.specs.Takes.{BelongsTo};
 ghost use Rattle.reflect_format.specs.Told.{AssignmentFault, BodyFault, ClosesAt, ExpansionFault, FieldFault, GivenFault, ListFault, MessageBytes, MessageFault, NamedFault, SecondFault, TextFault, Told, ValueBytes, ValueFault};
 ghost use Rattle.reflect_format.specs.Truth.{TrueFor, TrueOf};
 ghost use Rattle.reflect_format.specs.Unfit.{AreUnfitGiven, AreUnfitValues, CannotMake, IsUnfitBody, IsUnfitField, IsUnfitGiven, IsUnfitValue, Rejects, RejectsExpansion, Unfit};
@@ -25,6 +25,7 @@ ghost use Rattle.text_syntax.specs.Syntax.{at_end, at_sign, field_at, fields_at,
 use crate::fault::{already_set, oneof_already_set, unknown_message};
 use crate::scalar::scalar_value;
 use crate::target::Target;
+use protox_lex::MAX_BRACES;
 use reflect_any::any_fields;
 use reflect_encode::EncodeMessage;
 use reflect_message::{DynamicMessage, Value};
@@ -35,9 +36,6 @@ use text_error::{ParseError, ParseErrorKind};
 use text_lex::Span;
 use text_scalars::{AnyName, Brace, Name, Tokens, through};
 
-/// How many braces may be open at once.
-const MAX_BRACES: u32 = 100;
-
 /// Reads a text into a message.
 #[derive(Drop)]
 pub struct Parser<'a> {
@@ -45,7 +43,7 @@ pub struct Parser<'a> {
 }
 
 impl<'a> Parser<'a> {
-    /// A parser at the start of a text. Takes no memory.
+    /// A parser at the start of a text. BelongsTo no memory.
     pub fn new(alloc: Global, text: &'a str) -> Parser<'a>
         ensures { Lexes 0 text.now (remaining result.tokens) }
     {
@@ -178,7 +176,7 @@ fn assignment<'p>(
     target: Target<'p>,
     braces: u32,
 ) -> Result<(), ParseErrorKind>
-    requires { Takes message.old.descriptor target }
+    requires { BelongsTo message.old.descriptor target }
     ensures taken { OnOk result (left tokens.new < left tokens.old) }
     ensures type_stays { message.new.descriptor ≡ message.old.descriptor }
     ensures filled { (colon : Bool)
@@ -212,7 +210,7 @@ fn refuse_second<'p>(
     target: Target<'p>,
     span: Span,
 ) -> Result<(), ParseErrorKind>
-    requires { Takes message.now.descriptor target }
+    requires { BelongsTo message.now.descriptor target }
     ensures refused { IfErr result (RefusesSecond message.now target.entry) }
     ensures cause { IfErr result (IsCause
         ((is_set message.now target.entry ≡ true) ⊎ HasRival target.entry message.now)) }

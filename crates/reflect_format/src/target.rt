@@ -8,7 +8,7 @@ ghost use Rattle.reflect_format.specs.Named.{FindsGroup, NamesExtension, NamesFi
 ghost use Rattle.reflect_format.specs.Reads.{IsCause};
 ghost use Rattle.reflect_format.specs.Refusals.{Holds, HoldsMember, IsTextName, RefusesExtension, RefusesField, Shares};
 ghost use Rattle.reflect_format.specs.Steps.{Adds, AddsPart, Puts, Stays, StaysAscending, StaysExclusive, is_set};
-ghost use Rattle.reflect_format.specs.Takes.{Takes, holds_many, target_pool, target_type};
+ghost use Rattle.reflect_format.specs.Takes.{BelongsTo, holds_many, target_pool, target_type};
 ghost use Rattle.reflect_format.specs.Told.{ExtensionFault, Told};
 ghost use Rattle.text_error.specs.Places.{place_of};
 
@@ -39,7 +39,7 @@ impl<'p> Target<'p> {
         name: &str,
         span: Span,
     ) -> Result<Target<'p>, ParseErrorKind>
-        ensures takes { IfOk result (Takes descriptor.entry) }
+        ensures takes { IfOk result (BelongsTo descriptor.entry) }
         ensures named { IfOk result (NamesField descriptor.entry name.now) }
         ensures unnamed { IfErr result (IsCause (NoFieldNamed descriptor.entry name.now)) }
         ensures refused { IfErr result (RefusesField descriptor.entry name.now) }
@@ -64,7 +64,7 @@ impl<'p> Target<'p> {
         name: String,
         span: Span,
     ) -> Result<Target<'p>, ParseErrorKind>
-        ensures takes { IfOk result (Takes descriptor.entry) }
+        ensures takes { IfOk result (BelongsTo descriptor.entry) }
         ensures named { IfOk result (NamesExtension descriptor.entry (string_bytes name)) }
         ensures unnamed { IfErr result
             (IsCause (NoExtensionNamed descriptor.entry (string_bytes name))) }
@@ -116,7 +116,7 @@ impl<'p> Target<'p> {
 
     /// The message holds a value of it.
     pub fn is_set(&self, message: &DynamicMessage<'p>) -> bool
-        requires { Takes message.now.descriptor self.now }
+        requires { BelongsTo message.now.descriptor self.now }
         ensures held { IsTrue result → Holds message.now self.now }
         ensures set { result ≡ is_set message.now self.now }
     {
@@ -146,7 +146,7 @@ impl<'p> Target<'p> {
 
     /// Sets it to a value of its kind. A refusal leaves what the message holds.
     pub fn set(&self, message: &mut DynamicMessage<'p>, value: Value<'p>) -> Result<(), AllocError>
-        requires { Takes message.old.descriptor self.now }
+        requires { BelongsTo message.old.descriptor self.now }
         ensures type_stays { message.new.descriptor ≡ message.old.descriptor }
         ensures ok { OnOk result (Puts self.now value.entry message.old message.new) }
         ensures exclusive { OnOk result (StaysExclusive self.now message.old message.new) }
@@ -166,7 +166,7 @@ impl<'p> Target<'p> {
         message: &mut DynamicMessage<'p>,
         values: Vec<Value<'p>>,
     ) -> Result<(), AllocError>
-        requires { Takes message.old.descriptor self.now }
+        requires { BelongsTo message.old.descriptor self.now }
         ensures type_stays { message.new.descriptor ≡ message.old.descriptor }
         ensures ok { OnOk result (Adds self.now values.entry.items message.old message.new) }
         ensures left { OnErr result (AddsPart self.now values.entry.items message.old message.new) }

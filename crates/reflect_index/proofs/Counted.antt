@@ -1,5 +1,5 @@
 -- The index of a declaration goes on from what is declared before it.
-use Rattle.std.proofs.Common.{◌≡◌, ℕ, ℤ, pos, ◌+◌, List, [], ◌∷◌, ◌++◌, length, Option, Some, None, ap, sym, subst, ◌∙◌, arith, refl}
+use Rattle.std.proofs.Common.{◌≡◌, ℕ, ℤ, pos, ◌+◌, List, [], ◌∷◌, ◌++◌, length, Option, Some, None, ap, sym, subst, arith, refl}
 use Rattle.descriptor_records.specs.declared.enums.EnumDescriptorProto.{EnumDescriptorProto}
 use Rattle.descriptor_records.specs.declared.enums.EnumValueDescriptorProto.{EnumValueDescriptorProto}
 use Rattle.descriptor_records.specs.declared.field.FieldDescriptorProto.{FieldDescriptorProto}
@@ -10,6 +10,7 @@ use Rattle.descriptor_records.specs.declared.service.MethodDescriptorProto.{Meth
 use Rattle.reflect_scope.specs.Means.{join}
 use Rattle.reflect_declarations.specs.Tree.{text_of, Message, message, Messages, no_messages, more_messages}
 use Rattle.reflect_declarations.specs.declared.offsets.Offsets.{Offsets}
+use Rattle.reflect_walk.proofs.Walks.{trees_services}
 use Rattle.reflect_declarations.specs.Declarations.{Declaration, Body, of_file, of_message, of_field, of_oneof, of_enum, of_enum_value, of_service, of_method, of_extension, each, entry, one_field, one_oneof, one_value, one_enum, one_method, one_service, one_extension, past_message, past_enums, past_extensions, past_services, past_tree, past_trees, past_file, trees_of, tree_declarations, trees_declarations, file_declarations}
 
 -- the counts behind a declaration
@@ -109,15 +110,6 @@ module _ (file : ℕ) where
     trees path tag scope parent k o no_messages = refl
     trees path tag scope parent k o (more_messages m ms) =
         next_on file o _ (past_tree o m) _ (past_trees (past_tree o m) ms) (tree (entry path tag k) scope parent o m) (trees path tag scope parent (k + 1) (past_tree o m) ms)
-
--- messages declare no services
-mutual
-  tree_services : (o : Offsets) (m : Message) → (past_tree o m).services ≡ o.services
-  tree_services o (message own nested) = trees_services (past_message o) nested
-
-  trees_services : (o : Offsets) (ms : Messages) → (past_trees o ms).services ≡ o.services
-  trees_services o no_messages = refl
-  trees_services o (more_messages m ms) = trees_services (past_tree o m) ms ∙ tree_services o m
 
 pub file_next : (file : ℕ) (o : Offsets) (f : FileDescriptorProto) → AreNext file o (file_declarations o file f) (past_file o f)
 file_next file o f =

@@ -6,12 +6,10 @@ use Rattle.reflect_declarations.specs.Declarations.{Declaration}
 use Rattle.reflect_declarations.specs.declared.offsets.Offsets.{Offsets}
 use Rattle.reflect_scope.specs.declared.definition.Definition.{Definition}
 use Rattle.reflect_scope.specs.Known.{kept_first}
+use Rattle.reflect_tables.proofs.Founds.{no_some}
 use Rattle.reflect_tables.specs.Names.{Sort, with_file, FullName, AreFound, AreInOrder, place_in, place_of}
 use Rattle.reflect_known.specs.DeclaredNames.{is_of, with_name, with_names}
 use Rattle.reflect_index.proofs.Counted.{AreNext, past_one}
-
-no_some : {X : Type 0} (x : X) → None ≡ Some x → ⊥
-no_some x e = absurd (cc)
 
 pub all_push : {X : Type 0} (P : X → Type 0) (xs : List X) (x : X) → AllByRecursion P xs → P x → AllByRecursion P (xs ++ x ∷ [])
 all_push P [] x all p = (p, tt)

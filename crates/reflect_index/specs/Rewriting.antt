@@ -15,11 +15,11 @@ abbrev pub left : IntoIter Reference Global → List Target
 left rest = map target_of (into_iter_items rest)
 
 -- something with its names written, and what is left behind it
-abbrev pub Writes : Type 0 → Type 0
-Writes A = List Target → A → A × List Target
+abbrev pub Rewrites : Type 0 → Type 0
+Rewrites A = List Target → A → A × List Target
 
 -- the next full name in place of a name, where there is one
-abbrev pub write_name : Writes (Option Text)
+abbrev pub write_name : Rewrites (Option Text)
 write_name ts None = (None, ts)
 write_name [] (Some name) = (Some name, [])
 write_name (t ∷ ts) (Some name) = (Some t.0, ts)
@@ -30,7 +30,7 @@ filled (Some n) k = Some n
 filled None (kind.Enum i) = Some (pos 14)
 filled None _ = Some (pos 11)
 
-abbrev pub write_type : Writes FieldContent
+abbrev pub write_type : Rewrites FieldContent
 write_type ts f = elim f.type_name [
   | None ↦ (f, ts)
   | Some name ↦ elim ts [
@@ -42,12 +42,12 @@ write_type ts f = elim f.type_name [
   ]
 ]
 
-abbrev pub write_extension : Writes FieldContent
+abbrev pub write_extension : Rewrites FieldContent
 write_extension ts x =
     write_type (write_name ts x.extendee).1 (record x { extendee = (write_name ts x.extendee).0 })
 
 -- one after another
-abbrev pub write_each : {A : Type 0} → Writes A → List Target → List A → List A × List Target
+abbrev pub write_each : {A : Type 0} → Rewrites A → List Target → List A → List A × List Target
 write_each one ts [] = ([], ts)
 write_each one ts (x ∷ xs) =
     ((one ts x).0 ∷ (write_each one (one ts x).1 xs).0, (write_each one (one ts x).1 xs).1)
@@ -71,18 +71,18 @@ abbrev mutual
     (write_messages (write_message ts m).1 ms).1,
   )
 
-abbrev pub write_method : Writes MethodContent
+abbrev pub write_method : Rewrites MethodContent
 write_method ts m =
     let input = write_name ts m.input_type in
     let output = write_name input.1 m.output_type in
     (record m { input_type = input.0; output_type = output.0 }, output.1)
 
-abbrev pub write_service : Writes ServiceContent
+abbrev pub write_service : Rewrites ServiceContent
 write_service ts s =
     let methods = write_each write_method ts s.method in
     (record s { method = methods.0 }, methods.1)
 
-abbrev pub write_file : Writes FileContent
+abbrev pub write_file : Rewrites FileContent
 write_file ts f =
     let messages = write_each write_message ts f.message_type in
     let services = write_each write_service messages.1 f.service in

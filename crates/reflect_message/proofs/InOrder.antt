@@ -120,11 +120,11 @@ entries_seen es =
     ∙ ap (λ (b : Bool). ascends es && b)
     (list_all-map (λ (e : ℕ × Bool). e.1) (on_value in_order) es)
 
-abbrev parts_folded_in : Parts → Bool
+abbrev pub parts_folded_in : Parts → Bool
 parts_folded_in =
     fold-PartsOf MessageDescriptor Bool Bool Bool Bool held_order value_order message_order parts_order
 
-parts_folded : (p : Parts) → parts_folded_in p ≡ parts_in_order p
+pub parts_folded : (p : Parts) → parts_folded_in p ≡ parts_in_order p
 parts_folded p =
     fold_out-PartsOf MessageDescriptor Bool Bool Bool Bool
     held_order value_order message_order parts_order p
@@ -140,7 +140,7 @@ held_in_order-Block b =
     held_order value_order message_order parts_order (HeldOf-F.Block b)
     ∙ parts_folded b.value
 
-abbrev message_folded : DynamicMessage → Bool
+abbrev pub message_folded : DynamicMessage → Bool
 message_folded =
     fold-MessageOf MessageDescriptor Bool Bool Bool Bool held_order value_order message_order parts_order
 

@@ -1,5 +1,6 @@
 -- The fields that are looked up are those that messages hold.
 use Rattle.std.proofs.Common.{◌≡◌, ◌⊎◌, inl, inr, ℕ, ◌==◌, Bool, true, false, cond, ◌&&◌, ◌||◌, Option, Some, None, refl, sym, ap, ◌∙◌, arith}
+use Rattle.std.proofs.lemmas.Bool.{and_parts}
 use Rattle.std.specs.Option.{option_and_then}
 use Rattle.reflect_tables.specs.Finding.{IsFirst}
 use Rattle.reflect_tables.specs.Types.{PoolType, FieldType, ExtensionType, KindType, type_at, no_field, no_extension, extension_at}
@@ -20,12 +21,12 @@ float_kind types.double h = refl
 float_kind types.float h = refl
 float_kind k h = absurd h
 
-kind_float : (k : KindType) → is_float k ≡ true → IsFloat k
+pub kind_float : (k : KindType) → is_float k ≡ true → IsFloat k
 kind_float types.double e = tt
 kind_float types.float e = tt
 kind_float k e = absurd (cc e)
 
-numbered : (n : ℕ) → Tells (λ (f : FieldType). f.number ≡ n) (λ f. f.number == n)
+pub numbered : (n : ℕ) → Tells (λ (f : FieldType). f.number ≡ n) (λ f. f.number == n)
 numbered n = record { says = λ f e. grind (arith, e); passes = λ f e. grind (arith, e) }
 
 pub field_found : (pool : PoolType) (i n k : ℕ) → IsFirst (λ f. f.number ≡ n) (type_at pool i).fields (Some k) → numbered_field pool i n ≡ Some (types.type_of_field pool i k)
@@ -48,13 +49,9 @@ told_floats pool (types.message i) e = by (numbered_field pool i 2) refl e where
       (place.0, place.1, kind_float (types.type_of_field pool i place.0).kind (sym (ap (λ o. elim o [ None ↦ false | Some v ↦ is_float v.kind ]) same) ∙ f))
 told_floats pool k e = absurd (cc e)
 
-either : (a b : Bool) → a || b ≡ true → (a ≡ true) ⊎ (b ≡ true)
+pub either : (a b : Bool) → a || b ≡ true → (a ≡ true) ⊎ (b ≡ true)
 either true b e = inl refl
 either false b e = inr e
-
-both : (a b : Bool) → a && b ≡ true → (a ≡ true) × (b ≡ true)
-both true b e = (refl, e)
-both false b e = absurd (cc e)
 
 pub floats_held : (pool : PoolType) (f : FieldType) → HoldsFloats pool f → holds_floats pool f ≡ true
 floats_held pool f (inl h) = ap (λ b. b || (holds_map pool f && has_floats pool f.kind)) (float_kind f.kind h)
@@ -67,7 +64,7 @@ held_floats : (pool : PoolType) (f : FieldType) → holds_floats pool f ≡ true
 held_floats pool f e = by (either (is_float f.kind) (holds_map pool f && has_floats pool f.kind) e) where
   by : (is_float f.kind ≡ true) ⊎ (holds_map pool f && has_floats pool f.kind ≡ true) → HoldsFloats pool f
   by (inl h) = inl (kind_float f.kind h)
-  by (inr h) = let two = both (holds_map pool f) (has_floats pool f.kind) h in inr (two.0, told_floats pool f.kind two.1)
+  by (inr h) = let two = and_parts (holds_map pool f) (has_floats pool f.kind) h in inr (two.0, told_floats pool f.kind two.1)
 
 no_floats : (pool : PoolType) (f : FieldType) → (HoldsFloats pool f → ⊥) → holds_floats pool f ≡ false
 no_floats pool f h = by (holds_floats pool f) refl where
@@ -97,7 +94,7 @@ module _ (m : MessageDescriptor) (n : ℕ) where
 
   told : Tells (λ (x : ExtensionType). (x.extendee ≡ m.index) × (x.field.number ≡ n)) (λ x. (x.extendee == m.index) && (x.field.number == n))
   told = record {
-    says = λ x e. let two = both (x.extendee == m.index) (x.field.number == n) e in (grind (arith, two.0), grind (arith, two.1));
+    says = λ x e. let two = and_parts (x.extendee == m.index) (x.field.number == n) e in (grind (arith, two.0), grind (arith, two.1));
     passes = λ x h. grind (arith, h.0, h.1);
   }
 

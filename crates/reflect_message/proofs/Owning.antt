@@ -1,7 +1,7 @@
 -- Which field has the records of a number.
-use Rattle.std.proofs.Common.{◌≡◌, ℕ, Bool, true, false, List, Some, refl, sym, ap, ◌∙◌, subst, nat_lt, arith}
+use Rattle.std.proofs.Common.{◌≡◌, ℕ, Some, sym, ap, ◌∙◌, subst}
 use Rattle.std.specs.Option.{option_and_then}
-use Rattle.reflect_tables.specs.Finding.{IsFirst}
+use Rattle.reflect_tables.proofs.Firsts.{one_first}
 use Rattle.reflect_tables.specs.Types.{PoolType, type_at, type_of_field, no_field, no_extension}
 use Rattle.reflect_pool.specs.FieldsLeft.{field_type}
 use Rattle.reflect_pool.specs.Finds.{FindsField, FindsAny}
@@ -12,14 +12,6 @@ use Rattle.reflect_entries.specs.Members.{first_number, first_member_of}
 use Rattle.reflect_pool.specs.declared.extension.ExtensionDescriptor.{ExtensionDescriptor}
 use Rattle.reflect_scalar.specs.FieldTypes.{extension_pool, extension_type}
 use Rattle.reflect_message.specs.Declares.{Declares, Owns, OwnsExtension}
-
--- a list has one first element with a property
-one_first : {X : Type 0} (P : X → Type 0) (xs : List X) (d : X) (i j : ℕ) → IsFirst P xs (Some i) → IsFirst P xs (Some j) → i ≡ j
-one_first P xs d i j a b = by (nat_lt i j) refl (nat_lt j i) refl where
-  by : (u : Bool) → nat_lt i j ≡ u → (v : Bool) → nat_lt j i ≡ v → i ≡ j
-  by true lt v other = absurd (b.1.1 i d (omega arith) (grind (arith, lt)) (a.1.0 d))
-  by false other true lt = absurd (a.1.1 j d (omega arith) (grind (arith, lt)) (b.1.0 d))
-  by false x false y = grind (arith, x, y)
 
 module _ (m : MessageDescriptor) where
   -- two fields of the type that are the first of their numbers, at one number

@@ -35,11 +35,12 @@ pub fn require(
     faults.push(DescriptorErrorKind::MissingRequiredField { field, found })
 }
 
-const GROUP: i32 = 10;
+/// The numbers of the types that have names of their own.
+pub const GROUP: i32 = 10;
 
-const MESSAGE: i32 = 11;
+pub const MESSAGE: i32 = 11;
 
-const ENUM: i32 = 14;
+pub const ENUM: i32 = 14;
 
 /// Whether the number stands for a type that has a name of its own: a group, a message or an enum.
 fn is_named_type(field_type: Option<i32>) -> bool

@@ -3,6 +3,7 @@ ghost use Rattle.reflect_names.specs.References.{is_in as is_number_in, is_type_
 
 use crate::error::DescriptorErrorKind;
 use crate::faults::Faults;
+use crate::required::{ENUM, GROUP, MESSAGE};
 use descriptor_records::{
     DescriptorProto, EnumDescriptorProto, EnumValueDescriptorProto, FieldDescriptorProto,
     FileDescriptorProto, MethodDescriptorProto, OneofDescriptorProto, ServiceDescriptorProto, tag,
@@ -36,12 +37,6 @@ pub struct ResolveVisitor<'a> {
     links: &'a [Links],
     seen: SeenFiles,
 }
-
-const GROUP: i32 = 10;
-
-const MESSAGE: i32 = 11;
-
-const ENUM: i32 = 14;
 
 const LAST_TYPE: u32 = 18;
 

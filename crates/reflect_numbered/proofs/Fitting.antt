@@ -1,7 +1,7 @@
 -- Values that suit kinds and fields, one by one.
 use Rattle.std.proofs.Common.{◌≡◌, ℕ, ◌+◌, ◌<◌, ◌&&◌, Bool, true, false, List, [], ◌∷◌, length, map, take, get_or, Option, None, Some, refl, sym, ap, ◌∙◌, string_bytes}
 use Rattle.std.proofs.lemmas.List.Folds.{list_all-map, list_all_at, list_all_more}
-use Rattle.std.specs.List.{list_all, zip}
+use Rattle.std.specs.List.{list_all}
 use Rattle.reflect_tables.specs.Types.{PoolType, FieldType, KindType}
 use Rattle.reflect_pool.specs.Kinds.{IsKind}
 use Rattle.reflect_pool.specs.declared.kind.Kind.{Kind}
@@ -111,17 +111,3 @@ module _ (how : Strictness) (pool : PoolType) (w : Fit) where
 
   pub unknown_fits : (o known : Option FieldType) → o ≡ known → o ≡ None → under_fits how pool known w ≡ false
   unknown_fits o known e is = ap (λ k. under_fits how pool k w) (sym e ∙ is)
-
--- the pairs of a list, taken apart and put together
-pub zip_parts : {A B : Type 0} → (es : List (A × B)) (xs : List A) (ys : List B) → xs ≡ map (λ (e : A × B). e.0) es → ys ≡ map (λ (e : A × B). e.1) es → zip xs ys ≡ es
-zip_parts {A} {B} es xs ys a b = ap (λ l. zip l ys) a ∙ ap (zip (map (λ (e : A × B). e.0) es)) b ∙ same es where
-  same : (es : List (A × B)) → zip (map (λ (e : A × B). e.0) es) (map (λ (e : A × B). e.1) es) ≡ es
-  same [] = refl
-  same (e ∷ es) = ap (λ l. e ∷ l) (same es)
-
-pub zip_next : {A B : Type 0} → (xs ms : List A) (ys ws : List B) (x : A) (y : B) → xs ≡ x ∷ ms → ys ≡ y ∷ ws → zip xs ys ≡ (x, y) ∷ zip ms ws
-zip_next xs ms ys ws x y a b = ap (λ l. zip l ys) a ∙ ap (zip (x ∷ ms)) b
-
-pub zip_ended : {A B : Type 0} → (xs : List A) (ys : List B) → length xs ≡ 0 → zip xs ys ≡ []
-zip_ended [] ys e = refl
-zip_ended (x ∷ xs) ys e = absurd (cc e)

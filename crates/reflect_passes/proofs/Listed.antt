@@ -18,16 +18,16 @@ use Rattle.reflect_names.specs.declared.faults.Faults.{Faults}
 use Rattle.reflect_names.specs.declared.resolve_visitor.Reference.{Reference}
 use Rattle.reflect_names.specs.declared.resolve_visitor.ResolveVisitor.{ResolveVisitor}
 use Rattle.reflect_names.proofs.Added.{adds_on, same_places}
-use Rattle.reflect_passes.specs.Errors.{faults_of, Refuses}
+use Rattle.reflect_passes.specs.Errors.{faults_of, ListsFaults}
 use Rattle.reflect_passes.specs.NameFaults.{name_faults}
 use Rattle.reflect_passes.specs.declared.error.DescriptorError.{DescriptorError}
 
 -- the error lists these faults
-pub refused_by : {T : Type 0} (r : Result T DescriptorError) (xs : List Fault) (Are : List Fault → Type 0) → Are xs → IfErr r (λ e. faults_of e ≡ xs) → IfErr r (λ e. Refuses Are e)
-refused_by r xs Are are err = IfErr-weaker r (λ e. faults_of e ≡ xs) (λ e. Refuses Are e) (λ e is. inr (subst Are (sym is) are)) err
+pub refused_by : {T : Type 0} (r : Result T DescriptorError) (xs : List Fault) (Are : List Fault → Type 0) → Are xs → IfErr r (λ e. faults_of e ≡ xs) → IfErr r (λ e. ListsFaults Are e)
+refused_by r xs Are are err = IfErr-weaker r (λ e. faults_of e ≡ xs) (λ e. ListsFaults Are e) (λ e is. inr (subst Are (sym is) are)) err
 
-pub refused_as : {T : Type 0} (r : Result T DescriptorError) (e : DescriptorError) (Are : List Fault → Type 0) → r ≡ Err e → Are (faults_of e) → IfErr r (λ e. Refuses Are e)
-refused_as r e Are is are = subst (λ x. IfErr x (λ e. Refuses Are e)) (sym is) (inr are)
+pub refused_as : {T : Type 0} (r : Result T DescriptorError) (e : DescriptorError) (Are : List Fault → Type 0) → r ≡ Err e → Are (faults_of e) → IfErr r (λ e. ListsFaults Are e)
+refused_as r e Are is are = subst (λ x. IfErr x (λ e. ListsFaults Are e)) (sym is) (inr are)
 
 -- the places of the faults of these files
 pub places : (f : Faults) (files : List FileDescriptorProto) (first : ℕ) → f.files.now ≡ files → f.first ≡ first → place_at f ≡ batch_places files first

@@ -20,8 +20,8 @@ faults_of e = fault_view e.first ∷ map fault_view e.others.items
 
 -- the error lists these faults, or says of a walk that it ended early, for want of memory or past
 -- the last index
-abbrev pub Refuses : (List Fault → Type 0) → DescriptorError → Type 0
-Refuses Are e = (faults_of e ≡ another ∷ []) ⊎ Are (faults_of e)
+abbrev pub ListsFaults : (List Fault → Type 0) → DescriptorError → Type 0
+ListsFaults Are e = (faults_of e ≡ another ∷ []) ⊎ Are (faults_of e)
 
 -- where the first of them stands, and where in its source, if that is told
 abbrev pub first_place : DescriptorError → Option Place

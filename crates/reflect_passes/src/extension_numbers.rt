@@ -3,7 +3,7 @@
 ghost use Rattle.std.specs.Prelude.{◌≡◌, ◌+◌, ◌||◌, ◌++◌, ◌∷◌, [], pos, length, OnOk, IfOk, IfErr};
 ghost use Rattle.std.specs.Int.{w32, cast_signed};
 ghost use Rattle.reflect_names.specs.Faults.{Adds, list_of, place_at, duplicate_extension};
-ghost use Rattle.reflect_passes.specs.Errors.{faults_of, Refuses};
+ghost use Rattle.reflect_passes.specs.Errors.{faults_of, ListsFaults};
 ghost use Rattle.reflect_tables.specs.ExtensionNumbers.{KeyType, KeepsNumbers, numbers_of};
 ghost use Rattle.reflect_passes.specs.Extensions.{has_key, is_known, is_taken, with_number, with_numbers, double_faults, extension_faults};
 ghost use Rattle.reflect_passes.specs.Linked.{linked_says};
@@ -117,7 +117,7 @@ pub fn list_extensions(
     ensures ok { OnOk result (list_of faults.entry
         ++ extension_faults (is_known numbers.old) (linked_says types.now) (place_at faults.entry)
         types.now.new.now.extensions.items ≡ []) }
-    ensures err { IfErr result (λ e. Refuses
+    ensures err { IfErr result (λ e. ListsFaults
         (λ xs. xs ≡ list_of faults.entry
         ++ extension_faults (is_known numbers.old) (linked_says types.now) (place_at faults.entry)
         types.now.new.now.extensions.items) e) }

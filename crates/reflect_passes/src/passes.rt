@@ -12,7 +12,7 @@ ghost use Rattle.reflect_names.specs.ReferencePass.{BatchReferences};
 ghost use Rattle.reflect_names.specs.ReferenceSteps.{target_of};
 ghost use Rattle.reflect_rules.specs.RulePass.{BatchFaults};
 ghost use Rattle.reflect_passes.specs.Linked.{linked_says, linked_values};
-ghost use Rattle.reflect_passes.specs.Errors.{faults_of, Refuses};
+ghost use Rattle.reflect_passes.specs.Errors.{faults_of, ListsFaults};
 ghost use Rattle.reflect_passes.specs.NameFaults.{name_faults, ReferenceFaults};
 
 use crate::error::DescriptorError;
@@ -74,7 +74,7 @@ pub fn declare_names(
         ≡ with_files (indexes_of file_names.old) first files.now) }
     ensures names { OnOk result (known_of names.new
         ≡ known_behind (known_of names.old) (batch_declarations before first files.now)) }
-    ensures err { IfErr result (λ e. Refuses
+    ensures err { IfErr result (λ e. ListsFaults
         (λ xs. xs ≡ name_faults (indexes_of file_names.old) (known_of names.old) before first
         files.now) e) }
     ensures keeps { KeepsFrom first (length files.now) (known_of names.old) (known_of names.new) }
@@ -109,7 +109,7 @@ pub fn resolve_references(
 ) -> Result<Vec<Reference>, DescriptorError>
     ensures ok { IfOk result (λ references. BatchReferences (known_of names.now) links.now
         (batch_places files.now first) before first files.now (map target_of references.items) []) }
-    ensures err { IfErr result (λ e. Refuses
+    ensures err { IfErr result (λ e. ListsFaults
         (λ xs. ReferenceFaults (known_of names.now) links.now before first files.now xs) e) }
 {
     let faults = Faults::new(alloc, files, first);
@@ -135,7 +135,7 @@ pub fn check_numbers(
 ) -> Result<(), DescriptorError>
     ensures ok { OnOk result (BatchFaults (linked_says types.now) (linked_values types.now) before
         first files.now references.now []) }
-    ensures err { IfErr result (λ e. Refuses
+    ensures err { IfErr result (λ e. ListsFaults
         (λ xs. BatchFaults (linked_says types.now) (linked_values types.now) before first files.now
         references.now xs) e) }
 {

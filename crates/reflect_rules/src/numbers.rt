@@ -8,14 +8,14 @@ ghost use Rattle.reflect_scope.specs.FileIndexes.{is_index};
 ghost use Rattle.reflect_rules.specs.Numbers.{is_field_number as may_number, number_faults, reserved_faults, kept_faults, outside_faults, oneof_faults};
 ghost use Rattle.reflect_rules.specs.Repeats.{repeats, repeat_fault, listed, repeat_faults};
 
-use descriptor_records::{DescriptorProto, FieldDescriptorProto, tag};
+use descriptor_records::{DescriptorProto, FieldDescriptorProto, MAX_FIELD_NUMBER, tag};
 use reflect_names::{DescriptorErrorKind, Faults, Label, VisitError, entry_path};
 use std::alloc::{AllocError, Global};
 use std::collections::BTreeSet;
 
-const LAST_NUMBER: u32 = 536_870_911;
+const LAST_NUMBER: u32 = MAX_FIELD_NUMBER as u32;
 
-/// A field may have the number: one of 1 to 536870911 that is not kept for protobuf's own use.
+/// A field may have the number: one from 1 to the highest that is not kept for protobuf's own use.
 fn is_field_number(number: i32) -> bool
     ensures { result ≡ may_number number }
 {

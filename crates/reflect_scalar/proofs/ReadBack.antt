@@ -13,7 +13,7 @@ use Rattle.reflect_pool.specs.declared.kind.Kind.{Kind}
 use Rattle.reflect_pool.specs.declared.kind.Kind.TheVariants as kinds
 use Rattle.reflect_scalar.specs.declared.scalar.WireScalar.{WireScalar}
 use Rattle.reflect_scalar.specs.Kinds.{wire_type, suits}
-use Rattle.reflect_scalar.specs.Meaning.{Means, IsScalar, zigzag, low}
+use Rattle.reflect_scalar.specs.Meaning.{StandsFor, IsScalar, zigzag, low}
 use Rattle.reflect_scalar.specs.Singles.{Single, truth, int32, int64, uint32, uint64, text, blob, enumerated, wire_view}
 use Rattle.reflect_scalar.specs.Written.{written, plain_bytes, Fits, IsReadAs}
 use Rattle.reflect_scalar.proofs.Meanings.{form_of_meaning}
@@ -59,7 +59,7 @@ one_zigzag (pos m) (negsuc n) e = absurd (omega arith)
 one_zigzag (negsuc m) (pos n) e = absurd (omega arith)
 one_zigzag (negsuc m) (negsuc n) e = let same : m ≡ n = omega arith in ap negsuc same
 
-means_written : (kind : Kind) (v : Single) → Fits v → IfSome (written kind v) (λ p. FitsPayload 0 p × Means kind p v)
+means_written : (kind : Kind) (v : Single) → Fits v → IfSome (written kind v) (λ p. FitsPayload 0 p × StandsFor kind p v)
 means_written kinds.Int32 (int32 z) f = (extended_fits z f, ap int32 (extended_back z f))
 means_written kinds.Int64 (int64 z) f = (fits64 z f, ap int64 (sym (to_z-of_z w64 z f)))
 means_written kinds.Uint32 (uint32 n) f = (omega arith, ap uint32 (sym (mod-eq_of_lt f)))
@@ -79,7 +79,7 @@ means_written kind v f = tt
 
 pub read_back : (kind : Kind) (v : Single) → Fits v → IfSome (written kind v) (λ p. IsScalar kind (wire_type kind) (plain_bytes p) v)
 read_back kind v f = by (written kind v) (means_written kind v f) where
-  by : (o : Option Payload) → IfSome o (λ p. FitsPayload 0 p × Means kind p v) → IfSome o (λ p. IsScalar kind (wire_type kind) (plain_bytes p) v)
+  by : (o : Option Payload) → IfSome o (λ p. FitsPayload 0 p × StandsFor kind p v) → IfSome o (λ p. IsScalar kind (wire_type kind) (plain_bytes p) v)
   by None h = tt
   by (Some p) h = (p, (sym (form_of_meaning kind p v h.1), plain_spelled p h.0), h.1)
 
@@ -108,7 +108,7 @@ pub written_suits : (kind : Kind) (v : Single) (o : Option WireScalar) → optio
 written_suits kind v None e = ap is_some e ∙ suits_where_written kind v
 written_suits kind v (Some w) e = ap is_some e ∙ suits_where_written kind v
 
-one_meaning : (kind : Kind) (p : Payload) (v w : Single) → Means kind p v → Means kind p w → v ≡ w
+one_meaning : (kind : Kind) (p : Payload) (v w : Single) → StandsFor kind p v → StandsFor kind p w → v ≡ w
 one_meaning kinds.Int32 (varint n) v w h k = h ∙ sym k
 one_meaning kinds.Int64 (varint n) v w h k = h ∙ sym k
 one_meaning kinds.Uint32 (varint n) v w h k = h ∙ sym k
@@ -128,4 +128,4 @@ one_meaning kind p v w h k = absurd h
 pub one_value : (kind : Kind) (wire : WireType) (a b x y : List ℕ) (v w : Single) → IsScalar kind wire a v → IsScalar kind wire b w → a ++ x ≡ b ++ y → (a ≡ b) × (v ≡ w) × (x ≡ y)
 one_value kind wire a b x y v w h k e =
     let one = one_payload 0 0 a b x y h.0 k.0 (sym h.1.0 ∙ k.1.0) h.1.1 k.1.1 e in
-    (one.0, one_meaning kind k.0 v w (subst (λ p. Means kind p v) one.1 h.2) k.2, one.2)
+    (one.0, one_meaning kind k.0 v w (subst (λ p. StandsFor kind p v) one.1 h.2) k.2, one.2)

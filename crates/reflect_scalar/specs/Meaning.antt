@@ -28,22 +28,22 @@ low n = n % 2 ^ 32
 
 -- the value of a kind that a payload stands for; floating-point numbers and messages are not read
 -- as single values
-abbrev pub Means : Kind → Payload → Single → Type 0
-Means kinds.Int32 (varint n) v = v ≡ int32 (cast_signed w32 (low n))
-Means kinds.Int64 (varint n) v = v ≡ int64 (cast_signed w64 n)
-Means kinds.Uint32 (varint n) v = v ≡ uint32 (low n)
-Means kinds.Uint64 (varint n) v = v ≡ uint64 n
-Means kinds.Sint32 (varint n) v = (z : ℤ) × (low n ≡ zigzag z) × (v ≡ int32 z)
-Means kinds.Sint64 (varint n) v = (z : ℤ) × (n ≡ zigzag z) × (v ≡ int64 z)
-Means kinds.Bool (varint n) v = v ≡ truth (not (n == 0))
-Means (kinds.Enum e) (varint n) v = v ≡ enumerated (cast_signed w32 (low n))
-Means kinds.Fixed32 (fixed32 n) v = v ≡ uint32 n
-Means kinds.Sfixed32 (fixed32 n) v = v ≡ int32 (cast_signed w32 n)
-Means kinds.Fixed64 (fixed64 n) v = v ≡ uint64 n
-Means kinds.Sfixed64 (fixed64 n) v = v ≡ int64 (cast_signed w64 n)
-Means kinds.String (delimited p) v = IsUtf8 p × (v ≡ text p)
-Means kinds.Bytes (delimited p) v = v ≡ blob p
-Means _ _ v = ⊥
+abbrev pub StandsFor : Kind → Payload → Single → Type 0
+StandsFor kinds.Int32 (varint n) v = v ≡ int32 (cast_signed w32 (low n))
+StandsFor kinds.Int64 (varint n) v = v ≡ int64 (cast_signed w64 n)
+StandsFor kinds.Uint32 (varint n) v = v ≡ uint32 (low n)
+StandsFor kinds.Uint64 (varint n) v = v ≡ uint64 n
+StandsFor kinds.Sint32 (varint n) v = (z : ℤ) × (low n ≡ zigzag z) × (v ≡ int32 z)
+StandsFor kinds.Sint64 (varint n) v = (z : ℤ) × (n ≡ zigzag z) × (v ≡ int64 z)
+StandsFor kinds.Bool (varint n) v = v ≡ truth (not (n == 0))
+StandsFor (kinds.Enum e) (varint n) v = v ≡ enumerated (cast_signed w32 (low n))
+StandsFor kinds.Fixed32 (fixed32 n) v = v ≡ uint32 n
+StandsFor kinds.Sfixed32 (fixed32 n) v = v ≡ int32 (cast_signed w32 n)
+StandsFor kinds.Fixed64 (fixed64 n) v = v ≡ uint64 n
+StandsFor kinds.Sfixed64 (fixed64 n) v = v ≡ int64 (cast_signed w64 n)
+StandsFor kinds.String (delimited p) v = IsUtf8 p × (v ≡ text p)
+StandsFor kinds.Bytes (delimited p) v = v ≡ blob p
+StandsFor _ _ v = ⊥
 
 -- the bytes behind a key of the wire type spell a payload that is no group, so that the key's
 -- number does not count
@@ -52,7 +52,7 @@ IsPlain wire bytes p = (wire ≡ wire_of p) × SpellsPayload 0 0 bytes p
 
 -- the bytes behind a key of the wire type spell a value of the kind
 abbrev pub IsScalar : Kind → WireType → List ℕ → Single → Type 0
-IsScalar kind wire bytes v = (p : Payload) × IsPlain wire bytes p × Means kind p v
+IsScalar kind wire bytes v = (p : Payload) × IsPlain wire bytes p × StandsFor kind p v
 
 -- no value of the kind is read
 abbrev pub IsUnread : Kind → Type 0

@@ -4,7 +4,7 @@ ghost use Rattle.std.specs.Prelude.{◌≡◌, ◌<◌, length, IfOk, IfErr};
 ghost use Rattle.reflect_wire.specs.Reads.{ReadsBy};
 ghost use Rattle.reflect_wire.specs.Records.{varint};
 ghost use Rattle.reflect_scalar.specs.Kinds.{wire_type, packs};
-ghost use Rattle.reflect_scalar.specs.Meaning.{zigzag, low, Means, MeaningFault, IsPlain, PlainFault, IsScalar, ScalarFault};
+ghost use Rattle.reflect_scalar.specs.Meaning.{zigzag, low, StandsFor, MeaningFault, IsPlain, PlainFault, IsScalar, ScalarFault};
 ghost use Rattle.reflect_scalar.specs.Singles.{scalar_view, wire_view};
 
 use crate::scalar::{Scalar, WireScalar};
@@ -66,7 +66,7 @@ fn unzigzag64(n: u64) -> i64
 /// `BadWireType` where the kind is not written as a varint.
 #[inline]
 pub fn varint_scalar<'b>(kind: &Kind<'_>, n: u64) -> Result<Scalar<'b>, WireError>
-    ensures ok { IfOk result (λ s. Means kind.now (varint n) (scalar_view s)) }
+    ensures ok { IfOk result (λ s. StandsFor kind.now (varint n) (scalar_view s)) }
     ensures err { IfErr result (MeaningFault kind.now (varint n)) }
 {
     match kind {
@@ -88,7 +88,7 @@ pub fn varint_scalar<'b>(kind: &Kind<'_>, n: u64) -> Result<Scalar<'b>, WireErro
 /// UTF-8.
 #[inline]
 fn value_of<'b>(kind: &Kind<'_>, written: WireScalar<'b>) -> Result<Scalar<'b>, WireError>
-    ensures ok { IfOk result (λ s. Means kind.now (wire_view written.entry) (scalar_view s)) }
+    ensures ok { IfOk result (λ s. StandsFor kind.now (wire_view written.entry) (scalar_view s)) }
     ensures err { IfErr result (MeaningFault kind.now (wire_view written.entry)) }
 {
     match (kind, written) {

@@ -3,7 +3,7 @@ use Rattle.std.proofs.Common.{◌≡◌, ℕ, zero, suc, ◌≤◌, List, [], �
 use Rattle.std.specs.Prelude.{MatchBool}
 use Rattle.std.proofs.lemmas.List.{length-append}
 use Rattle.reflect_scope.specs.Means.{Meaning, means, not_found, wrong_kind, shadowed, has_dot, outer, scopes, undotted, dotted, settled, marks, missing, join, resolve, standing, rooted, is_holder, first_part, Answers, by_dots}
-use Rattle.reflect_scope.specs.Says.{IsScope, NoneWanted, SaysUndotted, SaysDotted, SaysPlain, Means, Tells}
+use Rattle.reflect_scope.specs.Says.{IsScope, NoneWanted, SaysUndotted, SaysDotted, SaysPlain, NameMeans, AnswersMeaning}
 use Rattle.reflect_scope.proofs.Scopes.{scopes_more, scopes_last, outer_shorter}
 use Rattle.reflect_scope.proofs.Steps.{has_dot-append}
 use Rattle.reflect_scope.specs.declared.definition.Definition.{Definition}
@@ -39,7 +39,7 @@ outer_before (b ∷ bs) = by (outer_before bs) (has_dot bs) refl where
       let f = first bs some e in
       inr (f.0, ap (λ xs. b ∷ xs) (f.1 ∙ ap (λ xs. xs ++ (46 ∷ f.0)) (sym e)) ∙ ap (λ xs. xs ++ (46 ∷ f.0)) (sym (ap (λ v. cond v (b ∷ outer bs) []) some)))
 
-inward : (s p : List ℕ) → IsScope (outer s) p → IsScope s p
+pub inward : (s p : List ℕ) → IsScope (outer s) p → IsScope s p
 inward s p (inl e) = elim (outer_before s) [ inl none ↦ inr (inl (e ∙ none)) | inr (r, is) ↦ inr (inr (r, is ∙ ap (λ xs. xs ++ (46 ∷ r)) (sym e))) ]
 inward s p (inr (inl e)) = inr (inl e)
 inward s p (inr (inr (rest, is))) = elim (outer_before s) [
@@ -50,7 +50,7 @@ inward s p (inr (inr (rest, is))) = elim (outer_before s) [
   no_split [] rest e = cc
   no_split (x ∷ p) rest e = cc
 
-outward : (s p : List ℕ) → IsScope s p → (p ≡ s) ⊎ IsScope (outer s) p
+pub outward : (s p : List ℕ) → IsScope s p → (p ≡ s) ⊎ IsScope (outer s) p
 outward s p (inl e) = inl e
 outward s p (inr (inl e)) = inr (inr (inl e))
 outward s p (inr (inr (rest, is))) = inr (at (has_dot rest) (ap outer is ∙ outer_split p rest)) where
@@ -103,7 +103,7 @@ lift at name s passed other not_found (none, m, right) =
     (lift_none at s other none, f.0, λ p sc w. elim (outward s p sc) [ inl same ↦ f.1 (sym (ap at same) ∙ w) | inr sc' ↦ right p sc' w ])
 lift at name s passed other (shadowed full) x = x
 
-only_empty : (q : List ℕ) → IsScope [] q → q ≡ []
+pub only_empty : (q : List ℕ) → IsScope [] q → q ≡ []
 only_empty q (inl e) = e
 only_empty q (inr (inl e)) = e
 only_empty [] (inr (inr (rest, is))) = refl
@@ -185,13 +185,13 @@ plain_means names sees f scope name =
     (has_dot name) (dotted_says first at name scope) (undotted_says at name scope)
 
 -- what is found scope by scope is what the statement says
-pub resolve_means : (names : List ℕ → Option Definition) (sees : ℕ → Bool) (f : ResolveNameFilter) (scope name : List ℕ) → Means names sees f scope name (resolve names sees f scope name)
+pub resolve_means : (names : List ℕ → Option Definition) (sees : ℕ → Bool) (f : ResolveNameFilter) (scope name : List ℕ) → NameMeans names sees f scope name (resolve names sees f scope name)
 resolve_means names sees f scope [] = plain_means names sees f scope []
 resolve_means names sees f scope (b ∷ name) =
     choose (λ m. m ≡ rooted (standing sees f (names name)) name) (SaysPlain names sees f scope (b ∷ name)) (rooted (standing sees f (names name)) name) (by_dots names sees f scope (b ∷ name))
     (eqb b 46) refl (plain_means names sees f scope (b ∷ name))
 
-pub tells_from_answers : (P : Meaning → Type 0) (r : Result Resolved ResolveNameError) (m : Meaning) → P m → Answers r m → Tells P r
+pub tells_from_answers : (P : Meaning → Type 0) (r : Result Resolved ResolveNameError) (m : Meaning) → P m → Answers r m → AnswersMeaning P r
 tells_from_answers P (Ok r) m is e = subst P e is
 tells_from_answers P (Err Memory) m is e = tt
 tells_from_answers P (Err NotFound) m is e = subst P e is

@@ -47,17 +47,17 @@ SaysPlain names sees f scope name m = MatchBool (has_dot name)
     (SaysUndotted (λ p. standing sees f (names (join p name))) name scope m)
 
 -- what a name means in a scope, with a leading dot or without
-abbrev pub Means : (List ℕ → Option Definition) → (ℕ → Bool) → ResolveNameFilter → List ℕ → List ℕ
+abbrev pub NameMeans : (List ℕ → Option Definition) → (ℕ → Bool) → ResolveNameFilter → List ℕ → List ℕ
     → Meaning → Type 0
-Means names sees f scope [] m = SaysPlain names sees f scope [] m
-Means names sees f scope (b ∷ name) m = MatchBool (b == 46)
+NameMeans names sees f scope [] m = SaysPlain names sees f scope [] m
+NameMeans names sees f scope (b ∷ name) m = MatchBool (b == 46)
     (m ≡ rooted (standing sees f (names name)) name)
     (SaysPlain names sees f scope (b ∷ name) m)
 
 -- the answer's meaning is as given, but for want of memory
-abbrev pub Tells : (Meaning → Type 0) → Result Resolved ResolveNameError → Type 0
-Tells P (Ok r) = P (means (string_bytes r.full_name) r.definition)
-Tells P (Err Memory) = Unit {0}
-Tells P (Err NotFound) = P not_found
-Tells P (Err InvalidType) = P wrong_kind
-Tells P (Err (Shadowed full)) = P (shadowed (string_bytes full))
+abbrev pub AnswersMeaning : (Meaning → Type 0) → Result Resolved ResolveNameError → Type 0
+AnswersMeaning P (Ok r) = P (means (string_bytes r.full_name) r.definition)
+AnswersMeaning P (Err Memory) = Unit {0}
+AnswersMeaning P (Err NotFound) = P not_found
+AnswersMeaning P (Err InvalidType) = P wrong_kind
+AnswersMeaning P (Err (Shadowed full)) = P (shadowed (string_bytes full))

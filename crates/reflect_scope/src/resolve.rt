@@ -1,7 +1,7 @@
 ghost use Rattle.std.specs.Prelude.{◌≡◌, ℕ, ◌+◌, ◌<◌, ◌≤◌, IfOk, OnOk, string_bytes, false};
 ghost use Rattle.reflect_scope.specs.Known.{known_of};
 ghost use Rattle.reflect_scope.specs.Seen.{tells};
-ghost use Rattle.reflect_scope.specs.Says.{Means, Tells};
+ghost use Rattle.reflect_scope.specs.Says.{NameMeans, AnswersMeaning};
 ghost use Rattle.reflect_scope.specs.Means.{join, outer, is_wanted as takes, is_seen as sees, standing, is_holder as holds, Answers, resolve, undotted, dotted, settled, rooted, scopes, marks, missing};
 
 use crate::definition::{Definition, DefinitionKind, ResolveNameFilter};
@@ -274,11 +274,11 @@ pub fn resolve_name(
     name: &str,
     filter: ResolveNameFilter,
 ) -> Result<Resolved, ResolveNameError>
-    // `resolve` goes from scope to scope; `Means` says the same of all scopes at once.
+    // `resolve` goes from scope to scope; `NameMeans` says the same of all scopes at once.
     ensures answers { Answers result
         (resolve (known_of names.now) (tells dependencies.now) filter
         scope.now name.now) }
-    ensures means { Tells (Means (known_of names.now) (tells dependencies.now) filter
+    ensures means { AnswersMeaning (NameMeans (known_of names.now) (tells dependencies.now) filter
         scope.now name.now) result }
 {
     if let Some(full_name) = name.strip_prefix('.') {

@@ -2,7 +2,10 @@
 //! order of that list.
 #![tactic(auto)]
 
+mod item;
 mod map_entry;
+mod part;
+mod place;
 mod visit_error;
 mod visit_files;
 mod visit_parts;

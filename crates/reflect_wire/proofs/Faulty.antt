@@ -7,7 +7,7 @@ use Rattle.reflect_wire.specs.declared.wire_key.WireType.{WireType}
 use Rattle.reflect_wire.specs.declared.wire_key.WireType.TheVariants as wires
 use Rattle.reflect_wire.specs.Reads.{Fronts}
 use Rattle.reflect_wire.specs.Varint.{IsVarintWithin}
-use Rattle.reflect_wire.specs.Faults.{VarintFault, KeyFault, DelimitedFault, FixedFault, FormFault, IsTooDeep, ValueFault, GroupFault, Tells}
+use Rattle.reflect_wire.specs.Faults.{VarintFault, KeyFault, DelimitedFault, FixedFault, FormFault, IsTooDeep, ValueFault, GroupFault, TellsTrue}
 
 -- numbers
 pub ends_inside : (left : ℕ) (bytes : List ℕ) → bytes ≡ [] → VarintFault (left + 1) bytes Truncated
@@ -56,7 +56,7 @@ length_fault bytes TooLong fault = fault
 length_fault bytes Memory fault = fault
 
 -- what a refusal tells may be told in other words
-pub tells_as : (F G : List ℕ → WireError → Type 0) (bytes all : List ℕ) (e : WireError) → (F bytes e → G all e) → Tells F bytes e → Tells G all e
+pub tells_as : (F G : List ℕ → WireError → Type 0) (bytes all : List ℕ) (e : WireError) → (F bytes e → G all e) → TellsTrue F bytes e → TellsTrue G all e
 tells_as F G bytes all Memory f h = tt
 tells_as F G bytes all Truncated f h = f h
 tells_as F G bytes all BadVarint f h = f h
@@ -68,7 +68,7 @@ tells_as F G bytes all BadUtf8 f h = f h
 tells_as F G bytes all TooLong f h = f h
 
 -- what is not for want of memory tells itself
-pub tells_fault : (F : List ℕ → WireError → Type 0) (bytes : List ℕ) (e : WireError) → F bytes e → Tells F bytes e
+pub tells_fault : (F : List ℕ → WireError → Type 0) (bytes : List ℕ) (e : WireError) → F bytes e → TellsTrue F bytes e
 tells_fault F bytes Memory h = tt
 tells_fault F bytes Truncated h = h
 tells_fault F bytes BadVarint h = h

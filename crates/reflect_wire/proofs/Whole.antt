@@ -6,10 +6,10 @@ use Rattle.reflect_wire.specs.Records.{Payload, Records, no_records, more_record
 use Rattle.reflect_wire.specs.declared.wire_key.WireKey.{WireKey}
 use Rattle.reflect_wire.proofs.Unique.{one_key, one_payload}
 
-regrouped : (key value rest more : List ℕ) → (key ++ (value ++ rest)) ++ more ≡ key ++ (value ++ (rest ++ more))
+pub regrouped : (key value rest more : List ℕ) → (key ++ (value ++ rest)) ++ more ≡ key ++ (value ++ (rest ++ more))
 regrouped key value rest more = simp append_assoc
 
-key_there : (key more : List ℕ) (k : WireKey) → IsKey key k → key ++ more ≡ [] → ⊥
+pub key_there : (key more : List ℕ) (k : WireKey) → IsKey key k → key ++ more ≡ [] → ⊥
 key_there [] more k h e = h.spelled.spelled
 key_there (b ∷ bs) more k h e = cc
 

@@ -102,6 +102,6 @@ SetFault levels bytes e = (rs : Records)
     × ((rest : List ℕ) × Fronts (SpellsRecords levels) bytes rs rest × FieldFault levels rest e)
 
 -- a refusal is for want of memory, or true of the bytes
-abbrev pub Tells : (List ℕ → WireError → Type 0) → List ℕ → WireError → Type 0
-Tells Fault bytes Memory = Unit {0}
-Tells Fault bytes e = Fault bytes e
+abbrev pub TellsTrue : (List ℕ → WireError → Type 0) → List ℕ → WireError → Type 0
+TellsTrue Fault bytes Memory = Unit {0}
+TellsTrue Fault bytes e = Fault bytes e

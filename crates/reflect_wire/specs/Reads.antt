@@ -14,21 +14,21 @@ abbrev pub NoFront : {X : Type 0} → (List ℕ → X → Type 0) → List ℕ �
 NoFront {X} R bytes = (front rest : List ℕ) (x : X) → R front x → bytes ≡ front ++ rest → ⊥
 
 -- what a refusal says
-abbrev pub Refuses : {X : Type 0} → (List ℕ → X → Type 0) → List ℕ → WireError → Type 0
-Refuses R bytes errors.Memory = Unit {0}
-Refuses R bytes _ = NoFront R bytes
+abbrev pub RefusesFront : {X : Type 0} → (List ℕ → X → Type 0) → List ℕ → WireError → Type 0
+RefusesFront R bytes errors.Memory = Unit {0}
+RefusesFront R bytes _ = NoFront R bytes
 
 -- a value and the bytes behind it are read exactly where a front spells one, unless memory ran out
 abbrev pub Reads : {X : Type 0} → (List ℕ → X → Type 0) → List ℕ
     → Result (X × Bor (List ℕ)) WireError → Type 0
 Reads R bytes (Ok found) = Fronts R bytes found.0 found.1.now
-Reads R bytes (Err e) = Refuses R bytes e
+Reads R bytes (Err e) = RefusesFront R bytes e
 
 -- the same, where the relation speaks of what view sees of a value
 abbrev pub ReadsBy : {X Y : Type 0} → (X → Y) → (List ℕ → Y → Type 0) → List ℕ
     → Result (X × Bor (List ℕ)) WireError → Type 0
 ReadsBy view R bytes (Ok found) = Fronts R bytes (view found.0) found.1.now
-ReadsBy view R bytes (Err e) = Refuses R bytes e
+ReadsBy view R bytes (Err e) = RefusesFront R bytes e
 
 -- what a refusal says where all the bytes have to spell one value
 abbrev pub RefusesWhole : {X : Type 0} → (List ℕ → X → Type 0) → List ℕ → WireError → Type 0

@@ -6,7 +6,7 @@ ghost use Rattle.reflect_wire.specs.Varint.{IsVarintWithin, IsVarint};
 ghost use Rattle.reflect_wire.specs.Key.{IsKey, IsDelimited, IsFixed32, IsFixed64};
 
 use crate::wire_error::WireError;
-use crate::wire_key::{WireKey, WireType};
+use crate::wire_key::{MAX_FIELD_NUMBER, WireKey, WireType};
 
 /// The number at the front, in at most `left` and one more bytes.
 fn varint_within(bytes: &[u8], left: u32) -> Result<(u64, &[u8]), WireError>
@@ -86,7 +86,7 @@ pub fn varint_at(bytes: &[u8]) -> Result<(u64, &[u8]), WireError>
     }
 }
 
-/// The key at the front: a field number of 1 to 536870911 and a wire type ("Encoding", Message
+/// The key at the front: a field number from 1 to the highest and a wire type ("Encoding", Message
 /// Structure).
 ///
 /// Refused as `varint_at` is, and with `BadKey` where the number or the wire type is none.
@@ -106,7 +106,8 @@ pub fn key_at(bytes: &[u8]) -> Result<(WireKey, &[u8]), WireError>
         _ => return Err(WireError::BadKey),
     };
     let number = n / 8;
-    if number == 0 || number > 536870911 {
+    let highest = MAX_FIELD_NUMBER as u64;
+    if number == 0 || number > highest {
         return Err(WireError::BadKey);
     }
     Ok((

@@ -1,11 +1,12 @@
 //! Records of fields that no descriptor declares, kept as they came.
 ghost use Rattle.std.specs.Prelude.{◌≡◌, ◌-◌, ◌<◌, ◌≤◌, ◌^◌, ◌↔◌, ◌++◌, [], ◌∷◌, IsTrue, IfOk, IfErr, OnOk, OnErr, SomeIff, length};
 ghost use Rattle.std.specs.Slice.Iter.{iter_rest};
-ghost use Rattle.reflect_wire.specs.Faults.{ValueFault, GroupFault, FieldFault, SetFault, Tells};
-ghost use Rattle.reflect_wire.specs.Reads.{ReadsBy, Fronts, Refuses, RefusesWhole};
+ghost use Rattle.reflect_wire.specs.Faults.{ValueFault, GroupFault, FieldFault, SetFault, TellsTrue};
+ghost use Rattle.reflect_wire.specs.Reads.{ReadsBy, Fronts, RefusesFront, RefusesWhole};
 ghost use Rattle.reflect_wire.specs.Records.{IsValue, IsGroup, IsField, SpellsRecords, key_of, wire_of, no_records};
 ghost use Rattle.reflect_wire.specs.Encoding.{payload_bytes, field_bytes, records_bytes, KeepsFront, IsUnwritten};
 ghost use Rattle.reflect_wire.specs.Views.{payload_view, records_view, field_view, set_view, fields_of};
+ghost use Rattle.reflect_wire.specs.declared.wire_key.TheConstants.{MAX_FIELD_NUMBER};
 
 use crate::read::{delimited_at, fixed32_at, fixed64_at, key_at, varint_at};
 use crate::wire_error::WireError;
@@ -17,8 +18,8 @@ use crate::write::{
 use std::alloc::{AllocError, AllocFailed, Global};
 use std::slice;
 
-/// How many levels of messages and groups may lie below the top.
-const MAX_LEVELS: u32 = 100;
+/// How many levels of messages and groups may lie below the top, wherever records are read.
+pub const MAX_LEVELS: u32 = 100;
 
 /// A record of a field that no descriptor declares.
 #[derive(Drop)]
@@ -60,7 +61,7 @@ pub fn value_at(
     levels: u32,
 ) -> Result<(UnknownFieldValue, &[u8]), WireError>
     ensures read { ReadsBy payload_view (IsValue levels key) bytes.now result }
-    ensures fault { IfErr result (Tells (ValueFault levels key) bytes.now) }
+    ensures fault { IfErr result (TellsTrue (ValueFault levels key) bytes.now) }
 {
     match key.wire {
         WireType::Varint => {
@@ -102,7 +103,7 @@ fn group_at(
     levels: u32,
 ) -> Result<(Vec<UnknownField>, &[u8]), WireError>
     ensures read { ReadsBy (λ v. records_view v.items) (IsGroup levels number) bytes.now result }
-    ensures fault { IfErr result (Tells (GroupFault levels number) bytes.now) }
+    ensures fault { IfErr result (TellsTrue (GroupFault levels number) bytes.now) }
 {
     let mut fields = Vec::new(alloc);
     let mut rest = bytes;
@@ -131,8 +132,8 @@ impl UnknownField {
     pub fn decode(alloc: Global, bytes: &mut &[u8], depth: u32) -> Result<UnknownField, WireError>
         ensures ok { IfOk result (λ f. Fronts (IsField (100 - depth)) bytes.old.now (field_view f)
             bytes.new.now) }
-        ensures err { IfErr result (λ e. Refuses (IsField (100 - depth)) bytes.old.now e) }
-        ensures fault { IfErr result (Tells (FieldFault (100 - depth)) bytes.old.now) }
+        ensures err { IfErr result (λ e. RefusesFront (IsField (100 - depth)) bytes.old.now e) }
+        ensures fault { IfErr result (TellsTrue (FieldFault (100 - depth)) bytes.old.now) }
         ensures left { OnErr result (bytes.new ≡ bytes.old) }
     {
         let (key, rest) = key_at(*bytes)?;
@@ -156,13 +157,13 @@ impl UnknownField {
         depth: u32,
     ) -> Result<UnknownField, WireError>
         requires positive { 0 < number }
-        requires small { number ≤ 536870911 }
+        requires small { number ≤ MAX_FIELD_NUMBER }
         ensures number { IfOk result (λ f. (field_view f).0 ≡ number) }
         ensures ok { IfOk result (λ f. Fronts (IsValue (100 - depth) (key_of number wire_type))
             bytes.old.now (field_view f).1 bytes.new.now) }
-        ensures err { IfErr result (λ e. Refuses (IsValue (100 - depth) (key_of number wire_type))
-            bytes.old.now e) }
-        ensures fault { IfErr result (Tells (ValueFault (100 - depth) (key_of number wire_type))
+        ensures err { IfErr result (λ e. RefusesFront
+            (IsValue (100 - depth) (key_of number wire_type)) bytes.old.now e) }
+        ensures fault { IfErr result (TellsTrue (ValueFault (100 - depth) (key_of number wire_type))
             bytes.old.now) }
         ensures left { OnErr result (bytes.new ≡ bytes.old) }
     {
@@ -338,7 +339,7 @@ impl UnknownFieldSet {
     pub fn decode(alloc: Global, bytes: &[u8]) -> Result<UnknownFieldSet, WireError>
         ensures ok { IfOk result (λ s. SpellsRecords 100 bytes.now (set_view s)) }
         ensures err { IfErr result (RefusesWhole (SpellsRecords 100) bytes.now) }
-        ensures fault { IfErr result (Tells (SetFault 100) bytes.now) }
+        ensures fault { IfErr result (TellsTrue (SetFault 100) bytes.now) }
     {
         let mut set = UnknownFieldSet::new(alloc);
         let mut rest = bytes;

@@ -58,15 +58,15 @@ PayloadRefused p name is_hex input fault.Write = Unit {0}
 PayloadRefused p name is_hex input fault.Memory = Unit {0}
 
 -- how an input is refused
-abbrev pub Refuses : Action → PoolType → List ℕ → Bool → List ℕ → Fault → Type 0
-Refuses Encode p name is_hex input (fault.Schema e) = TextRefused p name input e
-Refuses Encode p name is_hex input fault.NotHex = ⊥
-Refuses Encode p name is_hex input fault.NotUtf8 = ¬ IsUtf8 input
-Refuses Encode p name is_hex input fault.Read = Unit {0}
-Refuses Encode p name is_hex input fault.Write = Unit {0}
-Refuses Encode p name is_hex input fault.Memory = Unit {0}
-Refuses Decode p name is_hex input f = PayloadRefused p name is_hex input f
-Refuses Recode p name is_hex input f = PayloadRefused p name is_hex input f
+abbrev pub RefusesInput : Action → PoolType → List ℕ → Bool → List ℕ → Fault → Type 0
+RefusesInput Encode p name is_hex input (fault.Schema e) = TextRefused p name input e
+RefusesInput Encode p name is_hex input fault.NotHex = ⊥
+RefusesInput Encode p name is_hex input fault.NotUtf8 = ¬ IsUtf8 input
+RefusesInput Encode p name is_hex input fault.Read = Unit {0}
+RefusesInput Encode p name is_hex input fault.Write = Unit {0}
+RefusesInput Encode p name is_hex input fault.Memory = Unit {0}
+RefusesInput Decode p name is_hex input f = PayloadRefused p name is_hex input f
+RefusesInput Recode p name is_hex input f = PayloadRefused p name is_hex input f
 
 -- a refusal of the schema, as one of a payload
 abbrev pub of_schema : SchemaError → Fault

@@ -4,7 +4,7 @@ ghost use Rattle.std.specs.Prelude.{◌≡◌, ◌≢◌, ◌⊎◌, true, false
 ghost use Rattle.std.specs.List.{AllPass};
 ghost use Rattle.std.specs.Io.KnownBytes.{Appends, IsAtEnd, Keeps};
 ghost use Rattle.hex.specs.Hex.{decode_of};
-ghost use Rattle.schema_core.specs.Serving.{Answers, IsNoHex, IsPayload, IsTrimmed, Refuses, is_margin, shown};
+ghost use Rattle.schema_core.specs.Serving.{Answers, IsNoHex, IsPayload, IsTrimmed, RefusesInput, is_margin, shown};
 ghost use Rattle.schema_core.specs.Texts.{told};
 ghost use Rattle.schema_core.specs.declared.payload.Fault.TheVariants as fault;
 
@@ -226,7 +226,7 @@ pub fn serve<R: Read, W: Write>(
         written × Appends (W.contents output.old) (W.contents output.new) written)) }
     ensures refused { IfErr result
         (λ f. IfSome (R.remaining input.old)
-        (λ given. Refuses action schema.now.pool type_name.now is_hex given f)) }
+        (λ given. RefusesInput action schema.now.pool type_name.now is_hex given f)) }
     ensures kept { IfErr result (λ f. (f ≡ fault.Write) ⊎ (output.new ≡ output.old)) }
 {
     let input = read_all(alloc, input)?;

@@ -32,7 +32,7 @@ impl Schema {
     ghost use Rattle.reflect_pool.specs.FindsNames.{FindsMessage};
     ghost use Rattle.reflect_pool.specs.Linked.{empty_pool};
     ghost use Rattle.reflect_bytes.specs.Written.{pool_bytes};
-    ghost use Rattle.option_parts.specs.OptionTypes.{Reads};
+    ghost use Rattle.option_parts.specs.OptionTypes.{ReadsOptions};
     ghost use Rattle.option_parts.specs.declared.option_scope.OptionScope.{OptionScope};
     ghost use Rattle.schema_core.specs.declared.error.SchemaError.TheVariants.{Memory};
     ghost use Rattle.schema_core.specs.Payloads.{IsRead, Encoded, Decoded, Recoded};
@@ -54,7 +54,7 @@ impl Schema {
     /// Refused as `add_sources` is, and as `Options` where not all of the nine types are there and
     /// can be read by.
     pub fn new(alloc: Global, descriptor_source: &str) -> Result<Schema, SchemaError>
-        ensures types { IfOk result (λ s. (scope : OptionScope) → Reads s.pool scope) }
+        ensures types { IfOk result (λ s. (scope : OptionScope) → ReadsOptions s.pool scope) }
         ensures linked { IfOk result (λ s. SourcesLinked empty_pool
             ((descriptor_name, descriptor_source.now) ∷ []) s.pool) }
         ensures err { IfErr result (SourcesRefused empty_pool

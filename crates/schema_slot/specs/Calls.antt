@@ -31,8 +31,8 @@ place_in payload e = told_position e
 
 -- A refusal of the schema: its code, the refusal itself, from which its file is told, and its
 -- place. The answer is its text, or nothing where memory runs out for it.
-abbrev pub Tells : Placing → SchemaError → Code → Session → Type 0
-Tells place e c new = (c ≡ code_of e) × (new.fault ≡ Some e) × (position new ≡ place e)
+abbrev pub TellsRefusal : Placing → SchemaError → Code → Session → Type 0
+TellsRefusal place e c new = (c ≡ code_of e) × (new.fault ≡ Some e) × (position new ≡ place e)
     × ((answer new ≡ said e) ⊎ (answer new ≡ []))
 
 -- so it is unless the call is done
@@ -48,7 +48,7 @@ EndsAt place Read Done Refused code.Done new = Read × IsFaultless new × Done n
 EndsAt place Read Done Refused code.NotUtf8 new = (¬ Read) × IsFaultless new × (answer new ≡ [])
 EndsAt place Read Done Refused code.Closed new = ⊥
 EndsAt place Read Done Refused code.Room new = ⊥
-EndsAt place Read Done Refused c new = (e : SchemaError) × Tells place e c new × Read × Refused e
+EndsAt place Read Done Refused c new = (e : SchemaError) × TellsRefusal place e c new × Read × Refused e
 
 -- A refusal that is of no text stands where the schema tells it.
 abbrev pub Ends : Type 0 → (Session → Type 0) → (SchemaError → Type 0) → Code → Session → Type 0

@@ -3,7 +3,7 @@
 ghost use Rattle.std.specs.Prelude.{◌≡◌, [], ◌++◌, ◌∷◌, None, IfErr, OnOk, OnErr, map, option_map};
 ghost use Rattle.reflect_pool.specs.Linked.{empty_pool};
 ghost use Rattle.schema_core.specs.Refusals.{SourcesLinked, SourcesRefused};
-ghost use Rattle.schema_slot.specs.Calls.{AddsSet, Decodes, Encodes, Forgets, GivesSet, Links, Recodes, Tells, Waits, place_in};
+ghost use Rattle.schema_slot.specs.Calls.{AddsSet, Decodes, Encodes, Forgets, GivesSet, Links, Recodes, TellsRefusal, Waits, place_in};
 ghost use Rattle.schema_core.specs.Places.{told_position};
 ghost use Rattle.schema_slot.specs.Held.{IsFaultless, Keeps, answer, file, pair_of, pool, position, waiting};
 ghost use Rattle.schema_slot.specs.declared.code.Code.TheVariants as code;
@@ -69,7 +69,7 @@ impl Session {
     /// Keeps why a call was refused, and where that stands in a file.
     fn refused(&mut self, error: SchemaError) -> Code
         ensures kept { Keeps self.old self.new }
-        ensures told { Tells told_position error result self.new }
+        ensures told { TellsRefusal told_position error result self.new }
     {
         let place = error.position();
         self.refused_at(error, place)
@@ -79,7 +79,7 @@ impl Session {
     /// memory runs out for it.
     fn refused_at(&mut self, error: SchemaError, place: Option<(usize, usize)>) -> Code
         ensures kept { Keeps self.old self.new }
-        ensures told { Tells (λ _. place) error result self.new }
+        ensures told { TellsRefusal (λ _. place) error result self.new }
     {
         self.answer = match format!(in self.alloc; "{error}") {
             Ok(text) => text.into_bytes(),

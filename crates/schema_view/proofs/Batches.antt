@@ -9,7 +9,7 @@ use Rattle.descriptor_records.specs.Content.{Text, FileContent}
 use Rattle.schema_view.specs.Files.{join, Import, imports_of}
 use Rattle.schema_view.specs.References.{Want, Reference, Target, references, dotted, linked}
 use Rattle.schema_view.specs.Outlines.{Sort, Outline, outline_of, IsNamed, IsDeclared, IsChain, Sees, AreApart}
-use Rattle.schema_view.specs.Means.{has_dot, first_part, IsWanted, Holds, HasType, Means}
+use Rattle.schema_view.specs.Means.{has_dot, first_part, IsWanted, Holds, HasType, ReferenceMeans}
 use Rattle.schema_view.specs.Plain.{IsPlainFile}
 use Rattle.schema_view.specs.Lawful.{outlines, Meanings, all_linked, IsLawful, Adds, Builds, sources, SameFiles}
 use Rattle.schema_view.specs.Views.{view_of}
@@ -80,7 +80,7 @@ record IsMeant (fs all : List Outline) (f : FileContent) (means : Reference → 
   closed : IsClosed fs
   nested : AreNested fs
   home : Contains fs (outline_of f)
-  right : (r : Reference) → Contains (references f) r → Means fs (outline_of f) r (means r)
+  right : (r : Reference) → Contains (references f) r → ReferenceMeans fs (outline_of f) r (means r)
 
 -- targets of one name are one, where names are apart
 one_target : (us : List Outline) → AreApart us → (a b : Target) → a.name ≡ b.name → ((s : Sort) × IsDeclared us a.name s × HasType s a.type) → ((s : Sort) × IsDeclared us b.name s × HasType s b.type) → dotted a ≡ dotted b
@@ -229,8 +229,8 @@ same_view batches others after last plain same built rebuilt =
 
 -- files are linked in one way by what their references mean
 pub linked_once : (os : List Outline) → AreApart os → (m n : Meanings) (fs : List FileContent)
-    → ((f : FileContent) (r : Reference) → Contains fs f → Contains (references f) r → Means os (outline_of f) r (m f r))
-    → ((f : FileContent) (r : Reference) → Contains fs f → Contains (references f) r → Means os (outline_of f) r (n f r))
+    → ((f : FileContent) (r : Reference) → Contains fs f → Contains (references f) r → ReferenceMeans os (outline_of f) r (m f r))
+    → ((f : FileContent) (r : Reference) → Contains fs f → Contains (references f) r → ReferenceMeans os (outline_of f) r (n f r))
     → all_linked m fs ≡ all_linked n fs
 linked_once os apart m n [] first second = refl
 linked_once os apart m n (f ∷ fs) first second =

@@ -10,7 +10,7 @@ use Rattle.schema_view.specs.Files.{Import, imports_of, is_proto3}
 use Rattle.schema_view.specs.Declarations.{FieldFacts, MessageFacts, of_message, of_field, Declaration, declarations}
 use Rattle.schema_view.specs.References.{a_type, Reference, references, linked}
 use Rattle.schema_view.specs.Outlines.{Outline, outline_of, Head, message_sort, other_sort, IsScope, IsNamed, IsPackage, AreApart, times_declared}
-use Rattle.schema_view.specs.Means.{IsWanted, Means}
+use Rattle.schema_view.specs.Means.{IsWanted, ReferenceMeans}
 use Rattle.schema_view.specs.Rules.{is_number, IsFieldNumber, IsMessage, IsField, SaysEntry, IsSound}
 use Rattle.schema_view.specs.Lawful.{outlines, Meanings, IsSettled, IsFile, IsLawful, Adds}
 use Rattle.schema_view.specs.Example.{field_f, file_p}
@@ -102,8 +102,8 @@ each_declaration P p q d i = elim (contains_cases message_declared (field_declar
 wanted : IsWanted os (outline_of file_p) (a_type (Some (pos 11))) (codes "p.M")
 wanted = (outline_of file_p, record { name = codes "p.M"; sort = message_sort [] [] }, contains_here (outline_of file_p) [], contains_here (record { name = codes "p.M"; sort = message_sort [] [] }) (record { name = codes "p.M.f"; sort = other_sort } ∷ []), refl, refl, inl refl)
 
-mean : (f : FileContent) → Contains (file_p ∷ []) f → (r : Reference) → Contains (references f) r → Means os (outline_of f) r (means f r)
-mean = only_file (λ g. (r : Reference) → Contains (references g) r → Means os (outline_of g) r (means g r)) (only_reference (λ r. Means os (outline_of file_p) r (means file_p r)) (record {
+mean : (f : FileContent) → Contains (file_p ∷ []) f → (r : Reference) → Contains (references f) r → ReferenceMeans os (outline_of f) r (means f r)
+mean = only_file (λ g. (r : Reference) → Contains (references g) r → ReferenceMeans os (outline_of g) r (means g r)) (only_reference (λ r. ReferenceMeans os (outline_of file_p) r (means file_p r)) (record {
   named = (refl, wanted);
   typed = (message_sort [] [], (outline_of file_p, record { name = codes "p.M"; sort = message_sort [] [] }, contains_here (outline_of file_p) [], contains_here (record { name = codes "p.M"; sort = message_sort [] [] }) (record { name = codes "p.M.f"; sort = other_sort } ∷ []), refl, refl), refl);
   suits = inl refl;

@@ -7,7 +7,7 @@ use Rattle.schema_view.specs.Files.{join}
 use Rattle.schema_view.specs.Declarations.{Body, of_message, of_field, of_oneof, of_enum, of_value, of_service, of_method, of_extension}
 use Rattle.schema_view.specs.References.{Want, Reference, Target}
 use Rattle.schema_view.specs.Outlines.{Sort, Outline, IsNamed, IsDeclared, IsChain, Sees, IsPackage}
-use Rattle.schema_view.specs.Means.{IsWanted, Holds, has_dot, first_part, MeansUndotted, MeansDotted, MeansPlain, MeansBy, Means}
+use Rattle.schema_view.specs.Means.{IsWanted, Holds, has_dot, first_part, MeansUndotted, MeansDotted, MeansPlain, MeansBy, ReferenceMeans}
 use Rattle.schema_view.specs.Lawful.{KeepsNumber, SuitsEnum, IsSettled}
 
 abbrev pub Within : List Outline → List Outline → Type 0
@@ -83,7 +83,7 @@ module _ (W H V G : Text → Type 0) (to : (n : Text) → W n → V n) (from : (
       (λ r. (r.0, to name r.1)) (plain_same scope (b ∷ name) full) h
 
 -- the same files in another order
-pub means_same : (os ps : List Outline) → Within os ps → Within ps os → (from : Outline) (r : Reference) (t : Target) → Means os from r t → Means ps from r t
+pub means_same : (os ps : List Outline) → Within os ps → Within ps os → (from : Outline) (r : Reference) (t : Target) → ReferenceMeans os from r t → ReferenceMeans ps from r t
 means_same os ps there back from r t h = record {
   named = means_by_same (IsWanted os from r.want) (Holds os) (IsWanted ps from r.want) (Holds ps)
       (wanted_within os ps there from r.want) (wanted_within ps os back from r.want) (holds_within ps os back) (holds_within os ps there) r.scope r.name t.name h.named;

@@ -6,7 +6,7 @@ use Rattle.schema_view.specs.Files.{IsThere, HasSyntax, is_proto3, Import, impor
 use Rattle.schema_view.specs.Declarations.{MessageFacts, Range, Body, of_message, of_field, of_extension, Declaration, declarations}
 use Rattle.schema_view.specs.References.{Reference, references, Target, linked}
 use Rattle.schema_view.specs.Outlines.{Outline, outline_of, message_sort, enum_sort, IsNamed, IsDeclared, AreApart}
-use Rattle.schema_view.specs.Means.{Means}
+use Rattle.schema_view.specs.Means.{ReferenceMeans}
 use Rattle.schema_view.specs.Rules.{is_number, IsIn, SaysEntry, IsSound}
 
 abbrev pub outlines : List FileContent → List Outline
@@ -107,7 +107,7 @@ pub record IsLawful (old new : List FileContent) (meanings : Meanings) : Type 0 
       → Contains new f → Contains (imports_of f) i → IsNamed (outlines (old ++ new)) i.file
   pub means : (f : FileContent) (r : Reference)
       → Contains new f → Contains (references f) r
-      → Means (outlines (old ++ new)) (outline_of f) r (meanings f r)
+      → ReferenceMeans (outlines (old ++ new)) (outline_of f) r (meanings f r)
   pub sound : (f : FileContent) (d : Declaration)
       → Contains new f → Contains (declarations f) d → IsSound (is_proto3 f) d.body
   pub settled : (f : FileContent) (d : Declaration)

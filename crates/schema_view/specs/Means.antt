@@ -93,7 +93,7 @@ SuitsWant (a_type None) type = Unit {0}
 SuitsWant (a_type (Some n)) type = (n ≡ type) ⊎ ((n ≡ pos 10) × (type ≡ pos 11))
 
 -- the reference in a file means the definition of the target
-pub record Means (os : List Outline) (from : Outline) (r : Reference) (t : Target) : Type 0 where
+pub record ReferenceMeans (os : List Outline) (from : Outline) (r : Reference) (t : Target) : Type 0 where
   pub named : MeansBy (IsWanted os from r.want) (Holds os) r.scope r.name t.name
   pub typed : (s : Sort) × IsDeclared os t.name s × HasType s t.type
   pub suits : SuitsWant r.want t.type

@@ -14,7 +14,7 @@ use Rattle.reflect_tables.specs.Views.{record_file, file_of, record_of, declared
 use Rattle.reflect_tables.specs.declared.stored.StoredFile.{StoredFile}
 use Rattle.reflect_tables.specs.declared.tables.Tables.{Tables}
 use Rattle.reflect_build.specs.Accepted.{FaultlessBatch}
-use Rattle.reflect_build.specs.Refusals.{Linking, with_declared, IsOf, Means, AreTypes}
+use Rattle.reflect_build.specs.Refusals.{Linking, with_declared, IsOf, ReferencesMean, AreTypes}
 use Rattle.reflect_build.proofs.Stored.{stored_settled}
 use Rattle.settled_view.specs.BuiltBut.{Settles}
 use Rattle.settled_view.proofs.Transfer.{headers_same, known_same, counts_same}
@@ -142,8 +142,8 @@ module _ (before p : PoolType) (s : Settles before p) (w : Linking) (is : IsOf p
   }
 
   module _ (ns : List FileDescriptorProto) (references : List Reference) where
-    pub means_before : Means (with_declared w ns) ns references
-        → Means (with_declared linking ns) ns references
+    pub means_before : ReferencesMean (with_declared w ns) ns references
+        → ReferencesMean (with_declared linking ns) ns references
     means_before m = record { links = m.links; linked = m.linked; right = m.right }
 
     pub are_types_before : (t : LinkedTypes) → AreTypes (with_declared w ns) ns references t

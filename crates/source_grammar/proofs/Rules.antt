@@ -9,7 +9,7 @@ use Rattle.protox_tokens.specs.Refusal.{this}
 use Rattle.protox_tokens.specs.Marks.{Mark, Spells, FitsToken, spot, IsAny}
 use Rattle.protox_tokens.specs.Marks as marks
 use Rattle.protox_tokens.proofs.Loops.{Shortens, loop-is}
-use Rattle.protox_tokens.proofs.Local.{same_ok, bound}
+use Rattle.protox_tokens.proofs.Local.{bound, none_is, none_not, same_ok, some_not, some_of}
 use Rattle.protox_tokens.proofs.Both as both
 use Rattle.protox_tokens.proofs.Both.{IsNamed, Always, Free, then_ok}
 use Rattle.protox_tokens.proofs.Steps.{Absent, eat_none, both_eat, both_leaf, same_is, sees_first}
@@ -204,22 +204,6 @@ module _ {A : Type 0} (L : A → Language) (F : A → Stream → Type 0) (E : St
     loop_complete (x ∷ xs) ts r h e l =
         loop-is step short ts ∙ then_ok (λ o. goes_on o (loop step)) (more ts h.0 x h.1 (follows x xs h.0 r h.2 l))
         (then_ok (λ xs. pure (x ∷ xs)) (loop_complete xs h.0 r h.2 e (rest_of x xs r l)) refl)
-
-pub some_of : {A : Type 0} (p : Parser A) (ts r : Stream) (x : A) → (Some <$> p) ts ≡ Ok (Some x, r) → p ts ≡ Ok (x, r)
-some_of {A = A} p ts r x e =
-    let b = bound (p ts) (λ x. pure (Some x)) (Some x, r) e in
-    let y = same_ok (Some b.0.0, b.0.1) (Some x, r) b.2 in
-    let first : b.0.0 ≡ x = let z : Some b.0.0 ≡ Some x = ap (λ (y : Option A × Stream). y.0) y in cc in
-    b.1 ∙ ap (λ x. Ok (x, b.0.1)) first ∙ ap (λ s. Ok (x, s)) (ap (λ (y : Option A × Stream). y.1) y)
-
-pub some_not : {A : Type 0} {X : Type 0} (p : Parser A) (ts r : Stream) → (Some <$> p) ts ≡ Ok (None, r) → X
-some_not {A = A} p ts r e = let b = bound (p ts) (λ x. pure (Some x)) (None, r) e in absurd (let wrong : ◌≡◌ {A = Option A} (Some b.0.0) None = ap (λ (y : Option A × Stream). y.0) (same_ok (Some b.0.0, b.0.1) (None, r) b.2) in cc)
-
-pub none_is : {A : Type 0} (ts r : Stream) → pure {A = Option A} None ts ≡ Ok (None, r) → ts ≡ r
-none_is {A = A} ts r e = ap (λ (y : Option A × Stream). y.1) (same_ok (None, ts) (None, r) e)
-
-pub none_not : {A : Type 0} {X : Type 0} (ts r : Stream) (x : A) → pure {A = Option A} None ts ≡ Ok (Some x, r) → X
-none_not {A = A} ts r x e = absurd (let wrong : ◌≡◌ {A = Option A} None (Some x) = ap (λ (y : Option A × Stream). y.0) (same_ok (None, ts) (Some x, r) e) in cc)
 
 -- values, as long as what is ahead is so
 module _ {A : Type 0} (f : Stream → Bool) {p : Parser A} {L : A → Language} {F : A → Stream → Type 0} (rule : Rule (λ ts. f ts ≡ true) p L IsAny F) where

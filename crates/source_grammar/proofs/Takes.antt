@@ -9,13 +9,13 @@ use Rattle.protox_tokens.specs.Stream.{Stream, Piece, Seen, look, tail, text}
 use Rattle.protox_tokens.specs.Parser.{Outcome, Parser, and_then, ◌>>=◌, ◌>>◌, ◌<$>◌, pure, same, is, value_of, saw, sees_in, eaten, eat_in, taken, one, expect_in, loop, when, behind_in, many as many_steps, done, choose}
 use Rattle.protox_tokens.specs.Refusal.{Expected, this}
 use Rattle.protox_tokens.proofs.Loops.{Shortens}
-use Rattle.protox_tokens.proofs.Local.{same_ok, bound}
+use Rattle.protox_tokens.proofs.Local.{same_ok, bound, some_of, some_not, none_is, none_not}
 use Rattle.protox_tokens.proofs.Both.{IsNamed, Always, then_ok}
 use Rattle.protox_tokens.proofs.Steps.{same_is, seen_is}
 use Rattle.protox_tokens.proofs.Lists.{lastly_all}
 use Rattle.source_grammar.specs.Aggregates.{Sees, in_text, a_sign}
 use Rattle.source_grammar.specs.Languages.{Language, nothing, ◌▸◌, ◌∪◌, each, times, many}
-use Rattle.source_grammar.proofs.Rules.{Turn, loop_sound, loop_complete, some_of, some_not, none_is, none_not}
+use Rattle.source_grammar.proofs.Rules.{Turn, loop_sound, loop_complete}
 
 -- What p takes of an input that has H is of the language, and what is, with F of what follows, is taken.
 pub record Takes (H : Stream → Type 0) (p : Passes) (L : Language) (F : Stream → Type 0) : Type 0 where

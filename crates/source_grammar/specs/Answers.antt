@@ -3,7 +3,7 @@ use Rattle.descriptor_records.specs.Content as records
 use Rattle.protox_check.specs.Faults as checks
 use Rattle.protox_file.specs.Sources.{RefusedBy}
 use Rattle.protox_lex.specs.Class.{Text}
-use Rattle.protox_parse.specs.Answers.{Tells, HasFaults, IsRecordOf}
+use Rattle.protox_parse.specs.Answers.{TellsFault, HasFaults, IsRecordOf}
 use Rattle.protox_tokens.specs.Refusal.{Fault}
 use Rattle.protox_tree.specs.FileTree.{File}
 use Rattle.protox_tree.specs.FileView.{file_view}
@@ -26,5 +26,5 @@ SpellsNone z = (tree : File) → IsSpelledBy tree z → ⊥
 -- that has faults, and all of them are told.
 abbrev pub AreFaultsIn : Text → List ParseErrorKind → Type 0
 AreFaultsIn z faults =
-    (SpellsNone z × (fault : Fault) × RefusedBy z fault × Tells fault faults)
+    (SpellsNone z × (fault : Fault) × RefusedBy z fault × TellsFault fault faults)
     ⊎ ((tree : File) × IsSpelledBy tree z × HasFaults tree faults)

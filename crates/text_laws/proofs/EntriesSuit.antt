@@ -1,11 +1,12 @@
 -- The entries of a map: the key and the value of a message that suits the type of entries.
-use Rattle.std.proofs.Common.{ℕ, Bool, true, false, cond, List, [], ◌∷◌, Option, Some, subst}
+use Rattle.std.proofs.Common.{ℕ, Bool, List, [], ◌∷◌, Option, Some, subst}
 use Rattle.std.specs.List.{AllByRecursion}
 use Rattle.protobuf_model.specs.Values.{Single, Content, single, message, Contents, no_contents, more_contents, Entries, no_entries, more_entries, Held, content, records, Message, nothing, list_of, chain_of, pairs_of, entries_of}
 use Rattle.protobuf_model.specs.Types.{Name, Kind, scalar, nested, Part, Key, one, Types}
-use Rattle.protobuf_model.specs.Scalars.{Suits, same}
-use Rattle.protobuf_model.specs.Keys.{below, put}
+use Rattle.protobuf_model.specs.Scalars.{Suits}
+use Rattle.protobuf_model.specs.Keys.{put}
 use Rattle.protobuf_model.specs.Meaning.{put_all}
+use Rattle.protobuf_model.proofs.Typing.{all_put}
 use Rattle.protobuf_model.specs.Typed.{IsOf, IsEntryOf, IsHeldOf, IsTypedBy, HasDefault}
 use Rattle.text_model.specs.Plain.{AreBytes, IsPlainContent, ArePlainContents, ArePlainEntries, IsPlainHeld, IsPlain}
 use Rattle.text_model.specs.Schemas.{key_part, HoldsOne}
@@ -40,14 +41,6 @@ entry_right P typed levels types fresh t key part k v s d b m h p =
     ((first.0, second.0), λ q. (first.1 q, second.1 q))
 
 -- entries of a map that others are put into
-all_put : (Q : Single × Content → Type 0) (k : Single) (c : Content) (es : List (Single × Content)) → Q (k, c) → AllByRecursion Q es → AllByRecursion Q (put k c es)
-all_put Q k c [] q h = (q, tt)
-all_put Q k c (e ∷ es) q h = by (all_put Q k c es q h.1) (same k e.0) (below k e.0) where
-  by : AllByRecursion Q (put k c es) → (s b : Bool) → AllByRecursion Q (cond s ((k, c) ∷ es) (cond b ((k, c) ∷ e ∷ es) (e ∷ put k c es)))
-  by later true b = (q, h.1)
-  by later false true = (q, h)
-  by later false false = (h.0, later)
-
 pub all_put_all : (Q : Single × Content → Type 0) (es more : List (Single × Content)) → AllByRecursion Q es → AllByRecursion Q more → AllByRecursion Q (put_all es more)
 all_put_all Q es [] h k = h
 all_put_all Q es (e ∷ more) h k = all_put_all Q (put e.0 e.1 es) more (all_put Q e.0 e.1 es k.0 h) k.1

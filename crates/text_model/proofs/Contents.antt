@@ -2,13 +2,14 @@
 use Rattle.std.proofs.Common.{arith, ◌≡◌, ℕ, ℤ, ◌==◌, ◌||◌, not, Bool, true, false, cond, List, [], ◌∷◌, ◌++◌, map, Option, None, Some, option_map, option_and_then, refl, sym, ap, ap₂, ◌∙◌, subst, codes}
 use Rattle.std.specs.List.{AllByRecursion}
 use Rattle.protox_lex.specs.Class.{Text}
-use Rattle.protobuf_model.specs.Values.{Single, Content, single, message, list, dictionary, Contents, no_contents, more_contents, Entries, no_entries, more_entries, content, Message, absent, nothing, list_of, chain_of, pairs_of}
+use Rattle.protobuf_model.specs.Values.{Single, Content, single, message, list, dictionary, Contents, no_contents, more_contents, Entries, no_entries, more_entries, content, Message, absent, nothing, list_of, pairs_of}
 use Rattle.protobuf_model.specs.Types.{Name, Kind, scalar, nested, Part, Key, Label, one, many, keyed, Field, rival}
 use Rattle.protobuf_model.specs.Scalars.{Suits, same}
 use Rattle.protobuf_model.specs.Keys.{Ascend}
 use Rattle.protobuf_model.specs.Typed.{IsOf, IsSet, IsEntryOf, IsFieldOf}
 use Rattle.protobuf_model.specs.Meaning.{items, if_any, pairs, if_some, put_all}
 use Rattle.protobuf_model.proofs.KeyOrder.{same_true}
+use Rattle.protobuf_model.proofs.Lists.{chained}
 use Rattle.protobuf_model.proofs.Maps.{put_in_order, entries_back}
 use Rattle.text_model.specs.Forms.{Form, between}
 use Rattle.text_model.specs.Schemas.{Schema, Shape, shape_of, key_part, IsEntryType}
@@ -163,10 +164,6 @@ module _ (form : Form) (w : Schema) (inner : Inner) (typed : Name → Message �
       ∙ ap (λ ps. Some (assign shape.fields n (if_some ps) x)) (put_in_order (pairs_of all) a)
       ∙ ap (λ ds. Some (assign shape.fields n (content (dictionary (more_entries v c ds))) x)) (entries_back es)
 
-  chain_back : (cs : Contents) → chain_of (list_of cs) ≡ cs
-  chain_back no_contents = refl
-  chain_back (more_contents c cs) = ap (more_contents c) (chain_back cs)
-
   list_back : (shape : Shape) (n : ℕ) → AreFound (shape.names.enum_number n) (shape.names.enum_name n) → (part : Part) (packed : Bool) (o : Option ℕ) (e : Bool) (x : Message) (c : Content) (cs : Contents)
       → AllByRecursion (IsOf typed part.kind) (list_of (more_contents c cs)) → ArePlainContents w.types part.kind (more_contents c cs) → x n ≡ absent
       → field_value w shape (printed_content form w inner (shape.names.enum_name n) part.kind (list (more_contents c cs))) x n (record { part = part; label = many packed; oneof = o; extension = e })
@@ -174,7 +171,7 @@ module _ (form : Form) (w : Schema) (inner : Inner) (typed : Name → Message �
   list_back shape n f part packed o e x c cs h b here =
       ap (option_and_then (add_all shape.fields n part (many packed) x)) (elements_back (shape.names.enum_number n) (shape.names.enum_name n) f part.kind (more_contents c cs) h b)
       ∙ ap (λ i. Some (assign shape.fields n (if_any (items i ++ list_of (more_contents c cs))) x)) here
-      ∙ ap (λ ds. Some (assign shape.fields n (content (list (more_contents c ds))) x)) (chain_back cs)
+      ∙ ap (λ ds. Some (assign shape.fields n (content (list (more_contents c ds))) x)) (chained cs)
 
   -- what a field holds, given to it where neither it nor another member of its oneof is set
   pub field_back : (shape : Shape) (n : ℕ) → AreFound (shape.names.enum_number n) (shape.names.enum_name n) → (part : Part) (l : Label) → ((key : Key) → l ≡ keyed key → IsEntryType w (shape.names.entry n) key part (shape.names.enum_name n))

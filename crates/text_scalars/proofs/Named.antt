@@ -13,7 +13,7 @@ use Rattle.text_scalars.specs.Reading.{Reading, and_then, seen_as}
 use Rattle.text_scalars.specs.Spelled.{Begin, IsName, start_of}
 use Rattle.text_scalars.proofs.Naming.{no_dot}
 
-is_this : (k : ℕ) (t : Token) → is_sign k t ≡ true → t ≡ sign k
+pub is_this : (k : ℕ) (t : Token) → is_sign k t ≡ true → t ≡ sign k
 is_this k (sign b) e = ap sign ((Decides-eqb b k).0 e)
 is_this k (ident w) e = absurd (cc e)
 is_this k (int r d) e = absurd (cc e)

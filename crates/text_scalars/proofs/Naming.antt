@@ -12,7 +12,7 @@ use Rattle.text_model.specs.Tree.{FullName}
 use Rattle.text_model.specs.Value.{written}
 use Rattle.text_scalars.specs.Front.{behind, is_sign, next, rest_of, sees, sign_bytes, word_in}
 use Rattle.text_scalars.specs.Names.{bracketed_at, bracketed_by, dotted_at, expansion_at, full_name_at, identifiers, text_and_bytes, view_and_bytes}
-use Rattle.text_scalars.specs.Reading.{Reading, Reads, Tells, and_then, seen_as}
+use Rattle.text_scalars.specs.Reading.{Reading, Reads, TellsStop, and_then, seen_as}
 
 -- words behind a text, each behind a dot
 abbrev pub onto : Text → Reading (List Text) → Reading Text
@@ -121,7 +121,7 @@ all_words t o ls mid none some rest =
 
 -- a refusal that is told
 pub told : {A B : Type 0} (view : B → A) (r : Reading A) (k : ParseErrorKind) (rest : List Lexeme)
-    → Tells r k → Reads view r (Err k) rest
+    → TellsStop r k → Reads view r (Err k) rest
 told view r kinds.Memory rest h = tt
 told view r _ rest h = h
 

@@ -20,13 +20,13 @@ seen_as f (Ok p) = Ok (f p.0, p.1)
 seen_as f (Err stop) = Err stop
 
 -- it stops there, which is told
-abbrev pub Tells : {A : Type 0} → Reading A → ParseErrorKind → Type 0
-Tells (Ok p) kind = ⊥
-Tells (Err stop) kind = IsUnexpected stop.0 stop.1 kind
+abbrev pub TellsStop : {A : Type 0} → Reading A → ParseErrorKind → Type 0
+TellsStop (Ok p) kind = ⊥
+TellsStop (Err stop) kind = IsUnexpected stop.0 stop.1 kind
 
 -- it is read, and these lexemes stand behind it; or it is refused there, or memory ran out
 abbrev pub Reads : {A B : Type 0} → (B → A) → Reading A → Result B ParseErrorKind → List Lexeme
     → Type 0
 Reads view r (Ok x) rest = r ≡ Ok (view x, rest)
 Reads view r (Err kinds.Memory) rest = Unit {0}
-Reads view r (Err kind) rest = Tells r kind
+Reads view r (Err kind) rest = TellsStop r kind

@@ -1,11 +1,11 @@
 -- Lexemes that begin with tokens.
 use Rattle.std.proofs.Common.{◌≡◌, ℕ, Bool, true, false, ◌||◌, List, [], ◌∷◌, ◌++◌, map, Option, Some, None, is_some, refl, sym, ap, subst, ◌∙◌}
-use Rattle.std.proofs.lemmas.Bool.Decides.{Decides-eqb}
 use Rattle.protox_lex.specs.declared.span.Span.{Span}
 use Rattle.text_lex.specs.Token.{Token, ident, int, float, str, sign, Lexeme, token_at, fault}
 use Rattle.text_model.specs.Tree.{integer, floating, identifier, ScalarValue, signed, strings, Brace, curly, angle}
 use Rattle.text_model.specs.Texts.{AreTokens}
 use Rattle.text_model.specs.Tokens.{word_token, scalar_tokens, opening}
+use Rattle.text_scalars.proofs.Named.{is_this}
 use Rattle.text_scalars.specs.declared.tokens.Brace as code
 use Rattle.text_scalars.specs.declared.tokens.Brace.TheVariants as braces
 use Rattle.text_scalars.specs.Braces.{opening_brace}
@@ -93,13 +93,6 @@ all_tokens [] (token_at a b u ∷ ls) h = absurd h
 all_tokens (t ∷ ts) (token_at a b u ∷ ls) h = (h.0, all_tokens ts ls h.1)
 
 -- ---- signs
-
-pub is_this : (k : ℕ) (t : Token) → is_sign k t ≡ true → t ≡ sign k
-is_this k (sign b) e = ap sign ((Decides-eqb b k).0 e)
-is_this k (ident w) e = absurd (cc e)
-is_this k (int r d) e = absurd (cc e)
-is_this k (float w) e = absurd (cc e)
-is_this k (str w) e = absurd (cc e)
 
 pub sign_there : (k : ℕ) (ls : List Lexeme) → sees k ls ≡ true → Front (sign k ∷ []) ls (behind ls)
 sign_there k [] e = absurd (cc e)

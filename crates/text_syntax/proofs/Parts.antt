@@ -1,11 +1,11 @@
 -- What trees at the front of lexemes are made of, part by part, for who reads them as they stand.
 use Rattle.std.proofs.Common.{◌≡◌, ℕ, zero, suc, option_map, List, [], ◌∷◌, Bool, true, false, Option, Some, None, is_some, Ok, Err, refl, sym, ap, ◌∙◌}
 use Rattle.std.specs.Option.{unwrap_or}
-use Rattle.std.proofs.lemmas.Bool.Decides.{Decides-eqb}
 use Rattle.protox_lex.specs.Class.{Text}
 use Rattle.protox_lex.specs.declared.span.Span.{Span}
-use Rattle.text_lex.specs.Token.{Token, ident, int, float, str, sign, Lexeme, token_at, fault}
+use Rattle.text_lex.specs.Token.{sign, Lexeme, token_at, fault}
 use Rattle.text_model.specs.Tree.{FieldName, Brace, ScalarValue, Value, scalar, braced, Values, no_values, Given, listed, Fields}
+use Rattle.text_scalars.proofs.Named.{is_this}
 use Rattle.text_scalars.specs.declared.tokens.Brace as code
 use Rattle.text_scalars.specs.Braces.{closing, opening_brace}
 use Rattle.text_scalars.specs.Front.{behind, is_over, is_sign, rest_of, sees, sign_bytes}
@@ -87,13 +87,6 @@ module _ (inner : Inner) where
             }
 
 -- ---- what is given
-
-is_this : (k : ℕ) (t : Token) → is_sign k t ≡ true → t ≡ sign k
-is_this k (sign b) e = ap sign ((Decides-eqb b k).0 e)
-is_this k (ident w) e = absurd (cc e)
-is_this k (int r d) e = absurd (cc e)
-is_this k (float w) e = absurd (cc e)
-is_this k (str w) e = absurd (cc e)
 
 -- a sign that is at the front
 pub at_front : (P : List Lexeme → Type 0) (k : ℕ) (ls : List Lexeme) (s : Span)

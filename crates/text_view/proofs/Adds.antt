@@ -6,7 +6,7 @@ use mathlib.Core.Path.{fun_ext}
 use Rattle.protobuf_model.specs.Types.{Field, one, many, keyed, oneof_of}
 use Rattle.protobuf_model.specs.Values.{Content, list, Held, chain_of}
 use Rattle.protobuf_model.specs.Meaning.{if_any, items}
-use Rattle.protobuf_model.proofs.Pieces.{listed}
+use Rattle.protobuf_model.proofs.Pieces.{items-if_any}
 use Rattle.protox_lex.specs.Class.{Text}
 use Rattle.reflect_tables.specs.Types.{PoolType, FieldType}
 use Rattle.reflect_pool.specs.Shapes.{holds_list, holds_map, is_repeated}
@@ -40,10 +40,6 @@ list_held pool f (Some v) ws e = ap (λ c. held_in pool f (Some c)) (list_seen v
   by [] = refl
   by (c ∷ cs) = refl
 
-items_of_list : (cs : List Content) → items (if_any cs) ≡ cs
-items_of_list [] = refl
-items_of_list (c ∷ cs) = listed (c ∷ cs)
-
 mapped : (vs ws : List Value) → map content_view (vs ++ ws) ≡ map content_view vs ++ map content_view ws
 mapped [] ws = refl
 mapped (v ∷ vs) ws = ap (λ cs. content_view v ∷ cs) (mapped vs ws)
@@ -53,7 +49,7 @@ lengthened : (pool : PoolType) (f : FieldType) (o p : Option Value) (before vs :
     → held_in pool f (option_map content_view p) ≡ if_any (items (held_in pool f (option_map content_view o)) ++ map content_view vs)
 lengthened pool f o p before vs e g =
     list_held pool f p (before ++ vs) g ∙ ap if_any (mapped before vs)
-    ∙ ap (λ cs. if_any (cs ++ map content_view vs)) (sym (items_of_list (map content_view before)))
+    ∙ ap (λ cs. if_any (cs ++ map content_view vs)) (sym (items-if_any (map content_view before)))
     ∙ ap (λ h. if_any (items h ++ map content_view vs)) (sym (list_held pool f o before e))
 
 module _ (old new : DynamicMessage) (apart : AreApart old.descriptor.pool.now) (same : new.descriptor ≡ old.descriptor) (exclusive : IsExclusive old) where

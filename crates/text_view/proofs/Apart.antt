@@ -24,7 +24,7 @@ use Rattle.message_view.specs.Types.{either_field, field_at}
 use Rattle.message_view.proofs.Fields.{owned, extension_owned}
 use Rattle.message_view.specs.Sound.{AreApart, IsNotKept}
 use Rattle.text_view.specs.Targets.{target_field}
-use Rattle.text_view.proofs.Floats.{has_number}
+use Rattle.reflect_message.proofs.Known.{numbered}
 
 pub any_default : {X : Type 0} (xs : List X) (k : ℕ) (d e : X) → k < length xs → slice_index_or xs k d ≡ slice_index_or xs k e
 any_default [] k d e lt = absurd (omega (arith, lt))
@@ -114,7 +114,7 @@ module _ (m : MessageDescriptor) (apart : AreApart m.pool.now) where
     by : (o : Option FieldType) → numbered_field m.pool.now i n ≡ o → numbered_field m.pool.now i n ≡ None
     by None e = e
     by (Some f) e =
-        let place = find_place (λ (g : FieldType). g.number ≡ n) (λ g. g.number == n) (has_number n) (type_at m.pool.now i).fields f e in
+        let place = find_place (λ (g : FieldType). g.number ≡ n) (λ g. g.number == n) (numbered n) (type_at m.pool.now i).fields f e in
         let same : (type_of_field m.pool.now i place.0).number ≡ n = place.1.1.0 no_field in
         absurd (apart.kept k lt (subst (IsNotKept m.pool.now i) same (apart.free i place.0 place.1.0)))
 

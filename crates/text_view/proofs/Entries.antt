@@ -12,7 +12,7 @@ use Rattle.reflect_message.specs.Known.{is_float, numbered_field, has_floats, if
 use Rattle.message_view.proofs.Entries.{key_scalar}
 use Rattle.message_view.specs.Sound.{AreApart, IsPartAt, IsSound}
 use Rattle.text_view.proofs.Apart.{only_one}
-use Rattle.text_view.proofs.Floats.{has_number}
+use Rattle.reflect_message.proofs.Known.{numbered}
 use Rattle.text_view.proofs.Rivals.{no_many}
 
 pub scalar_whole : (t : KindType) → IsScalarType t → is_float t ≡ false
@@ -29,7 +29,7 @@ whole_field pool f whole no_map =
 -- what stands at the place of a part is found by its number
 pub part_found : (pool : PoolType) → AreApart pool → (i n place : ℕ) → IsPartAt pool i n place → numbered_field pool i n ≡ Some (type_of_field pool i place)
 part_found pool apart i n place part =
-    only_one (λ (g : FieldType). g.number ≡ n) (λ g. g.number == n) (has_number n) (type_at pool i).fields no_field place part.there part.number
+    only_one (λ (g : FieldType). g.number ≡ n) (λ g. g.number == n) (numbered n) (type_at pool i).fields no_field place part.there part.number
     (λ j lt h. apart.fields i j place lt part.there (h ∙ sym part.number))
 
 module _ (d : MessageDescriptor) (sound : IsSound d.pool.now) (e : StoredEntry) (is : (type_at d.pool.now d.index).entry ≡ Some e) where

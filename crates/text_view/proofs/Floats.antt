@@ -1,35 +1,23 @@
 -- Fields that a pool tells to hold floating-point numbers do.
-use Rattle.std.proofs.Common.{◌≡◌, ◌⊎◌, inl, inr, ℕ, ◌==◌, ◌&&◌, ◌||◌, Bool, true, false, true≢false, Option, Some, None, refl, sym, ap, ◌∙◌, arith}
+use Rattle.std.proofs.Common.{◌≡◌, ◌⊎◌, inl, inr, ◌==◌, ◌&&◌, Bool, true, false, true≢false, Option, Some, None, refl, sym, ap, ◌∙◌}
 use Rattle.std.proofs.lemmas.Bool.{and_parts}
 use Rattle.reflect_tables.specs.Types.{PoolType, FieldType, KindType, type_at, type_of_field, no_field}
 use Rattle.reflect_tables.specs.Types as types
 use Rattle.reflect_pool.specs.Shapes.{holds_map}
-use Rattle.reflect_scalar.specs.Floats.{IsFloat, HasFloats, HoldsFloats}
-use Rattle.reflect_scalar.proofs.First.{Tells, find_place}
+use Rattle.reflect_scalar.specs.Floats.{HasFloats, HoldsFloats}
+use Rattle.reflect_scalar.proofs.First.{find_place}
 use Rattle.reflect_message.specs.Known.{is_float, numbered_field, has_floats, holds_floats, if_held}
-use Rattle.reflect_message.proofs.Known.{floats_held, kept, dropped}
-
-kind_float : (k : KindType) → is_float k ≡ true → IsFloat k
-kind_float types.double e = tt
-kind_float types.float e = tt
-kind_float k e = absurd (cc e)
-
-pub has_number : (n : ℕ) → Tells (λ (f : FieldType). f.number ≡ n) (λ f. f.number == n)
-has_number n = record { says = λ f e. grind (arith, e); passes = λ f e. grind (arith, e) }
+use Rattle.reflect_message.proofs.Known.{either, floats_held, kept, dropped, kind_float, numbered}
 
 told_floats : (pool : PoolType) (k : KindType) → has_floats pool k ≡ true → HasFloats pool k
 told_floats pool (types.message i) e = by (numbered_field pool i 2) refl e where
   by : (o : Option FieldType) → numbered_field pool i 2 ≡ o → elim o [ None ↦ false | Some v ↦ is_float v.kind ] ≡ true → HasFloats pool (types.message i)
   by None is f = absurd (cc f)
   by (Some v) is f =
-      let place = find_place (λ (g : FieldType). g.number ≡ 2) (λ g. g.number == 2) (has_number 2) (type_at pool i).fields v is in
+      let place = find_place (λ (g : FieldType). g.number ≡ 2) (λ g. g.number == 2) (numbered 2) (type_at pool i).fields v is in
       let same : Some v ≡ Some (type_of_field pool i place.0) = sym is ∙ place.2 no_field in
       (place.0, place.1, kind_float (type_of_field pool i place.0).kind (sym (ap (λ o. elim o [ None ↦ false | Some v ↦ is_float v.kind ]) same) ∙ f))
 told_floats pool k e = absurd (cc e)
-
-either : (a b : Bool) → a || b ≡ true → (a ≡ true) ⊎ (b ≡ true)
-either true b e = inl refl
-either false b e = inr e
 
 held_floats : (pool : PoolType) (f : FieldType) → holds_floats pool f ≡ true → HoldsFloats pool f
 held_floats pool f e = by (either (is_float f.kind) (holds_map pool f && has_floats pool f.kind) e) where

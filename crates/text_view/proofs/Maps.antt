@@ -4,9 +4,10 @@ use Rattle.std.specs.BTreeMap.{insert_entry}
 use Rattle.std.specs.List.{AllByRecursion}
 use Rattle.std.specs.Ordering.{match_ordering}
 use Rattle.protobuf_model.specs.Types.{Scalar, Key, Part, keyed}
-use Rattle.protobuf_model.specs.Values.{Single, Content, dictionary, message, entries_of, pairs_of}
+use Rattle.protobuf_model.specs.Values.{Single, Content, dictionary, message, entries_of}
 use Rattle.protobuf_model.specs.Keys.{put}
 use Rattle.protobuf_model.specs.Meaning.{if_some, pairs, put_all}
+use Rattle.protobuf_model.proofs.Pieces.{pairs-if_some}
 use Rattle.reflect_tables.specs.Types.{PoolType, FieldType, type_at, type_of_field}
 use Rattle.reflect_tables.specs.Types as types
 use Rattle.reflect_tables.specs.declared.stored.StoredEntry.{StoredEntry}
@@ -51,14 +52,6 @@ some_map pool f (e ∷ es) = refl
 map_held : (pool : PoolType) (f : FieldType) (o : Option Value) (es : List (MapKey × Value)) → entries_held o ≡ Some es → held_in pool f (option_map content_view o) ≡ if_some (pairs_view es)
 map_held pool f None es e = ap (λ o. if_some (pairs_view (unwrap_or o []))) e
 map_held pool f (Some v) es e = ap (λ c. held_in pool f (Some c)) (map_seen v es e) ∙ some_map pool f (pairs_view es)
-
-paired : (es : List (Single × Content)) → pairs_of (entries_of es) ≡ es
-paired [] = refl
-paired (e ∷ es) = ap (λ ds. e ∷ ds) (paired es)
-
-pairs_back : (es : List (Single × Content)) → pairs (if_some es) ≡ es
-pairs_back [] = refl
-pairs_back (e ∷ es) = paired (e ∷ es)
 
 -- keys of one kind
 keys_formed : (k : Scalar) (es : List (MapKey × Value)) → HaveKeys k es → AllByRecursion (λ (e : MapKey × Value). form_of (key_single e.0) ≡ form_at k) es
@@ -135,7 +128,7 @@ module _ (old new : DynamicMessage) (apart : AreApart old.descriptor.pool.now) (
       let all = all_put d sound e is whole before puts.0 vs (subst (λ (g : FieldType). HaveKeys (scalar_of g.kind) before) key_there formed) entries puts.2 in
       let key : key_of pool (entry_part pool f 1) ≡ key_of d.pool.now (type_of_field d.pool.now d.index e.key) = ap (key_of pool) key_there ∙ ap (λ p. key_of p (type_of_field d.pool.now d.index e.key)) (sym at) in
       let part : part_of pool (entry_part pool f 2) ≡ part_of d.pool.now (type_of_field d.pool.now d.index e.value) = ap (part_of pool) value_there ∙ ap (λ p. part_of p (type_of_field d.pool.now d.index e.value)) (sym at) in
-      let stood : pairs (view old f.number) ≡ pairs_view before = ap pairs (under_target old.descriptor apart t owns old refl ∙ map_held pool f (held_by old t) before held) ∙ pairs_back (pairs_view before) in (
+      let stood : pairs (view old f.number) ≡ pairs_view before = ap pairs (under_target old.descriptor apart t owns old refl ∙ map_held pool f (held_by old t) before held) ∙ pairs-if_some (pairs_view before) in (
         ap (λ l. Some (assign (field_at pool old.descriptor.index) f.number (if_some (put_all l (map (entry_of (key_of pool (entry_part pool f 1)) (part_of pool (entry_part pool f 2))) (map content_view vs)))) (view old))) stood
             ∙ ap (λ k. Some (assign (field_at pool old.descriptor.index) f.number (if_some (put_all (pairs_view before) (map (entry_of k (part_of pool (entry_part pool f 2))) (map content_view vs)))) (view old))) key
             ∙ ap (λ p. Some (assign (field_at pool old.descriptor.index) f.number (if_some (put_all (pairs_view before) (map (entry_of (key_of d.pool.now (type_of_field d.pool.now d.index e.key)) p) (map content_view vs)))) (view old))) part

@@ -18,7 +18,7 @@ use Rattle.text_view.specs.SourceNames.{HaveOwnNames, IsGroupField, HasSourceNam
 use Rattle.text_view.proofs.Apart.{only_one}
 use Rattle.text_view.proofs.Called.{called}
 use Rattle.text_view.proofs.Puts.{is_number, number_is}
-use Rattle.text_view.proofs.Floats.{has_number}
+use Rattle.reflect_message.proofs.Known.{numbered}
 
 pub record FieldPlace (pool : PoolType) (i n : ℕ) (g : FieldType) : Type 0 where
   pub place : ℕ
@@ -45,7 +45,7 @@ field_place pool i n g e = by (numbered_field pool i n) refl where
   by (Some h) is =
       let kept : if_held pool h ≡ Some g = sym (ap (option_and_then (if_held pool)) is) ∙ e in
       let same = (held_is pool h g kept).1 in
-      let at = find_place (λ (f : FieldType). f.number ≡ n) (λ f. f.number == n) (has_number n) (type_at pool i).fields h is in
+      let at = find_place (λ (f : FieldType). f.number ≡ n) (λ f. f.number == n) (numbered n) (type_at pool i).fields h is in
       let there : type_of_field pool i at.0 ≡ h = ap (λ o. unwrap_or o h) (sym (at.2 no_field) ∙ is) in
       record {
         place = at.0;

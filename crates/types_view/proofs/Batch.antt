@@ -12,7 +12,7 @@ use Rattle.reflect_build.specs.Accepted.{FaultlessBatch, FaultlessFiles}
 use Rattle.reflect_build.specs.Refusals.{IsOf, Linking, new_files, with_declared}
 use Rattle.reflect_fields.specs.Fields as fields
 use Rattle.reflect_fields.specs.Fields.{natural}
-use Rattle.reflect_index.proofs.Among.{Among, got_map, of_all, of_place, place_of}
+use Rattle.reflect_index.proofs.Among.{Among, got_map, of_all, of_place, place_of, get_map, zip_place}
 use Rattle.reflect_index.proofs.Declared.{ExtensionDeclared, FieldDeclared, extension_declared, field_declared, list_of, of_along}
 use Rattle.reflect_index.specs.Along.{AtHand, Met, along, all_of, before_files, hand_behind, is_field, is_message, parts}
 use Rattle.reflect_index.specs.Entries.{DeclaredField, HasKind, Head, IsFieldBy, IsFieldOf, IsHeadOf}
@@ -36,6 +36,7 @@ use Rattle.reflect_tables.specs.Types as types
 use Rattle.reflect_tables.specs.Views.{enum_of, extension_of, field_of, message_of, syntax_type}
 use Rattle.reflect_tables.specs.declared.stored.StoredField.{StoredField}
 use Rattle.reflect_tables.specs.declared.stored.StoredMessage.{StoredMessage}
+use Rattle.reflect_tables.proofs.Founds.{front}
 use Rattle.reflect_declarations.specs.Batches.{batch_declarations}
 use Rattle.reflect_declarations.specs.Declarations.{Body, Declaration, of_file, of_message, of_field, of_oneof, of_enum, of_enum_value, of_service, of_method, of_extension}
 use Rattle.reflect_declarations.specs.Tree.{MessageParts}
@@ -53,14 +54,13 @@ use Rattle.linked_view.specs.Extended.{IsIndexed}
 use Rattle.linked_view.specs.Known.{AreKnown}
 use Rattle.linked_view.proofs.Accepted.{indexes, known, known_all, names_at, stand_linked}
 use Rattle.linked_view.proofs.AtHand.{IsResolved, at_hand, resolved_one, resolved_type}
-use Rattle.linked_view.proofs.Extended.{at_zip}
 use Rattle.linked_view.proofs.Faults.{none_both}
 use Rattle.linked_view.proofs.Indexed.{among}
 use Rattle.linked_view.proofs.Linked.{meanings, sees_at}
 use Rattle.linked_view.proofs.Listed.{batch_listed, listed_along, listed_seen, see}
-use Rattle.linked_view.proofs.Places.{contains_get, get_contains, get_map}
+use Rattle.linked_view.proofs.Places.{contains_get, get_contains}
 use Rattle.linked_view.proofs.Shown.{IsShown, shown_in}
-use Rattle.linked_view.proofs.Telling.{get_before, known_new}
+use Rattle.linked_view.proofs.Telling.{known_new}
 use Rattle.linked_view.proofs.Walked.{facts_in, name_seen, seen, seen_body, text_seen}
 use Rattle.types_view.specs.Fields.{Holds, IsListed, IsTold, IsToldExtension, IsToldField, IsWrittenAt, ListsFields, NamedMessage, TellsFields, messages_in, written_messages}
 use Rattle.types_view.proofs.Entered as entered
@@ -77,7 +77,7 @@ written_more names more o i w = record {
   full = w.full;
   file = w.file;
   written = w.written;
-  there = get_before names more i (w.full, w.file) w.there;
+  there = front names more i (w.full, w.file) w.there;
 }
 
 holds_more : (ms es more others : List FullName) (c : FieldContent) (k : KindType) → Holds ms es c k
@@ -445,7 +445,7 @@ module _ (old new : PoolType) (ns : List FileDescriptorProto) (w : Linking) (is 
       let fields = parts is_field (w.before.messages + k) (along hand ds) in
       let zipped = subst (AllZip IsFieldOf fields) (list_of stored_fields items k y get)
       (batch.declared.entries.fields k) in
-      let z = at_zip IsFieldOf fields (stored_fields y) j (declared_field s.0) zipped
+      let z = zip_place IsFieldOf fields (stored_fields y) j (declared_field s.0) zipped
       (get_map declared_field y.fields.list.items j s.0 s.1) in
       let same : z.0 ≡ f.met = cc (sym z.1 ∙ f.place) in
       let by : IsFieldBy f.met f.own (declared_field s.0) =

@@ -7,7 +7,7 @@ use Rattle.std.proofs.lemmas.Bool.Decides.{Decides-int_eq}
 use Rattle.std.proofs.lemmas.Slice.Eq.{bytes_eq-Decides}
 use Rattle.descriptor_records.specs.Content.{Text, FieldContent, FileContent, file_view}
 use Rattle.reflect_fields.specs.Fields.{natural}
-use Rattle.reflect_index.proofs.Among.{of_find}
+use Rattle.reflect_index.proofs.Among.{of_find, got_map}
 use Rattle.reflect_tables.specs.Names.{FullName, enums, message_name, messages, names_of}
 use Rattle.reflect_tables.specs.Types.{ExtensionType, FieldType, MessageType, PoolType}
 use Rattle.schema_view.specs.Declarations.{Body, Declaration, declarations, of_message, of_field, of_oneof, of_enum, of_value, of_service, of_method, of_extension}
@@ -27,7 +27,7 @@ use Rattle.message_view.specs.Sound.{HaveNames}
 use Rattle.message_view.specs.Types.{field_of}
 use Rattle.linked_view.specs.Valued.{TellsValues}
 use Rattle.linked_view.proofs.Extended.{dotted_is, number_is, zip_at}
-use Rattle.linked_view.proofs.Places.{contains_get, get_contains, get_less, get_map_cases}
+use Rattle.linked_view.proofs.Places.{contains_get, get_contains, get_less}
 use Rattle.types_view.specs.Fields.{IsToldExtension, TellsFields}
 use Rattle.types_view.proofs.Found.{body_found, proto3_found}
 use Rattle.types_view.proofs.Held.{held_same, same_type}
@@ -197,7 +197,7 @@ module _ (p : PoolType) (l : AreLinked (map file_view p.records)) (tells : Tells
       (written_there k.declaration.name k.declaration.body (t, pos n) k.has)) in
       let j = contains_get (written_keys fs) w there in
       let z = zip_at (HasWritten ms) (written_keys fs) p.extensions j.0 w extensions j.1 in
-      let m = get_map_cases message_name p.messages z.0.extendee (z.2.full, z.2.file) z.2.message in
+      let m = got_map message_name p.messages z.0.extendee (z.2.full, z.2.file) z.2.message in
       let full : z.2.full ≡ t = cc (sym z.2.extendee ∙ k.has.extendee) in
       record {
         entry = z.0;

@@ -7,6 +7,7 @@ use Rattle.std.proofs.lemmas.Bool.Decides.{Decides-int_eq}
 use Rattle.descriptor_records.specs.Content.{Text, EnumContent, FieldContent, FileContent, file_view}
 use Rattle.reflect_tables.specs.Names.{FullName, enum_name, enums, message_name, messages, names_of}
 use Rattle.reflect_tables.specs.Types.{EnumType, MessageType, PoolType, ValueType}
+use Rattle.reflect_index.proofs.Among.{get_map, got_map, zip_place}
 use Rattle.schema_view.specs.Declarations.{Body, Declaration, MessageFacts, declarations, of_message, of_field, of_oneof, of_enum, of_value, of_service, of_method, of_extension}
 use Rattle.schema_view.specs.Files.{text_of}
 use Rattle.schema_view.specs.Lawful.{outlines}
@@ -21,8 +22,7 @@ use Rattle.schema_view.proofs.Road.{AreLinked}
 use Rattle.schema_view.proofs.Standing.{StandsIn, type_there}
 use Rattle.schema_view.proofs.Targets.{type_in}
 use Rattle.linked_view.specs.Valued.{NamedValues, TellsValues, kept_values, numbered_value, values_in, written_values}
-use Rattle.linked_view.proofs.Extended.{at_zip}
-use Rattle.linked_view.proofs.Places.{get_contains, get_map, get_map_cases}
+use Rattle.linked_view.proofs.Places.{get_contains}
 use Rattle.types_view.specs.Fields.{IsListed, IsWrittenAt, ListsFields, NamedMessage, TellsFields, messages_in, written_messages}
 use Rattle.types_view.proofs.Found.{body_found}
 
@@ -168,7 +168,7 @@ module _ (p : PoolType) (l : AreLinked (map file_view p.records)) where
   pub message_told : TellsFields p → (i : ℕ) (m : MessageType) → slice_get p.messages i ≡ Some m
       → MessageTold m
   message_told tells i m at =
-      let w = at_zip ListsFields (written_messages fs) p.messages i m tells.listed at in
+      let w = zip_place ListsFields (written_messages fs) p.messages i m tells.listed at in
       let f = contains_flat_cases (λ f. flat_map messages_in (declarations f)) fs w.0
       (get_contains (written_messages fs) i w.0 w.1) in
       let d = contains_flat_cases messages_in (declarations f.0) w.0 f.2 in
@@ -225,7 +225,7 @@ pub record WritesMessage (p : PoolType) (o : Option Text) (i : ℕ) : Type 0 whe
 pub message_at : (p : PoolType) (o : Option Text) (i : ℕ) → IsWrittenAt (names_of p messages) o i
     → WritesMessage p o i
 message_at p o i w =
-    let x = get_map_cases message_name p.messages i (w.full, w.file) w.there in
+    let x = got_map message_name p.messages i (w.full, w.file) w.there in
     record {
       type = x.0;
       at = x.1;
@@ -240,7 +240,7 @@ pub record WritesEnum (p : PoolType) (o : Option Text) (i : ℕ) : Type 0 where
 pub enum_at : (p : PoolType) (o : Option Text) (i : ℕ) → IsWrittenAt (names_of p enums) o i
     → WritesEnum p o i
 enum_at p o i w =
-    let x = get_map_cases enum_name p.enums i (w.full, w.file) w.there in
+    let x = got_map enum_name p.enums i (w.full, w.file) w.there in
     record {
       type = x.0;
       at = x.1;

@@ -1,6 +1,6 @@
 use Rattle.std.proofs.Common.{◌≡◌, List, [], Result, Ok, Err, OnOk, length, refl, sym, subst, rules}
 use Rattle.std.proofs.lemmas.Result.{err_from_is_err_and, on_ok_weaker}
-use Rattle.reflect_passes.specs.Errors.{Refuses}
+use Rattle.reflect_passes.specs.Errors.{ListsFaults}
 use Rattle.reflect_passes.specs.declared.error.DescriptorError.{DescriptorError}
 use Rattle.reflect_build.specs.Refusals.{Linking, linking, with_declared}
 use Rattle.reflect_build.specs.Accepted.{FaultlessBatch}
@@ -76,7 +76,7 @@ pub returns-in_err-declare_names-clause-refused : goal.returns-in_err-declare_na
 returns-in_err-declare_names-clause-refused c =
     let w = linking c.args.file_names.now c.args.names.now c.args.links.now.items c.args.tables.now c.args.extension_numbers.now c.args.before c.args.first in
     let p = err_from_is_err_and c.from_residual.result c.from_residual.ensures.1 in
-    let names = λ (e : DescriptorError). Refuses (λ xs. xs ≡ name_faults w.indexes w.known w.before w.first c.as_slice.result.now) e in
+    let names = λ (e : DescriptorError). ListsFaults (λ xs. xs ≡ name_faults w.indexes w.known w.before w.first c.as_slice.result.now) e in
     refused_names w c.args.files.items c.from_residual.result c.as_slice.result.now p.0 p.1 c.as_slice.ensures.value (subst names (sym p.2) c.in_err-declare_names.ensures.err)
 
 pub returns-clause-refused : goal.returns-clause-refused

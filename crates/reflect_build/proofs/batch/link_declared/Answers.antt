@@ -7,7 +7,7 @@ use Rattle.reflect_passes.specs.Extensions.{with_numbers}
 use Rattle.reflect_pool.specs.Linked.{AreNumbered, key_of}
 use Rattle.reflect_build.proofs.Numbered.{keys_behind, numbered_more, stored_key}
 use Rattle.reflect_names.specs.Faults.{list_of, place_at}
-use Rattle.reflect_passes.specs.Errors.{Refuses}
+use Rattle.reflect_passes.specs.Errors.{ListsFaults}
 use Rattle.reflect_passes.specs.NumberFaults.{NumberFaults, doubled}
 use Rattle.reflect_passes.proofs.Listed.{places}
 use Rattle.reflect_build.specs.Refusals.{linking}
@@ -137,10 +137,10 @@ returns-in_err-check_numbers-clause-refused c =
     let t = types_with w batch in
     let r = c.from_residual-in_err-check_numbers in
     let p = err_from_is_err_and r.result r.ensures.1 in
-    let says = subst (λ e. Refuses (NumberFaults t w.before w.first c.as_slice-6.result.now c.as_slice-7.result.now) e) (sym p.2) c.in_err-check_numbers.ensures.err in
+    let says = subst (λ e. ListsFaults (NumberFaults t w.before w.first c.as_slice-6.result.now c.as_slice-7.result.now) e) (sym p.2) c.in_err-check_numbers.ensures.err in
     refused_numbers w fs rs t means types r.result p.0 p.1
-    (subst (λ l. Refuses (NumberFaults t w.before w.first l rs) p.0) c.as_slice-6.ensures.value
-    (subst (λ l. Refuses (NumberFaults t w.before w.first c.as_slice-6.result.now l) p.0) c.as_slice-7.ensures.value says))
+    (subst (λ l. ListsFaults (NumberFaults t w.before w.first l rs) p.0) c.as_slice-6.ensures.value
+    (subst (λ l. ListsFaults (NumberFaults t w.before w.first c.as_slice-6.result.now l) p.0) c.as_slice-7.ensures.value says))
 
 pub returns-in_err-list_extensions-clause-refused : goal.returns-in_err-list_extensions-clause-refused
 returns-in_err-list_extensions-clause-refused c =
@@ -158,7 +158,7 @@ returns-in_err-list_extensions-clause-refused c =
     let f = c.new.result in
     let none = subst (λ l. NumberFaults t w.before w.first l rs []) c.as_slice-6.ensures.value
     (subst (λ l. NumberFaults t w.before w.first c.as_slice-6.result.now l []) c.as_slice-7.ensures.value c.in_ok-check_numbers.ensures.ok) in
-    let says = subst (λ e. Refuses (λ xs. xs ≡ list_of f ++ doubled w.numbers t (place_at f)) e) (sym p.2) c.in_err-list_extensions.ensures.err in
+    let says = subst (λ e. ListsFaults (λ xs. xs ≡ list_of f ++ doubled w.numbers t (place_at f)) e) (sym p.2) c.in_err-list_extensions.ensures.err in
     refused_extensions w fs rs t means types r.result p.0 p.1 f none c.new.ensures.none
     (places f fs w.first (c.new.ensures.files ∙ c.as_slice-8.ensures.value) c.new.ensures.first) says
 

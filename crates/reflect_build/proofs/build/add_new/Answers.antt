@@ -3,7 +3,7 @@ use Rattle.std.proofs.Math.ListN.{length-map}
 use Rattle.std.specs.List.{filter}
 use Rattle.std.proofs.lemmas.Grind.{common_steps}
 use Rattle.reflect_names.proofs.Declared.{err_from}
-use Rattle.reflect_passes.specs.Errors.{Refuses}
+use Rattle.reflect_passes.specs.Errors.{ListsFaults}
 use Rattle.reflect_tables.specs.Views.{extension_of, file_of, pool_of}
 use Rattle.reflect_build.specs.Accepted.{AddsNames, Faultless}
 use Rattle.reflect_build.specs.Refusals.{CountsOf, Faulty}
@@ -58,7 +58,7 @@ returns-then-is_err-clause-refused c =
     let self = c.args.parts.now in
     let start : c.in_ok-first.first ≡ length self.tables.files.items = grind (arith, common_steps, c.in_ok-first.ensures.cases, c.len.ensures) in
     let counts = mapped (CountsOf (pool_of self.tables)) _ c.offsets.result c.map_err.result c.map_err.ensures.cases c.offsets.ensures c.in_ok-before.before c.in_ok-before.was in
-    subst (λ w. IfErr c.link-outcome.result (λ e. Refuses (Faulty w c.args.files.items) e))
+    subst (λ w. IfErr c.link-outcome.result (λ e. ListsFaults (Faulty w c.args.files.items) e))
     (linking_same self c.in_ok-before.before c.in_ok-first.first counts start) c.link-outcome.ensures.refused
 
 pub returns-else-is_err-clause-accepted : goal.returns-else-is_err-clause-accepted

@@ -3,7 +3,7 @@ use Rattle.std.proofs.lemmas.Result.{err_from_is_err_and}
 use Rattle.reflect_codec.specs.Faults.{InFile}
 use Rattle.reflect_codec.specs.Meaning.{IsFile}
 use Rattle.reflect_codec.specs.Raw.{fields_view}
-use Rattle.reflect_codec.specs.Reading.{Takes}
+use Rattle.reflect_codec.specs.Reading.{ReadsMeant}
 use Rattle.reflect_codec.proofs.Parts.{bytes_read}
 use Rattle.reflect_codec.proofs.Values.{rejects}
 use Rattle.reflect_codec.proofs.codec.decode_file.Goals as goal
@@ -16,4 +16,4 @@ returns-in_err-fields c =
 pub returns : goal.returns
 returns c =
     let fs = fields_view c.in_ok-fields.fields.list.items in
-    bytes_read (IsFile 100) (InFile 100) 100 c.args.bytes.now fs c.from_fields.result c.in_ok-fields.ensures.read (subst (λ k. Takes (IsFile k) (InFile k) fs c.from_fields.result) c.in_ok-fields.ensures.levels c.from_fields.ensures)
+    bytes_read (IsFile 100) (InFile 100) 100 c.args.bytes.now fs c.from_fields.result c.in_ok-fields.ensures.read (subst (λ k. ReadsMeant (IsFile k) (InFile k) fs c.from_fields.result) c.in_ok-fields.ensures.levels c.from_fields.ensures)

@@ -6,7 +6,7 @@ use Rattle.std.specs.List.{AllZip}
 use Rattle.reflect_codec.specs.Faults.{InLevel, MessageFault}
 use Rattle.reflect_codec.specs.Meaning.{IsMessage, IsLevel}
 use Rattle.reflect_codec.specs.Raw.{value_view, fields_view}
-use Rattle.reflect_codec.specs.Reading.{Takes, values_at}
+use Rattle.reflect_codec.specs.Reading.{ReadsMeant, values_at}
 use Rattle.reflect_codec.proofs.Levels.{IsOpened, OpenedFault, message_opens, message_closes, fault_closes, level_rolls}
 use Rattle.reflect_codec.proofs.Parts.{payload_fields, whole_read, takes_as}
 use Rattle.reflect_codec.proofs.Values.{rejects, rejects_at, each_hit, each_miss, blank}
@@ -101,7 +101,7 @@ message_type-returns t c =
     (message_closes levels (value_view c.args.value)) (message_opens levels (value_view c.args.value)) (fault_closes levels (value_view c.args.value))
     (whole_read (λ gs m. IsLevel (IsMessage (levels - 1)) (levels - 1) gs (out-DescriptorProto m)) (InLevel (MessageFault (levels - 1)) (levels - 1)) levels (levels - 1) (value_view c.args.value) fs c.message_from_fields.result
     (c.in_ok-payload.payload.now, c.in_ok-payload.ensures, c.in_ok-fields.ensures.read)
-    (subst (λ k. Takes (λ gs m. IsLevel (IsMessage k) k gs (out-DescriptorProto m)) (InLevel (MessageFault k) k) fs c.message_from_fields.result) c.in_ok-fields.ensures.levels c.message_from_fields.ensures))
+    (subst (λ k. ReadsMeant (λ gs m. IsLevel (IsMessage k) k gs (out-DescriptorProto m)) (InLevel (MessageFault k) k) fs c.message_from_fields.result) c.in_ok-fields.ensures.levels c.message_from_fields.ensures))
 
 pub message_types-returns-in_err-message_type : goal.message_types-returns-in_err-message_type
 message_types-returns-in_err-message_type t c =

@@ -24,7 +24,7 @@ use Rattle.reflect_pool.specs.declared.kind.Kind.TheVariants as kinds
 use Rattle.reflect_decode.specs.Refused.{EntryFault, MapFault, Within}
 use Rattle.reflect_decode.specs.Keeps.{payloads}
 use Rattle.reflect_pool.specs.Shapes.{holds_list, holds_map}
-use Rattle.reflect_wire.specs.Faults.{Tells}
+use Rattle.reflect_wire.specs.Faults.{TellsTrue}
 use Rattle.reflect_message.specs.KindTypes.{IsMessageType}
 use Rattle.reflect_message.specs.MapKeys.{key_of_value}
 use Rattle.reflect_decode.specs.Suits.{HeldSuits, SuitsBelow}
@@ -671,7 +671,7 @@ merge_entries-returns-in_err-key-clause-fault t c =
     let wire : raw.key.wire ≡ LengthDelimited = search rules in
     λ pool kind is.
     let parts = fields.ensures.some pool kind is in
-    let told = subst (λ l. Tells (EntryFault l (Within l) (field_pool fields.keys) (field_type fields.keys) (field_pool fields.values) (field_type fields.values)) body.body.now failed.field-0.0) inv.4 failed.ensures.fault in
+    let told = subst (λ l. TellsTrue (EntryFault l (Within l) (field_pool fields.keys) (field_type fields.keys) (field_pool fields.values) (field_type fields.values)) body.body.now failed.field-0.0) inv.4 failed.ensures.fault in
     rw (p.1, p.2) (run_at raw.levels raw.key (MapFault raw.levels (Within raw.levels) pool kind raw.key) raw.bytes.now here.bytes.now inv.0 failed.field-0.0 inv.1
     (entry_refused raw.levels (Within raw.levels) pool kind raw.key here.bytes.now (field_pool fields.keys) (field_pool fields.values) (field_type fields.keys) (field_type fields.values) body.body.now body.rest.now failed.field-0.0 parts.0 parts.1 parts.2 parts.3 wire body.ensures.read told))
 

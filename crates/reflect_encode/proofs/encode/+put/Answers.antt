@@ -1,6 +1,5 @@
-use Rattle.std.proofs.Common.{rules, ◌≡◌, ℕ, List, [], ◌∷◌, ◌++◌, map, reverse, length, None, Some, option_map, OnOk, sym, ap, ◌∙◌, subst}
+use Rattle.std.proofs.Common.{rules, ◌≡◌, ℕ, List, [], ◌∷◌, ◌++◌, map, reverse, None, Some, option_map, OnOk, sym, ap, ◌∙◌, subst}
 use Rattle.std.specs.List.{zip, flat_map}
-use Rattle.std.proofs.lemmas.List.{length-map}
 use Rattle.reflect_codec.specs.Held.{held}
 use Rattle.reflect_codec.specs.Fields.{payload_field}
 use Rattle.reflect_pool.specs.Kinds.{IsKind}
@@ -10,17 +9,14 @@ use Rattle.reflect_encode.proofs.Forms.{one_single}
 use Rattle.reflect_pool.specs.FieldsLeft.{field_type}
 use Rattle.reflect_pool.specs.declared.message.MessageDescriptor.{MessageDescriptor}
 use Rattle.reflect_scalar.specs.FieldTypes.{either_pool, either_type, field_pool, extension_type}
+use Rattle.reflect_entries.proofs.Zips.{even_parts, zip_parts}
 use Rattle.reflect_entries.specs.Pairs.{on_value}
 use Rattle.reflect_entries.specs.Left.{unwritten}
 use Rattle.reflect_message.specs.Bytes.{form_of, forms, content_bytes, declared_bytes, others_down, entry_bytes, key_part, record_in}
 use Rattle.reflect_message.specs.Known.{known_field, known_extension}
 use Rattle.reflect_message.specs.Names.{Value}
-use Rattle.reflect_encode.proofs.Before.{before, shorter, zip_ends, zip_parts, known_put, nothing_put, others_before, entry_put}
+use Rattle.reflect_encode.proofs.Before.{before, shorter, zip_ends, known_put, nothing_put, others_before, entry_put}
 use Rattle.reflect_encode.proofs.encode.+put.Goals as goal
-
--- numbers and values that are the halves of entries
-even_parts : (es : List (ℕ × Value)) (ns : List ℕ) (vs : List Value) → ns ≡ map (λ (e : ℕ × Value). e.0) es → vs ≡ map (λ (e : ℕ × Value). e.1) es → length ns ≡ length vs
-even_parts es ns vs a b = ap length a ∙ length-map es (λ (e : ℕ × Value). e.0) ∙ sym (length-map es (λ (e : ℕ × Value). e.1)) ∙ sym (ap length b)
 
 pub put_fields-fields-init : goal.put_fields-fields-init
 put_fields-fields-init t c =

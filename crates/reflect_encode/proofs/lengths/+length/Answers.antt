@@ -1,6 +1,6 @@
-use Rattle.std.proofs.Common.{rules, ◌≡◌, ℕ, ◌+◌, ◌++◌, List, ◌∷◌, length, map, None, Some, option_map, refl, sym, ap, ◌∙◌, arith}
+use Rattle.std.proofs.Common.{rules, ◌≡◌, ℕ, ◌+◌, ◌++◌, ◌∷◌, length, map, None, Some, option_map, refl, sym, ap, ◌∙◌, arith}
 use Rattle.std.specs.List.{flat_map, zip}
-use Rattle.std.proofs.lemmas.List.{length-map, take_all}
+use Rattle.std.proofs.lemmas.List.{take_all}
 use Rattle.reflect_wire.proofs.Lengths.{none_told}
 use Rattle.reflect_wire.specs.Encoding.{key_bytes}
 use Rattle.reflect_wire.specs.Records.{key_of}
@@ -11,19 +11,16 @@ use Rattle.reflect_pool.specs.declared.message.MessageDescriptor.{MessageDescrip
 use Rattle.reflect_scalar.specs.FieldTypes.{either_pool, either_type, extension_pool, extension_type, field_pool}
 use Rattle.reflect_scalar.specs.Keys.{key_view}
 use Rattle.reflect_scalar.specs.declared.map_key.MapKey.{MapKey}
+use Rattle.reflect_entries.proofs.Zips.{even_parts, zip_ended, zip_next, zip_parts}
 use Rattle.reflect_entries.specs.Pairs.{on_value}
 use Rattle.reflect_entries.specs.Undeclared.{undeclared}
 use Rattle.reflect_message.specs.Bytes.{Form, content_bytes, declared_bytes, entry_bytes, extension_bytes, form_of, forms, key_part, message_bytes}
 use Rattle.reflect_message.specs.Known.{known_field, known_extension}
 use Rattle.reflect_message.specs.Names.{Value}
-use Rattle.reflect_encode.proofs.Before.{map_known, zip_parts}
+use Rattle.reflect_encode.proofs.Before.{map_known}
 use Rattle.reflect_encode.proofs.Forms.{message_formed}
-use Rattle.reflect_encode.proofs.Measuring.{framed_length, group_length, known_length, more_length, most_length, next_length, none_length, parts_length, payload_length, told, unknown_length, zip_ended, zip_next}
+use Rattle.reflect_encode.proofs.Measuring.{framed_length, group_length, known_length, more_length, most_length, next_length, none_length, parts_length, payload_length, told, unknown_length}
 use Rattle.reflect_encode.proofs.lengths.+length.Goals as goal
-
--- numbers and values that are the halves of entries
-even_parts : (es : List (ℕ × Value)) (ns : List ℕ) (vs : List Value) → ns ≡ map (λ (e : ℕ × Value). e.0) es → vs ≡ map (λ (e : ℕ × Value). e.1) es → length ns ≡ length vs
-even_parts es ns vs a b = ap length a ∙ length-map es (λ (e : ℕ × Value). e.0) ∙ sym (length-map es (λ (e : ℕ × Value). e.1)) ∙ sym (ap length b)
 
 pub extensions_len-extensions-init : goal.extensions_len-extensions-init
 extensions_len-extensions-init t c =

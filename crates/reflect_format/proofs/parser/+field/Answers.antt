@@ -9,7 +9,7 @@ use Rattle.text_model.specs.Value.{written}
 use Rattle.text_scalars.specs.Braces.{closing}
 use Rattle.text_scalars.specs.Front.{behind, begins_name, sees, sign_bytes}
 use Rattle.text_scalars.specs.Names.{name_at, name_view, separator_at, text_and_bytes, view_and_bytes}
-use Rattle.text_scalars.specs.Reading.{Tells, seen_as}
+use Rattle.text_scalars.specs.Reading.{TellsStop, seen_as}
 use Rattle.text_scalars.specs.Refusals.{IsUnexpected}
 use Rattle.text_scalars.specs.Remaining.{remaining}
 use Rattle.text_syntax.specs.Syntax.{OneField, Read, alone, at_sign, brace_of, end_at, field_at, fields_at, list_at, message_at, more_at, value_at, values_by}
@@ -655,7 +655,7 @@ field-returns-in_err-name-clause-told t c =
     let ls = remaining c.args.tokens.now in
     let k = c.in_err-name.field-0.0 in
     let read = seen_as text_and_bytes (name_at ls) in
-    told_on (Tells read) (FieldFault n (MessageFault n) c.args.message.now ls) c.from_residual.result k c.from_residual.ensures.1
+    told_on (TellsStop read) (FieldFault n (MessageFault n) c.args.message.now ls) c.from_residual.result k c.from_residual.ensures.1
     (λ h. inl (tells_unseen text_and_bytes (name_at ls) k h))
     (reading_told view_and_bytes read k (remaining c.name.new.self) c.in_err-name.ensures.read)
 
@@ -667,7 +667,7 @@ field-returns-in_err-separator-clause-told t c =
     let there = name_there ls named _ c.in_ok-name.ensures.read in
     let k = c.in_err-separator.field-0.0 in
     let r = c.from_residual-in_err-separator in
-    told_on (Tells (separator_at named)) (FieldFault n (MessageFault n) c.args.message.now ls) r.result k r.ensures.1
+    told_on (TellsStop (separator_at named)) (FieldFault n (MessageFault n) c.args.message.now ls) r.result k r.ensures.1
     (λ h. inr ((there.0, _), named, there.1, inl h))
     (reading_told (λ x. x) (separator_at named) k (remaining c.separator.new.self) c.in_err-separator.ensures.read)
 

@@ -1,24 +1,21 @@
-use Rattle.std.proofs.Common.{rules, ◌≡◌, ℕ, List, ◌∷◌, map, length, None, Some, option_map, true, false, ◌&&◌, refl, sym, ap, ◌∙◌, subst, arith}
+use Rattle.std.proofs.Common.{rules, ◌≡◌, ℕ, ◌∷◌, map, length, None, Some, option_map, true, false, ◌&&◌, refl, sym, ap, ◌∙◌, subst, arith}
 use Rattle.std.specs.List.{list_all, zip}
-use Rattle.std.proofs.lemmas.List.{length-map, take_all}
+use Rattle.std.proofs.lemmas.List.{take_all}
 use Rattle.reflect_pool.specs.FieldsLeft.{field_type}
 use Rattle.reflect_pool.specs.Kinds.{IsKind}
 use Rattle.reflect_scalar.specs.FieldTypes.{extension_type}
 use Rattle.reflect_scalar.specs.Keys.{key_view}
 use Rattle.reflect_scalar.specs.Singles.{scalar_view}
 use Rattle.reflect_scalar.specs.declared.map_key.MapKey.{MapKey}
+use Rattle.reflect_entries.proofs.Zips.{even_parts, zip_ended, zip_next, zip_parts}
 use Rattle.reflect_entries.specs.Pairs.{on_value}
 use Rattle.reflect_message.specs.Known.{known_field, known_extension}
 use Rattle.reflect_message.specs.Names.{Value}
 use Rattle.reflect_pool.specs.declared.message.MessageDescriptor.{MessageDescriptor}
 use Rattle.reflect_numbered.specs.Fits.{entry_fits, extension_fits, field_fits, fit_of, fits_of, is_one}
-use Rattle.reflect_numbered.proofs.Fitting.{all_good, entries_known, known_fits, next_bad, next_good, none_left, one_bad, one_more, one_single, suits_one, unknown_fits, zip_ended, zip_next, zip_parts}
+use Rattle.reflect_numbered.proofs.Fitting.{all_good, entries_known, known_fits, next_bad, next_good, none_left, one_bad, one_more, one_single, suits_one, unknown_fits}
 use Rattle.reflect_numbered.proofs.validity.+suits.Goals as goal
 use Rattle.reflect_numbered.proofs.validity.+suits.Goals.{map_suits-then-not-is_valid-via-then-not-is_valid, map_suits-then-not-is_valid-via-else-not-is_valid+then-not-value_suits}
-
--- numbers and values that are the halves of entries
-even_parts : (es : List (ℕ × Value)) (ns : List ℕ) (vs : List Value) → ns ≡ map (λ (e : ℕ × Value). e.0) es → vs ≡ map (λ (e : ℕ × Value). e.1) es → length ns ≡ length vs
-even_parts es ns vs a b = ap length a ∙ length-map es (λ (e : ℕ × Value). e.0) ∙ sym (length-map es (λ (e : ℕ × Value). e.1)) ∙ sym (ap length b)
 
 pub extensions_suit-extensions-init : goal.extensions_suit-extensions-init
 extensions_suit-extensions-init t c =

@@ -2,7 +2,7 @@ use Rattle.std.proofs.Common.{◌≡◌, ℕ, List, true, ap, sym, subst, ◌∙
 use Rattle.reflect_scope.specs.Known.{known_of}
 use Rattle.std.proofs.lemmas.Str.Pattern.{strip_prefix_char, split_once_first, split_parts}
 use Rattle.reflect_scope.specs.Seen.{tells}
-use Rattle.reflect_scope.specs.Says.{Means}
+use Rattle.reflect_scope.specs.Says.{NameMeans}
 use Rattle.reflect_scope.specs.Means.{join, standing, resolve, has_dot, Answers, dotted, is_holder, scopes}
 use Rattle.reflect_scope.specs.declared.definition.Definition.{Definition}
 use Rattle.reflect_scope.proofs.Scopes.{no_dot}
@@ -19,7 +19,7 @@ returns-in-Some-clause-answers c =
 pub returns-in-Some-clause-means : goal.returns-in-Some-clause-means
 returns-in-Some-clause-means c =
     let names : List ℕ → Option Definition = known_of c.args.names.now in
-    tells_from_answers (Means names (tells c.args.dependencies.now) c.args.filter c.args.scope.now c.args.name.now) c.by_full_name.result _
+    tells_from_answers (NameMeans names (tells c.args.dependencies.now) c.args.filter c.args.scope.now c.args.name.now) c.by_full_name.result _
     (resolve_means names (tells c.args.dependencies.now) c.args.filter c.args.scope.now c.args.name.now) (returns-in-Some-clause-answers c)
 
 pub returns-in-Some-split_once-clause-answers : goal.returns-in-Some-split_once-clause-answers
@@ -39,7 +39,7 @@ returns-in-Some-split_once-clause-answers c =
 pub returns-in-Some-split_once-clause-means : goal.returns-in-Some-split_once-clause-means
 returns-in-Some-split_once-clause-means c =
     let names : List ℕ → Option Definition = known_of c.args.names.now in
-    tells_from_answers (Means names (tells c.args.dependencies.now) c.args.filter c.args.scope.now c.args.name.now) c.by_first_part.result _
+    tells_from_answers (NameMeans names (tells c.args.dependencies.now) c.args.filter c.args.scope.now c.args.name.now) c.by_first_part.result _
     (resolve_means names (tells c.args.dependencies.now) c.args.filter c.args.scope.now c.args.name.now) (returns-in-Some-split_once-clause-answers c)
 
 pub returns-in-None-clause-answers : goal.returns-in-None-clause-answers
@@ -53,5 +53,5 @@ returns-in-None-clause-answers c =
 pub returns-in-None-clause-means : goal.returns-in-None-clause-means
 returns-in-None-clause-means c =
     let names : List ℕ → Option Definition = known_of c.args.names.now in
-    tells_from_answers (Means names (tells c.args.dependencies.now) c.args.filter c.args.scope.now c.args.name.now) c.in_scopes.result _
+    tells_from_answers (NameMeans names (tells c.args.dependencies.now) c.args.filter c.args.scope.now c.args.name.now) c.in_scopes.result _
     (resolve_means names (tells c.args.dependencies.now) c.args.filter c.args.scope.now c.args.name.now) (returns-in-None-clause-answers c)

@@ -1,4 +1,4 @@
-use Rattle.std.proofs.Common.{◌≡◌, ℤ, pos, ap, refl, map, take, length, arith, subst, sym, ◌∙◌, to_z, of_z, w32, Some}
+use Rattle.std.proofs.Common.{◌≡◌, ℕ, ℤ, pos, ap, refl, map, take, length, arith, subst, sym, ◌∙◌, to_z, of_z, w32, Some}
 use Rattle.std.proofs.lemmas.Int.{to_z-of_z}
 use Rattle.std.proofs.lemmas.List.{take_all}
 use Rattle.std.proofs.lemmas.Result.{err_from_is_err_and}
@@ -92,29 +92,28 @@ visit_message-returns-clause-runs g t c =
     let counted : Offsets = record o { messages = c.next_index.new.count } in
     let past : counted ≡ past_message o = ap (λ n. record o { messages = n }) c.in_ok-number.ensures.more in
     let behind : c.visit_messages.new.offsets ≡ past_trees (past_message o) nested = c.in_ok-visit_messages.ensures.counts ∙ ap (λ x. past_trees x nested) past in
-    let behind_enums = ap (λ x. x.extensions) (c.in_ok-visit_enums.ensures.counts ∙ ap (λ x. past_enums x (length own.enum_type)) behind) in
     let v0 = c.args.visitor.now in
     let v1 = c.visit_message.new.self in
-    let v2 = c.visit_fields.new.visitor in
+    let v2 = c.visit_parts.new.visitor in
     let v3 = c.visit_messages.new.visitor in
-    let v4 = c.visit_enums.new.visitor in
-    let v5 = c.visit_extensions.new.visitor in
-    let v6 = c.visit_oneofs.new.visitor in
+    let v4 = c.visit_items.new.visitor in
+    let v5 = c.visit_items-2.new.visitor in
+    let v6 = c.visit_parts-2.new.visitor in
     let first = subst (λ n. R v0 (message_declaration path n file parent o.messages own) v1) name
     (subst (λ n. R v0 (message_declaration path given file parent n own) v1) number c.in_ok-visit_message.ensures.step) in
     let fields = subst (λ n. Runs R v1 (each (one_field path n file o.messages) 0 own.field) v2) name
-    (subst (λ n. Runs R v1 (each (one_field path given file n) 0 own.field) v2) number c.in_ok-visit_fields.ensures.runs) in
+    (subst (λ n. Runs R v1 (each (one_field path given file n) 0 own.field) v2) number c.in_ok-visit_parts.ensures.runs) in
     let inner = subst (λ n. Runs R v2 (trees_declarations path (pos 3) n file (Some o.messages) 0 (past_message o) nested) v3) name
     (subst (λ n. Runs R v2 (trees_declarations path (pos 3) given file (Some n) 0 (past_message o) nested) v3) number
     (subst (λ x. Runs R v2 (trees_declarations path (pos 3) given file (Some i) 0 x nested) v3) past c.in_ok-visit_messages.ensures.runs)) in
     let enums = subst (λ n. Runs R v3 (each (one_enum path (pos 4) n file (Some o.messages) (past_trees (past_message o) nested).enums) 0 own.enum_type) v4) name
     (subst (λ n. Runs R v3 (each (one_enum path (pos 4) given file (Some n) (past_trees (past_message o) nested).enums) 0 own.enum_type) v4) number
-    (subst (λ x. Runs R v3 (each (one_enum path (pos 4) given file (Some i) x) 0 own.enum_type) v4) (ap (λ x. x.enums) behind) c.in_ok-visit_enums.ensures.runs)) in
+    (subst (λ x. Runs R v3 (each (one_enum path (pos 4) given file (Some i) x) 0 own.enum_type) v4) (ap (λ x. x.enums) behind) c.in_ok-visit_items.ensures.runs)) in
     let extensions = subst (λ n. Runs R v4 (each (one_extension path (pos 6) n file (Some o.messages) (past_trees (past_message o) nested).extensions) 0 own.extension) v5) name
     (subst (λ n. Runs R v4 (each (one_extension path (pos 6) given file (Some n) (past_trees (past_message o) nested).extensions) 0 own.extension) v5) number
-    (subst (λ x. Runs R v4 (each (one_extension path (pos 6) given file (Some i) x) 0 own.extension) v5) behind_enums c.in_ok-visit_extensions.ensures.runs)) in
+    (subst (λ x. Runs R v4 (each (one_extension path (pos 6) given file (Some i) x) 0 own.extension) v5) (ap (λ x. x.extensions) behind) c.in_ok-visit_items-2.ensures.runs)) in
     let oneofs = subst (λ n. Runs R v5 (each (one_oneof path n file o.messages) 0 own.oneof_decl) v6) name
-    (subst (λ n. Runs R v5 (each (one_oneof path given file n) 0 own.oneof_decl) v6) number c.in_ok-visit_oneofs.ensures.runs) in
+    (subst (λ n. Runs R v5 (each (one_oneof path given file n) 0 own.oneof_decl) v6) number c.in_ok-visit_parts-2.ensures.runs) in
     let all : Runs R v0 (tree_declarations path scope file parent o (message own nested)) v6 =
     (v1, (first, runs_append R _ _ v1 v2 v6 fields (runs_append R _ _ v2 v3 v6 inner (runs_append R _ _ v3 v4 v6 enums (runs_append R _ _ v4 v5 v6 extensions oneofs))))) in
     subst (λ x. Runs R v0 (tree_declarations path scope file parent o x) v6) (sym (tree_of-out m)) all
@@ -126,15 +125,17 @@ visit_message-returns-clause-counts g t c =
     let nested = messages_of (map tree_of (out-DescriptorProto m).nested_type.items) in
     let o = c.args.offsets.now in
     let past : (record o { messages = c.next_index.new.count }) ≡ past_message o = ap (λ n. record o { messages = n }) c.in_ok-number.ensures.more in
-    c.in_ok-visit_extensions.ensures.counts ∙ ap (λ x. past_extensions x (length own.extension))
-    (c.in_ok-visit_enums.ensures.counts ∙ ap (λ x. past_enums x (length own.enum_type))
-    (c.in_ok-visit_messages.ensures.counts ∙ ap (λ x. past_trees x nested) past))
+    let within = c.visit_messages.new.offsets in
+    let behind : within ≡ past_trees (past_message o) nested = c.in_ok-visit_messages.ensures.counts ∙ ap (λ x. past_trees x nested) past in
+    ap {A = ℕ} (λ n. record within { enums = c.visit_items.new.count; extensions = n }) c.in_ok-visit_items-2.ensures.counts
+    ∙ ap {A = ℕ} (λ n. past_extensions (record within { enums = n }) (length own.extension)) c.in_ok-visit_items.ensures.counts
+    ∙ ap (λ x. past_extensions (past_enums x (length own.enum_type)) (length own.extension)) behind
     ∙ ap (past_tree o) (sym (tree_of-out m))
 
 pub visit_message-returns-clause-keeps : goal.visit_message-returns-clause-keeps
 visit_message-returns-clause-keeps g t c =
     let on = g.met.V.Visitor.kept_on c.args.file in
-    on _ _ _ (on _ _ _ (on _ _ _ (on _ _ _ (on _ _ _ c.visit_message.ensures.keeps c.visit_fields.ensures.keeps) c.visit_messages.ensures.keeps) c.visit_enums.ensures.keeps) c.visit_extensions.ensures.keeps) c.visit_oneofs.ensures.keeps
+    on _ _ _ (on _ _ _ (on _ _ _ (on _ _ _ (on _ _ _ c.visit_message.ensures.keeps c.visit_parts.ensures.keeps) c.visit_messages.ensures.keeps) c.visit_items.ensures.keeps) c.visit_items-2.ensures.keeps) c.visit_parts-2.ensures.keeps
 
 pub visit_message-returns-in_err-full_name : goal.visit_message-returns-in_err-full_name
 visit_message-returns-in_err-full_name g t c =
@@ -154,37 +155,37 @@ visit_message-returns-in_err-visit_message g t c =
     let p = err_from_is_err_and r.result r.ensures.1 in
     rw p.1 (record { runs = tt; counts = tt; keeps = c.visit_message.ensures.keeps })
 
-pub visit_message-returns-in_err-visit_fields : goal.visit_message-returns-in_err-visit_fields
-visit_message-returns-in_err-visit_fields g t c =
-    let r = c.from_residual-in_err-visit_fields in
+pub visit_message-returns-in_err-visit_parts : goal.visit_message-returns-in_err-visit_parts
+visit_message-returns-in_err-visit_parts g t c =
+    let r = c.from_residual-in_err-visit_parts in
     let p = err_from_is_err_and r.result r.ensures.1 in
     let on = g.met.V.Visitor.kept_on c.args.file in
-    rw p.1 (record { runs = tt; counts = tt; keeps = on _ _ _ c.visit_message.ensures.keeps c.visit_fields.ensures.keeps })
+    rw p.1 (record { runs = tt; counts = tt; keeps = on _ _ _ c.visit_message.ensures.keeps c.visit_parts.ensures.keeps })
 
 pub visit_message-returns-in_err-visit_messages : goal.visit_message-returns-in_err-visit_messages
 visit_message-returns-in_err-visit_messages g t c =
     let r = c.from_residual-in_err-visit_messages in
     let p = err_from_is_err_and r.result r.ensures.1 in
     let on = g.met.V.Visitor.kept_on c.args.file in
-    rw p.1 (record { runs = tt; counts = tt; keeps = on _ _ _ (on _ _ _ c.visit_message.ensures.keeps c.visit_fields.ensures.keeps) c.visit_messages.ensures.keeps })
+    rw p.1 (record { runs = tt; counts = tt; keeps = on _ _ _ (on _ _ _ c.visit_message.ensures.keeps c.visit_parts.ensures.keeps) c.visit_messages.ensures.keeps })
 
-pub visit_message-returns-in_err-visit_enums : goal.visit_message-returns-in_err-visit_enums
-visit_message-returns-in_err-visit_enums g t c =
-    let r = c.from_residual-in_err-visit_enums in
+pub visit_message-returns-in_err-visit_items : goal.visit_message-returns-in_err-visit_items
+visit_message-returns-in_err-visit_items g t c =
+    let r = c.from_residual-in_err-visit_items in
     let p = err_from_is_err_and r.result r.ensures.1 in
     let on = g.met.V.Visitor.kept_on c.args.file in
-    rw p.1 (record { runs = tt; counts = tt; keeps = on _ _ _ (on _ _ _ (on _ _ _ c.visit_message.ensures.keeps c.visit_fields.ensures.keeps) c.visit_messages.ensures.keeps) c.visit_enums.ensures.keeps })
+    rw p.1 (record { runs = tt; counts = tt; keeps = on _ _ _ (on _ _ _ (on _ _ _ c.visit_message.ensures.keeps c.visit_parts.ensures.keeps) c.visit_messages.ensures.keeps) c.visit_items.ensures.keeps })
 
-pub visit_message-returns-in_err-visit_extensions : goal.visit_message-returns-in_err-visit_extensions
-visit_message-returns-in_err-visit_extensions g t c =
-    let r = c.from_residual-in_err-visit_extensions in
+pub visit_message-returns-in_err-visit_items-2 : goal.visit_message-returns-in_err-visit_items-2
+visit_message-returns-in_err-visit_items-2 g t c =
+    let r = c.from_residual-in_err-visit_items-2 in
     let p = err_from_is_err_and r.result r.ensures.1 in
     let on = g.met.V.Visitor.kept_on c.args.file in
-    rw p.1 (record { runs = tt; counts = tt; keeps = on _ _ _ (on _ _ _ (on _ _ _ (on _ _ _ c.visit_message.ensures.keeps c.visit_fields.ensures.keeps) c.visit_messages.ensures.keeps) c.visit_enums.ensures.keeps) c.visit_extensions.ensures.keeps })
+    rw p.1 (record { runs = tt; counts = tt; keeps = on _ _ _ (on _ _ _ (on _ _ _ (on _ _ _ c.visit_message.ensures.keeps c.visit_parts.ensures.keeps) c.visit_messages.ensures.keeps) c.visit_items.ensures.keeps) c.visit_items-2.ensures.keeps })
 
-pub visit_message-returns-in_err-visit_oneofs : goal.visit_message-returns-in_err-visit_oneofs
-visit_message-returns-in_err-visit_oneofs g t c =
-    let r = c.from_residual-in_err-visit_oneofs in
+pub visit_message-returns-in_err-visit_parts-2 : goal.visit_message-returns-in_err-visit_parts-2
+visit_message-returns-in_err-visit_parts-2 g t c =
+    let r = c.from_residual-in_err-visit_parts-2 in
     let p = err_from_is_err_and r.result r.ensures.1 in
     let on = g.met.V.Visitor.kept_on c.args.file in
-    rw p.1 (record { runs = tt; counts = tt; keeps = on _ _ _ (on _ _ _ (on _ _ _ (on _ _ _ (on _ _ _ c.visit_message.ensures.keeps c.visit_fields.ensures.keeps) c.visit_messages.ensures.keeps) c.visit_enums.ensures.keeps) c.visit_extensions.ensures.keeps) c.visit_oneofs.ensures.keeps })
+    rw p.1 (record { runs = tt; counts = tt; keeps = on _ _ _ (on _ _ _ (on _ _ _ (on _ _ _ (on _ _ _ c.visit_message.ensures.keeps c.visit_parts.ensures.keeps) c.visit_messages.ensures.keeps) c.visit_items.ensures.keeps) c.visit_items-2.ensures.keeps) c.visit_parts-2.ensures.keeps })

@@ -2,7 +2,7 @@ use Rattle.std.proofs.Common.{refl, ◌∙◌, subst, string_bytes, IsUtf8}
 use Rattle.schema_core.specs.Payloads.{Decoded, Encoded, Recoded}
 use Rattle.std.proofs.lemmas.Result.{err_from_is_err_and}
 use Rattle.schema_core.specs.Refusals.{BytesRefused}
-use Rattle.schema_core.specs.Serving.{Answers, Refuses, of_schema, shown}
+use Rattle.schema_core.specs.Serving.{Answers, RefusesInput, of_schema, shown}
 use Rattle.schema_core.proofs.Answered.{answered}
 use Rattle.schema_core.proofs.Refused.{of_payload, refused_input}
 use Rattle.schema_core.proofs.payload.serve.Goals as goal
@@ -35,7 +35,7 @@ returns-in_err-decode-in-Decode-clause-refused g c =
     let r = c.from_residual-in_err-decode-in-Decode in
     let p = err_from_is_err_and r.result r.ensures.1 in
     let refused = subst (λ b. BytesRefused pool name b failed.field-0.0) c.as_slice-in-Decode.ensures.value failed.ensures.err in
-    rw (p.1, p.2) (refused_input (Refuses c.args.action pool name c.args.is_hex) _ c.in_ok-input.input.items (of_schema failed.field-0.0) c.in_ok-input.ensures.bytes
+    rw (p.1, p.2) (refused_input (RefusesInput c.args.action pool name c.args.is_hex) _ c.in_ok-input.input.items (of_schema failed.field-0.0) c.in_ok-input.ensures.bytes
     (rw c.in-Decode.is (of_payload pool name c.args.is_hex c.in_ok-input.input.items bytes.bytes.items failed.field-0.0 bytes.ensures.ok refused)))
 
 pub returns-in_err-bytes-in-Recode-2-clause-refused : goal.returns-in_err-bytes-in-Recode-2-clause-refused
@@ -47,5 +47,5 @@ returns-in_err-bytes-in-Recode-2-clause-refused g c =
     let r = c.from_residual-in_err-bytes-in-Recode-2 in
     let p = err_from_is_err_and r.result r.ensures.1 in
     let refused = subst (λ b. BytesRefused pool name b failed.field-0.0) c.as_slice-in-Recode.ensures.value failed.ensures.err in
-    rw (p.1, p.2) (refused_input (Refuses c.args.action pool name c.args.is_hex) _ c.in_ok-input.input.items (of_schema failed.field-0.0) c.in_ok-input.ensures.bytes
+    rw (p.1, p.2) (refused_input (RefusesInput c.args.action pool name c.args.is_hex) _ c.in_ok-input.input.items (of_schema failed.field-0.0) c.in_ok-input.ensures.bytes
     (rw c.in-Recode.is (of_payload pool name c.args.is_hex c.in_ok-input.input.items bytes.bytes.items failed.field-0.0 bytes.ensures.ok refused)))

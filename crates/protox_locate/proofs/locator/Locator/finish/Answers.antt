@@ -7,7 +7,7 @@ use Rattle.descriptor_records.specs.Content.{LocationContent, location_view}
 use Rattle.descriptor_records.specs.declared.source_info.Location.{Location}
 use Rattle.protox_locate.specs.Files.{AreByPath, is_before}
 use Rattle.protox_locate.specs.Collected.{State}
-use Rattle.protox_locate.proofs.ByPath.{ascend_viewed, stable_viewed}
+use Rattle.protox_lex.proofs.Sorting.{ascend_viewed, stable_viewed}
 use Rattle.protox_locate.proofs.locator.Locator.finish.Goals as goal
 
 pub returns : goal.returns

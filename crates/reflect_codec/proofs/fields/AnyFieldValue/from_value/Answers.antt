@@ -1,7 +1,7 @@
 use Rattle.std.proofs.Common.{◌-◌, inl, inr, subst}
 use Rattle.std.proofs.lemmas.Result.{err_from_is_err_and}
 use Rattle.reflect_codec.specs.Raw.{value_view, fields_view}
-use Rattle.reflect_codec.specs.Reading.{Takes}
+use Rattle.reflect_codec.specs.Reading.{ReadsMeant}
 use Rattle.reflect_codec.proofs.Parts.{payload_fields, whole_read}
 use Rattle.reflect_codec.proofs.Values.{rejects}
 use Rattle.reflect_codec.proofs.fields.AnyFieldValue.from_value.Goals as goal
@@ -22,4 +22,4 @@ returns g c =
     let fs = fields_view c.in_ok-fields.fields.list.items in
     whole_read (g.R.ReadRecord.facts (c.args.levels - 1)) (g.R.ReadRecord.faults (c.args.levels - 1)) c.args.levels (c.args.levels - 1) (value_view c.args.value) fs c.from_fields.result
     (c.in_ok-payload.payload.now, c.in_ok-payload.ensures, c.in_ok-fields.ensures.read)
-    (subst (λ k. Takes (g.R.ReadRecord.facts k) (g.R.ReadRecord.faults k) fs c.from_fields.result) c.in_ok-fields.ensures.levels c.from_fields.ensures)
+    (subst (λ k. ReadsMeant (g.R.ReadRecord.facts k) (g.R.ReadRecord.faults k) fs c.from_fields.result) c.in_ok-fields.ensures.levels c.from_fields.ensures)
