@@ -29,14 +29,14 @@ use reflect_passes::{
     DescriptorError, LinkedTypes, add_links, check_numbers, declare_names, index_files,
     list_extensions, resolve_references, walk_error,
 };
-use reflect_scope::{Definition, Links};
+use reflect_scope::{Definition, ExtensionIndex, FileIndex, Links, MessageIndex};
 use reflect_tables::{Counts, Tables};
 use reflect_walk::{Offsets, VisitError};
 use std::alloc::Global;
 use std::collections::BTreeMap;
 
 /// A count as the number of the next place.
-pub fn next_place(count: usize) -> Result<u32, VisitError>
+pub fn next_place(count: usize) -> Result<FileIndex, VisitError>
     ensures { IfOk result (λ place. (place ≡ count) × (place < 2 ^ 31)) }
 {
     match i32::try_from(count) {
@@ -87,13 +87,13 @@ pub fn offsets(tables: &Tables) -> Result<Offsets, VisitError>
 fn link_declared(
     alloc: Global,
     before: Offsets,
-    first: u32,
+    first: FileIndex,
     files: Vec<FileDescriptorProto>,
     tables: &mut Tables,
     links: &mut Vec<Links>,
-    file_names: &BTreeMap<String, u32>,
+    file_names: &BTreeMap<String, FileIndex>,
     names: &NameTable<Definition>,
-    extension_numbers: &mut BTreeMap<(u32, u32), u32>,
+    extension_numbers: &mut BTreeMap<(MessageIndex, u32), ExtensionIndex>,
 ) -> Result<(), DescriptorError>
     requires pooled { ArePooled (pool_of tables.old) }
     requires numbered { AreNumbered (numbers_of extension_numbers.old)
@@ -211,13 +211,13 @@ fn add(tables: &mut Tables, more: Tables) -> Result<(), VisitError>
 pub fn link(
     alloc: Global,
     before: Offsets,
-    first: u32,
+    first: FileIndex,
     files: Vec<FileDescriptorProto>,
     tables: &mut Tables,
     links: &mut Vec<Links>,
-    file_names: &mut BTreeMap<String, u32>,
+    file_names: &mut BTreeMap<String, FileIndex>,
     names: &mut NameTable<Definition>,
-    extension_numbers: &mut BTreeMap<(u32, u32), u32>,
+    extension_numbers: &mut BTreeMap<(MessageIndex, u32), ExtensionIndex>,
 ) -> Result<(), DescriptorError>
     requires linked { IsLinked (pool_of tables.old) names.old file_names.old extension_numbers.old
         links.old.items tables.old.messages.items }

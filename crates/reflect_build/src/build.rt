@@ -23,12 +23,13 @@ use reflect_growth::{Edit, cut, settle_all};
 use reflect_names::DescriptorErrorKind;
 use reflect_passes::{DescriptorError, walk_error};
 use reflect_pool::{DescriptorPool, PoolParts};
+use reflect_scope::FileIndex;
 use std::alloc::Global;
 use std::collections::BTreeMap;
 use std::mem;
 
 /// No known file has the file's name.
-fn is_new(known: &BTreeMap<String, u32>, file: &FileDescriptorProto) -> bool
+fn is_new(known: &BTreeMap<String, FileIndex>, file: &FileDescriptorProto) -> bool
     ensures { result ≡ is_unknown (indexes_of known.now) file.now }
 {
     match &file.name {

@@ -7,7 +7,7 @@ ghost use Rattle.reflect_scope.specs.Known.{known_of, kept_first};
 ghost use Rattle.reflect_tables.specs.ExtensionNumbers.{key_cmp};
 
 use name_table::{NameTable, ValueTest};
-use reflect_scope::Definition;
+use reflect_scope::{Definition, ExtensionIndex, FileIndex, MessageIndex};
 use std::collections::BTreeMap;
 
 /// Keeps what the first so many files define.
@@ -32,7 +32,7 @@ pub fn forget_names(names: &mut NameTable<Definition>, mark: u32)
 }
 
 /// Leaves only the names of the first so many files, as names of files.
-pub fn forget_files(file_names: &mut BTreeMap<String, u32>, mark: u32)
+pub fn forget_files(file_names: &mut BTreeMap<String, FileIndex>, mark: u32)
     ensures entries { file_names.new.entries
         ≡ filter (λ e. nat_lt e.1 mark) file_names.old.entries }
     ensures was_ordered { IsOrdered string_cmp file_names.old }
@@ -41,7 +41,7 @@ pub fn forget_files(file_names: &mut BTreeMap<String, u32>, mark: u32)
 }
 
 /// Leaves only the messages and numbers of the first so many extensions.
-pub fn forget_numbers(numbers: &mut BTreeMap<(u32, u32), u32>, count: usize)
+pub fn forget_numbers(numbers: &mut BTreeMap<(MessageIndex, u32), ExtensionIndex>, count: usize)
     ensures entries { numbers.new.entries ≡ filter (λ e. nat_lt e.1 count) numbers.old.entries }
     ensures was_ordered { IsOrdered key_cmp numbers.old }
 {

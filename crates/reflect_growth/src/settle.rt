@@ -14,6 +14,7 @@ use descriptor_records::{
     FieldDescriptorProto, FileDescriptorProto, MethodDescriptorProto, OneofDescriptorProto,
     Options, ServiceDescriptorProto, tag,
 };
+use reflect_scope::FileIndex;
 use reflect_tables::{StoredFile, Tables};
 
 /// What is put into the record of the file at a place of the pool.
@@ -22,13 +23,13 @@ pub enum Edit {
     /// The settled options of the declaration, or the extension range, at a path; the empty path is
     /// the file's.
     Options {
-        file: u32,
+        file: FileIndex,
         path: Vec<i32>,
         options: Options,
     },
     /// The path of the location at a place of the file's list.
     Location {
-        file: u32,
+        file: FileIndex,
         place: u32,
         path: Vec<i32>,
     },

@@ -7,6 +7,7 @@ ghost use Rattle.reflect_index.specs.Children.{KeepsRest, draft_children, with_c
 
 use crate::drafts::{MessageDraft, local_place};
 use reflect_names::VisitError;
+use reflect_scope::{FileIndex, MessageIndex, ServiceIndex};
 use reflect_tables::{Child, Children, Declared};
 use std::alloc::{AllocError, Global};
 
@@ -37,7 +38,7 @@ fn push_child(children: &mut Children, child: Child) -> Result<(), AllocError>
 fn push_nested(
     messages: &mut Vec<MessageDraft>,
     first: u32,
-    message: u32,
+    message: MessageIndex,
     child: Child,
 ) -> Result<(), VisitError>
     ensures kept { OnOk result (KeepsRest messages.old.items messages.new.items) }
@@ -58,7 +59,7 @@ fn push_nested(
 fn push_outside(
     files: &mut Vec<Declared>,
     first: u32,
-    file: u32,
+    file: FileIndex,
     child: Child,
 ) -> Result<(), VisitError>
     ensures { OnOk result (ListsOutside first file None (with_place child)
@@ -77,8 +78,8 @@ fn push_outside(
 pub fn push_service(
     files: &mut Vec<Declared>,
     first: u32,
-    file: u32,
-    service: u32,
+    file: FileIndex,
+    service: ServiceIndex,
 ) -> Result<(), VisitError>
     ensures { OnOk result (ListsOutside first file None (with_service service)
         (map declared_of files.old.items) (map declared_of files.new.items)) }
@@ -97,10 +98,10 @@ pub fn push_service(
 pub fn declare(
     files: &mut Vec<Declared>,
     messages: &mut Vec<MessageDraft>,
-    first_file: u32,
-    first_message: u32,
-    file: u32,
-    parent: Option<u32>,
+    first_file: FileIndex,
+    first_message: MessageIndex,
+    file: FileIndex,
+    parent: Option<MessageIndex>,
     child: Child,
 ) -> Result<(), VisitError>
     ensures kept { OnOk result (KeepsRest messages.old.items messages.new.items) }

@@ -5,6 +5,7 @@ ghost use Rattle.std.specs.Prelude.{◌≡◌, ◌+◌, ◌-◌, [], IfOk};
 use crate::batch::Batch;
 use crate::finish::{finished_enums, finished_messages};
 use reflect_names::VisitError;
+use reflect_scope::{FileIndex, MessageIndex};
 use reflect_tables::{
     Children, Declared, NumberRanges, StoredExtension, StoredField, StoredOneof, StoredService,
     StoredValue,
@@ -14,8 +15,8 @@ use std::alloc::Global;
 /// A message type whose fields and oneofs may not all be there yet.
 #[derive(Drop)]
 pub struct MessageDraft {
-    pub file: u32,
-    pub parent: Option<u32>,
+    pub file: FileIndex,
+    pub parent: Option<MessageIndex>,
     pub path: Vec<i32>,
     pub name: String,
     pub full_name: String,
@@ -35,8 +36,8 @@ pub struct MessageDraft {
 /// An enum type whose values may not all be there yet.
 #[derive(Drop)]
 pub struct EnumDraft {
-    pub file: u32,
-    pub parent: Option<u32>,
+    pub file: FileIndex,
+    pub parent: Option<MessageIndex>,
     pub path: Vec<i32>,
     pub name: String,
     pub full_name: String,

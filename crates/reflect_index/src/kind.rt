@@ -10,10 +10,11 @@ use descriptor_records::{FieldDescriptorProto, FieldType};
 use reflect_fields::scalar_kind;
 use reflect_names::{DefinitionKind, VisitError};
 use reflect_references::References;
+use reflect_scope::MessageIndex;
 use reflect_tables::StoredKind;
 
 /// The message that is meant.
-pub fn message_meant(meant: Option<DefinitionKind>) -> Result<u32, VisitError>
+pub fn message_meant(meant: Option<DefinitionKind>) -> Result<MessageIndex, VisitError>
     ensures { IfOk result (λ i. meant ≡ Some (kind.Message i)) }
 {
     match meant {

@@ -19,6 +19,10 @@ use descriptor_records::{
 use reflect_fields::{extension_entry, field_entry, text_of};
 use reflect_names::{Offsets, Reference, VisitError, Visitor};
 use reflect_references::References;
+use reflect_scope::{
+    EnumIndex, EnumValueIndex, ExtensionIndex, FieldIndex, FileIndex, MessageIndex, MethodIndex,
+    OneofIndex, ServiceIndex,
+};
 use reflect_tables::{
     Child, Declared, NumberRanges, StoredExtension, StoredField, StoredMethod, StoredOneof,
     StoredService, StoredValue, Syntax, syntax_of,
@@ -88,7 +92,7 @@ impl<'a> IndexVisitor<'a> {
 fn push_field(
     messages: &mut Vec<MessageDraft>,
     first: u32,
-    message: u32,
+    message: MessageIndex,
     field: StoredField,
 ) -> Result<(), VisitError>
     ensures names { OnOk result (map draft_name messages.new.items
@@ -117,7 +121,7 @@ fn push_field(
 fn push_oneof(
     messages: &mut Vec<MessageDraft>,
     first: u32,
-    message: u32,
+    message: MessageIndex,
     oneof: StoredOneof,
 ) -> Result<(), VisitError>
     ensures names { OnOk result (map draft_name messages.new.items
@@ -146,7 +150,7 @@ fn push_oneof(
 fn push_value(
     enums: &mut Vec<EnumDraft>,
     first: u32,
-    enumeration: u32,
+    enumeration: EnumIndex,
     value: StoredValue,
 ) -> Result<(), VisitError>
     ensures names { OnOk result (map enum_draft_name enums.new.items
@@ -171,7 +175,7 @@ fn push_value(
 fn push_method(
     services: &mut Vec<StoredService>,
     first: u32,
-    service: u32,
+    service: ServiceIndex,
     method: StoredMethod,
 ) -> Result<(), VisitError>
     ensures names { OnOk result (map stored_service_name services.new.items
@@ -205,7 +209,7 @@ impl<'a> Visitor for IndexVisitor<'a> {
         &mut self,
         alloc: Global,
         _path: &[i32],
-        _file: u32,
+        _file: FileIndex,
         descriptor: &FileDescriptorProto,
     ) -> Result<(), VisitError> {
         self.syntax = syntax_of(descriptor);
@@ -221,9 +225,9 @@ impl<'a> Visitor for IndexVisitor<'a> {
         alloc: Global,
         path: &[i32],
         full_name: &str,
-        file: u32,
-        parent: Option<u32>,
-        index: u32,
+        file: FileIndex,
+        parent: Option<MessageIndex>,
+        index: MessageIndex,
         message: &DescriptorProto,
     ) -> Result<(), VisitError> {
         declare(
@@ -256,9 +260,9 @@ impl<'a> Visitor for IndexVisitor<'a> {
         alloc: Global,
         path: &[i32],
         full_name: &str,
-        _file: u32,
-        message: u32,
-        _index: u32,
+        _file: FileIndex,
+        message: MessageIndex,
+        _index: FieldIndex,
         field: &FieldDescriptorProto,
     ) -> Result<(), VisitError> {
         let kind = kind_of(&mut self.references, field)?;
@@ -277,9 +281,9 @@ impl<'a> Visitor for IndexVisitor<'a> {
         alloc: Global,
         path: &[i32],
         full_name: &str,
-        _file: u32,
-        message: u32,
-        _index: u32,
+        _file: FileIndex,
+        message: MessageIndex,
+        _index: OneofIndex,
         oneof: &OneofDescriptorProto,
     ) -> Result<(), VisitError> {
         let entry = StoredOneof {
@@ -303,9 +307,9 @@ impl<'a> Visitor for IndexVisitor<'a> {
         alloc: Global,
         path: &[i32],
         full_name: &str,
-        file: u32,
-        parent: Option<u32>,
-        index: u32,
+        file: FileIndex,
+        parent: Option<MessageIndex>,
+        index: EnumIndex,
         enumeration: &EnumDescriptorProto,
     ) -> Result<(), VisitError> {
         declare(
@@ -333,9 +337,9 @@ impl<'a> Visitor for IndexVisitor<'a> {
         alloc: Global,
         path: &[i32],
         full_name: &str,
-        _file: u32,
-        enumeration: u32,
-        _index: u32,
+        _file: FileIndex,
+        enumeration: EnumIndex,
+        _index: EnumValueIndex,
         value: &EnumValueDescriptorProto,
     ) -> Result<(), VisitError> {
         let entry = StoredValue {
@@ -357,8 +361,8 @@ impl<'a> Visitor for IndexVisitor<'a> {
         alloc: Global,
         path: &[i32],
         full_name: &str,
-        file: u32,
-        index: u32,
+        file: FileIndex,
+        index: ServiceIndex,
         service: &ServiceDescriptorProto,
     ) -> Result<(), VisitError> {
         push_service(&mut self.drafts.files, self.first, file, index)?;
@@ -377,9 +381,9 @@ impl<'a> Visitor for IndexVisitor<'a> {
         alloc: Global,
         path: &[i32],
         full_name: &str,
-        _file: u32,
-        service: u32,
-        _index: u32,
+        _file: FileIndex,
+        service: ServiceIndex,
+        _index: MethodIndex,
         method: &MethodDescriptorProto,
     ) -> Result<(), VisitError> {
         let input = message_meant(self.references.meaning_of(&method.input_type))?;
@@ -407,9 +411,9 @@ impl<'a> Visitor for IndexVisitor<'a> {
         alloc: Global,
         path: &[i32],
         full_name: &str,
-        file: u32,
-        parent: Option<u32>,
-        index: u32,
+        file: FileIndex,
+        parent: Option<MessageIndex>,
+        index: ExtensionIndex,
         extension: &FieldDescriptorProto,
     ) -> Result<(), VisitError> {
         declare(

@@ -10,13 +10,14 @@ use crate::lists::{Enums, Extensions, Messages};
 use crate::service::Services;
 use descriptor_records::FileDescriptorProto;
 use reflect_pool::{DescriptorPool, Syntax};
+use reflect_scope::FileIndex;
 use reflect_tables::{StoredFile, syntax_of};
 
 /// A file of a pool.
 #[derive(Clone, Copy)]
 pub struct FileDescriptor<'p> {
     pub(crate) pool: &'p DescriptorPool,
-    pub(crate) index: u32,
+    pub(crate) index: FileIndex,
     ghost in_range: { index < length pool.now.files },
 }
 
@@ -24,7 +25,7 @@ impl<'p> FileDescriptor<'p> {
     ghost use Rattle.reflect_link.specs.ListsLeft.{messages_left, enums_left, extensions_left, services_left, files_left};
 
     /// The file at a place of a pool.
-    pub fn new(pool: &'p DescriptorPool, index: u32) -> FileDescriptor<'p>
+    pub fn new(pool: &'p DescriptorPool, index: FileIndex) -> FileDescriptor<'p>
         requires { index < length pool.now.files }
         ensures pool { result.pool.now ≡ pool.now }
         ensures index { result.index ≡ index }
@@ -40,7 +41,7 @@ impl<'p> FileDescriptor<'p> {
     }
 
     /// The place in the pool.
-    pub fn index(&self) -> u32
+    pub fn index(&self) -> FileIndex
         ensures { result ≡ self.now.index }
     {
         self.index
@@ -181,7 +182,7 @@ fn text(text: &Option<String>) -> &str
 #[derive(Drop)]
 pub struct Files<'p> {
     pool: &'p DescriptorPool,
-    places: &'p [u32],
+    places: &'p [FileIndex],
     ghost inside: { All (λ place. place < length pool.now.files) places.now } by { Prim.hlevel props },
 }
 
@@ -204,7 +205,7 @@ impl<'p> Iterator for Files<'p> {
 }
 
 /// The file at a place, if there is one.
-pub fn file_at<'p>(pool: &'p DescriptorPool, index: u32) -> Option<FileDescriptor<'p>>
+pub fn file_at<'p>(pool: &'p DescriptorPool, index: FileIndex) -> Option<FileDescriptor<'p>>
     ensures pool { IfSome result (λ f. f.pool.now ≡ pool.now) }
     ensures index { IfSome result (λ f. f.index ≡ index) }
     ensures there { index < length pool.now.files → IsSome result }

@@ -4,12 +4,13 @@ ghost use Rattle.std.specs.Prelude.{◌<◌, All, length};
 ghost use Rattle.std.proofs.Props.{props};
 
 use reflect_pool::{DescriptorPool, EnumDescriptor, ExtensionDescriptor, MessageDescriptor};
+use reflect_scope::{EnumIndex, ExtensionIndex, MessageIndex};
 
 /// Message types, as they were declared.
 #[derive(Drop)]
 pub struct Messages<'p> {
     pub(crate) pool: &'p DescriptorPool,
-    pub(crate) places: &'p [u32],
+    pub(crate) places: &'p [MessageIndex],
     ghost inside: { All (λ place. place < length pool.now.messages) places.now } by { Prim.hlevel props },
 }
 
@@ -35,7 +36,7 @@ impl<'p> Iterator for Messages<'p> {
 #[derive(Drop)]
 pub struct Enums<'p> {
     pub(crate) pool: &'p DescriptorPool,
-    pub(crate) places: &'p [u32],
+    pub(crate) places: &'p [EnumIndex],
     ghost inside: { All (λ place. place < length pool.now.enums) places.now } by { Prim.hlevel props },
 }
 
@@ -61,7 +62,7 @@ impl<'p> Iterator for Enums<'p> {
 #[derive(Drop)]
 pub struct Extensions<'p> {
     pub(crate) pool: &'p DescriptorPool,
-    pub(crate) places: &'p [u32],
+    pub(crate) places: &'p [ExtensionIndex],
     ghost inside: { All (λ place. place < length pool.now.extensions) places.now } by { Prim.hlevel props },
 }
 

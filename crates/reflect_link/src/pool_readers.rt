@@ -6,6 +6,7 @@ use crate::file::{FileDescriptor, file_at};
 use crate::service::{ServiceDescriptor, service_in};
 use descriptor_records::FileDescriptorProto;
 use reflect_pool::{DescriptorPool, EnumDescriptor, ExtensionDescriptor, MessageDescriptor};
+use reflect_scope::{EnumIndex, ExtensionIndex, MessageIndex, ServiceIndex};
 use reflect_tables::StoredFile;
 
 /// Further readers of a pool.
@@ -150,8 +151,8 @@ impl<'p> Iterator for AllFiles<'p> {
 #[derive(Drop)]
 pub struct AllMessages<'p> {
     pool: &'p DescriptorPool,
-    next: u32,
-    end: u32,
+    next: MessageIndex,
+    end: MessageIndex,
     ghost whole: { end ≡ length pool.now.messages },
 }
 
@@ -180,8 +181,8 @@ impl<'p> Iterator for AllMessages<'p> {
 #[derive(Drop)]
 pub struct AllEnums<'p> {
     pool: &'p DescriptorPool,
-    next: u32,
-    end: u32,
+    next: EnumIndex,
+    end: EnumIndex,
     ghost whole: { end ≡ length pool.now.enums },
 }
 
@@ -210,8 +211,8 @@ impl<'p> Iterator for AllEnums<'p> {
 #[derive(Drop)]
 pub struct AllExtensions<'p> {
     pool: &'p DescriptorPool,
-    next: u32,
-    end: u32,
+    next: ExtensionIndex,
+    end: ExtensionIndex,
     ghost whole: { end ≡ length pool.now.extensions },
 }
 
@@ -241,8 +242,8 @@ impl<'p> Iterator for AllExtensions<'p> {
 #[derive(Drop)]
 pub struct AllServices<'p> {
     pool: &'p DescriptorPool,
-    next: u32,
-    end: u32,
+    next: ServiceIndex,
+    end: ServiceIndex,
     ghost whole: { end ≡ length pool.now.services },
 }
 

@@ -10,13 +10,14 @@ use crate::file::FileDescriptor;
 use crate::records::{method_record, service_record};
 use descriptor_records::{FileDescriptorProto, MethodDescriptorProto, ServiceDescriptorProto};
 use reflect_pool::{DescriptorPool, MessageDescriptor};
+use reflect_scope::{MethodIndex, ServiceIndex};
 use reflect_tables::{StoredMethod, StoredService};
 
 /// A service of a pool.
 #[derive(Clone, Copy)]
 pub struct ServiceDescriptor<'p> {
     pub(crate) pool: &'p DescriptorPool,
-    pub(crate) index: u32,
+    pub(crate) index: ServiceIndex,
     ghost in_range: { index < length pool.now.services },
 }
 
@@ -25,7 +26,7 @@ impl<'p> ServiceDescriptor<'p> {
     ghost use Rattle.reflect_pool.specs.PlacesLeft.{places_from};
 
     /// The service at a place of a pool.
-    pub fn new(pool: &'p DescriptorPool, index: u32) -> ServiceDescriptor<'p>
+    pub fn new(pool: &'p DescriptorPool, index: ServiceIndex) -> ServiceDescriptor<'p>
         requires { index < length pool.now.services }
         ensures pool { result.pool.now ≡ pool.now }
         ensures index { result.index ≡ index }
@@ -41,7 +42,7 @@ impl<'p> ServiceDescriptor<'p> {
     }
 
     /// The place in the pool.
-    pub fn index(&self) -> u32
+    pub fn index(&self) -> ServiceIndex
         ensures { result ≡ self.now.index }
     {
         self.index
@@ -124,7 +125,7 @@ impl<'p> ServiceDescriptor<'p> {
     }
 
     /// The method at a place.
-    fn method_at(&self, index: u32) -> Option<MethodDescriptor<'p>>
+    fn method_at(&self, index: MethodIndex) -> Option<MethodDescriptor<'p>>
         ensures service { IfSome result (λ m. m.service ≡ self.now) }
         ensures index { IfSome result (λ m. m.index ≡ index) }
         ensures there { index < length (service_at self.now.pool.now self.now.index).methods
@@ -146,7 +147,7 @@ impl<'p> ServiceDescriptor<'p> {
 #[derive(Drop)]
 pub struct Services<'p> {
     pub(crate) pool: &'p DescriptorPool,
-    pub(crate) places: &'p [u32],
+    pub(crate) places: &'p [ServiceIndex],
     ghost inside: { All (λ place. place < length pool.now.services) places.now } by { Prim.hlevel props },
 }
 
@@ -169,7 +170,10 @@ impl<'p> Iterator for Services<'p> {
 }
 
 /// The service at a place, if there is one.
-pub fn service_in<'p>(pool: &'p DescriptorPool, index: u32) -> Option<ServiceDescriptor<'p>>
+pub fn service_in<'p>(
+    pool: &'p DescriptorPool,
+    index: ServiceIndex,
+) -> Option<ServiceDescriptor<'p>>
     ensures pool { IfSome result (λ s. s.pool.now ≡ pool.now) }
     ensures index { IfSome result (λ s. s.index ≡ index) }
     ensures there { index < length pool.now.services → IsSome result }
@@ -185,8 +189,8 @@ pub fn service_in<'p>(pool: &'p DescriptorPool, index: u32) -> Option<ServiceDes
 #[derive(Drop)]
 pub struct Methods<'p> {
     service: ServiceDescriptor<'p>,
-    next: u32,
-    end: u32,
+    next: MethodIndex,
+    end: MethodIndex,
     ghost whole: { end ≡ length (service_at service.pool.now service.index).methods },
 }
 
@@ -215,13 +219,13 @@ impl<'p> Iterator for Methods<'p> {
 #[derive(Clone, Copy)]
 pub struct MethodDescriptor<'p> {
     pub(crate) service: ServiceDescriptor<'p>,
-    pub(crate) index: u32,
+    pub(crate) index: MethodIndex,
     ghost in_range: { index < length (service_at service.pool.now service.index).methods },
 }
 
 impl<'p> MethodDescriptor<'p> {
     /// The method at a place of a service.
-    pub fn new(service: ServiceDescriptor<'p>, index: u32) -> MethodDescriptor<'p>
+    pub fn new(service: ServiceDescriptor<'p>, index: MethodIndex) -> MethodDescriptor<'p>
         requires { index < length (service_at service.pool.now service.index).methods }
         ensures service { result.service ≡ service.entry }
         ensures index { result.index ≡ index }
@@ -244,7 +248,7 @@ impl<'p> MethodDescriptor<'p> {
     }
 
     /// The place in the service.
-    pub fn index(&self) -> u32
+    pub fn index(&self) -> MethodIndex
         ensures { result ≡ self.now.index }
     {
         self.index

@@ -7,16 +7,17 @@ use crate::error::DescriptorErrorKind;
 use crate::label::{Label, SourceSpan};
 use crate::spans::FileSpans;
 use descriptor_records::{FileDescriptorProto, Location, join_path};
+use reflect_scope::FileIndex;
 use std::alloc::{AllocError, Global};
 
 /// The faults of one pass over new files, in the order in which they were met.
 #[derive(Drop)]
 pub struct Faults<'a> {
     files: &'a [FileDescriptorProto],
-    first: u32,
+    first: FileIndex,
     found: Vec<DescriptorErrorKind>,
     /// The spans of the file that was asked for last.
-    spans: Option<(u32, FileSpans<'a>)>,
+    spans: Option<(FileIndex, FileSpans<'a>)>,
     ghost told: { IfSome spans (λ s. s.1.locations.now ≡ locations_at files.now first s.0) } by { Prim.hlevel props },
 }
 
@@ -44,7 +45,7 @@ impl<'a> Faults<'a> {
     ghost use Rattle.reflect_names.specs.Faults.{place_of, place_at, file_name, fault_view, list_of, Adds};
 
     /// No faults yet of `files`, the first of which has the index `first`.
-    pub fn new(alloc: Global, files: &'a [FileDescriptorProto], first: u32) -> Faults<'a>
+    pub fn new(alloc: Global, files: &'a [FileDescriptorProto], first: FileIndex) -> Faults<'a>
         ensures none { list_of result ≡ [] }
         ensures files { result.files.now ≡ files.now }
         ensures first { result.first ≡ first }
@@ -58,7 +59,7 @@ impl<'a> Faults<'a> {
     }
 
     /// The locations of the file at an index, none where there is none.
-    fn locations(&self, index: u32) -> &'a [Location]
+    fn locations(&self, index: FileIndex) -> &'a [Location]
         ensures { result.now ≡ locations_at self.now.files.now self.now.first index }
     {
         if index < self.first {
@@ -71,7 +72,7 @@ impl<'a> Faults<'a> {
     }
 
     /// The name of the file at an index, empty where there is none.
-    fn name_of(&self, index: u32) -> &'a str
+    fn name_of(&self, index: FileIndex) -> &'a str
         ensures { result.now ≡ file_name self.now index }
     {
         if index < self.first {
@@ -87,7 +88,7 @@ impl<'a> Faults<'a> {
     fn span(
         &mut self,
         alloc: Global,
-        file: u32,
+        file: FileIndex,
         path: &Vec<i32>,
     ) -> Result<Option<SourceSpan>, AllocError>
         ensures span { IfOk result (λ s. s
@@ -108,7 +109,12 @@ impl<'a> Faults<'a> {
     }
 
     /// The place at `path` of the file at index `file`. The list of faults stays as it is.
-    pub fn label(&mut self, alloc: Global, file: u32, path: &[i32]) -> Result<Label, AllocError>
+    pub fn label(
+        &mut self,
+        alloc: Global,
+        file: FileIndex,
+        path: &[i32],
+    ) -> Result<Label, AllocError>
         ensures place { IfOk result (λ l. place_of l ≡ place_at self.old file path.now) }
         ensures bytes { IfOk result (λ l. l.bytes ≡ None) }
         ensures same { Adds self.old self.new [] }
@@ -122,7 +128,7 @@ impl<'a> Faults<'a> {
     pub fn label_at(
         &mut self,
         alloc: Global,
-        file: u32,
+        file: FileIndex,
         path: &[i32],
         tag: i32,
     ) -> Result<Label, AllocError>

@@ -13,7 +13,7 @@ ghost use Rattle.reflect_scope.specs.FileIndexes.{is_index as is_index_of};
 use crate::error::DescriptorErrorKind;
 use crate::faults::Faults;
 use descriptor_records::{FileDescriptorProto, join_path, tag};
-use reflect_scope::Links;
+use reflect_scope::{FileIndex, Links};
 use reflect_walk::VisitError;
 use std::alloc::{AllocError, Global};
 use std::collections::BTreeMap;
@@ -21,7 +21,7 @@ use std::collections::BTreeMap;
 /// Lists that a file has the name of an earlier one.
 fn list_file(
     alloc: Global,
-    index: u32,
+    index: FileIndex,
     name: &str,
     faults: &mut Faults<'_>,
 ) -> Result<(), AllocError>
@@ -36,8 +36,8 @@ fn list_file(
 /// Puts a file's name into the map, or lists that it has none or that of an earlier file.
 fn name_file(
     alloc: Global,
-    file_names: &mut BTreeMap<String, u32>,
-    index: u32,
+    file_names: &mut BTreeMap<String, FileIndex>,
+    index: FileIndex,
     file: &FileDescriptorProto,
     faults: &mut Faults<'_>,
 ) -> Result<(), AllocError>
@@ -71,8 +71,8 @@ fn name_file(
 /// `i32::MAX`. After an `Err` the map may have some of the names.
 pub fn name_files(
     alloc: Global,
-    file_names: &mut BTreeMap<String, u32>,
-    first: u32,
+    file_names: &mut BTreeMap<String, FileIndex>,
+    first: FileIndex,
     files: &[FileDescriptorProto],
     faults: &mut Faults<'_>,
 ) -> Result<(), VisitError>
@@ -106,8 +106,8 @@ pub fn entry_path(alloc: Global, path: &[i32], tag: i32, at: usize) -> Result<Ve
 
 fn require_import(
     alloc: Global,
-    file_names: &BTreeMap<String, u32>,
-    index: u32,
+    file_names: &BTreeMap<String, FileIndex>,
+    index: FileIndex,
     at: usize,
     name: &String,
     faults: &mut Faults<'_>,
@@ -138,7 +138,7 @@ fn is_index(import: i32, count: usize) -> bool
 fn require_index(
     alloc: Global,
     count: usize,
-    index: u32,
+    index: FileIndex,
     at: usize,
     import: i32,
     faults: &mut Faults<'_>,
@@ -160,8 +160,8 @@ fn require_index(
 
 fn require_imports(
     alloc: Global,
-    file_names: &BTreeMap<String, u32>,
-    index: u32,
+    file_names: &BTreeMap<String, FileIndex>,
+    index: FileIndex,
     names: &Vec<String>,
     faults: &mut Faults<'_>,
 ) -> Result<(), VisitError>
@@ -178,7 +178,7 @@ fn require_imports(
 fn require_indexes(
     alloc: Global,
     count: usize,
-    index: u32,
+    index: FileIndex,
     imports: &Vec<i32>,
     faults: &mut Faults<'_>,
 ) -> Result<(), VisitError>
@@ -195,8 +195,8 @@ fn require_indexes(
 /// that is out of range (InvalidImportIndex).
 pub fn check_imports(
     alloc: Global,
-    file_names: &BTreeMap<String, u32>,
-    index: u32,
+    file_names: &BTreeMap<String, FileIndex>,
+    index: FileIndex,
     file: &FileDescriptorProto,
     faults: &mut Faults<'_>,
 ) -> Result<(), VisitError>
@@ -210,7 +210,11 @@ pub fn check_imports(
 }
 
 /// The file that the import at an index names, if there is such an import and such a file.
-fn import_at(file_names: &BTreeMap<String, u32>, names: &Vec<String>, import: i32) -> Option<u32>
+fn import_at(
+    file_names: &BTreeMap<String, FileIndex>,
+    names: &Vec<String>,
+    import: i32,
+) -> Option<FileIndex>
     ensures { result ≡ import_file (indexes_of file_names.now) names.now.items import }
 {
     let name = names.get(usize::try_from(import).ok()?)?;
@@ -218,7 +222,7 @@ fn import_at(file_names: &BTreeMap<String, u32>, names: &Vec<String>, import: i3
 }
 
 /// Adds what was found, if anything.
-fn push_found(files: &mut Vec<u32>, found: Option<u32>) -> Result<(), AllocError>
+fn push_found(files: &mut Vec<FileIndex>, found: Option<FileIndex>) -> Result<(), AllocError>
     ensures { OnOk result (files.new.items ≡ files.old.items ++ cons_option found []) }
 {
     if let Some(file) = found {
@@ -229,9 +233,9 @@ fn push_found(files: &mut Vec<u32>, found: Option<u32>) -> Result<(), AllocError
 
 fn imports_of(
     alloc: Global,
-    file_names: &BTreeMap<String, u32>,
+    file_names: &BTreeMap<String, FileIndex>,
     names: &Vec<String>,
-) -> Result<Vec<u32>, AllocError>
+) -> Result<Vec<FileIndex>, AllocError>
     ensures { IfOk result (λ files. files.items
         ≡ filter_map (file_of (indexes_of file_names.now)) names.now.items) }
 {
@@ -244,10 +248,10 @@ fn imports_of(
 
 fn publics_of(
     alloc: Global,
-    file_names: &BTreeMap<String, u32>,
+    file_names: &BTreeMap<String, FileIndex>,
     names: &Vec<String>,
     imports: &Vec<i32>,
-) -> Result<Vec<u32>, AllocError>
+) -> Result<Vec<FileIndex>, AllocError>
     ensures { IfOk result (λ files. files.items
         ≡ filter_map (import_file (indexes_of file_names.now) names.now.items) imports.now.items) }
 {
@@ -262,7 +266,7 @@ fn publics_of(
 /// have are left out.
 pub fn links_of(
     alloc: Global,
-    file_names: &BTreeMap<String, u32>,
+    file_names: &BTreeMap<String, FileIndex>,
     file: &FileDescriptorProto,
 ) -> Result<Links, AllocError>
     ensures { IfOk result (λ links. link_view links

@@ -12,7 +12,10 @@ use descriptor_records::{
     FileDescriptorProto, MethodDescriptorProto, OneofDescriptorProto, ServiceDescriptorProto, tag,
 };
 use name_table::NameTable;
-use reflect_scope::{Definition, DefinitionKind};
+use reflect_scope::{
+    Definition, DefinitionKind, EnumIndex, EnumValueIndex, ExtensionIndex, FieldIndex, FileIndex,
+    MessageIndex, MethodIndex, OneofIndex, ServiceIndex,
+};
 use reflect_walk::{Offsets, VisitError, Visitor, visit_all};
 use std::alloc::Global;
 use std::collections::BTreeMap;
@@ -27,7 +30,7 @@ use std::collections::BTreeMap;
 pub struct NameVisitor<'a> {
     names: NameTable<Definition>,
     faults: Faults<'a>,
-    file_names: &'a BTreeMap<String, u32>,
+    file_names: &'a BTreeMap<String, FileIndex>,
 }
 
 impl<'a> NameVisitor<'a> {
@@ -43,7 +46,7 @@ impl<'a> NameVisitor<'a> {
     pub fn new(
         names: NameTable<Definition>,
         faults: Faults<'a>,
-        file_names: &'a BTreeMap<String, u32>,
+        file_names: &'a BTreeMap<String, FileIndex>,
     ) -> NameVisitor<'a>
         ensures names { known_of result.names ≡ known_of names }
         ensures faults { result.faults ≡ faults.entry }
@@ -62,7 +65,7 @@ impl<'a> NameVisitor<'a> {
         &mut self,
         alloc: Global,
         before: Offsets,
-        first: u32,
+        first: FileIndex,
         files: &[FileDescriptorProto],
     ) -> Result<Offsets, VisitError>
         ensures known { OnOk result (known_of self.new.names
@@ -108,7 +111,7 @@ impl<'a> Visitor for NameVisitor<'a> {
         &mut self,
         alloc: Global,
         _path: &[i32],
-        file: u32,
+        file: FileIndex,
         descriptor: &FileDescriptorProto,
     ) -> Result<(), VisitError> {
         check_imports(alloc, self.file_names, file, descriptor, &mut self.faults)?;
@@ -123,9 +126,9 @@ impl<'a> Visitor for NameVisitor<'a> {
         alloc: Global,
         path: &[i32],
         full_name: &str,
-        file: u32,
-        _parent: Option<u32>,
-        index: u32,
+        file: FileIndex,
+        _parent: Option<MessageIndex>,
+        index: MessageIndex,
         message: &DescriptorProto,
     ) -> Result<(), VisitError> {
         let kind = DefinitionKind::Message(index);
@@ -148,9 +151,9 @@ impl<'a> Visitor for NameVisitor<'a> {
         alloc: Global,
         path: &[i32],
         full_name: &str,
-        file: u32,
-        _message: u32,
-        _index: u32,
+        file: FileIndex,
+        _message: MessageIndex,
+        _index: FieldIndex,
         field: &FieldDescriptorProto,
     ) -> Result<(), VisitError> {
         let kind = DefinitionKind::Field;
@@ -173,9 +176,9 @@ impl<'a> Visitor for NameVisitor<'a> {
         alloc: Global,
         path: &[i32],
         full_name: &str,
-        file: u32,
-        _message: u32,
-        _index: u32,
+        file: FileIndex,
+        _message: MessageIndex,
+        _index: OneofIndex,
         oneof: &OneofDescriptorProto,
     ) -> Result<(), VisitError> {
         let kind = DefinitionKind::Oneof;
@@ -197,9 +200,9 @@ impl<'a> Visitor for NameVisitor<'a> {
         alloc: Global,
         path: &[i32],
         full_name: &str,
-        file: u32,
-        _parent: Option<u32>,
-        index: u32,
+        file: FileIndex,
+        _parent: Option<MessageIndex>,
+        index: EnumIndex,
         enumeration: &EnumDescriptorProto,
     ) -> Result<(), VisitError> {
         let kind = DefinitionKind::Enum(index);
@@ -228,9 +231,9 @@ impl<'a> Visitor for NameVisitor<'a> {
         alloc: Global,
         path: &[i32],
         full_name: &str,
-        file: u32,
-        _enumeration: u32,
-        _index: u32,
+        file: FileIndex,
+        _enumeration: EnumIndex,
+        _index: EnumValueIndex,
         value: &EnumValueDescriptorProto,
     ) -> Result<(), VisitError> {
         let kind = DefinitionKind::EnumValue;
@@ -263,8 +266,8 @@ impl<'a> Visitor for NameVisitor<'a> {
         alloc: Global,
         path: &[i32],
         full_name: &str,
-        file: u32,
-        index: u32,
+        file: FileIndex,
+        index: ServiceIndex,
         service: &ServiceDescriptorProto,
     ) -> Result<(), VisitError> {
         let kind = DefinitionKind::Service(index);
@@ -286,9 +289,9 @@ impl<'a> Visitor for NameVisitor<'a> {
         alloc: Global,
         path: &[i32],
         full_name: &str,
-        file: u32,
-        _service: u32,
-        _index: u32,
+        file: FileIndex,
+        _service: ServiceIndex,
+        _index: MethodIndex,
         method: &MethodDescriptorProto,
     ) -> Result<(), VisitError> {
         let kind = DefinitionKind::Method;
@@ -311,9 +314,9 @@ impl<'a> Visitor for NameVisitor<'a> {
         alloc: Global,
         path: &[i32],
         full_name: &str,
-        file: u32,
-        _parent: Option<u32>,
-        index: u32,
+        file: FileIndex,
+        _parent: Option<MessageIndex>,
+        index: ExtensionIndex,
         extension: &FieldDescriptorProto,
     ) -> Result<(), VisitError> {
         let kind = DefinitionKind::Extension(index);

@@ -11,7 +11,7 @@ use crate::faults::Faults;
 use crate::required::require;
 use descriptor_records::tag;
 use name_table::NameTable;
-use reflect_scope::{Definition, DefinitionKind, outer_of};
+use reflect_scope::{Definition, DefinitionKind, FileIndex, outer_of};
 use std::alloc::{AllocError, Global};
 
 fn may_repeat(first: DefinitionKind, next: DefinitionKind) -> bool
@@ -96,7 +96,7 @@ pub fn declare_package(
     alloc: Global,
     names: &mut NameTable<Definition>,
     faults: &mut Faults<'_>,
-    file: u32,
+    file: FileIndex,
     full_name: &str,
 ) -> Result<(), AllocError>
     ensures known { OnOk result (known_of names.new
@@ -130,7 +130,7 @@ pub fn declare_package(
 pub fn check_syntax(
     alloc: Global,
     faults: &mut Faults<'_>,
-    file: u32,
+    file: FileIndex,
     syntax: &Option<String>,
 ) -> Result<(), AllocError>
     ensures { OnOk result (Adds faults.old faults.new

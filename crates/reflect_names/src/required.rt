@@ -12,6 +12,7 @@ use descriptor_records::{
     DescriptorProto, EnumReservedRange, ExtensionRange, FieldDescriptorProto,
     MethodDescriptorProto, ReservedRange, tag,
 };
+use reflect_scope::FileIndex;
 use reflect_walk::VisitError;
 use std::alloc::{AllocError, Global};
 
@@ -19,7 +20,7 @@ use std::alloc::{AllocError, Global};
 pub fn require(
     alloc: Global,
     faults: &mut Faults<'_>,
-    file: u32,
+    file: FileIndex,
     path: &[i32],
     tag: i32,
     field: &'static str,
@@ -57,7 +58,7 @@ fn is_named_type(field_type: Option<i32>) -> bool
 pub fn require_of_field(
     alloc: Global,
     faults: &mut Faults<'_>,
-    file: u32,
+    file: FileIndex,
     path: &[i32],
     field: &FieldDescriptorProto,
 ) -> Result<(), AllocError>
@@ -93,7 +94,7 @@ pub fn require_of_field(
 pub fn require_of_method(
     alloc: Global,
     faults: &mut Faults<'_>,
-    file: u32,
+    file: FileIndex,
     path: &[i32],
     method: &MethodDescriptorProto,
 ) -> Result<(), AllocError>
@@ -126,7 +127,7 @@ pub fn require_of_method(
 fn require_bounds(
     alloc: Global,
     faults: &mut Faults<'_>,
-    file: u32,
+    file: FileIndex,
     path: &[i32],
     start: Option<i32>,
     end: Option<i32>,
@@ -158,7 +159,7 @@ fn require_bounds(
 fn require_of_extension_ranges(
     alloc: Global,
     faults: &mut Faults<'_>,
-    file: u32,
+    file: FileIndex,
     path: &[i32],
     ranges: &Vec<ExtensionRange>,
 ) -> Result<(), VisitError>
@@ -182,7 +183,7 @@ fn require_of_extension_ranges(
 fn require_of_reserved_ranges(
     alloc: Global,
     faults: &mut Faults<'_>,
-    file: u32,
+    file: FileIndex,
     path: &[i32],
     ranges: &Vec<ReservedRange>,
 ) -> Result<(), VisitError>
@@ -207,7 +208,7 @@ fn require_of_reserved_ranges(
 pub fn require_of_message(
     alloc: Global,
     faults: &mut Faults<'_>,
-    file: u32,
+    file: FileIndex,
     path: &[i32],
     message: &DescriptorProto,
 ) -> Result<(), VisitError>
@@ -226,7 +227,7 @@ pub fn require_of_message(
 pub fn require_of_enum(
     alloc: Global,
     faults: &mut Faults<'_>,
-    file: u32,
+    file: FileIndex,
     path: &[i32],
     ranges: &Vec<EnumReservedRange>,
 ) -> Result<(), VisitError>

@@ -10,7 +10,9 @@ use descriptor_records::{
 };
 use name_table::NameTable;
 use reflect_scope::{
-    Definition, DefinitionKind, Links, ResolveNameError, ResolveNameFilter, SeenFiles, resolve_name,
+    Definition, DefinitionKind, EnumIndex, EnumValueIndex, ExtensionIndex, FieldIndex, FileIndex,
+    Links, MessageIndex, MethodIndex, OneofIndex, ResolveNameError, ResolveNameFilter, SeenFiles,
+    ServiceIndex, resolve_name,
 };
 use reflect_walk::{Offsets, VisitError, Visitor, visit_all};
 use std::alloc::{AllocError, Global};
@@ -116,7 +118,7 @@ impl<'a> ResolveVisitor<'a> {
         &mut self,
         alloc: Global,
         before: Offsets,
-        first: u32,
+        first: FileIndex,
         files: &[FileDescriptorProto],
     ) -> Result<Offsets, VisitError>
         ensures resolves { OnOk result (ResolvesFiles self.old before first files.now self.new) }
@@ -146,7 +148,7 @@ impl<'a> ResolveVisitor<'a> {
     fn invalid_type(
         &mut self,
         alloc: Global,
-        file: u32,
+        file: FileIndex,
         path: &[i32],
         tag: i32,
         name: &str,
@@ -171,7 +173,7 @@ impl<'a> ResolveVisitor<'a> {
     fn unresolved(
         &mut self,
         alloc: Global,
-        file: u32,
+        file: FileIndex,
         path: &[i32],
         tag: i32,
         name: &str,
@@ -212,7 +214,7 @@ impl<'a> ResolveVisitor<'a> {
     fn resolve(
         &mut self,
         alloc: Global,
-        file: u32,
+        file: FileIndex,
         path: &[i32],
         tag: i32,
         scope: &str,
@@ -244,7 +246,7 @@ impl<'a> ResolveVisitor<'a> {
     fn check_label(
         &mut self,
         alloc: Global,
-        file: u32,
+        file: FileIndex,
         path: &[i32],
         label: Option<i32>,
     ) -> Result<(), AllocError>
@@ -273,7 +275,7 @@ impl<'a> ResolveVisitor<'a> {
     fn check_type(
         &mut self,
         alloc: Global,
-        file: u32,
+        file: FileIndex,
         path: &[i32],
         field_type: Option<i32>,
     ) -> Result<(), AllocError>
@@ -303,7 +305,7 @@ impl<'a> ResolveVisitor<'a> {
     fn check_kind(
         &mut self,
         alloc: Global,
-        file: u32,
+        file: FileIndex,
         path: &[i32],
         name: &str,
         field_type: Option<i32>,
@@ -333,7 +335,7 @@ impl<'a> ResolveVisitor<'a> {
     fn resolve_type_name(
         &mut self,
         alloc: Global,
-        file: u32,
+        file: FileIndex,
         path: &[i32],
         full_name: &str,
         field: &FieldDescriptorProto,
@@ -358,7 +360,7 @@ impl<'a> ResolveVisitor<'a> {
     fn resolve_field(
         &mut self,
         alloc: Global,
-        file: u32,
+        file: FileIndex,
         path: &[i32],
         full_name: &str,
         field: &FieldDescriptorProto,
@@ -379,7 +381,7 @@ impl<'a> ResolveVisitor<'a> {
     fn resolve_message(
         &mut self,
         alloc: Global,
-        file: u32,
+        file: FileIndex,
         path: &[i32],
         tag: i32,
         full_name: &str,
@@ -415,7 +417,7 @@ impl<'a> Visitor for ResolveVisitor<'a> {
         &mut self,
         _alloc: Global,
         _path: &[i32],
-        file: u32,
+        file: FileIndex,
         _descriptor: &FileDescriptorProto,
     ) -> Result<(), VisitError> {
         self.seen.look_from(self.links, file)?;
@@ -427,9 +429,9 @@ impl<'a> Visitor for ResolveVisitor<'a> {
         _alloc: Global,
         _path: &[i32],
         _full_name: &str,
-        _file: u32,
-        _parent: Option<u32>,
-        _index: u32,
+        _file: FileIndex,
+        _parent: Option<MessageIndex>,
+        _index: MessageIndex,
         _message: &DescriptorProto,
     ) -> Result<(), VisitError> {
         Ok(())
@@ -440,9 +442,9 @@ impl<'a> Visitor for ResolveVisitor<'a> {
         alloc: Global,
         path: &[i32],
         full_name: &str,
-        file: u32,
-        _message: u32,
-        _index: u32,
+        file: FileIndex,
+        _message: MessageIndex,
+        _index: FieldIndex,
         field: &FieldDescriptorProto,
     ) -> Result<(), VisitError> {
         self.resolve_field(alloc, file, path, full_name, field)?;
@@ -454,9 +456,9 @@ impl<'a> Visitor for ResolveVisitor<'a> {
         _alloc: Global,
         _path: &[i32],
         _full_name: &str,
-        _file: u32,
-        _message: u32,
-        _index: u32,
+        _file: FileIndex,
+        _message: MessageIndex,
+        _index: OneofIndex,
         _oneof: &OneofDescriptorProto,
     ) -> Result<(), VisitError> {
         Ok(())
@@ -467,9 +469,9 @@ impl<'a> Visitor for ResolveVisitor<'a> {
         _alloc: Global,
         _path: &[i32],
         _full_name: &str,
-        _file: u32,
-        _parent: Option<u32>,
-        _index: u32,
+        _file: FileIndex,
+        _parent: Option<MessageIndex>,
+        _index: EnumIndex,
         _enumeration: &EnumDescriptorProto,
     ) -> Result<(), VisitError> {
         Ok(())
@@ -480,9 +482,9 @@ impl<'a> Visitor for ResolveVisitor<'a> {
         _alloc: Global,
         _path: &[i32],
         _full_name: &str,
-        _file: u32,
-        _enumeration: u32,
-        _index: u32,
+        _file: FileIndex,
+        _enumeration: EnumIndex,
+        _index: EnumValueIndex,
         _value: &EnumValueDescriptorProto,
     ) -> Result<(), VisitError> {
         Ok(())
@@ -493,8 +495,8 @@ impl<'a> Visitor for ResolveVisitor<'a> {
         _alloc: Global,
         _path: &[i32],
         _full_name: &str,
-        _file: u32,
-        _index: u32,
+        _file: FileIndex,
+        _index: ServiceIndex,
         _service: &ServiceDescriptorProto,
     ) -> Result<(), VisitError> {
         Ok(())
@@ -505,9 +507,9 @@ impl<'a> Visitor for ResolveVisitor<'a> {
         alloc: Global,
         path: &[i32],
         full_name: &str,
-        file: u32,
-        _service: u32,
-        _index: u32,
+        file: FileIndex,
+        _service: ServiceIndex,
+        _index: MethodIndex,
         method: &MethodDescriptorProto,
     ) -> Result<(), VisitError> {
         let input = tag::method::INPUT_TYPE;
@@ -522,9 +524,9 @@ impl<'a> Visitor for ResolveVisitor<'a> {
         alloc: Global,
         path: &[i32],
         full_name: &str,
-        file: u32,
-        _parent: Option<u32>,
-        _index: u32,
+        file: FileIndex,
+        _parent: Option<MessageIndex>,
+        _index: ExtensionIndex,
         extension: &FieldDescriptorProto,
     ) -> Result<(), VisitError> {
         let extendee = tag::field::EXTENDEE;

@@ -9,6 +9,10 @@ use option_setter::NameScope;
 use reflect_build::Edit;
 use reflect_link::DescriptorPool;
 use reflect_names::{SeenFiles, VisitError, Visitor};
+use reflect_scope::{
+    EnumIndex, EnumValueIndex, ExtensionIndex, FieldIndex, FileIndex, MessageIndex, MethodIndex,
+    OneofIndex, ServiceIndex,
+};
 use std::alloc::{AllocError, Global};
 use std::collections::BTreeMap;
 use std::mem;
@@ -48,7 +52,7 @@ impl<'p> OptionsVisitor<'p> {
     pub fn move_locations(
         &mut self,
         alloc: Global,
-        file: u32,
+        file: FileIndex,
         record: &FileDescriptorProto,
     ) -> Result<(), AllocError> {
         let moved = mem::replace(&mut self.moved, BTreeMap::new(alloc));
@@ -72,7 +76,7 @@ impl<'p> OptionsVisitor<'p> {
         &mut self,
         alloc: Global,
         scope: OptionScope,
-        file: u32,
+        file: FileIndex,
         path: &[i32],
         options_tag: i32,
         name: &str,
@@ -100,7 +104,7 @@ impl<'p> OptionsVisitor<'p> {
     fn keep(
         &mut self,
         alloc: Global,
-        file: u32,
+        file: FileIndex,
         path: &[i32],
         options_tag: i32,
         settled: SettledOptions,
@@ -173,7 +177,7 @@ impl<'p> Visitor for OptionsVisitor<'p> {
         &mut self,
         alloc: Global,
         path: &[i32],
-        file: u32,
+        file: FileIndex,
         descriptor: &FileDescriptorProto,
     ) -> Result<(), VisitError> {
         self.seen.look_from(self.pool.links(), file)?;
@@ -196,9 +200,9 @@ impl<'p> Visitor for OptionsVisitor<'p> {
         alloc: Global,
         path: &[i32],
         full_name: &str,
-        file: u32,
-        _parent: Option<u32>,
-        _index: u32,
+        file: FileIndex,
+        _parent: Option<MessageIndex>,
+        _index: MessageIndex,
         message: &DescriptorProto,
     ) -> Result<(), VisitError> {
         self.settle(
@@ -232,9 +236,9 @@ impl<'p> Visitor for OptionsVisitor<'p> {
         alloc: Global,
         path: &[i32],
         full_name: &str,
-        file: u32,
-        _message: u32,
-        _index: u32,
+        file: FileIndex,
+        _message: MessageIndex,
+        _index: FieldIndex,
         field: &FieldDescriptorProto,
     ) -> Result<(), VisitError> {
         self.settle(
@@ -254,9 +258,9 @@ impl<'p> Visitor for OptionsVisitor<'p> {
         alloc: Global,
         path: &[i32],
         full_name: &str,
-        file: u32,
-        _message: u32,
-        _index: u32,
+        file: FileIndex,
+        _message: MessageIndex,
+        _index: OneofIndex,
         oneof: &OneofDescriptorProto,
     ) -> Result<(), VisitError> {
         self.settle(
@@ -276,9 +280,9 @@ impl<'p> Visitor for OptionsVisitor<'p> {
         alloc: Global,
         path: &[i32],
         full_name: &str,
-        file: u32,
-        _parent: Option<u32>,
-        _index: u32,
+        file: FileIndex,
+        _parent: Option<MessageIndex>,
+        _index: EnumIndex,
         enumeration: &EnumDescriptorProto,
     ) -> Result<(), VisitError> {
         self.settle(
@@ -298,9 +302,9 @@ impl<'p> Visitor for OptionsVisitor<'p> {
         alloc: Global,
         path: &[i32],
         full_name: &str,
-        file: u32,
-        _enumeration: u32,
-        _index: u32,
+        file: FileIndex,
+        _enumeration: EnumIndex,
+        _index: EnumValueIndex,
         value: &EnumValueDescriptorProto,
     ) -> Result<(), VisitError> {
         self.settle(
@@ -320,8 +324,8 @@ impl<'p> Visitor for OptionsVisitor<'p> {
         alloc: Global,
         path: &[i32],
         full_name: &str,
-        file: u32,
-        _index: u32,
+        file: FileIndex,
+        _index: ServiceIndex,
         service: &ServiceDescriptorProto,
     ) -> Result<(), VisitError> {
         self.settle(
@@ -341,9 +345,9 @@ impl<'p> Visitor for OptionsVisitor<'p> {
         alloc: Global,
         path: &[i32],
         full_name: &str,
-        file: u32,
-        _service: u32,
-        _index: u32,
+        file: FileIndex,
+        _service: ServiceIndex,
+        _index: MethodIndex,
         method: &MethodDescriptorProto,
     ) -> Result<(), VisitError> {
         self.settle(
@@ -363,9 +367,9 @@ impl<'p> Visitor for OptionsVisitor<'p> {
         alloc: Global,
         path: &[i32],
         full_name: &str,
-        file: u32,
-        _parent: Option<u32>,
-        _index: u32,
+        file: FileIndex,
+        _parent: Option<MessageIndex>,
+        _index: ExtensionIndex,
         extension: &FieldDescriptorProto,
     ) -> Result<(), VisitError> {
         self.settle(

@@ -11,6 +11,7 @@ use option_parts::{OptionError, OptionErrorKind, check_option_types};
 use reflect_build::{BuildFiles, Edit};
 use reflect_link::{DescriptorPool, FileDescriptor};
 use reflect_names::{Label, Offsets, SourceSpan, VisitError, visit};
+use reflect_scope::FileIndex;
 use std::alloc::{AllocError, Global};
 
 /// Options, read by the types of the pool that they stand in.
@@ -25,7 +26,7 @@ pub trait ResolveOptions {
     ///
     /// The error is the first fault that was met. After a refusal the pool is as it was; else
     /// nothing changes but the options in records and the paths of their locations.
-    fn resolve_options(&mut self, alloc: Global, first: u32) -> Result<(), OptionError>
+    fn resolve_options(&mut self, alloc: Global, first: FileIndex) -> Result<(), OptionError>
         ensures unchanged { OnErr result (holds self.new ≡ holds self.old) }
         ensures place { IfErr result (λ e. IfSome (option_place e)
             (StandsFrom (holds self.old).records first)) }
@@ -37,7 +38,7 @@ pub trait ResolveOptions {
 impl ResolveOptions for DescriptorPool {
     ghost holds = { λ p. p };
 
-    fn resolve_options(&mut self, alloc: Global, first: u32) -> Result<(), OptionError> {
+    fn resolve_options(&mut self, alloc: Global, first: FileIndex) -> Result<(), OptionError> {
         let edits = collect_edits(alloc, self, first)?;
         self.settle(edits);
         Ok(())
@@ -78,7 +79,7 @@ fn span_of_path(locations: &[Location], path: &[i32]) -> Option<SourceSpan>
 /// The edits of one file, put behind the others.
 fn collect_file<'p>(
     alloc: Global,
-    index: u32,
+    index: FileIndex,
     file: &FileDescriptorProto,
     visitor: &mut OptionsVisitor<'p>,
 ) -> Result<(), OptionError>
@@ -106,7 +107,11 @@ fn collect_file<'p>(
 }
 
 /// The edits that settle the options of the files from index `first` on.
-fn collect_edits(alloc: Global, pool: &DescriptorPool, first: u32) -> Result<Vec<Edit>, OptionError>
+fn collect_edits(
+    alloc: Global,
+    pool: &DescriptorPool,
+    first: FileIndex,
+) -> Result<Vec<Edit>, OptionError>
     ensures { IfErr result (λ e. IfSome (option_place e) (StandsFrom pool.now.records first)) }
 {
     if let Some(kind) = check_option_types(alloc, pool)? {

@@ -14,6 +14,7 @@ use crate::passes::{walk_error, without_faults};
 use descriptor_records::tag;
 use reflect_names::{DescriptorErrorKind, Faults, VisitError};
 use reflect_rules::Types;
+use reflect_scope::{ExtensionIndex, MessageIndex};
 use reflect_tables::StoredExtension;
 use std::alloc::{AllocError, Global};
 use std::collections::BTreeMap;
@@ -45,8 +46,8 @@ fn put_number(
     alloc: Global,
     types: &LinkedTypes<'_>,
     faults: &mut Faults<'_>,
-    numbers: &mut BTreeMap<(u32, u32), u32>,
-    place: u32,
+    numbers: &mut BTreeMap<(MessageIndex, u32), ExtensionIndex>,
+    place: ExtensionIndex,
     extension: &StoredExtension,
 ) -> Result<(), VisitError>
     ensures faults { OnOk result (Adds faults.old faults.new
@@ -69,7 +70,7 @@ fn put_number(
 }
 
 /// The place behind so many others of an extension at a place among the new ones.
-fn place_behind(count: usize, at: usize) -> Result<u32, VisitError>
+fn place_behind(count: usize, at: usize) -> Result<ExtensionIndex, VisitError>
     ensures { IfOk result (λ place. place ≡ count + at) }
 {
     match u32::try_from(count.saturating_add(at)) {
@@ -83,7 +84,7 @@ fn put_numbers(
     alloc: Global,
     types: &LinkedTypes<'_>,
     faults: &mut Faults<'_>,
-    numbers: &mut BTreeMap<(u32, u32), u32>,
+    numbers: &mut BTreeMap<(MessageIndex, u32), ExtensionIndex>,
 ) -> Result<(), VisitError>
     ensures faults { OnOk result (Adds faults.old faults.new
         (extension_faults (is_known numbers.old) (linked_says types.now) (place_at faults.old)
@@ -112,7 +113,7 @@ pub fn list_extensions(
     alloc: Global,
     types: &LinkedTypes<'_>,
     mut faults: Faults<'_>,
-    numbers: &mut BTreeMap<(u32, u32), u32>,
+    numbers: &mut BTreeMap<(MessageIndex, u32), ExtensionIndex>,
 ) -> Result<(), DescriptorError>
     ensures ok { OnOk result (list_of faults.entry
         ++ extension_faults (is_known numbers.old) (linked_says types.now) (place_at faults.entry)

@@ -16,6 +16,7 @@ ghost use Rattle.reflect_index.specs.DraftNames.{stored_message_name, stored_enu
 use descriptor_records::FileDescriptorProto;
 use reflect_index::{Batch, IndexVisitor};
 use reflect_names::{Links, Offsets, Reference, VisitError, links_of, visit_all};
+use reflect_scope::FileIndex;
 use std::alloc::Global;
 use std::collections::BTreeMap;
 
@@ -25,7 +26,7 @@ use std::collections::BTreeMap;
 pub fn index_files(
     alloc: Global,
     before: Offsets,
-    first: u32,
+    first: FileIndex,
     files: &[FileDescriptorProto],
     references: &[Reference],
 ) -> Result<Batch, VisitError>
@@ -59,7 +60,7 @@ pub fn index_files(
 /// there. A refusal may leave some of it.
 pub fn add_links(
     alloc: Global,
-    file_names: &BTreeMap<String, u32>,
+    file_names: &BTreeMap<String, FileIndex>,
     links: &mut Vec<Links>,
     files: &[FileDescriptorProto],
 ) -> Result<(), VisitError>

@@ -5,6 +5,7 @@ ghost use Rattle.std.specs.Option.{option_copied};
 
 use reflect_index::Batch;
 use reflect_rules::Types;
+use reflect_scope::{EnumIndex, MessageIndex};
 use reflect_tables::{NumberRanges, StoredEnum, StoredMessage, Tables};
 
 /// The types of a pool, and behind them those of a batch that is not in it yet.
@@ -17,7 +18,7 @@ pub struct LinkedTypes<'a> {
 impl<'a> LinkedTypes<'a> {
     ghost use Rattle.reflect_passes.specs.Linked.{message_at, enum_at};
 
-    fn message(&self, index: u32) -> Option<&'a StoredMessage>
+    fn message(&self, index: MessageIndex) -> Option<&'a StoredMessage>
         ensures { option_copied result ≡ message_at self.now index }
     {
         let index = index as usize;
@@ -29,7 +30,7 @@ impl<'a> LinkedTypes<'a> {
         }
     }
 
-    fn enumeration(&self, index: u32) -> Option<&'a StoredEnum>
+    fn enumeration(&self, index: EnumIndex) -> Option<&'a StoredEnum>
         ensures { option_copied result ≡ enum_at self.now index }
     {
         let index = index as usize;
@@ -49,29 +50,29 @@ impl<'a> Types for LinkedTypes<'a> {
 
     ghost values = { linked_values };
 
-    fn reserved_numbers(&self, message: u32) -> Option<&NumberRanges> {
+    fn reserved_numbers(&self, message: MessageIndex) -> Option<&NumberRanges> {
         Some(&self.message(message)?.reserved_numbers)
     }
 
-    fn extension_numbers(&self, message: u32) -> Option<&NumberRanges> {
+    fn extension_numbers(&self, message: MessageIndex) -> Option<&NumberRanges> {
         Some(&self.message(message)?.extension_numbers)
     }
 
-    fn is_map_entry(&self, message: u32) -> bool {
+    fn is_map_entry(&self, message: MessageIndex) -> bool {
         match self.message(message) {
             Some(message) => message.is_entry,
             None => false,
         }
     }
 
-    fn message_name(&self, message: u32) -> &str {
+    fn message_name(&self, message: MessageIndex) -> &str {
         match self.message(message) {
             Some(message) => message.full_name.as_str(),
             None => "",
         }
     }
 
-    fn has_value(&self, enumeration: u32, name: &str) -> bool {
+    fn has_value(&self, enumeration: EnumIndex, name: &str) -> bool {
         match self.enumeration(enumeration) {
             Some(enumeration) => enumeration.values.of_name(name).is_some(),
             None => false,

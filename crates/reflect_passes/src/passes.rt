@@ -24,6 +24,7 @@ use reflect_names::{
     ResolveVisitor, VisitError, name_files,
 };
 use reflect_rules::check_rules;
+use reflect_scope::FileIndex;
 use std::alloc::Global;
 use std::collections::BTreeMap;
 use std::mem;
@@ -63,9 +64,9 @@ pub fn without_faults(faults: Faults<'_>) -> Result<(), DescriptorError>
 pub fn declare_names(
     alloc: Global,
     before: Offsets,
-    first: u32,
+    first: FileIndex,
     files: &[FileDescriptorProto],
-    file_names: &mut BTreeMap<String, u32>,
+    file_names: &mut BTreeMap<String, FileIndex>,
     names: &mut NameTable<Definition>,
 ) -> Result<(), DescriptorError>
     ensures ok { OnOk result (name_faults (indexes_of file_names.old) (known_of names.old) before
@@ -102,7 +103,7 @@ pub fn declare_names(
 pub fn resolve_references(
     alloc: Global,
     before: Offsets,
-    first: u32,
+    first: FileIndex,
     files: &[FileDescriptorProto],
     names: &NameTable<Definition>,
     links: &[Links],
@@ -128,7 +129,7 @@ pub fn resolve_references(
 pub fn check_numbers(
     alloc: Global,
     before: Offsets,
-    first: u32,
+    first: FileIndex,
     files: &[FileDescriptorProto],
     references: &[Reference],
     types: &LinkedTypes<'_>,

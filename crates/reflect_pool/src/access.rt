@@ -17,7 +17,7 @@ use crate::extension::ExtensionDescriptor;
 use crate::message::MessageDescriptor;
 use crate::pool::{DescriptorPool, kind_of};
 use name_table::NameTable;
-use reflect_scope::{Definition, DefinitionKind, Links};
+use reflect_scope::{Definition, DefinitionKind, FileIndex, Links, MethodIndex, ServiceIndex};
 use reflect_tables::{Children, Counts, Declared, Tables};
 
 impl DescriptorPool {
@@ -50,7 +50,7 @@ impl DescriptorPool {
     }
 
     /// How many methods a service has.
-    pub fn method_count(&self, service: u32) -> u32
+    pub fn method_count(&self, service: ServiceIndex) -> u32
         requires { service < length self.now.services }
         ensures { result ≡ length (service_at self.now service).methods }
     {
@@ -73,7 +73,7 @@ impl DescriptorPool {
     }
 
     /// What a file declares.
-    pub fn declared_in(&self, file: u32) -> &Declared
+    pub fn declared_in(&self, file: FileIndex) -> &Declared
         requires { file < length self.now.files }
         ensures inside { FileWithin (counts_of self.now) (declared_of result.now) }
         ensures places { declared_of result.now ≡ declared_at self.now file }
@@ -82,7 +82,7 @@ impl DescriptorPool {
     }
 
     /// The place of the file that a service is declared in.
-    pub fn file_of_service(&self, index: u32) -> u32
+    pub fn file_of_service(&self, index: ServiceIndex) -> FileIndex
         requires { index < length self.now.services }
         ensures inside { result < length self.now.files }
         ensures file { result ≡ (service_at self.now index).file }
@@ -91,7 +91,7 @@ impl DescriptorPool {
     }
 
     /// The places of the files that a file imports, in the order of its imports.
-    pub fn imports_of(&self, file: u32) -> &[u32]
+    pub fn imports_of(&self, file: FileIndex) -> &[FileIndex]
         requires { file < length self.now.files }
         ensures inside { All (λ place. place < length self.now.files) result.now }
         ensures places { HoldsAt (λ f. result.now ≡ imported (place_named self.now) f)
@@ -103,7 +103,7 @@ impl DescriptorPool {
     }
 
     /// The places of the files that a file imports publicly, in the order in which it names them.
-    pub fn public_imports_of(&self, file: u32) -> &[u32]
+    pub fn public_imports_of(&self, file: FileIndex) -> &[FileIndex]
         requires { file < length self.now.files }
         ensures inside { All (λ place. place < length self.now.files) result.now }
         ensures places { HoldsAt (λ f. result.now ≡ imported_publicly (place_named self.now) f)
@@ -115,14 +115,14 @@ impl DescriptorPool {
     }
 
     /// The place of the file of a name.
-    pub fn file_place(&self, name: &str) -> Option<u32>
+    pub fn file_place(&self, name: &str) -> Option<FileIndex>
         ensures { IsFirst (λ f. f.name ≡ name.now) self.now.files result }
     {
         self.file_names.get(name).copied()
     }
 
     /// The place of the service of a full name, which may have one leading dot.
-    pub fn service_place(&self, name: &str) -> Option<u32>
+    pub fn service_place(&self, name: &str) -> Option<ServiceIndex>
         ensures { IsFirst (λ s. s.full_name ≡ without_dot name.now) self.now.services result }
     {
         match kind_of(&self.names, name)? {
@@ -140,7 +140,7 @@ impl DescriptorPool {
     }
 
     /// The message type that a method takes.
-    pub fn input_of(&self, service: u32, method: u32) -> MessageDescriptor<'_>
+    pub fn input_of(&self, service: ServiceIndex, method: MethodIndex) -> MessageDescriptor<'_>
         requires service { service < length self.now.services }
         requires method { method < length (service_at self.now service).methods }
         ensures pool { result.pool.now ≡ self.now }
@@ -153,7 +153,7 @@ impl DescriptorPool {
     }
 
     /// The message type that a method answers.
-    pub fn output_of(&self, service: u32, method: u32) -> MessageDescriptor<'_>
+    pub fn output_of(&self, service: ServiceIndex, method: MethodIndex) -> MessageDescriptor<'_>
         requires service { service < length self.now.services }
         requires method { method < length (service_at self.now service).methods }
         ensures pool { result.pool.now ≡ self.now }
@@ -168,7 +168,7 @@ impl DescriptorPool {
 
 impl<'p> MessageDescriptor<'p> {
     /// The place of the file that the type is declared in.
-    pub fn file_index(&self) -> u32
+    pub fn file_index(&self) -> FileIndex
         ensures inside { result < length self.now.pool.now.files }
         ensures file { result ≡ (type_at self.now.pool.now self.now.index).file }
     {
@@ -189,7 +189,7 @@ impl<'p> MessageDescriptor<'p> {
 
 impl<'p> EnumDescriptor<'p> {
     /// The place of the file that the type is declared in.
-    pub fn file_index(&self) -> u32
+    pub fn file_index(&self) -> FileIndex
         ensures inside { result < length self.now.pool.now.files }
         ensures file { result ≡ (enum_at self.now.pool.now self.now.index).file }
     {
@@ -200,7 +200,7 @@ impl<'p> EnumDescriptor<'p> {
 
 impl<'p> ExtensionDescriptor<'p> {
     /// The place of the file that the extension is declared in.
-    pub fn file_index(&self) -> u32
+    pub fn file_index(&self) -> FileIndex
         ensures inside { result < length self.now.pool.now.files }
         ensures file { result ≡ (extension_at self.now.pool.now self.now.index).file }
     {

@@ -4,12 +4,13 @@ ghost use Rattle.reflect_pool.specs.Parts.{type_of_value};
 
 use crate::message::MessageDescriptor;
 use crate::pool::DescriptorPool;
+use reflect_scope::{EnumIndex, EnumValueIndex};
 
 /// An enum type of a pool.
 #[derive(Clone, Copy)]
 pub struct EnumDescriptor<'p> {
     pub(crate) pool: &'p DescriptorPool,
-    pub(crate) index: u32,
+    pub(crate) index: EnumIndex,
     ghost in_range: { index < length pool.now.enums },
 }
 
@@ -116,7 +117,7 @@ impl<'p> EnumDescriptor<'p> {
     }
 
     /// The value at a place.
-    fn value_at(&self, place: u32) -> Option<EnumValueDescriptor<'p>>
+    fn value_at(&self, place: EnumValueIndex) -> Option<EnumValueDescriptor<'p>>
         ensures enumeration { IfSome result (λ v. v.enumeration ≡ self.now) }
         ensures place { IfSome result (λ v. v.index ≡ place) }
         ensures there { place < length (enum_at self.now.pool.now self.now.index).values
@@ -161,7 +162,7 @@ impl<'p> Eq for EnumDescriptor<'p> {
 #[derive(Drop)]
 pub struct EnumValues<'p> {
     enumeration: EnumDescriptor<'p>,
-    next: u32,
+    next: EnumValueIndex,
 }
 
 impl<'p> Iterator for EnumValues<'p> {
@@ -185,7 +186,7 @@ impl<'p> Iterator for EnumValues<'p> {
 #[derive(Clone, Copy)]
 pub struct EnumValueDescriptor<'p> {
     pub(crate) enumeration: EnumDescriptor<'p>,
-    pub(crate) index: u32,
+    pub(crate) index: EnumValueIndex,
     ghost in_range: { index < length (enum_at enumeration.pool.now enumeration.index).values },
 }
 

@@ -6,6 +6,7 @@ use crate::kind::{DefaultValue, Kind};
 use crate::message::MessageDescriptor;
 use crate::pool::DescriptorPool;
 use crate::reading::{default_value, is_map, kind_in};
+use reflect_scope::{ExtensionIndex, MessageIndex};
 use reflect_tables::Cardinality;
 use std::collections::btree_map;
 
@@ -13,7 +14,7 @@ use std::collections::btree_map;
 #[derive(Clone, Copy)]
 pub struct ExtensionDescriptor<'p> {
     pub(crate) pool: &'p DescriptorPool,
-    pub(crate) index: u32,
+    pub(crate) index: ExtensionIndex,
     ghost in_range: { index < length pool.now.extensions },
 }
 
@@ -198,7 +199,7 @@ impl<'p> Eq for ExtensionDescriptor<'p> {
 #[derive(Drop)]
 pub struct MessageExtensions<'p> {
     pub(crate) pool: &'p DescriptorPool,
-    pub(crate) found: btree_map::Range<'p, (u32, u32), u32>,
+    pub(crate) found: btree_map::Range<'p, (MessageIndex, u32), ExtensionIndex>,
     ghost inside: { All (λ e. e.1 < length pool.now.extensions) found } by { Prim.hlevel props },
 }
 

@@ -6,13 +6,14 @@ use crate::message::MessageDescriptor;
 use crate::oneof::OneofDescriptor;
 use crate::pool::DescriptorPool;
 use crate::reading::{default_value, is_map, kind_in};
+use reflect_scope::FieldIndex;
 use reflect_tables::Cardinality;
 
 /// A field of a message type.
 #[derive(Clone, Copy)]
 pub struct FieldDescriptor<'p> {
     pub(crate) message: MessageDescriptor<'p>,
-    pub(crate) index: u32,
+    pub(crate) index: FieldIndex,
     ghost in_range: { index < length (type_at message.pool.now message.index).fields },
 }
 

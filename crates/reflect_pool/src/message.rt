@@ -5,12 +5,13 @@ use crate::extension::{ExtensionDescriptor, MessageExtensions};
 use crate::field::FieldDescriptor;
 use crate::oneof::{OneofDescriptor, Oneofs};
 use crate::pool::DescriptorPool;
+use reflect_scope::{ExtensionIndex, FieldIndex, MessageIndex, OneofIndex};
 
 /// A message type of a pool.
 #[derive(Clone, Copy)]
 pub struct MessageDescriptor<'p> {
     pub(crate) pool: &'p DescriptorPool,
-    pub(crate) index: u32,
+    pub(crate) index: MessageIndex,
     ghost in_range: { index < length pool.now.messages },
 }
 
@@ -142,7 +143,7 @@ impl<'p> MessageDescriptor<'p> {
     }
 
     /// The field at a place.
-    pub(crate) fn field_at(&self, place: u32) -> Option<FieldDescriptor<'p>>
+    pub(crate) fn field_at(&self, place: FieldIndex) -> Option<FieldDescriptor<'p>>
         ensures message { IfSome result (λ f. f.message ≡ self.now) }
         ensures place { IfSome result (λ f. f.index ≡ place) }
         ensures there { place < length (type_at self.now.pool.now self.now.index).fields
@@ -160,7 +161,7 @@ impl<'p> MessageDescriptor<'p> {
     }
 
     /// The oneof at a place.
-    pub(crate) fn oneof_at(&self, place: u32) -> Option<OneofDescriptor<'p>>
+    pub(crate) fn oneof_at(&self, place: OneofIndex) -> Option<OneofDescriptor<'p>>
         ensures message { IfSome result (λ o. o.message ≡ self.now) }
         ensures place { IfSome result (λ o. o.index ≡ place) }
         ensures there { place < length (type_at self.now.pool.now self.now.index).oneofs
@@ -271,7 +272,7 @@ impl<'p> MessageDescriptor<'p> {
     }
 
     /// The extension at a place, if it is one of the type.
-    fn extension_of(&self, place: u32) -> Option<ExtensionDescriptor<'p>>
+    fn extension_of(&self, place: ExtensionIndex) -> Option<ExtensionDescriptor<'p>>
         ensures extendee { IfSome result
             (λ x. (x.pool.now ≡ self.now.pool.now)
             × ((extension_at self.now.pool.now x.index).extendee ≡ self.now.index)) }

@@ -6,12 +6,13 @@ ghost use Rattle.reflect_pool.specs.Parts.{type_of_oneof, members_of};
 use crate::field::FieldDescriptor;
 use crate::message::MessageDescriptor;
 use crate::pool::DescriptorPool;
+use reflect_scope::{FieldIndex, OneofIndex};
 
 /// A oneof of a message type.
 #[derive(Clone, Copy)]
 pub struct OneofDescriptor<'p> {
     pub(crate) message: MessageDescriptor<'p>,
-    pub(crate) index: u32,
+    pub(crate) index: OneofIndex,
     ghost in_range: { index < length (type_at message.pool.now message.index).oneofs },
 }
 
@@ -119,7 +120,7 @@ impl<'p> Eq for OneofDescriptor<'p> {
 #[derive(Drop)]
 pub struct OneofFields<'p> {
     message: MessageDescriptor<'p>,
-    places: &'p [u32],
+    places: &'p [FieldIndex],
     ghost inside: { All (λ place. place < length (type_at message.pool.now message.index).fields) places.now } by { Prim.hlevel props },
 }
 
@@ -145,7 +146,7 @@ impl<'p> Iterator for OneofFields<'p> {
 #[derive(Drop)]
 pub struct Oneofs<'p> {
     pub(crate) message: MessageDescriptor<'p>,
-    pub(crate) next: u32,
+    pub(crate) next: OneofIndex,
 }
 
 impl<'p> Iterator for Oneofs<'p> {

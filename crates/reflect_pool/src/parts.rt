@@ -6,7 +6,7 @@ ghost use Rattle.reflect_pool.specs.Linked.{IsLinked};
 
 use crate::pool::DescriptorPool;
 use name_table::NameTable;
-use reflect_scope::{Definition, Links};
+use reflect_scope::{Definition, ExtensionIndex, FileIndex, Links, MessageIndex};
 use reflect_tables::Tables;
 use std::collections::BTreeMap;
 
@@ -17,11 +17,11 @@ pub struct PoolParts {
     /// What each file imports.
     pub links: Vec<Links>,
     /// The places of the files, by their names.
-    pub file_names: BTreeMap<String, u32>,
+    pub file_names: BTreeMap<String, FileIndex>,
     /// What the full names stand for.
     pub names: NameTable<Definition>,
     /// The places of the extensions, by the message that they extend and their number.
-    pub extension_numbers: BTreeMap<(u32, u32), u32>,
+    pub extension_numbers: BTreeMap<(MessageIndex, u32), ExtensionIndex>,
 }
 
 impl DescriptorPool {

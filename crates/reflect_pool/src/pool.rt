@@ -11,7 +11,9 @@ use crate::enums::EnumDescriptor;
 use crate::extension::ExtensionDescriptor;
 use crate::message::MessageDescriptor;
 use name_table::NameTable;
-use reflect_scope::{Definition, DefinitionKind, Links};
+use reflect_scope::{
+    Definition, DefinitionKind, EnumIndex, ExtensionIndex, FileIndex, Links, MessageIndex,
+};
 use reflect_tables::Tables;
 use std::alloc::Global;
 use std::collections::BTreeMap;
@@ -26,11 +28,11 @@ pub struct DescriptorPool {
     /// What each file imports.
     pub(crate) links: Vec<Links>,
     /// The places of the files, by their names.
-    pub(crate) file_names: BTreeMap<String, u32>,
+    pub(crate) file_names: BTreeMap<String, FileIndex>,
     /// What the full names stand for.
     pub(crate) names: NameTable<Definition>,
     /// The places of the extensions, by the message that they extend and their number.
-    pub(crate) extension_numbers: BTreeMap<(u32, u32), u32>,
+    pub(crate) extension_numbers: BTreeMap<(MessageIndex, u32), ExtensionIndex>,
 }
 
 impl Model for DescriptorPool {
@@ -91,7 +93,7 @@ impl DescriptorPool {
     }
 
     /// The message type at a place, if there is one.
-    pub fn message_at(&self, index: u32) -> Option<MessageDescriptor<'_>>
+    pub fn message_at(&self, index: MessageIndex) -> Option<MessageDescriptor<'_>>
         ensures pool { IfSome result (λ d. d.pool.now ≡ self.now) }
         ensures index { IfSome result (λ d. d.index ≡ index) }
         ensures there { index < length self.now.messages → IsSome result }
@@ -104,7 +106,7 @@ impl DescriptorPool {
     }
 
     /// The enum type at a place, if there is one.
-    pub fn enum_at(&self, index: u32) -> Option<EnumDescriptor<'_>>
+    pub fn enum_at(&self, index: EnumIndex) -> Option<EnumDescriptor<'_>>
         ensures pool { IfSome result (λ d. d.pool.now ≡ self.now) }
         ensures index { IfSome result (λ d. d.index ≡ index) }
         ensures there { index < length self.now.enums → IsSome result }
@@ -117,7 +119,7 @@ impl DescriptorPool {
     }
 
     /// The extension at a place, if there is one.
-    pub fn extension_at(&self, index: u32) -> Option<ExtensionDescriptor<'_>>
+    pub fn extension_at(&self, index: ExtensionIndex) -> Option<ExtensionDescriptor<'_>>
         ensures pool { IfSome result (λ d. d.pool.now ≡ self.now) }
         ensures index { IfSome result (λ d. d.index ≡ index) }
         ensures there { index < length self.now.extensions → IsSome result }
@@ -163,7 +165,7 @@ impl DescriptorPool {
     }
 
     /// The place of the extension of a message with a number.
-    pub(crate) fn extension_place(&self, message: u32, number: u32) -> Option<u32>
+    pub(crate) fn extension_place(&self, message: MessageIndex, number: u32) -> Option<u32>
         ensures { IsFirst (λ x. (x.extendee ≡ message) × (x.field.number ≡ number))
             self.now.extensions result }
     {
@@ -171,7 +173,7 @@ impl DescriptorPool {
     }
 
     /// The place of the extension of a full name without a leading dot.
-    pub(crate) fn extension_named(&self, name: &str) -> Option<u32>
+    pub(crate) fn extension_named(&self, name: &str) -> Option<ExtensionIndex>
         ensures { IsOnly (λ x. x.field.full_name ≡ name.now) self.now.extensions result }
     {
         match kind_named(&self.names, name)? {

@@ -8,6 +8,7 @@ use crate::uses::UseVisitor;
 use descriptor_records::FileDescriptorProto;
 use reflect_names::{DescriptorErrorKind, Faults, Offsets, Reference, VisitError, visit_all};
 use reflect_references::References;
+use reflect_scope::FileIndex;
 use std::alloc::Global;
 
 /// All that is wrong with the numbers, defaults, oneof indexes and map entries of the files.
@@ -18,7 +19,7 @@ use std::alloc::Global;
 pub fn check_rules<T: Types>(
     alloc: Global,
     before: Offsets,
-    first: u32,
+    first: FileIndex,
     files: &[FileDescriptorProto],
     references: &[Reference],
     types: &T,

@@ -9,6 +9,7 @@ use crate::types::Types;
 use descriptor_records::{FieldDescriptorProto, FieldType, tag};
 use reflect_defaults::read_default;
 use reflect_names::{DefinitionKind, DescriptorErrorKind, Faults};
+use reflect_scope::FileIndex;
 use std::alloc::{AllocError, Global};
 
 /// The text is a default of the scalar type that has the number.
@@ -60,7 +61,7 @@ pub fn has_right_default<T: Types>(
 pub fn check_default(
     alloc: Global,
     faults: &mut Faults<'_>,
-    file: u32,
+    file: FileIndex,
     path: &[i32],
     field: &FieldDescriptorProto,
     suits: bool,

@@ -10,6 +10,7 @@ use crate::types::Types;
 use crate::uses::EntryUse;
 use descriptor_records::DescriptorProto;
 use reflect_names::{DefinitionKind, DescriptorErrorKind, Faults};
+use reflect_scope::{FileIndex, MessageIndex};
 use reflect_walk::says_map_entry;
 use std::alloc::{AllocError, Global};
 
@@ -29,7 +30,7 @@ fn is_one_map(used: Option<EntryUse>) -> bool
 pub fn check_entry(
     alloc: Global,
     faults: &mut Faults<'_>,
-    file: u32,
+    file: FileIndex,
     path: &[i32],
     full_name: &str,
     message: &DescriptorProto,
@@ -49,7 +50,7 @@ pub fn check_entry(
 }
 
 /// The index of the message that is meant, if one is.
-pub fn message_meant(meaning: Option<DefinitionKind>) -> Option<u32>
+pub fn message_meant(meaning: Option<DefinitionKind>) -> Option<MessageIndex>
     ensures { result ≡ message_of meaning }
 {
     match meaning {
@@ -63,10 +64,10 @@ pub fn message_meant(meaning: Option<DefinitionKind>) -> Option<u32>
 pub fn check_older_entry<T: Types>(
     alloc: Global,
     faults: &mut Faults<'_>,
-    file: u32,
+    file: FileIndex,
     path: &[i32],
     types: &T,
-    first: u32,
+    first: MessageIndex,
     meaning: Option<DefinitionKind>,
 ) -> Result<(), AllocError>
     ensures { OnOk result (Adds faults.old faults.new

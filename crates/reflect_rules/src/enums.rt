@@ -9,6 +9,7 @@ use crate::map_entry::is_equal;
 use crate::numbers::{entry_label, repeated};
 use descriptor_records::{EnumDescriptorProto, EnumValueDescriptorProto, tag};
 use reflect_names::{DescriptorErrorKind, Faults, VisitError};
+use reflect_scope::FileIndex;
 use std::alloc::{AllocError, Global};
 
 /// Two values of the enum may have one number.
@@ -25,7 +26,7 @@ fn allows_aliases(enumeration: &EnumDescriptorProto) -> bool
 fn list_repeat(
     alloc: Global,
     faults: &mut Faults<'_>,
-    file: u32,
+    file: FileIndex,
     path: &[i32],
     place: usize,
     number: i32,
@@ -43,7 +44,7 @@ fn list_repeat(
 fn list_repeats(
     alloc: Global,
     faults: &mut Faults<'_>,
-    file: u32,
+    file: FileIndex,
     path: &[i32],
     repeats: &[(usize, i32)],
 ) -> Result<(), VisitError>
@@ -75,7 +76,7 @@ fn value_numbers(
 fn check_values(
     alloc: Global,
     faults: &mut Faults<'_>,
-    file: u32,
+    file: FileIndex,
     path: &[i32],
     enumeration: &EnumDescriptorProto,
 ) -> Result<(), VisitError>
@@ -95,7 +96,7 @@ fn check_values(
 fn check_first(
     alloc: Global,
     faults: &mut Faults<'_>,
-    file: u32,
+    file: FileIndex,
     path: &[i32],
     number: Option<i32>,
     is_proto3: bool,
@@ -117,7 +118,7 @@ fn check_first(
 pub fn check_enum(
     alloc: Global,
     faults: &mut Faults<'_>,
-    file: u32,
+    file: FileIndex,
     path: &[i32],
     enumeration: &EnumDescriptorProto,
     is_proto3: bool,

@@ -8,13 +8,14 @@ use crate::entry_rules::message_meant;
 use crate::numbers::{check_extension, check_reserved};
 use crate::types::{Types, find_in};
 use reflect_names::{DefinitionKind, Faults};
+use reflect_scope::FileIndex;
 use std::alloc::{AllocError, Global};
 
 /// Lists what is wrong with the number of an extension of a message type.
 pub fn check_extension_number<T: Types>(
     alloc: Global,
     faults: &mut Faults<'_>,
-    file: u32,
+    file: FileIndex,
     path: &[i32],
     types: &T,
     number: i32,

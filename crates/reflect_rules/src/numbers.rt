@@ -10,6 +10,7 @@ ghost use Rattle.reflect_rules.specs.Repeats.{repeats, repeat_fault, listed, rep
 
 use descriptor_records::{DescriptorProto, FieldDescriptorProto, MAX_FIELD_NUMBER, tag};
 use reflect_names::{DescriptorErrorKind, Faults, Label, VisitError, entry_path};
+use reflect_scope::FileIndex;
 use std::alloc::{AllocError, Global};
 use std::collections::BTreeSet;
 
@@ -31,7 +32,7 @@ fn is_field_number(number: i32) -> bool
 pub fn check_number(
     alloc: Global,
     faults: &mut Faults<'_>,
-    file: u32,
+    file: FileIndex,
     path: &[i32],
     number: i32,
 ) -> Result<(), AllocError>
@@ -49,7 +50,7 @@ pub fn check_number(
 pub fn check_reserved(
     alloc: Global,
     faults: &mut Faults<'_>,
-    file: u32,
+    file: FileIndex,
     path: &[i32],
     number: i32,
     reserved: Option<(i32, i32)>,
@@ -73,7 +74,7 @@ pub fn check_reserved(
 pub fn check_not_extension(
     alloc: Global,
     faults: &mut Faults<'_>,
-    file: u32,
+    file: FileIndex,
     path: &[i32],
     number: i32,
     kept: Option<(i32, i32)>,
@@ -98,7 +99,7 @@ pub fn check_not_extension(
 pub fn check_extension(
     alloc: Global,
     faults: &mut Faults<'_>,
-    file: u32,
+    file: FileIndex,
     path: &[i32],
     number: i32,
     kept: Option<(i32, i32)>,
@@ -140,7 +141,7 @@ pub fn repeated(alloc: Global, numbers: &[Option<i32>]) -> Result<Vec<(usize, i3
 pub fn entry_label(
     alloc: Global,
     faults: &mut Faults<'_>,
-    file: u32,
+    file: FileIndex,
     path: &[i32],
     tag: i32,
     place: usize,
@@ -158,7 +159,7 @@ pub fn entry_label(
 fn list_repeat(
     alloc: Global,
     faults: &mut Faults<'_>,
-    file: u32,
+    file: FileIndex,
     path: &[i32],
     place: usize,
     number: i32,
@@ -176,7 +177,7 @@ fn list_repeat(
 fn list_repeats(
     alloc: Global,
     faults: &mut Faults<'_>,
-    file: u32,
+    file: FileIndex,
     path: &[i32],
     repeats: &[(usize, i32)],
 ) -> Result<(), VisitError>
@@ -208,7 +209,7 @@ fn field_numbers(
 pub fn check_distinct(
     alloc: Global,
     faults: &mut Faults<'_>,
-    file: u32,
+    file: FileIndex,
     path: &[i32],
     message: &DescriptorProto,
 ) -> Result<(), VisitError>
@@ -236,7 +237,7 @@ fn is_place(index: i32, count: usize) -> bool
 pub fn check_oneof(
     alloc: Global,
     faults: &mut Faults<'_>,
-    file: u32,
+    file: FileIndex,
     path: &[i32],
     field: &FieldDescriptorProto,
     oneofs: usize,

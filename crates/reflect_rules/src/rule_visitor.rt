@@ -15,6 +15,10 @@ use descriptor_records::{
 };
 use reflect_names::{Faults, VisitError, Visitor};
 use reflect_references::References;
+use reflect_scope::{
+    EnumIndex, EnumValueIndex, ExtensionIndex, FieldIndex, FileIndex, MessageIndex, MethodIndex,
+    OneofIndex, ServiceIndex,
+};
 use std::alloc::Global;
 use std::collections::BTreeMap;
 
@@ -26,9 +30,9 @@ pub struct RuleVisitor<'a, T: Types> {
     references: References<'a>,
     types: &'a T,
     /// How the types of maps' entries are used.
-    uses: &'a BTreeMap<u32, EntryUse>,
+    uses: &'a BTreeMap<MessageIndex, EntryUse>,
     /// The index of the first message type of the files.
-    first_message: u32,
+    first_message: MessageIndex,
     is_proto3: bool,
     /// How many oneofs the message has that was visited last.
     oneofs: usize,
@@ -41,8 +45,8 @@ impl<'a, T: Types> RuleVisitor<'a, T> {
         faults: Faults<'a>,
         references: References<'a>,
         types: &'a T,
-        uses: &'a BTreeMap<u32, EntryUse>,
-        first_message: u32,
+        uses: &'a BTreeMap<MessageIndex, EntryUse>,
+        first_message: MessageIndex,
     ) -> RuleVisitor<'a, T>
         ensures faults { result.faults ≡ faults.entry }
         ensures references { result.references.rest.now ≡ references.entry.rest.now }
@@ -95,7 +99,7 @@ impl<'a, T: Types> Visitor for RuleVisitor<'a, T> {
         &mut self,
         _alloc: Global,
         _path: &[i32],
-        _file: u32,
+        _file: FileIndex,
         descriptor: &FileDescriptorProto,
     ) -> Result<(), VisitError> {
         self.is_proto3 = match &descriptor.syntax {
@@ -110,9 +114,9 @@ impl<'a, T: Types> Visitor for RuleVisitor<'a, T> {
         alloc: Global,
         path: &[i32],
         full_name: &str,
-        file: u32,
-        _parent: Option<u32>,
-        index: u32,
+        file: FileIndex,
+        _parent: Option<MessageIndex>,
+        index: MessageIndex,
         message: &DescriptorProto,
     ) -> Result<(), VisitError> {
         self.oneofs = message.oneof_decl.len();
@@ -135,9 +139,9 @@ impl<'a, T: Types> Visitor for RuleVisitor<'a, T> {
         alloc: Global,
         path: &[i32],
         _full_name: &str,
-        file: u32,
-        message: u32,
-        _index: u32,
+        file: FileIndex,
+        message: MessageIndex,
+        _index: FieldIndex,
         field: &FieldDescriptorProto,
     ) -> Result<(), VisitError> {
         let meaning = self.references.meaning_of(&field.type_name);
@@ -160,9 +164,9 @@ impl<'a, T: Types> Visitor for RuleVisitor<'a, T> {
         _alloc: Global,
         _path: &[i32],
         _full_name: &str,
-        _file: u32,
-        _message: u32,
-        _index: u32,
+        _file: FileIndex,
+        _message: MessageIndex,
+        _index: OneofIndex,
         _oneof: &OneofDescriptorProto,
     ) -> Result<(), VisitError> {
         Ok(())
@@ -173,9 +177,9 @@ impl<'a, T: Types> Visitor for RuleVisitor<'a, T> {
         alloc: Global,
         path: &[i32],
         _full_name: &str,
-        file: u32,
-        _parent: Option<u32>,
-        _index: u32,
+        file: FileIndex,
+        _parent: Option<MessageIndex>,
+        _index: EnumIndex,
         enumeration: &EnumDescriptorProto,
     ) -> Result<(), VisitError> {
         check_enum(
@@ -194,9 +198,9 @@ impl<'a, T: Types> Visitor for RuleVisitor<'a, T> {
         _alloc: Global,
         _path: &[i32],
         _full_name: &str,
-        _file: u32,
-        _enumeration: u32,
-        _index: u32,
+        _file: FileIndex,
+        _enumeration: EnumIndex,
+        _index: EnumValueIndex,
         _value: &EnumValueDescriptorProto,
     ) -> Result<(), VisitError> {
         Ok(())
@@ -207,8 +211,8 @@ impl<'a, T: Types> Visitor for RuleVisitor<'a, T> {
         _alloc: Global,
         _path: &[i32],
         _full_name: &str,
-        _file: u32,
-        _index: u32,
+        _file: FileIndex,
+        _index: ServiceIndex,
         _service: &ServiceDescriptorProto,
     ) -> Result<(), VisitError> {
         Ok(())
@@ -219,9 +223,9 @@ impl<'a, T: Types> Visitor for RuleVisitor<'a, T> {
         _alloc: Global,
         _path: &[i32],
         _full_name: &str,
-        _file: u32,
-        _service: u32,
-        _index: u32,
+        _file: FileIndex,
+        _service: ServiceIndex,
+        _index: MethodIndex,
         method: &MethodDescriptorProto,
     ) -> Result<(), VisitError> {
         self.references.meaning_of(&method.input_type);
@@ -234,9 +238,9 @@ impl<'a, T: Types> Visitor for RuleVisitor<'a, T> {
         alloc: Global,
         path: &[i32],
         _full_name: &str,
-        file: u32,
-        _parent: Option<u32>,
-        _index: u32,
+        file: FileIndex,
+        _parent: Option<MessageIndex>,
+        _index: ExtensionIndex,
         extension: &FieldDescriptorProto,
     ) -> Result<(), VisitError> {
         let extendee = self.references.meaning_of(&extension.extendee);

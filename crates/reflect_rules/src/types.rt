@@ -3,6 +3,7 @@ ghost use Rattle.reflect_tables.specs.Ranges.{IsRangeOf};
 ghost use Rattle.reflect_rules.specs.TypesSay.{TypesSay};
 ghost use Rattle.reflect_rules.specs.Walks.{ranges_in};
 
+use reflect_scope::{EnumIndex, MessageIndex};
 use reflect_tables::NumberRanges;
 
 /// What the rules ask about message types and enums, those of the files and older ones, by index.
@@ -14,23 +15,23 @@ pub trait Types {
     ghost values: { Self → ℕ → List ℕ → Bool → Type 0 };
 
     /// The numbers that no field or extension of the message type may take.
-    fn reserved_numbers(&self, message: u32) -> Option<&NumberRanges>
+    fn reserved_numbers(&self, message: MessageIndex) -> Option<&NumberRanges>
         ensures { ranges_in result ≡ (says self.now).reserved message };
 
     /// The numbers that extensions of the message type may take.
-    fn extension_numbers(&self, message: u32) -> Option<&NumberRanges>
+    fn extension_numbers(&self, message: MessageIndex) -> Option<&NumberRanges>
         ensures { ranges_in result ≡ (says self.now).extensions message };
 
     /// The message type is the type of a map's entries.
-    fn is_map_entry(&self, message: u32) -> bool
+    fn is_map_entry(&self, message: MessageIndex) -> bool
         ensures { result ≡ (says self.now).is_entry message };
 
     /// The full name of the message type.
-    fn message_name(&self, message: u32) -> &str
+    fn message_name(&self, message: MessageIndex) -> &str
         ensures { result.now ≡ (says self.now).name message };
 
     /// The enum has a value of this name.
-    fn has_value(&self, enumeration: u32, name: &str) -> bool
+    fn has_value(&self, enumeration: EnumIndex, name: &str) -> bool
         ensures { values self.now enumeration name.now result };
 }
 

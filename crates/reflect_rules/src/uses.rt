@@ -14,6 +14,10 @@ use descriptor_records::{
 };
 use reflect_names::{DefinitionKind, VisitError, Visitor};
 use reflect_references::References;
+use reflect_scope::{
+    EnumIndex, EnumValueIndex, ExtensionIndex, FieldIndex, FileIndex, MessageIndex, MethodIndex,
+    OneofIndex, ServiceIndex,
+};
 use std::alloc::{AllocError, Global};
 use std::collections::BTreeMap;
 
@@ -29,7 +33,7 @@ pub enum EntryUse {
 /// Finds how the types of maps' entries are used by the fields and extensions that it visits.
 #[derive(Drop)]
 pub struct UseVisitor<'a, T: Types> {
-    uses: BTreeMap<u32, EntryUse>,
+    uses: BTreeMap<MessageIndex, EntryUse>,
     references: References<'a>,
     types: &'a T,
 }
@@ -61,7 +65,7 @@ impl<'a, T: Types> UseVisitor<'a, T> {
     }
 
     /// The uses, by the index of the entry's type.
-    pub fn into_uses(self) -> BTreeMap<u32, EntryUse>
+    pub fn into_uses(self) -> BTreeMap<MessageIndex, EntryUse>
         ensures { result ≡ self.entry.uses }
     {
         let UseVisitor {
@@ -113,7 +117,7 @@ impl<'a, T: Types> Visitor for UseVisitor<'a, T> {
         &mut self,
         _alloc: Global,
         _path: &[i32],
-        _file: u32,
+        _file: FileIndex,
         _descriptor: &FileDescriptorProto,
     ) -> Result<(), VisitError> {
         Ok(())
@@ -124,9 +128,9 @@ impl<'a, T: Types> Visitor for UseVisitor<'a, T> {
         _alloc: Global,
         _path: &[i32],
         _full_name: &str,
-        _file: u32,
-        _parent: Option<u32>,
-        _index: u32,
+        _file: FileIndex,
+        _parent: Option<MessageIndex>,
+        _index: MessageIndex,
         _message: &DescriptorProto,
     ) -> Result<(), VisitError> {
         Ok(())
@@ -137,9 +141,9 @@ impl<'a, T: Types> Visitor for UseVisitor<'a, T> {
         _alloc: Global,
         _path: &[i32],
         _full_name: &str,
-        _file: u32,
-        _message: u32,
-        _index: u32,
+        _file: FileIndex,
+        _message: MessageIndex,
+        _index: FieldIndex,
         field: &FieldDescriptorProto,
     ) -> Result<(), VisitError> {
         self.note(field)?;
@@ -151,9 +155,9 @@ impl<'a, T: Types> Visitor for UseVisitor<'a, T> {
         _alloc: Global,
         _path: &[i32],
         _full_name: &str,
-        _file: u32,
-        _message: u32,
-        _index: u32,
+        _file: FileIndex,
+        _message: MessageIndex,
+        _index: OneofIndex,
         _oneof: &OneofDescriptorProto,
     ) -> Result<(), VisitError> {
         Ok(())
@@ -164,9 +168,9 @@ impl<'a, T: Types> Visitor for UseVisitor<'a, T> {
         _alloc: Global,
         _path: &[i32],
         _full_name: &str,
-        _file: u32,
-        _parent: Option<u32>,
-        _index: u32,
+        _file: FileIndex,
+        _parent: Option<MessageIndex>,
+        _index: EnumIndex,
         _enumeration: &EnumDescriptorProto,
     ) -> Result<(), VisitError> {
         Ok(())
@@ -177,9 +181,9 @@ impl<'a, T: Types> Visitor for UseVisitor<'a, T> {
         _alloc: Global,
         _path: &[i32],
         _full_name: &str,
-        _file: u32,
-        _enumeration: u32,
-        _index: u32,
+        _file: FileIndex,
+        _enumeration: EnumIndex,
+        _index: EnumValueIndex,
         _value: &EnumValueDescriptorProto,
     ) -> Result<(), VisitError> {
         Ok(())
@@ -190,8 +194,8 @@ impl<'a, T: Types> Visitor for UseVisitor<'a, T> {
         _alloc: Global,
         _path: &[i32],
         _full_name: &str,
-        _file: u32,
-        _index: u32,
+        _file: FileIndex,
+        _index: ServiceIndex,
         _service: &ServiceDescriptorProto,
     ) -> Result<(), VisitError> {
         Ok(())
@@ -202,9 +206,9 @@ impl<'a, T: Types> Visitor for UseVisitor<'a, T> {
         _alloc: Global,
         _path: &[i32],
         _full_name: &str,
-        _file: u32,
-        _service: u32,
-        _index: u32,
+        _file: FileIndex,
+        _service: ServiceIndex,
+        _index: MethodIndex,
         method: &MethodDescriptorProto,
     ) -> Result<(), VisitError> {
         self.references.meaning_of(&method.input_type);
@@ -217,9 +221,9 @@ impl<'a, T: Types> Visitor for UseVisitor<'a, T> {
         _alloc: Global,
         _path: &[i32],
         _full_name: &str,
-        _file: u32,
-        _parent: Option<u32>,
-        _index: u32,
+        _file: FileIndex,
+        _parent: Option<MessageIndex>,
+        _index: ExtensionIndex,
         extension: &FieldDescriptorProto,
     ) -> Result<(), VisitError> {
         self.references.meaning_of(&extension.extendee);

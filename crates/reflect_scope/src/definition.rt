@@ -1,6 +1,7 @@
 ghost use Rattle.std.specs.Prelude.{◌≡◌, Some};
 ghost use Rattle.reflect_scope.specs.Words.{wanted_words};
 
+use crate::index::{EnumIndex, ExtensionIndex, FileIndex, MessageIndex, ServiceIndex};
 use std::fmt;
 
 /// What kind of thing a full name stands for. The numbers are indexes among all messages, enums,
@@ -8,13 +9,13 @@ use std::fmt;
 #[derive(Clone, Copy, PartialEq, Eq)]
 pub enum DefinitionKind {
     Package,
-    Message(u32),
+    Message(MessageIndex),
     Field,
     Oneof,
-    Enum(u32),
+    Enum(EnumIndex),
     EnumValue,
-    Extension(u32),
-    Service(u32),
+    Extension(ExtensionIndex),
+    Service(ServiceIndex),
     Method,
 }
 
@@ -22,7 +23,7 @@ pub enum DefinitionKind {
 /// first that bears it.
 #[derive(Clone, Copy, PartialEq, Eq)]
 pub struct Definition {
-    pub file: u32,
+    pub file: FileIndex,
     pub kind: DefinitionKind,
 }
 

@@ -3,13 +3,14 @@ ghost use Rattle.std.specs.List.{Contains};
 ghost use Rattle.reflect_scope.specs.Sees.{Sees, imports_at, publics_at};
 ghost use Rattle.reflect_scope.specs.Marks.{IsMarked, Extends, AreListed, AllClear};
 
+use crate::index::FileIndex;
 use std::alloc::{AllocError, Global};
 
 /// What a file imports, and what of that publicly, as indexes of files.
 #[derive(Drop)]
 pub struct Links {
-    pub imports: Vec<u32>,
-    pub public: Vec<u32>,
+    pub imports: Vec<FileIndex>,
+    pub public: Vec<FileIndex>,
 }
 
 /// Which files are seen from one file: itself, its imports, and what any chain of public imports
@@ -20,12 +21,16 @@ pub struct Links {
 #[derive(Drop)]
 pub struct SeenFiles {
     marks: Vec<bool>,
-    order: Vec<u32>,
+    order: Vec<FileIndex>,
     ghost listed: { AreListed marks.items order.items },
 }
 
 /// Marks a file and puts it behind the others, unless it has a mark or there is no such file.
-fn mark(marks: &mut Vec<bool>, order: &mut Vec<u32>, file: u32) -> Result<(), AllocError>
+fn mark(
+    marks: &mut Vec<bool>,
+    order: &mut Vec<FileIndex>,
+    file: FileIndex,
+) -> Result<(), AllocError>
     ensures marked { OnOk result (IsMarked marks.old.items order.old.items
         → IsMarked marks.new.items order.new.items) }
     ensures same { length marks.new.items ≡ length marks.old.items }
@@ -43,7 +48,11 @@ fn mark(marks: &mut Vec<bool>, order: &mut Vec<u32>, file: u32) -> Result<(), Al
     Ok(())
 }
 
-fn mark_all(marks: &mut Vec<bool>, order: &mut Vec<u32>, files: &Vec<u32>) -> Result<(), AllocError>
+fn mark_all(
+    marks: &mut Vec<bool>,
+    order: &mut Vec<FileIndex>,
+    files: &Vec<FileIndex>,
+) -> Result<(), AllocError>
     ensures marked { OnOk result (IsMarked marks.old.items order.old.items
         → IsMarked marks.new.items order.new.items) }
     ensures same { length marks.new.items ≡ length marks.old.items }
@@ -62,9 +71,9 @@ fn mark_all(marks: &mut Vec<bool>, order: &mut Vec<u32>, files: &Vec<u32>) -> Re
 
 fn mark_imports(
     marks: &mut Vec<bool>,
-    order: &mut Vec<u32>,
+    order: &mut Vec<FileIndex>,
     files: &[Links],
-    file: u32,
+    file: FileIndex,
 ) -> Result<(), AllocError>
     ensures marked { OnOk result (IsMarked marks.old.items order.old.items
         → IsMarked marks.new.items order.new.items) }
@@ -85,9 +94,9 @@ fn mark_imports(
 
 fn mark_public(
     marks: &mut Vec<bool>,
-    order: &mut Vec<u32>,
+    order: &mut Vec<FileIndex>,
     files: &[Links],
-    file: u32,
+    file: FileIndex,
 ) -> Result<(), AllocError>
     ensures marked { OnOk result (IsMarked marks.old.items order.old.items
         → IsMarked marks.new.items order.new.items) }
@@ -106,7 +115,7 @@ fn mark_public(
     }
 }
 
-fn unmark(marks: &mut Vec<bool>, file: u32)
+fn unmark(marks: &mut Vec<bool>, file: FileIndex)
     ensures { marks.new.items ≡ slice_set marks.old.items file false }
 {
     let index = file as usize;
@@ -116,7 +125,7 @@ fn unmark(marks: &mut Vec<bool>, file: u32)
 }
 
 /// Takes the marks of the listed files away.
-fn clear_marks(marks: &mut Vec<bool>, order: &Vec<u32>)
+fn clear_marks(marks: &mut Vec<bool>, order: &Vec<FileIndex>)
     ensures clear { AreListed marks.old.items order.now.items → AllClear marks.new.items }
     ensures same { length marks.new.items ≡ length marks.old.items }
 {
@@ -139,9 +148,9 @@ fn grow(marks: &mut Vec<bool>, count: usize) -> Result<(), AllocError>
 /// Marks the files that are reached from `file`, and lists them.
 fn reach(
     marks: &mut Vec<bool>,
-    order: &mut Vec<u32>,
+    order: &mut Vec<FileIndex>,
     files: &[Links],
-    file: u32,
+    file: FileIndex,
 ) -> Result<(), AllocError>
     requires clear { AllClear marks.old.items }
     requires none { order.old.items ≡ [] }
@@ -163,9 +172,9 @@ fn reach(
 
 fn look(
     marks: &mut Vec<bool>,
-    order: &mut Vec<u32>,
+    order: &mut Vec<FileIndex>,
     files: &[Links],
-    file: u32,
+    file: FileIndex,
 ) -> Result<(), AllocError>
     requires listed { AreListed marks.old.items order.old.items }
     ensures sees { OnOk result ((g : ℕ) → g < length files.now
@@ -195,7 +204,7 @@ impl SeenFiles {
     /// Looks from `file`, and forgets what was seen before. `files` has the links of all files by
     /// their indexes; indexes of no file are passed over. After an `Err` it is not said which files
     /// are seen.
-    pub fn look_from(&mut self, files: &[Links], file: u32) -> Result<(), AllocError>
+    pub fn look_from(&mut self, files: &[Links], file: FileIndex) -> Result<(), AllocError>
         ensures { OnOk result ((g : ℕ) → g < length files.now
             → (IsTrue (tells self.new g) ↔ Sees files.now file g)) }
     {
@@ -203,7 +212,7 @@ impl SeenFiles {
     }
 
     /// Whether the file is seen.
-    pub fn contains(&self, file: u32) -> bool
+    pub fn contains(&self, file: FileIndex) -> bool
         ensures { result ≡ tells self.now file }
     {
         self.marks.get(file as usize).copied().unwrap_or(false)

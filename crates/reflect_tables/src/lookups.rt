@@ -7,11 +7,12 @@ ghost use Rattle.reflect_tables.specs.Views.{field_of, value_of};
 use crate::find::first;
 use crate::keys::{By, Key};
 use crate::lists::{FieldList, ValueList};
+use reflect_scope::{EnumValueIndex, FieldIndex};
 
 impl FieldList {
     /// The place of the first field of a number. Takes no memory, and a number of steps that grows
     /// with the logarithm of the fields' count, as the other lookups do.
-    pub fn of_number(&self, number: u32) -> Option<u32>
+    pub fn of_number(&self, number: FieldIndex) -> Option<FieldIndex>
         ensures { IsFirst (λ f. f.number ≡ number) (map field_of self.now.list.items) result }
     {
         first(
@@ -23,7 +24,7 @@ impl FieldList {
     }
 
     /// The place of the first field of a name.
-    pub fn of_name(&self, name: &str) -> Option<u32>
+    pub fn of_name(&self, name: &str) -> Option<FieldIndex>
         ensures { IsFirst (λ f. f.name ≡ name.now) (map field_of self.now.list.items) result }
     {
         first(
@@ -35,7 +36,7 @@ impl FieldList {
     }
 
     /// The place of the first field of a written JSON name.
-    pub fn of_json_name(&self, name: &str) -> Option<u32>
+    pub fn of_json_name(&self, name: &str) -> Option<FieldIndex>
         ensures { IsFirst (λ f. f.json_name ≡ Some name.now)
             (map field_of self.now.list.items) result }
     {
@@ -51,7 +52,7 @@ impl FieldList {
 impl ValueList {
     /// The place of the first value of a number. Takes no memory, and a number of steps that grows
     /// with the logarithm of the values' count, as the lookup by name does.
-    pub fn of_number(&self, number: i32) -> Option<u32>
+    pub fn of_number(&self, number: i32) -> Option<EnumValueIndex>
         ensures { IsFirst (λ v. v.number ≡ number) (map value_of self.now.list.items) result }
     {
         first(
@@ -63,7 +64,7 @@ impl ValueList {
     }
 
     /// The place of the first value of a name.
-    pub fn of_name(&self, name: &str) -> Option<u32>
+    pub fn of_name(&self, name: &str) -> Option<EnumValueIndex>
         ensures { IsFirst (λ v. v.name ≡ name.now) (map value_of self.now.list.items) result }
     {
         first(

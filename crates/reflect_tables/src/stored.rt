@@ -4,6 +4,9 @@ use crate::kind::Cardinality;
 use crate::lists::{FieldList, ValueList};
 use crate::ranges::NumberRanges;
 use descriptor_records::FileDescriptorProto;
+use reflect_scope::{
+    EnumIndex, ExtensionIndex, FieldIndex, FileIndex, MessageIndex, OneofIndex, ServiceIndex,
+};
 
 /// What a field holds, with a message or an enum by its place in the pool.
 #[derive(Clone, Copy)]
@@ -23,8 +26,8 @@ pub enum StoredKind {
     Bool,
     String,
     Bytes,
-    Message(u32),
-    Enum(u32),
+    Message(MessageIndex),
+    Enum(EnumIndex),
 }
 
 /// The default that a field's declaration gives.
@@ -45,17 +48,17 @@ pub enum StoredDefault {
 /// declared.
 #[derive(Drop)]
 pub struct Children {
-    pub messages: Vec<u32>,
-    pub enums: Vec<u32>,
-    pub extensions: Vec<u32>,
+    pub messages: Vec<MessageIndex>,
+    pub enums: Vec<EnumIndex>,
+    pub extensions: Vec<ExtensionIndex>,
 }
 
 /// A type or an extension by its place in the pool.
 #[derive(Clone, Copy)]
 pub enum Child {
-    Message(u32),
-    Enum(u32),
-    Extension(u32),
+    Message(MessageIndex),
+    Enum(EnumIndex),
+    Extension(ExtensionIndex),
 }
 
 /// A linked file.
@@ -70,7 +73,7 @@ pub struct StoredFile {
 pub struct Declared {
     pub children: Children,
     /// The places of the services, as they were declared.
-    pub services: Vec<u32>,
+    pub services: Vec<ServiceIndex>,
 }
 
 /// A field of a message type, or what an extension has in common with one.
@@ -89,7 +92,7 @@ pub struct StoredField {
     pub supports_presence: bool,
     pub is_proto3_optional: bool,
     /// The place of the oneof in the message's list.
-    pub oneof: Option<u32>,
+    pub oneof: Option<OneofIndex>,
     pub default: Option<StoredDefault>,
 }
 
@@ -100,7 +103,7 @@ pub struct StoredOneof {
     pub name: String,
     pub full_name: String,
     /// The places of its members in the message's fields, as they were declared.
-    pub fields: Vec<u32>,
+    pub fields: Vec<FieldIndex>,
     /// It stands for one field of a proto3 file that was declared `optional`.
     pub is_synthetic: bool,
 }
@@ -108,15 +111,15 @@ pub struct StoredOneof {
 /// The places of a map entry's two fields.
 #[derive(Clone, Copy)]
 pub struct StoredEntry {
-    pub key: u32,
-    pub value: u32,
+    pub key: FieldIndex,
+    pub value: FieldIndex,
 }
 
 /// A message type.
 #[derive(Drop)]
 pub struct StoredMessage {
-    pub file: u32,
-    pub parent: Option<u32>,
+    pub file: FileIndex,
+    pub parent: Option<MessageIndex>,
     pub path: Vec<i32>,
     pub name: String,
     pub full_name: String,
@@ -146,8 +149,8 @@ pub struct StoredValue {
 /// An enum type.
 #[derive(Drop)]
 pub struct StoredEnum {
-    pub file: u32,
-    pub parent: Option<u32>,
+    pub file: FileIndex,
+    pub parent: Option<MessageIndex>,
     pub path: Vec<i32>,
     pub name: String,
     pub full_name: String,
@@ -157,11 +160,11 @@ pub struct StoredEnum {
 /// An extension.
 #[derive(Drop)]
 pub struct StoredExtension {
-    pub file: u32,
+    pub file: FileIndex,
     /// The message that the extension is declared in, whatever it extends.
-    pub parent: Option<u32>,
+    pub parent: Option<MessageIndex>,
     /// The message that it extends.
-    pub extendee: u32,
+    pub extendee: MessageIndex,
     pub field: StoredField,
     /// The full name in brackets.
     pub json_name: String,
@@ -174,9 +177,9 @@ pub struct StoredMethod {
     pub name: String,
     pub full_name: String,
     /// The place of the message type that the method takes.
-    pub input: u32,
+    pub input: MessageIndex,
     /// The place of the message type that the method answers.
-    pub output: u32,
+    pub output: MessageIndex,
     pub is_client_streaming: bool,
     pub is_server_streaming: bool,
 }
@@ -184,7 +187,7 @@ pub struct StoredMethod {
 /// A service.
 #[derive(Drop)]
 pub struct StoredService {
-    pub file: u32,
+    pub file: FileIndex,
     pub path: Vec<i32>,
     pub name: String,
     pub full_name: String,

@@ -11,6 +11,7 @@ use crate::place::{item_path, list_index, name_in, next_index};
 use crate::visit_error::VisitError;
 use crate::visitor::Visitor;
 use descriptor_records::{EnumDescriptorProto, FieldDescriptorProto, ServiceDescriptorProto};
+use reflect_scope::{FileIndex, MessageIndex};
 use std::alloc::Global;
 
 /// A declaration with a path of its own and what is declared in it.
@@ -25,8 +26,8 @@ pub trait Item<V: Visitor> {
         visitor: &mut V,
         path: &[i32],
         scope: &str,
-        file: u32,
-        parent: Option<u32>,
+        file: FileIndex,
+        parent: Option<MessageIndex>,
         index: u32,
     ) -> Result<(), VisitError>
         ensures runs { OnOk result (Runs V.steps visitor.old
@@ -45,8 +46,8 @@ impl<V: Visitor> Item<V> for EnumDescriptorProto {
         visitor: &mut V,
         path: &[i32],
         scope: &str,
-        file: u32,
-        parent: Option<u32>,
+        file: FileIndex,
+        parent: Option<MessageIndex>,
         index: u32,
     ) -> Result<(), VisitError> {
         let full_name = name_in(alloc, scope, &self.name)?;
@@ -66,8 +67,8 @@ impl<V: Visitor> Item<V> for FieldDescriptorProto {
         visitor: &mut V,
         path: &[i32],
         scope: &str,
-        file: u32,
-        parent: Option<u32>,
+        file: FileIndex,
+        parent: Option<MessageIndex>,
         index: u32,
     ) -> Result<(), VisitError> {
         let full_name = name_in(alloc, scope, &self.name)?;
@@ -87,8 +88,8 @@ impl<V: Visitor> Item<V> for ServiceDescriptorProto {
         visitor: &mut V,
         path: &[i32],
         scope: &str,
-        file: u32,
-        _parent: Option<u32>,
+        file: FileIndex,
+        _parent: Option<MessageIndex>,
         index: u32,
     ) -> Result<(), VisitError> {
         let full_name = name_in(alloc, scope, &self.name)?;
@@ -106,8 +107,8 @@ pub fn visit_items<V: Visitor, I: Item<V>>(
     path: &[i32],
     tag: i32,
     scope: &str,
-    file: u32,
-    parent: Option<u32>,
+    file: FileIndex,
+    parent: Option<MessageIndex>,
     items: &Vec<I>,
 ) -> Result<(), VisitError>
     ensures runs { OnOk result (Runs V.steps visitor.old

@@ -11,6 +11,7 @@ use descriptor_records::{
     EnumValueDescriptorProto, FieldDescriptorProto, MethodDescriptorProto, OneofDescriptorProto,
     tag,
 };
+use reflect_scope::FileIndex;
 use std::alloc::Global;
 
 /// A part of what holds a list of such parts.
@@ -26,7 +27,7 @@ pub trait Part<V: Visitor> {
         place: &mut Place,
         path: &[i32],
         scope: &str,
-        file: u32,
+        file: FileIndex,
         holder: u32,
         index: u32,
     ) -> Result<(), VisitError>
@@ -46,7 +47,7 @@ impl<V: Visitor> Part<V> for FieldDescriptorProto {
         place: &mut Place,
         path: &[i32],
         scope: &str,
-        file: u32,
+        file: FileIndex,
         holder: u32,
         index: u32,
     ) -> Result<(), VisitError> {
@@ -66,7 +67,7 @@ impl<V: Visitor> Part<V> for OneofDescriptorProto {
         place: &mut Place,
         path: &[i32],
         scope: &str,
-        file: u32,
+        file: FileIndex,
         holder: u32,
         index: u32,
     ) -> Result<(), VisitError> {
@@ -86,7 +87,7 @@ impl<V: Visitor> Part<V> for EnumValueDescriptorProto {
         place: &mut Place,
         path: &[i32],
         scope: &str,
-        file: u32,
+        file: FileIndex,
         holder: u32,
         index: u32,
     ) -> Result<(), VisitError> {
@@ -106,7 +107,7 @@ impl<V: Visitor> Part<V> for MethodDescriptorProto {
         place: &mut Place,
         path: &[i32],
         scope: &str,
-        file: u32,
+        file: FileIndex,
         holder: u32,
         index: u32,
     ) -> Result<(), VisitError> {
@@ -122,7 +123,7 @@ pub fn visit_parts<V: Visitor, P: Part<V>>(
     visitor: &mut V,
     path: &[i32],
     scope: &str,
-    file: u32,
+    file: FileIndex,
     holder: u32,
     parts: &Vec<P>,
 ) -> Result<(), VisitError>

@@ -7,6 +7,7 @@ use crate::visit_parts::visit;
 use crate::visitor::Visitor;
 use descriptor_records::FileDescriptorProto;
 use reflect_declarations::Offsets;
+use reflect_scope::FileIndex;
 use std::alloc::Global;
 
 /// Calls the visitor at each declaration of the files, the first of which has the index `first`, as
@@ -16,7 +17,7 @@ use std::alloc::Global;
 pub fn visit_all<V: Visitor>(
     alloc: Global,
     before: Offsets,
-    first: u32,
+    first: FileIndex,
     files: &[FileDescriptorProto],
     visitor: &mut V,
 ) -> Result<Offsets, VisitError>

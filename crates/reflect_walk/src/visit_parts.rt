@@ -11,6 +11,7 @@ use crate::visit_error::VisitError;
 use crate::visitor::Visitor;
 use descriptor_records::{DescriptorProto, FileDescriptorProto, tag};
 use reflect_declarations::Offsets;
+use reflect_scope::{FileIndex, MessageIndex};
 use std::alloc::Global;
 
 #[cycle(messages)]
@@ -20,8 +21,8 @@ fn visit_message<V: Visitor>(
     offsets: &mut Offsets,
     path: &[i32],
     scope: &str,
-    file: u32,
-    parent: Option<u32>,
+    file: FileIndex,
+    parent: Option<MessageIndex>,
     message: &DescriptorProto,
 ) -> Result<(), VisitError>
     ensures runs { OnOk result (Runs V.steps visitor.old
@@ -88,8 +89,8 @@ fn visit_messages<V: Visitor>(
     path: &[i32],
     tag: i32,
     scope: &str,
-    file: u32,
-    parent: Option<u32>,
+    file: FileIndex,
+    parent: Option<MessageIndex>,
     messages: &Vec<DescriptorProto>,
 ) -> Result<(), VisitError>
     ensures runs { OnOk result (Runs V.steps visitor.old
@@ -124,7 +125,7 @@ fn visit_messages<V: Visitor>(
 pub fn visit<V: Visitor>(
     alloc: Global,
     offsets: Offsets,
-    file_index: u32,
+    file_index: FileIndex,
     file: &FileDescriptorProto,
     visitor: &mut V,
 ) -> Result<Offsets, VisitError>

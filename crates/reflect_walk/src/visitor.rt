@@ -7,6 +7,10 @@ use descriptor_records::{
     DescriptorProto, EnumDescriptorProto, EnumValueDescriptorProto, FieldDescriptorProto,
     FileDescriptorProto, MethodDescriptorProto, OneofDescriptorProto, ServiceDescriptorProto,
 };
+use reflect_scope::{
+    EnumIndex, EnumValueIndex, ExtensionIndex, FieldIndex, FileIndex, MessageIndex, MethodIndex,
+    OneofIndex, ServiceIndex,
+};
 use std::alloc::Global;
 
 /// What is done at each declaration of a file.
@@ -28,7 +32,7 @@ pub trait Visitor {
         &mut self,
         alloc: Global,
         path: &[i32],
-        file: u32,
+        file: FileIndex,
         descriptor: &FileDescriptorProto,
     ) -> Result<(), VisitError>
         ensures step { OnOk result (steps self.old
@@ -40,9 +44,9 @@ pub trait Visitor {
         alloc: Global,
         path: &[i32],
         full_name: &str,
-        file: u32,
-        parent: Option<u32>,
-        index: u32,
+        file: FileIndex,
+        parent: Option<MessageIndex>,
+        index: MessageIndex,
         message: &DescriptorProto,
     ) -> Result<(), VisitError>
         ensures step { OnOk result (steps self.old
@@ -55,9 +59,9 @@ pub trait Visitor {
         alloc: Global,
         path: &[i32],
         full_name: &str,
-        file: u32,
-        message: u32,
-        index: u32,
+        file: FileIndex,
+        message: MessageIndex,
+        index: FieldIndex,
         field: &FieldDescriptorProto,
     ) -> Result<(), VisitError>
         ensures step { OnOk result (steps self.old
@@ -69,9 +73,9 @@ pub trait Visitor {
         alloc: Global,
         path: &[i32],
         full_name: &str,
-        file: u32,
-        message: u32,
-        index: u32,
+        file: FileIndex,
+        message: MessageIndex,
+        index: OneofIndex,
         oneof: &OneofDescriptorProto,
     ) -> Result<(), VisitError>
         ensures step { OnOk result (steps self.old
@@ -83,9 +87,9 @@ pub trait Visitor {
         alloc: Global,
         path: &[i32],
         full_name: &str,
-        file: u32,
-        parent: Option<u32>,
-        index: u32,
+        file: FileIndex,
+        parent: Option<MessageIndex>,
+        index: EnumIndex,
         enumeration: &EnumDescriptorProto,
     ) -> Result<(), VisitError>
         ensures step { OnOk result (steps self.old
@@ -98,9 +102,9 @@ pub trait Visitor {
         alloc: Global,
         path: &[i32],
         full_name: &str,
-        file: u32,
-        enumeration: u32,
-        index: u32,
+        file: FileIndex,
+        enumeration: EnumIndex,
+        index: EnumValueIndex,
         value: &EnumValueDescriptorProto,
     ) -> Result<(), VisitError>
         ensures step { OnOk result (steps self.old
@@ -113,8 +117,8 @@ pub trait Visitor {
         alloc: Global,
         path: &[i32],
         full_name: &str,
-        file: u32,
-        index: u32,
+        file: FileIndex,
+        index: ServiceIndex,
         service: &ServiceDescriptorProto,
     ) -> Result<(), VisitError>
         ensures step { OnOk result (steps self.old
@@ -126,9 +130,9 @@ pub trait Visitor {
         alloc: Global,
         path: &[i32],
         full_name: &str,
-        file: u32,
-        service: u32,
-        index: u32,
+        file: FileIndex,
+        service: ServiceIndex,
+        index: MethodIndex,
         method: &MethodDescriptorProto,
     ) -> Result<(), VisitError>
         ensures step { OnOk result (steps self.old
@@ -141,9 +145,9 @@ pub trait Visitor {
         alloc: Global,
         path: &[i32],
         full_name: &str,
-        file: u32,
-        parent: Option<u32>,
-        index: u32,
+        file: FileIndex,
+        parent: Option<MessageIndex>,
+        index: ExtensionIndex,
         extension: &FieldDescriptorProto,
     ) -> Result<(), VisitError>
         ensures step { OnOk result (steps self.old
