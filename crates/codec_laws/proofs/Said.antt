@@ -12,7 +12,7 @@ use Rattle.descriptor_records.specs.declared.options.Options.{Options}
 use Rattle.descriptor_records.specs.declared.source_info.SourceCodeInfo.{SourceCodeInfo}
 use Rattle.reflect_wire.specs.Records.{Records, SpellsRecords, more_records, no_records}
 use Rattle.reflect_codec.specs.Meaning.{AreOptions, IsEnum, IsEnumRange, IsEnumValue, IsExtensionRange, IsField, IsFile, IsFileBytes, IsLocation, IsMessage, IsMethod, IsOneof, IsReservedRange, IsService, IsSetBytes, IsSourceInfo}
-use Rattle.reflect_codec.specs.Reading.{AreNumbers, Field, IsInt32, IsLast, IsMerged, IsNumbers, IsPart, IsPayload, IsRecord, SpellsFields, SpellsNumbers, Value, eight_bytes, fields_in, int32_of, joined, joins, last, number, other, payload, value_of, values_at}
+use Rattle.reflect_codec.specs.Reading.{AreNumbers, Field, IsInt32, IsLast, IsMerged, IsNumbers, IsPartBelow, IsPayload, IsRecord, SpellsFields, SpellsNumbers, Value, eight_bytes, fields_in, int32_of, joined, joins, last, number, other, payload, value_of, values_at}
 use Rattle.reflect_codec.specs.declared.options.OptionsOf.{OptionsOf}
 use Rattle.reflect_codec.specs.declared.options.OptionsOf.TheVariants as of
 use Rattle.codec_laws.specs.Plain.{ArePlainOptions, FitsInt32, IfThere, IsInside, IsPlainEnum, IsPlainEnumRange, IsPlainEnumValue, IsPlainExtensionRange, IsPlainField, IsPlainFile, IsPlainLocation, IsPlainMessage, IsPlainMethod, IsPlainOneof, IsPlainReservedRange, IsPlainService, IsPlainSet, IsPlainSourceInfo}
@@ -78,7 +78,7 @@ fields_join : (levels : ℕ) (a b : List ℕ) (fs gs : List Field) → SpellsFie
 fields_join levels a b fs gs (rs, h, is) k = subst (λ fs. SpellsFields levels (a ++ b) (fs ++ gs)) (sym is) (joined_spelled levels a b rs h gs k)
 
 -- the payloads of one field, and their fields, one behind the other
-parts_spelled : (outside : ℕ) (vs : List Value) (parts : List (List Field)) (payloads : List (List ℕ)) → AllZip (IsPart outside 100) vs parts → AllZip IsPayload vs payloads
+parts_spelled : (outside : ℕ) (vs : List Value) (parts : List (List Field)) (payloads : List (List ℕ)) → AllZip (IsPartBelow outside 100) vs parts → AllZip IsPayload vs payloads
     → SpellsFields 100 (flat_map (λ p. p) payloads) (joins parts)
 parts_spelled outside [] [] [] h k = (no_records, refl, refl)
 parts_spelled outside [] [] (p ∷ payloads) h k = absurd k
@@ -98,11 +98,11 @@ options_plain : (kind : OptionsOf) (levels : ℕ) (vs : List Value) (o : Option 
 options_plain kind levels vs None h = tt
 options_plain kind levels vs (Some o) (None, joined, along) = absurd along
 options_plain kind levels [] (Some o) (Some fs, (parts, all, is), along) = none parts all is where
-  none : (parts : List (List Field)) → AllZip (IsPart levels 100) [] parts → Some fs ≡ joined parts → ArePlainOptions kind levels (Some o)
+  none : (parts : List (List Field)) → AllZip (IsPartBelow levels 100) [] parts → Some fs ≡ joined parts → ArePlainOptions kind levels (Some o)
   none [] all is = absurd (cc is)
   none (p ∷ parts) all is = absurd all
 options_plain kind levels (v ∷ vs) (Some o) (Some fs, (parts, all, is), along) = some parts all is where
-  some : (parts : List (List Field)) → AllZip (IsPart levels 100) (v ∷ vs) parts → Some fs ≡ joined parts → ArePlainOptions kind levels (Some o)
+  some : (parts : List (List Field)) → AllZip (IsPartBelow levels 100) (v ∷ vs) parts → Some fs ≡ joined parts → ArePlainOptions kind levels (Some o)
   some [] all is = absurd all
   some (gs ∷ parts) all is =
       let spelled = parts_spelled levels (v ∷ vs) (gs ∷ parts) along.encoded.0 all along.encoded.1 in
@@ -225,7 +225,7 @@ source_info_there : (levels : ℕ) (vs : List Value) (o : Option SourceCodeInfo)
 source_info_there levels vs None h = tt
 source_info_there levels vs (Some s) (None, joined, along) = absurd along
 source_info_there levels vs (Some s) (Some fs, (parts, all, is), along) = some vs parts all is where
-  some : (vs : List Value) (parts : List (List Field)) → AllZip (IsPart levels (levels - 1)) vs parts → Some fs ≡ joined parts → IfThere (IsInside IsPlainSourceInfo levels) (Some s)
+  some : (vs : List Value) (parts : List (List Field)) → AllZip (IsPartBelow levels (levels - 1)) vs parts → Some fs ≡ joined parts → IfThere (IsInside IsPlainSourceInfo levels) (Some s)
   some vs [] all is = absurd (cc is)
   some [] (gs ∷ parts) all is = absurd all
   some (v ∷ vs) (gs ∷ parts) all is = (all.0.1.0, source_info_plain (levels - 1) fs s along)

@@ -23,7 +23,7 @@ use Rattle.reflect_walk.specs.MapEntries.{says_entry}
 use Rattle.reflect_declarations.specs.Tree.{MessageParts}
 use Rattle.schema_view.specs.Declarations as view
 use Rattle.schema_view.specs.Files.{IsThere}
-use Rattle.schema_view.specs.Lawful.{is_dotted, is_use, IsSettled, Keeps}
+use Rattle.schema_view.specs.Lawful.{is_dotted, is_use, IsSettled, KeepsForExtensions}
 use Rattle.schema_view.specs.Outlines.{Outline}
 use Rattle.schema_view.specs.References.{Reference, Target, dotted, rename_message_type, rename_type}
 use Rattle.schema_view.specs.Rules.{IsSound}
@@ -61,7 +61,7 @@ module _ (files : List FileDescriptorProto) (known : Known) (are : AreKnown file
   -- of enums
   pub record TypesTell : Type 0 where
     pub numbers : (i : ℕ) (full : Text) (n : ℤ) (d : Definition) → known full ≡ Some d
-        → d.kind ≡ kind.Message i → Keeps os full n → IsExtensionNumber g.types n (Some i)
+        → d.kind ≡ kind.Message i → KeepsForExtensions os full n → IsExtensionNumber g.types n (Some i)
     pub values : (full text : Text) (d : Definition) → known full ≡ Some d
         → IsValueOf os full text
         → (i : ℕ) × (d.kind ≡ kind.Enum i) × HasValue (enum_at t i) text
@@ -74,7 +74,7 @@ module _ (files : List FileDescriptorProto) (known : Known) (are : AreKnown file
     view_of = record { known = known; sees = sees_of files known are indexes sees f }
 
     numbered : (k : DefinitionKind) (full : Text) (n : ℤ) (d : Definition) → d.kind ≡ k
-        → known full ≡ Some d → Keeps os full n
+        → known full ≡ Some d → KeepsForExtensions os full n
         → IsExtensionNumber g.types n (message_of (Some k))
     numbered (kind.Message i) full n d is knows h = tell.numbers i full n d knows is h
     numbered (kind.Enum i) full n d is knows h = tt
@@ -89,7 +89,7 @@ module _ (files : List FileDescriptorProto) (known : Known) (are : AreKnown file
     extension_number : (scope : Text) (o : Option (String Global)) (number : Option ℤ)
         → IsThere number → IsResolved view_of filter.Message scope o
         → ((full : Text) (n : ℤ) → rename_message_type namings scope (text_view o) ≡ Some (46 ∷ full)
-        → number ≡ Some n → Keeps os full n)
+        → number ≡ Some n → KeepsForExtensions os full n)
         → IsExtensionNumber g.types (unwrap_or number (pos 0))
         (message_of (kind_by view_of filter.Message scope o))
     extension_number scope None number there r h = tt

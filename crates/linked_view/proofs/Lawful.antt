@@ -40,7 +40,7 @@ use Rattle.reflect_walk.specs.MapEntries.{says_entry}
 use Rattle.reflect_declarations.specs.Tree.{MessageParts}
 use Rattle.schema_view.specs.Declarations as view
 use Rattle.schema_view.specs.Files.{is_proto3}
-use Rattle.schema_view.specs.Lawful.{outlines, all_linked, IsLawful, IsOneMap, Keeps, Meanings}
+use Rattle.schema_view.specs.Lawful.{outlines, all_linked, IsLawful, IsOneMap, KeepsForExtensions, Meanings}
 use Rattle.schema_view.specs.Means.{Means as IsMeaning}
 use Rattle.schema_view.specs.Outlines.{head_of, outline_of, sort_of, IsDeclared}
 use Rattle.schema_view.specs.References.{Reference as Naming, Target, dotted, linked}
@@ -275,7 +275,7 @@ module _ (earlier : List (List FileContent)) (old : PoolType) (w : Linking)
   tell = record {
     numbers = λ i full n d knows same keeps.
         number_told old ns w is built.named rs t declared named_all known known_files i full n d knows
-        same (subst (λ os. Keeps os full n) outlines_same keeps);
+        same (subst (λ os. KeepsForExtensions os full n) outlines_same keeps);
     values = λ full text d knows value.
         value_told t after known enum_names enums_found enums_named
         (ap (map kept_values) enums_are ∙ all_values old w ns rs t meant declared built.values) full

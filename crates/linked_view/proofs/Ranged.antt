@@ -47,7 +47,7 @@ use Rattle.reflect_tables.specs.declared.stored.StoredMessage.{StoredMessage}
 use Rattle.reflect_declarations.specs.Declarations as walk
 use Rattle.reflect_declarations.specs.Tree.{MessageParts}
 use Rattle.schema_view.specs.Declarations as view
-use Rattle.schema_view.specs.Lawful.{Keeps, KeepsNumber}
+use Rattle.schema_view.specs.Lawful.{KeepsForExtensions, KeepsNumber}
 use Rattle.schema_view.specs.Rules.{IsIn, HasBounds}
 use Rattle.reflect_build.proofs.Recorded.{batch_on}
 use Rattle.reflect_build.proofs.Stored.{all_declared, zip_both}
@@ -150,7 +150,7 @@ module _ (old : PoolType) (ns : List FileDescriptorProto) (w : Linking) (is : Is
   module _ (named : AreWellNamed [] (map file_view (old.records ++ ns))) (known : Known)
       (all_known : known ≡ known_of_files (old.records ++ ns)) where
     pub number_told : (i : ℕ) (full : Text) (n : ℤ) (d : Definition) → known full ≡ Some d
-        → d.kind ≡ kind.Message i → Keeps (outlines (map file_view (old.records ++ ns))) full n
+        → d.kind ≡ kind.Message i → KeepsForExtensions (outlines (map file_view (old.records ++ ns))) full n
         → IsExtensionNumber (linked_says t) n (Some i)
     number_told i full n d knows same (extensions, reserved, sort, (r, inside, within), none) =
         let files = old.records ++ ns in
@@ -215,7 +215,7 @@ module _ (old new : PoolType) (ns : List FileDescriptorProto) (w : Linking) (is 
       (s : StoredMessage) → HasRanges (declared_ranges m.own) s → (r : pool.Range)
       → Contains (ranges_of s.extension_numbers) r → pool.IsIn n r
       → pool.IsRangeOf (ranges_of s.reserved_numbers) n None
-      → Keeps (outlines (map file_view all)) full n
+      → KeepsForExtensions (outlines (map file_view all)) full n
   ranges_keep full n i m s declared r inside within none =
       let own = m.own in
       let shown = map extension_range_view own.extension_range in
@@ -247,11 +247,11 @@ module _ (old new : PoolType) (ns : List FileDescriptorProto) (w : Linking) (is 
 
   number_kept : (i : ℕ) (full : Text) (n : ℤ) (d : Definition) → all_known full ≡ Some d
       → d.kind ≡ kind.Message i → IsExtensionNumber (linked_says batch.types) n (Some i)
-      → Keeps (outlines (map file_view all)) full n
+      → KeepsForExtensions (outlines (map file_view all)) full n
   number_kept i full n d knows same (none, r, (inside, within)) =
       by (message_at batch.types i) refl where
         by : (o : Option StoredMessage) → message_at batch.types i ≡ o
-            → Keeps (outlines (map file_view all)) full n
+            → KeepsForExtensions (outlines (map file_view all)) full n
         by None e = absurd (contains_none r (subst (λ l. Contains l r) (ap extensions_by e) inside))
         by (Some s) e =
             let m = message_known all (named_files old new ns w is has names batch kept) full d i

@@ -24,7 +24,7 @@ use Rattle.linked_view.proofs.Linked.{found_by}
 use Rattle.linked_view.proofs.Means.{resolved_to}
 use Rattle.linked_view.proofs.Settling.{names, see, HoldsOne}
 use Rattle.reflect_rules.specs.Rules.{message_of}
-use Rattle.schema_view.specs.Lawful.{Keeps, KeepsNumber}
+use Rattle.schema_view.specs.Lawful.{KeepsForExtensions, KeepsNumber}
 use Rattle.schema_view.specs.References.{rename_message_type}
 use Rattle.linked_view.proofs.AtHand.{resolved_one}
 use Rattle.linked_view.specs.Ruled.{IsExtensionNumber}
@@ -34,7 +34,7 @@ module _ (files : List FileDescriptorProto) (known : Known) (are : AreKnown file
     (indexes : Indexes) (sees : ℕ → ℕ → Bool) (t : LinkedTypes) (g : Facts) (at : ℕ → Places)
     (os : List Outline)
     (kept : (i : ℕ) (full : Text) (n : ℤ) (d : Definition) → known full ≡ Some d
-    → d.kind ≡ kind.Message i → IsExtensionNumber g.types n (Some i) → Keeps os full n) where
+    → d.kind ≡ kind.Message i → IsExtensionNumber g.types n (Some i) → KeepsForExtensions os full n) where
   module _ (f : FileContent) where
     abbrev AreKept : view.Body → Type 0
     AreKept = KeepsNumber os
@@ -47,7 +47,7 @@ module _ (files : List FileDescriptorProto) (known : Known) (are : AreKnown file
 
     kind_kept : (k : DefinitionKind) (full : Text) (n : ℤ) (d : Definition) → d.kind ≡ k
         → known full ≡ Some d → is_wanted filter.Message k ≡ true
-        → IsExtensionNumber g.types n (message_of (Some k)) → Keeps os full n
+        → IsExtensionNumber g.types n (message_of (Some k)) → KeepsForExtensions os full n
     kind_kept (kind.Message i) full n d is knows wanted h = kept i full n d knows is h
     kind_kept (kind.Enum i) full n d is knows wanted h = absurd (cc wanted)
     kind_kept kind.Package full n d is knows wanted h = absurd (cc wanted)
@@ -63,7 +63,7 @@ module _ (files : List FileDescriptorProto) (known : Known) (are : AreKnown file
         → IsExtensionNumber g.types (unwrap_or number (pos 0))
         (message_of (kind_by view_of filter.Message scope o))
         → (full : Text) (n : ℤ) → rename_message_type namings scope (text_view o) ≡ Some (46 ∷ full)
-        → number ≡ Some n → Keeps os full n
+        → number ≡ Some n → KeepsForExtensions os full n
     named_number scope None number r h full n e f = absurd (cc e)
     named_number scope (Some s) number (name, d, is) h full n e f =
         let m = meaning_of view_of filter.Message scope (string_bytes s) in
@@ -74,7 +74,7 @@ module _ (files : List FileDescriptorProto) (known : Known) (are : AreKnown file
         (message_of (kind_meant x))) is h in
         let at_number = subst (λ z. IsExtensionNumber g.types (unwrap_or z (pos 0))
         (message_of (Some d.kind))) f told in
-        subst (λ x. Keeps os x n) own
+        subst (λ x. KeepsForExtensions os x n) own
         (kind_kept d.kind name n d refl found.1.known_as found.1.wanted at_number)
 
     pub kept_seen : HoldsOne files known are indexes sees t g at AreKept f

@@ -12,7 +12,7 @@ use Rattle.reflect_scope.specs.Means.{means, is_wanted, is_seen, is_holder, reso
 use Rattle.schema_view.specs.Files.{join}
 use Rattle.schema_view.specs.Outlines.{Sort, message_sort, enum_sort, service_sort, other_sort, Outline, outline_of, Sees}
 use Rattle.schema_view.specs.Lawful.{outlines}
-use Rattle.schema_view.specs.Means.{has_dot, first_part, IsWanted, Holds, MeansUndotted, MeansDotted, MeansPlain, MeansBy}
+use Rattle.schema_view.specs.Means.{has_dot, first_part, IsWanted, HoldsNames, MeansUndotted, MeansDotted, MeansPlain, MeansBy}
 use Rattle.schema_view.specs.Means as view
 use Rattle.schema_view.specs.References.{Want, a_message, a_type}
 use Rattle.schema_view.proofs.Lists.{contains_map, contains_map_cases}
@@ -168,9 +168,9 @@ module _ (files : List FileDescriptorProto) (known : Known) (are : AreKnown file
         },
       )
 
-  pub holds_to : (n : Text) → Holding known sees (filter_of w) n → Holds os n
+  pub holds_to : (n : Text) → Holding known sees (filter_of w) n → HoldsNames os n
   holds_to n h = by (known n) refl where
-    by : (x : Option Definition) → known n ≡ x → Holds os n
+    by : (x : Option Definition) → known n ≡ x → HoldsNames os n
     by None is = absurd (cc (sym (ap is_holder is) ∙ h))
     by (Some d) is =
         let holder : kind_holds d.kind ≡ true = sym (ap is_holder is) ∙ h in
@@ -189,7 +189,7 @@ module _ (files : List FileDescriptorProto) (known : Known) (are : AreKnown file
               ))
         ]
 
-  pub holds_from : (n : Text) → (n ≡ [] → ⊥) → Holds os n → Holding known sees (filter_of w) n
+  pub holds_from : (n : Text) → (n ≡ [] → ⊥) → HoldsNames os n → Holding known sees (filter_of w) n
   holds_from n full (inl packaged) =
       let d = are.package_known n packaged full in ap is_holder d.1 ∙ package_holds d.0.kind d.2
   holds_from n full (inr (o, h, i, j, name, holder)) =
@@ -209,18 +209,18 @@ module _ (files : List FileDescriptorProto) (known : Known) (are : AreKnown file
 
   undotted_to : (around name full : Text)
       → MeansUndotted (Wanted known sees (filter_of w)) (Holding known sees (filter_of w)) around name full
-      → MeansUndotted (IsWanted os from w) (Holds os) around name full
+      → MeansUndotted (IsWanted os from w) (HoldsNames os) around name full
   undotted_to around name full (p, s, is, x, less) =
       (p, s, is, wanted_to full x, λ q sq lt y. less q sq lt (wanted_from (join q name) y))
 
-  undotted_from : (around name full : Text) → MeansUndotted (IsWanted os from w) (Holds os) around name full
+  undotted_from : (around name full : Text) → MeansUndotted (IsWanted os from w) (HoldsNames os) around name full
       → MeansUndotted (Wanted known sees (filter_of w)) (Holding known sees (filter_of w)) around name full
   undotted_from around name full (p, s, is, x, less) =
       (p, s, is, wanted_from full x, λ q sq lt y. less q sq lt (wanted_to (join q name) y))
 
   module _ (around name full : Text) (parts : (q : Text) → join q (first_part name) ≡ [] → ⊥) where
     dotted_to : MeansDotted (Wanted known sees (filter_of w)) (Holding known sees (filter_of w)) around
-        name full → MeansDotted (IsWanted os from w) (Holds os) around name full
+        name full → MeansDotted (IsWanted os from w) (HoldsNames os) around name full
     dotted_to (p, s, is, x, holder, less) = (
       p,
       s,
@@ -230,7 +230,7 @@ module _ (files : List FileDescriptorProto) (known : Known) (are : AreKnown file
       λ q sq lt y. less q sq lt (holds_from (join q (first_part name)) (parts q) y),
     )
 
-    dotted_from : MeansDotted (IsWanted os from w) (Holds os) around name full
+    dotted_from : MeansDotted (IsWanted os from w) (HoldsNames os) around name full
         → MeansDotted (Wanted known sees (filter_of w)) (Holding known sees (filter_of w)) around name full
     dotted_from (p, s, is, x, holder, less) = (
       p,
@@ -242,16 +242,16 @@ module _ (files : List FileDescriptorProto) (known : Known) (are : AreKnown file
     )
 
     plain_to : MeansPlain (Wanted known sees (filter_of w)) (Holding known sees (filter_of w)) around name
-        full → MeansPlain (IsWanted os from w) (Holds os) around name full
+        full → MeansPlain (IsWanted os from w) (HoldsNames os) around name full
     plain_to h = match_map (has_dot name) _ _ _ _ dotted_to (undotted_to around name full) h
 
-    plain_from : MeansPlain (IsWanted os from w) (Holds os) around name full
+    plain_from : MeansPlain (IsWanted os from w) (HoldsNames os) around name full
         → MeansPlain (Wanted known sees (filter_of w)) (Holding known sees (filter_of w)) around name full
     plain_from h = match_map (has_dot name) _ _ _ _ dotted_from (undotted_from around name full) h
 
   by_to : (around name full : Text)
       → MeansBy (Wanted known sees (filter_of w)) (Holding known sees (filter_of w)) around name full
-      → MeansBy (IsWanted os from w) (Holds os) around name full
+      → MeansBy (IsWanted os from w) (HoldsNames os) around name full
   by_to around [] full h = undotted_to around [] full h
   by_to around (b ∷ name) full h = by (eqb b 46) refl h where
     by : (v : Bool) → eqb b 46 ≡ v
@@ -259,17 +259,17 @@ module _ (files : List FileDescriptorProto) (known : Known) (are : AreKnown file
         (MeansPlain (Wanted known sees (filter_of w)) (Holding known sees (filter_of w)) around (b ∷ name)
         full)
         → MatchBool v ((full ≡ name) × IsWanted os from w name)
-        (MeansPlain (IsWanted os from w) (Holds os) around (b ∷ name) full)
+        (MeansPlain (IsWanted os from w) (HoldsNames os) around (b ∷ name) full)
     by true is k = (k.0, wanted_to name k.1)
     by false is k = plain_to around (b ∷ name) full (λ q. full_part b name q is) k
 
-  by_from : (around name full : Text) → MeansBy (IsWanted os from w) (Holds os) around name full
+  by_from : (around name full : Text) → MeansBy (IsWanted os from w) (HoldsNames os) around name full
       → MeansBy (Wanted known sees (filter_of w)) (Holding known sees (filter_of w)) around name full
   by_from around [] full h = undotted_from around [] full h
   by_from around (b ∷ name) full h = by (eqb b 46) refl h where
     by : (v : Bool) → eqb b 46 ≡ v
         → MatchBool v ((full ≡ name) × IsWanted os from w name)
-        (MeansPlain (IsWanted os from w) (Holds os) around (b ∷ name) full)
+        (MeansPlain (IsWanted os from w) (HoldsNames os) around (b ∷ name) full)
         → MatchBool v ((full ≡ name) × Wanted known sees (filter_of w) name)
         (MeansPlain (Wanted known sees (filter_of w)) (Holding known sees (filter_of w)) around (b ∷ name)
         full)
@@ -278,13 +278,13 @@ module _ (files : List FileDescriptorProto) (known : Known) (are : AreKnown file
 
   pub names_to : (around name full : Text) (d : Definition)
       → resolve known sees (filter_of w) around name ≡ means full d
-      → MeansBy (IsWanted os from w) (Holds os) around name full
+      → MeansBy (IsWanted os from w) (HoldsNames os) around name full
       × IsFound known sees (filter_of w) full d
   names_to around name full d e =
       let r = resolved_to known sees (filter_of w) around name full d e in
       (by_to around name full r.0, r.1)
 
-  pub names_from : (around name full : Text) → MeansBy (IsWanted os from w) (Holds os) around name full
+  pub names_from : (around name full : Text) → MeansBy (IsWanted os from w) (HoldsNames os) around name full
       → (d : Definition) × (resolve known sees (filter_of w) around name ≡ means full d)
   names_from around name full h =
       resolved_from known sees (filter_of w) around name full (by_from around name full h)

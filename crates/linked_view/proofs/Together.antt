@@ -24,7 +24,7 @@ use Rattle.reflect_declarations.specs.Batches.{batch_declarations}
 use Rattle.reflect_index.proofs.Among.{get_map, got_map}
 use Rattle.linked_messages.specs.Kept.{IsKept}
 use Rattle.schema_view.specs.Declarations.{MessageFacts, of_message, Declaration, declarations}
-use Rattle.schema_view.specs.Lawful.{outlines, Adds, all_linked, IsOneMap, Key, has_key, is_use, times_by}
+use Rattle.schema_view.specs.Lawful.{outlines, AddsLawful, all_linked, IsOneMap, Key, has_key, is_use, times_by}
 use Rattle.schema_view.specs.Outlines.{head_of, outline_of, sort_of, IsDeclared}
 use Rattle.schema_view.specs.References.{linked}
 use Rattle.schema_view.specs.Rules.{SaysEntry}
@@ -185,7 +185,7 @@ module _ (old new : PoolType) (ns : List FileDescriptorProto) (w : Linking) (is 
           together = record { extended = keys_apart; entries = entries_agree };
         }
 
-        pub added_all : Adds given more (map file_view new.records)
+        pub added_all : AddsLawful given more (map file_view new.records)
         added_all = alone_added given more (map file_view new.records) alone settled_alone
 
 -- accepted files are added to those that were built before
@@ -193,7 +193,7 @@ pub adds_files : (earlier : List (List FileContent)) (old new : PoolType)
     (fs : List FileDescriptorProto) → IsBuilt earlier old → IsIndexed new → IsKept new
     → FaultlessFiles old fs new
     → (w : Linking) × IsOf old w
-    × Adds (map file_view old.records) (map file_view (new_files w.indexes fs))
+    × AddsLawful (map file_view old.records) (map file_view (new_files w.indexes fs))
     (map file_view new.records)
 adds_files earlier old new fs is index kept (w, of, (names, batch)) = (
   w,

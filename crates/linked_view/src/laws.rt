@@ -32,8 +32,8 @@ ghost use Rattle.reflect_tables.specs.Views.{record_file};
 ghost use Rattle.reflect_declarations.specs.Batches.{batch_declarations};
 ghost use Rattle.reflect_declarations.specs.declared.offsets.Offsets.{Offsets};
 ghost use Rattle.schema_view.specs.Files.{file_name};
-ghost use Rattle.schema_view.specs.Lawful.{outlines, all_linked, Adds, IsLawful, Meanings, Key, has_key, times_by};
-ghost use Rattle.schema_view.specs.Means.{IsWanted, Holds, MeansBy};
+ghost use Rattle.schema_view.specs.Lawful.{outlines, all_linked, AddsLawful, IsLawful, Meanings, Key, has_key, times_by};
+ghost use Rattle.schema_view.specs.Means.{IsWanted, HoldsNames, MeansBy};
 ghost use Rattle.schema_view.specs.Outlines as view;
 ghost use Rattle.schema_view.specs.Outlines.{Outline, outline_of};
 ghost use Rattle.schema_view.specs.References.{Want};
@@ -135,7 +135,7 @@ pub fn names_mean_what_they_are_resolved_to()
         → (w : Want) (scope name full : Text)
         → (((d : Definition) × (resolve known sees (filter_of w) scope name ≡ means full d))
         ↔ MeansBy (IsWanted (outlines (map file_view files)) from w)
-        (Holds (outlines (map file_view files))) scope name full) }
+        (HoldsNames (outlines (map file_view files))) scope name full) }
 {}
 
 /// Where declarations are complete, the pass over references finds nothing wrong in new files
@@ -221,7 +221,7 @@ pub fn lawful_files_have_no_fault()
 /// extensions, defaults of enums and uses of maps' entries are as they should be.
 pub fn lawful_files_that_agree_are_added()
     ensures { (old new after : List FileContent) (l : AreLawfulAlone old new after)
-        → AreSettledAlone old new l.meanings → Adds old new after }
+        → AreSettledAlone old new l.meanings → AddsLawful old new after }
 {}
 
 /// Where the entries of a pool's extensions are those of its records, no two extensions that these
@@ -305,7 +305,7 @@ pub fn accepted_files_are_added()
         (files : List FileDescriptorProto) → IsBuilt earlier old → IsIndexed new → IsKept new
         → FaultlessFiles old files new
         → (w : Linking) × IsOf old w
-        × Adds (map file_view old.records) (map file_view (new_files w.indexes files))
+        × AddsLawful (map file_view old.records) (map file_view (new_files w.indexes files))
         (map file_view new.records) }
 {}
 

@@ -25,7 +25,7 @@ use Rattle.reflect_message.proofs.InOrder.{entries_below, items_below, message_b
 use Rattle.reflect_decode.specs.Ordered.{AreInOrder, AreNumbered, Ascend, HoldsInOrder, IsOrdered, last}
 use Rattle.reflect_decode.proofs.InOrder.{message_tells}
 use Rattle.protobuf_model.specs.Meaning.{payloads}
-use Rattle.message_view.specs.Shaped.{Exclusive, Fits, FitsAs, FitsEntry, FitsOne, HasShape, IsShaped, Shaped}
+use Rattle.message_view.specs.Shaped.{Exclusive, FitsShaped, FitsAs, FitsEntry, FitsOne, HasShape, IsShaped, Shaped}
 use Rattle.merge_view.proofs.Trees.{entries_alike, items_alike, single_alike}
 
 abbrev Sorted : Value → Type 0
@@ -91,7 +91,7 @@ module _ (inner : DynamicMessage → Type 0) (copies : Copies inner) (pool : Poo
 
   held_copied : (f : FieldType) (o : Option Value) (w : Value)
       → option_map tree (Some w) ≡ option_map tree o → Sorted w
-      → ((v : Value) → o ≡ Some v → Fits inner pool f v) → Fits inner pool f w
+      → ((v : Value) → o ≡ Some v → FitsShaped inner pool f v) → FitsShaped inner pool f w
   held_copied f None w e sorted fits = absurd (cc e)
   held_copied f (Some v) w e sorted fits =
       let same : tree w ≡ tree v = cc e in
@@ -99,8 +99,8 @@ module _ (inner : DynamicMessage → Type 0) (copies : Copies inner) (pool : Poo
 
   -- what stands under a number
   value_copied : (es gs : List (ℕ × Value)) → AreCopies es gs → AreInOrder gs → (f : FieldType)
-      → (n : ℕ) → ((v : Value) → value_at es n ≡ Some v → Fits inner pool f v)
-      → (w : Value) → value_at gs n ≡ Some w → Fits inner pool f w
+      → (n : ℕ) → ((v : Value) → value_at es n ≡ Some v → FitsShaped inner pool f v)
+      → (w : Value) → value_at gs n ≡ Some w → FitsShaped inner pool f w
   value_copied es gs copied sorted f n fits w at =
       held_copied f (value_at es n) w (sym (ap (option_map tree) at) ∙ copied n)
       (subst (λ o. IfSome o Sorted) at (sorted.each n)) fits

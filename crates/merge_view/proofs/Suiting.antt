@@ -10,7 +10,7 @@ use Rattle.reflect_pool.specs.Shapes.{holds_list, holds_map}
 use Rattle.reflect_pool.specs.declared.message.MessageDescriptor.{MessageDescriptor}
 use Rattle.reflect_scalar.specs.FieldTypes.{extension_type}
 use Rattle.reflect_tables.specs.Types.{FieldType, PoolType}
-use Rattle.message_view.specs.Shaped.{Exclusive, Fits, FitsAs, IsShaped}
+use Rattle.message_view.specs.Shaped.{Exclusive, FitsShaped, FitsAs, IsShaped}
 use Rattle.message_view.proofs.Fields.{none_known}
 
 -- where the messages inside suit theirs
@@ -24,7 +24,7 @@ module _ (inner : DynamicMessage → Type 0) (suits : Suiting)
       let m = fits.nested type in (m.0, m.1, m.2, each m.0 m.3)
 
   held_suits : (pool : PoolType) (f : FieldType) (o : Option Value)
-      → ((v : Value) → o ≡ Some v → Fits inner pool f v) → HeldSuits suits pool f o
+      → ((v : Value) → o ≡ Some v → FitsShaped inner pool f v) → HeldSuits suits pool f o
   held_suits pool f None fits = tt
   held_suits pool f (Some v) fits =
       as_suits pool f (holds_map pool f) (holds_list pool f) v (fits v refl)

@@ -5,7 +5,7 @@ use Rattle.reflect_wire.specs.Faults.{GoOn, VarintFault, KeyFault, DelimitedFaul
 use Rattle.reflect_wire.specs.Key.{IsKey, IsDelimited, key_code}
 use Rattle.reflect_wire.specs.Reads.{NoFront}
 use Rattle.reflect_wire.specs.Records.{Payload, varint, fixed64, delimited, group, fixed32, wire_of, SpellsPayload}
-use Rattle.reflect_wire.specs.Varint.{Spells, IsVarint}
+use Rattle.reflect_wire.specs.Varint.{SpellsVarint, IsVarint}
 use Rattle.reflect_wire.specs.declared.wire_error.WireError.{WireError}
 use Rattle.reflect_wire.specs.declared.wire_error.WireError.TheVariants.{Truncated, BadVarint, BadKey, BadWireType, EndGroupMismatch, TooDeep, BadUtf8, Memory, TooLong}
 use Rattle.reflect_wire.specs.declared.wire_key.WireType.{WireType}
@@ -14,20 +14,20 @@ use Rattle.reflect_wire.proofs.Varints.{one_form}
 use Rattle.reflect_pool.specs.declared.kind.Kind.{Kind}
 use Rattle.reflect_pool.specs.declared.kind.Kind.TheVariants as kinds
 use Rattle.reflect_scalar.specs.Kinds.{wire_type}
-use Rattle.reflect_scalar.specs.Meaning.{IsPlain, IsScalar, PlainFault, ScalarFault}
+use Rattle.reflect_scalar.specs.Meaning.{IsPlainPayload, IsScalar, PlainFault, ScalarFault}
 use Rattle.reflect_scalar.specs.Singles.{Single}
 use Rattle.reflect_scalar.proofs.Meanings.{form_of_meaning, meaning_refused, unread_means_nothing}
 use Rattle.reflect_decode.specs.Packed.{IsPacked, PackedFault}
 use Rattle.reflect_decode.proofs.Packing.{no_row}
 
 -- bytes that go on end no number
-goes_on : (bytes front rest : List ℕ) (n : ℕ) → GoOn bytes → Spells front n → bytes ≡ front ++ rest → ⊥
+goes_on : (bytes front rest : List ℕ) (n : ℕ) → GoOn bytes → SpellsVarint front n → bytes ≡ front ++ rest → ⊥
 goes_on bytes [] rest n on h e = h
 goes_on [] (b ∷ front) rest n on h e = absurd (cc e)
 goes_on (c ∷ bytes) (b ∷ front) rest n on (inl last) e = let same : c ≡ b = cc in omega (arith, on.0, last.0, same)
 goes_on (c ∷ bytes) (b ∷ front) rest n on (inr more) e = let tails : bytes ≡ front ++ rest = cc in goes_on bytes front rest more.1.0 on.1 more.1.2 tails
 
-overlong : (long front x y : List ℕ) (n : ℕ) → GoOn long → length front ≤ length long → Spells front n → long ++ x ≡ front ++ y → ⊥
+overlong : (long front x y : List ℕ) (n : ℕ) → GoOn long → length front ≤ length long → SpellsVarint front n → long ++ x ≡ front ++ y → ⊥
 overlong long [] x y n on short h e = h
 overlong [] (b ∷ front) x y n on short h e = omega (arith, short)
 overlong (c ∷ long) (b ∷ front) x y n on short (inl last) e = let same : c ≡ b = cc in omega (arith, on.0, last.0, same)
@@ -68,7 +68,7 @@ no_payload_there bytes front rest e (delimited p) fault h is = no_delimited_ther
 no_payload_there bytes front rest e (group rs) fault h is = omega (arith, h.0)
 no_payload_there bytes front rest e (fixed32 n) fault h is = too_short 4 bytes front rest e fault h.0 is
 
-no_plain : (wire : WireType) (bytes : List ℕ) (e : WireError) → PlainFault wire bytes e → NoFront (IsPlain wire) bytes
+no_plain : (wire : WireType) (bytes : List ℕ) (e : WireError) → PlainFault wire bytes e → NoFront (IsPlainPayload wire) bytes
 no_plain wire bytes e fault front rest p h is = no_payload_there bytes front rest e p (subst (λ w. PlainFault w bytes e) h.0 fault) h.1 is
 
 plain_refused : (kind : Kind) (wire : WireType) (bytes : List ℕ) (e : WireError) → PlainFault wire bytes e → NoFront (IsScalar kind wire) bytes

@@ -16,7 +16,7 @@ use Rattle.reflect_pool.specs.declared.field.FieldDescriptor.{FieldDescriptor}
 use Rattle.reflect_pool.specs.declared.message.MessageDescriptor.{MessageDescriptor}
 use Rattle.reflect_scalar.specs.FieldTypes.{extension_type}
 use Rattle.reflect_tables.specs.Types.{FieldType, extension_at}
-use Rattle.message_view.specs.Shaped.{Fits, HasShape, IsShaped}
+use Rattle.message_view.specs.Shaped.{FitsShaped, HasShape, IsShaped}
 use Rattle.message_view.specs.Sound.{IsFieldNumber, IsNotKept, IsSound}
 use Rattle.message_view.proofs.Deeper.{whole_shape}
 use Rattle.message_view.proofs.Fields.{extension_owned, its_place, owned}
@@ -104,7 +104,7 @@ module _ (inner : DynamicMessage → Type 0) (d : MessageDescriptor) (sound : Is
   pub field_shaped : (f : FieldDescriptor) → Owns d f → (old new : Content) → IsShaped inner d old
       → new.extensions ≡ old.extensions → new.unknown ≡ old.unknown → IsAscending new.fields
       → ((n : ℕ) → n ≢ (field_type f).number → StaysOrGoes old.fields new.fields n)
-      → ((v : Value) → value_at new.fields (field_type f).number ≡ Some v → Fits inner d.pool.now (field_type f) v)
+      → ((v : Value) → value_at new.fields (field_type f).number ≡ Some v → FitsShaped inner d.pool.now (field_type f) v)
       → IsShaped inner d new
   field_shaped f owns old new shape same_extensions same_unknown ascending others here = record {
     ordered = field_ordered (field_type f).number (field_number f owns) old new same_unknown same_extensions (λ h. ascending) others shape.ordered;
@@ -114,17 +114,17 @@ module _ (inner : DynamicMessage → Type 0) (d : MessageDescriptor) (sound : Is
     unowned = λ n none. unowned n none (others n (λ e. none f owns (sym e)));
     declared = λ n is. ap (payloads n) same_unknown ∙ shape.declared n is;
   } where
-    each_field : (g : FieldDescriptor) → Owns d g → (v : Value) → value_at new.fields (field_type g).number ≡ Some v → Fits inner d.pool.now (field_type g) v
+    each_field : (g : FieldDescriptor) → Owns d g → (v : Value) → value_at new.fields (field_type g).number ≡ Some v → FitsShaped inner d.pool.now (field_type g) v
     each_field g own v at = by ((field_type g).number == (field_type f).number) refl where
-      kept : StaysOrGoes old.fields new.fields (field_type g).number → Fits inner d.pool.now (field_type g) v
+      kept : StaysOrGoes old.fields new.fields (field_type g).number → FitsShaped inner d.pool.now (field_type g) v
       kept (inl same) = shape.fields g own v (sym same ∙ at)
       kept (inr none) = absurd (cc (sym at ∙ none))
 
-      by : (b : Bool) → ((field_type g).number == (field_type f).number) ≡ b → Fits inner d.pool.now (field_type g) v
+      by : (b : Bool) → ((field_type g).number == (field_type f).number) ≡ b → FitsShaped inner d.pool.now (field_type g) v
       by true e =
           let same : (field_type g).number ≡ (field_type f).number = grind (arith, e) in
           let one : field_type f ≡ field_type g = cc (sym (owned d f owns) ∙ ap (known_field d.pool.now d.index) (sym same) ∙ owned d g own) in
-          subst (λ (t : FieldType). Fits inner d.pool.now t v) one (here v (ap (value_at new.fields) (sym same) ∙ at))
+          subst (λ (t : FieldType). FitsShaped inner d.pool.now t v) one (here v (ap (value_at new.fields) (sym same) ∙ at))
       by false e = kept (others (field_type g).number (λ same. grind (arith, e, same)))
 
     unowned : (n : ℕ) → NoField d n → StaysOrGoes old.fields new.fields n → value_at new.fields n ≡ None
@@ -135,7 +135,7 @@ module _ (inner : DynamicMessage → Type 0) (d : MessageDescriptor) (sound : Is
   pub extension_shaped : (x : ExtensionDescriptor) → OwnsExtension d x → (old new : Content) → IsShaped inner d old
       → new.fields ≡ old.fields → new.unknown ≡ old.unknown → (given : Option Value)
       → Updates old.extensions new.extensions (extension_type x).number given
-      → ((v : Value) → given ≡ Some v → Fits inner d.pool.now (extension_type x) v)
+      → ((v : Value) → given ≡ Some v → FitsShaped inner d.pool.now (extension_type x) v)
       → IsShaped inner d new
   extension_shaped x extends old new shape same_fields same_unknown given updates fits = record {
     ordered = extension_ordered (extension_type x).number (extension_number x extends) old new same_unknown same_fields (λ h. updates.ascending) updates.others shape.ordered;
@@ -146,13 +146,13 @@ module _ (inner : DynamicMessage → Type 0) (d : MessageDescriptor) (sound : Is
     declared = λ n is. ap (payloads n) same_unknown ∙ shape.declared n is;
   } where
     each_extension : (y : ExtensionDescriptor) → OwnsExtension d y → known_field d.pool.now d.index (extension_type y).number ≡ None
-        → (v : Value) → value_at new.extensions (extension_type y).number ≡ Some v → Fits inner d.pool.now (extension_type y) v
+        → (v : Value) → value_at new.extensions (extension_type y).number ≡ Some v → FitsShaped inner d.pool.now (extension_type y) v
     each_extension y own none v at = by ((extension_type y).number == (extension_type x).number) refl where
-      by : (b : Bool) → ((extension_type y).number == (extension_type x).number) ≡ b → Fits inner d.pool.now (extension_type y) v
+      by : (b : Bool) → ((extension_type y).number == (extension_type x).number) ≡ b → FitsShaped inner d.pool.now (extension_type y) v
       by true e =
           let same : (extension_type y).number ≡ (extension_type x).number = grind (arith, e) in
           let one : extension_type x ≡ extension_type y = cc (sym (extension_owned d x extends) ∙ ap (known_extension d.pool.now d.index) (sym same) ∙ extension_owned d y own) in
-          subst (λ (t : FieldType). Fits inner d.pool.now t v) one (fits v (sym updates.here ∙ ap (value_at new.extensions) (sym same) ∙ at))
+          subst (λ (t : FieldType). FitsShaped inner d.pool.now t v) one (fits v (sym updates.here ∙ ap (value_at new.extensions) (sym same) ∙ at))
       by false e = shape.extensions y own none v (sym (updates.others (extension_type y).number (λ same. grind (arith, e, same))) ∙ at)
 
 -- what set, cleared and taken fields and extensions leave
@@ -161,23 +161,23 @@ module _ (inner : DynamicMessage → Type 0) (old new : DynamicMessage) (sound :
   its_own : IsShaped inner old.descriptor (content_of new) → IsShaped inner new.descriptor (content_of new)
   its_own = subst (λ (d : MessageDescriptor). IsShaped inner d (content_of new)) (sym type)
 
-  pub set_shaped : (f : FieldDescriptor) → Owns old.descriptor f → (v : Value) → Fits inner old.descriptor.pool.now (field_type f) v
+  pub set_shaped : (f : FieldDescriptor) → Owns old.descriptor f → (v : Value) → FitsShaped inner old.descriptor.pool.now (field_type f) v
       → SetsField old new f v → IsAscending (fields_of new) → IsShaped inner new.descriptor (content_of new)
   set_shaped f owns v fits sets ascending =
       its_own (field_shaped inner old.descriptor sound f owns (content_of old) (content_of new) shape sets.extensions sets.unknown ascending
       (others_stay f (content_of old).choices (fields_of old) (fields_of new) sets.changes)
-      (λ w at. subst (Fits inner old.descriptor.pool.now (field_type f)) (cc (sym sets.here ∙ at)) fits))
+      (λ w at. subst (FitsShaped inner old.descriptor.pool.now (field_type f)) (cc (sym sets.here ∙ at)) fits))
 
   pub unset_shaped : (f : FieldDescriptor) → Owns old.descriptor f → UpdatesField old new (field_type f).number None → IsShaped inner new.descriptor (content_of new)
   unset_shaped f owns updates =
       its_own (field_shaped inner old.descriptor sound f owns (content_of old) (content_of new) shape updates.extensions updates.unknown updates.field.ascending
       (λ n apart. inl (updates.field.others n apart)) (λ w at. absurd (cc (sym updates.field.here ∙ at))))
 
-  pub set_extension_shaped : (x : ExtensionDescriptor) → OwnsExtension old.descriptor x → (v : Value) → Fits inner old.descriptor.pool.now (extension_type x) v
+  pub set_extension_shaped : (x : ExtensionDescriptor) → OwnsExtension old.descriptor x → (v : Value) → FitsShaped inner old.descriptor.pool.now (extension_type x) v
       → UpdatesExtension old new (extension_type x).number (Some v) → IsShaped inner new.descriptor (content_of new)
   set_extension_shaped x extends v fits updates =
       its_own (extension_shaped inner old.descriptor sound x extends (content_of old) (content_of new) shape updates.fields updates.unknown (Some v) updates.extension
-      (λ w is. subst (Fits inner old.descriptor.pool.now (extension_type x)) (cc is) fits))
+      (λ w is. subst (FitsShaped inner old.descriptor.pool.now (extension_type x)) (cc is) fits))
 
   pub unset_extension_shaped : (x : ExtensionDescriptor) → OwnsExtension old.descriptor x → UpdatesExtension old new (extension_type x).number None → IsShaped inner new.descriptor (content_of new)
   unset_extension_shaped x extends updates =

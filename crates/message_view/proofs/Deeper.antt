@@ -9,7 +9,7 @@ use Rattle.reflect_pool.specs.Shapes.{holds_list, holds_map}
 use Rattle.reflect_pool.specs.declared.message.MessageDescriptor.{MessageDescriptor}
 use Rattle.reflect_scalar.specs.FieldTypes.{extension_type}
 use Rattle.reflect_tables.specs.Types.{FieldType, PoolType}
-use Rattle.message_view.specs.Shaped.{Exclusive, Fits, FitsAs, FitsEntry, FitsOne, HasShape, IsShaped, Shaped}
+use Rattle.message_view.specs.Shaped.{Exclusive, FitsShaped, FitsAs, FitsEntry, FitsOne, HasShape, IsShaped, Shaped}
 
 -- where less is asked of the messages inside
 module _ (inner outer : DynamicMessage → Type 0)
@@ -33,8 +33,8 @@ module _ (inner outer : DynamicMessage → Type 0)
       (vs, is, all_map (FitsOne inner pool f) (FitsOne outer pool f) vs (one_weaker pool f) all)
   as_weaker pool f false false v fits = one_weaker pool f v fits
 
-  fits_weaker : (pool : PoolType) (f : FieldType) (v : Value) → Fits inner pool f v
-      → Fits outer pool f v
+  fits_weaker : (pool : PoolType) (f : FieldType) (v : Value) → FitsShaped inner pool f v
+      → FitsShaped outer pool f v
   fits_weaker pool f v fits = as_weaker pool f (holds_map pool f) (holds_list pool f) v fits
 
   shape_weaker : (d : MessageDescriptor) (c : Content) → IsShaped inner d c → IsShaped outer d c
@@ -87,8 +87,8 @@ deeper_shape false levels deeper le = shaped_deeper levels deeper le
 
 module _ (exclusive : Bool) (levels deeper : ℕ) (le : levels ≤ deeper) (pool : PoolType)
     (f : FieldType) (v : Value) where
-  pub deeper_fits : Fits (HasShape exclusive levels) pool f v
-      → Fits (HasShape exclusive deeper) pool f v
+  pub deeper_fits : FitsShaped (HasShape exclusive levels) pool f v
+      → FitsShaped (HasShape exclusive deeper) pool f v
   deeper_fits fits =
       fits_weaker (HasShape exclusive levels) (HasShape exclusive deeper)
       (deeper_shape exclusive levels deeper le) pool f v fits

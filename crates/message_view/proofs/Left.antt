@@ -17,7 +17,7 @@ use Rattle.reflect_message.specs.Oneofs.{AreChosen}
 use Rattle.reflect_message.specs.Names.{Value}
 use Rattle.reflect_decode.specs.Fields.{LeavesField, LeavesExtension}
 use Rattle.reflect_decode.specs.Keeps as keeps
-use Rattle.reflect_decode.specs.Keeps.{Keeps}
+use Rattle.reflect_decode.specs.Keeps.{KeepsUndeclared}
 use Rattle.reflect_decode.specs.Levels.{TakenAt, TakesAt}
 use Rattle.reflect_decode.specs.Messages.{Takes, AreInside, IsInside, IsEntryBody}
 use Rattle.reflect_decode.specs.Spares.{Merges}
@@ -90,7 +90,7 @@ module _ (pool : PoolType) (keyed_maps : HaveMapKeys pool) (defaults : HaveEntry
 
 -- what records leave in a message where nothing stood
 pub record AreLeft (takes : Takes) (d : MessageDescriptor) (c : Content) (rs : List (ℕ × Payload)) : Type 0 where
-  pub unknown : Keeps d [] c.unknown rs
+  pub unknown : KeepsUndeclared d [] c.unknown rs
   pub fields : (f : FieldDescriptor) → Owns d f → LeavesField takes d f None (value_at c.fields (field_type f).number) rs
   pub extensions : (x : ExtensionDescriptor) → OwnsExtension d x → LeavesExtension takes d x None (value_at c.extensions (extension_type x).number) rs
 

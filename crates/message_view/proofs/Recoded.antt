@@ -18,7 +18,7 @@ use Rattle.reflect_message.specs.Declares.{NoField, OwnsExtension}
 use Rattle.reflect_message.specs.Names.{Value, DynamicMessage}
 use Rattle.reflect_message.specs.Oneofs.{IsExclusive}
 use Rattle.reflect_decode.specs.Fields.{HoldFields, LeavesExtension}
-use Rattle.reflect_decode.specs.Keeps.{Keeps}
+use Rattle.reflect_decode.specs.Keeps.{KeepsUndeclared}
 use Rattle.reflect_decode.specs.Spares.{HoldsRead, NoExtension}
 use Rattle.reflect_message.specs.Contents.{content_of}
 use Rattle.reflect_decode.specs.Levels.{TakesAt}
@@ -149,8 +149,8 @@ nothing_recoded d m type empty = record {
   none_read : (nowhere : ℕ → Type 0) (es : List (ℕ × Value)) → es ≡ [] → HoldsRead nowhere es []
   none_read nowhere es e n spared = none_at es e n
 
-  keeps_nothing : Keeps d [] (content_of m).unknown []
-  keeps_nothing = subst (λ rs. Keeps d [] rs []) (sym (ap (λ (c : contents.Content). c.unknown) empty)) (record { behind = λ n u. refl; declared = λ n u. refl; others = λ n u. refl })
+  keeps_nothing : KeepsUndeclared d [] (content_of m).unknown []
+  keeps_nothing = subst (λ rs. KeepsUndeclared d [] rs []) (sym (ap (λ (c : contents.Content). c.unknown) empty)) (record { behind = λ n u. refl; declared = λ n u. refl; others = λ n u. refl })
 
   fields_left : HoldFields (TakesAt 100) d (content_of m).fields []
   fields_left f owns = inl ((λ n sibling. refl), none_at (content_of m).fields (ap (λ (c : contents.Content). c.fields) empty) (field_type f).number)

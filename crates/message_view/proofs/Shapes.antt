@@ -29,7 +29,7 @@ use Rattle.reflect_message.specs.Oneofs.{AreChosen}
 use Rattle.reflect_message.specs.Singles as singles
 use Rattle.reflect_message.specs.Names.{DynamicMessage, Value}
 use Rattle.reflect_decode.specs.Fields.{LeavesExtension, LeavesField}
-use Rattle.reflect_decode.specs.Keeps.{Keeps}
+use Rattle.reflect_decode.specs.Keeps.{KeepsUndeclared}
 use Rattle.reflect_decode.specs.Keeps as keeps
 use Rattle.reflect_decode.specs.Levels.{MergesAt, TakenAt, TakesAt}
 use Rattle.reflect_decode.specs.Maps.{LeavesValue, IsEntry, PutEntries, ContinuesMap}
@@ -47,7 +47,7 @@ use Rattle.message_view.proofs.Changed.{empty_shaped}
 use Rattle.message_view.proofs.Deeper.{one_level, whole_shape}
 use Rattle.message_view.proofs.Fields.{owned_whole, extension_whole, none_owned}
 use Rattle.message_view.proofs.Oneofs.{payloads_same}
-use Rattle.message_view.specs.Shaped.{Fits, FitsAs, FitsOne, HasShape, IsShaped}
+use Rattle.message_view.specs.Shaped.{FitsShaped, FitsAs, FitsOne, HasShape, IsShaped}
 
 -- of a value as one
 one_plain : (inner : DynamicMessage → Type 0) (pool : PoolType) (f : FieldType) (v : Value) (w : held.Single) → IsScalarType f.kind → singles.single v ≡ Some w → FitsOne inner pool f v
@@ -59,9 +59,9 @@ one_nested inner pool f v m type is kind fits = record { plain = λ also. absurd
 -- what is held, if anything is, suits the field
 abbrev HeldFits : (DynamicMessage → Type 0) → PoolType → FieldType → Option Value → Type 0
 HeldFits inner pool f None = Unit {0}
-HeldFits inner pool f (Some v) = Fits inner pool f v
+HeldFits inner pool f (Some v) = FitsShaped inner pool f v
 
-held_fits : (inner : DynamicMessage → Type 0) (pool : PoolType) (f : FieldType) (o : Option Value) → ((v : Value) → o ≡ Some v → Fits inner pool f v) → HeldFits inner pool f o
+held_fits : (inner : DynamicMessage → Type 0) (pool : PoolType) (f : FieldType) (o : Option Value) → ((v : Value) → o ≡ Some v → FitsShaped inner pool f v) → HeldFits inner pool f o
 held_fits inner pool f None fits = tt
 held_fits inner pool f (Some v) fits = fits v refl
 
@@ -131,7 +131,7 @@ module _ (takes : Takes) (suits : Suiting) (inner : DynamicMessage → Type 0) (
         value_one g v (keeps.payloads 2 rs) (subst (λ g. LeavesValue takes pool g v (keeps.payloads 2 rs)) same value_left)
 
   -- a field that holds a value, behind what it held
-  field_fits : (f : FieldType) (old : Option Value) (v : Value) (ps : List Payload) → holds_floats pool f ≡ false → HeldFits inner pool f old → HeldSuits suits pool f old → Leaves takes pool f old (Some v) ps → Fits inner pool f v
+  field_fits : (f : FieldType) (old : Option Value) (v : Value) (ps : List Payload) → holds_floats pool f ≡ false → HeldFits inner pool f old → HeldSuits suits pool f old → Leaves takes pool f old (Some v) ps → FitsShaped inner pool f v
   field_fits f old v [] whole fits suited h = subst (HeldFits inner pool f) (sym h) fits
   field_fits f old v (p ∷ ps) whole fits suited h = by (holds_map pool f) refl (holds_list pool f) refl (sort_of f.kind) where
     -- the entries that stood there, and the items
@@ -187,7 +187,7 @@ module _ (takes : Takes) (suits : Suiting) (inner : DynamicMessage → Type 0) (
 pub record AreKept (takes : Takes) (d : MessageDescriptor) (old new : Content) (rs : List (ℕ × Payload)) : Type 0 where
   pub fields : (f : FieldDescriptor) → Owns d f → LeavesField takes d f (value_at old.fields (field_type f).number) (value_at new.fields (field_type f).number) rs
   pub extensions : (x : ExtensionDescriptor) → OwnsExtension d x → LeavesExtension takes d x (value_at old.extensions (extension_type x).number) (value_at new.extensions (extension_type x).number) rs
-  pub unknown : Keeps d old.unknown new.unknown rs
+  pub unknown : KeepsUndeclared d old.unknown new.unknown rs
   pub apart : (f : FieldDescriptor) → Owns d f → value_at new.extensions (field_type f).number ≡ None
   pub unowned : (n : ℕ) → NoField d n → value_at new.fields n ≡ None
   pub ordered : IsOrdered new
@@ -207,7 +207,7 @@ merged_kept takes inner d old new rs shape chosen h = record {
 
 module _ (takes : Takes) (suits : Suiting) (shape : DynamicMessage → Type 0) (makes : Makes takes suits shape) (d : MessageDescriptor) (old new : Content) (rs : List (ℕ × Payload))
     (before : IsShaped shape d old) (suited : SuitsBy suits d old) (kept : AreKept takes d old new rs) where
-  field_left : (f : FieldDescriptor) → Owns d f → (v : Value) → LeavesField takes d f (value_at old.fields (field_type f).number) (Some v) rs → Fits shape d.pool.now (field_type f) v
+  field_left : (f : FieldDescriptor) → Owns d f → (v : Value) → LeavesField takes d f (value_at old.fields (field_type f).number) (Some v) rs → FitsShaped shape d.pool.now (field_type f) v
   field_left f owns v (inl h) =
       let g = field_type f in
       let o = value_at old.fields g.number in
@@ -219,11 +219,11 @@ module _ (takes : Takes) (suits : Suiting) (shape : DynamicMessage → Type 0) (
       field_fits takes suits shape makes d.pool.now g None v (keeps.payloads g.number h.1) (owned_whole d f owns) tt tt
       (subst (λ p. Leaves takes p g None (Some v) (keeps.payloads g.number h.1)) owns.0.1 h.6)
 
-  fits_field : (f : FieldDescriptor) → Owns d f → (v : Value) → value_at new.fields (field_type f).number ≡ Some v → Fits shape d.pool.now (field_type f) v
+  fits_field : (f : FieldDescriptor) → Owns d f → (v : Value) → value_at new.fields (field_type f).number ≡ Some v → FitsShaped shape d.pool.now (field_type f) v
   fits_field f owns v at = field_left f owns v (subst (λ o. LeavesField takes d f (value_at old.fields (field_type f).number) o rs) at (kept.fields f owns))
 
   fits_extension : (x : ExtensionDescriptor) → OwnsExtension d x → known_field d.pool.now d.index (extension_type x).number ≡ None → (v : Value) → value_at new.extensions (extension_type x).number ≡ Some v
-      → Fits shape d.pool.now (extension_type x) v
+      → FitsShaped shape d.pool.now (extension_type x) v
   fits_extension x owns none v at =
       let g = extension_type x in
       let o = value_at old.extensions g.number in

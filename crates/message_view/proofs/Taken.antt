@@ -12,7 +12,7 @@ use Rattle.reflect_pool.specs.declared.message.MessageDescriptor.{MessageDescrip
 use Rattle.reflect_scalar.specs.FieldTypes.{extension_type}
 use Rattle.reflect_tables.specs.Types.{FieldType}
 use Rattle.reflect_wire.specs.Records.{Payload}
-use Rattle.message_view.specs.Shaped.{Fits, IsShaped}
+use Rattle.message_view.specs.Shaped.{FitsShaped, IsShaped}
 use Rattle.message_view.specs.Taken.{AllOrNothing, TakesOut}
 
 -- what holds of all that was held, and of nothing, holds of what is left
@@ -45,7 +45,7 @@ module _ (old new : DynamicMessage) (taken : TakesOut old new) where
     -- what stands under a field's number suits it
     abbrev Here : FieldType → List (ℕ × Value) → Type 0
     Here f es = (v : Value) → value_at es f.number ≡ Some v
-        → Fits inner old.descriptor.pool.now f v
+        → FitsShaped inner old.descriptor.pool.now f v
 
     none_here : (f : FieldType) → Here f []
     none_here f v at = absurd (cc at)

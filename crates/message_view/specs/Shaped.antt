@@ -48,8 +48,8 @@ FitsAs inner pool f false true v =
 FitsAs inner pool f false false v = FitsOne inner pool f v
 
 -- all that a field holds suits it
-abbrev pub Fits : (DynamicMessage → Type 0) → PoolType → FieldType → Value → Type 0
-Fits inner pool f v = FitsAs inner pool f (holds_map pool f) (holds_list pool f) v
+abbrev pub FitsShaped : (DynamicMessage → Type 0) → PoolType → FieldType → Value → Type 0
+FitsShaped inner pool f v = FitsAs inner pool f (holds_map pool f) (holds_list pool f) v
 
 -- what a message holds suits the fields of its type and those that extend it, stands by ascending
 -- numbers, and nothing else stands under their numbers
@@ -58,11 +58,11 @@ pub record IsShaped (inner : DynamicMessage → Type 0) (d : MessageDescriptor)
   pub ordered : IsOrdered c
   pub fields : (f : FieldDescriptor) → Owns d f
       → (v : Value) → value_at c.fields (field_type f).number ≡ Some v
-      → Fits inner d.pool.now (field_type f) v
+      → FitsShaped inner d.pool.now (field_type f) v
   pub extensions : (x : ExtensionDescriptor) → OwnsExtension d x
       → known_field d.pool.now d.index (extension_type x).number ≡ None
       → (v : Value) → value_at c.extensions (extension_type x).number ≡ Some v
-      → Fits inner d.pool.now (extension_type x) v
+      → FitsShaped inner d.pool.now (extension_type x) v
   pub apart : (f : FieldDescriptor) → Owns d f → value_at c.extensions (field_type f).number ≡ None
   pub unowned : (n : ℕ) → NoField d n → value_at c.fields n ≡ None
   pub declared : (n : ℕ) → IsDeclared d n → payloads n c.unknown ≡ []

@@ -23,7 +23,7 @@ ghost use Rattle.reflect_tables.specs.Types.{FieldType, PoolType};
 ghost use Rattle.reflect_wire.specs.Written.{AreBytes};
 ghost use Rattle.reflect_wire.specs.declared.wire_error.WireError.{WireError};
 ghost use Rattle.reflect_wire.specs.declared.wire_error.WireError.TheVariants.{Memory};
-ghost use Rattle.message_view.specs.Shaped.{Exclusive, Fits, FitsOne, HasShape, IsInShape, IsShaped, Shaped};
+ghost use Rattle.message_view.specs.Shaped.{Exclusive, FitsShaped, FitsOne, HasShape, IsInShape, IsShaped, Shaped};
 ghost use Rattle.message_view.specs.Sound.{IsSound};
 ghost use Rattle.message_view.specs.Taken.{TakesOut};
 ghost use Rattle.message_view.specs.Types.{name_at, types_of};
@@ -88,7 +88,8 @@ pub fn messages_in_shape_may_be_deeper()
 pub fn values_that_fit_may_be_deeper()
     ensures { (exclusive : Bool) (levels deeper : ℕ) → levels ≤ deeper
         → (pool : PoolType) (f : FieldType) (v : Value)
-        → Fits (HasShape exclusive levels) pool f v → Fits (HasShape exclusive deeper) pool f v }
+        → FitsShaped (HasShape exclusive levels) pool f v
+        → FitsShaped (HasShape exclusive deeper) pool f v }
 {}
 
 /// The same of a value that suits it as one.
@@ -116,7 +117,8 @@ pub fn set_fields_leave_the_shape()
         → IsSound old.descriptor.pool.now → new.descriptor ≡ old.descriptor
         → IsShaped (HasShape exclusive levels) old.descriptor (content_of old)
         → (f : FieldDescriptor) → Owns old.descriptor f
-        → (v : Value) → Fits (HasShape exclusive levels) old.descriptor.pool.now (field_type f) v
+        → (v : Value)
+        → FitsShaped (HasShape exclusive levels) old.descriptor.pool.now (field_type f) v
         → SetsField old new f v → IsAscending (fields_of new)
         → IsShaped (HasShape exclusive levels) new.descriptor (content_of new) }
 {}
@@ -138,7 +140,7 @@ pub fn set_extensions_leave_the_shape()
         → IsShaped (HasShape exclusive levels) old.descriptor (content_of old)
         → (x : ExtensionDescriptor) → OwnsExtension old.descriptor x
         → (v : Value)
-        → Fits (HasShape exclusive levels) old.descriptor.pool.now (extension_type x) v
+        → FitsShaped (HasShape exclusive levels) old.descriptor.pool.now (extension_type x) v
         → UpdatesExtension old new (extension_type x).number (Some v)
         → IsShaped (HasShape exclusive levels) new.descriptor (content_of new) }
 {}

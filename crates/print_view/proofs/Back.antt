@@ -13,7 +13,7 @@ use Rattle.reflect_format.specs.Filled.{Fills, Makes}
 use Rattle.reflect_format.specs.Unfit.{CannotMake, Unfit}
 use Rattle.reflect_print.specs.MessageTexts.{IsMessageText}
 use Rattle.text_lines.specs.declared.options.FormatOptions.{FormatOptions}
-use Rattle.text_model.specs.Forms.{Form, IsOwn}
+use Rattle.text_model.specs.Forms.{Form, ShowsSet}
 use Rattle.text_model.specs.Plain.{IsPlain}
 use Rattle.text_model.specs.Printed.{printed}
 use Rattle.text_model.specs.Schemas.{Schema}
@@ -44,7 +44,7 @@ module _ (options : FormatOptions) (tells : TellsSet options) (decoded : Name â†
   abbrev form : Form
   form = form_of options
 
-  own : IsOwn form
+  own : ShowsSet form
   own = record { set = ap not tells.set; unexpanded = tells.fields.unexpanded }
 
   abbrev t : Name

@@ -7,7 +7,7 @@ use Rattle.std.proofs.lemmas.List.{length-append}
 use Rattle.std.proofs.lemmas.Result.{on_ok_weaker}
 use Rattle.std.specs.List.{flat_map, fold}
 use Rattle.std.specs.Prelude.{if◌then◌else◌, is_some, OnOk, Result}
-use Rattle.protox_aggregates.specs.BraceTexts.{Writes, text_by, text_of, text_up_to, token_in, with_token, with_tokens}
+use Rattle.protox_aggregates.specs.BraceTexts.{WritesTokens, text_by, text_of, text_up_to, token_in, with_token, with_tokens}
 use Rattle.protox_lex.specs.Class.{Text}
 use Rattle.protox_lex.specs.Token.{Token, ident, int, float, str, sign, comment, token_at, fault_at}
 use Rattle.protox_lex.specs.contracts.token.Sign.{the_type}
@@ -19,13 +19,13 @@ use Rattle.protox_tokens.specs.Refusal.{this}
 use Rattle.protox_tokens.specs.Stream.{Piece, piece, last, Seen, Stream, look, peek, tail, text}
 use denote.Enum.Bare.{same_true}
 
-pub writes_none : (s : Stream) (t : Text) → Writes s t s t
+pub writes_none : (s : Stream) (t : Text) → WritesTokens s t s t
 writes_none s t = record { tokens = []; passed = refl; written = refl }
 
 with_tokens-append : (t : Text) (xs ys : Stream) → with_tokens t (xs ++ ys) ≡ with_tokens (with_tokens t xs) ys
 with_tokens-append t xs ys = ap (fold with_token t) (flat_map-append token_in xs ys) ∙ fold-append with_token t (flat_map token_in xs) (flat_map token_in ys)
 
-pub writes_then : {a b c : Stream} {t u v : Text} → Writes a t b u → Writes b u c v → Writes a t c v
+pub writes_then : {a b c : Stream} {t u v : Text} → WritesTokens a t b u → WritesTokens b u c v → WritesTokens a t c v
 writes_then {c = c} {t = t} x y = record {
   tokens = x.tokens ++ y.tokens;
   passed = x.passed ∙ ap (λ s. x.tokens ++ s) y.passed ∙ sym (append_assoc x.tokens y.tokens c);
@@ -33,7 +33,7 @@ writes_then {c = c} {t = t} x y = record {
 }
 
 -- the same, where the second may be refused
-pub then_ok : {E : Type 0} {a b : Stream} {t u : Text} (c : Stream) (v : Text) (r : Result (Unit {0}) E) → Writes a t b u → OnOk r (Writes b u c v) → OnOk r (Writes a t c v)
+pub then_ok : {E : Type 0} {a b : Stream} {t u : Text} (c : Stream) (v : Text) (r : Result (Unit {0}) E) → WritesTokens a t b u → OnOk r (WritesTokens b u c v) → OnOk r (WritesTokens a t c v)
 then_ok c v r x h = on_ok_weaker r (writes_then x) h
 
 -- ---- one token
@@ -46,14 +46,14 @@ abbrev pair_of : {A : Type 0} → A × Stream → Outcome A → A × Stream
 pair_of d (Ok x) = x
 pair_of d (Err f) = d
 
-by_piece : (p : Piece) (r : Stream) (t : Text) (k : Token) (at : Span) → look text p ≡ Some (k, at) → Writes (p ∷ r) t r (with_token t k)
+by_piece : (p : Piece) (r : Stream) (t : Text) (k : Token) (at : Span) → look text p ≡ Some (k, at) → WritesTokens (p ∷ r) t r (with_token t k)
 by_piece (last s) r t k at e = absurd (cc)
 by_piece (piece h (fault_at f a b)) r t k at e = absurd (cc)
 by_piece (piece h (token_at a b j)) r t k at e =
     let is : j ≡ k = ap (token_seen j) e in
     record { tokens = piece h (token_at a b j) ∷ []; passed = refl; written = ap (with_token t) (sym is) }
 
-pub writes_seen : (ts : Stream) (t : Text) (k : Token) (at : Span) → peek text ts ≡ Some (k, at) → Writes ts t (tail ts) (with_token t k)
+pub writes_seen : (ts : Stream) (t : Text) (k : Token) (at : Span) → peek text ts ≡ Some (k, at) → WritesTokens ts t (tail ts) (with_token t k)
 writes_seen [] t k at e = absurd (cc)
 writes_seen (p ∷ r) t k at e = by_piece p r t k at e
 
@@ -73,11 +73,11 @@ saw_sign (Some x) k at e = by (same x.0 (sign k)) refl e where
   by true h e = (x.1, ap (λ j. Some (j, x.1)) (same_sign x.0 k h))
   by false h e = absurd (cc)
 
-writes_saw : (ts : Stream) (t : Text) (k : Sign) (o : Option Span) (at : Span) → saw text (sign k) ts ≡ o → o ≡ Some at → Writes ts t (tail ts) (with_token t (sign k))
+writes_saw : (ts : Stream) (t : Text) (k : Sign) (o : Option Span) (at : Span) → saw text (sign k) ts ≡ o → o ≡ Some at → WritesTokens ts t (tail ts) (with_token t (sign k))
 writes_saw ts t k o at e h = let found = saw_sign (peek text ts) k at (e ∙ h) in writes_seen ts t (sign k) found.0 found.1
 
 -- a sign that was passed, or not
-passed_by : (ts r : Stream) (t : Text) (k : Sign) (o : Option Span) → saw text (sign k) ts ≡ o → and_then (eaten o ts) (λ x. pure (is_some x)) ≡ Ok (true, r) → Writes ts t r (with_token t (sign k))
+passed_by : (ts r : Stream) (t : Text) (k : Sign) (o : Option Span) → saw text (sign k) ts ≡ o → and_then (eaten o ts) (λ x. pure (is_some x)) ≡ Ok (true, r) → WritesTokens ts t r (with_token t (sign k))
 passed_by ts r t k None e h =
     let no : false ≡ true = ap (λ o. (pair_of {A = Bool} (true, r) o).0) h in
     absurd (cc)
@@ -85,11 +85,11 @@ passed_by ts r t k (Some at) e h =
     let rest : tail ts ≡ r = ap (λ o. (pair_of {A = Bool} (true, r) o).1) h in
     rw (← rest) (writes_saw ts t k (Some at) at e refl)
 
-pub writes_passed : (ts r : Stream) (t : Text) (k : Sign) → pass_in text (sign k) ts ≡ Ok (true, r) → Writes ts t r (with_token t (sign k))
+pub writes_passed : (ts r : Stream) (t : Text) (k : Sign) → pass_in text (sign k) ts ≡ Ok (true, r) → WritesTokens ts t r (with_token t (sign k))
 unfolding eat_in
 writes_passed ts r t k e = passed_by ts r t k (saw text (sign k) ts) refl e
 
-unpassed_by : (ts r : Stream) (t : Text) (o : Option Span) → and_then (eaten o ts) (λ x. pure (is_some x)) ≡ Ok (false, r) → Writes ts t r t
+unpassed_by : (ts r : Stream) (t : Text) (o : Option Span) → and_then (eaten o ts) (λ x. pure (is_some x)) ≡ Ok (false, r) → WritesTokens ts t r t
 unpassed_by ts r t None h =
     let rest : ts ≡ r = ap (λ o. (pair_of {A = Bool} (false, r) o).1) h in
     rw (← rest) (writes_none ts t)
@@ -97,18 +97,18 @@ unpassed_by ts r t (Some at) h =
     let no : true ≡ false = ap (λ o. (pair_of {A = Bool} (false, r) o).0) h in
     absurd (cc)
 
-pub writes_unpassed : (ts r : Stream) (t : Text) (k : Sign) → pass_in text (sign k) ts ≡ Ok (false, r) → Writes ts t r t
+pub writes_unpassed : (ts r : Stream) (t : Text) (k : Sign) → pass_in text (sign k) ts ≡ Ok (false, r) → WritesTokens ts t r t
 unfolding eat_in
 writes_unpassed ts r t k e = unpassed_by ts r t (saw text (sign k) ts) e
 
 -- a sign that was expected
-expected_by : (ts r : Stream) (t : Text) (k : Sign) (at : Span) (o : Option Span) → saw text (sign k) ts ≡ o → taken text (this (sign k)) o ts ≡ Ok (at, r) → Writes ts t r (with_token t (sign k))
+expected_by : (ts r : Stream) (t : Text) (k : Sign) (at : Span) (o : Option Span) → saw text (sign k) ts ≡ o → taken text (this (sign k)) o ts ≡ Ok (at, r) → WritesTokens ts t r (with_token t (sign k))
 expected_by ts r t k at None e h = absurd (cc)
 expected_by ts r t k at (Some x) e h =
     let rest : tail ts ≡ r = ap (λ o. (pair_of {A = Span} (at, r) o).1) h in
     rw (← rest) (writes_saw ts t k (Some x) x e refl)
 
-pub writes_expected : (ts r : Stream) (t : Text) (k : Sign) (at : Span) → expect_in text (sign k) ts ≡ Ok (at, r) → Writes ts t r (with_token t (sign k))
+pub writes_expected : (ts r : Stream) (t : Text) (k : Sign) (at : Span) → expect_in text (sign k) ts ≡ Ok (at, r) → WritesTokens ts t r (with_token t (sign k))
 unfolding expect_in
 writes_expected ts r t k at e = expected_by ts r t k at (saw text (sign k) ts) refl e
 

@@ -34,7 +34,7 @@ abbrev pub text_by : Parser (Unit {0}) → Parser Text
 text_by p = λ ts. text_up_to ts (p ts)
 
 -- From the one place of a source to the other its tokens were put behind the text.
-pub record Writes (old : Stream) (before : Text) (new : Stream) (after : Text) : Type 0 where
+pub record WritesTokens (old : Stream) (before : Text) (new : Stream) (after : Text) : Type 0 where
   pub tokens : Stream
   pub passed : old ≡ tokens ++ new
   pub written : after ≡ with_tokens before tokens

@@ -29,7 +29,7 @@ fn add(text: &mut String, token: Token<'_>) -> Result<(), AllocError>
 /// Takes the next token, if it is this sign.
 fn eat<'a>(tokens: &mut Tokens<'a>, text: &mut String, sign: Sign) -> Result<bool, Stop<'a>>
     ensures reads { Reads (λ x. x) (spec.passes sign (stream tokens.old)) result tokens.new }
-    ensures writes { OnOk result (texts.Writes (stream tokens.old) (string_bytes text.old)
+    ensures writes { OnOk result (texts.WritesTokens (stream tokens.old) (string_bytes text.old)
         (stream tokens.new) (string_bytes text.new)) }
     ensures taken { IfOk result (λ b. b ≡ true → left tokens.new < left tokens.old) }
     ensures not { IfOk result (λ b. b ≡ false → left tokens.new ≡ left tokens.old) }
@@ -43,7 +43,7 @@ fn eat<'a>(tokens: &mut Tokens<'a>, text: &mut String, sign: Sign) -> Result<boo
 
 fn expect<'a>(tokens: &mut Tokens<'a>, text: &mut String, sign: Sign) -> Result<(), Stop<'a>>
     ensures reads { Reads (λ x. x) (spec.must sign (stream tokens.old)) result tokens.new }
-    ensures writes { OnOk result (texts.Writes (stream tokens.old) (string_bytes text.old)
+    ensures writes { OnOk result (texts.WritesTokens (stream tokens.old) (string_bytes text.old)
         (stream tokens.new) (string_bytes text.new)) }
     ensures moves { OnOk result (left tokens.new < left tokens.old) }
 {
@@ -60,7 +60,7 @@ fn ident<'a>(
 ) -> Result<(), Stop<'a>>
     ensures reads { Reads (λ x. x) (spec.an_ident_as (expected_view expected) (stream tokens.old))
         result tokens.new }
-    ensures writes { OnOk result (texts.Writes (stream tokens.old) (string_bytes text.old)
+    ensures writes { OnOk result (texts.WritesTokens (stream tokens.old) (string_bytes text.old)
         (stream tokens.new) (string_bytes text.new)) }
     ensures moves { OnOk result (left tokens.new < left tokens.old) }
 {
@@ -82,7 +82,7 @@ fn ident<'a>(
 #[tactic(auto, unfolding(crate::specs::AggregateGrammar::dotted))]
 fn full_ident<'a>(tokens: &mut Tokens<'a>, text: &mut String) -> Result<(), Stop<'a>>
     ensures reads { Reads (λ x. x) (spec.dotted (stream tokens.old)) result tokens.new }
-    ensures writes { OnOk result (texts.Writes (stream tokens.old) (string_bytes text.old)
+    ensures writes { OnOk result (texts.WritesTokens (stream tokens.old) (string_bytes text.old)
         (stream tokens.new) (string_bytes text.new)) }
     ensures moves { OnOk result (left tokens.new < left tokens.old) }
 {
@@ -97,7 +97,7 @@ fn full_ident<'a>(tokens: &mut Tokens<'a>, text: &mut String) -> Result<(), Stop
 #[tactic(auto, unfolding(crate::specs::AggregateGrammar::behind_slash))]
 fn behind_slash<'a>(tokens: &mut Tokens<'a>, text: &mut String) -> Result<(), Stop<'a>>
     ensures reads { Reads (λ x. x) (spec.behind_slash (stream tokens.old)) result tokens.new }
-    ensures writes { OnOk result (texts.Writes (stream tokens.old) (string_bytes text.old)
+    ensures writes { OnOk result (texts.WritesTokens (stream tokens.old) (string_bytes text.old)
         (stream tokens.new) (string_bytes text.new)) }
     ensures moves { OnOk result (left tokens.new ≤ left tokens.old) }
 {
@@ -111,7 +111,7 @@ fn behind_slash<'a>(tokens: &mut Tokens<'a>, text: &mut String) -> Result<(), St
 #[tactic(auto, unfolding(crate::specs::AggregateGrammar::field_name))]
 fn name<'a>(tokens: &mut Tokens<'a>, text: &mut String) -> Result<(), Stop<'a>>
     ensures reads { Reads (λ x. x) (spec.field_name (stream tokens.old)) result tokens.new }
-    ensures writes { OnOk result (texts.Writes (stream tokens.old) (string_bytes text.old)
+    ensures writes { OnOk result (texts.WritesTokens (stream tokens.old) (string_bytes text.old)
         (stream tokens.new) (string_bytes text.new)) }
     ensures moves { OnOk result (left tokens.new < left tokens.old) }
 {
@@ -136,7 +136,7 @@ fn is_string(tokens: &Tokens<'_>) -> bool
 #[tactic(auto, unfolding(crate::specs::AggregateGrammar::a_literal))]
 fn literal<'a>(tokens: &mut Tokens<'a>, text: &mut String) -> Result<(), Stop<'a>>
     ensures reads { Reads (λ x. x) (spec.a_literal (stream tokens.old)) result tokens.new }
-    ensures writes { OnOk result (texts.Writes (stream tokens.old) (string_bytes text.old)
+    ensures writes { OnOk result (texts.WritesTokens (stream tokens.old) (string_bytes text.old)
         (stream tokens.new) (string_bytes text.new)) }
     ensures moves { OnOk result (left tokens.new < left tokens.old) }
 {
@@ -159,7 +159,7 @@ fn literal<'a>(tokens: &mut Tokens<'a>, text: &mut String) -> Result<(), Stop<'a
 #[tactic(auto, unfolding(crate::specs::AggregateGrammar::literals))]
 fn strings<'a>(tokens: &mut Tokens<'a>, text: &mut String) -> Result<(), Stop<'a>>
     ensures reads { Reads (λ x. x) (spec.literals (stream tokens.old)) result tokens.new }
-    ensures writes { OnOk result (texts.Writes (stream tokens.old) (string_bytes text.old)
+    ensures writes { OnOk result (texts.WritesTokens (stream tokens.old) (string_bytes text.old)
         (stream tokens.new) (string_bytes text.new)) }
     ensures moves { OnOk result (left tokens.new < left tokens.old) }
 {
@@ -174,7 +174,7 @@ fn strings<'a>(tokens: &mut Tokens<'a>, text: &mut String) -> Result<(), Stop<'a
 #[tactic(auto, unfolding(crate::specs::AggregateGrammar::a_plain))]
 fn plain<'a>(tokens: &mut Tokens<'a>, text: &mut String) -> Result<(), Stop<'a>>
     ensures reads { Reads (λ x. x) (spec.a_plain (stream tokens.old)) result tokens.new }
-    ensures writes { OnOk result (texts.Writes (stream tokens.old) (string_bytes text.old)
+    ensures writes { OnOk result (texts.WritesTokens (stream tokens.old) (string_bytes text.old)
         (stream tokens.new) (string_bytes text.new)) }
     ensures moves { OnOk result (left tokens.new < left tokens.old) }
 {
@@ -196,7 +196,7 @@ fn plain<'a>(tokens: &mut Tokens<'a>, text: &mut String) -> Result<(), Stop<'a>>
 #[tactic(auto, unfolding(crate::specs::AggregateGrammar::scalar))]
 fn scalar<'a>(tokens: &mut Tokens<'a>, text: &mut String) -> Result<(), Stop<'a>>
     ensures reads { Reads (λ x. x) (spec.scalar (stream tokens.old)) result tokens.new }
-    ensures writes { OnOk result (texts.Writes (stream tokens.old) (string_bytes text.old)
+    ensures writes { OnOk result (texts.WritesTokens (stream tokens.old) (string_bytes text.old)
         (stream tokens.new) (string_bytes text.new)) }
     ensures moves { OnOk result (left tokens.new < left tokens.old) }
 {
@@ -225,7 +225,7 @@ fn closing(tokens: &Tokens<'_>) -> Option<(Sign, Sign)>
 fn value<'a>(tokens: &mut Tokens<'a>, text: &mut String, levels: u32) -> Result<(), Stop<'a>>
     ensures reads { Reads (λ x. x) (spec.value_with (spec.braces levels) (stream tokens.old))
         result tokens.new }
-    ensures writes { OnOk result (texts.Writes (stream tokens.old) (string_bytes text.old)
+    ensures writes { OnOk result (texts.WritesTokens (stream tokens.old) (string_bytes text.old)
         (stream tokens.new) (string_bytes text.new)) }
     ensures moves { OnOk result (left tokens.new < left tokens.old) }
 {
@@ -242,7 +242,7 @@ fn value<'a>(tokens: &mut Tokens<'a>, text: &mut String, levels: u32) -> Result<
 fn list<'a>(tokens: &mut Tokens<'a>, text: &mut String, levels: u32) -> Result<(), Stop<'a>>
     ensures reads { Reads (λ x. x) (spec.list_with (spec.braces levels) (stream tokens.old))
         result tokens.new }
-    ensures writes { OnOk result (texts.Writes (stream tokens.old) (string_bytes text.old)
+    ensures writes { OnOk result (texts.WritesTokens (stream tokens.old) (string_bytes text.old)
         (stream tokens.new) (string_bytes text.new)) }
     ensures moves { OnOk result (left tokens.new < left tokens.old) }
 {
@@ -261,7 +261,7 @@ fn list<'a>(tokens: &mut Tokens<'a>, text: &mut String, levels: u32) -> Result<(
 #[tactic(auto, unfolding(crate::specs::AggregateGrammar::braces))]
 fn braces<'a>(tokens: &mut Tokens<'a>, text: &mut String, levels: u32) -> Result<(), Stop<'a>>
     ensures reads { Reads (λ x. x) (spec.braces levels (stream tokens.old)) result tokens.new }
-    ensures writes { OnOk result (texts.Writes (stream tokens.old) (string_bytes text.old)
+    ensures writes { OnOk result (texts.WritesTokens (stream tokens.old) (string_bytes text.old)
         (stream tokens.new) (string_bytes text.new)) }
     ensures moves { OnOk result (left tokens.new < left tokens.old) }
 {
@@ -288,7 +288,7 @@ fn fields<'a>(
 ) -> Result<(), Stop<'a>>
     ensures reads { Reads (λ x. x) (spec.fields_with (spec.braces levels) close (stream tokens.old))
         result tokens.new }
-    ensures writes { OnOk result (texts.Writes (stream tokens.old) (string_bytes text.old)
+    ensures writes { OnOk result (texts.WritesTokens (stream tokens.old) (string_bytes text.old)
         (stream tokens.new) (string_bytes text.new)) }
     ensures moves { OnOk result (left tokens.new ≤ left tokens.old) }
 {
@@ -304,7 +304,7 @@ fn fields<'a>(
 fn field_value<'a>(tokens: &mut Tokens<'a>, text: &mut String, levels: u32) -> Result<(), Stop<'a>>
     ensures reads { Reads (λ x. x) (spec.field_value_with (spec.braces levels) (stream tokens.old))
         result tokens.new }
-    ensures writes { OnOk result (texts.Writes (stream tokens.old) (string_bytes text.old)
+    ensures writes { OnOk result (texts.WritesTokens (stream tokens.old) (string_bytes text.old)
         (stream tokens.new) (string_bytes text.new)) }
     ensures moves { OnOk result (left tokens.new < left tokens.old) }
 {
@@ -321,7 +321,7 @@ fn field_value<'a>(tokens: &mut Tokens<'a>, text: &mut String, levels: u32) -> R
 #[tactic(auto, unfolding(crate::specs::AggregateGrammar::separator))]
 fn separator<'a>(tokens: &mut Tokens<'a>, text: &mut String) -> Result<(), Stop<'a>>
     ensures reads { Reads (λ x. x) (spec.separator (stream tokens.old)) result tokens.new }
-    ensures writes { OnOk result (texts.Writes (stream tokens.old) (string_bytes text.old)
+    ensures writes { OnOk result (texts.WritesTokens (stream tokens.old) (string_bytes text.old)
         (stream tokens.new) (string_bytes text.new)) }
     ensures moves { OnOk result (left tokens.new ≤ left tokens.old) }
 {
@@ -337,7 +337,7 @@ fn separator<'a>(tokens: &mut Tokens<'a>, text: &mut String) -> Result<(), Stop<
 fn field<'a>(tokens: &mut Tokens<'a>, text: &mut String, levels: u32) -> Result<(), Stop<'a>>
     ensures reads { Reads (λ x. x) (spec.field_with (spec.braces levels) (stream tokens.old))
         result tokens.new }
-    ensures writes { OnOk result (texts.Writes (stream tokens.old) (string_bytes text.old)
+    ensures writes { OnOk result (texts.WritesTokens (stream tokens.old) (string_bytes text.old)
         (stream tokens.new) (string_bytes text.new)) }
     ensures moves { OnOk result (left tokens.new < left tokens.old) }
 {

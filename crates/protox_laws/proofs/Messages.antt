@@ -15,7 +15,7 @@ use Rattle.protox_laws.proofs.Options.{same_list, same_statement}
 use Rattle.protox_lex.specs.Class.{Text}
 use Rattle.protox_lex.specs.declared.span.Span.{Span}
 use Rattle.protox_locate.proofs.Nests.{group_is, message_is, oneof_is}
-use Rattle.protox_message_records.specs.MessageRecords.{AreTypes, Declared, IsOwn, IsType, alone_at, alone_in, end_of, enum_at, enum_in, extension_range_of, extension_ranges_at, extension_ranges_in, extensions_at, extensions_in, field_in, fields_at, fields_from, fields_in, if_alone, member_at, member_in, member_option_at, member_option_in, of_items, of_map, oneof_at, oneof_in, oneof_of, option_at, option_in, own_field, reserved_names_at, reserved_names_in, reserved_range_of, reserved_ranges_at, reserved_ranges_in, tells_presence, type_of_message, types_at, types_in, types_of_added, types_of_added_item, types_of_extend, types_of_field, types_of_kind, types_of_member, types_of_member_item, types_of_oneof}
+use Rattle.protox_message_records.specs.MessageRecords.{AreTypes, Declared, IsOfItems, IsType, alone_at, alone_in, end_of, enum_at, enum_in, extension_range_of, extension_ranges_at, extension_ranges_in, extensions_at, extensions_in, field_in, fields_at, fields_from, fields_in, if_alone, member_at, member_in, member_option_at, member_option_in, of_items, of_map, oneof_at, oneof_in, oneof_of, option_at, option_in, own_field, reserved_names_at, reserved_names_in, reserved_range_of, reserved_ranges_at, reserved_ranges_in, tells_presence, type_of_message, types_at, types_in, types_of_added, types_of_added_item, types_of_extend, types_of_field, types_of_kind, types_of_member, types_of_member_item, types_of_oneof}
 use Rattle.protox_message_records.specs.SyntheticOneofs.{AreNamedAfter, names_of}
 use Rattle.protox_tree.specs.Nest as tree
 use Rattle.protox_tree.specs.NestView.{added_view, extend_view, extensions_view, field_view, group_view, item_view, items_view, map_view, member_view, message_view, oneof_view}
@@ -232,8 +232,8 @@ module _ (xs ys : List MessageItem) (e : items_view xs ≡ items_view ys) where
 
   own_carried : (s : Syntax) (n m : Text) → n ≡ m → (given : Option Text) (fields extensions : List FieldContent) (nested : MessageContents)
       (enums : List EnumContent) (ranges : List ExtensionRangeContent) (oneofs : List OneofContent) (options : Option OptionsContent)
-      (reserved : List ReservedRange) (names : List Text) → IsOwn s n xs given fields extensions nested enums ranges oneofs options reserved names
-      → IsOwn s m ys given fields extensions nested enums ranges oneofs options reserved names
+      (reserved : List ReservedRange) (names : List Text) → IsOfItems s n xs given fields extensions nested enums ranges oneofs options reserved names
+      → IsOfItems s m ys given fields extensions nested enums ranges oneofs options reserved names
   own_carried s n m name given fields extensions nested enums ranges oneofs options reserved names h = record {
     named = h.named ∙ ap Some name;
     fields_are = h.fields_are ∙ ap (λ os. fields_from s 0 (length os) xs) same_oneofs ∙ same_fields s 0 (length (flat_map oneof_at ys)) xs ys e;

@@ -21,9 +21,9 @@ piece_view fronts.Gap = gap
 piece_view (fronts.Token t) = token (token_of t)
 
 -- What a function returned, seen by view, is what the definition gives.
-abbrev pub Gives : {X Y E : Type 0} → (X → Y) → Result X E → Result Y E → Type 0
-Gives view (Ok x) read = read ≡ Ok (view x)
-Gives view (Err e) read = read ≡ Err e
+abbrev pub Returns : {X Y E : Type 0} → (X → Y) → Result X E → Result Y E → Type 0
+Returns view (Ok x) read = read ≡ Ok (view x)
+Returns view (Err e) read = read ≡ Err e
 
 -- the tokens that are left
 abbrev pub stream : Lexer → List Lexeme

@@ -3,7 +3,7 @@
 ghost use Rattle.std.specs.Prelude.{◌≡◌, ◌<◌, ◌≤◌, ◌+◌, length, slice_index, IfOk, IfErr, true};
 ghost use Rattle.protox_lex.specs.Class.{is_in, past};
 ghost use Rattle.protox_lex.specs.Lex as spec;
-ghost use Rattle.protox_lex.specs.Shown.{Gives, piece_view};
+ghost use Rattle.protox_lex.specs.Shown.{Returns, piece_view};
 ghost use Rattle.protox_lex.specs.Ascii.{IsAsciiTo};
 ghost use Rattle.protox_lex.specs.declared.class.Class.TheVariants as class;
 
@@ -74,7 +74,7 @@ fn past_comment_text(z: &[u8]) -> usize
 #[tactic(auto, unfolding(crate::specs::Lex::block_comment))]
 fn block_comment(z: &[u8]) -> Result<(Piece<'_>, usize), Flaw>
     requires { 2 ≤ length z.now }
-    ensures value { Gives (λ p. (piece_view p.0, p.1)) result (spec.block_comment z.now) }
+    ensures value { Returns (λ p. (piece_view p.0, p.1)) result (spec.block_comment z.now) }
     ensures within { IfOk result (λ p. (1 ≤ p.1) × (p.1 ≤ length z.now)) }
     ensures flaw { IfErr result (λ f. (f.start ≤ f.end) × (f.end ≤ length z.now)) }
 {
@@ -116,7 +116,7 @@ fn word(z: &[u8]) -> (Piece<'_>, usize)
 
 fn sign(z: &[u8]) -> Result<(Piece<'_>, usize), Flaw>
     requires { 0 < length z.now }
-    ensures value { Gives (λ p. (piece_view p.0, p.1)) result
+    ensures value { Returns (λ p. (piece_view p.0, p.1)) result
         (spec.signed z.now (spec.sign_of (slice_index z.now 0))) }
     ensures within { IfOk result (λ p. (1 ≤ p.1) × (p.1 ≤ length z.now)) }
     ensures flaw { IfErr result (λ f. (f.start ≤ f.end) × (f.end ≤ length z.now)) }
@@ -135,7 +135,7 @@ fn sign(z: &[u8]) -> Result<(Piece<'_>, usize), Flaw>
 #[tactic(auto, unfolding(crate::specs::Lex::front))]
 pub fn front(z: &[u8]) -> Result<(Piece<'_>, usize), Flaw>
     requires { 0 < length z.now }
-    ensures value { Gives (λ p. (piece_view p.0, p.1)) result (spec.front z.now) }
+    ensures value { Returns (λ p. (piece_view p.0, p.1)) result (spec.front z.now) }
     ensures within { IfOk result (λ p. (1 ≤ p.1) × (p.1 ≤ length z.now)) }
     ensures flaw { IfErr result (λ f. (f.start ≤ f.end) × (f.end ≤ length z.now)) }
 {

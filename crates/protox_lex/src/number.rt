@@ -3,7 +3,7 @@
 ghost use Rattle.std.specs.Prelude.{◌≡◌, ◌≢◌, ◌<◌, ◌≤◌, ◌+◌, length, slice_index, true, IfOk, IfErr};
 ghost use Rattle.protox_lex.specs.Lex as spec;
 ghost use Rattle.protox_lex.specs.Ascii.{IsAsciiTo};
-ghost use Rattle.protox_lex.specs.Shown.{Gives, piece_view};
+ghost use Rattle.protox_lex.specs.Shown.{Returns, piece_view};
 
 use crate::class::{Class, byte, is_in, past};
 use crate::error::LexErrorKind;
@@ -141,7 +141,7 @@ fn integer<'a>(
 ) -> Result<(Piece<'a>, usize), Flaw>
     requires within { end ≤ length z.now }
     requires start { start ≤ end }
-    ensures value { Gives (λ p. (piece_view p.0, p.1)) result
+    ensures value { Returns (λ p. (piece_view p.0, p.1)) result
         (spec.integer z.now start end number) }
     ensures end { IfOk result (λ p. p.1 ≡ end) }
     ensures flaw { IfErr result (λ f. (f.start ≤ f.end) × (f.end ≤ length z.now)) }
@@ -173,7 +173,7 @@ fn is_float(z: &[u8], whole: usize, end: usize) -> bool
 #[tactic(auto, unfolding(crate::specs::Lex::octal))]
 fn octal(z: &[u8]) -> Result<(Piece<'_>, usize), Flaw>
     requires { 1 ≤ length z.now }
-    ensures value { Gives (λ p. (piece_view p.0, p.1)) result (spec.octal z.now) }
+    ensures value { Returns (λ p. (piece_view p.0, p.1)) result (spec.octal z.now) }
     ensures within { IfOk result (λ p. (1 ≤ p.1) × (p.1 ≤ length z.now)) }
     ensures flaw { IfErr result (λ f. (f.start ≤ f.end) × (f.end ≤ length z.now)) }
 {
@@ -185,7 +185,7 @@ fn octal(z: &[u8]) -> Result<(Piece<'_>, usize), Flaw>
 #[tactic(auto, unfolding(crate::specs::Lex::number))]
 pub fn number(z: &[u8]) -> Result<(Piece<'_>, usize), Flaw>
     requires { spec.begins_number z.now ≡ true }
-    ensures value { Gives (λ p. (piece_view p.0, p.1)) result (spec.number z.now) }
+    ensures value { Returns (λ p. (piece_view p.0, p.1)) result (spec.number z.now) }
     ensures within { IfOk result (λ p. (1 ≤ p.1) × (p.1 ≤ length z.now)) }
     ensures flaw { IfErr result (λ f. (f.start ≤ f.end) × (f.end ≤ length z.now)) }
 {

@@ -1,7 +1,7 @@
 //! The string at the front of a text.
 
 ghost use Rattle.protox_lex.specs.Lex as spec;
-ghost use Rattle.protox_lex.specs.Shown.{Gives, piece_view};
+ghost use Rattle.protox_lex.specs.Shown.{Returns, piece_view};
 ghost use Rattle.std.specs.Prelude.{◌≡◌, ◌≢◌, ◌<◌, ◌≤◌, ◌+◌, length, IfOk, IfErr, Err};
 
 use crate::class::byte;
@@ -82,7 +82,7 @@ fn flaw(y: &[u8], n: usize) -> Flaw
 #[tactic(auto, unfolding(crate::specs::Lex::quoted))]
 pub fn quoted(quote: u8, y: &[u8]) -> Result<(Piece<'_>, usize), Flaw>
     requires { quote ≢ 0 }
-    ensures value { Gives (λ p. (piece_view p.0, p.1)) result (spec.quoted quote y.now) }
+    ensures value { Returns (λ p. (piece_view p.0, p.1)) result (spec.quoted quote y.now) }
     ensures within { IfOk result (λ p. (1 ≤ p.1) × (p.1 ≤ length y.now + 1)) }
     ensures flaw { IfErr result (λ f. (f.start ≤ f.end) × (f.end ≤ length y.now + 1)) }
 {

@@ -7,7 +7,7 @@ use Rattle.descriptor_records.specs.Content.{EnumContent, ExtensionRangeContent,
 use Rattle.descriptor_records.specs.declared.message.ReservedRange.{ReservedRange}
 use Rattle.protox_declaration_records.specs.OptionRecords.{options_of}
 use Rattle.protox_lex.specs.Class.{Text}
-use Rattle.protox_message_records.specs.MessageRecords.{AreTypes, Declared, IsOwn, IsType, alone_at, enum_at, extension_ranges_at, extensions_at, fields_from, of_items, of_map, oneof_at, option_at, reserved_names_at, reserved_ranges_at, types_at}
+use Rattle.protox_message_records.specs.MessageRecords.{AreTypes, Declared, IsOfItems, IsType, alone_at, enum_at, extension_ranges_at, extensions_at, fields_from, of_items, of_map, oneof_at, option_at, reserved_names_at, reserved_ranges_at, types_at}
 use Rattle.protox_message_records.specs.SyntheticOneofs.{AreNamedAfter, IsFreed, IsNamedAfter, behind_letters, is_taken, names_of}
 use Rattle.protox_tree.specs.declared.message.MessageItem.{MessageItem}
 use Rattle.protox_tree.specs.declared.types.Syntax.{Syntax}
@@ -54,7 +54,7 @@ module _ (s : Syntax) (name : Text) (items : List MessageItem) where
   module _ (given : Option Text) (fields extensions : List FieldContent) (nested : MessageContents) (enums : List EnumContent)
       (ranges : List ExtensionRangeContent) (oneofs : List OneofContent) (options : Option OptionsContent)
       (reserved : List ReservedRange) (names : List Text)
-      (h : IsOwn s name items given fields extensions nested enums ranges oneofs options reserved names) where
+      (h : IsOfItems s name items given fields extensions nested enums ranges oneofs options reserved names) where
     is_made : message given fields extensions nested enums ranges oneofs options reserved names ≡ made_of nested h.oneofs_are.0
     unfolding made_of
     is_made =

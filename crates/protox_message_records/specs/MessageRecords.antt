@@ -227,7 +227,7 @@ types_at i = types_in (out-MessageItem i)
 
 -- What a message of these items has beside the types in it: of each kind all that stands there, in
 -- order.
-pub record IsOwn (s : Syntax) (name : Text) (items : List MessageItem)
+pub record IsOfItems (s : Syntax) (name : Text) (items : List MessageItem)
     (given : Option Text) (fields extensions : List FieldContent) (nested : MessageContents)
     (enums : List EnumContent)
     (ranges : List ExtensionRangeContent) (oneofs : List OneofContent)
@@ -250,7 +250,7 @@ pub record IsOwn (s : Syntax) (name : Text) (items : List MessageItem)
 abbrev pub IsMessage : Syntax → Text → List MessageItem → MessageContents → MessageContent → Type 0
 IsMessage s name items inside (message given fields extensions nested enums ranges oneofs options
     reserved names) =
-    IsOwn s name items given fields extensions nested enums ranges oneofs options reserved names
+    IsOfItems s name items given fields extensions nested enums ranges oneofs options reserved names
     × (nested ≡ inside)
 
 abbrev mutual
@@ -258,7 +258,8 @@ abbrev mutual
   pub IsType : Syntax → Declared → MessageContent → Type 0
   IsType s (of_items name items)
       (message given fields extensions nested enums ranges oneofs options reserved names) =
-      IsOwn s name items given fields extensions nested enums ranges oneofs options reserved names
+      IsOfItems s name items given fields extensions nested enums ranges oneofs options reserved
+      names
       × AreTypes s (flat_map types_at items) nested
   IsType s (of_map name m) (message given fields extensions nested enums ranges oneofs options
       reserved names) =
@@ -273,7 +274,7 @@ abbrev mutual
   AreTypes s (t ∷ ts) (more_messages m ms) = IsType s t m × AreTypes s ts ms
 
 -- what was the record of some types is now that of these types and of more
-abbrev pub Adds : Syntax → List Declared → List MessageContent → List MessageContent → Type 0
-Adds s more old new =
+abbrev pub AddsTypes : Syntax → List Declared → List MessageContent → List MessageContent → Type 0
+AddsTypes s more old new =
     (before : List Declared) → AreTypes s before (messages_of old)
     → AreTypes s (before ++ more) (messages_of new)

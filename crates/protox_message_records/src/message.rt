@@ -99,7 +99,7 @@ fn add_types(
     item: &MessageItem,
     types: &mut Vec<DescriptorProto>,
 ) -> Result<(), AllocError>
-    ensures { OnOk result (messages.Adds syntax (messages.types_at item.now)
+    ensures { OnOk result (messages.AddsTypes syntax (messages.types_at item.now)
         (map message_view types.old.items) (map message_view types.new.items)) }
 {
     match item {
@@ -122,7 +122,7 @@ fn add_type(
     field: &Field,
     types: &mut Vec<DescriptorProto>,
 ) -> Result<(), AllocError>
-    ensures { OnOk result (messages.Adds syntax (messages.types_of_field field.now)
+    ensures { OnOk result (messages.AddsTypes syntax (messages.types_of_field field.now)
         (map message_view types.old.items) (map message_view types.new.items)) }
 {
     let name = field.name.value.as_str();
@@ -146,7 +146,7 @@ fn types_of_oneof(
     oneof: &Oneof,
     types: &mut Vec<DescriptorProto>,
 ) -> Result<(), AllocError>
-    ensures { OnOk result (messages.Adds syntax (messages.types_of_oneof oneof.now)
+    ensures { OnOk result (messages.AddsTypes syntax (messages.types_of_oneof oneof.now)
         (map message_view types.old.items) (map message_view types.new.items)) }
 {
     'each: for item in &oneof.items {
@@ -166,7 +166,7 @@ pub fn types_of_extend(
     extend: &Extend,
     types: &mut Vec<DescriptorProto>,
 ) -> Result<(), AllocError>
-    ensures { OnOk result (messages.Adds syntax (messages.types_of_extend extend.now)
+    ensures { OnOk result (messages.AddsTypes syntax (messages.types_of_extend extend.now)
         (map message_view types.old.items) (map message_view types.new.items)) }
 {
     'each: for item in &extend.items {

@@ -5,7 +5,7 @@ ghost use Rattle.std.specs.List.{flat_map, fold};
 ghost use Rattle.descriptor_records.specs.Content as content;
 ghost use Rattle.protox_declaration_records.specs.OptionRecords.{options_of};
 ghost use Rattle.protox_record.specs.FileRecords as files;
-ghost use Rattle.protox_message_records.specs.MessageRecords.{Adds, AreTypes};
+ghost use Rattle.protox_message_records.specs.MessageRecords.{AddsTypes, AreTypes};
 ghost use Rattle.protox_tree.specs.FileTree.{syntax_of};
 ghost use Rattle.protox_tree.specs.FileView as tree;
 
@@ -92,7 +92,7 @@ fn add_types(
     item: &FileItem,
     types: &mut Vec<DescriptorProto>,
 ) -> Result<(), AllocError>
-    ensures { OnOk result (Adds syntax (files.types_at item.now)
+    ensures { OnOk result (AddsTypes syntax (files.types_at item.now)
         (map content.message_view types.old.items) (map content.message_view types.new.items)) }
 {
     match item {

@@ -7,7 +7,7 @@ use Rattle.protox_tokens.specs.Stream.{Stream}
 use Rattle.protox_tokens.specs.Parser.{Outcome, Parser, and_then, ◌>>=◌, ◌<$>◌, pure, goes_on, loop, sees, eat, pass}
 use Rattle.std.specs.Prelude.{is_some}
 use Rattle.protox_tokens.specs.Parser.{behind, when, some_by}
-use Rattle.protox_tokens.specs.Marks.{Mark, Spells, any, if_there, each, Each, listed, IsAny, IsSome_of, anywhere}
+use Rattle.protox_tokens.specs.Marks.{Mark, SpellsMarks, any, if_there, each, Each, listed, IsAny, IsSome_of, anywhere}
 use Rattle.protox_tokens.proofs.Loops.{Shortens, loop-is}
 use Rattle.protox_tokens.proofs.Local.{bound, good, none_is, none_not, same_ok, some_not, some_of}
 use Rattle.protox_tokens.proofs.Both.{Both, Always, IsNamed, spells-append, spells-split, then_ok}
@@ -31,12 +31,12 @@ lastly_all F (x ∷ y ∷ ys) r h = lastly_all F (y ∷ ys) r h
 
 module _ {A : Type 0} (m : A → List Mark) (P : A → Type 0) (F : A → Stream → Type 0) (E : Stream → Type 0) where
   abbrev pub Step : Stream → Option A × Stream → Type 0
-  Step ts (Some x, r) = Spells (m x) ts r × P x × F x r
+  Step ts (Some x, r) = SpellsMarks (m x) ts r × P x × F x r
   Step ts (None, r) = (ts ≡ r) × E r
 
   -- values, and what comes behind them
   abbrev pub Read : Stream → List A × Stream → Type 0
-  Read ts x = Spells (each m x.0) ts x.1 × Each P x.0 × E x.1
+  Read ts x = SpellsMarks (each m x.0) ts x.1 × Each P x.0 × E x.1
 
   module _ (step : Parser (Option A)) (short : Shortens step) (sound : (ts r : Stream) (o : Option A) → step ts ≡ Ok (o, r) → Step ts (o, r)) where
     -- B is what holds before each turn
@@ -78,12 +78,12 @@ module _ {A : Type 0} (m : A → List Mark) (P : A → Type 0) (F : A → Stream
     pub loop_last : (ts r : Stream) (xs : List A) → loop step ts ≡ Ok (xs, r) → Lastly F xs r
     loop_last ts r xs e = last_at (suc (length ts)) ts r xs (omega arith) e
 
-  module _ (step : Parser (Option A)) (short : Shortens step) (more : (ts r : Stream) (x : A) → Spells (m x) ts r → P x → F x r → step ts ≡ Ok (Some x, r)) (ends : (ts : Stream) → E ts → step ts ≡ Ok (None, ts))
-      (next : (x y : A) (ts r : Stream) → Spells (m y) ts r → P y → F x ts) where
+  module _ (step : Parser (Option A)) (short : Shortens step) (more : (ts r : Stream) (x : A) → SpellsMarks (m x) ts r → P x → F x r → step ts ≡ Ok (Some x, r)) (ends : (ts : Stream) → E ts → step ts ≡ Ok (None, ts))
+      (next : (x y : A) (ts r : Stream) → SpellsMarks (m y) ts r → P y → F x ts) where
     turned : (ts : Stream) {o : Outcome (List A)} → and_then (step ts) (λ o. goes_on o (loop step)) ≡ o → loop step ts ≡ o
     turned ts e = loop-is step short ts ∙ e
 
-    follows : (x : A) (xs : List A) (ts r : Stream) → Spells (each m xs) ts r → Each P xs → Lastly F (x ∷ xs) r → F x ts
+    follows : (x : A) (xs : List A) (ts r : Stream) → SpellsMarks (each m xs) ts r → Each P xs → Lastly F (x ∷ xs) r → F x ts
     follows x [] ts r h all l = subst (F x) (sym h) l
     follows x (y ∷ ys) ts r h all l = let s = spells-split (m y) (each m ys) ts r h in next x y ts s.0 s.1 all.0
 
@@ -91,7 +91,7 @@ module _ {A : Type 0} (m : A → List Mark) (P : A → Type 0) (F : A → Stream
     lastly_rest x [] r l = tt
     lastly_rest x (y ∷ ys) r l = l
 
-    pub loop_complete : (xs : List A) (ts r : Stream) → Spells (each m xs) ts r → Each P xs → E r → Lastly F xs r → loop step ts ≡ Ok (xs, r)
+    pub loop_complete : (xs : List A) (ts r : Stream) → SpellsMarks (each m xs) ts r → Each P xs → E r → Lastly F xs r → loop step ts ≡ Ok (xs, r)
     loop_complete [] ts r h all e l = turned ts (then_ok (λ o. goes_on o (loop step)) (ends ts (subst E (sym h) e)) (ap (λ s. Ok ([], s)) h))
     loop_complete (x ∷ xs) ts r h all e l =
         let s = spells-split (m x) (each m xs) ts r h in
@@ -109,39 +109,39 @@ module _ {A : Type 0} (f : Stream → Bool) (p : Parser A) (m : A → List Mark)
     by false h (Some x) e = none_not ts r x e
     by false h None e = let same = none_is {A = A} ts r e in (same, subst (λ s. f s ≡ false) same h)
 
-  when_more : ((x : A) (ts r : Stream) → Spells (m x) ts r → P x → f ts ≡ true) → (ts r : Stream) (x : A) → Spells (m x) ts r → P x → F x r → when f p ts ≡ Ok (Some x, r)
+  when_more : ((x : A) (ts r : Stream) → SpellsMarks (m x) ts r → P x → f ts ≡ true) → (ts r : Stream) (x : A) → SpellsMarks (m x) ts r → P x → F x r → when f p ts ≡ Ok (Some x, r)
   when_more starts ts r x h is g = ap (λ b. if b then (Some <$> p) ts else Ok (None, ts)) (starts x ts r h is) ∙ then_ok (λ x. pure (Some x)) (rule.complete ts r x h tt is g) refl
 
   when_ends : (ts : Stream) → f ts ≡ false → when f p ts ≡ Ok (None, ts)
   when_ends ts e = ap (λ b. if b then (Some <$> p) ts else Ok (None, ts)) e
 
   -- values, as long as what is ahead is so
-  pub both_while : Shortens (when f p) → ((x : A) (ts r : Stream) → Spells (m x) ts r → P x → f ts ≡ true) → ((x y : A) (ts r : Stream) → Spells (m y) ts r → P y → F x ts) → {H : Stream → Type 0}
+  pub both_while : Shortens (when f p) → ((x : A) (ts r : Stream) → SpellsMarks (m x) ts r → P x → f ts ≡ true) → ((x y : A) (ts r : Stream) → SpellsMarks (m y) ts r → P y → F x ts) → {H : Stream → Type 0}
       → Both H (loop (when f p)) (λ xs. each m xs) IsAny (Each P) (λ xs r. (f r ≡ false) × Lastly F xs r)
   both_while short starts next = record {
     sound = λ ts r xs h e. let x = loop_sound m P F (λ r. f r ≡ false) (when f p) short when_sound ts r xs e in (x.0, (tt, x.1), (x.2, loop_last m P F (λ r. f r ≡ false) (when f p) short when_sound ts r xs e));
     complete = λ ts r xs h known all g. loop_complete m P F (λ r. f r ≡ false) (when f p) short (when_more starts) when_ends next xs ts r h all g.0 g.1;
   }
 
-pass_sound : (k : Token) (ts r : Stream) (b : Bool) → pass k ts ≡ Ok (b, r) → (o : Option Span) × (b ≡ is_some o) × (Spells (if_there o k) ts r × Absent k o r)
+pass_sound : (k : Token) (ts r : Stream) (b : Bool) → pass k ts ≡ Ok (b, r) → (o : Option Span) × (b ≡ is_some o) × (SpellsMarks (if_there o k) ts r × Absent k o r)
 pass_sound k ts r b e =
     let x = bound (eat k ts) (λ o. pure (is_some o)) (b, r) e in
     let y = same_ok (is_some x.0.0, x.0.1) (b, r) x.2 in
-    (x.0.0, sym (ap (λ (z : Bool × Stream). z.0) y), subst (λ s. Spells (if_there x.0.0 k) ts s × Absent k x.0.0 s) (ap (λ (z : Bool × Stream). z.1) y) (eat_sound k ts x.0.1 x.0.0 x.1))
+    (x.0.0, sym (ap (λ (z : Bool × Stream). z.0) y), subst (λ s. SpellsMarks (if_there x.0.0 k) ts s × Absent k x.0.0 s) (ap (λ (z : Bool × Stream). z.1) y) (eat_sound k ts x.0.1 x.0.0 x.1))
 
-pass_true : (k : Token) (ts r : Stream) → pass k ts ≡ Ok (true, r) → Spells (any k ∷ []) ts r
+pass_true : (k : Token) (ts r : Stream) → pass k ts ≡ Ok (true, r) → SpellsMarks (any k ∷ []) ts r
 pass_true k ts r e = let x = pass_sound k ts r true e in by x.0 x.1 x.2.0 where
-  by : (o : Option Span) → true ≡ is_some o → Spells (if_there o k) ts r → Spells (any k ∷ []) ts r
+  by : (o : Option Span) → true ≡ is_some o → SpellsMarks (if_there o k) ts r → SpellsMarks (any k ∷ []) ts r
   by None e h = absurd cc
   by (Some p) e h = placed k p anywhere ts r tt h
 
 pass_false : (k : Token) (ts r : Stream) → pass k ts ≡ Ok (false, r) → (ts ≡ r) × (sees k r ≡ false)
 pass_false k ts r e = let x = pass_sound k ts r false e in by x.0 x.1 x.2 where
-  by : (o : Option Span) → false ≡ is_some o → Spells (if_there o k) ts r × Absent k o r → (ts ≡ r) × (sees k r ≡ false)
+  by : (o : Option Span) → false ≡ is_some o → SpellsMarks (if_there o k) ts r × Absent k o r → (ts ≡ r) × (sees k r ≡ false)
   by None e h = h
   by (Some p) e h = absurd cc
 
-pass_some : (k : Token) → IsNamed k → (ts r : Stream) → Spells (any k ∷ []) ts r → pass k ts ≡ Ok (true, r)
+pass_some : (k : Token) → IsNamed k → (ts r : Stream) → SpellsMarks (any k ∷ []) ts r → pass k ts ≡ Ok (true, r)
 pass_some k named ts r h = let x = eat_some k named anywhere ts r h in then_ok (λ o. pure (is_some o)) x.1 refl
 
 pass_none : (k : Token) (ts : Stream) → sees k ts ≡ false → pass k ts ≡ Ok (false, ts)
@@ -163,7 +163,7 @@ module _ {A : Type 0} (k : Token) (named : IsNamed k) (p : Parser A) (m : A → 
     by false u h (Some x) g = none_not u r x g
     by false u h None g = let same = none_is {A = A} u r g in let y = pass_false k ts u h in (y.0 ∙ same, subst Ended same y.1)
 
-  behind_more : (ts r : Stream) (x : A) → Spells (more_marks x) ts r → P x → F x r → behind k p ts ≡ Ok (Some x, r)
+  behind_more : (ts r : Stream) (x : A) → SpellsMarks (more_marks x) ts r → P x → F x r → behind k p ts ≡ Ok (Some x, r)
   behind_more ts r x h is g =
       let s = spells-split (any k ∷ []) (m x) ts r h in
       then_ok (λ b. if b then Some <$> p else pure None) (pass_some k named ts s.0 s.1) (then_ok (λ x. pure (Some x)) (rule.complete s.0 r x s.2 tt is g) refl)
@@ -171,7 +171,7 @@ module _ {A : Type 0} (k : Token) (named : IsNamed k) (p : Parser A) (m : A → 
   behind_ends : (ts : Stream) → Ended ts → behind k p ts ≡ Ok (None, ts)
   behind_ends ts e = then_ok (λ b. if b then Some <$> p else pure None) (pass_none k ts e) refl
 
-  behind_next : ((x : A) (r : Stream) → sees k r ≡ true → F x r) → (x y : A) (ts r : Stream) → Spells (more_marks y) ts r → P y → F x ts
+  behind_next : ((x : A) (r : Stream) → sees k r ≡ true → F x r) → (x y : A) (ts r : Stream) → SpellsMarks (more_marks y) ts r → P y → F x ts
   behind_next next x y ts r h is = next x ts (sees_first k (any k) (m y) ts r h ∙ named)
 
   pub both_behind : Shortens (behind k p) → ((x : A) (r : Stream) → sees k r ≡ true → F x r) → {H : Stream → Type 0} → Both H (loop (behind k p)) (λ xs. each more_marks xs) IsAny (Each P) (λ xs r. (sees k r ≡ false) × Lastly F xs r)
@@ -187,20 +187,20 @@ module _ {A : Type 0} (k : Token) (named : IsNamed k) (p : Parser A) (m : A → 
     rest : Both Always (loop (behind k p)) (λ xs. each more_marks xs) IsAny (Each P) (λ xs r. (sees k r ≡ false) × Lastly F xs r)
     rest = both_behind short next
 
-    last_of : (x : A) (xs : List A) (u r : Stream) → F x u → Spells (each more_marks xs) u r → Lastly F xs r → Lastly F (x ∷ xs) r
+    last_of : (x : A) (xs : List A) (u r : Stream) → F x u → SpellsMarks (each more_marks xs) u r → Lastly F xs r → Lastly F (x ∷ xs) r
     last_of x [] u r f h l = subst (F x) h f
     last_of x (y ∷ ys) u r f h l = l
 
-    forth : (ts r : Stream) (xs : List A) → H ts → some_by k p ts ≡ Ok (xs, r) → Spells (listed k m xs) ts r × (Unit {0} × IsSome_of P xs) × ((sees k r ≡ false) × Lastly F xs r)
+    forth : (ts r : Stream) (xs : List A) → H ts → some_by k p ts ≡ Ok (xs, r) → SpellsMarks (listed k m xs) ts r × (Unit {0} × IsSome_of P xs) × ((sees k r ≡ false) × Lastly F xs r)
     forth ts r xs h e =
         let a = bound (p ts) (λ x. loop (behind k p) >>= (λ xs. pure (x ∷ xs))) (xs, r) e in
         let b = bound (loop (behind k p) a.0.1) (λ xs. pure (a.0.0 ∷ xs)) (xs, r) a.2 in
         let first = rule.sound ts a.0.1 a.0.0 tt a.1 in
         let others = rest.sound a.0.1 b.0.1 b.0.0 tt b.1 in
-        arrive (λ (y : List A × Stream). Spells (listed k m y.0) ts y.1 × (Unit {0} × IsSome_of P y.0) × ((sees k y.1 ≡ false) × Lastly F y.0 y.1)) (a.0.0 ∷ b.0.0, b.0.1) (xs, r) b.2
+        arrive (λ (y : List A × Stream). SpellsMarks (listed k m y.0) ts y.1 × (Unit {0} × IsSome_of P y.0) × ((sees k y.1 ≡ false) × Lastly F y.0 y.1)) (a.0.0 ∷ b.0.0, b.0.1) (xs, r) b.2
         (spells-append (m a.0.0) (each more_marks b.0.0) ts a.0.1 b.0.1 first.0 others.0, (tt, (first.1.1, others.1.1)), (others.2.0, last_of a.0.0 b.0.0 a.0.1 b.0.1 first.2 others.0 others.2.1))
 
-    first_follow : (x : A) (xs : List A) (ts r : Stream) → Spells (each more_marks xs) ts r → Lastly F (x ∷ xs) r → F x ts
+    first_follow : (x : A) (xs : List A) (ts r : Stream) → SpellsMarks (each more_marks xs) ts r → Lastly F (x ∷ xs) r → F x ts
     first_follow x [] ts r h l = subst (F x) (sym h) l
     first_follow x (y ∷ ys) ts r h l = next x ts (sees_first k (any k) (m y ++ each more_marks ys) ts r h ∙ named)
 
@@ -208,7 +208,7 @@ module _ {A : Type 0} (k : Token) (named : IsNamed k) (p : Parser A) (m : A → 
     rest_lastly x [] r l = tt
     rest_lastly x (y ∷ ys) r l = l
 
-    back : (ts r : Stream) (xs : List A) → Spells (listed k m xs) ts r → IsSome_of P xs → (sees k r ≡ false) × Lastly F xs r → some_by k p ts ≡ Ok (xs, r)
+    back : (ts r : Stream) (xs : List A) → SpellsMarks (listed k m xs) ts r → IsSome_of P xs → (sees k r ≡ false) × Lastly F xs r → some_by k p ts ≡ Ok (xs, r)
     back ts r [] h all g = absurd all
     back ts r (x ∷ xs) h all g =
         let s = spells-split (m x) (each more_marks xs) ts r h in

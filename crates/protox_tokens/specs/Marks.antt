@@ -35,15 +35,15 @@ abbrev pub FitsToken : Mark → Token → Span → Type 0
 FitsToken (token p k) t at = IsIn p at × (k ≡ t)
 FitsToken (literal w) t at = IsLiteral w t at
 
-abbrev pub Fits : Mark → Seen → Type 0
-Fits m None = ⊥
-Fits m (Some x) = FitsToken m x.0 x.1
+abbrev pub FitsMark : Mark → Seen → Type 0
+FitsMark m None = ⊥
+FitsMark m (Some x) = FitsToken m x.0 x.1
 
 -- the first tokens are those of the marks, and the others are left
-abbrev pub Spells : List Mark → Stream → Stream → Type 0
-Spells [] ts r = ts ≡ r
-Spells (m ∷ ms) [] r = ⊥
-Spells (m ∷ ms) (t ∷ ts) r = Fits m (look source t) × Spells ms ts r
+abbrev pub SpellsMarks : List Mark → Stream → Stream → Type 0
+SpellsMarks [] ts r = ts ≡ r
+SpellsMarks (m ∷ ms) [] r = ⊥
+SpellsMarks (m ∷ ms) (t ∷ ts) r = FitsMark m (look source t) × SpellsMarks ms ts r
 
 abbrev pub any : Token → Mark
 any k = token anywhere k

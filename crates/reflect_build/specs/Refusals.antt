@@ -171,4 +171,5 @@ AreTooMany p fs = (w : Linking) × IsOf p w
 -- files are refused for the faults of the first pass that finds any, since they are too many, or
 -- for want of memory
 abbrev pub AreRefused : PoolType → List FileDescriptorProto → DescriptorError → Type 0
-AreRefused p fs e = ListsFaults (FaultyFiles p fs) e × (is_too_many e.first ≡ true → AreTooMany p fs)
+AreRefused p fs e =
+    ListsFaults (FaultyFiles p fs) e × (is_too_many e.first ≡ true → AreTooMany p fs)

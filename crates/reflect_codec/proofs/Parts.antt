@@ -8,7 +8,7 @@ use Rattle.reflect_codec.specs.declared.fields.RawField.{RawField}
 use Rattle.reflect_codec.specs.declared.fields.Fields.{Fields}
 use Rattle.reflect_codec.specs.Faults.{BytesFault, PartFault}
 use Rattle.reflect_codec.specs.Raw.{fields_view, MoreFields}
-use Rattle.reflect_codec.specs.Reading.{Value, number, eight_bytes, payload, other, Field, fields_in, values_at, ReadsMeant, SpellsFields, IsPayload, HasPayload, IsPart, AreJoined, joined, AlongOption}
+use Rattle.reflect_codec.specs.Reading.{Value, number, eight_bytes, payload, other, Field, fields_in, values_at, ReadsMeant, SpellsFields, IsPayload, HasPayload, IsPartBelow, AreJoined, joined, AlongOption}
 use Rattle.reflect_codec.proofs.Values.{rejects}
 
 pub one_payload : (v : Value) (a b : List ℕ) → IsPayload v a → IsPayload v b → a ≡ b
@@ -20,7 +20,7 @@ one_payload other a b h k = absurd h
 pub one_fields : (levels : ℕ) (bytes : List ℕ) (fs gs : List Field) → SpellsFields levels bytes fs → SpellsFields levels bytes gs → fs ≡ gs
 one_fields levels bytes fs gs h k = h.2 ∙ ap fields_in (one_list levels bytes h.0 k.0 h.1 k.1) ∙ sym k.2
 
-pub one_part : (outside inside : ℕ) (v : Value) (fs gs : List Field) → IsPart outside inside v fs → IsPart outside inside v gs → fs ≡ gs
+pub one_part : (outside inside : ℕ) (v : Value) (fs gs : List Field) → IsPartBelow outside inside v fs → IsPartBelow outside inside v gs → fs ≡ gs
 one_part outside inside v fs gs h k =
     one_fields inside h.0 fs gs h.2 (subst (λ bytes. SpellsFields inside bytes gs) (one_payload v k.0 h.0 k.1.1 h.1.1) k.2)
 
@@ -34,7 +34,7 @@ one_each R one (a ∷ vs) (x ∷ xs) (y ∷ ys) h k = let first = one a x y h.0 
 
 -- the fields that were joined are the only ones
 pub one_joined : (outside inside : ℕ) (vs : List Value) (f g : Option (List Field)) → AreJoined outside inside vs f → AreJoined outside inside vs g → f ≡ g
-one_joined outside inside vs f g h k = h.2 ∙ ap joined (one_each (IsPart outside inside) (one_part outside inside) vs h.0 k.0 h.1 k.1) ∙ sym k.2
+one_joined outside inside vs f g h k = h.2 ∙ ap joined (one_each (IsPartBelow outside inside) (one_part outside inside) vs h.0 k.0 h.1 k.1) ∙ sym k.2
 
 some_along : {X : Type 0} (M : List Field → X → Type 0) (fs : List Field) (o : Option X) → AlongOption M (Some fs) o → (x : X) × M fs x
 some_along M fs None h = absurd h
@@ -47,14 +47,14 @@ along_joined M outside inside vs fs found o g h along = some_along M fs o (subst
 
 -- the fields of a payload are those of the record that the value holds
 pub part_read : (outside inside : ℕ) (old : List Field) (v : Value) (bytes : List ℕ) (r : Result (Vec RawField Global) WireError) → HasPayload outside v bytes → MoreFields (SpellsFields inside) (BytesFault inside) old bytes r
-    → MoreFields (IsPart outside inside) (PartFault outside inside) old v r
+    → MoreFields (IsPartBelow outside inside) (PartFault outside inside) old v r
 part_read outside inside old v bytes (Ok w) has h = (h.0, (bytes, has, h.1), h.2)
 part_read outside inside old v bytes (Err e) has h =
     rejects (λ fs p. (fs, subst (λ b. SpellsFields inside b fs) (one_payload v p.0 bytes p.1.1 has.1) p.2)) (λ fault. inr (bytes, has, fault)) h
 
 -- what is read of the only fields of a value is read of the value
-pub whole_read : {X : Type 0} (M : List Field → X → Type 0) (F : List Field → WireError → Type 0) (outside inside : ℕ) (v : Value) (fs : List Field) (r : Result X WireError) → IsPart outside inside v fs → ReadsMeant M F fs r
-    → ReadsMeant (λ w x. (gs : List Field) × IsPart outside inside w gs × M gs x) (λ w e. PartFault outside inside w e ⊎ ((gs : List Field) × IsPart outside inside w gs × F gs e)) v r
+pub whole_read : {X : Type 0} (M : List Field → X → Type 0) (F : List Field → WireError → Type 0) (outside inside : ℕ) (v : Value) (fs : List Field) (r : Result X WireError) → IsPartBelow outside inside v fs → ReadsMeant M F fs r
+    → ReadsMeant (λ w x. (gs : List Field) × IsPartBelow outside inside w gs × M gs x) (λ w e. PartFault outside inside w e ⊎ ((gs : List Field) × IsPartBelow outside inside w gs × F gs e)) v r
 whole_read M F outside inside v fs (Ok x) part h = (fs, part, h)
 whole_read M F outside inside v fs (Err e) part h = rejects (λ x w. (x, subst (λ gs. M gs x) (one_part outside inside v w.0 fs w.1 part) w.2)) (λ fault. inr (fs, part, fault)) h
 
@@ -64,7 +64,7 @@ pub bytes_read : {X : Type 0} (M : List Field → X → Type 0) (F : List Field 
 bytes_read M F levels bytes fs (Ok x) found h = (fs, found, h)
 bytes_read M F levels bytes fs (Err e) found h = rejects (λ x w. (x, subst (λ gs. M gs x) (one_fields levels bytes w.0 fs w.1 found) w.2)) (λ fault. inr (fs, found, fault)) h
 
-pub payload_fields : (outside inside : ℕ) (v : Value) (bytes : List ℕ) (fs : List Field) → HasPayload outside v bytes → IsPart outside inside v fs → SpellsFields inside bytes fs
+pub payload_fields : (outside inside : ℕ) (v : Value) (bytes : List ℕ) (fs : List Field) → HasPayload outside v bytes → IsPartBelow outside inside v fs → SpellsFields inside bytes fs
 payload_fields outside inside v bytes fs has p = subst (λ b. SpellsFields inside b fs) (one_payload v p.0 bytes p.1.1 has.1) p.2
 
 pub takes_as : {A X : Type 0} (R S : A → X → Type 0) (F G : A → WireError → Type 0) (a : A) (r : Result X WireError) → ((x : X) → R a x → S a x) → ((x : X) → S a x → R a x) → ((e : WireError) → F a e → G a e)

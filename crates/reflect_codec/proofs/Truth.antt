@@ -14,7 +14,7 @@ use Rattle.reflect_codec.specs.declared.options.OptionsOf.{OptionsOf}
 use Rattle.reflect_codec.specs.declared.options.OptionsOf.TheVariants as of
 use Rattle.reflect_codec.specs.Faults.{BytesFault, OneOf, OneIf, InFields, NumberFault, DoubleFault, PayloadFault, TextFault, NumbersFault, PlaceFault, PartFault, RecordFault, JoinedFault, OptionsFault, MessageFault, FileBytesFault, SetBytesFault, InNamePart, InUninterpretedOption, InOptions, InField, InOneof, InEnumValue, InRange, InEnum, InMethod, InService, InLocation, InSourceInfo, InExtensionRange, InLevel, InFile, InSet}
 use Rattle.reflect_codec.specs.Meaning.{is_field, is_enum, is_message, IsNamePart, IsUninterpretedOption, IsOptions, AreOptions, IsField, IsOneof, IsEnumValue, IsEnumRange, IsEnum, IsMethod, IsService, IsLocation, IsSourceInfo, IsExtensionRange, IsReservedRange, IsLevel, IsMessage, IsFile, IsSet, IsFileBytes, IsSetBytes}
-use Rattle.reflect_codec.specs.Reading.{Value, number, eight_bytes, payload, other, Field, SpellsFields, values_at, IsText, IsPayload, HasPayload, IsNumber, IsInt32, IsInt64, IsBool, IsDouble, IsNumbers, AreNumbers, IsPart, IsRecord, IsLast, IsLastIf, AreJoined, AlongOption}
+use Rattle.reflect_codec.specs.Reading.{Value, number, eight_bytes, payload, other, Field, SpellsFields, values_at, IsText, IsPayload, HasPayload, IsNumber, IsInt32, IsInt64, IsBool, IsDouble, IsNumbers, AreNumbers, IsPartBelow, IsRecord, IsLast, IsLastIf, AreJoined, AlongOption}
 use Rattle.reflect_codec.proofs.Parts.{one_payload, one_fields, one_part, along_joined}
 
 -- what is refused means nothing
@@ -139,7 +139,7 @@ place_apart : (levels : ℕ) → Apart (PlaceFault levels) (HasPayload levels)
 place_apart levels v e bytes (inl form) h = payload_apart v e bytes form h.1
 place_apart levels v e bytes (inr (b, is, none, told)) h = let some : 0 < levels = h.0 in omega (arith, some, none)
 
-part_apart : (outside inside : ℕ) → Apart (PartFault outside inside) (IsPart outside inside)
+part_apart : (outside inside : ℕ) → Apart (PartFault outside inside) (IsPartBelow outside inside)
 part_apart outside inside v e fs (inl place) h = place_apart outside v e h.0 place h.1
 part_apart outside inside v e fs (inr (bytes, has, fault)) h = fault.none fs (subst (λ b. SpellsFields inside b fs) (one_payload v h.0 bytes h.1.1 has.1) h.2)
 
@@ -153,7 +153,7 @@ module _ {R : Type 0} (F : ℕ → List Field → WireError → Type 0) (M : ℕ
 
 module _ {R : Type 0} (F : List Field → WireError → Type 0) (M : List Field → R → Type 0) (apart : Apart F M) (outside inside : ℕ) (vs : List Value) (e : WireError) (o : Option R) where
   joined_apart : (fs : Option (List Field)) → AreJoined outside inside vs fs → AlongOption M fs o → JoinedFault F outside inside vs e → ⊥
-  joined_apart fs h along (inl one) = one_apart (PartFault outside inside) (IsPart outside inside) (part_apart outside inside) vs e h.0 one h.1
+  joined_apart fs h along (inl one) = one_apart (PartFault outside inside) (IsPartBelow outside inside) (part_apart outside inside) vs e h.0 one h.1
   joined_apart fs h along (inr (gs, found, fault)) = let means = along_joined M outside inside vs gs found o fs h along in apart gs e means.0 fault means.1
 
 name_part : (levels : ℕ) → Apart (InNamePart levels) (IsNamePart levels)

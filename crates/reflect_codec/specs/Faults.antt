@@ -10,7 +10,7 @@ use Rattle.reflect_wire.specs.declared.wire_error.WireError.TheVariants.{BadWire
 use Rattle.reflect_codec.specs.declared.options.OptionsOf.{OptionsOf}
 use Rattle.reflect_codec.specs.declared.options.OptionsOf.TheVariants as of
 use Rattle.reflect_codec.specs.Meaning.{is_field, is_enum, is_message}
-use Rattle.reflect_codec.specs.Reading.{Value, number, eight_bytes, payload, Field, SpellsFields, values_at, IsPayload, HasPayload, SpellsNumbers, IsPart, AreJoined}
+use Rattle.reflect_codec.specs.Reading.{Value, number, eight_bytes, payload, Field, SpellsFields, values_at, IsPayload, HasPayload, SpellsNumbers, IsPartBelow, AreJoined}
 
 -- the bytes are no records of at most so many levels, and this is why
 pub record BytesFault (levels : ℕ) (bytes : List ℕ) (e : WireError) : Type 0 where
@@ -73,7 +73,7 @@ PartFault outside inside v e = PlaceFault outside v e
 -- no record stands there, or one whose fields are refused
 abbrev pub RecordFault : (ℕ → List Field → WireError → Type 0) → ℕ → Value → WireError → Type 0
 RecordFault InRecord levels v e = PartFault levels (levels - 1) v e
-    ⊎ ((fs : List Field) × IsPart levels (levels - 1) v fs × InRecord (levels - 1) fs e)
+    ⊎ ((fs : List Field) × IsPartBelow levels (levels - 1) v fs × InRecord (levels - 1) fs e)
 
 -- no record stands in one of the values, or the fields of all of them, joined, are refused
 abbrev pub JoinedFault : (List Field → WireError → Type 0) → ℕ → ℕ → List Value → WireError → Type 0
@@ -157,7 +157,7 @@ pub record InLevel (Nested : Value → WireError → Type 0) (levels : ℕ) (fs 
 abbrev pub MessageFault : ℕ → Value → WireError → Type 0
 MessageFault zero v e = PlaceFault zero v e
 MessageFault (suc levels) v e = PartFault (suc levels) levels v e
-    ⊎ ((fs : List Field) × IsPart (suc levels) levels v fs
+    ⊎ ((fs : List Field) × IsPartBelow (suc levels) levels v fs
     × InLevel (MessageFault levels) levels fs e)
 
 pub record InFile (levels : ℕ) (fs : List Field) (e : WireError) : Type 0 where

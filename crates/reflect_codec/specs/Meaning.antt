@@ -24,7 +24,7 @@ use Rattle.descriptor_records.specs.declared.message.DescriptorProto.TheOpen.{De
 use Rattle.descriptor_records.specs.declared.message.DescriptorProto.TheViews.{out-DescriptorProto}
 use Rattle.reflect_codec.specs.declared.options.OptionsOf.{OptionsOf}
 use Rattle.reflect_codec.specs.declared.options.OptionsOf.TheVariants as of
-use Rattle.reflect_codec.specs.Reading.{Value, Field, SpellsFields, values_at, IsPart, IsBool, IsLastIf, AreJoined, ArePayloads, AlongOption, TextAt, TextsAt, BytesAt, NumberAt, Int32At, Int64At, BoolAt, DoubleAt, Int32sAt, RecordsAt, MergedAt}
+use Rattle.reflect_codec.specs.Reading.{Value, Field, SpellsFields, values_at, IsPartBelow, IsBool, IsLastIf, AreJoined, ArePayloads, AlongOption, TextAt, TextsAt, BytesAt, NumberAt, Int32At, Int64At, BoolAt, DoubleAt, Int32sAt, RecordsAt, MergedAt}
 
 abbrev pub text_or_empty : Option (String Global) → List ℕ
 text_or_empty None = []
@@ -155,7 +155,7 @@ pub record IsLevel (inner : Value → DescriptorProto → Type 0) (levels : ℕ)
 
 abbrev pub IsMessage : ℕ → Value → DescriptorProto → Type 0
 IsMessage zero v m = ⊥
-IsMessage (suc levels) v m = (fs : List Field) × IsPart (suc levels) levels v fs
+IsMessage (suc levels) v m = (fs : List Field) × IsPartBelow (suc levels) levels v fs
     × IsLevel (IsMessage levels) levels fs (out-DescriptorProto m)
 
 pub record IsFile (levels : ℕ) (fs : List Field) (r : FileDescriptorProto) : Type 0 where

@@ -57,8 +57,8 @@ ReadsMeant R Fault a (Ok x) = R a x
 ReadsMeant R Fault a (Err e) = Rejects R Fault a e
 
 -- the same, where the relation speaks of what view sees
-abbrev pub ReadsMeantBy : {A X Y : Type 0} → (X → Y) → (A → Y → Type 0) → (A → WireError → Type 0) → A
-    → Result X WireError → Type 0
+abbrev pub ReadsMeantBy : {A X Y : Type 0} → (X → Y) → (A → Y → Type 0)
+    → (A → WireError → Type 0) → A → Result X WireError → Type 0
 ReadsMeantBy view R Fault a (Ok x) = R a (view x)
 ReadsMeantBy view R Fault a (Err e) = Rejects R Fault a e
 
@@ -113,12 +113,12 @@ IsNumbers (payload p) zs = SpellsNumbers p zs
 IsNumbers _ zs = ⊥
 
 -- a record that stands below so many levels, read from its fields
-abbrev pub IsPart : ℕ → ℕ → Value → List Field → Type 0
-IsPart outside inside v fs = (bytes : List ℕ) × HasPayload outside v bytes
+abbrev pub IsPartBelow : ℕ → ℕ → Value → List Field → Type 0
+IsPartBelow outside inside v fs = (bytes : List ℕ) × HasPayload outside v bytes
     × SpellsFields inside bytes fs
 
 abbrev pub IsRecord : {R : Type 0} → (ℕ → List Field → R → Type 0) → ℕ → Value → R → Type 0
-IsRecord means levels v r = (fs : List Field) × IsPart levels (levels - 1) v fs
+IsRecord means levels v r = (fs : List Field) × IsPartBelow levels (levels - 1) v fs
     × means (levels - 1) fs r
 
 abbrev pub last : {X : Type 0} → List X → Option X
@@ -147,7 +147,7 @@ joined (fs ∷ rest) = Some (fs ++ joins rest)
 
 abbrev pub AreJoined : ℕ → ℕ → List Value → Option (List Field) → Type 0
 AreJoined outside inside vs o = (parts : List (List Field))
-    × AllZip (IsPart outside inside) vs parts × (o ≡ joined parts)
+    × AllZip (IsPartBelow outside inside) vs parts × (o ≡ joined parts)
 
 abbrev pub AlongOption : {A X : Type 0} → (A → X → Type 0) → Option A → Option X → Type 0
 AlongOption R None None = Unit {0}

@@ -5,7 +5,7 @@ ghost use Rattle.reflect_wire.specs.Faults.{ValueFault, TellsTrue};
 ghost use Rattle.reflect_wire.specs.Reads.{ReadsBy};
 ghost use Rattle.reflect_codec.specs.Faults.{BytesFault, OneOf, NumberFault, DoubleFault, PayloadFault, TextFault, PackedFault, NumbersFault, PlaceFault, PartFault, RecordFault, MergedFault};
 ghost use Rattle.reflect_codec.specs.Raw.{value_view, fields_view, IsRawValue, MoreFields, MoreNumbers};
-ghost use Rattle.reflect_codec.specs.Reading.{Value, Field, ReadsMeant, ReadsMeantBy, SpellsFields, values_at, IsText, IsNumber, IsInt32, IsInt64, IsBool, IsDouble, IsPayload, IsNumbers, IsPart, IsRecord, IsLast, AreNumbers, AreJoined, IsMerged, SpellsNumbers, int32_of, HasPayload, ArePayloads};
+ghost use Rattle.reflect_codec.specs.Reading.{Value, Field, ReadsMeant, ReadsMeantBy, SpellsFields, values_at, IsText, IsNumber, IsInt32, IsInt64, IsBool, IsDouble, IsPayload, IsNumbers, IsPartBelow, IsRecord, IsLast, AreNumbers, AreJoined, IsMerged, SpellsNumbers, int32_of, HasPayload, ArePayloads};
 
 use descriptor_records::DoubleValue;
 use reflect_wire::{
@@ -139,7 +139,7 @@ fn with_part<'b>(
     outside: u32,
     inside: u32,
 ) -> Result<Vec<RawField<'b>>, WireError>
-    ensures { MoreFields (IsPart outside inside) (PartFault outside inside)
+    ensures { MoreFields (IsPartBelow outside inside) (PartFault outside inside)
         (fields_view fields.entry.items) (value_view value.entry) result }
 {
     let payload = value.record(outside)?;

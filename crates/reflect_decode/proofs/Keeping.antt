@@ -15,7 +15,7 @@ use Rattle.reflect_entries.specs.Sets.{up_to, above, with_record}
 use Rattle.reflect_pool.specs.declared.extension.ExtensionDescriptor.{ExtensionDescriptor}
 use Rattle.reflect_scalar.specs.FieldTypes.{extension_type}
 use Rattle.reflect_message.specs.Declares.{Owns, OwnsExtension, NoField, IsDeclared}
-use Rattle.reflect_decode.specs.Keeps.{numbered, payloads, Keeps}
+use Rattle.reflect_decode.specs.Keeps.{numbered, payloads, KeepsUndeclared}
 use Rattle.reflect_decode.specs.Merging.{IsRun, run_records}
 use Rattle.reflect_decode.specs.Ordered.{Ascend, last}
 use Rattle.reflect_decode.proofs.Ordering.{record_placed}
@@ -76,10 +76,10 @@ payloads_own n (p ∷ ps) =
     ap (λ b. map (λ (r : ℕ × Payload). r.1) (cond b ((n, p) ∷ rest) rest)) is ∙ ap (λ l. p ∷ l) (payloads_own n ps)
 
 module _ (m : MessageDescriptor) where
-  pub keeps_none : (old : List (ℕ × Payload)) → Keeps m old old []
+  pub keeps_none : (old : List (ℕ × Payload)) → KeepsUndeclared m old old []
   keeps_none old = record { behind = λ n u. sym (append-nil (numbered n old)); declared = λ n is. refl; others = λ n e. refl }
 
-  pub keeps_more : (a b c rs ts : List (ℕ × Payload)) → Keeps m a b rs → Keeps m b c ts → Keeps m a c (rs ++ ts)
+  pub keeps_more : (a b c rs ts : List (ℕ × Payload)) → KeepsUndeclared m a b rs → KeepsUndeclared m b c ts → KeepsUndeclared m a c (rs ++ ts)
   keeps_more a b c rs ts h k = record {
     behind = λ n u. k.behind n u ∙ ap (λ l. l ++ numbered n ts) (h.behind n u) ∙ append_assoc (numbered n a) (numbered n rs) (numbered n ts)
         ∙ ap (λ l. numbered n a ++ l) (sym (filter-append (λ r. r.0 == n) rs ts));
@@ -89,7 +89,7 @@ module _ (m : MessageDescriptor) where
 
   -- a record of an undeclared number that is put
   pub keeps_record : (old new : List (ℕ × Payload)) (n : ℕ) (p : Payload) → (IsDeclared m n → ⊥) → new ≡ with_record old (n, p)
-      → Keeps m old new ((n, p) ∷ [])
+      → KeepsUndeclared m old new ((n, p) ∷ [])
   keeps_record old new n p undeclared e = record {
     behind = λ k u. ap (numbered k) e ∙ placed k n p old;
     declared = λ k is. unread k (not_numbered k n (p ∷ []) (λ same. undeclared (subst (IsDeclared m) (sym same) is)));
@@ -99,7 +99,7 @@ module _ (m : MessageDescriptor) where
     unread k none = ap (numbered k) e ∙ placed k n p old ∙ ap (λ l. numbered k old ++ l) none ∙ append-nil (numbered k old)
 
   -- records of a declared number, of which none is put
-  pub keeps_declared : (old new : List (ℕ × Payload)) (n : ℕ) (run : List Payload × Payload) → new ≡ old → IsDeclared m n → Keeps m old new (run_records n run)
+  pub keeps_declared : (old new : List (ℕ × Payload)) (n : ℕ) (run : List Payload × Payload) → new ≡ old → IsDeclared m n → KeepsUndeclared m old new (run_records n run)
   keeps_declared old new n run e is = record {
     behind = λ k u. ap (numbered k) e ∙ sym (ap (λ l. numbered k old ++ l) (not_numbered k n (run.0 ++ run.1 ∷ []) (λ same. u (subst (IsDeclared m) same is))) ∙ append-nil (numbered k old));
     declared = λ k is. ap (numbered k) e;
@@ -118,7 +118,7 @@ module _ (m : MessageDescriptor) where
     pub kept_if_read : (old new : List (ℕ × Payload)) (r : Result (Bor (List ℕ)) WireError) → (IsDeclared m key.number → ⊥)
         → 1 ≤ key.number → key.number ≤ last
         → IfOk r (λ rest. (p : Payload) × Fronts (IsValue levels key) bytes p rest.now × (new ≡ with_record old (key.number, p)))
-        → IfOk r (λ rest. (run : List Payload × Payload) × Fronts (IsRun levels key) bytes run rest.now × Keeps m old new (run_records key.number run)
+        → IfOk r (λ rest. (run : List Payload × Payload) × Fronts (IsRun levels key) bytes run rest.now × KeepsUndeclared m old new (run_records key.number run)
         × (Ascend 1 last old → Ascend 1 last new))
     kept_if_read old new (Ok rest) none least most h = (
       ([], h.0),

@@ -11,7 +11,7 @@ use Rattle.reflect_wire.specs.declared.wire_key.WireType.TheVariants.{Varint}
 use Rattle.reflect_pool.specs.declared.kind.Kind.{Kind}
 use Rattle.reflect_pool.specs.declared.kind.Kind.TheVariants as kinds
 use Rattle.reflect_scalar.specs.Kinds.{wire_type}
-use Rattle.reflect_scalar.specs.Meaning.{IsNoText, IsPlain, IsScalar, IsUnread, StandsFor, MeaningFault, PlainFault, ScalarFault}
+use Rattle.reflect_scalar.specs.Meaning.{IsNoText, IsPlainPayload, IsScalar, IsUnread, StandsFor, MeaningFault, PlainFault, ScalarFault}
 use Rattle.reflect_scalar.specs.Singles.{Single}
 use Rattle.reflect_scalar.proofs.ReadBack.{one_value}
 use Rattle.reflect_decode.specs.Packed.{IsPacked, Continues}
@@ -50,7 +50,7 @@ module _ (kind : Kind) where
     pub scalar_of_varint : (bytes rest : List ℕ) (n : ℕ) (v : Single) → Fronts IsVarint bytes n rest → StandsFor kind (varint n) v → Fronts (IsScalar kind (wire_type kind)) bytes v rest
     scalar_of_varint bytes rest n v found means = (found.0, (varint n, (is, found.1), means), found.2)
 
-    no_payload : (bytes front rest : List ℕ) (p : Payload) → NoFront IsVarint bytes → IsPlain (wire_type kind) front p → bytes ≡ front ++ rest → ⊥
+    no_payload : (bytes front rest : List ℕ) (p : Payload) → NoFront IsVarint bytes → IsPlainPayload (wire_type kind) front p → bytes ≡ front ++ rest → ⊥
     no_payload bytes front rest (varint n) none h e = none front rest n h.1 e
     no_payload bytes front rest p none h e = absurd (cc (is, h.0))
 

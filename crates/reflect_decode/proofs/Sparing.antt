@@ -18,7 +18,7 @@ use Rattle.reflect_message.specs.Contents.{Content, nothing}
 use Rattle.reflect_message.specs.Known.{known_field, known_extension}
 use Rattle.reflect_decode.specs.Accepts.{Accepts, AcceptsField, AcceptsMessage}
 use Rattle.reflect_decode.specs.Fields.{HoldFields, HoldExtensions}
-use Rattle.reflect_decode.specs.Keeps.{numbered, Keeps}
+use Rattle.reflect_decode.specs.Keeps.{numbered, KeepsUndeclared}
 use Rattle.reflect_decode.specs.Merging.{IsBody, IsRun, run_records}
 use Rattle.reflect_decode.specs.Messages.{Takes}
 use Rattle.reflect_decode.specs.Ordered.{AreNumbered, Ascend, IsOrdered, last}
@@ -161,7 +161,7 @@ module _ (inner : Takes) (m : MessageDescriptor) where
     Answers rest = (run : List Payload × Payload) × Fronts (IsRun levels key) bytes run rest × Merges inner m old new (run_records key.number run) × (Suits levels m old → Accepts levels m (run_records key.number run))
 
     pub merges_kept : (r : Result (Bor (List ℕ)) WireError) → None ≡ known_field m.pool.now m.index key.number → None ≡ known_extension m.pool.now m.index key.number → NoField m key.number → ((x : ExtensionDescriptor) → OwnsExtension m x → (extension_type x).number ≢ key.number) → new.fields ≡ old.fields → new.choices ≡ old.choices → new.extensions ≡ old.extensions
-        → IfOk r (λ rest. (run : List Payload × Payload) × Fronts (IsRun levels key) bytes run rest.now × Keeps m old.unknown new.unknown (run_records key.number run)
+        → IfOk r (λ rest. (run : List Payload × Payload) × Fronts (IsRun levels key) bytes run rest.now × KeepsUndeclared m old.unknown new.unknown (run_records key.number run)
         × (Ascend 1 last old.unknown → Ascend 1 last new.unknown))
         → IfOk r (λ rest. Answers rest.now)
     merges_kept (Ok rest) no_field no_extension none apart fields choices extensions h = (
@@ -218,12 +218,12 @@ module _ (inner : Takes) (m : MessageDescriptor) where
 -- what a message that held nothing holds of the records
 pub decoded : (inner : Takes) (m type : MessageDescriptor) (levels : ℕ) (bytes rest : List ℕ) (a b : Content) (rs : List (ℕ × Payload)) → type ≡ m → Fronts (IsBody None levels) bytes rs rest → rest ≡ [] → Merges inner type a b rs
     → a.fields ≡ [] → a.extensions ≡ [] → a.unknown ≡ [] → AreChosen type a.choices a.fields → a ≡ nothing → (Suits levels type a → Accepts levels type rs)
-    → (rs : List (ℕ × Payload)) × SpellsRecords levels bytes (records_of rs) × Keeps m [] b.unknown rs × HoldsRead (NoField m) b.fields rs × HoldsRead (NoExtension m) b.extensions rs × HoldFields inner m b.fields rs × HoldExtensions inner m b.extensions rs × Accepts levels m rs × IsOrdered b
+    → (rs : List (ℕ × Payload)) × SpellsRecords levels bytes (records_of rs) × KeepsUndeclared m [] b.unknown rs × HoldsRead (NoField m) b.fields rs × HoldsRead (NoExtension m) b.extensions rs × HoldFields inner m b.fields rs × HoldExtensions inner m b.extensions rs × Accepts levels m rs × IsOrdered b
 decoded inner m type levels bytes rest a b rs same read whole h fields extensions unknown chosen empty accepted =
     let merged = subst (λ m. Merges inner m a b rs) same h in (
       rs,
       whole_body levels bytes rest rs read whole,
-      subst (λ l. Keeps m l b.unknown rs) unknown merged.unknown,
+      subst (λ l. KeepsUndeclared m l b.unknown rs) unknown merged.unknown,
       λ n e. by n (merged.fields.spared n e),
       λ n e. merged.extensions.spared n e ∙ ap (λ l. value_at l n) extensions,
       filled_empty inner m a b rs fields (merged.filled (subst (λ m. AreChosen m a.choices a.fields) same chosen)),

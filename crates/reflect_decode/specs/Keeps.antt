@@ -16,7 +16,8 @@ payloads n rs = map (λ r. r.1) (numbered n rs)
 
 -- behind the old records of each undeclared number stand the read ones; of declared numbers none is
 -- put, and of numbers that are not read the old ones stay
-pub record Keeps (m : MessageDescriptor) (old new read : List (ℕ × Payload)) : Type 0 where
+pub record KeepsUndeclared (m : MessageDescriptor) (old new read : List (ℕ × Payload))
+    : Type 0 where
   pub behind : (n : ℕ) → (IsDeclared m n → ⊥) → numbered n new ≡ numbered n old ++ numbered n read
   pub declared : (n : ℕ) → IsDeclared m n → numbered n new ≡ numbered n old
   pub others : (n : ℕ) → numbered n read ≡ [] → numbered n new ≡ numbered n old

@@ -11,7 +11,7 @@ use Rattle.reflect_wire.specs.Records.{Payload}
 use Rattle.reflect_message.specs.Contents.{Content}
 use Rattle.reflect_message.specs.Declares.{Declares, NoField, Owns, OwnsExtension}
 use Rattle.reflect_decode.specs.Fields.{LeavesField, LeavesExtension}
-use Rattle.reflect_decode.specs.Keeps.{numbered, Keeps}
+use Rattle.reflect_decode.specs.Keeps.{numbered, KeepsUndeclared}
 use Rattle.reflect_decode.specs.Messages.{Takes}
 use Rattle.reflect_decode.specs.Ordered.{HoldsInOrder, IsOrdered}
 use Rattle.reflect_message.specs.Oneofs.{AreChosen}
@@ -72,6 +72,6 @@ pub record Merges (inner : Takes) (m : MessageDescriptor) (old new : Content)
   pub filled : AreChosen m old.choices old.fields → FillsFields inner m old new read
   pub extensions : SparesExtensions m old.extensions new.extensions read
   pub extended : FillsExtensions inner m old.extensions new.extensions read
-  pub unknown : Keeps m old.unknown new.unknown read
+  pub unknown : KeepsUndeclared m old.unknown new.unknown read
   pub ordered : IsOrdered old → IsOrdered new
   pub in_order : HoldsInOrder old → HoldsInOrder new

@@ -11,7 +11,7 @@ use Rattle.reflect_message.specs.Contents.{Content, content_of}
 use Rattle.reflect_message.specs.Copies.{IsCopy}
 use Rattle.reflect_message.specs.Declares.{NoField}
 use Rattle.reflect_message.specs.Held.{fields_of, extensions_of, unknown_of}
-use Rattle.reflect_decode.specs.Keeps.{Keeps}
+use Rattle.reflect_decode.specs.Keeps.{KeepsUndeclared}
 use Rattle.reflect_decode.specs.Levels.{MergesAt, TakesAt}
 use Rattle.reflect_decode.specs.Ordered.{HoldsInOrder, IsOrdered}
 use Rattle.reflect_decode.specs.Refused.{BodyFault}
@@ -24,7 +24,7 @@ use Rattle.reflect_message.specs.Names.{DynamicMessage}
 abbrev pub IsSpelled : MessageDescriptor → List ℕ → DynamicMessage → Type 0
 IsSpelled d bytes m =
     (rs : List (ℕ × Payload)) × SpellsRecords 100 bytes (records_of rs)
-    × Keeps d [] (unknown_of m) rs
+    × KeepsUndeclared d [] (unknown_of m) rs
     × HoldsRead (NoField d) (fields_of m) rs × HoldsRead (NoExtension d) (extensions_of m) rs
     × HoldFields (TakesAt 100) d (fields_of m) rs
     × HoldExtensions (TakesAt 100) d (extensions_of m) rs

@@ -55,9 +55,9 @@ Says types.Double text d = d ≡ says.Float
 Says _ text d = ⊥
 
 -- what the text says as the type's default; none where it says nothing
-abbrev pub IsRead : FieldType → List ℕ → Option DefaultText → Type 0
-IsRead t text (Some d) = Says t text d
-IsRead t text None = (d : DefaultText) → Says t text d → ⊥
+abbrev pub SaysDefault : FieldType → List ℕ → Option DefaultText → Type 0
+SaysDefault t text (Some d) = Says t text d
+SaysDefault t text None = (d : DefaultText) → Says t text d → ⊥
 
 abbrev pub HasDefault : Option FieldType → List ℕ → Type 0
 HasDefault None text = ⊥

@@ -2,7 +2,7 @@
 
 ghost use Rattle.std.specs.Prelude.{◌≡◌};
 ghost use Rattle.descriptor_records.specs.declared.field.FieldType.TheVariants as types;
-ghost use Rattle.reflect_defaults.specs.Defaults.{is_decimal, is_integer, IsRead};
+ghost use Rattle.reflect_defaults.specs.Defaults.{is_decimal, is_integer, SaysDefault};
 
 use descriptor_records::FieldType;
 use protox_lex::is_escaped;
@@ -45,7 +45,7 @@ fn is_integer(text: &[u8]) -> bool
 }
 
 fn signed_32(text: &str) -> Option<DefaultText>
-    ensures { IsRead types.Int32 text.now result }
+    ensures { SaysDefault types.Int32 text.now result }
 {
     if !is_integer(text.as_bytes()) {
         return None;
@@ -57,7 +57,7 @@ fn signed_32(text: &str) -> Option<DefaultText>
 }
 
 fn signed_64(text: &str) -> Option<DefaultText>
-    ensures { IsRead types.Int64 text.now result }
+    ensures { SaysDefault types.Int64 text.now result }
 {
     if !is_integer(text.as_bytes()) {
         return None;
@@ -69,7 +69,7 @@ fn signed_64(text: &str) -> Option<DefaultText>
 }
 
 fn unsigned_32(text: &str) -> Option<DefaultText>
-    ensures { IsRead types.Uint32 text.now result }
+    ensures { SaysDefault types.Uint32 text.now result }
 {
     if !are_digits(text.as_bytes()) {
         return None;
@@ -81,7 +81,7 @@ fn unsigned_32(text: &str) -> Option<DefaultText>
 }
 
 fn unsigned_64(text: &str) -> Option<DefaultText>
-    ensures { IsRead types.Uint64 text.now result }
+    ensures { SaysDefault types.Uint64 text.now result }
 {
     if !are_digits(text.as_bytes()) {
         return None;
@@ -93,7 +93,7 @@ fn unsigned_64(text: &str) -> Option<DefaultText>
 }
 
 fn truth(text: &str) -> Option<DefaultText>
-    ensures { IsRead types.Bool text.now result }
+    ensures { SaysDefault types.Bool text.now result }
 {
     if text == "true" {
         Some(DefaultText::Bool(true))
@@ -111,7 +111,7 @@ fn truth(text: &str) -> Option<DefaultText>
 /// Integers are decimal, with a `-` in front where the type has negative numbers; truth values are
 /// `true` and `false`; bytes are escaped as in C.
 pub fn read_default(field_type: FieldType, text: &str) -> Option<DefaultText>
-    ensures { IsRead field_type text.now result }
+    ensures { SaysDefault field_type text.now result }
 {
     match field_type {
         FieldType::Int32 | FieldType::Sint32 | FieldType::Sfixed32 => signed_32(text),

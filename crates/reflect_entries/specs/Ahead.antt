@@ -7,8 +7,8 @@ use Rattle.std.specs.Vec.Iter.{into_iter_items}
 use Rattle.reflect_entries.specs.declared.entries.Iter.{Iter}
 use Rattle.reflect_entries.specs.declared.entries.IntoIter.{IntoIter}
 
-abbrev pub left : {V : Type 0} → Iter V → List (ℕ × V)
-left i = zip (iter_rest i.numbers) (iter_rest i.values)
+abbrev pub entries_left : {V : Type 0} → Iter V → List (ℕ × V)
+entries_left i = zip (iter_rest i.numbers) (iter_rest i.values)
 
 abbrev pub lent : {V : Type 0} → ℕ × Bor V → ℕ × V
 lent p = (p.0, p.1.now)

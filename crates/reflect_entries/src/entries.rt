@@ -81,7 +81,7 @@ fn insert_both<V: Drop>(
 }
 
 impl<V> Entries<V> {
-    ghost use Rattle.reflect_entries.specs.Ahead.{left, taken};
+    ghost use Rattle.reflect_entries.specs.Ahead.{entries_left, taken};
 
     /// No entries. Takes no memory.
     pub fn new(alloc: Global) -> Entries<V>
@@ -109,7 +109,7 @@ impl<V> Entries<V> {
 
     /// The numbers with their values, by ascending number.
     pub fn iter(&self) -> Iter<'_, V>
-        ensures { left result ≡ self.now }
+        ensures { entries_left result ≡ self.now }
     {
         Iter {
             numbers: self.numbers.iter(),
@@ -276,13 +276,13 @@ pub struct Iter<'e, V> {
 
 impl<'e, V> Iterator for Iter<'e, V> {
     ghost use Rattle.std.specs.Iterator.{YieldsFirstBy, item_count};
-    ghost use Rattle.reflect_entries.specs.Ahead.{left, lent};
+    ghost use Rattle.reflect_entries.specs.Ahead.{entries_left, lent};
 
     type Item = (u32, &'e V);
 
-    ghost next_gives = { YieldsFirstBy lent left };
+    ghost next_gives = { YieldsFirstBy lent entries_left };
 
-    ghost remaining = { item_count left };
+    ghost remaining = { item_count entries_left };
 
     fn next(&mut self) -> Option<(u32, &'e V)> {
         let number = self.numbers.next()?;

@@ -11,7 +11,7 @@ use Rattle.reflect_scalar.specs.FieldTypes.{field_pool}
 use Rattle.reflect_message.specs.Held.{fields_of}
 use Rattle.reflect_message.specs.MapKeys.{key_of_value}
 use Rattle.reflect_message.specs.Names.{DynamicMessage, Value}
-use Rattle.reflect_extend.specs.Gives.{Entry, GivesAs, GivesEntry, IsPart, left_under}
+use Rattle.reflect_extend.specs.Gives.{Entry, GivesAs, GivesEntry, IsSetOrDefault, left_under}
 
 -- what stands under a number once another is unset
 left_same : (old new : List (ℕ × Value)) (taken n : ℕ) → Updates old new taken None
@@ -24,15 +24,15 @@ left_same old new taken n updates = by (n == taken) refl where
 -- a field that stands at a place of a type
 part_at : (d : MessageDescriptor) (f : FieldDescriptor) (place : ℕ) (held : ℕ → Option Value)
     (v : Value) → f.message ≡ d → f.index ≡ place
-    → IsPart (field_pool f) (field_type f) (held (field_type f).number) v
+    → IsSetOrDefault (field_pool f) (field_type f) (held (field_type f).number) v
     → (type : FieldType) × (type ≡ type_of_field d.pool.now d.index place)
-    × (type ≡ field_type f) × IsPart d.pool.now type (held type.number) v
+    × (type ≡ field_type f) × IsSetOrDefault d.pool.now type (held type.number) v
 part_at d f place held v message index part = (
   field_type f,
   ap (λ (m : MessageDescriptor). type_of_field m.pool.now m.index f.index) message
       ∙ ap (type_of_field d.pool.now d.index) index,
   refl,
-  subst (λ (m : MessageDescriptor). IsPart m.pool.now (field_type f) (held (field_type f).number) v)
+  subst (λ (m : MessageDescriptor). IsSetOrDefault m.pool.now (field_type f) (held (field_type f).number) v)
       message part,
 )
 
@@ -43,10 +43,10 @@ module _ (m : DynamicMessage) (d : MessageDescriptor) (keys values : FieldDescri
     (first : IfSome (type_at d.pool.now d.index).entry (λ e. keys.index ≡ e.key))
     (values_of : values.message ≡ d)
     (second : IfSome (type_at d.pool.now d.index).entry (λ e. values.index ≡ e.value))
-    (key_part : IsPart (field_pool keys) (field_type keys)
+    (key_part : IsSetOrDefault (field_pool keys) (field_type keys)
     (value_at (fields_of m) (field_type keys).number) key)
     (taken : Updates (fields_of m) left (field_type keys).number None)
-    (value_part : IsPart (field_pool values) (field_type values)
+    (value_part : IsSetOrDefault (field_pool values) (field_type values)
     (value_at left (field_type values).number) value)
     (is : given ≡ option_map (λ k. (k, value)) (key_of_value key)) where
   pub gives : GivesEntry m given
@@ -61,12 +61,12 @@ module _ (m : DynamicMessage) (d : MessageDescriptor) (keys values : FieldDescri
             (subst (λ o. IfSome o (λ (e : StoredEntry). keys.index ≡ e.key)) there first) key_part in
             let v = part_at d values e.value (value_at left) value values_of
             (subst (λ o. IfSome o (λ (e : StoredEntry). values.index ≡ e.value)) there second) value_part in
-            let behind = subst (λ o. IsPart d.pool.now v.0 o value)
+            let behind = subst (λ o. IsSetOrDefault d.pool.now v.0 o value)
             (left_same (fields_of m) left (field_type keys).number v.0.number taken) v.3 in (
               key,
               value,
-              subst (λ (f : FieldType). IsPart d.pool.now f (value_at (fields_of m) f.number) key) k.1 k.3,
-              subst (λ (f : FieldType). IsPart d.pool.now f (left_under (type_of_field d.pool.now d.index e.key).number (fields_of m) f.number) value) v.1
-                  (subst (λ (f : FieldType). IsPart d.pool.now v.0 (left_under f.number (fields_of m) v.0.number) value) (sym k.2 ∙ k.1) behind),
+              subst (λ (f : FieldType). IsSetOrDefault d.pool.now f (value_at (fields_of m) f.number) key) k.1 k.3,
+              subst (λ (f : FieldType). IsSetOrDefault d.pool.now f (left_under (type_of_field d.pool.now d.index e.key).number (fields_of m) f.number) value) v.1
+                  (subst (λ (f : FieldType). IsSetOrDefault d.pool.now v.0 (left_under f.number (fields_of m) v.0.number) value) (sym k.2 ∙ k.1) behind),
               is,
             )

@@ -16,8 +16,8 @@ abbrev pub Entry : Type 0
 Entry = MapKey × Value
 
 -- the value is what the field holds, if it is set, else the field's default
-abbrev pub IsPart : PoolType → FieldType → Option Value → Value → Type 0
-IsPart pool f held v = IsHeldOrDefault pool f (held_if_set pool f held) v
+abbrev pub IsSetOrDefault : PoolType → FieldType → Option Value → Value → Type 0
+IsSetOrDefault pool f held v = IsHeldOrDefault pool f (held_if_set pool f held) v
 
 -- what stands under a number, once what stands under the first is taken out
 abbrev pub left_under : ℕ → List (ℕ × Value) → ℕ → Option Value
@@ -26,8 +26,8 @@ left_under taken fields n = cond (n == taken) None (value_at fields n)
 -- the key is taken out of what is held, then the value; what can be no key gives nothing
 abbrev pub GivesPair : PoolType → FieldType → FieldType → List (ℕ × Value) → Option Entry → Type 0
 GivesPair pool keys values fields given =
-    (key value : Value) × IsPart pool keys (value_at fields keys.number) key
-    × IsPart pool values (left_under keys.number fields values.number) value
+    (key value : Value) × IsSetOrDefault pool keys (value_at fields keys.number) key
+    × IsSetOrDefault pool values (left_under keys.number fields values.number) value
     × (given ≡ option_map (λ k. (k, value)) (key_of_value key))
 
 -- a message of a type of entries gives its key and its value, and one of another type nothing
@@ -46,5 +46,5 @@ abbrev pub GivesIn : Option DynamicMessage → Option Entry → Type 0
 GivesIn None given = given ≡ None
 GivesIn (Some m) given = GivesEntry m given
 
-abbrev pub Gives : Value → Option Entry → Type 0
-Gives v given = GivesIn (message_in v) given
+abbrev pub GivesOneEntry : Value → Option Entry → Type 0
+GivesOneEntry v given = GivesIn (message_in v) given

@@ -4,7 +4,7 @@ use Rattle.std.specs.Prelude.{◌≡◌, List, [], ◌∷◌, ◌++◌, Option, 
 use Rattle.std.specs.BTreeMap.{insert_entry}
 use Rattle.reflect_message.specs.Maps.{entries_held, key_order}
 use Rattle.reflect_message.specs.Names.{Value}
-use Rattle.reflect_extend.specs.Gives.{Entry, Gives}
+use Rattle.reflect_extend.specs.Gives.{Entry, GivesOneEntry}
 
 -- the entry, if there is one, over what stood under an equal key
 abbrev pub with_given : List Entry → Option Entry → List Entry
@@ -13,7 +13,7 @@ with_given es (Some e) = insert_entry key_order es e.0 e.1
 
 -- the value puts the entry that it gives; one that gives none is passed over
 abbrev pub Puts : List Entry → List Entry → Value → Type 0
-Puts old new v = (given : Option Entry) × Gives v given × (new ≡ with_given old given)
+Puts old new v = (given : Option Entry) × GivesOneEntry v given × (new ≡ with_given old given)
 
 -- the values do so one behind the other
 abbrev pub PutsAll : List Entry → List Entry → List Value → Type 0

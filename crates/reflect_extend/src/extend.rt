@@ -8,7 +8,7 @@ ghost use Rattle.reflect_scalar.specs.FieldTypes.{field_pool};
 ghost use Rattle.reflect_message.specs.Declares.{Declares};
 ghost use Rattle.reflect_message.specs.Lists.{list_items, Lengthens, KeepsList};
 ghost use Rattle.reflect_message.specs.Held.{fields_of, Same};
-ghost use Rattle.reflect_extend.specs.Gives.{Gives, GivesEntry, IsPart};
+ghost use Rattle.reflect_extend.specs.Gives.{GivesOneEntry, GivesEntry, IsSetOrDefault};
 ghost use Rattle.reflect_extend.specs.Others.{KeepsOther, StaysUnset};
 ghost use Rattle.reflect_extend.specs.Puts.{Puts, PutsAll, PutsFront, PutsEntries, PutsSome};
 
@@ -168,7 +168,7 @@ fn insert_one<'p>(
 
 /// The entry that a value gives, if it is a message of a type of entries.
 fn entry_of<'p>(alloc: Global, value: Value<'p>) -> Result<Option<(MapKey, Value<'p>)>, AllocError>
-    ensures { IfOk result (Gives value.entry) }
+    ensures { IfOk result (GivesOneEntry value.entry) }
 {
     match value {
         Value::Message(entry) => key_and_value(alloc, entry),
@@ -205,7 +205,7 @@ fn taken<'p>(
 ) -> Result<Value<'p>, AllocError>
     requires { Declares message.old.descriptor field }
     ensures type_stays { message.new.descriptor ≡ message.old.descriptor }
-    ensures part { IfOk result (IsPart (field_pool field.entry) (field_type field.entry)
+    ensures part { IfOk result (IsSetOrDefault (field_pool field.entry) (field_type field.entry)
         (value_at (fields_of message.old) (field_type field.entry).number)) }
     ensures taken { Updates (fields_of message.old) (fields_of message.new)
         (field_type field.entry).number None }

@@ -4,7 +4,7 @@ use Rattle.descriptor_records.specs.declared.field.FieldDescriptorProto.{FieldDe
 use Rattle.descriptor_records.specs.declared.field.FieldType.{FieldType}
 use Rattle.descriptor_records.specs.FieldNumbers.{IsTypeOf}
 use Rattle.protox_lex.specs.Lex.{unescaped}
-use Rattle.reflect_defaults.specs.Defaults.{IsRead}
+use Rattle.reflect_defaults.specs.Defaults.{SaysDefault}
 use Rattle.reflect_defaults.specs.declared.default.DefaultText.{DefaultText}
 use Rattle.reflect_defaults.specs.declared.default.DefaultText.TheVariants as says
 use Rattle.reflect_tables.specs.Types.{KindType, enumeration, DefaultType, signed, unsigned, truth, text, octets, named, fraction}
@@ -20,7 +20,7 @@ default_type s says.Float = fraction s
 
 -- what the text says as the scalar type's default; none where it says nothing
 abbrev pub IsScalarDefault : FieldType → List ℕ → Option DefaultType → Type 0
-IsScalarDefault t s d = (read : Option DefaultText) × IsRead t s read
+IsScalarDefault t s d = (read : Option DefaultText) × SaysDefault t s read
     × (d ≡ option_map (default_type s) read)
 
 -- the same of the type that has the number

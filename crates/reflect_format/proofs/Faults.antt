@@ -27,7 +27,7 @@ use Rattle.text_scalars.specs.Scalars.{Found, meaning, scalar_at}
 use Rattle.text_scalars.specs.declared.tokens.Brace.{Brace}
 use Rattle.text_syntax.specs.Syntax.{Inner, value_at}
 use Rattle.text_syntax.proofs.Continuing.{joined}
-use Rattle.reflect_format.specs.Kinds.{IsRead, ReadsSingle, RefusesKind, kind_value_at, names_of, scalar_of, single_of, value_by}
+use Rattle.reflect_format.specs.Kinds.{IsReadSingle, ReadsSingle, RefusesKind, kind_value_at, names_of, scalar_of, single_of, value_by}
 use Rattle.reflect_format.specs.Refusals.{HoldsMember, IsTextName, Shares, TellsOneof, TellsSet}
 use Rattle.reflect_format.specs.Steps.{is_set}
 use Rattle.reflect_format.specs.Told.{BodyFault, ListBegins, MessageFault, MessageFaults, SecondFault, Told, ValueBytes, ValueFault}
@@ -54,7 +54,7 @@ both_told P Q _ p q = (p, q)
 -- ---- names
 
 pub reading_told : {A B : Type 0} (view : B → A) (r : Reading A) (k : ParseErrorKind)
-    (rest : List Lexeme) → told.Reads view r (Err k) rest → Told (told.TellsStop r) k
+    (rest : List Lexeme) → told.ReadsLexemes view r (Err k) rest → Told (told.TellsStop r) k
 reading_told view (Ok p) kinds.Memory rest h = tt
 reading_told view (Ok p) _ rest h = absurd h
 reading_told view (Err stop) kinds.Memory rest h = tt
@@ -135,7 +135,7 @@ pub scalar_bytes : (n : ℕ) (kind : Kind) (ls rest : List Lexeme)
     → ReadsSingle (kind_value_at kind ls) r rest → IfOk r (λ p. ValueBytes n kind ls p.1)
 scalar_bytes n kind ls rest (Err k) not h = tt
 scalar_bytes n kind ls rest (Ok p) not h = of kind not (by (single_of p.0) h) where
-  by : (o : Option Single) → IsRead o p.1 (kind_value_at kind ls) rest
+  by : (o : Option Single) → IsReadSingle o p.1 (kind_value_at kind ls) rest
       → option_map (λ f. f.span) (scalar_at ls) ≡ Some p.1
   by None e = absurd e
   by (Some v) e = bytes_by (names_of kind) (scalar_of kind) ls v p.1 rest e

@@ -51,7 +51,7 @@ passes P Q r k is f h = caused Q r k is (cause_of P Q k f h)
 -- a refusal that is told of a reading
 told_cause : {A B : Type 0} (view : B → A) (r : Reading A) (k : ParseErrorKind) (rest : List Lexeme)
     (P : Type 0) → ((stop : Text × List Lexeme) → r ≡ Err stop → P)
-    → told.Reads view r (Err k) rest → IsCause P k
+    → told.ReadsLexemes view r (Err k) rest → IsCause P k
 told_cause view (Ok p) kinds.Memory rest P f h = tt
 told_cause view (Ok p) _ rest P f h = absurd h
 told_cause view (Err stop) kinds.Memory rest P f h = tt
@@ -68,7 +68,7 @@ unseen ls stop h = by (name_at ls) refl where
     again (Err u) = Err u
 
 pub name_told : (inner : Inner) (ls rest : List Lexeme) (k : ParseErrorKind)
-    → told.Reads view_and_bytes (seen_as text_and_bytes (name_at ls)) (Err k) rest
+    → told.ReadsLexemes view_and_bytes (seen_as text_and_bytes (name_at ls)) (Err k) rest
     → IsCause (field_at inner ls ≡ None) k
 name_told inner ls rest k h =
     told_cause view_and_bytes (seen_as text_and_bytes (name_at ls)) k rest (field_at inner ls ≡ None)
@@ -76,7 +76,7 @@ name_told inner ls rest k h =
 
 pub colon_told : (inner : Inner) (ls named rest : List Lexeme) (p : FieldName × Span)
     (k : ParseErrorKind) → name_at ls ≡ Ok (p, named)
-    → told.Reads (λ x. x) (separator_at named) (Err k) rest → IsCause (field_at inner ls ≡ None) k
+    → told.ReadsLexemes (λ x. x) (separator_at named) (Err k) rest → IsCause (field_at inner ls ≡ None) k
 colon_told inner ls named rest p k e h =
     told_cause (λ x. x) (separator_at named) k rest (field_at inner ls ≡ None)
     (λ stop f. no_colon inner ls named p stop e f) h

@@ -18,8 +18,8 @@ use Rattle.reflect_pool.specs.declared.kind.Kind.TheVariants as values
 use Rattle.reflect_pool.specs.declared.message.MessageDescriptor.{MessageDescriptor}
 use Rattle.reflect_message.specs.Names as held
 use Rattle.reflect_format.specs.Filled.{IsValue}
-use Rattle.reflect_format.specs.Kinds.{IsRead, ReadsSingle, given_by, kind_value_at, names_of, scalar_given, scalar_of, single_of, value_by}
-use Rattle.reflect_format.specs.Reads.{Reads, Refutes}
+use Rattle.reflect_format.specs.Kinds.{IsReadSingle, ReadsSingle, given_by, kind_value_at, names_of, scalar_given, scalar_of, single_of, value_by}
+use Rattle.reflect_format.specs.Reads.{ReadsTree, Refutes}
 use Rattle.reflect_format.specs.Unfit.{IsUnfitValue, NoMessage, Refusal, Unfit}
 
 record Given (enum : Text → Option ℤ) (o : Option Scalar) (ls : List Lexeme) (x : Single)
@@ -60,15 +60,15 @@ missing enum (Some k) ls h f e = on (scalar_in enum k f.value) refl where
 
 pub scalar_reads : (k : Kind) (ls rest : List Lexeme) (inner : Inner)
     (r : Result (held.Value × Span) ParseErrorKind) → ReadsSingle (kind_value_at k ls) r rest
-    → IfOk r (λ p. Reads (value_at inner ls) (λ v. IsValue v k p.0) rest)
+    → IfOk r (λ p. ReadsTree (value_at inner ls) (λ v. IsValue v k p.0) rest)
 scalar_reads k ls rest inner (Err e) h = tt
 scalar_reads k ls rest inner (Ok p) h = by (single_of p.0) refl where
   by : (o : Option Single) → single_of p.0 ≡ o
-      → Reads (value_at inner ls) (λ v. IsValue v k p.0) rest
-  by None e = absurd (subst (λ o. IsRead o p.1 (kind_value_at k ls) rest) e h)
+      → ReadsTree (value_at inner ls) (λ v. IsValue v k p.0) rest
+  by None e = absurd (subst (λ o. IsReadSingle o p.1 (kind_value_at k ls) rest) e h)
   by (Some x) e =
       let g = found_of (names_of k) (scalar_of k) ls x p.1 rest
-      (subst (λ o. IsRead o p.1 (kind_value_at k ls) rest) e h) in (
+      (subst (λ o. IsReadSingle o p.1 (kind_value_at k ls) rest) e h) in (
         scalar g.found.value,
         scalar_read inner ls g.found g.there
             ∙ ap (λ r. let it : Read Value = Some (scalar g.found.value, r) in it) g.same,

@@ -21,7 +21,7 @@ use Rattle.text_model.specs.Tree.{FieldName, plain, extension, expansion, Scalar
 use Rattle.text_model.specs.Value.{written}
 use Rattle.reflect_format.specs.Kinds.{scalar_given, single_of}
 use Rattle.reflect_format.specs.Named.{NamesField, NamesExtension}
-use Rattle.reflect_format.specs.Steps.{Adds, Puts, SetsNumber, StaysExclusive, StaysAscending, is_set}
+use Rattle.reflect_format.specs.Steps.{AddsValues, Puts, SetsNumber, StaysExclusive, StaysAscending, is_set}
 use Rattle.reflect_format.specs.Refusals.{Shares, HoldsMember}
 use Rattle.reflect_format.specs.Takes.{holds_many, target_pool, target_type}
 use Rattle.reflect_format.specs.declared.target.Target.{Target}
@@ -78,11 +78,11 @@ abbrev pub Assigns : Target → OfKind → ListOfKind → Filling
 Assigns t one all old new =
     (k : Kind) × IsKind (target_pool t) k (target_type t).kind
     × (((v : held.Value) × one k v × PutsOne t v old new)
-    ⊎ ((vs : List held.Value) × (holds_many t ≡ true) × all k vs × Adds t vs old new))
+    ⊎ ((vs : List held.Value) × (holds_many t ≡ true) × all k vs × AddsValues t vs old new))
 
 -- a message is put into a google.protobuf.Any: the name of its type and its bytes
-abbrev pub Holds : Text → DynamicMessage → Filling
-Holds url body old new = IsAny old.descriptor
+abbrev pub PutsIntoAny : Text → DynamicMessage → Filling
+PutsIntoAny url body old new = IsAny old.descriptor
     × (between : DynamicMessage) × SetsNumber 1 (text url) old between
     × SetsNumber 2 (blob (message_bytes body)) between new
     × (between.descriptor ≡ old.descriptor) × (length (message_bytes body) < 2 ^ 64)
@@ -96,7 +96,7 @@ abbrev pub Expands : (domain name : Text) → (fills : Filling) → Filling
 Expands domain name fills old new =
     (d : MessageDescriptor) × (body : DynamicMessage)
     × (d.pool.now ≡ old.descriptor.pool.now) × FindsMessage old.descriptor.pool.now name (Some d)
-    × Makes d fills body × Holds (url_of domain name) body old new
+    × Makes d fills body × PutsIntoAny (url_of domain name) body old new
 
 -- what stands under a name: it fills fields and extensions by the values that are given, and an
 -- Any by the message

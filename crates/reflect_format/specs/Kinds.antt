@@ -73,15 +73,15 @@ single_of (held.Bytes v) = Some (blob v.items)
 single_of (held.EnumNumber z) = Some (enumerated z)
 single_of _ = None
 
-abbrev pub IsRead : Option Single → Span → Option (Single × Span × List Lexeme) → List Lexeme
+abbrev pub IsReadSingle : Option Single → Span → Option (Single × Span × List Lexeme) → List Lexeme
     → Type 0
-IsRead (Some v) span o rest = o ≡ Some (v, span, rest)
-IsRead None span o rest = ⊥
+IsReadSingle (Some v) span o rest = o ≡ Some (v, span, rest)
+IsReadSingle None span o rest = ⊥
 
 -- it is read, and these lexemes stand behind it; or there is none, or memory ran out
 abbrev pub ReadsSingle : Option (Single × Span × List Lexeme)
     → Result (Value × Span) ParseErrorKind → List Lexeme → Type 0
-ReadsSingle o (Ok p) rest = IsRead (single_of p.0) p.1 o rest
+ReadsSingle o (Ok p) rest = IsReadSingle (single_of p.0) p.1 o rest
 ReadsSingle o (Err kinds.Memory) rest = Unit {0}
 ReadsSingle o (Err kind) rest = o ≡ None
 

@@ -13,8 +13,8 @@ use Rattle.reflect_format.specs.Steps.{Stays}
 use Rattle.reflect_format.specs.Unfit.{IsUnfitField}
 
 -- a tree is there of which P holds, and the rest stands behind it
-abbrev pub Reads : {A : Type 0} → Read A → (A → Type 0) → List Lexeme → Type 0
-Reads {A} r P rest = (x : A) × (r ≡ Some (x, rest)) × P x
+abbrev pub ReadsTree : {A : Type 0} → Read A → (A → Type 0) → List Lexeme → Type 0
+ReadsTree {A} r P rest = (x : A) × (r ≡ Some (x, rest)) × P x
 
 -- P is why it is refused, unless memory ran out
 abbrev pub IsCause : Type 0 → ParseErrorKind → Type 0

@@ -110,9 +110,9 @@ IsTextName (targets.Field f) name = ((field_type f).name ≡ name) ⊎ IsGroupCa
 IsTextName (targets.Extension x) name = (extension_at x.pool.now x.index).json_name ≡ name
 
 -- the message holds something under the number
-abbrev pub Holds : DynamicMessage → Target → Type 0
-Holds m (targets.Field f) = IsSome (value_at (fields_of m) (field_type f).number)
-Holds m (targets.Extension x) = IsSome (value_at (extensions_of m) (extension_type x).number)
+abbrev pub HoldsTarget : DynamicMessage → Target → Type 0
+HoldsTarget m (targets.Field f) = IsSome (value_at (fields_of m) (field_type f).number)
+HoldsTarget m (targets.Extension x) = IsSome (value_at (extensions_of m) (extension_type x).number)
 
 -- some of the fields is set
 abbrev pub HoldsAmong : DynamicMessage → List FieldType → Type 0
@@ -125,7 +125,8 @@ HoldsMember m o = HoldsAmong m (members_of o.message.pool.now o.message.index o.
 -- A refusal of a second value: the message holds one of what is told; or a oneof is told that has
 -- the field for a member, and of which the message holds one; or memory ran out.
 abbrev pub RefusesSecond : DynamicMessage → Target → ParseErrorKind → Type 0
-RefusesSecond m t (kinds.FieldAlreadySet field span) = Holds m t × IsTextName t (string_bytes field)
+RefusesSecond m t (kinds.FieldAlreadySet field span) =
+    HoldsTarget m t × IsTextName t (string_bytes field)
 RefusesSecond m t (kinds.OneofAlreadySet oneof span) = (o : OneofDescriptor) × Shares t o
     × HoldsMember m o × TellsOneof o (kinds.OneofAlreadySet oneof span)
 RefusesSecond m t kinds.Memory = Unit {0}

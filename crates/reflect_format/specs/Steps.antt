@@ -70,8 +70,8 @@ Frees (targets.Extension x) old new = Unit {0}
 
 -- values are put behind those of a list, or the entries that they are into a map, and the other
 -- member of its oneof is unset
-abbrev pub Adds : Target → List Value → DynamicMessage → DynamicMessage → Type 0
-Adds t vs old new = ChangesOnly t old new
+abbrev pub AddsValues : Target → List Value → DynamicMessage → DynamicMessage → Type 0
+AddsValues t vs old new = ChangesOnly t old new
     × (holds_list (target_pool t) (target_type t) ≡ true
     → Lengthens (held_by old t) (held_by new t) vs)
     × (holds_map (target_pool t) (target_type t) ≡ true

@@ -2,8 +2,8 @@
 
 ghost use Rattle.reflect_any.specs.Any.{IsAny};
 ghost use Rattle.reflect_format.specs.Begun.{AddsSome, Begins, HoldsUrl};
-ghost use Rattle.reflect_format.specs.Filled.{AreGiven, AreValues, Assigns, Expands, Fills, FillsBody, FillsField, HasRival, Holds, IsAlone, IsGiven, IsValue, Makes, url_of};
-ghost use Rattle.reflect_format.specs.Reads.{IsCause, Reads, Refutes, StaysUnless, Stops, There};
+ghost use Rattle.reflect_format.specs.Filled.{AreGiven, AreValues, Assigns, Expands, Fills, FillsBody, FillsField, HasRival, PutsIntoAny, IsAlone, IsGiven, IsValue, Makes, url_of};
+ghost use Rattle.reflect_format.specs.Reads.{IsCause, ReadsTree, Refutes, StaysUnless, Stops, There};
 ghost use Rattle.reflect_format.specs.Refusals.{RefusesSecond};
 ghost use Rattle.reflect_format.specs.Steps.{is_set};
 ghost use Rattle.reflect_format.specs.Takes.{BelongsTo};
@@ -84,7 +84,7 @@ fn fields_to_end(
 ) -> Result<(), ParseErrorKind>
     ensures type_stays { message.new.descriptor ≡ message.old.descriptor }
     ensures filled { OnOk result
-        (Reads (fields_at at_end (message_at 100) (remaining tokens.old))
+        (ReadsTree (fields_at at_end (message_at 100) (remaining tokens.old))
         (λ fs. Fills fs message.old message.new) (remaining tokens.new)) }
     ensures refused { IfErr result (TrueOf message.old.descriptor.pool.now) }
     ensures cause { IfErr result
@@ -109,7 +109,7 @@ fn field(
 ) -> Result<(), ParseErrorKind>
     ensures taken { OnOk result (left tokens.new < left tokens.old) }
     ensures type_stays { message.new.descriptor ≡ message.old.descriptor }
-    ensures filled { OnOk result (Reads (field_at (message_at braces) (remaining tokens.old))
+    ensures filled { OnOk result (ReadsTree (field_at (message_at braces) (remaining tokens.old))
         (λ f. FillsField f.name f.given message.old message.new) (remaining tokens.new)) }
     ensures refused { IfErr result (TrueOf message.old.descriptor.pool.now) }
     ensures cause { IfErr result (Refutes (field_at (message_at braces) (remaining tokens.old))
@@ -141,7 +141,7 @@ fn named_value(
     ensures taken { OnOk result (left tokens.new < left tokens.old) }
     ensures type_stays { message.new.descriptor ≡ message.old.descriptor }
     ensures filled { (n : FieldName) (colon : Bool) → text_of n ≡ name_view name.entry
-        → OnOk result (Reads (given_at (message_at braces) colon (remaining tokens.old))
+        → OnOk result (ReadsTree (given_at (message_at braces) colon (remaining tokens.old))
         (λ given. FillsField n given message.old message.new) (remaining tokens.new)) }
     ensures refused { IfErr result (TrueOf message.old.descriptor.pool.now) }
     ensures cause { (n : FieldName) (colon : Bool) → text_of n ≡ name_view name.entry
@@ -180,7 +180,7 @@ fn assignment<'p>(
     ensures taken { OnOk result (left tokens.new < left tokens.old) }
     ensures type_stays { message.new.descriptor ≡ message.old.descriptor }
     ensures filled { (colon : Bool)
-        → OnOk result (Reads (given_at (message_at braces) colon (remaining tokens.old))
+        → OnOk result (ReadsTree (given_at (message_at braces) colon (remaining tokens.old))
         (λ given. Assigns target.entry (IsGiven given) (AreGiven given) message.old message.new)
         (remaining tokens.new)) }
     ensures refused { IfErr result (TrueOf message.old.descriptor.pool.now) }
@@ -237,7 +237,7 @@ fn values<'p>(
 ) -> Result<Vec<Value<'p>>, ParseErrorKind>
     ensures taken { IfOk result (λ _. left tokens.new < left tokens.old) }
     ensures read { (colon : Bool)
-        → IfOk result (λ vs. Reads (given_at (message_at braces) colon (remaining tokens.old))
+        → IfOk result (λ vs. ReadsTree (given_at (message_at braces) colon (remaining tokens.old))
         (λ given. AreGiven given kind.entry vs.items) (remaining tokens.new)) }
     ensures refused { IfErr result (TrueFor kind.entry) }
     ensures cause { (colon : Bool)
@@ -263,7 +263,7 @@ fn list<'p>(
     braces: u32,
 ) -> Result<Vec<Value<'p>>, ParseErrorKind>
     ensures taken { IfOk result (λ _. left tokens.new < left tokens.old) }
-    ensures read { IfOk result (λ vs. Reads (list_at (message_at braces) (remaining tokens.old))
+    ensures read { IfOk result (λ vs. ReadsTree (list_at (message_at braces) (remaining tokens.old))
         (λ given. AreValues given kind.entry vs.items) (remaining tokens.new)) }
     ensures refused { IfErr result (TrueFor kind.entry) }
     ensures cause { IfErr result (Refutes (list_at (message_at braces) (remaining tokens.old))
@@ -299,7 +299,7 @@ fn expansion(
     ensures taken { OnOk result (left tokens.new < left tokens.old) }
     ensures type_stays { message.new.descriptor ≡ message.old.descriptor }
     ensures filled { (colon : Bool)
-        → OnOk result (Reads (given_at (message_at braces) colon (remaining tokens.old))
+        → OnOk result (ReadsTree (given_at (message_at braces) colon (remaining tokens.old))
         (λ given. Expands (string_bytes name.domain) (string_bytes name.message)
         (FillsBody given) message.old message.new) (remaining tokens.new)) }
     ensures refused { IfErr result (TrueOf message.old.descriptor.pool.now) }
@@ -334,8 +334,8 @@ fn hold(
 ) -> Result<(), ParseErrorKind>
     ensures type_stays { message.new.descriptor ≡ message.old.descriptor }
     ensures held { OnOk result
-        (Holds (url_of (string_bytes name.now.domain) (string_bytes name.now.message)) body.now
-        message.old message.new) }
+        (PutsIntoAny (url_of (string_bytes name.now.domain) (string_bytes name.now.message))
+        body.now message.old message.new) }
     ensures refused { IfErr result (TrueOf message.old.descriptor.pool.now) }
     ensures cause { IfErr result (IsCause (IsAny message.old.descriptor → ⊥)) }
     ensures stays { IfErr result (λ kind. StaysUnless
@@ -367,7 +367,7 @@ fn value<'p>(
     braces: u32,
 ) -> Result<(Value<'p>, Span), ParseErrorKind>
     ensures taken { IfOk result (λ _. left tokens.new < left tokens.old) }
-    ensures read { IfOk result (λ p. Reads (value_at (message_at braces) (remaining tokens.old))
+    ensures read { IfOk result (λ p. ReadsTree (value_at (message_at braces) (remaining tokens.old))
         (λ v. IsValue v kind.entry p.0) (remaining tokens.new)) }
     ensures refused { IfErr result (TrueFor kind.entry) }
     ensures cause { IfErr result (Refutes (value_at (message_at braces) (remaining tokens.old))
@@ -393,7 +393,7 @@ fn message_value<'p>(
     braces: u32,
 ) -> Result<(DynamicMessage<'p>, Span), ParseErrorKind>
     ensures taken { IfOk result (λ _. left tokens.new < left tokens.old) }
-    ensures made { IfOk result (λ p. Reads (message_at braces (remaining tokens.old))
+    ensures made { IfOk result (λ p. ReadsTree (message_at braces (remaining tokens.old))
         (λ m. Makes descriptor.entry (Fills m.1) p.0) (remaining tokens.new)) }
     ensures refused { IfErr result (TrueOf descriptor.entry.pool.now) }
     ensures cause { IfErr result (Refutes (message_at braces (remaining tokens.old))
@@ -423,7 +423,7 @@ fn fields_to_brace(
 ) -> Result<Span, ParseErrorKind>
     ensures taken { IfOk result (λ _. left tokens.new < left tokens.old) }
     ensures type_stays { message.new.descriptor ≡ message.old.descriptor }
-    ensures filled { IfOk result (λ _. Reads
+    ensures filled { IfOk result (λ _. ReadsTree
         (fields_at (at_sign (signs.closing closing)) (message_at braces) (remaining tokens.old))
         (λ fs. Fills fs message.old message.new) (remaining tokens.new)) }
     ensures refused { IfErr result (TrueOf message.old.descriptor.pool.now) }

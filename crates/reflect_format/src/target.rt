@@ -6,8 +6,8 @@ ghost use Rattle.reflect_format.specs.Filled.{IsAlone};
 ghost use Rattle.reflect_format.specs.Lacks.{FindsPlain, IsGroupCalled, LacksField, LacksGroup};
 ghost use Rattle.reflect_format.specs.Named.{FindsGroup, NamesExtension, NamesField, NoExtensionNamed, NoFieldNamed};
 ghost use Rattle.reflect_format.specs.Reads.{IsCause};
-ghost use Rattle.reflect_format.specs.Refusals.{Holds, HoldsMember, IsTextName, RefusesExtension, RefusesField, Shares};
-ghost use Rattle.reflect_format.specs.Steps.{Adds, AddsPart, Puts, Stays, StaysAscending, StaysExclusive, is_set};
+ghost use Rattle.reflect_format.specs.Refusals.{HoldsTarget, HoldsMember, IsTextName, RefusesExtension, RefusesField, Shares};
+ghost use Rattle.reflect_format.specs.Steps.{AddsValues, AddsPart, Puts, Stays, StaysAscending, StaysExclusive, is_set};
 ghost use Rattle.reflect_format.specs.Takes.{BelongsTo, holds_many, target_pool, target_type};
 ghost use Rattle.reflect_format.specs.Told.{ExtensionFault, Told};
 ghost use Rattle.text_error.specs.Places.{place_of};
@@ -117,7 +117,7 @@ impl<'p> Target<'p> {
     /// The message holds a value of it.
     pub fn is_set(&self, message: &DynamicMessage<'p>) -> bool
         requires { BelongsTo message.now.descriptor self.now }
-        ensures held { IsTrue result → Holds message.now self.now }
+        ensures held { IsTrue result → HoldsTarget message.now self.now }
         ensures set { result ≡ is_set message.now self.now }
     {
         match self {
@@ -168,7 +168,7 @@ impl<'p> Target<'p> {
     ) -> Result<(), AllocError>
         requires { BelongsTo message.old.descriptor self.now }
         ensures type_stays { message.new.descriptor ≡ message.old.descriptor }
-        ensures ok { OnOk result (Adds self.now values.entry.items message.old message.new) }
+        ensures ok { OnOk result (AddsValues self.now values.entry.items message.old message.new) }
         ensures left { OnErr result (AddsPart self.now values.entry.items message.old message.new) }
     {
         match self {

@@ -11,8 +11,8 @@ use Rattle.reflect_names.specs.ReferenceSteps.{target_of}
 use Rattle.reflect_names.specs.declared.resolve_visitor.Reference.{Reference}
 
 -- what is meant by the references that are not written yet
-abbrev pub left : IntoIter Reference Global → List Target
-left rest = map target_of (into_iter_items rest)
+abbrev pub names_left : IntoIter Reference Global → List Target
+names_left rest = map target_of (into_iter_items rest)
 
 -- something with its names written, and what is left behind it
 abbrev pub Rewrites : Type 0 → Type 0

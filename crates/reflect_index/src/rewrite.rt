@@ -5,7 +5,7 @@ ghost use Rattle.descriptor_records.specs.FieldNumbers.{type_number};
 ghost use Rattle.descriptor_records.specs.Content.{text_view, field_view, method_view, service_view, message_view, file_view};
 ghost use Rattle.reflect_known.specs.GivenNames.{field_name, method_name, names_of_file, names_of_message, service_names};
 ghost use Rattle.reflect_tables.specs.Views.{record_file};
-ghost use Rattle.reflect_index.specs.Rewriting.{left, filled, write_name, write_type, write_extension, write_each, write_message, write_method, write_service, write_file, written};
+ghost use Rattle.reflect_index.specs.Rewriting.{names_left, filled, write_name, write_type, write_extension, write_each, write_message, write_method, write_service, write_file, written};
 
 use descriptor_records::{
     DescriptorProto, FieldDescriptorProto, FieldType, FileDescriptorProto, MethodDescriptorProto,
@@ -29,8 +29,8 @@ fn type_of(kind: DefinitionKind) -> FieldType
 
 /// Writes the next reference in place of a name, if there is one.
 fn rewrite_name(name: &mut Option<String>, rest: &mut Rest)
-    ensures { (text_view name.new, left rest.new)
-        ≡ write_name (left rest.old) (text_view name.old) }
+    ensures { (text_view name.new, names_left rest.new)
+        ≡ write_name (names_left rest.old) (text_view name.old) }
 {
     if name.is_some() {
         if let Some(reference) = rest.next() {
@@ -41,8 +41,8 @@ fn rewrite_name(name: &mut Option<String>, rest: &mut Rest)
 
 fn rewrite_type(field: &mut FieldDescriptorProto, rest: &mut Rest)
     ensures names { field_name field.new ≡ field_name field.old }
-    ensures written { (field_view field.new, left rest.new)
-        ≡ write_type (left rest.old) (field_view field.old) }
+    ensures written { (field_view field.new, names_left rest.new)
+        ≡ write_type (names_left rest.old) (field_view field.old) }
 {
     if field.type_name.is_none() {
         return;
@@ -57,8 +57,8 @@ fn rewrite_type(field: &mut FieldDescriptorProto, rest: &mut Rest)
 
 fn rewrite_fields(fields: &mut Vec<FieldDescriptorProto>, rest: &mut Rest)
     ensures names { map field_name fields.new.items ≡ map field_name fields.old.items }
-    ensures written { (map field_view fields.new.items, left rest.new)
-        ≡ write_each write_type (left rest.old) (map field_view fields.old.items) }
+    ensures written { (map field_view fields.new.items, names_left rest.new)
+        ≡ write_each write_type (names_left rest.old) (map field_view fields.old.items) }
 {
     'fields: for place in 0..fields.len() {
         rewrite_type(&mut fields[place], rest);
@@ -67,8 +67,8 @@ fn rewrite_fields(fields: &mut Vec<FieldDescriptorProto>, rest: &mut Rest)
 
 fn rewrite_extension(extension: &mut FieldDescriptorProto, rest: &mut Rest)
     ensures names { field_name extension.new ≡ field_name extension.old }
-    ensures written { (field_view extension.new, left rest.new)
-        ≡ write_extension (left rest.old) (field_view extension.old) }
+    ensures written { (field_view extension.new, names_left rest.new)
+        ≡ write_extension (names_left rest.old) (field_view extension.old) }
 {
     rewrite_name(&mut extension.extendee, rest);
     rewrite_type(extension, rest);
@@ -76,8 +76,8 @@ fn rewrite_extension(extension: &mut FieldDescriptorProto, rest: &mut Rest)
 
 fn rewrite_extensions(extensions: &mut Vec<FieldDescriptorProto>, rest: &mut Rest)
     ensures names { map field_name extensions.new.items ≡ map field_name extensions.old.items }
-    ensures written { (map field_view extensions.new.items, left rest.new)
-        ≡ write_each write_extension (left rest.old) (map field_view extensions.old.items) }
+    ensures written { (map field_view extensions.new.items, names_left rest.new)
+        ≡ write_each write_extension (names_left rest.old) (map field_view extensions.old.items) }
 {
     'extensions: for place in 0..extensions.len() {
         rewrite_extension(&mut extensions[place], rest);
@@ -89,8 +89,8 @@ fn rewrite_extensions(extensions: &mut Vec<FieldDescriptorProto>, rest: &mut Res
 fn rewrite_messages(messages: &mut Vec<DescriptorProto>, rest: &mut Rest)
     ensures names { map names_of_message messages.new.items
         ≡ map names_of_message messages.old.items }
-    ensures written { (map message_view messages.new.items, left rest.new)
-        ≡ write_each write_message (left rest.old) (map message_view messages.old.items) }
+    ensures written { (map message_view messages.new.items, names_left rest.new)
+        ≡ write_each write_message (names_left rest.old) (map message_view messages.old.items) }
 {
     'turns: for place in 0..messages.len() {
         let message = &mut messages[place];
@@ -102,8 +102,8 @@ fn rewrite_messages(messages: &mut Vec<DescriptorProto>, rest: &mut Rest)
 
 fn rewrite_method(method: &mut MethodDescriptorProto, rest: &mut Rest)
     ensures names { method_name method.new ≡ method_name method.old }
-    ensures written { (method_view method.new, left rest.new)
-        ≡ write_method (left rest.old) (method_view method.old) }
+    ensures written { (method_view method.new, names_left rest.new)
+        ≡ write_method (names_left rest.old) (method_view method.old) }
 {
     rewrite_name(&mut method.input_type, rest);
     rewrite_name(&mut method.output_type, rest);
@@ -111,8 +111,8 @@ fn rewrite_method(method: &mut MethodDescriptorProto, rest: &mut Rest)
 
 fn rewrite_methods(methods: &mut Vec<MethodDescriptorProto>, rest: &mut Rest)
     ensures names { map method_name methods.new.items ≡ map method_name methods.old.items }
-    ensures written { (map method_view methods.new.items, left rest.new)
-        ≡ write_each write_method (left rest.old) (map method_view methods.old.items) }
+    ensures written { (map method_view methods.new.items, names_left rest.new)
+        ≡ write_each write_method (names_left rest.old) (map method_view methods.old.items) }
 {
     'methods: for place in 0..methods.len() {
         rewrite_method(&mut methods[place], rest);
@@ -121,8 +121,8 @@ fn rewrite_methods(methods: &mut Vec<MethodDescriptorProto>, rest: &mut Rest)
 
 fn rewrite_services(services: &mut Vec<ServiceDescriptorProto>, rest: &mut Rest)
     ensures names { map service_names services.new.items ≡ map service_names services.old.items }
-    ensures written { (map service_view services.new.items, left rest.new)
-        ≡ write_each write_service (left rest.old) (map service_view services.old.items) }
+    ensures written { (map service_view services.new.items, names_left rest.new)
+        ≡ write_each write_service (names_left rest.old) (map service_view services.old.items) }
 {
     'services: for place in 0..services.len() {
         rewrite_methods(&mut services[place].method, rest);
@@ -132,8 +132,8 @@ fn rewrite_services(services: &mut Vec<ServiceDescriptorProto>, rest: &mut Rest)
 fn rewrite_file(file: &mut FileDescriptorProto, rest: &mut Rest)
     ensures header { record_file file.new ≡ record_file file.old }
     ensures names { names_of_file file.new ≡ names_of_file file.old }
-    ensures written { (file_view file.new, left rest.new)
-        ≡ write_file (left rest.old) (file_view file.old) }
+    ensures written { (file_view file.new, names_left rest.new)
+        ≡ write_file (names_left rest.old) (file_view file.old) }
 {
     rewrite_messages(&mut file.message_type, rest);
     rewrite_services(&mut file.service, rest);

@@ -3,7 +3,7 @@ use Rattle.std.proofs.Common.{◌≡◌, ◌∙◌, ℕ, ℤ, List, Option, None
 use Rattle.std.specs.Option.{option_copied}
 use Rattle.descriptor_records.specs.declared.file.FileDescriptorProto.{FileDescriptorProto}
 use Rattle.reflect_tables.specs.Types.{PoolType}
-use Rattle.reflect_pool.specs.AtPaths.{Stands, IsOwn}
+use Rattle.reflect_pool.specs.AtPaths.{Stands, IsRecordAt}
 
 some : {X : Type 0} (o : Option (Bor X)) (x : X) → option_copied o ≡ Some x → IsSome o
 some None x e = absurd (cc e)
@@ -22,7 +22,7 @@ module _ {X : Type 0} (along : FileDescriptorProto → List ℤ → Option X) (n
   pub is_there : IsSome o
   is_there = some o s.own is_own
 
-  pub lent : (r : Bor X) → o ≡ Some r → IsOwn along name_of p file path name r.now
+  pub lent : (r : Bor X) → o ≡ Some r → IsRecordAt along name_of p file path name r.now
   lent r is =
       let both : Some s.own ≡ Some r.now = sym is_own ∙ ap option_copied is in
       (s, cc both)

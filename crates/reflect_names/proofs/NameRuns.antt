@@ -8,7 +8,7 @@ use Rattle.reflect_scope.specs.Known.{known_of, kept_first, AllBelow}
 use Rattle.reflect_names.specs.Faults.{Adds, place_at}
 use Rattle.reflect_known.specs.KnownNames.{known_behind}
 use Rattle.reflect_names.specs.NamePass.{faults_along}
-use Rattle.reflect_names.specs.NameSteps.{Declares, Keeps, KeepsFrom}
+use Rattle.reflect_names.specs.NameSteps.{AddsName, KeepsNames, KeepsFrom}
 use Rattle.reflect_names.specs.declared.name_visitor.NameVisitor.{NameVisitor}
 use Rattle.reflect_names.proofs.Added.{adds_on, adds_none, same_places}
 
@@ -16,7 +16,7 @@ pub record Ran (s : NameVisitor) (ds : List Declaration) (t : NameVisitor) : Typ
   pub known : known_of t.names ≡ known_behind (known_of s.names) ds
   pub faults : Adds s.faults t.faults (faults_along (place_at s.faults) (λ n. get_by_text s.file_names.now n) (known_of s.names) ds)
 
-pub ran : (s : NameVisitor) (ds : List Declaration) (t : NameVisitor) → Runs Declares s ds t → Ran s ds t
+pub ran : (s : NameVisitor) (ds : List Declaration) (t : NameVisitor) → Runs AddsName s ds t → Ran s ds t
 ran s [] t e = record {
   known = ap (λ x. known_of x.names) e;
   faults = subst (λ x. Adds s.faults x []) (ap (λ x. x.faults) (sym e)) (adds_none s.faults);
@@ -34,7 +34,7 @@ ran s (d ∷ ds) t (m, (step, rest)) =
     }
 
 -- what a walk over files leaves of what was known
-pub kept : (i n : ℕ) (s t : NameVisitor) → KeptBy Keeps i n s t → KeepsFrom i n (known_of s.names) (known_of t.names)
+pub kept : (i n : ℕ) (s t : NameVisitor) → KeptBy KeepsNames i n s t → KeepsFrom i n (known_of s.names) (known_of t.names)
 kept i zero s t e = record {
   kept = λ mark le u. ap (λ x. kept_first mark (known_of x.names u)) e;
   bound = λ top le all. subst (λ x. AllBelow top (known_of x.names)) (sym e) all;
@@ -46,6 +46,6 @@ kept i (suc n) s t (m, before, now) =
       bound = λ top le all. now.known.bound top (omega (arith, le)) (r.bound top (omega (arith, le)) all);
     }
 
-pub kept_files : (i n : ℕ) (s t : NameVisitor) → KeptBy Keeps i n s t → t.file_names.now ≡ s.file_names.now
+pub kept_files : (i n : ℕ) (s t : NameVisitor) → KeptBy KeepsNames i n s t → t.file_names.now ≡ s.file_names.now
 kept_files i zero s t e = ap (λ x. x.file_names.now) e
 kept_files i (suc n) s t (m, before, now) = now.file_names ∙ kept_files i n s m before

@@ -9,7 +9,7 @@ use Rattle.reflect_known.specs.KnownNames.{known_after}
 use Rattle.reflect_names.specs.Names.{faults_at}
 use Rattle.reflect_names.specs.declared.name_visitor.NameVisitor.{NameVisitor}
 
-pub record Declares (s : NameVisitor) (d : Declaration) (t : NameVisitor) : Type 0 where
+pub record AddsName (s : NameVisitor) (d : Declaration) (t : NameVisitor) : Type 0 where
   pub known : known_of t.names ≡ known_after (known_of s.names) d
   pub faults : Adds s.faults t.faults
       (faults_at (place_at s.faults d.file) (known_of s.names)
@@ -21,7 +21,7 @@ pub record KeepsKnown (file : ℕ) (old new : Known) : Type 0 where
   pub kept : (mark : ℕ) → mark ≤ file → KeepsFirst mark old new
   pub bound : (top : ℕ) → file < top → AllBelow top old → AllBelow top new
 
-pub record Keeps (file : ℕ) (s t : NameVisitor) : Type 0 where
+pub record KeepsNames (file : ℕ) (s t : NameVisitor) : Type 0 where
   pub file_names : t.file_names.now ≡ s.file_names.now
   pub known : KeepsKnown file (known_of s.names) (known_of t.names)
 
@@ -36,11 +36,12 @@ known-on file a b c k l = record {
       λ top lt all. l.bound top lt (k.bound top lt all);
 }
 
-pub Keeps-same : (file : ℕ) (s : NameVisitor) → Keeps file s s
-Keeps-same file s = record { file_names = refl; known = known-same file (known_of s.names) }
+pub KeepsNames-same : (file : ℕ) (s : NameVisitor) → KeepsNames file s s
+KeepsNames-same file s = record { file_names = refl; known = known-same file (known_of s.names) }
 
-pub Keeps-on : (file : ℕ) (s t u : NameVisitor) → Keeps file s t → Keeps file t u → Keeps file s u
-Keeps-on file s t u k l = record {
+pub KeepsNames-on : (file : ℕ) (s t u : NameVisitor) → KeepsNames file s t → KeepsNames file t u
+    → KeepsNames file s u
+KeepsNames-on file s t u k l = record {
   file_names = l.file_names ∙ k.file_names;
   known = known-on file (known_of s.names) (known_of t.names) (known_of u.names) k.known l.known;
 }

@@ -20,7 +20,7 @@ use reflect_walk::{Offsets, VisitError, Visitor, visit_all};
 use std::alloc::Global;
 use std::collections::BTreeMap;
 
-/// Declares the full names of the files that it visits, and lists what is wrong with them or
+/// Adds the full names of the files that it visits, and lists what is wrong with them or
 /// lacking.
 ///
 /// Its faults are DuplicateName (a package name may repeat as a package), MissingRequiredField,
@@ -59,7 +59,7 @@ impl<'a> NameVisitor<'a> {
         }
     }
 
-    /// Declares what the files declare, the first of which has the index `first`; `before` are the
+    /// AddsName what the files declare, the first of which has the index `first`; `before` are the
     /// counts of what stands before them, and the answer those behind them.
     pub fn declare_files(
         &mut self,
@@ -97,15 +97,15 @@ impl<'a> NameVisitor<'a> {
 }
 
 impl<'a> Visitor for NameVisitor<'a> {
-    ghost use Rattle.reflect_names.specs.NameSteps.{Declares, Keeps, Keeps-same, Keeps-on};
+    ghost use Rattle.reflect_names.specs.NameSteps.{AddsName, KeepsNames, KeepsNames-same, KeepsNames-on};
 
-    ghost steps = { Declares };
+    ghost steps = { AddsName };
 
-    ghost kept = { Keeps };
+    ghost kept = { KeepsNames };
 
-    ghost kept_same = { Keeps-same };
+    ghost kept_same = { KeepsNames-same };
 
-    ghost kept_on = { Keeps-on };
+    ghost kept_on = { KeepsNames-on };
 
     fn visit_file(
         &mut self,

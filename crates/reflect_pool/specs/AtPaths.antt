@@ -23,9 +23,10 @@ pub record Stands {X : Type 0} (along : FileDescriptorProto → List ℤ → Opt
   pub named : name_of own ≡ name
 
 -- and this is it
-abbrev pub IsOwn : {X : Type 0} → (FileDescriptorProto → List ℤ → Option X) → (X → List ℕ)
+abbrev pub IsRecordAt : {X : Type 0} → (FileDescriptorProto → List ℤ → Option X) → (X → List ℕ)
     → PoolType → ℕ → List ℤ → List ℕ → X → Type 0
-IsOwn along name_of p file path name x = (s : Stands along name_of p file path name) × (s.own ≡ x)
+IsRecordAt along name_of p file path name x =
+    (s : Stands along name_of p file path name) × (s.own ≡ x)
 
 abbrev pub message_name : DescriptorProto → List ℕ
 message_name m = text_of (parts_of m).name

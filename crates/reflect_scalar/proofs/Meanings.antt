@@ -10,7 +10,7 @@ use Rattle.reflect_pool.specs.declared.kind.Kind.TheVariants as kinds
 use Rattle.reflect_wire.proofs.Unique.{one_payload}
 use Rattle.reflect_scalar.specs.Kinds.{wire_type}
 use Rattle.reflect_scalar.specs.Singles.{Single}
-use Rattle.reflect_scalar.specs.Meaning.{StandsFor, MeaningFault, IsUnread, IsNoText, IsPlain, IsScalar}
+use Rattle.reflect_scalar.specs.Meaning.{StandsFor, MeaningFault, IsUnread, IsNoText, IsPlainPayload, IsScalar}
 
 pub form_of_meaning : (kind : Kind) (p : Payload) (v : Single) → StandsFor kind p v → wire_of p ≡ wire_type kind
 form_of_meaning kinds.Int32 (varint n) v h = refl
@@ -45,7 +45,7 @@ means_nothing kind p v BadWireType (inr unread) h = unread_means_nothing kind p 
 means_nothing kind p v BadUtf8 none h = no_text_means_nothing kind p v none h
 means_nothing kind p v e none h = absurd none
 
-module _ (kind : Kind) (wire : WireType) (bytes rest : List ℕ) (p : Payload) (found : Fronts (IsPlain wire) bytes p rest) where
+module _ (kind : Kind) (wire : WireType) (bytes rest : List ℕ) (p : Payload) (found : Fronts (IsPlainPayload wire) bytes p rest) where
   none_meant : (e : WireError) → MeaningFault kind p e → NoFront (IsScalar kind wire) bytes
   none_meant e fault front more v h is =
       let one = one_payload 0 0 found.0 front rest more p h.0 (sym found.1.0 ∙ h.1.0) found.1.1 h.1.1 (sym found.2 ∙ is) in

@@ -47,12 +47,12 @@ StandsFor _ _ v = ⊥
 
 -- the bytes behind a key of the wire type spell a payload that is no group, so that the key's
 -- number does not count
-abbrev pub IsPlain : WireType → List ℕ → Payload → Type 0
-IsPlain wire bytes p = (wire ≡ wire_of p) × SpellsPayload 0 0 bytes p
+abbrev pub IsPlainPayload : WireType → List ℕ → Payload → Type 0
+IsPlainPayload wire bytes p = (wire ≡ wire_of p) × SpellsPayload 0 0 bytes p
 
 -- the bytes behind a key of the wire type spell a value of the kind
 abbrev pub IsScalar : Kind → WireType → List ℕ → Single → Type 0
-IsScalar kind wire bytes v = (p : Payload) × IsPlain wire bytes p × StandsFor kind p v
+IsScalar kind wire bytes v = (p : Payload) × IsPlainPayload wire bytes p × StandsFor kind p v
 
 -- no value of the kind is read
 abbrev pub IsUnread : Kind → Type 0
@@ -88,5 +88,6 @@ PlainFault wires.ThirtyTwoBit bytes e = FixedFault 4 bytes e
 abbrev pub ScalarFault : Kind → WireType → List ℕ → WireError → Type 0
 ScalarFault kind wire bytes BadWireType = (wire ≢ wire_type kind) ⊎ IsUnread kind
 ScalarFault kind wire bytes BadUtf8 = (wire ≡ wire_type kind)
-    × ((p : Payload) × ((rest : List ℕ) × Fronts (IsPlain wire) bytes p rest × IsNoText kind p))
+    × ((p : Payload)
+        × ((rest : List ℕ) × Fronts (IsPlainPayload wire) bytes p rest × IsNoText kind p))
 ScalarFault kind wire bytes e = (wire ≡ wire_type kind) × PlainFault wire bytes e

@@ -4,7 +4,7 @@ ghost use Rattle.std.specs.Prelude.{◌≡◌, ◌<◌, length, IfOk, IfErr};
 ghost use Rattle.reflect_wire.specs.Reads.{ReadsBy};
 ghost use Rattle.reflect_wire.specs.Records.{varint};
 ghost use Rattle.reflect_scalar.specs.Kinds.{wire_type, packs};
-ghost use Rattle.reflect_scalar.specs.Meaning.{zigzag, low, StandsFor, MeaningFault, IsPlain, PlainFault, IsScalar, ScalarFault};
+ghost use Rattle.reflect_scalar.specs.Meaning.{zigzag, low, StandsFor, MeaningFault, IsPlainPayload, PlainFault, IsScalar, ScalarFault};
 ghost use Rattle.reflect_scalar.specs.Singles.{scalar_view, wire_view};
 
 use crate::scalar::{Scalar, WireScalar};
@@ -110,7 +110,7 @@ fn value_of<'b>(kind: &Kind<'_>, written: WireScalar<'b>) -> Result<Scalar<'b>, 
 /// no single value.
 #[inline]
 fn wire_scalar_at(wire: WireType, bytes: &[u8]) -> Result<(WireScalar<'_>, &[u8]), WireError>
-    ensures read { ReadsBy wire_view (IsPlain wire) bytes.now result }
+    ensures read { ReadsBy wire_view (IsPlainPayload wire) bytes.now result }
     ensures fault { IfErr result (PlainFault wire bytes.now) }
     ensures shorter { IfOk result (λ found. length found.1.now < length bytes.now) }
 {

@@ -47,8 +47,8 @@ SaysPlain names sees f scope name m = MatchBool (has_dot name)
     (SaysUndotted (λ p. standing sees f (names (join p name))) name scope m)
 
 -- what a name means in a scope, with a leading dot or without
-abbrev pub NameMeans : (List ℕ → Option Definition) → (ℕ → Bool) → ResolveNameFilter → List ℕ → List ℕ
-    → Meaning → Type 0
+abbrev pub NameMeans : (List ℕ → Option Definition) → (ℕ → Bool) → ResolveNameFilter → List ℕ
+    → List ℕ → Meaning → Type 0
 NameMeans names sees f scope [] m = SaysPlain names sees f scope [] m
 NameMeans names sees f scope (b ∷ name) m = MatchBool (b == 46)
     (m ≡ rooted (standing sees f (names name)) name)

@@ -7,7 +7,7 @@ use Rattle.std.proofs.lemmas.Nat.{from_le_bytes-to_le_bytes_4, from_le_bytes-to_
 use Rattle.std.specs.Int.{w32, w64, to_le_bytes, from_le_bytes}
 use Rattle.reflect_wire.specs.declared.wire_key.WireKey.{WireKey}
 use Rattle.reflect_wire.specs.declared.wire_key.WireType.TheVariants.{EndGroup}
-use Rattle.reflect_wire.specs.Varint.{Spells, IsVarint}
+use Rattle.reflect_wire.specs.Varint.{SpellsVarint, IsVarint}
 use Rattle.reflect_wire.specs.Key.{IsKey, key_code}
 use Rattle.reflect_wire.specs.Records.{Payload, varint, fixed64, delimited, group, fixed32, Records, no_records, more_records, key_of, wire_of, SpellsPayload, SpellsRecords}
 use Rattle.reflect_wire.specs.Encoding.{varint_bytes, key_bytes, payload_bytes, records_bytes}
@@ -20,20 +20,20 @@ use Rattle.reflect_wire.proofs.Unique.{one_group}
 smaller : (k n : ℕ) → n < 128 ^ suc (suc k) → n / 128 < 128 ^ suc k
 smaller k n h = omega (arith, h, pow-suc 128 (suc k))
 
-spells_one : (n : ℕ) → n < 128 → (length (varint_bytes n) ≤ 1) × Spells (varint_bytes n) n
-spells_one n lt = subst (λ bs. (length bs ≤ 1) × Spells bs n) (sym (varint_bytes-last n lt)) (omega arith, inl (lt, refl, refl))
+spells_one : (n : ℕ) → n < 128 → (length (varint_bytes n) ≤ 1) × SpellsVarint (varint_bytes n) n
+spells_one n lt = subst (λ bs. (length bs ≤ 1) × SpellsVarint bs n) (sym (varint_bytes-last n lt)) (omega arith, inl (lt, refl, refl))
 
-spells_more : (k n : ℕ) → (n / 128 < 128 ^ suc k → (length (varint_bytes (n / 128)) ≤ suc k) × Spells (varint_bytes (n / 128)) (n / 128)) → n < 128 ^ suc (suc k)
-    → (length (varint_bytes n) ≤ suc (suc k)) × Spells (varint_bytes n) n
+spells_more : (k n : ℕ) → (n / 128 < 128 ^ suc k → (length (varint_bytes (n / 128)) ≤ suc k) × SpellsVarint (varint_bytes (n / 128)) (n / 128)) → n < 128 ^ suc (suc k)
+    → (length (varint_bytes n) ≤ suc (suc k)) × SpellsVarint (varint_bytes n) n
 spells_more k n deeper h = by (cases_lt n 128) where
-  by : (n < 128) ⊎ (128 ≤ n) → (length (varint_bytes n) ≤ suc (suc k)) × Spells (varint_bytes n) n
+  by : (n < 128) ⊎ (128 ≤ n) → (length (varint_bytes n) ≤ suc (suc k)) × SpellsVarint (varint_bytes n) n
   by (inl lt) = let one = spells_one n lt in (omega (arith, one.0), one.1)
   by (inr ge) =
       let rest = deeper (smaller k n h) in
-      subst (λ bs. (length bs ≤ suc (suc k)) × Spells bs n) (sym (varint_bytes-more n ge)) (omega (arith, rest.0), inr (omega arith, (n / 128, omega arith, rest.1)))
+      subst (λ bs. (length bs ≤ suc (suc k)) × SpellsVarint bs n) (sym (varint_bytes-more n ge)) (omega (arith, rest.0), inr (omega arith, (n / 128, omega arith, rest.1)))
 
 -- the shortest spelling spells the number, in as many bytes as it has groups of seven bits
-spells : (k n : ℕ) → n < 128 ^ suc k → (length (varint_bytes n) ≤ suc k) × Spells (varint_bytes n) n
+spells : (k n : ℕ) → n < 128 ^ suc k → (length (varint_bytes n) ≤ suc k) × SpellsVarint (varint_bytes n) n
 spells zero n h = spells_one n (omega arith)
 spells (suc k) n h = spells_more k n (spells k (n / 128)) h
 

@@ -1,10 +1,10 @@
 -- Numbers in groups of seven bits: one spelling at a front, and the steps of reading.
 use Rattle.std.proofs.Common.{◌≡◌, ℕ, ◌<◌, ◌≤◌, ◌+◌, ◌-◌, ◌*◌, ◌^◌, List, [], ◌∷◌, ◌++◌, refl, inl, inr, arith}
 use Rattle.reflect_wire.specs.Reads.{Fronts, NoFront}
-use Rattle.reflect_wire.specs.Varint.{Spells, IsVarintWithin}
+use Rattle.reflect_wire.specs.Varint.{SpellsVarint, IsVarintWithin}
 
 -- no spelling begins another, and each has one number; so the rest is one too
-pub one_form : (a b x y : List ℕ) (m n : ℕ) → Spells a m → Spells b n → a ++ x ≡ b ++ y → (a ≡ b) × (m ≡ n) × (x ≡ y)
+pub one_form : (a b x y : List ℕ) (m n : ℕ) → SpellsVarint a m → SpellsVarint b n → a ++ x ≡ b ++ y → (a ≡ b) × (m ≡ n) × (x ≡ y)
 one_form [] b x y m n h k e = absurd h
 one_form (c ∷ cs) [] x y m n h k e = absurd k
 one_form (c ∷ cs) (d ∷ ds) x y m n (inl h) (inl k) e =

@@ -8,7 +8,7 @@ use Rattle.reflect_wire.specs.declared.wire_key.WireType.TheVariants as wires
 use Rattle.reflect_wire.specs.Key.{IsKey, key_code}
 use Rattle.reflect_wire.specs.Reads.{Fronts}
 use Rattle.reflect_wire.specs.Records.{Records, SpellsRecords}
-use Rattle.reflect_wire.specs.Varint.{Spells, IsVarint}
+use Rattle.reflect_wire.specs.Varint.{SpellsVarint, IsVarint}
 
 -- none of the bytes is the last of a number
 abbrev pub GoOn : List ℕ → Type 0
@@ -23,7 +23,7 @@ IsOverlong most bytes = (front rest : List ℕ) × GoOn front × (length front �
 -- the number at the front has more than 64 bits
 abbrev pub IsOverlarge : List ℕ → Type 0
 IsOverlarge bytes = (front rest : List ℕ)
-    × ((n : ℕ) × Spells front n × (2 ^ 64 ≤ n) × (bytes ≡ front ++ rest))
+    × ((n : ℕ) × SpellsVarint front n × (2 ^ 64 ≤ n) × (bytes ≡ front ++ rest))
 
 -- why no number of at most so many bytes stands at the front
 abbrev pub VarintFault : ℕ → List ℕ → WireError → Type 0

@@ -19,10 +19,10 @@ RefusesFront R bytes errors.Memory = Unit {0}
 RefusesFront R bytes _ = NoFront R bytes
 
 -- a value and the bytes behind it are read exactly where a front spells one, unless memory ran out
-abbrev pub Reads : {X : Type 0} → (List ℕ → X → Type 0) → List ℕ
+abbrev pub ReadsFront : {X : Type 0} → (List ℕ → X → Type 0) → List ℕ
     → Result (X × Bor (List ℕ)) WireError → Type 0
-Reads R bytes (Ok found) = Fronts R bytes found.0 found.1.now
-Reads R bytes (Err e) = RefusesFront R bytes e
+ReadsFront R bytes (Ok found) = Fronts R bytes found.0 found.1.now
+ReadsFront R bytes (Err e) = RefusesFront R bytes e
 
 -- the same, where the relation speaks of what view sees of a value
 abbrev pub ReadsBy : {X Y : Type 0} → (X → Y) → (List ℕ → Y → Type 0) → List ℕ

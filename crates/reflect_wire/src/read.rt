@@ -1,7 +1,7 @@
 //! Readers: each takes bytes and gives the value at their front and the bytes behind it.
 ghost use Rattle.std.specs.Prelude.{◌≡◌, ◌<◌, ◌≤◌, ◌+◌, ◌*◌, IfErr, IfSome};
 ghost use Rattle.reflect_wire.specs.Faults.{VarintFault, KeyFault, DelimitedFault, FixedFault};
-ghost use Rattle.reflect_wire.specs.Reads.{Fronts, Reads, ReadsBy};
+ghost use Rattle.reflect_wire.specs.Reads.{Fronts, ReadsFront, ReadsBy};
 ghost use Rattle.reflect_wire.specs.Varint.{IsVarintWithin, IsVarint};
 ghost use Rattle.reflect_wire.specs.Key.{IsKey, IsDelimited, IsFixed32, IsFixed64};
 
@@ -10,7 +10,7 @@ use crate::wire_key::{MAX_FIELD_NUMBER, WireKey, WireType};
 
 /// The number at the front, in at most `left` and one more bytes.
 fn varint_within(bytes: &[u8], left: u32) -> Result<(u64, &[u8]), WireError>
-    ensures read { Reads (IsVarintWithin (left + 1)) bytes.now result }
+    ensures read { ReadsFront (IsVarintWithin (left + 1)) bytes.now result }
     ensures fault { IfErr result (VarintFault (left + 1) bytes.now) }
 {
     let Some((first, rest)) = bytes.split_first() else {
@@ -77,7 +77,7 @@ fn three_bytes_at(bytes: &[u8]) -> Option<(u64, &[u8])>
 /// `BadVarint` where it has more than ten bytes or does not fit 64 bits.
 #[inline]
 pub fn varint_at(bytes: &[u8]) -> Result<(u64, &[u8]), WireError>
-    ensures read { Reads IsVarint bytes.now result }
+    ensures read { ReadsFront IsVarint bytes.now result }
     ensures fault { IfErr result (VarintFault 10 bytes.now) }
 {
     match short_varint_at(bytes) {
@@ -92,7 +92,7 @@ pub fn varint_at(bytes: &[u8]) -> Result<(u64, &[u8]), WireError>
 /// Refused as `varint_at` is, and with `BadKey` where the number or the wire type is none.
 #[inline]
 pub fn key_at(bytes: &[u8]) -> Result<(WireKey, &[u8]), WireError>
-    ensures read { Reads IsKey bytes.now result }
+    ensures read { ReadsFront IsKey bytes.now result }
     ensures fault { IfErr result (KeyFault bytes.now) }
 {
     let (n, rest) = varint_at(bytes)?;
@@ -138,7 +138,7 @@ pub fn delimited_at(bytes: &[u8]) -> Result<(&[u8], &[u8]), WireError>
 /// Four bytes, the lowest first. `Truncated` where there are fewer.
 #[inline]
 pub fn fixed32_at(bytes: &[u8]) -> Result<(u32, &[u8]), WireError>
-    ensures read { Reads IsFixed32 bytes.now result }
+    ensures read { ReadsFront IsFixed32 bytes.now result }
     ensures fault { IfErr result (FixedFault 4 bytes.now) }
 {
     match bytes.split_first_chunk::<4>() {
@@ -150,7 +150,7 @@ pub fn fixed32_at(bytes: &[u8]) -> Result<(u32, &[u8]), WireError>
 /// Eight bytes, the lowest first. `Truncated` where there are fewer.
 #[inline]
 pub fn fixed64_at(bytes: &[u8]) -> Result<(u64, &[u8]), WireError>
-    ensures read { Reads IsFixed64 bytes.now result }
+    ensures read { ReadsFront IsFixed64 bytes.now result }
     ensures fault { IfErr result (FixedFault 8 bytes.now) }
 {
     match bytes.split_first_chunk::<8>() {

@@ -17,8 +17,8 @@ abbrev pub IsType : PoolType → List ℕ → MessageDescriptor → Type 0
 IsType p name d = (d.pool.now ≡ p) × FindsMessage p name (Some d)
 
 -- the bytes spell the message, which is of the named type
-abbrev pub IsRead : PoolType → List ℕ → List ℕ → DynamicMessage → Type 0
-IsRead p name bytes m = (d : MessageDescriptor) × IsType p name d × (m.descriptor ≡ d)
+abbrev pub IsReadOfType : PoolType → List ℕ → List ℕ → DynamicMessage → Type 0
+IsReadOfType p name bytes m = (d : MessageDescriptor) × IsType p name d × (m.descriptor ≡ d)
     × IsExclusive m × IsSpelled d bytes m
 
 -- from text to bytes: the one form of the message of the named type that the fields of the text
@@ -34,10 +34,10 @@ compact_form = record usual_form { expand_any = false }
 
 -- from bytes to text: the compact text of the message of the named type that the bytes spell
 abbrev pub Decoded : PoolType → List ℕ → List ℕ → List ℕ → Type 0
-Decoded p name bytes written = (m : DynamicMessage) × IsRead p name bytes m
+Decoded p name bytes written = (m : DynamicMessage) × IsReadOfType p name bytes m
     × IsMessageText compact_form m written
 
 -- from bytes to bytes: the one form of the message of the named type that the bytes spell
 abbrev pub Recoded : PoolType → List ℕ → List ℕ → List ℕ → Type 0
-Recoded p name bytes written = (m : DynamicMessage) × IsRead p name bytes m
+Recoded p name bytes written = (m : DynamicMessage) × IsReadOfType p name bytes m
     × (written ≡ message_bytes m)

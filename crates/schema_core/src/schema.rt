@@ -35,7 +35,7 @@ impl Schema {
     ghost use Rattle.option_parts.specs.OptionTypes.{ReadsOptions};
     ghost use Rattle.option_parts.specs.declared.option_scope.OptionScope.{OptionScope};
     ghost use Rattle.schema_core.specs.declared.error.SchemaError.TheVariants.{Memory};
-    ghost use Rattle.schema_core.specs.Payloads.{IsRead, Encoded, Decoded, Recoded};
+    ghost use Rattle.schema_core.specs.Payloads.{IsReadOfType, Encoded, Decoded, Recoded};
     ghost use Rattle.schema_core.specs.Refusals.{TypeRefused, BytesRefused, TextRefused, FilesLinked, FilesRefused, SourcesLinked, SourcesRefused, SetLinked, SetRefused, descriptor_name, sources_of};
 
     /// A schema without files. Takes no memory.
@@ -165,7 +165,7 @@ impl Schema {
 
     /// The message of a type that wire bytes spell.
     fn read(&self, type_name: &str, bytes: &[u8]) -> Result<DynamicMessage<'_>, SchemaError>
-        ensures ok { IfOk result (IsRead self.now.pool type_name.now bytes.now) }
+        ensures ok { IfOk result (IsReadOfType self.now.pool type_name.now bytes.now) }
         ensures err { IfErr result (BytesRefused self.now.pool type_name.now bytes.now) }
     {
         let descriptor = self.message_type(type_name)?;

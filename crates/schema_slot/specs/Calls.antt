@@ -11,7 +11,7 @@ use Rattle.schema_core.specs.declared.error.SchemaError.{SchemaError}
 use Rattle.schema_core.specs.declared.error.SchemaError.TheVariants as error
 use Rattle.text_error.specs.Places as text
 use Rattle.schema_slot.specs.Codes.{code_of, number_of}
-use Rattle.schema_slot.specs.Held.{pool, waiting, answer, position, place_of, IsFaultless, Keeps}
+use Rattle.schema_slot.specs.Held.{pool, waiting, answer, position, place_of, IsFaultless, KeepsSession}
 use Rattle.schema_slot.specs.declared.code.Code.{Code}
 use Rattle.schema_slot.specs.declared.code.Code.TheVariants as code
 use Rattle.schema_slot.specs.declared.session.Session.{Session}
@@ -48,7 +48,8 @@ EndsAt place Read Done Refused code.Done new = Read × IsFaultless new × Done n
 EndsAt place Read Done Refused code.NotUtf8 new = (¬ Read) × IsFaultless new × (answer new ≡ [])
 EndsAt place Read Done Refused code.Closed new = ⊥
 EndsAt place Read Done Refused code.Room new = ⊥
-EndsAt place Read Done Refused c new = (e : SchemaError) × TellsRefusal place e c new × Read × Refused e
+EndsAt place Read Done Refused c new =
+    (e : SchemaError) × TellsRefusal place e c new × Read × Refused e
 
 -- A refusal that is of no text stands where the schema tells it.
 abbrev pub Ends : Type 0 → (Session → Type 0) → (SchemaError → Type 0) → Code → Session → Type 0
@@ -86,7 +87,7 @@ AddsSet bytes old c new =
 
 -- The descriptor set of all files is the answer.
 abbrev pub GivesSet : Call
-GivesSet old c new = Keeps old new
+GivesSet old c new = KeepsSession old new
     × Ends (Unit {0}) (λ s. answer s ≡ pool_bytes (pool old)) (λ e. e ≡ error.Memory) c new
 
 -- ---- payloads
@@ -94,17 +95,17 @@ GivesSet old c new = Keeps old new
 -- Text to bytes, bytes to text, bytes to bytes, of the type of a name.
 abbrev pub Encodes : List ℕ → List ℕ → Call
 Encodes name text old c new =
-    Keeps old new × EndsAt (place_in text) (IsUtf8 name × IsUtf8 text)
+    KeepsSession old new × EndsAt (place_in text) (IsUtf8 name × IsUtf8 text)
     (λ s. Encoded (pool old) name text (answer s)) (TextRefused (pool old) name text) c new
 
 abbrev pub Decodes : List ℕ → List ℕ → Call
 Decodes name bytes old c new =
-    Keeps old new × Ends (IsUtf8 name) (λ s. Decoded (pool old) name bytes (answer s))
+    KeepsSession old new × Ends (IsUtf8 name) (λ s. Decoded (pool old) name bytes (answer s))
     (BytesRefused (pool old) name bytes) c new
 
 abbrev pub Recodes : List ℕ → List ℕ → Call
 Recodes name bytes old c new =
-    Keeps old new × Ends (IsUtf8 name) (λ s. Recoded (pool old) name bytes (answer s))
+    KeepsSession old new × Ends (IsUtf8 name) (λ s. Recoded (pool old) name bytes (answer s))
     (BytesRefused (pool old) name bytes) c new
 
 -- ---- slots

@@ -35,8 +35,8 @@ abbrev pub IsFaultless : Session → Type 0
 IsFaultless s = (s.fault ≡ None) × (position s ≡ None)
 
 -- the schema and the sources that wait stay
-abbrev pub Keeps : Session → Session → Type 0
-Keeps old new = (pool new ≡ pool old) × (waiting new ≡ waiting old)
+abbrev pub KeepsSession : Session → Session → Type 0
+KeepsSession old new = (pool new ≡ pool old) × (waiting new ≡ waiting old)
 
 abbrev text_or_none : Option (List ℕ) → List ℕ
 text_or_none None = []

@@ -5,7 +5,7 @@ ghost use Rattle.reflect_pool.specs.Linked.{empty_pool};
 ghost use Rattle.schema_core.specs.Refusals.{SourcesLinked, SourcesRefused};
 ghost use Rattle.schema_slot.specs.Calls.{AddsSet, Decodes, Encodes, Forgets, GivesSet, Links, Recodes, TellsRefusal, Waits, place_in};
 ghost use Rattle.schema_core.specs.Places.{told_position};
-ghost use Rattle.schema_slot.specs.Held.{IsFaultless, Keeps, answer, file, pair_of, pool, position, waiting};
+ghost use Rattle.schema_slot.specs.Held.{IsFaultless, KeepsSession, answer, file, pair_of, pool, position, waiting};
 ghost use Rattle.schema_slot.specs.declared.code.Code.TheVariants as code;
 
 use crate::code::Code;
@@ -57,7 +57,7 @@ impl Session {
     /// Keeps what a call answers.
     fn done(&mut self, bytes: Vec<u8>) -> Code
         ensures code { result ≡ code.Done }
-        ensures kept { Keeps self.old self.new }
+        ensures kept { KeepsSession self.old self.new }
         ensures answered { (answer self.new ≡ bytes.items) × IsFaultless self.new }
     {
         self.answer = bytes;
@@ -68,7 +68,7 @@ impl Session {
 
     /// Keeps why a call was refused, and where that stands in a file.
     fn refused(&mut self, error: SchemaError) -> Code
-        ensures kept { Keeps self.old self.new }
+        ensures kept { KeepsSession self.old self.new }
         ensures told { TellsRefusal told_position error result self.new }
     {
         let place = error.position();
@@ -78,7 +78,7 @@ impl Session {
     /// Keeps why a call was refused, where that stands, and its text as the answer: none where
     /// memory runs out for it.
     fn refused_at(&mut self, error: SchemaError, place: Option<(usize, usize)>) -> Code
-        ensures kept { Keeps self.old self.new }
+        ensures kept { KeepsSession self.old self.new }
         ensures told { TellsRefusal (λ _. place) error result self.new }
     {
         self.answer = match format!(in self.alloc; "{error}") {
@@ -94,7 +94,7 @@ impl Session {
     /// Something was not UTF-8.
     fn unread(&mut self) -> Code
         ensures code { result ≡ code.NotUtf8 }
-        ensures kept { Keeps self.old self.new }
+        ensures kept { KeepsSession self.old self.new }
         ensures answered { (answer self.new ≡ []) × IsFaultless self.new }
     {
         self.answer = Vec::new(self.alloc);
@@ -103,7 +103,7 @@ impl Session {
         Code::NotUtf8
     }
 
-    /// Keeps a source, by its file's name and its text, until `link`.
+    /// KeepsSession a source, by its file's name and its text, until `link`.
     ///
     /// `NotUtf8` where one of them is none, `Memory`; a refusal keeps nothing.
     pub fn source(&mut self, name: &[u8], text: &[u8]) -> Code

@@ -9,9 +9,9 @@ use Rattle.descriptor_records.specs.Content.{Text, FileContent}
 use Rattle.schema_view.specs.Files.{join, Import, imports_of}
 use Rattle.schema_view.specs.References.{Want, Reference, Target, references, dotted, linked}
 use Rattle.schema_view.specs.Outlines.{Sort, Outline, outline_of, IsNamed, IsDeclared, IsChain, Sees, AreApart}
-use Rattle.schema_view.specs.Means.{has_dot, first_part, IsWanted, Holds, HasType, ReferenceMeans}
+use Rattle.schema_view.specs.Means.{has_dot, first_part, IsWanted, HoldsNames, HasType, ReferenceMeans}
 use Rattle.schema_view.specs.Plain.{IsPlainFile}
-use Rattle.schema_view.specs.Lawful.{outlines, Meanings, all_linked, IsLawful, Adds, Builds, sources, SameFiles}
+use Rattle.schema_view.specs.Lawful.{outlines, Meanings, all_linked, IsLawful, AddsLawful, Builds, sources, SameFiles}
 use Rattle.schema_view.specs.Views.{view_of}
 use Rattle.schema_view.proofs.Lists.{contains_none, contains_here, contains_there, contains_map, contains_map_cases, one_of}
 use Rattle.schema_view.proofs.Within.{Within, named_within, declared_within}
@@ -64,15 +64,15 @@ join_some [] c rest other e = let f : c ∷ first_part rest ≡ [] = sym (ap (λ
 join_some (x ∷ p) c rest other e = cc
 
 first_held : (os : List Outline) → AreNested os → (from : Outline) (w : Want) (c : ℕ) (rest : Text) → eqb c 46 ≡ false → has_dot (c ∷ rest) ≡ true
-    → (p : Text) → IsWanted os from w (join p (c ∷ rest)) → Holds os (join p (first_part (c ∷ rest)))
+    → (p : Text) → IsWanted os from w (join p (c ∷ rest)) → HoldsNames os (join p (first_part (c ∷ rest)))
 first_held os nested from w c rest other dot p (o, h, i, j, e, is, sees) =
     let s = split_first (c ∷ rest) dot in
     nested o h i j (join p (first_part (c ∷ rest))) s.0 (e ∙ join_first p c rest s.0 s.1) (join_some p c rest other)
 
 first_holds : (os : List Outline) → AreNested os → (from : Outline) (w : Want) (name : Text) (c : ℕ) (rest : Text) → name ≡ c ∷ rest → eqb c 46 ≡ false → has_dot name ≡ true
-    → (p : Text) → IsWanted os from w (join p name) → Holds os (join p (first_part name))
+    → (p : Text) → IsWanted os from w (join p name) → HoldsNames os (join p (first_part name))
 first_holds os nested from w name c rest is other dot p wanted =
-    subst (λ x. Holds os (join p (first_part x))) (sym is) (first_held os nested from w c rest other (sym (ap has_dot is) ∙ dot) p (subst (λ x. IsWanted os from w (join p x)) is wanted))
+    subst (λ x. HoldsNames os (join p (first_part x))) (sym is) (first_held os nested from w c rest other (sym (ap has_dot is) ∙ dot) p (subst (λ x. IsWanted os from w (join p x)) is wanted))
 
 -- what a file was linked by
 record IsMeant (fs all : List Outline) (f : FileContent) (means : Reference → Target) : Type 0 where
@@ -93,7 +93,7 @@ same_link : (us os ps : List Outline) → AreApart us → (f : FileContent) (m n
 same_link us os ps apart f m n k l = file_same (λ r. dotted (m r)) (λ r. dotted (n r)) f (λ r i.
     let there : (full : Text) → IsWanted os (outline_of f) r.want full → IsWanted ps (outline_of f) r.want full = λ full w. wanted_to us os ps apart k.within l.within l.closed (outline_of f) r.want full l.home w in
     let back : (full : Text) → IsWanted ps (outline_of f) r.want full → IsWanted os (outline_of f) r.want full = λ full w. wanted_to us ps os apart l.within k.within k.closed (outline_of f) r.want full k.home w in
-    let name : (m r).name ≡ (n r).name = means_one (IsWanted os (outline_of f) r.want) (Holds os) (IsWanted ps (outline_of f) r.want) (Holds ps) there back r.scope r.name (m r).name (n r).name
+    let name : (m r).name ≡ (n r).name = means_one (IsWanted os (outline_of f) r.want) (HoldsNames os) (IsWanted ps (outline_of f) r.want) (HoldsNames ps) there back r.scope r.name (m r).name (n r).name
     (λ c rest is other dot. (
       λ p v g. first_holds os k.nested (outline_of f) r.want r.name c rest is other dot p (back (join p r.name) v),
       λ p w h. first_holds ps l.nested (outline_of f) r.want r.name c rest is other dot p (there (join p r.name) w),
@@ -238,10 +238,10 @@ linked_once os apart m n (f ∷ fs) first second =
     let p = first f r (contains_here f fs) i in
     let q = second f r (contains_here f fs) i in
     one_target os apart (m f r) (n f r) (means_one
-    (IsWanted os (outline_of f) r.want) (Holds os) (IsWanted os (outline_of f) r.want) (Holds os) (λ x w. w) (λ x w. w) r.scope r.name (m f r).name (n f r).name
+    (IsWanted os (outline_of f) r.want) (HoldsNames os) (IsWanted os (outline_of f) r.want) (HoldsNames os) (λ x w. w) (λ x w. w) r.scope r.name (m f r).name (n f r).name
     (λ c rest e other dot. (λ p v g. g, λ p w h. h)) p.named q.named) p.typed q.typed) in
     ap (λ g. g ∷ all_linked m fs) here ∙ ap (λ gs. linked (n f) f ∷ gs) (linked_once os apart m n fs (λ g r i. first g r (contains_there f fs g i)) (λ g r i. second g r (contains_there f fs g i)))
 
 -- files are linked in one way
-pub one_linking : (old new after last : List FileContent) → Adds old new after → Adds old new last → after ≡ last
+pub one_linking : (old new after last : List FileContent) → AddsLawful old new after → AddsLawful old new last → after ≡ last
 one_linking old new after last (m, l, is) (n, k, be) = is ∙ ap (λ fs. old ++ fs) (linked_once (outlines (old ++ new)) l.apart m n new l.means k.means) ∙ sym be

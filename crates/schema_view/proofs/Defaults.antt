@@ -19,7 +19,7 @@ use Rattle.schema_view.specs.Files.{text_of, is_proto3}
 use Rattle.schema_view.specs.Scalars.{is_scalar, IsDefault, IsScalarDefault}
 use Rattle.schema_view.specs.Declarations.{MessageFacts, Body, of_message, of_field, of_oneof, of_enum, of_value, of_service, of_method, of_extension}
 use Rattle.schema_view.specs.Rules.{HasValueNumber, IsSound}
-use Rattle.schema_view.specs.Lawful.{Adds, Builds}
+use Rattle.schema_view.specs.Lawful.{AddsLawful, Builds}
 use Rattle.schema_view.specs.Views.{Held, View, or_else, when, view_of}
 use Rattle.schema_view.specs.Fields.{is_repeated, is_packed, has_presence}
 use Rattle.schema_view.specs.Types.{undotted, type_name, message_at, body_at, field_at, type_at, is_proto3_at, number_in, value_number, first_number, values_of, scalar_numbers, scalar_of, kind_by, kind_of, zero_of, said_of, default_of, part_of, name_of_field, names_entry, entry_part, key_of, map_field, oneof_in, plain_field, held_field, field_named, own_named, extension_named, types_of}
@@ -255,7 +255,7 @@ module _ (fs : List FileContent) (l : AreLinked fs) where
 pub built_defaults : (batches : List (List FileContent)) (after : List FileContent) → Builds batches after → HaveDefaults (types_of (view_of after))
 built_defaults batches after built = have_defaults after (built_linked batches after built)
 
-pub passes_before : (earlier : List (List FileContent)) (old new after : List FileContent) → Builds earlier old → Adds old new after → (t : Text) (m : MessageFacts) → message_at (view_of old) t ≡ Some m
+pub passes_before : (earlier : List (List FileContent)) (old new after : List FileContent) → Builds earlier old → AddsLawful old new after → (t : Text) (m : MessageFacts) → message_at (view_of old) t ≡ Some m
     → (bytes out : List ℕ) (x : Message) → Mean (types_of (view_of after)) t bytes x → IsRecoded (types_of (view_of old)) t bytes out → length out < 2 ^ 64 → Mean (types_of (view_of after)) t out x
 passes_before earlier old new after built adds t m e bytes out x =
     passes (types_of (view_of old)) (types_of (view_of after)) t t bytes out x (grown_types earlier old new after built adds t m e) (built_defaults (new ∷ earlier) after (old, built, adds))

@@ -12,7 +12,7 @@ use Rattle.schema_view.specs.References.{a_type, Reference, references, linked}
 use Rattle.schema_view.specs.Outlines.{Outline, outline_of, Head, message_sort, other_sort, IsScope, IsNamed, IsPackage, AreApart, times_declared}
 use Rattle.schema_view.specs.Means.{IsWanted, ReferenceMeans}
 use Rattle.schema_view.specs.Rules.{is_number, IsFieldNumber, IsMessage, IsField, SaysEntry, IsSound}
-use Rattle.schema_view.specs.Lawful.{outlines, Meanings, IsSettled, IsFile, IsLawful, Adds}
+use Rattle.schema_view.specs.Lawful.{outlines, Meanings, IsSettled, IsFile, IsLawful, AddsLawful}
 use Rattle.schema_view.specs.Example.{field_f, file_p}
 use Rattle.schema_view.proofs.Lists.{contains_none, contains_here, contains_cases}
 
@@ -153,5 +153,5 @@ lawful = record {
   };
 }
 
-pub example_adds : Adds [] (file_p ∷ []) (file_p ∷ [])
+pub example_adds : AddsLawful [] (file_p ∷ []) (file_p ∷ [])
 example_adds = (means, lawful, refl)

@@ -8,7 +8,7 @@ use Rattle.protobuf_model.specs.Older.{AreKinds, AnswersTo, IsOlder}
 use Rattle.schema_view.specs.Files.{file_name}
 use Rattle.schema_view.specs.Declarations.{MessageFacts, of_message, Declaration, declarations}
 use Rattle.schema_view.specs.Rules.{is_number, HasType}
-use Rattle.schema_view.specs.Lawful.{Adds, Builds}
+use Rattle.schema_view.specs.Lawful.{AddsLawful, Builds}
 use Rattle.schema_view.specs.Views.{FileFacts, Held, View, Grows, view_of}
 use Rattle.schema_view.specs.Fields.{is_repeated, is_packed, has_presence}
 use Rattle.schema_view.specs.Types.{undotted, type_name, message_in, field_in, body_at, message_at, field_at, type_at, says_proto3, is_proto3_at, kind_of, values_of, default_of, part_of, named_in, name_of_field, is_entry, names_entry, entry_part, key_of, map_field, oneof_in, plain_field, held_field, field_named, own_named, extension_named, types_of}
@@ -278,7 +278,7 @@ module _ (fs gs : List FileContent) (l : AreLinked fs) (grow : Grows (view_of fs
     pair_there t h,
   )
 
-pub grown_types : (earlier : List (List FileContent)) (old new after : List FileContent) → Builds earlier old → Adds old new after → (t : Text) (m : MessageFacts) → message_at (view_of old) t ≡ Some m
+pub grown_types : (earlier : List (List FileContent)) (old new after : List FileContent) → Builds earlier old → AddsLawful old new after → (t : Text) (m : MessageFacts) → message_at (view_of old) t ≡ Some m
     → IsOlder (types_of (view_of old)) t (types_of (view_of after)) t
 grown_types earlier old new after built adds t m e =
     let l = built_linked earlier old built in

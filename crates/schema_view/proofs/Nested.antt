@@ -6,8 +6,8 @@ use Rattle.descriptor_records.specs.Content.{Text, FieldContent, OneofContent, E
 use Rattle.schema_view.specs.Files.{text_of, join, package_of}
 use Rattle.schema_view.specs.Declarations.{facts_of, of_message, of_service, service_facts, Declaration, one_field, one_oneof, one_extension, one_value, one_enum, one_method, one_service, in_message, in_messages, declarations}
 use Rattle.schema_view.specs.Outlines.{Outline, outline_of, Head, head_of, IsScope}
-use Rattle.schema_view.specs.Means.{has_dot, first_part, is_holder, Holds}
-use Rattle.schema_view.specs.Plain.{IsPlain, IsPlainEnum, IsPlainService, IsPlainMessage, ArePlainMessages, IsPlainFile}
+use Rattle.schema_view.specs.Means.{has_dot, first_part, is_holder, HoldsNames}
+use Rattle.schema_view.specs.Plain.{HasPlainName, IsPlainEnum, IsPlainService, IsPlainMessage, ArePlainMessages, IsPlainFile}
 use Rattle.std.proofs.lemmas.List.Concat.{flat_map-cons}
 use Rattle.schema_view.proofs.Lists.{contains_none, contains_here, contains_there, contains_cases, contains_map, contains_map_cases}
 
@@ -36,26 +36,26 @@ last_dot (y ∷ s) (x ∷ a) n b plain e =
       | inr (r, is) ↦ inr (r, ap (λ zs. y ∷ zs) is ∙ ap (λ z. z ∷ (a ++ (46 ∷ r))) h)
     ]
 
-join_scope : (s : Text) (n : Option Text) (a b : Text) → IsPlain n → join s (text_of n) ≡ a ++ (46 ∷ b) → IsScope s a
+join_scope : (s : Text) (n : Option Text) (a b : Text) → HasPlainName n → join s (text_of n) ≡ a ++ (46 ∷ b) → IsScope s a
 join_scope [] n a b plain e = let d : true ≡ false = sym (some_dot a b) ∙ sym (ap has_dot e) ∙ plain in absurd (cc)
 join_scope (c ∷ s) n a b plain e = elim (last_dot (c ∷ s) a (text_of n) b plain e) [ inl is ↦ inl is | inr (r, is) ↦ inr (inr (r, is)) ]
 
 -- each name around this one holds names
 abbrev AllHold : List Outline → Text → Type 0
-AllHold os s = (a : Text) → IsScope s a → (a ≡ [] → ⊥) → Holds os a
+AllHold os s = (a : Text) → IsScope s a → (a ≡ [] → ⊥) → HoldsNames os a
 
 abbrev IsNested : List Outline → Text → Type 0
-IsNested os name = (a b : Text) → name ≡ a ++ (46 ∷ b) → (a ≡ [] → ⊥) → Holds os a
+IsNested os name = (a b : Text) → name ≡ a ++ (46 ∷ b) → (a ≡ [] → ⊥) → HoldsNames os a
 
 abbrev pub AreNested : List Outline → Type 0
-AreNested os = (o : Outline) (h : Head) → Contains os o → Contains o.heads h → (a b : Text) → h.name ≡ a ++ (46 ∷ b) → (a ≡ [] → ⊥) → Holds os a
+AreNested os = (o : Outline) (h : Head) → Contains os o → Contains o.heads h → (a b : Text) → h.name ≡ a ++ (46 ∷ b) → (a ≡ [] → ⊥) → HoldsNames os a
 
 module _ (os : List Outline) where
-  inner : (s : Text) (n : Option Text) → AllHold os s → IsPlain n → IsNested os (join s (text_of n))
+  inner : (s : Text) (n : Option Text) → AllHold os s → HasPlainName n → IsNested os (join s (text_of n))
   inner s n all plain a b e some = all a (join_scope s n a b plain e) some
 
-  deeper : (s : Text) (n : Option Text) → AllHold os s → IsPlain n → Holds os (join s (text_of n)) → AllHold os (join s (text_of n))
-  deeper s n all plain here a (inl e) some = subst (Holds os) (sym e) here
+  deeper : (s : Text) (n : Option Text) → AllHold os s → HasPlainName n → HoldsNames os (join s (text_of n)) → AllHold os (join s (text_of n))
+  deeper s n all plain here a (inl e) some = subst (HoldsNames os) (sym e) here
   deeper s n all plain here a (inr (inl e)) some = absurd (some e)
   deeper s n all plain here a (inr (inr (r, e))) some = inner s n all plain a r e some
 
@@ -73,12 +73,12 @@ module _ (os : List Outline) where
 
   -- declarations of one sort, each by its name in the scope
   each_nested : {X : Type 0} (s : Text) (name : X → Option Text) (one : X → Declaration) → AllHold os s → ((x : X) → (one x).name ≡ join s (text_of (name x)))
-      → (xs : List X) → AllByRecursion (λ x. IsPlain (name x)) xs → EachNested (map one xs)
+      → (xs : List X) → AllByRecursion (λ x. HasPlainName (name x)) xs → EachNested (map one xs)
   each_nested s name one all is [] plain = none_nested
   each_nested s name one all is (x ∷ xs) plain = first_nested (one x) (map one xs) (subst (IsNested os) (sym (is x)) (inner s (name x) all plain.0)) (each_nested s name one all is xs plain.1)
 
   abbrev Declared : List Declaration → Type 0
-  Declared ds = (d : Declaration) → Contains ds d → is_holder (head_of d).sort ≡ true → Holds os d.name
+  Declared ds = (d : Declaration) → Contains ds d → is_holder (head_of d).sort ≡ true → HoldsNames os d.name
 
   left : (ds es : List Declaration) → Declared (ds ++ es) → Declared ds
   left ds es there d i = there d (Contains-append_left ds es d i)

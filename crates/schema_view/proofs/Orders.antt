@@ -9,7 +9,7 @@ use Rattle.descriptor_records.specs.Content.{Text, FileContent}
 use Rattle.schema_view.specs.Files.{file_name}
 use Rattle.schema_view.specs.Declarations.{Body, declarations}
 use Rattle.schema_view.specs.Outlines.{Outline, outline_of, Head, head_of, times, AreApart}
-use Rattle.schema_view.specs.Lawful.{outlines, Meanings, all_linked, Key, has_key, is_use, times_by, AreSettled, IsLawful, Adds}
+use Rattle.schema_view.specs.Lawful.{outlines, Meanings, all_linked, Key, has_key, is_use, times_by, AreSettled, IsLawful, AddsLawful}
 use Rattle.schema_view.specs.Views.{FileFacts, Held, when, file_at, declared_at, extension_at, view_of, Grows}
 use Rattle.schema_view.proofs.Lists.{sum_map, sum_some, first_from, first_same, first_stays}
 use Rattle.schema_view.proofs.Within.{Within, package_within, named_within, means_same, settled_within}
@@ -93,7 +93,7 @@ lawful_in_order old new other meanings p l =
       together = settled_in_order _ _ after l.together;
     }
 
-pub in_another_order : (old new other after : List FileContent) → IsPermutation new other → Adds old new after → (last : List FileContent) × Adds old other last × (view_of last ≡ view_of after)
+pub in_another_order : (old new other after : List FileContent) → IsPermutation new other → AddsLawful old new after → (last : List FileContent) × AddsLawful old other last × (view_of last ≡ view_of after)
 in_another_order old new other after p (m, l, is) =
     let moved : IsPermutation (old ++ all_linked m new) (old ++ all_linked m other) = IsPermutation-append_right old _ _ (IsPermutation-map _ new other p) in (
       old ++ all_linked m other,
@@ -103,7 +103,7 @@ in_another_order old new other after p (m, l, is) =
           (subst AreApart (sym (outlines_linked old new m)) l.apart) l.together.extended ∙ ap view_of (sym is),
     )
 
-pub views_stay : (old new after : List FileContent) → Adds old new after → Grows (view_of old) (view_of after)
+pub views_stay : (old new after : List FileContent) → AddsLawful old new after → Grows (view_of old) (view_of after)
 views_stay old new after (m, l, is) = subst (λ fs. Grows (view_of old) (view_of fs)) (sym is) (record {
   files = λ n x e. first_stays (file_at n) old (all_linked m new) x e;
   declared = λ n x e. first_stays (declared_at n) old (all_linked m new) x e;

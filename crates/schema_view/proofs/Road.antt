@@ -10,9 +10,9 @@ use Rattle.schema_view.specs.Scalars.{is_scalar, IsScalarDefault}
 use Rattle.schema_view.specs.Declarations.{Body, of_message, of_field, of_oneof, of_enum, of_value, of_service, of_method, of_extension, Declaration, declarations}
 use Rattle.schema_view.specs.References.{Reference, Target, a_type, to_message, to_type, references_of, references, fill_type, rename_type, rename_message_type, dotted, linked}
 use Rattle.schema_view.specs.Outlines.{Sort, Outline, outline_of, IsNamed, IsDeclared, AreApart}
-use Rattle.schema_view.specs.Means.{IsWanted, Holds, has_dot, MeansDotted, MeansUndotted, MeansPlain, MeansBy, HasType, SuitsWant}
+use Rattle.schema_view.specs.Means.{IsWanted, HoldsNames, has_dot, MeansDotted, MeansUndotted, MeansPlain, MeansBy, HasType, SuitsWant}
 use Rattle.schema_view.specs.Rules.{HasType as HasFieldType, IsField, IsSound}
-use Rattle.schema_view.specs.Lawful.{outlines, Meanings, all_linked, IsSettled, AreSettled, IsFile, IsLawful, Adds, Builds}
+use Rattle.schema_view.specs.Lawful.{outlines, Meanings, all_linked, IsSettled, AreSettled, IsFile, IsLawful, AddsLawful, Builds}
 use Rattle.schema_view.proofs.Lists.{contains_none, contains_here, contains_there, contains_map_cases, contains_flat}
 use Rattle.schema_view.proofs.Within.{Within, named_within, wanted_within, declared_within, settled_within}
 use Rattle.schema_view.proofs.Renames.{map_same, rename_body, renamed, rename_reference, declarations_renamed, outline_renamed, references_renamed}
@@ -155,7 +155,7 @@ linked_file old new meanings l f i =
       wanted = λ r j. let q = home r j in subst (λ (x : Reference). IsWanted os (outline_of (linked (meanings f) f)) x.want (after_dot x.name)) q.2
           (wanted_filled names q.0.want (meanings f q.0).type os (outline_of (linked (meanings f) f)) (meanings f q.0).name
           (subst (λ o. IsWanted os o q.0.want (meanings f q.0).name) (sym (outline_renamed names f))
-          (means_wanted (IsWanted os (outline_of f) q.0.want) (Holds os) q.0.scope q.0.name (meanings f q.0).name (l.means f q.0 i q.1).named)));
+          (means_wanted (IsWanted os (outline_of f) q.0.want) (HoldsNames os) q.0.scope q.0.name (meanings f q.0).name (l.means f q.0 i q.1).named)));
       numbers = λ r j. let q = home r j in subst (λ (x : Reference). (s : Sort) × IsDeclared os (after_dot x.name) s × HasType s (type_in x.want)) q.2
           (let m = l.means f q.0 i q.1 in (m.typed.0, m.typed.1, subst (HasType m.typed.0) (sym (there q.0 q.1)) m.typed.2));
       suits = λ r j. let q = home r j in subst (λ (x : Reference). SuitsWant x.want (type_in x.want)) q.2
@@ -165,7 +165,7 @@ linked_file old new meanings l f i =
       settled = λ d j. l.settled f d i j;
     }
 
-adds_linked : (old new after : List FileContent) → AreLinked old → Adds old new after → AreLinked after
+adds_linked : (old new after : List FileContent) → AreLinked old → AddsLawful old new after → AreLinked after
 adds_linked old new after l (meanings, lawful, is) = subst AreLinked (sym is) (record {
   apart = subst AreApart (sym (outlines_linked old new meanings)) lawful.apart;
   each = λ f i. subst (λ os. FileLinked os f) (sym (outlines_linked old new meanings)) (by f (Contains-append_cases old (all_linked meanings new) f i));
@@ -206,7 +206,7 @@ linked_lawful fs l = record {
   files = λ f i. (l.each f i).file;
   imports = λ f i j k. (l.each f j).imports i k;
   means = λ f r j k. record {
-    named = means_rooted (IsWanted (outlines fs) (outline_of f) r.want) (Holds (outlines fs)) r.scope r.name (after_dot r.name) ((l.each f j).rooted r k) ((l.each f j).wanted r k);
+    named = means_rooted (IsWanted (outlines fs) (outline_of f) r.want) (HoldsNames (outlines fs)) r.scope r.name (after_dot r.name) ((l.each f j).rooted r k) ((l.each f j).wanted r k);
     typed = (l.each f j).numbers r k;
     suits = (l.each f j).suits r k;
   };
@@ -216,13 +216,13 @@ linked_lawful fs l = record {
 }
 
 -- linked once more, by themselves and all at once, they are what they were
-pub again : (fs : List FileContent) → AreLinked fs → Adds [] fs fs
+pub again : (fs : List FileContent) → AreLinked fs → AddsLawful [] fs fs
 again fs l = (written, linked_lawful fs l, sym (stays_linked fs l))
 
 -- however their references are read
-pub only_again : (fs after : List FileContent) → AreLinked fs → Adds [] fs after → after ≡ fs
+pub only_again : (fs after : List FileContent) → AreLinked fs → AddsLawful [] fs after → after ≡ fs
 only_again fs after l (meanings, lawful, is) = is ∙ map_fixed (λ (f : FileContent). linked (meanings f) f) fs (λ f i. file_stays (λ r. dotted (meanings f r)) f (λ r j. (
-  ap (λ n. 46 ∷ n) (rooted_means (IsWanted (outlines fs) (outline_of f) r.want) (Holds (outlines fs)) r.scope r.name (after_dot r.name) (meanings f r).name ((l.each f i).rooted r j) (lawful.means f r i j).named)
+  ap (λ n. 46 ∷ n) (rooted_means (IsWanted (outlines fs) (outline_of f) r.want) (HoldsNames (outlines fs)) r.scope r.name (after_dot r.name) (meanings f r).name ((l.each f i).rooted r j) (lawful.means f r i j).named)
       ∙ sym ((l.each f i).rooted r j),
   (l.each f i).typed r j,
 )))

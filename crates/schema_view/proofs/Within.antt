@@ -7,7 +7,7 @@ use Rattle.schema_view.specs.Files.{join}
 use Rattle.schema_view.specs.Declarations.{Body, of_message, of_field, of_oneof, of_enum, of_value, of_service, of_method, of_extension}
 use Rattle.schema_view.specs.References.{Want, Reference, Target}
 use Rattle.schema_view.specs.Outlines.{Sort, Outline, IsNamed, IsDeclared, IsChain, Sees, IsPackage}
-use Rattle.schema_view.specs.Means.{IsWanted, Holds, has_dot, first_part, MeansUndotted, MeansDotted, MeansPlain, MeansBy, ReferenceMeans}
+use Rattle.schema_view.specs.Means.{IsWanted, HoldsNames, has_dot, first_part, MeansUndotted, MeansDotted, MeansPlain, MeansBy, ReferenceMeans}
 use Rattle.schema_view.specs.Lawful.{KeepsNumber, SuitsEnum, IsSettled}
 
 abbrev pub Within : List Outline → List Outline → Type 0
@@ -30,7 +30,7 @@ wanted_within os ps there from w full (o, h, i, j, e, is, sees) = (o, h, there o
 pub package_within : (os ps : List Outline) → Within os ps → (n : Text) → IsPackage os n → IsPackage ps n
 package_within os ps there n (o, i, s) = (o, there o i, s)
 
-pub holds_within : (os ps : List Outline) → Within os ps → (n : Text) → Holds os n → Holds ps n
+pub holds_within : (os ps : List Outline) → Within os ps → (n : Text) → HoldsNames os n → HoldsNames ps n
 holds_within os ps there n (inl p) = inl (package_within os ps there n p)
 holds_within os ps there n (inr (o, h, i, j, e, is)) = inr (o, h, there o i, j, e, is)
 
@@ -85,7 +85,7 @@ module _ (W H V G : Text → Type 0) (to : (n : Text) → W n → V n) (from : (
 -- the same files in another order
 pub means_same : (os ps : List Outline) → Within os ps → Within ps os → (from : Outline) (r : Reference) (t : Target) → ReferenceMeans os from r t → ReferenceMeans ps from r t
 means_same os ps there back from r t h = record {
-  named = means_by_same (IsWanted os from r.want) (Holds os) (IsWanted ps from r.want) (Holds ps)
+  named = means_by_same (IsWanted os from r.want) (HoldsNames os) (IsWanted ps from r.want) (HoldsNames ps)
       (wanted_within os ps there from r.want) (wanted_within ps os back from r.want) (holds_within ps os back) (holds_within os ps there) r.scope r.name t.name h.named;
   typed = (h.typed.0, declared_within os ps there t.name h.typed.0 h.typed.1, h.typed.2);
   suits = h.suits;

@@ -58,8 +58,8 @@ pub record IsOneMap (fs : List FileContent) (full : Text) : Type 0 where
       → IsMapUse full d.body
 
 -- a message of the name keeps the number for extensions, and for nothing else
-abbrev pub Keeps : List Outline → Text → ℤ → Type 0
-Keeps os full n =
+abbrev pub KeepsForExtensions : List Outline → Text → ℤ → Type 0
+KeepsForExtensions os full n =
     (extensions reserved : List Range) × IsDeclared os full (message_sort extensions reserved)
     × ((r : Range) × Contains extensions r × IsIn n r)
     × ((r : Range) → Contains reserved r → IsIn n r → ⊥)
@@ -67,7 +67,8 @@ Keeps os full n =
 -- an extension as linked files write it
 abbrev pub KeepsNumber : List Outline → Body → Type 0
 KeepsNumber os (of_extension x) =
-    (full : Text) (n : ℤ) → x.extendee ≡ Some (46 ∷ full) → x.number ≡ Some n → Keeps os full n
+    (full : Text) (n : ℤ) → x.extendee ≡ Some (46 ∷ full) → x.number ≡ Some n
+    → KeepsForExtensions os full n
 KeepsNumber os _ = Unit {0}
 
 -- the default of a field or extension whose type has a name is that of one of an enum's values
@@ -116,14 +117,15 @@ pub record IsLawful (old new : List FileContent) (meanings : Meanings) : Type 0 
   pub together : AreSettled (old ++ all_linked meanings new)
 
 -- the new files are lawful, and stand behind the older ones, linked
-abbrev pub Adds : List FileContent → List FileContent → List FileContent → Type 0
-Adds old new after = (meanings : Meanings) × IsLawful old new meanings
+abbrev pub AddsLawful : List FileContent → List FileContent → List FileContent → Type 0
+AddsLawful old new after = (meanings : Meanings) × IsLawful old new meanings
     × (after ≡ old ++ all_linked meanings new)
 
 -- batches, the last of them first, are added one behind the other
 abbrev pub Builds : List (List FileContent) → List FileContent → Type 0
 Builds [] after = after ≡ []
-Builds (new ∷ earlier) after = (old : List FileContent) × Builds earlier old × Adds old new after
+Builds (new ∷ earlier) after =
+    (old : List FileContent) × Builds earlier old × AddsLawful old new after
 
 -- the files of all batches
 abbrev pub sources : List (List FileContent) → List FileContent

@@ -45,8 +45,8 @@ IsWanted os from w full =
     × (h.name ≡ full) × (is_wanted w h.sort ≡ true) × Sees os from o.name
 
 -- a package or a definition that holds names, seen or not
-abbrev pub Holds : List Outline → Text → Type 0
-Holds os n =
+abbrev pub HoldsNames : List Outline → Text → Type 0
+HoldsNames os n =
     IsPackage os n
     ⊎ ((o : Outline) × (h : Head) × Contains os o × Contains o.heads h × (h.name ≡ n)
     × (is_holder h.sort ≡ true))
@@ -93,7 +93,8 @@ SuitsWant (a_type None) type = Unit {0}
 SuitsWant (a_type (Some n)) type = (n ≡ type) ⊎ ((n ≡ pos 10) × (type ≡ pos 11))
 
 -- the reference in a file means the definition of the target
-pub record ReferenceMeans (os : List Outline) (from : Outline) (r : Reference) (t : Target) : Type 0 where
-  pub named : MeansBy (IsWanted os from r.want) (Holds os) r.scope r.name t.name
+pub record ReferenceMeans (os : List Outline) (from : Outline) (r : Reference) (t : Target)
+    : Type 0 where
+  pub named : MeansBy (IsWanted os from r.want) (HoldsNames os) r.scope r.name t.name
   pub typed : (s : Sort) × IsDeclared os t.name s × HasType s t.type
   pub suits : SuitsWant r.want t.type

@@ -7,7 +7,7 @@ use Rattle.protobuf_model.specs.Types.{Field, Key, keyed, many, one}
 use Rattle.protobuf_model.specs.Values.{Content, Single}
 use Rattle.protobuf_model.proofs.Lists.{all_map}
 use Rattle.reflect_entries.specs.Entries.{value_at}
-use Rattle.reflect_extend.specs.Gives.{Entry, Gives}
+use Rattle.reflect_extend.specs.Gives.{Entry, GivesOneEntry}
 use Rattle.reflect_extend.specs.Puts.{PutsEntries}
 use Rattle.reflect_extend.specs.Siblings.{LacksSibling}
 use Rattle.reflect_message.specs.Declares.{NoField, Owns, OwnsExtension}
@@ -57,7 +57,7 @@ module _ (depth : ℕ) (pool : PoolType) (f : FieldType) where
   given_suit : (vs : List Value) (es : List Entry) → AllByRecursion (GivesSuiting depth pool f) vs → AreGiven vs es → AllSuit (map entry_view es)
   given_suit [] es all h = subst (λ es. AllSuit (map entry_view es)) (sym h) tt
   given_suit (v ∷ vs) es all (given, rest, gives, more, is) = subst (λ es. AllSuit (map entry_view es)) (sym is) (by (given_suit vs rest all.1 more) given gives) where
-    by : AllSuit (map entry_view rest) → (given : Option Entry) → Gives v given → AllSuit (map entry_view (in_front given rest))
+    by : AllSuit (map entry_view rest) → (given : Option Entry) → GivesOneEntry v given → AllSuit (map entry_view (in_front given rest))
     by later None gives = later
     by later (Some e) gives = (all.0 e gives, later)
 

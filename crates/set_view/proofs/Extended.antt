@@ -15,7 +15,7 @@ use Rattle.reflect_pool.specs.declared.field.FieldDescriptor.{FieldDescriptor}
 use Rattle.reflect_pool.specs.declared.message.MessageDescriptor.{MessageDescriptor}
 use Rattle.reflect_scalar.specs.FieldTypes.{extension_type}
 use Rattle.reflect_tables.specs.Types.{FieldType}
-use Rattle.message_view.specs.Shaped.{Fits, IsShaped}
+use Rattle.message_view.specs.Shaped.{FitsShaped, IsShaped}
 use Rattle.message_view.specs.Sound.{IsSound}
 use Rattle.message_view.proofs.Changed.{extension_shaped, field_shaped}
 use Rattle.message_view.proofs.Fields.{known}
@@ -57,7 +57,7 @@ module _ (old new : DynamicMessage) where
   module _ (inner : DynamicMessage → Type 0) (sound : IsSound old.descriptor.pool.now) (shape : IsShaped inner old.descriptor (content_of old)) where
     -- where what then stands under the number fits, the message is in shape
     pub field_in_shape : (f : FieldDescriptor) → Owns d f → ExtendsField old new f
-        → ((v : Value) → value_at (fields_of new) (field_type f).number ≡ Some v → Fits inner d.pool.now (field_type f) v)
+        → ((v : Value) → value_at (fields_of new) (field_type f).number ≡ Some v → FitsShaped inner d.pool.now (field_type f) v)
         → IsShaped inner new.descriptor (content_of new)
     field_in_shape f owns extends fits =
         subst (λ (d : MessageDescriptor). IsShaped inner d (content_of new)) (sym extends.same_type)
@@ -65,7 +65,7 @@ module _ (old new : DynamicMessage) where
         (extends.ascending shape.ordered.fields.ascending) (stays_or_goes f extends) fits)
 
     pub extension_in_shape : (x : ExtensionDescriptor) → OwnsExtension d x → ExtendsExtension old new x
-        → ((v : Value) → value_at (extensions_of new) (extension_type x).number ≡ Some v → Fits inner d.pool.now (extension_type x) v)
+        → ((v : Value) → value_at (extensions_of new) (extension_type x).number ≡ Some v → FitsShaped inner d.pool.now (extension_type x) v)
         → IsShaped inner new.descriptor (content_of new)
     extension_in_shape x owns extends fits =
         let under = value_at (extensions_of new) (extension_type x).number in
@@ -74,12 +74,12 @@ module _ (old new : DynamicMessage) where
         (record { here = refl; others = extends.others; ascending = extends.ascending shape.ordered.extensions.ascending }) fits)
 
     -- what stands there before fits
-    pub field_fits : (f : FieldDescriptor) → Owns d f → (v : Value) → value_at (fields_of old) (field_type f).number ≡ Some v → Fits inner d.pool.now (field_type f) v
+    pub field_fits : (f : FieldDescriptor) → Owns d f → (v : Value) → value_at (fields_of old) (field_type f).number ≡ Some v → FitsShaped inner d.pool.now (field_type f) v
     field_fits f owns v at = shape.fields f owns v at
 
-    pub extension_fits : (x : ExtensionDescriptor) → OwnsExtension d x → (v : Value) → value_at (extensions_of old) (extension_type x).number ≡ Some v → Fits inner d.pool.now (extension_type x) v
+    pub extension_fits : (x : ExtensionDescriptor) → OwnsExtension d x → (v : Value) → value_at (extensions_of old) (extension_type x).number ≡ Some v → FitsShaped inner d.pool.now (extension_type x) v
     extension_fits x owns v at = by (known_field d.pool.now d.index (extension_type x).number) refl where
-      by : (o : Option FieldType) → known_field d.pool.now d.index (extension_type x).number ≡ o → Fits inner d.pool.now (extension_type x) v
+      by : (o : Option FieldType) → known_field d.pool.now d.index (extension_type x).number ≡ o → FitsShaped inner d.pool.now (extension_type x) v
       by None none = shape.extensions x owns none v at
       by (Some g) is =
           let f = known d (extension_type x).number g is in

@@ -2,7 +2,7 @@
 use Rattle.std.proofs.Common.{◌≡◌, ℕ, suc, ◌==◌, ◌&&◌, ◌||◌, not, Bool, true, false, cond, Option, None, Some, option_map, unwrap_or, refl, sym, ap, ◌∙◌, subst, arith}
 use Rattle.std.specs.Option.{option_and_then}
 use Rattle.reflect_entries.specs.Entries.{value_at}
-use Rattle.reflect_extend.specs.Gives.{Entry, GivesAs, GivesIn, GivesPair, IsPart, left_under}
+use Rattle.reflect_extend.specs.Gives.{Entry, GivesAs, GivesIn, GivesPair, IsSetOrDefault, left_under}
 use Rattle.reflect_message.specs.Bytes.{form_of, is_set}
 use Rattle.reflect_message.specs.Contents.{content_of, nothing}
 use Rattle.reflect_message.specs.Defaults.{IsDefaultOne}
@@ -20,7 +20,7 @@ use Rattle.reflect_scalar.specs.declared.map_key.MapKey.{MapKey}
 use Rattle.reflect_tables.specs.Types.{FieldType, KindType, PoolType, no_field, type_at, type_of_field}
 use Rattle.reflect_tables.specs.Types as types
 use Rattle.reflect_tables.specs.declared.stored.StoredEntry.{StoredEntry}
-use Rattle.message_view.specs.Shaped.{Fits, FitsAs, FitsOne, HasShape, IsShaped}
+use Rattle.message_view.specs.Shaped.{FitsShaped, FitsAs, FitsOne, HasShape, IsShaped}
 use Rattle.message_view.specs.Sound.{AreApart, IsPartAt, IsSound}
 use Rattle.message_view.proofs.Changed.{nothing_shaped}
 use Rattle.message_view.proofs.Deeper.{one_level}
@@ -68,7 +68,7 @@ module _ (inner : DynamicMessage → Type 0) (pool : PoolType) (f : FieldType) w
   float_fits v floats = record { plain = λ type. absurd (no_scalar f.kind floats type); nested = λ type. absurd (no_message f.kind floats type) }
 
   module _ (one : is_repeated f.cardinality ≡ false) where
-    fits_one : (v : Value) → Fits inner pool f v → FitsOne inner pool f v
+    fits_one : (v : Value) → FitsShaped inner pool f v → FitsOne inner pool f v
     fits_one v h = subst (λ b. FitsAs inner pool f false b v) (no_list pool f one) (subst (λ b. FitsAs inner pool f b (holds_list pool f) v) (no_map pool f one) h)
 
     -- what it gives to an entry: what it holds, or its default
@@ -79,7 +79,7 @@ module _ (inner : DynamicMessage → Type 0) (pool : PoolType) (f : FieldType) w
         nested = λ type. let m = h.1 type in (m.0, m.1, m.2.0, blank m.0 m.2.1);
       }
 
-      part_fits : (o : Option Value) → ((u : Value) → o ≡ Some u → FitsOne inner pool f u) → (v : Value) → IsPart pool f o v → FitsOne inner pool f v
+      part_fits : (o : Option Value) → ((u : Value) → o ≡ Some u → FitsOne inner pool f u) → (v : Value) → IsSetOrDefault pool f o v → FitsOne inner pool f v
       part_fits None each v h = default_fits v (h.2 (no_list pool f one) (no_map pool f one))
       part_fits (Some u) each v h = by (is_set pool f (form_of u)) h where
         by : (b : Bool) → IsHeldOrDefault pool f (cond b (Some u) None) v → FitsOne inner pool f v
@@ -129,7 +129,7 @@ module _ (inner : DynamicMessage → Type 0) (blank : (m : DynamicMessage) → c
         let g = known d n (type_of place) (ap (option_and_then (if_held d.pool.now)) there ∙ if_whole d.pool.now (type_of place) part.one whole) in
         let number : (field_type g.0).number ≡ n = ap (λ (t : FieldType). t.number) g.2 ∙ g.3 in
         let fits = shape.fields g.0 g.1 u (ap (value_at (fields_of m)) number ∙ at) in
-        fits_one inner d.pool.now (type_of place) part.one u (subst (λ (t : FieldType). Fits inner d.pool.now t u) g.2 fits)
+        fits_one inner d.pool.now (type_of place) part.one u (subst (λ (t : FieldType). FitsShaped inner d.pool.now t u) g.2 fits)
 
   -- without its key it holds the same value
   pub value_left : left_under its_key.number (fields_of m) its_value.number ≡ value_at (fields_of m) 2
@@ -138,7 +138,7 @@ module _ (inner : DynamicMessage → Type 0) (blank : (m : DynamicMessage) → c
   pair_fits : numbered_field d.pool.now d.index 2 ≡ Some its_value → (e : Entry) → GivesPair d.pool.now its_key its_value (fields_of m) (Some e) → FitsOne inner d.pool.now its_value e.1
   pair_fits there e (key, value, of_key, of_value, given) =
       subst (FitsOne inner d.pool.now its_value) (value_of_pair (key_of_value key) value e given)
-      (part_fits inner d.pool.now its_value value_part.one blank (value_at (fields_of m) 2) (held_fits 2 s.value value_part there) value (subst (λ o. IsPart d.pool.now its_value o value) value_left of_value))
+      (part_fits inner d.pool.now its_value value_part.one blank (value_at (fields_of m) 2) (held_fits 2 s.value value_part there) value (subst (λ o. IsSetOrDefault d.pool.now its_value o value) value_left of_value))
 
 -- a message of the entries' type
 module _ (exclusive : Bool) (levels : ℕ) (pool : PoolType) (sound : IsSound pool) (f : FieldType) (v : Value) (fits : FitsOne (HasShape exclusive (suc (suc levels))) pool f v) where

@@ -15,7 +15,7 @@ use Rattle.reflect_pool.specs.declared.field.FieldDescriptor.{FieldDescriptor}
 use Rattle.reflect_pool.specs.declared.message.MessageDescriptor.{MessageDescriptor}
 use Rattle.reflect_scalar.specs.FieldTypes.{extension_type}
 use Rattle.reflect_tables.specs.Types.{FieldType, PoolType}
-use Rattle.message_view.specs.Shaped.{Fits, FitsAs, FitsOne, IsShaped}
+use Rattle.message_view.specs.Shaped.{FitsShaped, FitsAs, FitsOne, IsShaped}
 use Rattle.message_view.specs.Sound.{IsSound}
 use Rattle.set_view.specs.Extends.{ExtendsExtension, ExtendsField}
 use Rattle.set_view.proofs.Extended.{extension_fits, extension_in_shape, field_fits, field_in_shape}
@@ -43,19 +43,19 @@ module _ (inner : DynamicMessage → Type 0) (pool : PoolType) (f : FieldType) (
   abbrev IsFittingList : Option Value → Type 0
   IsFittingList o = (before : List Value) × (items_held o ≡ Some before) × AllByRecursion (FitsOne inner pool f) before
 
-  list_fits : (v : Value) → IsFittingList (Some v) → Fits inner pool f v
+  list_fits : (v : Value) → IsFittingList (Some v) → FitsShaped inner pool f v
   list_fits v h = subst (λ b. FitsAs inner pool f b (holds_list pool f) v) (sym (no_map pool f many)) (subst (λ b. FitsAs inner pool f false b v) (sym many) h)
 
-  fitting_list : (v : Value) → Fits inner pool f v → IsFittingList (Some v)
+  fitting_list : (v : Value) → FitsShaped inner pool f v → IsFittingList (Some v)
   fitting_list v h = subst (λ b. FitsAs inner pool f false b v) many (subst (λ b. FitsAs inner pool f b (holds_list pool f) v) (no_map pool f many) h)
 
-  fitting : (o : Option Value) → ((v : Value) → o ≡ Some v → Fits inner pool f v) → IsFittingList o
+  fitting : (o : Option Value) → ((v : Value) → o ≡ Some v → FitsShaped inner pool f v) → IsFittingList o
   fitting None fits = ([], refl, tt)
   fitting (Some v) fits = fitting_list v (fits v refl)
 
   -- where the list and the values fit, so does the longer list
-  pub longer_fits : (old new : Option Value) (vs : List Value) → ((v : Value) → old ≡ Some v → Fits inner pool f v) → AllByRecursion (FitsOne inner pool f) vs → Lengthens old new vs
-      → (v : Value) → new ≡ Some v → Fits inner pool f v
+  pub longer_fits : (old new : Option Value) (vs : List Value) → ((v : Value) → old ≡ Some v → FitsShaped inner pool f v) → AllByRecursion (FitsOne inner pool f) vs → Lengthens old new vs
+      → (v : Value) → new ≡ Some v → FitsShaped inner pool f v
   longer_fits old new vs fits all lengthens v is =
       let was = fitting old fits in
       list_fits v (was.0 ++ vs, ap items_held (sym is) ∙ lengthened old new was.0 vs was.1 lengthens, all_append (FitsOne inner pool f) was.0 vs was.2 all)

@@ -7,7 +7,7 @@ use Rattle.protobuf_model.specs.Types.{Field}
 use Rattle.protobuf_model.specs.Values.{Held}
 use Rattle.protobuf_model.proofs.Pieces.{items-if_any, map_append, pairs-if_some}
 use Rattle.reflect_entries.specs.Entries.{value_at}
-use Rattle.reflect_extend.specs.Gives.{Entry, Gives}
+use Rattle.reflect_extend.specs.Gives.{Entry, GivesOneEntry}
 use Rattle.reflect_extend.specs.Puts.{PutsAll, PutsEntries, with_given}
 use Rattle.reflect_extend.specs.Siblings.{LacksSibling}
 use Rattle.reflect_message.specs.Declares.{NoField, Owns, OwnsExtension}
@@ -73,7 +73,7 @@ module _ (pool : PoolType) (f : FieldType) where
   put_in : (before after : List Entry) (vs : List Value) → Formed before → AllByRecursion (GivesKeyed pool f) vs → PutsAll before after vs → IsPutIn before after vs
   put_in before after [] keys keyed h = ([], refl, ap (map entry_view) h)
   put_in before after (v ∷ vs) keys keyed (between, (given, gives, put_so), rest) = by (λ keys. put_in between after vs keys keyed.1 rest) given gives put_so where
-    by : (Formed between → IsPutIn between after vs) → (given : Option Entry) → Gives v given → between ≡ with_given before given → IsPutIn before after (v ∷ vs)
+    by : (Formed between → IsPutIn between after vs) → (given : Option Entry) → GivesOneEntry v given → between ≡ with_given before given → IsPutIn before after (v ∷ vs)
     by later None gives put_so =
         let more = later (subst Formed (sym put_so) keys) in
         (more.0, (None, more.0, gives, more.1, refl), more.2 ∙ ap (λ b. put_all (map entry_view b) (map entry_view more.0)) put_so)

@@ -4,7 +4,7 @@ use Rattle.std.specs.BTreeMap.{insert_entry}
 use Rattle.std.specs.List.{AllByRecursion}
 use Rattle.std.specs.Ordering.{match_ordering}
 use Rattle.reflect_entries.specs.Entries.{value_at}
-use Rattle.reflect_extend.specs.Gives.{Entry, Gives}
+use Rattle.reflect_extend.specs.Gives.{Entry, GivesOneEntry}
 use Rattle.reflect_extend.specs.Puts.{PutsAll, PutsEntries, PutsFront, PutsSome, with_given}
 use Rattle.reflect_message.specs.Contents.{content_of}
 use Rattle.reflect_message.specs.Declares.{Owns, OwnsExtension}
@@ -19,7 +19,7 @@ use Rattle.reflect_pool.specs.declared.message.MessageDescriptor.{MessageDescrip
 use Rattle.reflect_scalar.specs.FieldTypes.{extension_type}
 use Rattle.reflect_scalar.specs.declared.map_key.MapKey.{MapKey}
 use Rattle.reflect_tables.specs.Types.{FieldType, PoolType}
-use Rattle.message_view.specs.Shaped.{Fits, FitsAs, FitsEntry, IsShaped}
+use Rattle.message_view.specs.Shaped.{FitsShaped, FitsAs, FitsEntry, IsShaped}
 use Rattle.message_view.specs.Sound.{IsSound}
 use Rattle.set_view.specs.Extends.{ExtendsExtension, ExtendsField}
 use Rattle.set_view.specs.Given.{GivesFitting}
@@ -50,7 +50,7 @@ module _ (inner : DynamicMessage → Type 0) (pool : PoolType) (f : FieldType) w
   abbrev AllFit : List Entry → Type 0
   AllFit es = AllByRecursion (FitsEntry inner pool f) es
 
-  with_fitting : (before : List Entry) (v : Value) (given : Option Entry) → AllFit before → GivesFitting inner pool f v → Gives v given → AllFit (with_given before given)
+  with_fitting : (before : List Entry) (v : Value) (given : Option Entry) → AllFit before → GivesFitting inner pool f v → GivesOneEntry v given → AllFit (with_given before given)
   with_fitting before v None all fits gives = all
   with_fitting before v (Some e) all fits gives = inserted (λ w. FitsEntry inner pool f (e.0, w)) before e.0 e.1 all (fits e gives)
 
@@ -63,13 +63,13 @@ module _ (inner : DynamicMessage → Type 0) (pool : PoolType) (f : FieldType) w
     abbrev IsFittingMap : Option Value → Type 0
     IsFittingMap o = (before : List Entry) × (entries_held o ≡ Some before) × AllFit before
 
-    pub fitting : (o : Option Value) → ((v : Value) → o ≡ Some v → Fits inner pool f v) → IsFittingMap o
+    pub fitting : (o : Option Value) → ((v : Value) → o ≡ Some v → FitsShaped inner pool f v) → IsFittingMap o
     fitting None fits = ([], refl, tt)
     fitting (Some v) fits = subst (λ b. FitsAs inner pool f b (holds_list pool f) v) is_map (fits v refl)
 
     -- where the map and the entries fit, so does the fuller map
-    pub fuller_fits : (old new : Option Value) (vs : List Value) → ((v : Value) → old ≡ Some v → Fits inner pool f v) → AllByRecursion (GivesFitting inner pool f) vs → PutsEntries old new vs
-        → (v : Value) → new ≡ Some v → Fits inner pool f v
+    pub fuller_fits : (old new : Option Value) (vs : List Value) → ((v : Value) → old ≡ Some v → FitsShaped inner pool f v) → AllByRecursion (GivesFitting inner pool f) vs → PutsEntries old new vs
+        → (v : Value) → new ≡ Some v → FitsShaped inner pool f v
     fuller_fits old new vs fits all puts v is =
         let was = fitting old fits in
         let now = filled old new was.0 vs was.1 puts in

@@ -8,7 +8,7 @@ use Rattle.protobuf_model.specs.Types.{Field, Name, keyed, many, one}
 use Rattle.protobuf_model.specs.Values.{Content, Held, Message, Single, absent, content, message, single}
 use Rattle.protobuf_model.proofs.KeyOrder.{same_true}
 use Rattle.reflect_entries.specs.Entries.{value_at}
-use Rattle.reflect_extend.specs.Gives.{Entry, Gives, GivesAs, GivesIn, GivesPair, IsPart}
+use Rattle.reflect_extend.specs.Gives.{Entry, GivesOneEntry, GivesAs, GivesIn, GivesPair, IsSetOrDefault}
 use Rattle.reflect_message.specs.Bytes as bytes
 use Rattle.reflect_message.specs.Contents.{content_of}
 use Rattle.reflect_message.specs.Defaults.{IsDefault, IsDefaultOne}
@@ -194,7 +194,7 @@ module _ (levels depth : ℕ) (m : DynamicMessage) (sound : IsSound m.descriptor
     default_typed : (v : Value) → IsDefault its.pool.now (type_of place) v → IsOfPart place v
     default_typed v h = default_suits depth its.pool.now (type_of place) whole default v (h.2 (no_list its.pool.now (type_of place) part.one) (no_map its.pool.now (type_of place) part.one))
 
-    part_typed : (o : Option Value) → value_at (fields_of m) n ≡ o → (v : Value) → IsPart its.pool.now (type_of place) o v → IsOfPart place v
+    part_typed : (o : Option Value) → value_at (fields_of m) n ≡ o → (v : Value) → IsSetOrDefault its.pool.now (type_of place) o v → IsOfPart place v
     part_typed None at v h = default_typed v h
     part_typed (Some u) at v h = by (bytes.is_set its.pool.now (type_of place) (bytes.form_of u)) h where
       by : (b : Bool) → IsHeldOrDefault its.pool.now (type_of place) (cond b (Some u) None) v → IsOfPart place v
@@ -229,14 +229,14 @@ module _ (levels depth : ℕ) (m : DynamicMessage) (sound : IsSound m.descriptor
       let below = IsTyped depth (types_of its.pool.now) in
       let seen = single_seen key (key_view e.0) (key_seen key e.0 (key_of_pair (key_of_value key) value e given)) in
       let typed = part_typed 1 s.key key_part key_there (scalar_whole f.kind key_type) (value_at (fields_of m) 1) refl key
-      (subst (λ n. IsPart its.pool.now f (value_at (fields_of m) n) key) key_part.number of_key) in
+      (subst (λ n. IsSetOrDefault its.pool.now f (value_at (fields_of m) n) key) key_part.number of_key) in
       subst (λ k. IsOf below k (single (single_view (key_view e.0)))) (kind_scalar its.pool.now f.group f.kind key_type) (subst (IsOf below (kind_in its.pool.now f.group f.kind)) seen typed)
 
   pub pair_valued : is_float (type_of s.value).kind ≡ false → (e : Entry) → GivesThis e → IsOfPart s.value e.1
   pair_valued whole e (key, value, of_key, of_value, given) =
       subst (IsOfPart s.value) (value_of_pair (key_of_value key) value e given)
       (part_typed 2 s.value value_part value_there whole (value_at (fields_of m) 2) refl value
-      (subst (λ o. IsPart its.pool.now (type_of s.value) o value) (value_left (Shaped (suc levels)) (nothing_shaped false levels) m sound shape s is) of_value))
+      (subst (λ o. IsSetOrDefault its.pool.now (type_of s.value) o value) (value_left (Shaped (suc levels)) (nothing_shaped false levels) m sound shape s is) of_value))
 
 -- ---- a message of the entries' type
 map_of_messages : (pool : PoolType) (f : FieldType) → holds_map pool f ≡ true → IsMessageType f.kind
@@ -253,7 +253,7 @@ module _ (levels depth : ℕ) (pool : PoolType) (sound : IsSound pool) (f : Fiel
       → IsTyped (suc depth) (types_of m.descriptor.pool.now) (name_at m.descriptor.pool.now m.descriptor.index) (view m)
       → (s : StoredEntry) → (type_at m.descriptor.pool.now m.descriptor.index).entry ≡ Some s
       → (e : Entry) → GivesPair m.descriptor.pool.now (type_of_field m.descriptor.pool.now m.descriptor.index s.key) (type_of_field m.descriptor.pool.now m.descriptor.index s.value) (fields_of m) (Some e) → P e)
-      → (e : Entry) → Gives v (Some e) → P e
+      → (e : Entry) → GivesOneEntry v (Some e) → P e
   of_pair P each e gives =
       let entry = fits.nested (map_of_messages pool f is_map) in
       by entry.0 entry.2.0 entry.2.1 entry.3 (suits entry.0 entry.1) (type_at entry.0.descriptor.pool.now entry.0.descriptor.index).entry refl (subst (λ o. GivesIn o (Some e)) entry.1 gives) where
@@ -280,7 +280,7 @@ module _ (levels depth : ℕ) (pool : PoolType) (sound : IsSound pool) (f : Fiel
     abbrev HasValue : Entry → Type 0
     HasValue e = IsOf (IsTyped depth (types_of pool)) (part_of pool (values_of pool f)).kind (content_view e.1)
 
-    given_valued : (e : Entry) → Gives v (Some e) → HasValue e
+    given_valued : (e : Entry) → GivesOneEntry v (Some e) → HasValue e
     given_valued = of_pair HasValue (λ m its_pool its_kind shape suit s is e h.
         let its_sound = subst IsSound (sym its_pool) sound in
         let value = type_of_field m.descriptor.pool.now m.descriptor.index s.value in

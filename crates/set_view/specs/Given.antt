@@ -3,7 +3,7 @@ use Rattle.std.specs.Prelude.{◌≡◌, ℕ, suc, List, [], ◌∷◌, Option, 
 use Rattle.protobuf_model.specs.Scalars.{Suits}
 use Rattle.protobuf_model.specs.Typed.{IsEntryOf, IsTyped}
 use Rattle.protobuf_model.specs.Values.{Content, Single}
-use Rattle.reflect_extend.specs.Gives.{Entry, Gives}
+use Rattle.reflect_extend.specs.Gives.{Entry, GivesOneEntry}
 use Rattle.reflect_message.specs.Messages.{message_in}
 use Rattle.reflect_message.specs.Names.{DynamicMessage, Value}
 use Rattle.reflect_scalar.specs.Keys.{key_view}
@@ -24,15 +24,15 @@ HasKey pool f e = Suits (scalar_of (entry_part pool f 1).kind) (single_view (key
 -- what the value gives, if it gives an entry, has a value that suits the map, where `inner` holds
 -- of the messages inside
 abbrev pub GivesFitting : (DynamicMessage → Type 0) → PoolType → FieldType → Value → Type 0
-GivesFitting inner pool f v = (e : Entry) → Gives v (Some e) → FitsEntry inner pool f e
+GivesFitting inner pool f v = (e : Entry) → GivesOneEntry v (Some e) → FitsEntry inner pool f e
 
 -- and has such a key
 abbrev pub GivesKeyed : PoolType → FieldType → Value → Type 0
-GivesKeyed pool f v = (e : Entry) → Gives v (Some e) → HasKey pool f e
+GivesKeyed pool f v = (e : Entry) → GivesOneEntry v (Some e) → HasKey pool f e
 
 -- and suits the map, in messages of so many levels at most
 abbrev pub GivesSuiting : ℕ → PoolType → FieldType → Value → Type 0
-GivesSuiting depth pool f v = (e : Entry) → Gives v (Some e)
+GivesSuiting depth pool f v = (e : Entry) → GivesOneEntry v (Some e)
     → IsEntryOf (IsTyped depth (types_of pool)) (key_of pool (entry_part pool f 1))
     (part_of pool (values_of pool f)) (entry_view e)
 
@@ -53,5 +53,5 @@ in_front (Some e) es = e ∷ es
 abbrev pub AreGiven : List Value → List Entry → Type 0
 AreGiven [] es = es ≡ []
 AreGiven (v ∷ vs) es =
-    (given : Option Entry) × (rest : List Entry) × Gives v given × AreGiven vs rest
+    (given : Option Entry) × (rest : List Entry) × GivesOneEntry v given × AreGiven vs rest
     × (es ≡ in_front given rest)

@@ -20,7 +20,7 @@ use Rattle.protox_tokens.proofs.Local.{Local, good, same_ok, bound}
 use Rattle.protox_tokens.proofs.Both.{IsNamed, Always, then_ok}
 use Rattle.protox_tokens.proofs.Both as both
 use Rattle.source_grammar.specs.Languages.{Language, nothing, begins, ends, ◌▸◌, ◌∪◌, perhaps, many}
-use Rattle.source_grammar.specs.Aggregates.{Sees, in_text, a_sign, an_ident, a_literal, a_plain, dotted, field_name, scalar, separator, a_value, a_list, a_field, message, between, fields_as, an_aggregate}
+use Rattle.source_grammar.specs.Aggregates.{SeesToken, in_text, a_sign, an_ident, a_literal, a_plain, dotted, field_name, scalar, separator, a_value, a_list, a_field, message, between, fields_as, an_aggregate}
 use Rattle.source_grammar.proofs.Rules.{Rule, rule_token}
 use Rattle.source_grammar.proofs.Ahead.{one_seen, seen_no_string}
 use Rattle.source_grammar.proofs.Takes.{Takes, Free, takes_as, takes_one, takes_must, takes_branch, takes_done, takes_then, takes_choose, takes_while, takes_behind, text_first, sees_more, expect_sound, expect_some}
@@ -50,7 +50,7 @@ plain_not k ts r (inr (inr h)) = text_first (sign k) false (λ t at i. ap (λ t.
 string_first : {P : Token → Span → Type 0} (b : Bool) → ((t : Token) (at : Span) → P t at → is_str t ≡ b) → (ts r : Stream) → in_text P ts r → is_string_in text ts ≡ b
 string_first {P = P} b f [] r h = absurd h
 string_first {P = P} b f (l ∷ ts) r h = by (look text l) h.0 where
-  by : (x : Seen) → Sees P x → is_string_of x ≡ b
+  by : (x : Seen) → SeesToken P x → is_string_of x ≡ b
   by None h = absurd h
   by (Some x) h = f x.0 x.1 h
 
@@ -110,11 +110,11 @@ takes_plain = takes_as (takes_one expects.a_field_value is_plain IsPlain plain_t
   to : (ts r : Stream) → in_text IsPlain ts r → a_plain ts r
   to [] r h = absurd h
   to (l ∷ ts) r h = by (look text l) refl h.0 where
-    by : (x : Seen) → look text l ≡ x → Sees IsPlain x → a_plain (l ∷ ts) r
+    by : (x : Seen) → look text l ≡ x → SeesToken IsPlain x → a_plain (l ∷ ts) r
     by None e i = absurd i
-    by (Some x) e (inl i) = inl (subst (Sees (λ t at. (x : Text) × (t ≡ ident x))) (sym e) i, h.1)
-    by (Some x) e (inr (inl i)) = inr (inl (subst (Sees (λ t at. (n : ℕ) × (t ≡ int n))) (sym e) i, h.1))
-    by (Some x) e (inr (inr i)) = inr (inr (subst (Sees (λ t at. (x : Text) × (t ≡ float x))) (sym e) i, h.1))
+    by (Some x) e (inl i) = inl (subst (SeesToken (λ t at. (x : Text) × (t ≡ ident x))) (sym e) i, h.1)
+    by (Some x) e (inr (inl i)) = inr (inl (subst (SeesToken (λ t at. (n : ℕ) × (t ≡ int n))) (sym e) i, h.1))
+    by (Some x) e (inr (inr i)) = inr (inr (subst (SeesToken (λ t at. (x : Text) × (t ≡ float x))) (sym e) i, h.1))
 
   one_of : (ts r : Stream) → a_plain ts r → in_text IsPlain ts r
   one_of ts r (inl h) = sees_more (λ t at i. inl i) ts r h

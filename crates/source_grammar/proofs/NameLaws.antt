@@ -12,7 +12,7 @@ use Rattle.protox_tree.specs.Tree.{Word, TypeName}
 use Rattle.protox_tokens.specs.Stream.{Stream, Seen, source, look}
 use Rattle.protox_tokens.specs.Parser.{Parser, ◌>>=◌, pure, same, sees, word_of, word, digits_of, digits, literal_of, literal, loop, when, is_str, is_string_of, is_string, some_by}
 use Rattle.protox_tokens.specs.Refusal.{an_ident, an_int, a_string}
-use Rattle.protox_tokens.specs.Marks.{literal as literal_mark, Fits, FitsToken, IsLiteral, spot, word_mark, IsAny}
+use Rattle.protox_tokens.specs.Marks.{literal as literal_mark, FitsMark, FitsToken, IsLiteral, spot, word_mark, IsAny}
 use Rattle.protox_tokens.proofs.Local.{same_ok, bound}
 use Rattle.protox_tokens.proofs.Both.{Always, Free, then_ok}
 use Rattle.protox_tokens.proofs.Steps.{Absent, both_leaf, sees_first}
@@ -162,7 +162,7 @@ string_seen w (l ∷ ts) r h = by (look source l) h.0 where
   told (sign t) p h = absurd h
   told comment p h = absurd h
 
-  by : (x : Seen) → Fits (literal_mark w) x → is_string_of x ≡ true
+  by : (x : Seen) → FitsMark (literal_mark w) x → is_string_of x ≡ true
   by None h = absurd h
   by (Some x) h = told x.0 x.1 h
 
@@ -170,7 +170,7 @@ string_seen w (l ∷ ts) r h = by (look source l) h.0 where
 pub no_string : (k : Token) (at : Span) (ts r : Stream) → is_str k ≡ false → one (spot at k) ts r → is_string ts ≡ false
 no_string k at [] r e h = absurd h
 no_string k at (l ∷ ts) r e h = by (look source l) h.0 where
-  by : (x : Seen) → Fits (spot at k) x → is_string_of x ≡ false
+  by : (x : Seen) → FitsMark (spot at k) x → is_string_of x ≡ false
   by None h = absurd h
   by (Some x) h = ap is_str (sym h.1) ∙ e
 

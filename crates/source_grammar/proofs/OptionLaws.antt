@@ -16,7 +16,7 @@ use Rattle.protox_tokens.specs.Stream.{Stream, Piece, Seen, source, look}
 use Rattle.protox_tokens.specs.Parser.{◌>>=◌, pure, same, sees, value_of, taken, one as one_by, is_string}
 use Rattle.protox_tokens.specs.Refusal.{Expected, an_option_value, a_number, lex_fault}
 use Rattle.protox_tokens.specs.Span.{across}
-use Rattle.protox_tokens.specs.Marks.{Fits, spot, IsAny}
+use Rattle.protox_tokens.specs.Marks.{FitsMark, spot, IsAny}
 use Rattle.protox_tokens.proofs.Local.{good, same_ok, bound}
 use Rattle.protox_tokens.proofs.Both.{Always, Free, then_ok}
 use Rattle.protox_tokens.proofs.Steps.{sees_first}
@@ -91,7 +91,7 @@ module _ {A : Type 0} (e : Expected) (f : Token → Span → Option A) where
   taken_at l ts r a (Some x) i g = by (f x.0 x.1) refl g where
     by : (o : Option A) → f x.0 x.1 ≡ o → taken source e o (l ∷ ts) ≡ Ok (a, r) → Taken f a (l ∷ ts) r
     by None j g = absurd cc
-    by (Some b) j g = let y = same_ok (b, ts) (a, r) g in (x.0, x.1, (subst (Fits (spot x.1 x.0)) (sym i) (refl, refl), ap (λ (z : A × Stream). z.1) y), j ∙ ap (λ (z : A × Stream). Some z.0) y)
+    by (Some b) j g = let y = same_ok (b, ts) (a, r) g in (x.0, x.1, (subst (FitsMark (spot x.1 x.0)) (sym i) (refl, refl), ap (λ (z : A × Stream). z.1) y), j ∙ ap (λ (z : A × Stream). Some z.0) y)
 
   taken_sound : (ts r : Stream) (a : A) → one_by source e f ts ≡ Ok (a, r) → Taken f a ts r
   taken_sound [] r a g = absurd cc
@@ -100,7 +100,7 @@ module _ {A : Type 0} (e : Expected) (f : Token → Span → Option A) where
   taken_complete : (ts r : Stream) (a : A) → Taken f a ts r → one_by source e f ts ≡ Ok (a, r)
   taken_complete [] r a h = absurd h.2
   taken_complete (l ∷ ts) r a h = by (look source l) h.2.0 where
-    by : (x : Seen) → Fits (spot h.1 h.0) x → taken source e (value_of f x) (l ∷ ts) ≡ Ok (a, r)
+    by : (x : Seen) → FitsMark (spot h.1 h.0) x → taken source e (value_of f x) (l ∷ ts) ≡ Ok (a, r)
     by None i = absurd i
     by (Some x) i = ap (λ t. taken source e (f t x.1) (l ∷ ts)) (sym i.1) ∙ ap (λ p. taken source e (f h.0 p) (l ∷ ts)) (sym i.0) ∙ ap (λ o. taken source e o (l ∷ ts)) h.3 ∙ ap (λ s. Ok (a, s)) h.2.1
 

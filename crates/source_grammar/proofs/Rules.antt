@@ -6,7 +6,7 @@ use Rattle.protox_lex.specs.declared.span.Span.{Span}
 use Rattle.protox_tokens.specs.Stream.{Stream}
 use Rattle.protox_tokens.specs.Parser.{Outcome, Parser, and_then, ◌>>=◌, ◌<$>◌, pure, same, is, sees, eat, pass, expect_in, expect, goes_on, loop, when, behind, choose, some_by}
 use Rattle.protox_tokens.specs.Refusal.{this}
-use Rattle.protox_tokens.specs.Marks.{Mark, Spells, FitsToken, spot, IsAny}
+use Rattle.protox_tokens.specs.Marks.{Mark, SpellsMarks, FitsToken, spot, IsAny}
 use Rattle.protox_tokens.specs.Marks as marks
 use Rattle.protox_tokens.proofs.Loops.{Shortens, loop-is}
 use Rattle.protox_tokens.proofs.Local.{bound, none_is, none_not, same_ok, some_not, some_of}
@@ -14,7 +14,7 @@ use Rattle.protox_tokens.proofs.Both as both
 use Rattle.protox_tokens.proofs.Both.{IsNamed, Always, Free, then_ok}
 use Rattle.protox_tokens.proofs.Steps.{Absent, eat_none, both_eat, both_leaf, same_is, sees_first}
 use Rattle.protox_tokens.proofs.Lists.{Lastly}
-use Rattle.source_grammar.specs.Languages.{Language, nothing, one, token_at, the, ◌▸◌, if_there, each, Reads}
+use Rattle.source_grammar.specs.Languages.{Language, nothing, one, token_at, the, ◌▸◌, if_there, each, ReadsExactly}
 use Rattle.source_grammar.specs.Languages as languages
 
 -- On an input that has H: what p reads is of the language of a value of which K is known, and F holds of what follows;
@@ -24,7 +24,7 @@ pub record Rule {A : Type 0} (H : Stream → Type 0) (p : Parser A) (L : A → L
   pub complete : (ts r : Stream) (a : A) → L a ts r → K a → F a r → p ts ≡ Ok (a, r)
 
 -- the rule, as a law says it
-pub reads : {A : Type 0} {p : Parser A} {L : A → Language} {F : A → Stream → Type 0} → Rule Always p L IsAny F → Reads p L F
+pub reads : {A : Type 0} {p : Parser A} {L : A → Language} {F : A → Stream → Type 0} → Rule Always p L IsAny F → ReadsExactly p L F
 reads rule a ts r = (λ e. let x = rule.sound ts r a tt e in (x.0, x.2), λ h. rule.complete ts r a h.0 tt h.1)
 
 -- the same language in other words
@@ -35,7 +35,7 @@ rule_as rule to from = record {
 }
 
 -- a rule that is known by marks
-pub of_both : {A : Type 0} {H : Stream → Type 0} {p : Parser A} {ms : A → List Mark} {K : A → Type 0} {F : A → Stream → Type 0} → both.Both H p ms K IsAny F → Rule H p (λ a ts r. Spells (ms a) ts r) K F
+pub of_both : {A : Type 0} {H : Stream → Type 0} {p : Parser A} {ms : A → List Mark} {K : A → Type 0} {F : A → Stream → Type 0} → both.Both H p ms K IsAny F → Rule H p (λ a ts r. SpellsMarks (ms a) ts r) K F
 of_both b = record { sound = λ ts r a h e. let x = b.sound ts r a h e in (x.0, x.1.0, x.2); complete = λ ts r a h k f. b.complete ts r a h k tt f }
 
 -- ---- steps
@@ -115,11 +115,11 @@ pub rule_close : {B : Type 0} (k : Token) → IsNamed k → (g : Span → B) (P 
     → Rule H (expect k >>= (λ at. pure (g at))) (λ b. token_at k (P b)) K Free
 rule_close k named g P made alone = rule_map g (rule_expect k named) (λ at ts r h f. ((at, h, (made at).0), (made at).1, tt)) (λ b ts r h known f. (h.0, alone b h.0 h.2 known, h.1, tt))
 
-there_to : (k : Token) (o : Option Span) (ts r : Stream) → Spells (marks.if_there o k) ts r → if_there k o ts r
+there_to : (k : Token) (o : Option Span) (ts r : Stream) → SpellsMarks (marks.if_there o k) ts r → if_there k o ts r
 there_to k None ts r h = h
 there_to k (Some at) ts r h = h
 
-there_from : (k : Token) (o : Option Span) (ts r : Stream) → if_there k o ts r → Spells (marks.if_there o k) ts r
+there_from : (k : Token) (o : Option Span) (ts r : Stream) → if_there k o ts r → SpellsMarks (marks.if_there o k) ts r
 there_from k None ts r h = h
 there_from k (Some at) ts r h = h
 

@@ -13,7 +13,7 @@ use Rattle.protox_tokens.proofs.Local.{same_ok, bound, some_of, some_not, none_i
 use Rattle.protox_tokens.proofs.Both.{IsNamed, Always, then_ok}
 use Rattle.protox_tokens.proofs.Steps.{same_is, seen_is}
 use Rattle.protox_tokens.proofs.Lists.{lastly_all}
-use Rattle.source_grammar.specs.Aggregates.{Sees, in_text, a_sign}
+use Rattle.source_grammar.specs.Aggregates.{SeesToken, in_text, a_sign}
 use Rattle.source_grammar.specs.Languages.{Language, nothing, ◌▸◌, ◌∪◌, each, times, many}
 use Rattle.source_grammar.proofs.Rules.{Turn, loop_sound, loop_complete}
 
@@ -33,7 +33,7 @@ takes_as rule to from = record { sound = λ ts r u h e. to ts r (rule.sound ts r
 pub sees_more : {P Q : Token → Span → Type 0} → ((t : Token) (at : Span) → P t at → Q t at) → (ts r : Stream) → in_text P ts r → in_text Q ts r
 sees_more {P = P} {Q = Q} f [] r h = absurd h
 sees_more {P = P} {Q = Q} f (l ∷ ts) r h = (by (look text l) h.0, h.1) where
-  by : (x : Seen) → Sees P x → Sees Q x
+  by : (x : Seen) → SeesToken P x → SeesToken Q x
   by None h = absurd h
   by (Some x) h = f x.0 x.1 h
 
@@ -41,7 +41,7 @@ sees_more {P = P} {Q = Q} f (l ∷ ts) r h = (by (look text l) h.0, h.1) where
 pub text_first : {P : Token → Span → Type 0} (k : Token) (b : Bool) → ((t : Token) (at : Span) → P t at → same t k ≡ b) → (ts r : Stream) → in_text P ts r → sees_in text k ts ≡ b
 text_first {P = P} k b f [] r h = absurd h
 text_first {P = P} k b f (l ∷ ts) r h = by (look text l) h.0 where
-  by : (x : Seen) → Sees P x → is_some (value_of (is k) x) ≡ b
+  by : (x : Seen) → SeesToken P x → is_some (value_of (is k) x) ≡ b
   by None h = absurd h
   by (Some x) h = seen_is k x.0 x.1 ∙ f x.0 x.1 h
 
@@ -50,7 +50,7 @@ text_rest P [] r h = absurd h
 text_rest P (l ∷ ts) r h = h.1
 
 module _ {A : Type 0} (e : Expected) (f : Token → Span → Option A) where
-  leaf_at : (l : Piece) (ts r : Stream) (a : A) (x : Seen) → taken text e (value_of f x) (l ∷ ts) ≡ Ok (a, r) → Sees (λ t at. f t at ≡ Some a) x × (ts ≡ r)
+  leaf_at : (l : Piece) (ts r : Stream) (a : A) (x : Seen) → taken text e (value_of f x) (l ∷ ts) ≡ Ok (a, r) → SeesToken (λ t at. f t at ≡ Some a) x × (ts ≡ r)
   leaf_at l ts r a None g = absurd cc
   leaf_at l ts r a (Some x) g = by (f x.0 x.1) refl g where
     by : (o : Option A) → f x.0 x.1 ≡ o → taken text e o (l ∷ ts) ≡ Ok (a, r) → (f x.0 x.1 ≡ Some a) × (ts ≡ r)
@@ -64,7 +64,7 @@ module _ {A : Type 0} (e : Expected) (f : Token → Span → Option A) where
   pub leaf_complete : (ts r : Stream) (a : A) → in_text (λ t at. f t at ≡ Some a) ts r → one text e f ts ≡ Ok (a, r)
   leaf_complete [] r a h = absurd h
   leaf_complete (l ∷ ts) r a h = by (look text l) h.0 where
-    by : (x : Seen) → Sees (λ t at. f t at ≡ Some a) x → taken text e (value_of f x) (l ∷ ts) ≡ Ok (a, r)
+    by : (x : Seen) → SeesToken (λ t at. f t at ≡ Some a) x → taken text e (value_of f x) (l ∷ ts) ≡ Ok (a, r)
     by None i = absurd i
     by (Some x) i = ap (λ o. taken text e o (l ∷ ts)) i ∙ ap (λ s. Ok (a, s)) h.1
 
@@ -75,9 +75,9 @@ takes_one e f P to from = record { sound = λ ts r u h g. sees_more (λ t at i. 
 placed : (P : Token → Span → Type 0) (ts r : Stream) → in_text P ts r → (q : Span) × in_text (λ t at. P t at × (at ≡ q)) ts r
 placed P [] r h = absurd h
 placed P (l ∷ ts) r h = by (look text l) refl h.0 where
-  by : (x : Seen) → look text l ≡ x → Sees P x → (q : Span) × (Sees (λ t at. P t at × (at ≡ q)) (look text l) × (ts ≡ r))
+  by : (x : Seen) → look text l ≡ x → SeesToken P x → (q : Span) × (SeesToken (λ t at. P t at × (at ≡ q)) (look text l) × (ts ≡ r))
   by None e i = absurd i
-  by (Some x) e i = (x.1, (subst (Sees (λ t at. P t at × (at ≡ x.1))) (sym e) (i, refl), h.1))
+  by (Some x) e i = (x.1, (subst (SeesToken (λ t at. P t at × (at ≡ x.1))) (sym e) (i, refl), h.1))
 
 is_at : (k t : Token) (p q : Span) (b : Bool) → same t k ≡ b → (if b then Some p else None) ≡ Some q → (t ≡ k) × (p ≡ q)
 is_at k t p q true e h = (same_is t k e, let is : p ≡ q = cc in is)
@@ -96,7 +96,7 @@ expect_some k named P ts r h = let x = placed (λ t at. (t ≡ k) × P at) ts r 
   held : (ts : Stream) {q : Span} → in_text (λ t at. ((t ≡ k) × P at) × (at ≡ q)) ts r → P q
   held [] {q} h = absurd h
   held (l ∷ ts) {q} h = by (look text l) h.0 where
-    by : (x : Seen) → Sees (λ t at. ((t ≡ k) × P at) × (at ≡ q)) x → P q
+    by : (x : Seen) → SeesToken (λ t at. ((t ≡ k) × P at) × (at ≡ q)) x → P q
     by None i = absurd i
     by (Some x) i = subst P i.1 i.0.1
 
@@ -116,7 +116,7 @@ left_of (Some s) ts = tail ts
 sign_seen : (k : Sign) (ts : Stream) → sees_in text (sign k) ts ≡ true → a_sign k ts (tail ts)
 sign_seen k [] h = absurd cc
 sign_seen k (l ∷ ts) h = (by (look text l) h, refl) where
-  by : (x : Seen) → is_some (value_of (is (sign k)) x) ≡ true → Sees (λ t at. t ≡ sign k) x
+  by : (x : Seen) → is_some (value_of (is (sign k)) x) ≡ true → SeesToken (λ t at. t ≡ sign k) x
   by None h = absurd cc
   by (Some x) h = same_is x.0 (sign k) (sym (seen_is (sign k) x.0 x.1) ∙ h)
 

@@ -12,14 +12,14 @@ use Rattle.protox_lex.specs.declared.token.Sign.TheVariants as s
 
 -- ---- tokens
 
-abbrev pub Sees : (Token → Span → Type 0) → Seen → Type 0
-Sees Is None = ⊥
-Sees Is (Some x) = Is x.0 x.1
+abbrev pub SeesToken : (Token → Span → Type 0) → Seen → Type 0
+SeesToken Is None = ⊥
+SeesToken Is (Some x) = Is x.0 x.1
 
 -- one token as text format has it
 abbrev pub in_text : (Token → Span → Type 0) → Language
 in_text Is [] r = ⊥
-in_text Is (p ∷ ts) r = Sees Is (look text p) × (ts ≡ r)
+in_text Is (p ∷ ts) r = SeesToken Is (look text p) × (ts ≡ r)
 
 abbrev pub a_sign : Sign → Language
 a_sign k = in_text (λ t at. t ≡ sign k)

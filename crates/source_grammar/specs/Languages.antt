@@ -2,7 +2,7 @@
 use Rattle.protox_lex.specs.Class.{Text}
 use Rattle.protox_lex.specs.Token.{Token, ident}
 use Rattle.protox_lex.specs.declared.span.Span.{Span}
-use Rattle.protox_tokens.specs.Marks.{Mark, Spells, spot}
+use Rattle.protox_tokens.specs.Marks.{Mark, SpellsMarks, spot}
 use Rattle.protox_tokens.specs.Parser.{Parser, sees}
 use Rattle.protox_tokens.specs.Stream.{Stream, source, peek, span_of}
 use Rattle.std.specs.Prelude.{[], ◌≡◌, ◌↔◌, ◌⊎◌, ℕ, zero, suc, false, List, ◌∷◌, Option, Some, None, Ok}
@@ -19,7 +19,7 @@ never ts r = ⊥
 
 -- one token
 abbrev pub one : Mark → Language
-one m ts r = Spells (m ∷ []) ts r
+one m ts r = SpellsMarks (m ∷ []) ts r
 
 -- this token, at a place of which that holds
 abbrev pub token_at : Token → (Span → Type 0) → Language
@@ -93,8 +93,8 @@ starts whole L = λ ts r. begins whole (span_of (peek source ts)) × L ts r
 
 -- A rule reads a value off tokens, and leaves the others, exactly where those that it takes spell
 -- the value and this holds of the others.
-abbrev pub Reads : {A : Type 0} → Parser A → (A → Language) → (A → Stream → Type 0) → Type 0
-Reads {A = A} p L Behind =
+abbrev pub ReadsExactly : {A : Type 0} → Parser A → (A → Language) → (A → Stream → Type 0) → Type 0
+ReadsExactly {A = A} p L Behind =
     (a : A) (ts r : Stream) → (p ts ≡ Ok (a, r)) ↔ (L a ts r × Behind a r)
 
 -- Whatever may follow.

@@ -1,8 +1,8 @@
 //! What each rule of the parser reads, as contracts of functions that do nothing.
 //!
-//! `Reads rule language behind` says both ways that the rule reads a value off tokens, and leaves
-//! the others, exactly where the tokens that it takes are of the value's language and `behind`
-//! holds of the others. The languages are those of the specification, one production each.
+//! `ReadsExactly rule language behind` says both ways that the rule reads a value off tokens, and
+//! leaves the others, exactly where the tokens that it takes are of the value's language and
+//! `behind` holds of the others. The languages are those of the specification, one production each.
 ghost use Rattle.protox_aggregates.specs.AggregateGrammar.{aggregate};
 ghost use Rattle.protox_declarations.specs.EnumGrammar.{enumeration};
 ghost use Rattle.protox_declarations.specs.ServiceGrammar.{service};
@@ -22,7 +22,7 @@ ghost use Rattle.source_grammar.specs.Aggregates.{an_aggregate};
 ghost use Rattle.source_grammar.specs.Enums.{an_enum};
 ghost use Rattle.source_grammar.specs.Fields.{TyEnds, a_type, an_extensions};
 ghost use Rattle.source_grammar.specs.Files.{IsSpelledBy, a_file, a_package, an_import};
-ghost use Rattle.source_grammar.specs.Languages.{Anything, Reads};
+ghost use Rattle.source_grammar.specs.Languages.{Anything, ReadsExactly};
 ghost use Rattle.source_grammar.specs.Messages.{a_message, an_extend, block};
 ghost use Rattle.source_grammar.specs.Names.{
   NoDot,
@@ -45,70 +45,70 @@ ghost use Rattle.std.specs.Prelude.{◌≡◌, ◌↔◌, [], ℕ};
 
 /// Names, and types' names, are words with dots between them.
 pub fn names_are_read_as_they_are_spelled()
-    ensures full { Reads full_ident full_name NoDot }
-    ensures types { Reads type_name a_type_name NoDot }
+    ensures full { ReadsExactly full_ident full_name NoDot }
+    ensures types { ReadsExactly type_name a_type_name NoDot }
 {}
 
 /// An integer is its digits, and a minus before them where it is negative.
 pub fn integers_are_read_as_they_are_spelled()
-    ensures { Reads an_int integer Anything }
+    ensures { ReadsExactly an_int integer Anything }
 {}
 
 /// A string is one literal or more.
 pub fn strings_are_read_as_they_are_spelled()
-    ensures { Reads strings a_string NoString }
+    ensures { ReadsExactly strings a_string NoString }
 {}
 
 /// A `reserved` statement is ranges or names with commas between them. A range is a number, and
 /// behind the word `to` its end.
 pub fn ranges_are_read_as_they_are_spelled()
-    ensures range { Reads range a_range NoEnd }
-    ensures reserved { Reads reserved a_reserved Anything }
+    ensures range { ReadsExactly range a_range NoEnd }
+    ensures reserved { ReadsExactly reserved a_reserved Anything }
 {}
 
 /// A value in braces is fields of text format, with braces of a hundred levels in them at most, and
 /// the text that is kept of it is that of their tokens.
 pub fn values_in_braces_are_read_as_they_are_spelled()
-    ensures { Reads aggregate (λ x. an_aggregate x.0 x.1) Anything }
+    ensures { ReadsExactly aggregate (λ x. an_aggregate x.0 x.1) Anything }
 {}
 
 /// An option is a name and a value. It stands in a statement, or with others in brackets.
 pub fn options_are_read_as_they_are_spelled()
-    ensures value { Reads value a_constant ConstantEnds }
-    ensures statement { Reads option an_option Anything }
-    ensures list { Reads lists.options options NoBracket }
+    ensures value { ReadsExactly value a_constant ConstantEnds }
+    ensures statement { ReadsExactly option an_option Anything }
+    ensures list { ReadsExactly lists.options options NoBracket }
 {}
 
 /// An enum is a name and statements in braces, of which those that no word begins are its values.
 pub fn enums_are_read_as_they_are_spelled()
-    ensures { Reads enumeration an_enum Anything }
+    ensures { ReadsExactly enumeration an_enum Anything }
 {}
 
 /// A service is a name, and options and methods in braces.
 pub fn services_are_read_as_they_are_spelled()
-    ensures { Reads service a_service Anything }
+    ensures { ReadsExactly service a_service Anything }
 {}
 
 /// A type is one of the scalar types' words, or a name that begins with another word or a dot. The
 /// statement `extensions` is ranges, and options behind them.
 pub fn types_are_read_as_they_are_spelled()
-    ensures types { Reads ty a_type TyEnds }
-    ensures extensions { Reads extensions an_extensions Anything }
+    ensures types { ReadsExactly ty a_type TyEnds }
+    ensures extensions { ReadsExactly extensions an_extensions Anything }
 {}
 
 /// A message is a name and what may stand in it, and an `extend` statement a type's name and
 /// fields, with at most so many braces of messages and groups open at once.
 pub fn messages_are_read_as_they_are_spelled()
     ensures messages { (n : ℕ)
-        → Reads (message_with (rules.block n)) (a_message (block n)) Anything }
+        → ReadsExactly (message_with (rules.block n)) (a_message (block n)) Anything }
     ensures extends { (n : ℕ)
-        → Reads (extend_with (rules.block n)) (an_extend (block n)) Anything }
+        → ReadsExactly (extend_with (rules.block n)) (an_extend (block n)) Anything }
 {}
 
 /// An import is a string, before which `weak` or `public` may stand, and a package a name.
 pub fn imports_and_packages_are_read_as_they_are_spelled()
-    ensures imports { Reads files.an_import an_import Anything }
-    ensures packages { Reads files.a_package a_package Anything }
+    ensures imports { ReadsExactly files.an_import an_import Anything }
+    ensures packages { ReadsExactly files.a_package a_package Anything }
 {}
 
 /// A text spells a tree exactly where its tokens are those of the tree.

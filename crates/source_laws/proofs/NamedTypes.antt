@@ -7,7 +7,7 @@ use Rattle.protox_declaration_records.specs.OptionRecords.{options_of}
 use Rattle.protox_field_records.specs.FieldRecords.{entry_name_of}
 use Rattle.protox_field_records.specs.MapEntries.{entry_field, entry_fields, entry_of, entry_options}
 use Rattle.protox_lex.specs.Class.{Text}
-use Rattle.protox_message_records.specs.MessageRecords.{AreTypes, Declared, IsOwn, IsType, of_items, of_map, oneof_at, option_at, types_at}
+use Rattle.protox_message_records.specs.MessageRecords.{AreTypes, Declared, IsOfItems, IsType, of_items, of_map, oneof_at, option_at, types_at}
 use Rattle.protox_tokens.specs.Marks.{Each}
 use Rattle.protox_tree.specs.View.{ty_view}
 use Rattle.protox_tree.specs.declared.message.Map.{Map}
@@ -71,7 +71,7 @@ own_names : (s : Syntax) (name : Text) (items : List MessageItem) (given : Optio
     (ranges : List ExtensionRangeContent) (oneofs : List OneofContent)
     (options : Option OptionsContent) (reserved : List ReservedRange) (names : List Text)
     → is_identifier name ≡ true → Each HasNamedItem items
-    → IsOwn s name items given fields extensions nested enums ranges oneofs options reserved names
+    → IsOfItems s name items given fields extensions nested enums ranges oneofs options reserved names
     → AreTypes s (flat_map types_at items) nested
     → HasOwnNames given fields extensions nested enums options
 own_names s name items given fields extensions nested enums ranges oneofs options reserved names

@@ -191,7 +191,7 @@ fn decimal(rest: &str) -> Option<(Token<'_>, usize)>
 /// A token of so many bytes at a place, or the fault that none is there.
 fn taken(found: Option<Token<'_>>, at: usize, len: usize) -> Result<(Token<'_>, usize), LexError>
     requires { at + len < 2 ^ 64 }
-    ensures { source.Gives (λ p. (token (token_of p.0), p.1)) result
+    ensures { source.Returns (λ p. (token (token_of p.0), p.1)) result
         (spec.taken at (option_map token_of found.entry) len) }
 {
     match found {
@@ -209,7 +209,7 @@ fn refused(rest: &str, at: usize, error: SourceError) -> Result<(Token<'_>, usiz
     requires start { at + error.span.start < 2 ^ 64 }
     requires end { at + error.span.end < 2 ^ 64 }
     requires cut { error.kind ≡ kinds.IntegerOutOfRange → IsCharBoundary rest.now error.span.end }
-    ensures { source.Gives (λ p. (token (token_of p.0), p.1)) result
+    ensures { source.Returns (λ p. (token (token_of p.0), p.1)) result
         (spec.refused at rest.now error.kind error.span.start error.span.end) }
 {
     let span = Span {
@@ -262,7 +262,7 @@ fn source_token(rest: &str, at: usize) -> Result<(Token<'_>, usize), LexError>
     requires begins { (is_in class.Blank (slice_index rest.now 0) ≡ false)
         × ((slice_index rest.now 0 == 35) ≡ false) }
     requires slash { (slice_index rest.now 0 == 47) ≡ false }
-    ensures { source.Gives (λ p. (token (token_of p.0), p.1)) result (spec.front at rest.now) }
+    ensures { source.Returns (λ p. (token (token_of p.0), p.1)) result (spec.front at rest.now) }
 {
     let mut source = protox_lex::Lexer::new(rest);
     match source.next() {
@@ -281,7 +281,7 @@ fn front(rest: &str, at: usize) -> Result<(Token<'_>, usize), LexError>
     requires fits { at + length rest.now < 2 ^ 64 }
     requires begins { (is_in class.Blank (slice_index rest.now 0) ≡ false)
         × ((slice_index rest.now 0 == 35) ≡ false) }
-    ensures { source.Gives (λ p. (token (token_of p.0), p.1)) result (spec.front at rest.now) }
+    ensures { source.Returns (λ p. (token (token_of p.0), p.1)) result (spec.front at rest.now) }
 {
     if let Some(sign) = lone_sign(rest.as_bytes()[0]) {
         return Ok((sign, 1));

@@ -10,7 +10,7 @@ use Rattle.protobuf_model.specs.Values.{Content, Held, content, records, Message
 use Rattle.protobuf_model.specs.Types.{Name, Key, keyed, Field, rival}
 use Rattle.protobuf_model.specs.Typed.{IsHeldOf, IsTypedBy, IsTyped}
 use Rattle.text_model.specs.Tree.{FieldName, plain, extension, Given, Separator, Fields}
-use Rattle.text_model.specs.Forms.{Form, between, IsOwn}
+use Rattle.text_model.specs.Forms.{Form, between, ShowsSet}
 use Rattle.text_model.specs.Schemas.{Schema, Shape, shape_of, Finds, AreNames, IsEntryType, HaveNames, Names}
 use Rattle.text_model.specs.Value.{assign, written, with_field, named_value, value, body_value, field_value}
 use Rattle.text_model.specs.Printed.{Inner, in_any, or_fields, lacks_presence, default_given, unset, joined, parts, field_name, printing_order, printed_content, printed_held, printed_fields, printed_by, printed_within, printed}
@@ -90,15 +90,15 @@ cond_off true c o e = cc
 cond_off false c o e = refl
 
 -- in such a form an Any is printed as its fields, and no field that is not set
-pub no_any : (form : Form) (w : Schema) (inner : Inner) (t : Name) (m : Message) → IsOwn form → in_any form w inner t m ≡ None
+pub no_any : (form : Form) (w : Schema) (inner : Inner) (t : Name) (m : Message) → ShowsSet form → in_any form w inner t m ≡ None
 no_any form w inner t m own = cond_off form.expands (w.is_any t) _ own.unexpanded
 
-pub none_unset : (form : Form) (names : Names) (n : ℕ) (o : Option Field) → IsOwn form → unset form names n o ≡ []
+pub none_unset : (form : Form) (names : Names) (n : ℕ) (o : Option Field) → ShowsSet form → unset form names n o ≡ []
 none_unset form names n None own = refl
 none_unset form names n (Some f) own =
     ap (λ b. cond (b && (not f.extension && lacks_presence f.part f.label)) ((field_name names n f, default_given (names.enum_name n) f.part f.label) ∷ []) []) own.set
 
-module _ (form : Form) (own : IsOwn form) (w : Schema) (inner : Inner) (t : Name) (names : AreNames (w.types t) (w.names t))
+module _ (form : Form) (own : ShowsSet form) (w : Schema) (inner : Inner) (t : Name) (names : AreNames (w.types t) (w.names t))
     (entries : (n : ℕ) (f : Field) (key : Key) → w.types t n ≡ Some f → f.label ≡ keyed key → IsEntryType w ((w.names t).entry n) key f.part ((w.names t).enum_name n)) (typed : Name → Message → Type 0) (levels : ℕ)
     (back : (u : Name) (m : Message) → typed u m → IsPlain w.types u m → value w (shape_of w u) (printed_by form w inner u m) nothing ≡ Some m)
     (m : Message) (h : IsTypedBy typed levels (w.types t) m) (b : IsPlain w.types t m) where
@@ -164,9 +164,9 @@ module _ (form : Form) (own : IsOwn form) (w : Schema) (inner : Inner) (t : Name
       })
 
 -- of so many levels
-printed_by_back : (levels : ℕ) (form : Form) → IsOwn form → (w : Schema) (inner : Inner) → HaveNames w → (t : Name) (m : Message) → IsTyped levels w.types t m → IsPlain w.types t m → value w (shape_of w t) (printed_by form w inner t m) nothing ≡ Some m
+printed_by_back : (levels : ℕ) (form : Form) → ShowsSet form → (w : Schema) (inner : Inner) → HaveNames w → (t : Name) (m : Message) → IsTyped levels w.types t m → IsPlain w.types t m → value w (shape_of w t) (printed_by form w inner t m) nothing ≡ Some m
 printed_by_back zero form own w inner names t m h b = message_back form own w inner t (names.each t) (names.entries t) (λ u m. ⊥) zero (λ u m h b. absurd h) m h b
 printed_by_back (suc levels) form own w inner names t m h b = message_back form own w inner t (names.each t) (names.entries t) (IsTyped levels w.types) (suc levels) (printed_by_back levels form own w inner names) m h b
 
-pub printed_back : (form : Form) → IsOwn form → (w : Schema) → HaveNames w → (t : Name) (m : Message) → IsTyped 100 w.types t m → IsPlain w.types t m → value w (shape_of w t) (printed form w t m) nothing ≡ Some m
+pub printed_back : (form : Form) → ShowsSet form → (w : Schema) → HaveNames w → (t : Name) (m : Message) → IsTyped 100 w.types t m → IsPlain w.types t m → value w (shape_of w t) (printed form w t m) nothing ≡ Some m
 printed_back form own w names t m h b = printed_by_back 100 form own w (λ u b. Some (printed_within 99 form w u b)) names t m h b

@@ -14,7 +14,7 @@ use Rattle.protobuf_model.specs.Coded.{SuitsType}
 use Rattle.protobuf_model.specs.Typed.{IsOf, IsEntryOf, IsFieldOf, IsHeldOf, IsTypedBy, IsTyped}
 use Rattle.text_model.specs.Tree.{one_scalar, FieldName, plain, extension, no_separator, Given, Fields, no_fields}
 use Rattle.text_model.specs.Tokens.{fields_tokens}
-use Rattle.text_model.specs.Forms.{Form, between, IsOwn}
+use Rattle.text_model.specs.Forms.{Form, between, ShowsSet}
 use Rattle.text_model.specs.Schemas.{Names, Schema}
 use Rattle.text_model.specs.Printed.{Inner, or_fields, joined, parts, field_name, natural, whole, named, printed_single, value_in, printed_content, printed_list, printed_entries, printed_held, printed_fields, printed_by, printed_within, printed, printing_order}
 use Rattle.text_model.specs.Plain.{AreBytes, IsPlainContent, ArePlainContents, ArePlainEntries, IsPlainHeld, IsPlain}
@@ -110,7 +110,7 @@ all_of p f (n ∷ ns) h = all_append p (f n) (flat_map f ns) (h n) (all_of p f n
 
 -- ---- contents
 
-module _ (form : Form) (own : IsOwn form) (w : Schema) (inner : Inner) (typed : Name → Message → Type 0) (shown : (u : Name) (m : Message) → typed u m → IsPlain w.types u m → AreShown form.pretty (printed_by form w inner u m)) where
+module _ (form : Form) (own : ShowsSet form) (w : Schema) (inner : Inner) (typed : Name → Message → Type 0) (shown : (u : Name) (m : Message) → typed u m → IsPlain w.types u m → AreShown form.pretty (printed_by form w inner u m)) where
   alone_shown : (name : ℤ → Option Text) → AreSpelled name → (k : Kind) (c : Content) → IsOf typed k c → IsPlainContent w.types k c → IsGivenShown form.pretty (printed_content form w inner name k c)
   alone_shown name f (scalar k) (single v) h b = single_shown name k v f b h
   alone_shown name f (nested frame u) (message m) h b = shown u m h b
@@ -147,7 +147,7 @@ module _ (form : Form) (own : IsOwn form) (w : Schema) (inner : Inner) (typed : 
       (joined_shown form.pretty (printed_fields form w inner t m) (all_of form.pretty (λ n. printed_held form w inner (w.names t) n (w.types t n) (m n)) (printing_order form (w.names t) (w.types t))
       (λ n. held_shown (w.names t) (w.types t) a levels n (w.types t n) refl (m n) (h.contents n) (b n))))
 
-shown_by : (levels : ℕ) (form : Form) → IsOwn form → (w : Schema) (inner : Inner) → HaveIdentifiers w → (t : Name) (m : Message) → IsTyped levels w.types t m → IsPlain w.types t m → AreShown form.pretty (printed_by form w inner t m)
+shown_by : (levels : ℕ) (form : Form) → ShowsSet form → (w : Schema) (inner : Inner) → HaveIdentifiers w → (t : Name) (m : Message) → IsTyped levels w.types t m → IsPlain w.types t m → AreShown form.pretty (printed_by form w inner t m)
 shown_by zero form own w inner a t m h b = message_shown form own w inner (λ u m. ⊥) (λ u m h b. absurd h) t (a t) zero m h b
 shown_by (suc levels) form own w inner a t m h b = message_shown form own w inner (IsTyped levels w.types) (shown_by levels form own w inner a) t (a t) (suc levels) m h b
 
@@ -158,7 +158,7 @@ tree_lexed form fs = by form.pretty where
   by true c = pretty_lexed fs c
   by false c = shown_lexed fs c
 
-pub text_spelled : (form : Form) → IsOwn form → (w : Schema) → HaveIdentifiers w → (t : Name) (m : Message) → SuitsType w.types t m → IsPlain w.types t m → Spells (text_of form (printed form w t m)) (printed form w t m)
+pub text_spelled : (form : Form) → ShowsSet form → (w : Schema) → HaveIdentifiers w → (t : Name) (m : Message) → SuitsType w.types t m → IsPlain w.types t m → Spells (text_of form (printed form w t m)) (printed form w t m)
 text_spelled form own w a t m h b =
     let tree = printed form w t m in
     let shown = shown_by 100 form own w (λ u b. Some (printed_within 99 form w u b)) a t m h b in

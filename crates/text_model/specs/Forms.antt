@@ -18,6 +18,6 @@ between true = no_separator
 between false = comma
 
 -- the fields that are set, and no others
-pub record IsOwn (form : Form) : Type 0 where
+pub record ShowsSet (form : Form) : Type 0 where
   pub set : form.defaults ≡ false
   pub unexpanded : form.expands ≡ false

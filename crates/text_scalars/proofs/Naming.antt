@@ -12,7 +12,7 @@ use Rattle.text_model.specs.Tree.{FullName}
 use Rattle.text_model.specs.Value.{written}
 use Rattle.text_scalars.specs.Front.{behind, is_sign, next, rest_of, sees, sign_bytes, word_in}
 use Rattle.text_scalars.specs.Names.{bracketed_at, bracketed_by, dotted_at, expansion_at, full_name_at, identifiers, text_and_bytes, view_and_bytes}
-use Rattle.text_scalars.specs.Reading.{Reading, Reads, TellsStop, and_then, seen_as}
+use Rattle.text_scalars.specs.Reading.{Reading, ReadsLexemes, TellsStop, and_then, seen_as}
 
 -- words behind a text, each behind a dot
 abbrev pub onto : Text → Reading (List Text) → Reading Text
@@ -121,19 +121,19 @@ all_words t o ls mid none some rest =
 
 -- a refusal that is told
 pub told : {A B : Type 0} (view : B → A) (r : Reading A) (k : ParseErrorKind) (rest : List Lexeme)
-    → TellsStop r k → Reads view r (Err k) rest
+    → TellsStop r k → ReadsLexemes view r (Err k) rest
 told view r kinds.Memory rest h = tt
 told view r _ rest h = h
 
 -- a refusal that is passed on
 pub passed : {A B : Type 0} (view : B → A) (r : Reading A) (x : Result B ParseErrorKind) (rest : List Lexeme)
-    (k : ParseErrorKind) → IsErrAnd x (λ e. e ≡ k) → Reads view r (Err k) rest → Reads view r x rest
+    (k : ParseErrorKind) → IsErrAnd x (λ e. e ≡ k) → ReadsLexemes view r (Err k) rest → ReadsLexemes view r x rest
 passed view r x rest k is h = let p = err_from_is_err_and x is in rw (p.1, p.2) h
 
 -- what is read of a part that is refused is refused
 part_fails : {A B C D E F : Type 0} (view : B → A) (see : C → A) (show : E → D) (look : F → D)
     (r : Reading C) (f : C → List Lexeme → Reading F) (k : ParseErrorKind) (rest : List Lexeme)
-    → Reads view (seen_as see r) (Err k) rest → Reads show (seen_as look (and_then r f)) (Err k) rest
+    → ReadsLexemes view (seen_as see r) (Err k) rest → ReadsLexemes show (seen_as look (and_then r f)) (Err k) rest
 part_fails view see show look (Ok p) f kinds.Memory rest h = tt
 part_fails view see show look (Ok p) f _ rest h = absurd h
 part_fails view see show look (Err stop) f kinds.Memory rest h = tt
@@ -147,15 +147,15 @@ rest_or ls (Err stop) = ls
 pub second_fails : {B : Type 0} (view : B → Text) (opened : Span) (t : Text) (k : ParseErrorKind)
     (r : Reading FullName) (mid next_ls rest : List Lexeme) (o : Option Span) → seen_as written r ≡ Ok (t, mid)
     → sign_bytes 93 mid ≡ None → o ≡ sign_bytes 47 mid → is_some o ≡ true → next_ls ≡ rest_of o mid
-    → Reads view (seen_as written (full_name_at next_ls)) (Err k) rest
-    → Reads view_and_bytes (seen_as text_and_bytes (and_then r (bracketed_at opened))) (Err k) rest
+    → ReadsLexemes view (seen_as written (full_name_at next_ls)) (Err k) rest
+    → ReadsLexemes view_and_bytes (seen_as text_and_bytes (and_then r (bracketed_at opened))) (Err k) rest
 unfolding rest_or
 second_fails view opened t k (Err stop) mid next_ls rest o h none same_o some e read = absurd (cc h)
 second_fails view opened t k (Ok p) mid next_ls rest None h none same_o some e read = absurd (cc some)
 second_fails view opened t k (Ok p) mid next_ls rest (Some slash) h none same_o some e read =
     let same : p.1 ≡ mid = ap (rest_or mid) h in
-    subst (λ m. Reads view_and_bytes (seen_as text_and_bytes (bracketed_at opened p.0 m)) (Err k) rest) (sym same)
-    (subst (λ o. Reads view_and_bytes (seen_as text_and_bytes (bracketed_by opened p.0 mid o (sign_bytes 47 mid))) (Err k) rest) (sym none)
-    (subst (λ o. Reads view_and_bytes (seen_as text_and_bytes (bracketed_by opened p.0 mid None o)) (Err k) rest) same_o
+    subst (λ m. ReadsLexemes view_and_bytes (seen_as text_and_bytes (bracketed_at opened p.0 m)) (Err k) rest) (sym same)
+    (subst (λ o. ReadsLexemes view_and_bytes (seen_as text_and_bytes (bracketed_by opened p.0 mid o (sign_bytes 47 mid))) (Err k) rest) (sym none)
+    (subst (λ o. ReadsLexemes view_and_bytes (seen_as text_and_bytes (bracketed_by opened p.0 mid None o)) (Err k) rest) same_o
     (part_fails view written view_and_bytes text_and_bytes (full_name_at (behind mid))
-    (expansion_at opened p.0) k rest (subst (λ m. Reads view (seen_as written (full_name_at m)) (Err k) rest) e read))))
+    (expansion_at opened p.0) k rest (subst (λ m. ReadsLexemes view (seen_as written (full_name_at m)) (Err k) rest) e read))))

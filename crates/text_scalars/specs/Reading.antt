@@ -25,8 +25,8 @@ TellsStop (Ok p) kind = ⊥
 TellsStop (Err stop) kind = IsUnexpected stop.0 stop.1 kind
 
 -- it is read, and these lexemes stand behind it; or it is refused there, or memory ran out
-abbrev pub Reads : {A B : Type 0} → (B → A) → Reading A → Result B ParseErrorKind → List Lexeme
-    → Type 0
-Reads view r (Ok x) rest = r ≡ Ok (view x, rest)
-Reads view r (Err kinds.Memory) rest = Unit {0}
-Reads view r (Err kind) rest = TellsStop r kind
+abbrev pub ReadsLexemes : {A B : Type 0} → (B → A) → Reading A → Result B ParseErrorKind
+    → List Lexeme → Type 0
+ReadsLexemes view r (Ok x) rest = r ≡ Ok (view x, rest)
+ReadsLexemes view r (Err kinds.Memory) rest = Unit {0}
+ReadsLexemes view r (Err kind) rest = TellsStop r kind

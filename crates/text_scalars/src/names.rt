@@ -4,7 +4,7 @@ ghost use Rattle.std.specs.Prelude.{◌≡◌, ◌<◌, ◌≤◌, IfErr, IfOk, 
 ghost use Rattle.text_model.specs.Value.{written};
 ghost use Rattle.text_scalars.specs.Left.{left};
 ghost use Rattle.text_scalars.specs.Names.{bracketed_at, full_name_at, name_at, separator_at, text_and_bytes, view_and_bytes};
-ghost use Rattle.text_scalars.specs.Reading.{Reads, and_then, seen_as};
+ghost use Rattle.text_scalars.specs.Reading.{ReadsLexemes, and_then, seen_as};
 ghost use Rattle.text_scalars.specs.Refusals.{is_of_text};
 ghost use Rattle.text_scalars.specs.Remaining.{remaining};
 
@@ -32,8 +32,8 @@ pub struct AnyName {
 impl<'a> Tokens<'a> {
     /// A name, and where it stands with its brackets.
     pub fn name(&mut self) -> Result<(Name<'a>, Span), ParseErrorKind>
-        ensures read { Reads view_and_bytes (seen_as text_and_bytes (name_at (remaining self.old)))
-            result (remaining self.new) }
+        ensures read { ReadsLexemes view_and_bytes
+            (seen_as text_and_bytes (name_at (remaining self.old))) result (remaining self.new) }
         ensures taken { IfOk result (λ _. left self.new < left self.old) }
         ensures refused { IfErr result (λ kind. is_of_text kind ≡ true) }
     {
@@ -49,7 +49,7 @@ impl<'a> Tokens<'a> {
     /// What stands behind an opening bracket: the name of an extension, or that of a type behind
     /// a domain.
     fn bracketed(&mut self, opened: Span) -> Result<(Name<'a>, Span), ParseErrorKind>
-        ensures read { Reads view_and_bytes (seen_as text_and_bytes
+        ensures read { ReadsLexemes view_and_bytes (seen_as text_and_bytes
             (and_then (full_name_at (remaining self.old)) (bracketed_at opened)))
             result (remaining self.new) }
         ensures taken { IfOk result (λ _. left self.new < left self.old) }
@@ -75,8 +75,8 @@ impl<'a> Tokens<'a> {
 
     /// Words with dots between them.
     fn full_name(&mut self) -> Result<String, ParseErrorKind>
-        ensures read { Reads string_bytes (seen_as written (full_name_at (remaining self.old)))
-            result (remaining self.new) }
+        ensures read { ReadsLexemes string_bytes
+            (seen_as written (full_name_at (remaining self.old))) result (remaining self.new) }
         ensures taken { IfOk result (λ _. left self.new < left self.old) }
         ensures refused { IfErr result (λ kind. is_of_text kind ≡ true) }
     {
@@ -96,7 +96,7 @@ impl<'a> Tokens<'a> {
 
     /// A colon, which a brace may stand without.
     pub fn separator(&mut self) -> Result<(), ParseErrorKind>
-        ensures read { Reads (λ x. x) (separator_at (remaining self.old))
+        ensures read { ReadsLexemes (λ x. x) (separator_at (remaining self.old))
             result (remaining self.new) }
         ensures more { left self.new ≤ left self.old }
         ensures refused { IfErr result (λ kind. is_of_text kind ≡ true) }

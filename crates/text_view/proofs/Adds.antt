@@ -16,7 +16,7 @@ use Rattle.reflect_message.specs.Lists.{items_held}
 use Rattle.reflect_message.specs.Names.{DynamicMessage, Value}
 use Rattle.reflect_format.specs.Named.{NamesField, NamesExtension}
 use Rattle.reflect_message.specs.Oneofs.{IsExclusive}
-use Rattle.reflect_format.specs.Steps.{Adds, Frees, held_by}
+use Rattle.reflect_format.specs.Steps.{AddsValues, Frees, held_by}
 use Rattle.reflect_format.specs.Takes.{target_pool, target_type}
 use Rattle.reflect_format.specs.declared.target.Target.{Target}
 use Rattle.reflect_format.specs.declared.target.Target.TheVariants as targets
@@ -63,7 +63,7 @@ module _ (old new : DynamicMessage) (apart : AreApart old.descriptor.pool.now) (
   type = field_at old.descriptor.pool.now old.descriptor.index
 
   -- what is changed by values that are added to a target
-  pub changed : (t : Target) (vs : List Value) → OwnsTarget d t → Frees t old new → Adds t vs old new → (h : Held)
+  pub changed : (t : Target) (vs : List Value) → OwnsTarget d t → Frees t old new → AddsValues t vs old new → (h : Held)
       → held_in pool (target_type t) (option_map content_view (held_by new t)) ≡ h → view new ≡ assign type (target_type t).number h (view old)
   changed (targets.Field f) vs owns frees adds h stands =
       let changes = added_changes f old new adds.0 frees in
@@ -72,7 +72,7 @@ module _ (old new : DynamicMessage) (apart : AreApart old.descriptor.pool.now) (
   changed (targets.Extension x) vs owns frees adds h stands =
       extension_changed old new same x owns adds.0.0 adds.0.1 adds.0.2 h stands type (ap oneof_of (extension_there d apart x owns)) (no_field_there d apart x owns)
 
-  pub list_added : (t : Target) → OwnsTarget d t → holds_list pool (target_type t) ≡ true → (vs before : List Value) → items_held (held_by old t) ≡ Some before → Adds t vs old new
+  pub list_added : (t : Target) → OwnsTarget d t → holds_list pool (target_type t) ≡ true → (vs before : List Value) → items_held (held_by old t) ≡ Some before → AddsValues t vs old new
       → view new ≡ assign type (target_type t).number (if_any (items (view old (target_type t).number) ++ map content_view vs)) (view old)
   list_added t owns is_list vs before held adds =
       let its_list = subst (λ p. holds_list p (target_type t) ≡ true) (sym (pool_is d apart t owns)) is_list in
@@ -114,7 +114,7 @@ target_label d (targets.Extension x) = refl
 
 -- what is added to a list
 pub list_all : (old new : DynamicMessage) → AreApart old.descriptor.pool.now → new.descriptor ≡ old.descriptor → IsExclusive old → (t : Target) → OwnsTarget old.descriptor t → holds_list old.descriptor.pool.now (target_type t) ≡ true
-    → (vs before : List Value) → items_held (held_by old t) ≡ Some before → Adds t vs old new
+    → (vs before : List Value) → items_held (held_by old t) ≡ Some before → AddsValues t vs old new
     → add_all (field_at old.descriptor.pool.now old.descriptor.index) (target_type t).number (target_field old.descriptor t).part (target_field old.descriptor t).label (view old) (map content_view vs) ≡ Some (view new)
 list_all old new apart same exclusive t owns is_list vs before held adds =
     ap (λ l. add_all (field_at old.descriptor.pool.now old.descriptor.index) (target_type t).number (target_field old.descriptor t).part l (view old) (map content_view vs))
@@ -127,7 +127,7 @@ types_are pool names d at = fun_ext (λ n. named pool names d.index n (subst (λ
 
 pub added : (old new : DynamicMessage) → AreApart old.descriptor.pool.now → HaveNames old.descriptor.pool.now → (w : Text) (t : Target)
     → NamesField old.descriptor w t ⊎ NamesExtension old.descriptor w t → holds_list (target_pool t) (target_type t) ≡ true → IsExclusive old
-    → (vs before : List Value) → items_held (held_by old t) ≡ Some before → new.descriptor ≡ old.descriptor → Adds t vs old new
+    → (vs before : List Value) → items_held (held_by old t) ≡ Some before → new.descriptor ≡ old.descriptor → AddsValues t vs old new
     → add_all (types_of old.descriptor.pool.now (name_at old.descriptor.pool.now old.descriptor.index)) (target_type t).number (target_field old.descriptor t).part (target_field old.descriptor t).label (view old) (map content_view vs)
     ≡ Some (view new)
 added old new apart names w t h is_list exclusive vs before held same adds =

@@ -28,8 +28,8 @@ use Rattle.reflect_message.specs.Names.{DynamicMessage}
 use Rattle.reflect_message.specs.Oneofs.{IsExclusive}
 use Rattle.reflect_message.specs.Names as held
 use Rattle.reflect_message.specs.declared.value.ValueOf.TheVariants as held_values
-use Rattle.reflect_format.specs.Filled.{AreGiven, AreValues, Assigns, Fills, FillsBody, Holds, IsGiven, IsMade, IsScalar, IsValue, Makes, Names, PutsOne}
-use Rattle.reflect_format.specs.Steps.{Ascends, Adds, Puts, SetsNumber, held_by}
+use Rattle.reflect_format.specs.Filled.{AreGiven, AreValues, Assigns, Fills, FillsBody, PutsIntoAny, IsGiven, IsMade, IsScalar, IsValue, Makes, Names, PutsOne}
+use Rattle.reflect_format.specs.Steps.{Ascends, AddsValues, Puts, SetsNumber, held_by}
 use Rattle.reflect_format.specs.Takes.{holds_many, target_pool, target_type}
 use Rattle.reflect_format.specs.declared.target.Target.{Target}
 use Rattle.reflect_format.specs.declared.target.Target.TheVariants as targets
@@ -44,7 +44,7 @@ use Rattle.message_view.proofs.Deeper.{one_level, whole_shape}
 use Rattle.message_view.proofs.Entries.{entry_of_map}
 use Rattle.message_view.proofs.Fields.{owned, extension_owned}
 use Rattle.message_view.proofs.Sound.{named}
-use Rattle.message_view.specs.Shaped.{Fits, FitsOne, HasShape, IsShaped, Shaped}
+use Rattle.message_view.specs.Shaped.{FitsShaped, FitsOne, HasShape, IsShaped, Shaped}
 use Rattle.message_view.specs.Sound.{IsSound}
 use Rattle.text_view.proofs.Adds.{list_of_many}
 use Rattle.text_view.proofs.Apart.{no_field_there}
@@ -106,7 +106,7 @@ number_shape inner old new sound n x kind whole no_message sets lone h =
     } in
     let here = fits_single inner pool (field_type f) sets.1 alone.1.1 alone.1.0 one in (
       shape_kept inner d sound.apart t owns (target_number d sound.numbers t owns) old new (put_leaves t sets.1 old new sets.5) sets.5.unknown order.0 order.1
-          (λ v at. subst (Fits inner pool (field_type f)) (ap (λ o. unwrap_or o v) (sym sets.5.here ∙ at)) here) h,
+          (λ v at. subst (FitsShaped inner pool (field_type f)) (ap (λ o. unwrap_or o v) (sym sets.5.here ∙ at)) here) h,
       stays t old new owns sets.6,
     )
 
@@ -138,7 +138,7 @@ module _ (old next : DynamicMessage) (same : next.descriptor ≡ old.descriptor)
   After = Keeps (HasShape e l) pool d.index old next
 
   -- what a target holds before
-  stood : (t : Target) → OwnsTarget d t → (v : held.Value) → held_by old t ≡ Some v → Fits (HasShape e l) pool (target_type t) v
+  stood : (t : Target) → OwnsTarget d t → (v : held.Value) → held_by old t ≡ Some v → FitsShaped (HasShape e l) pool (target_type t) v
   stood (targets.Field f) owns v at = shape.field (field_type f).number (field_type f) (owned d f owns) v at
   stood (targets.Extension x) owns v at =
       shape.extension (extension_type x).number (extension_type x) (no_field_there d sound.apart x owns) (extension_owned d x owns) v at
@@ -150,18 +150,18 @@ module _ (old next : DynamicMessage) (same : next.descriptor ≡ old.descriptor)
       let one = fit_one (HasShape e l) pool k (target_type t) v kind (first_fit e l k v (known.one k v (kind_pooled pool k (target_type t).kind kind) given)) in
       let here = fits_single (HasShape e l) pool (target_type t) v none.0 none.1 one in (
         shape_kept (HasShape e l) d sound.apart t owns (target_number d sound.numbers t owns) old next (put_leaves t v old next puts.put) (unknown t puts.put) order.0 order.1
-            (λ u at. subst (Fits (HasShape e l) pool (target_type t)) (ap (λ o. unwrap_or o u) (sym (put_here t v old next puts.put) ∙ at)) here) shape,
+            (λ u at. subst (FitsShaped (HasShape e l) pool (target_type t)) (ap (λ o. unwrap_or o u) (sym (put_here t v old next puts.put) ∙ at)) here) shape,
         stays t old next owns puts.exclusive,
       ) where
         unknown : (t : Target) → Puts t v old next → unknown_of next ≡ unknown_of old
         unknown (targets.Field f) p = p.unknown
         unknown (targets.Extension x) p = p.unknown
 
-  added_unknown : (t : Target) (vs : List held.Value) → Adds t vs old next → unknown_of next ≡ unknown_of old
+  added_unknown : (t : Target) (vs : List held.Value) → AddsValues t vs old next → unknown_of next ≡ unknown_of old
   added_unknown (targets.Field f) vs adds = adds.0.2
   added_unknown (targets.Extension x) vs adds = adds.0.2
 
-  list_shape : (t : Target) → OwnsTarget d t → holds_list pool (target_type t) ≡ true → (k : Kind) → IsKind pool k (target_type t).kind → (vs : List held.Value) → AreGiven g k vs → Adds t vs old next → After
+  list_shape : (t : Target) → OwnsTarget d t → holds_list pool (target_type t) ≡ true → (k : Kind) → IsKind pool k (target_type t).kind → (vs : List held.Value) → AreGiven g k vs → AddsValues t vs old next → After
   list_shape t owns is_list k kind vs given adds =
       let two = list_of_many pool (target_type t) is_list in
       let order = adds.4 (ascends (HasShape e l) pool d.index old shape) in
@@ -174,7 +174,7 @@ module _ (old next : DynamicMessage) (same : next.descriptor ≡ old.descriptor)
         stays t old next owns adds.3,
       )
 
-  map_shape : (t : Target) → OwnsTarget d t → holds_map pool (target_type t) ≡ true → (k : Kind) → IsKind pool k (target_type t).kind → (vs : List held.Value) → AreGiven g k vs → Adds t vs old next → After
+  map_shape : (t : Target) → OwnsTarget d t → holds_map pool (target_type t) ≡ true → (k : Kind) → IsKind pool k (target_type t).kind → (vs : List held.Value) → AreGiven g k vs → AddsValues t vs old next → After
   map_shape t owns is_map k kind vs given adds =
       let f = target_type t in
       let order = adds.4 (ascends (HasShape e l) pool d.index old shape) in
@@ -195,7 +195,7 @@ module _ (old next : DynamicMessage) (same : next.descriptor ≡ old.descriptor)
     kind : IsKind pool k (target_type t).kind
     kind = subst (λ p. IsKind p k (target_type t).kind) pool_now is
 
-    by : ((v : held.Value) × IsGiven g k v × PutsOne t v old next) ⊎ ((vs : List held.Value) × (holds_many t ≡ true) × AreGiven g k vs × Adds t vs old next) → After
+    by : ((v : held.Value) × IsGiven g k v × PutsOne t v old next) ⊎ ((vs : List held.Value) × (holds_many t ≡ true) × AreGiven g k vs × AddsValues t vs old next) → After
     by (inl (v, given, puts)) = one_shape t owns k kind v given puts
     by (inr (vs, of_many, given, adds)) = with (holds_map pool (target_type t)) refl where
       with : (b : Bool) → holds_map pool (target_type t) ≡ b → After
@@ -204,7 +204,7 @@ module _ (old next : DynamicMessage) (same : next.descriptor ≡ old.descriptor)
           let is_list = second (holds_list (target_pool t) (target_type t)) (holds_map (target_pool t) (target_type t)) of_many (ap (λ p. holds_map p (target_type t)) pool_now ∙ no_map) in
           list_shape t owns (subst (λ p. holds_list p (target_type t) ≡ true) pool_now is_list) k kind vs given adds
 
-  held_shape : (url : Text) (body : DynamicMessage) → Holds url body old next → After
+  held_shape : (url : Text) (body : DynamicMessage) → PutsIntoAny url body old next → After
   held_shape url body (any, between, first, later, typed, short) =
       let one = number_shape (HasShape e l) old between sound 1 (text url) types.string ((λ h. h), λ p h. h) (λ h. h) first any.1 shape in
       let its_shape = subst (λ (c : MessageDescriptor). IsShapely (HasShape e l) c.pool.now c.index (content_of between)) (sym typed) one.0 in

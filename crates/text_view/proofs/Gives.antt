@@ -47,7 +47,7 @@ IsTaken pool f o v =
     ((u : Value) × (o ≡ Some u) × (v ≡ u) × (held_in pool f (option_map content_view o) ≡ content (content_view u)))
     ⊎ (IsDefaultOne pool f v × (held_in pool f (option_map content_view o) ≡ absent))
 
-taken : (pool : PoolType) (f : FieldType) → is_float f.kind ≡ false → is_repeated f.cardinality ≡ false → (o : Option Value) → OfKindIfHeld f.kind o → (v : Value) → gives.IsPart pool f o v → IsTaken pool f o v
+taken : (pool : PoolType) (f : FieldType) → is_float f.kind ≡ false → is_repeated f.cardinality ≡ false → (o : Option Value) → OfKindIfHeld f.kind o → (v : Value) → gives.IsSetOrDefault pool f o v → IsTaken pool f o v
 taken pool f whole one None kind v h = inr (h.2 (no_many pool f one).1 (no_many pool f one).0, refl)
 taken pool f whole one (Some u) kind v h = by (bytes.is_set pool f (form_of u)) refl h where
   by : (b : Bool) → bytes.is_set pool f (form_of u) ≡ b → IsHeldOrDefault pool f (cond b (Some u) None) v → IsTaken pool f (Some u) v
@@ -100,7 +100,7 @@ module _ (d : MessageDescriptor) (sound : IsSound d.pool.now) (e : StoredEntry) 
     IsKeyOf v k = (key_of_value v ≡ Some k) × (key_single k ≡ reading.key_of the_key (view m 1)) × HasForm (scalar_of key_type_of.kind) (key_single k)
 
     -- the key
-    key_given : (v : Value) → gives.IsPart pool key_type_of (value_at (fields_of m) 1) v → (k : MapKey) × IsKeyOf v k
+    key_given : (v : Value) → gives.IsSetOrDefault pool key_type_of (value_at (fields_of m) 1) v → (k : MapKey) × IsKeyOf v k
     key_given v h = by (taken pool key_type_of (scalar_whole key_type_of.kind (key_type d sound e is)) (key_part d sound e is).one (value_at (fields_of m) 1) key_held v h) where
       by : IsTaken pool key_type_of (value_at (fields_of m) 1) v → (k : MapKey) × IsKeyOf v k
       by (inl (u, there, same_value, held)) =
@@ -128,7 +128,7 @@ module _ (d : MessageDescriptor) (sound : IsSound d.pool.now) (e : StoredEntry) 
           message_seen v n.0 n.1 ∙ ap message (blank_view n.0 n.2.1)
           ∙ sym (ap (reading.default_of the_part) (kind_message pool value_type_of.group value_type_of.kind n.0.descriptor.index n.2.0.1))
 
-    value_given : (v : Value) → gives.IsPart pool value_type_of (value_at (fields_of m) 2) v → content_view v ≡ value_of the_part (view m 2)
+    value_given : (v : Value) → gives.IsSetOrDefault pool value_type_of (value_at (fields_of m) 2) v → content_view v ≡ value_of the_part (view m 2)
     value_given v h = by (taken pool value_type_of whole (value_part d sound e is).one (value_at (fields_of m) 2) value_held v h) where
       by : IsTaken pool value_type_of (value_at (fields_of m) 2) v → content_view v ≡ value_of the_part (view m 2)
       by (inl (u, there, same_value, held)) = ap content_view same_value ∙ sym (ap (value_of the_part) (under_value ∙ held))
@@ -142,11 +142,11 @@ module _ (d : MessageDescriptor) (sound : IsSound d.pool.now) (e : StoredEntry) 
 
     pair_given : (given : Option Entry) → GivesPair pool key_type_of value_type_of (fields_of m) given → GivesThis given
     pair_given given (key, value, of_key, of_value, is_given) =
-        let k = key_given key (subst (λ n. gives.IsPart pool key_type_of (value_at (fields_of m) n) key) (key_part d sound e is).number of_key) in
+        let k = key_given key (subst (λ n. gives.IsSetOrDefault pool key_type_of (value_at (fields_of m) n) key) (key_part d sound e is).number of_key) in
         let left : left_under key_type_of.number (fields_of m) value_type_of.number ≡ value_at (fields_of m) 2 =
         ap (λ n. left_under key_type_of.number (fields_of m) n) (value_part d sound e is).number
         ∙ ap (λ n. left_under n (fields_of m) 2) (key_part d sound e is).number in
-        let v = value_given value (subst (λ o. gives.IsPart pool value_type_of o value) left of_value) in (
+        let v = value_given value (subst (λ o. gives.IsSetOrDefault pool value_type_of o value) left of_value) in (
           k.0,
           value,
           is_given ∙ ap (option_map (λ k. (k, value))) k.1.0,

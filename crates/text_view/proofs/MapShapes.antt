@@ -12,7 +12,7 @@ use Rattle.reflect_pool.specs.declared.message.MessageDescriptor.{MessageDescrip
 use Rattle.reflect_scalar.specs.contracts.map_key.MapKeyOrd.TheImpl.{ghosts}
 use Rattle.reflect_scalar.specs.declared.map_key.MapKey.{MapKey}
 use Rattle.reflect_extend.specs.Gives as gives
-use Rattle.reflect_extend.specs.Gives.{Entry, Gives, GivesAs, GivesEntry, GivesIn, GivesPair, left_under}
+use Rattle.reflect_extend.specs.Gives.{Entry, GivesOneEntry, GivesAs, GivesEntry, GivesIn, GivesPair, left_under}
 use Rattle.reflect_extend.specs.Puts.{PutsAll, PutsEntries, with_given}
 use Rattle.reflect_message.specs.Bytes.{form_of}
 use Rattle.reflect_message.specs.Bytes as bytes
@@ -27,7 +27,7 @@ use Rattle.reflect_message.specs.Shown.{IsHeldOrDefault}
 use Rattle.reflect_message.specs.Names.{DynamicMessage, Value}
 use Rattle.reflect_message.specs.declared.value.ValueOf.TheVariants as held
 use Rattle.message_view.proofs.Entries.{some_default}
-use Rattle.message_view.specs.Shaped.{Fits, FitsAs, FitsOne}
+use Rattle.message_view.specs.Shaped.{FitsShaped, FitsAs, FitsOne}
 use Rattle.message_view.specs.Sound.{IsSound}
 use Rattle.text_view.proofs.Entries.{key_part, value_known, value_part, values}
 use Rattle.text_view.proofs.Given.{the_entry, value_no_float, value_there}
@@ -52,7 +52,7 @@ module _ (inner : DynamicMessage → Type 0) (blank_inner : (m : DynamicMessage)
     nested = λ type. let m = h.1 type in (m.0, m.1, m.2.0, blank_inner m.0 m.2.1);
   }
 
-  part_fits : (o : Option Value) → ((u : Value) → o ≡ Some u → FitsOne inner pool f u) → (v : Value) → gives.IsPart pool f o v → FitsOne inner pool f v
+  part_fits : (o : Option Value) → ((u : Value) → o ≡ Some u → FitsOne inner pool f u) → (v : Value) → gives.IsSetOrDefault pool f o v → FitsOne inner pool f v
   part_fits None each v h = default_fits v (h.2 (no_many pool f one).1 (no_many pool f one).0)
   part_fits (Some u) each v h = by (bytes.is_set pool f (form_of u)) h where
     by : (b : Bool) → IsHeldOrDefault pool f (cond b (Some u) None) v → FitsOne inner pool f v
@@ -79,7 +79,7 @@ module _ (inner : DynamicMessage → Type 0) (blank_inner : (m : DynamicMessage)
       subst (FitsOne inner d.pool.now its_value) (value_of_pair (key_of_value key) value k v (sym is_given ∙ same))
       (part_fits inner blank_inner d.pool.now its_value part.one (value_at (fields_of m) 2)
       (λ u at. single_fits inner d.pool.now its_value u none.0 none.1 (shape.field 2 its_value (value_known d sound e is whole) u at))
-      value (subst (λ o. gives.IsPart d.pool.now its_value o value) left of_value))
+      value (subst (λ o. gives.IsSetOrDefault d.pool.now its_value o value) left of_value))
 
   -- an entry that texts make
   abbrev pub IsMadeEntry : Value → Type 0
@@ -88,7 +88,7 @@ module _ (inner : DynamicMessage → Type 0) (blank_inner : (m : DynamicMessage)
   abbrev Fit : Value → Type 0
   Fit v = FitsOne inner d.pool.now its_value v
 
-  one_fits : (before between : List (MapKey × Value)) (v : Value) → AllByRecursion (λ (e : MapKey × Value). Fit e.1) before → IsMadeEntry v → (given : Option Entry) → Gives v given → between ≡ with_given before given
+  one_fits : (before between : List (MapKey × Value)) (v : Value) → AllByRecursion (λ (e : MapKey × Value). Fit e.1) before → IsMadeEntry v → (given : Option Entry) → GivesOneEntry v given → between ≡ with_given before given
       → AllByRecursion (λ (e : MapKey × Value). Fit e.1) between
   one_fits before between v all (m, is_message, same, shape) given gives_it put_so = subst (AllByRecursion (λ (e : MapKey × Value). Fit e.1)) (sym put_so) (by given (pair_fits m shape given pair)) where
     entry : GivesEntry m given
@@ -122,12 +122,12 @@ told_values inner pool t g there [] h = tt
 told_values inner pool t g there (e ∷ es) h = ((λ k is. subst (λ k. FitsOne inner pool k e.1) (ap (λ o. unwrap_or o g) (sym there ∙ is)) h.0), told_values inner pool t g there es h.1)
 
 module _ (inner : DynamicMessage → Type 0) (pool : PoolType) (f : FieldType) (is_map : holds_map pool f ≡ true) where
-  map_before : (o : Option Value) → ((v : Value) → o ≡ Some v → Fits inner pool f v) → (es : List (MapKey × Value)) × (entries_held o ≡ Some es) × AllValues inner pool f.kind es
+  map_before : (o : Option Value) → ((v : Value) → o ≡ Some v → FitsShaped inner pool f v) → (es : List (MapKey × Value)) × (entries_held o ≡ Some es) × AllValues inner pool f.kind es
   map_before None h = ([], refl, tt)
   map_before (Some v) h = subst (λ b. FitsAs inner pool f b (holds_list pool f) v) is_map (h v refl)
 
-  pub map_after : (o p : Option Value) (vs : List Value) → ((v : Value) → o ≡ Some v → Fits inner pool f v) → PutsEntries o p vs
-      → ((before after : List (MapKey × Value)) → AllValues inner pool f.kind before → PutsAll before after vs → AllValues inner pool f.kind after) → (v : Value) → p ≡ Some v → Fits inner pool f v
+  pub map_after : (o p : Option Value) (vs : List Value) → ((v : Value) → o ≡ Some v → FitsShaped inner pool f v) → PutsEntries o p vs
+      → ((before after : List (MapKey × Value)) → AllValues inner pool f.kind before → PutsAll before after vs → AllValues inner pool f.kind after) → (v : Value) → p ≡ Some v → FitsShaped inner pool f v
   map_after o p vs h puts step v is =
       let old = map_before o h in
       let put = subst (λ x. MatchOption x (p ≡ o) (λ b. (a : List (MapKey × Value)) × (entries_held p ≡ Some a) × PutsAll b a vs)) old.1 puts in

@@ -15,14 +15,14 @@ use Rattle.reflect_pool.specs.Shapes.{holds_map}
 use Rattle.reflect_pool.specs.declared.message.MessageDescriptor.{MessageDescriptor}
 use Rattle.reflect_scalar.specs.contracts.map_key.MapKeyOrd.TheImpl.{ghosts}
 use Rattle.reflect_scalar.specs.declared.map_key.MapKey.{MapKey}
-use Rattle.reflect_extend.specs.Gives.{Entry, Gives, GivesIn}
+use Rattle.reflect_extend.specs.Gives.{Entry, GivesOneEntry, GivesIn}
 use Rattle.reflect_extend.specs.Puts.{PutsAll, with_given}
 use Rattle.reflect_message.specs.Held.{fields_of, extensions_of}
 use Rattle.reflect_message.specs.Known.{is_float, entry_field}
 use Rattle.reflect_message.specs.Maps.{entries_held}
 use Rattle.reflect_message.specs.Messages.{message_in}
 use Rattle.reflect_message.specs.Names.{DynamicMessage, Value}
-use Rattle.reflect_format.specs.Steps.{Adds, held_by}
+use Rattle.reflect_format.specs.Steps.{AddsValues, held_by}
 use Rattle.reflect_format.specs.Takes.{target_type}
 use Rattle.reflect_format.specs.declared.target.Target.{Target}
 use Rattle.text_model.specs.Value.{add_all, assign, entry_of}
@@ -76,7 +76,7 @@ module _ (d : MessageDescriptor) (sound : IsSound d.pool.now) (e : StoredEntry) 
   abbrev of_key : Scalar
   of_key = scalar_of (type_of_field d.pool.now d.index e.key).kind
 
-  one_put : (before between : List (MapKey × Value)) (v : Value) → HaveKeys of_key before → IsMessageOf d v → (given : Option Entry) → Gives v given → between ≡ with_given before given
+  one_put : (before between : List (MapKey × Value)) (v : Value) → HaveKeys of_key before → IsMessageOf d v → (given : Option Entry) → GivesOneEntry v given → between ≡ with_given before given
       → (put (entry_of the_key the_part (content_view v)).0 (entry_of the_key the_part (content_view v)).1 (pairs_view before) ≡ pairs_view between) × HaveKeys of_key between
   one_put before between v formed (m, is_message, same, kinds) given gives put_so =
       let at = ap message_in is_message ∙ message_is m in
@@ -117,7 +117,7 @@ module _ (old new : DynamicMessage) (apart : AreApart old.descriptor.pool.now) (
 
   pub map_added : (d : MessageDescriptor) → d.pool.now ≡ old.descriptor.pool.now → f.kind ≡ types.message d.index → (sound : IsSound d.pool.now) (e : StoredEntry) (is : (type_at d.pool.now d.index).entry ≡ Some e)
       → is_float (values d sound e is).kind ≡ false → (vs : List Value) → AllByRecursion (IsMessageOf d) vs
-      → (before : List (MapKey × Value)) → entries_held (held_by old t) ≡ Some before → HaveKeys (scalar_of (entry_part pool f 1).kind) before → Adds t vs old new → MapAdded old new t vs
+      → (before : List (MapKey × Value)) → entries_held (held_by old t) ≡ Some before → HaveKeys (scalar_of (entry_part pool f 1).kind) before → AddsValues t vs old new → MapAdded old new t vs
   map_added d at kind sound e is whole vs entries before held formed adds =
       let key_there : entry_part pool f 1 ≡ type_of_field d.pool.now d.index e.key =
       part_is pool f 1 (type_of_field d.pool.now d.index e.key) (ap (λ k. entry_field pool k 1) kind ∙ ap (λ p. entry_field p (types.message d.index) 1) (sym at) ∙ key_numbered d sound e is) in

@@ -29,7 +29,7 @@ use Rattle.reflect_format.specs.declared.target.Target.{Target}
 use Rattle.reflect_format.specs.declared.target.Target.TheVariants as targets
 use Rattle.text_model.specs.Tree.{ScalarValue}
 use Rattle.message_view.proofs.Fields.{extension_owned, its_place, known, known_extension_is, none_known, none_owned, owned}
-use Rattle.message_view.specs.Shaped.{Fits, FitsAs, FitsOne, IsShaped}
+use Rattle.message_view.specs.Shaped.{FitsShaped, FitsAs, FitsOne, IsShaped}
 use Rattle.message_view.specs.Sound.{AreApart, HasField, HaveFieldNumbers, IsFieldNumber}
 use Rattle.text_view.proofs.Apart.{no_field_there}
 use Rattle.text_view.proofs.Kept.{LeavesOthers, StaysOrGoes}
@@ -43,8 +43,8 @@ pub record IsShapely (inner : DynamicMessage → Type 0) (pool : PoolType) (i : 
   pub in_extensions : AreNumbered c.extensions
   pub in_unknown : Ascend 1 (2 ^ 29 - 1) c.unknown
   pub unknown : (n : ℕ) (f : FieldType) → HasField pool i n f → payloads n c.unknown ≡ []
-  pub field : (n : ℕ) (f : FieldType) → known_field pool i n ≡ Some f → (v : Value) → value_at c.fields n ≡ Some v → Fits inner pool f v
-  pub extension : (n : ℕ) (f : FieldType) → known_field pool i n ≡ None → known_extension pool i n ≡ Some f → (v : Value) → value_at c.extensions n ≡ Some v → Fits inner pool f v
+  pub field : (n : ℕ) (f : FieldType) → known_field pool i n ≡ Some f → (v : Value) → value_at c.fields n ≡ Some v → FitsShaped inner pool f v
+  pub extension : (n : ℕ) (f : FieldType) → known_field pool i n ≡ None → known_extension pool i n ≡ Some f → (v : Value) → value_at c.extensions n ≡ Some v → FitsShaped inner pool f v
   pub apart : (n : ℕ) (f : FieldType) → known_field pool i n ≡ Some f → value_at c.extensions n ≡ None
   pub unowned : (n : ℕ) → known_field pool i n ≡ None → value_at c.fields n ≡ None
 
@@ -78,11 +78,11 @@ shapely inner d c h = record {
   field = λ n f is v at.
       let o = known d n f is in
       let same : (field_type o.0).number ≡ n = ap (λ (g : FieldType). g.number) o.2 ∙ o.3 in
-      subst (λ g. Fits inner d.pool.now g v) o.2 (h.fields o.0 o.1 v (ap (value_at c.fields) same ∙ at));
+      subst (λ g. FitsShaped inner d.pool.now g v) o.2 (h.fields o.0 o.1 v (ap (value_at c.fields) same ∙ at));
   extension = λ n f none is v at.
       let o = known_extension_is d n f is in
       let same : (extension_type o.0).number ≡ n = ap (λ (g : FieldType). g.number) o.2 ∙ o.3 in
-      subst (λ g. Fits inner d.pool.now g v) o.2 (h.extensions o.0 o.1 (ap (known_field d.pool.now d.index) same ∙ none) v (ap (value_at c.extensions) same ∙ at));
+      subst (λ g. FitsShaped inner d.pool.now g v) o.2 (h.extensions o.0 o.1 (ap (known_field d.pool.now d.index) same ∙ none) v (ap (value_at c.extensions) same ∙ at));
   apart = λ n f is.
       let o = known d n f is in
       subst (λ n. value_at c.extensions n ≡ None) (ap (λ (g : FieldType). g.number) o.2 ∙ o.3) (h.apart o.0 o.1);
@@ -115,7 +115,7 @@ module _ (inner : DynamicMessage → Type 0) (d : MessageDescriptor) (apart : Ar
   its_pool = d.pool.now
 
   pub shape_kept : (t : Target) → OwnsTarget d t → IsFieldNumber (target_type t).number → (old new : DynamicMessage) → LeavesOthers t old new → unknown_of new ≡ unknown_of old
-      → IsAscending (fields_of new) → IsAscending (extensions_of new) → ((v : Value) → held_by new t ≡ Some v → Fits inner d.pool.now (target_type t) v)
+      → IsAscending (fields_of new) → IsAscending (extensions_of new) → ((v : Value) → held_by new t ≡ Some v → FitsShaped inner d.pool.now (target_type t) v)
       → IsShapely inner d.pool.now d.index (content_of old) → IsShapely inner d.pool.now d.index (content_of new)
   shape_kept (targets.Field f) owns number old new leaves unknown ascending also here h = record {
     in_fields = record { ascending = ascending; within = within };
@@ -136,15 +136,15 @@ module _ (inner : DynamicMessage → Type 0) (d : MessageDescriptor) (apart : Ar
         at (inl e) = h.in_fields.within n (ap is_some (sym e) ∙ some)
         at (inr e) = some_or (fields_of new) n e some
 
-    field : (n : ℕ) (g : FieldType) → known_field its_pool d.index n ≡ Some g → (v : Value) → value_at (fields_of new) n ≡ Some v → Fits inner its_pool g v
+    field : (n : ℕ) (g : FieldType) → known_field its_pool d.index n ≡ Some g → (v : Value) → value_at (fields_of new) n ≡ Some v → FitsShaped inner its_pool g v
     field n g known v at = by (n == (field_type f).number) refl where
-      by : (b : Bool) → (n == (field_type f).number) ≡ b → Fits inner its_pool g v
+      by : (b : Bool) → (n == (field_type f).number) ≡ b → FitsShaped inner its_pool g v
       by true is =
           let same = is_number n (field_type f).number is in
           let one : field_type f ≡ g = ap (λ o. unwrap_or o g) (sym (owned d f owns) ∙ ap (known_field its_pool d.index) (sym same) ∙ known) in
-          subst (λ g. Fits inner its_pool g v) one (here v (ap (value_at (fields_of new)) (sym same) ∙ at))
+          subst (λ g. FitsShaped inner its_pool g v) one (here v (ap (value_at (fields_of new)) (sym same) ∙ at))
       by false is = with (leaves.0 n (λ e. true≢false (sym (number_is n (field_type f).number e) ∙ is))) where
-        with : StaysOrGoes (fields_of old) (fields_of new) n → Fits inner its_pool g v
+        with : StaysOrGoes (fields_of old) (fields_of new) n → FitsShaped inner its_pool g v
         with (inl e) = h.field n g known v (sym e ∙ at)
         with (inr e) = absurd (cc (sym e ∙ at))
 
@@ -177,15 +177,15 @@ module _ (inner : DynamicMessage → Type 0) (d : MessageDescriptor) (apart : Ar
         at (inl e) = h.in_extensions.within n (ap is_some (sym e) ∙ some)
         at (inr e) = some_or (extensions_of new) n e some
 
-    extension : (n : ℕ) (g : FieldType) → known_field its_pool d.index n ≡ None → known_extension its_pool d.index n ≡ Some g → (v : Value) → value_at (extensions_of new) n ≡ Some v → Fits inner its_pool g v
+    extension : (n : ℕ) (g : FieldType) → known_field its_pool d.index n ≡ None → known_extension its_pool d.index n ≡ Some g → (v : Value) → value_at (extensions_of new) n ≡ Some v → FitsShaped inner its_pool g v
     extension n g none known v at = by (n == (extension_type x).number) refl where
-      by : (b : Bool) → (n == (extension_type x).number) ≡ b → Fits inner its_pool g v
+      by : (b : Bool) → (n == (extension_type x).number) ≡ b → FitsShaped inner its_pool g v
       by true is =
           let same = is_number n (extension_type x).number is in
           let one : extension_type x ≡ g = ap (λ o. unwrap_or o g) (sym (extension_owned d x owns) ∙ ap (known_extension its_pool d.index) (sym same) ∙ known) in
-          subst (λ g. Fits inner its_pool g v) one (here v (ap (value_at (extensions_of new)) (sym same) ∙ at))
+          subst (λ g. FitsShaped inner its_pool g v) one (here v (ap (value_at (extensions_of new)) (sym same) ∙ at))
       by false is = with (leaves.0 n (λ e. true≢false (sym (number_is n (extension_type x).number e) ∙ is))) where
-        with : StaysOrGoes (extensions_of old) (extensions_of new) n → Fits inner its_pool g v
+        with : StaysOrGoes (extensions_of old) (extensions_of new) n → FitsShaped inner its_pool g v
         with (inl e) = h.extension n g none known v (sym e ∙ at)
         with (inr e) = absurd (cc (sym e ∙ at))
 
@@ -227,10 +227,10 @@ fit_all inner pool k f [] is h = tt
 fit_all inner pool k f (v ∷ vs) is h = (fit_one inner pool k f v is h.0, fit_all inner pool k f vs is h.1)
 
 -- what a field of one value holds, and what a list does
-pub fits_single : (inner : DynamicMessage → Type 0) (pool : PoolType) (f : FieldType) (v : Value) → holds_map pool f ≡ false → holds_list pool f ≡ false → FitsOne inner pool f v → Fits inner pool f v
+pub fits_single : (inner : DynamicMessage → Type 0) (pool : PoolType) (f : FieldType) (v : Value) → holds_map pool f ≡ false → holds_list pool f ≡ false → FitsOne inner pool f v → FitsShaped inner pool f v
 fits_single inner pool f v no_map no_list h = subst (λ b. FitsAs inner pool f b (holds_list pool f) v) (sym no_map) (subst (λ b. FitsAs inner pool f false b v) (sym no_list) h)
 
-pub single_fits : (inner : DynamicMessage → Type 0) (pool : PoolType) (f : FieldType) (v : Value) → holds_map pool f ≡ false → holds_list pool f ≡ false → Fits inner pool f v → FitsOne inner pool f v
+pub single_fits : (inner : DynamicMessage → Type 0) (pool : PoolType) (f : FieldType) (v : Value) → holds_map pool f ≡ false → holds_list pool f ≡ false → FitsShaped inner pool f v → FitsOne inner pool f v
 single_fits inner pool f v no_map no_list h = subst (λ b. FitsAs inner pool f false b v) no_list (subst (λ b. FitsAs inner pool f b (holds_list pool f) v) no_map h)
 
 all_join : (P : Value → Type 0) (vs ws : List Value) → AllByRecursion P vs → AllByRecursion P ws → AllByRecursion P (vs ++ ws)
@@ -238,12 +238,12 @@ all_join P [] ws h k = k
 all_join P (v ∷ vs) ws h k = (h.0, all_join P vs ws h.1 k)
 
 module _ (inner : DynamicMessage → Type 0) (pool : PoolType) (f : FieldType) (no_map : holds_map pool f ≡ false) (is_list : holds_list pool f ≡ true) where
-  pub list_before : (o : Option Value) → ((v : Value) → o ≡ Some v → Fits inner pool f v) → (vs : List Value) × (items_held o ≡ Some vs) × AllByRecursion (FitsOne inner pool f) vs
+  pub list_before : (o : Option Value) → ((v : Value) → o ≡ Some v → FitsShaped inner pool f v) → (vs : List Value) × (items_held o ≡ Some vs) × AllByRecursion (FitsOne inner pool f) vs
   list_before None h = ([], refl, tt)
   list_before (Some v) h = subst (λ b. FitsAs inner pool f false b v) is_list (subst (λ b. FitsAs inner pool f b (holds_list pool f) v) no_map (h v refl))
 
-  pub list_after : (o p : Option Value) (before vs : List Value) → ((v : Value) → o ≡ Some v → Fits inner pool f v) → items_held o ≡ Some before → items_held p ≡ Some (before ++ vs) → AllByRecursion (FitsOne inner pool f) vs
-      → (v : Value) → p ≡ Some v → Fits inner pool f v
+  pub list_after : (o p : Option Value) (before vs : List Value) → ((v : Value) → o ≡ Some v → FitsShaped inner pool f v) → items_held o ≡ Some before → items_held p ≡ Some (before ++ vs) → AllByRecursion (FitsOne inner pool f) vs
+      → (v : Value) → p ≡ Some v → FitsShaped inner pool f v
   list_after o p before vs h stood stands fits v is =
       let old = list_before o h in
       let same : old.0 ≡ before = ap (λ o. unwrap_or o before) (sym old.1 ∙ stood) in

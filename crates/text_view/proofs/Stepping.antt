@@ -21,7 +21,7 @@ use Rattle.reflect_message.specs.Oneofs.{IsExclusive}
 use Rattle.reflect_message.specs.Names.{DynamicMessage}
 use Rattle.reflect_message.specs.Names as held
 use Rattle.reflect_format.specs.Filled.{AreGiven, Assigns, Expands, FillsBody, IsGiven, IsScalar, Makes, Names, PutsOne}
-use Rattle.reflect_format.specs.Steps.{Adds, held_by}
+use Rattle.reflect_format.specs.Steps.{AddsValues, held_by}
 use Rattle.reflect_format.specs.Takes.{holds_many, target_pool, target_type}
 use Rattle.reflect_format.specs.declared.target.Target.{Target}
 use Rattle.text_model.specs.Schemas.{Schema, Shape}
@@ -74,7 +74,7 @@ pub record GivenKnown (decoded : Name → Text → Option Message) (pool : PoolT
 
 -- entries that are put into a map
 pub map_all : (old new : DynamicMessage) → IsSound old.descriptor.pool.now → IsExclusive old → HoldsKinds old → new.descriptor ≡ old.descriptor → (t : Target) → OwnsTarget old.descriptor t → holds_map old.descriptor.pool.now (target_type t) ≡ true
-    → (c : MessageDescriptor) → c.pool.now ≡ old.descriptor.pool.now → (target_type t).kind ≡ types.message c.index → (vs : List held.Value) → AllByRecursion (IsMessageOf c) vs → Adds t vs old new
+    → (c : MessageDescriptor) → c.pool.now ≡ old.descriptor.pool.now → (target_type t).kind ≡ types.message c.index → (vs : List held.Value) → AllByRecursion (IsMessageOf c) vs → AddsValues t vs old new
     → (add_all (field_at old.descriptor.pool.now old.descriptor.index) (target_type t).number (target_field old.descriptor t).part (target_field old.descriptor t).label (view old) (map content_view vs) ≡ Some (view new))
     × IsHeldAs old.descriptor.pool.now (target_type t) (held_by new t)
 map_all old new sound exclusive kinds same t owns is_map c at kind vs entries adds =
@@ -130,7 +130,7 @@ module _ (decoded : Name → Text → Option Message) (old next : DynamicMessage
       )
 
   -- values of a list
-  list_step : (t : Target) → OwnsTarget d t → holds_list pool (target_type t) ≡ true → (k : Kind) → IsKind pool k (target_type t).kind → (vs : List held.Value) → AreGiven g k vs → Adds t vs old next → Stepped (given_to t)
+  list_step : (t : Target) → OwnsTarget d t → holds_list pool (target_type t) ≡ true → (k : Kind) → IsKind pool k (target_type t).kind → (vs : List held.Value) → AreGiven g k vs → AddsValues t vs old next → Stepped (given_to t)
   list_step t owns is_list k kind vs given adds =
       let two = list_of_many pool (target_type t) is_list in
       let a = wanted d sound decoded t owns in
@@ -146,7 +146,7 @@ module _ (decoded : Name → Text → Option Message) (old next : DynamicMessage
       )
 
   -- entries of a map
-  map_step : (t : Target) → OwnsTarget d t → holds_map pool (target_type t) ≡ true → (k : Kind) → IsKind pool k (target_type t).kind → (vs : List held.Value) → AreGiven g k vs → Adds t vs old next → Stepped (given_to t)
+  map_step : (t : Target) → OwnsTarget d t → holds_map pool (target_type t) ≡ true → (k : Kind) → IsKind pool k (target_type t).kind → (vs : List held.Value) → AreGiven g k vs → AddsValues t vs old next → Stepped (given_to t)
   map_step t owns is_map k kind vs given adds =
       let f = target_type t in
       let a = wanted d sound decoded t owns in
@@ -168,7 +168,7 @@ module _ (decoded : Name → Text → Option Message) (old next : DynamicMessage
     kind : IsKind pool k (target_type t).kind
     kind = subst (λ p. IsKind p k (target_type t).kind) pool_now is
 
-    by : ((v : held.Value) × IsGiven g k v × PutsOne t v old next) ⊎ ((vs : List held.Value) × (holds_many t ≡ true) × AreGiven g k vs × Adds t vs old next) → Stepped (given_to t)
+    by : ((v : held.Value) × IsGiven g k v × PutsOne t v old next) ⊎ ((vs : List held.Value) × (holds_many t ≡ true) × AreGiven g k vs × AddsValues t vs old next) → Stepped (given_to t)
     by (inl (v, given, puts)) = one_step t owns k kind v given puts
     by (inr (vs, of_many, given, adds)) = with (holds_map pool (target_type t)) refl where
       with : (b : Bool) → holds_map pool (target_type t) ≡ b → Stepped (given_to t)

@@ -12,7 +12,7 @@ use Rattle.reflect_message.specs.Oneofs.{IsExclusive}
 use Rattle.reflect_message.specs.Names.{DynamicMessage, Value}
 use Rattle.reflect_format.specs.Filled.{HasRival, PutsOne}
 use Rattle.reflect_format.specs.Named.{NamesField, NamesExtension}
-use Rattle.reflect_format.specs.Steps.{Adds, is_set}
+use Rattle.reflect_format.specs.Steps.{AddsValues, is_set}
 use Rattle.reflect_format.specs.Takes.{holds_many, target_pool, target_type}
 use Rattle.reflect_format.specs.declared.target.Target.{Target}
 use Rattle.text_model.specs.Value.{add_all, of_message, set_one, wanted_of}
@@ -51,7 +51,7 @@ entries_read m sound decoded w t named is_map d at kind =
 
 pub map_put : (old new : DynamicMessage) → IsSound old.descriptor.pool.now → (w : Text) (t : Target) → NamesField old.descriptor w t ⊎ NamesExtension old.descriptor w t
     → holds_map (target_pool t) (target_type t) ≡ true → IsExclusive old → HoldsKinds old → (d : MessageDescriptor) → d.pool.now ≡ old.descriptor.pool.now → (target_type t).kind ≡ types.message d.index
-    → (vs : List Value) → AllByRecursion (IsMessageOf d) vs → new.descriptor ≡ old.descriptor → Adds t vs old new
+    → (vs : List Value) → AllByRecursion (IsMessageOf d) vs → new.descriptor ≡ old.descriptor → AddsValues t vs old new
     → add_all (field_at old.descriptor.pool.now old.descriptor.index) (target_type t).number (target_field old.descriptor t).part (target_field old.descriptor t).label (view old) (map content_view vs) ≡ Some (view new)
 map_put old new sound w t named is_map exclusive kinds d at kind vs entries same adds =
     let owns = named_target old.descriptor sound.apart w t named in

@@ -22,7 +22,7 @@ ghost use Rattle.reflect_numbered.specs.Called.{HasName, OwnsMeant};
 ghost use Rattle.reflect_format.specs.Filled.{Fills, HasRival, IsScalar, Makes, PutsOne};
 ghost use Rattle.reflect_format.specs.Kinds.{scalar_given};
 ghost use Rattle.reflect_format.specs.Named.{NamesExtension, NamesField, NoExtensionNamed, NoFieldNamed};
-ghost use Rattle.reflect_format.specs.Steps.{held_by, is_set, Adds, Puts, SetsNumber};
+ghost use Rattle.reflect_format.specs.Steps.{held_by, is_set, AddsValues, Puts, SetsNumber};
 ghost use Rattle.reflect_format.specs.Takes.{holds_many, target_pool, target_type};
 ghost use Rattle.reflect_format.specs.Unfit.{CannotMake, Unfit};
 ghost use Rattle.reflect_format.specs.declared.target.Target.{Target};
@@ -173,7 +173,7 @@ pub fn what_is_added_to_a_list_stands_behind()
         → NamesField old.descriptor w t ⊎ NamesExtension old.descriptor w t
         → holds_list (target_pool t) (target_type t) ≡ true → IsExclusive old
         → (vs before : List Value) → items_held (held_by old t) ≡ Some before
-        → new.descriptor ≡ old.descriptor → Adds t vs old new
+        → new.descriptor ≡ old.descriptor → AddsValues t vs old new
         → add_all
         (types_of old.descriptor.pool.now (name_at old.descriptor.pool.now old.descriptor.index))
         (target_type t).number (target_field old.descriptor t).part
@@ -249,7 +249,7 @@ pub fn what_is_put_into_a_map_is_added()
         → (d : MessageDescriptor) → d.pool.now ≡ old.descriptor.pool.now
         → (target_type t).kind ≡ types.message d.index
         → (vs : List Value) → AllByRecursion (IsMessageOf d) vs
-        → new.descriptor ≡ old.descriptor → Adds t vs old new
+        → new.descriptor ≡ old.descriptor → AddsValues t vs old new
         → add_all (field_at old.descriptor.pool.now old.descriptor.index) (target_type t).number
         (target_field old.descriptor t).part (target_field old.descriptor t).label (view old)
         (map content_view vs)

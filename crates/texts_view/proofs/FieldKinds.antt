@@ -24,7 +24,7 @@ use Rattle.linked_view.specs.Valued.{NumberedValue, TellsValues, numbered_value}
 use Rattle.reflect_index.proofs.Among.{index_is}
 use Rattle.text_view.specs.Names as pool
 use Rattle.text_view.specs.Schemas.{is_bytes, is_string}
-use Rattle.types_view.specs.Fields.{Holds, HoldsScalar, TellsFields}
+use Rattle.types_view.specs.Fields.{HoldsKind, HoldsScalar, TellsFields}
 use Rattle.types_view.proofs.Held.{own}
 use Rattle.types_view.proofs.KindNumbers.{Sorted, a_message, a_scalar, an_enum, each_scalar, some_kind, sorted}
 use Rattle.types_view.proofs.Told.{EnumTold, enum_at, enum_told, message_at, type_is}
@@ -170,7 +170,7 @@ module _ (p : PoolType) (l : AreLinked (map file_view p.records)) (tells : Tells
         of_values e.type e.at told
         (type_is p l c e.type.full_name (of_enum told.content) e.written told.declared)
 
-    pub kind_is : (k : KindType) → Holds ms es c k → IsOf c k
+    pub kind_is : (k : KindType) → HoldsKind ms es c k → IsOf c k
     kind_is k h = is_of k (sorted ms es c k h)
 
     no_type_at : c.type_name ≡ None → type_at W c ≡ None

@@ -62,7 +62,7 @@ use Rattle.linked_view.proofs.Places.{contains_get, get_contains}
 use Rattle.linked_view.proofs.Shown.{IsShown, shown_in}
 use Rattle.linked_view.proofs.Telling.{known_new}
 use Rattle.linked_view.proofs.Walked.{facts_in, name_seen, seen, seen_body, text_seen}
-use Rattle.types_view.specs.Fields.{Holds, IsListed, IsTold, IsToldExtension, IsToldField, IsWrittenAt, ListsFields, NamedMessage, TellsFields, messages_in, written_messages}
+use Rattle.types_view.specs.Fields.{HoldsKind, IsListed, IsTold, IsToldExtension, IsToldField, IsWrittenAt, ListsFields, NamedMessage, TellsFields, messages_in, written_messages}
 use Rattle.types_view.proofs.Entered as entered
 use Rattle.types_view.proofs.Entered.{extension_entered, field_entered, linked_extendee, linked_group, linked_holds, linked_unnamed, syntax_is}
 use Rattle.types_view.proofs.Listed.{number_same}
@@ -80,8 +80,8 @@ written_more names more o i w = record {
   there = front names more i (w.full, w.file) w.there;
 }
 
-holds_more : (ms es more others : List FullName) (c : FieldContent) (k : KindType) → Holds ms es c k
-    → Holds (ms ++ more) (es ++ others) c k
+holds_more : (ms es more others : List FullName) (c : FieldContent) (k : KindType) → HoldsKind ms es c k
+    → HoldsKind (ms ++ more) (es ++ others) c k
 holds_more ms es more others c (types.message i) h = written_more ms more c.type_name i h
 holds_more ms es more others c (types.enumeration i) h = written_more es others c.type_name i h
 holds_more ms es more others c k h = h

@@ -38,7 +38,7 @@ use Rattle.linked_view.specs.Taken.{type_of}
 use Rattle.linked_view.proofs.AtHand.{IsResolved}
 use Rattle.linked_view.proofs.Linked.{found_by, meaning_in, meanings, sees_of}
 use Rattle.linked_view.proofs.Means.{resolved_to}
-use Rattle.types_view.specs.Fields.{HasDefault, Holds, HoldsScalar, IsEntryOf, IsGiven, IsWrittenAt}
+use Rattle.types_view.specs.Fields.{HasDefault, HoldsKind, HoldsScalar, IsEntryOf, IsGiven, IsWrittenAt}
 use Rattle.types_view.proofs.KindNumbers.{Sorted, a_message, a_scalar, an_enum, each_scalar, sorted}
 
 -- ---- labels
@@ -110,7 +110,7 @@ module _ (ms es : List FullName) (s : Syntax) (proto3 : Bool) (syntax : fields.i
   abbrev linked : FieldContent
   linked = record (field_view r) { extendee = full; field_type = type; type_name = name }
 
-  module _ (held : Holds ms es linked holds) (group : is_number (pos 10) r.field_type ≡ is_number (pos 10) type)
+  module _ (held : HoldsKind ms es linked holds) (group : is_number (pos 10) r.field_type ≡ is_number (pos 10) type)
       (unnamed : name ≡ None → r.field_type ≡ type) where
     given_of : (k : KindType) (z : Option ℤ) (t : Text) (d : Option DefaultType) → IsWritten k z t d
         → IsGiven k z t d
@@ -153,7 +153,7 @@ module _ (ms es : List FullName) (s : Syntax) (proto3 : Bool) (syntax : fields.i
           → e.oneof ≡ cond extension None (natural r.oneof_index)
           → IsEntryOf ms es proto3 extension linked e
       entered extension presence oneof = record {
-        holds = subst (Holds ms es linked) (sym says.kind) held;
+        holds = subst (HoldsKind ms es linked) (sym says.kind) held;
         number = says.number;
         repeated = ap shapes.is_repeated says.cardinality ∙ label_repeats r.label;
         group = says.group ∙ group;
@@ -214,10 +214,10 @@ module _ (files : List FileDescriptorProto) (known : Known) (are : AreKnown file
     meant_holds : (s : String Global) (full : Text) (d : Definition) (k : KindType) (c : FieldContent)
         → meaning_of see filter.FieldType scope (string_bytes s) ≡ means full d
         → c.type_name ≡ name_of (Some s) → (j : DefinitionKind) → d.kind ≡ j → IsMeant (Some j) k
-        → Holds ms es c k
+        → HoldsKind ms es c k
     meant_holds s full d k c m named (kind.Message i) is same =
         let r = resolved_to known see.sees filter.FieldType scope (string_bytes s) full d m in
-        subst (Holds ms es c) (sym same) (record {
+        subst (HoldsKind ms es c) (sym same) (record {
           full = full;
           file = d.file;
           written = named ∙ ap (λ x. Some (46 ∷ (found_by x).0)) m;
@@ -225,7 +225,7 @@ module _ (files : List FileDescriptorProto) (known : Known) (are : AreKnown file
         })
     meant_holds s full d k c m named (kind.Enum i) is same =
         let r = resolved_to known see.sees filter.FieldType scope (string_bytes s) full d m in
-        subst (Holds ms es c) (sym same) (record {
+        subst (HoldsKind ms es c) (sym same) (record {
           full = full;
           file = d.file;
           written = named ∙ ap (λ x. Some (46 ∷ (found_by x).0)) m;
@@ -234,16 +234,16 @@ module _ (files : List FileDescriptorProto) (known : Known) (are : AreKnown file
     meant_holds s full d k c m named j is same = absurd same
 
   typed_holds : (c : FieldContent) (k : KindType) → c.type_name ≡ None → IsTyped c.field_type k
-      → Holds ms es c k
+      → HoldsKind ms es c k
   typed_holds c k unnamed typed = by c.field_type refl typed where
     of_scalar : (t : TypeNumber) (j : KindType) → scalar_type t ≡ Some j → HoldsScalar c j
-        → Holds ms es c j
+        → HoldsKind ms es c j
     of_scalar =
-        each_scalar (λ j. HoldsScalar c j → Holds ms es c j) (λ h. h) (λ h. h) (λ h. h) (λ h. h)
+        each_scalar (λ j. HoldsScalar c j → HoldsKind ms es c j) (λ h. h) (λ h. h) (λ h. h) (λ h. h)
         (λ h. h) (λ h. h) (λ h. h) (λ h. h) (λ h. h) (λ h. h) (λ h. h) (λ h. h) (λ h. h) (λ h. h)
         (λ h. h)
 
-    by : (o : Option ℤ) → c.field_type ≡ o → IsTyped o k → Holds ms es c k
+    by : (o : Option ℤ) → c.field_type ≡ o → IsTyped o k → HoldsKind ms es c k
     by None e h = absurd h
     by (Some n) e (t, number, type) = of_scalar t k type (record {
       type = t;
@@ -256,7 +256,7 @@ module _ (files : List FileDescriptorProto) (known : Known) (are : AreKnown file
   pub linked_holds : (scope : Text) (r : FieldDescriptorProto) (extendee : Option Text) (k : KindType)
       → IsResolved see filter.FieldType scope r.type_name
       → HasKind r (kind_by see filter.FieldType scope r.type_name) k
-      → Holds ms es (record (field_view r) {
+      → HoldsKind ms es (record (field_view r) {
         extendee = extendee;
         field_type = fill_type namings scope r.field_type (text_view r.type_name);
         type_name = rename_type namings scope r.field_type (text_view r.type_name);
@@ -271,7 +271,7 @@ module _ (files : List FileDescriptorProto) (known : Known) (are : AreKnown file
           | None ↦ IsTyped r.field_type k
           | Some name ↦ IsMeant (kind_by see filter.FieldType scope o) k
         ]
-        → Holds ms es (record (field_view r) {
+        → HoldsKind ms es (record (field_view r) {
           extendee = extendee;
           field_type = fill_type namings scope r.field_type (text_view o);
           type_name = rename_type namings scope r.field_type (text_view o);

@@ -21,7 +21,7 @@ use Rattle.message_view.specs.Singles.{scalar_of}
 use Rattle.message_view.specs.Types.{frame_of, kind_in, name_at}
 use Rattle.linked_view.specs.Valued.{TellsValues}
 use Rattle.reflect_index.proofs.Among.{index_is}
-use Rattle.types_view.specs.Fields.{Holds, HoldsScalar, IsWrittenAt, TellsFields}
+use Rattle.types_view.specs.Fields.{HoldsKind, HoldsScalar, IsWrittenAt, TellsFields}
 use Rattle.types_view.proofs.Told.{IsMessageNumber, enum_at, enum_number, enum_told, message_at, message_number, message_told, typed_by}
 
 -- what holds of a field by the number of its type holds by what its entry holds
@@ -153,7 +153,7 @@ pub data Sorted (ms es : List FullName) (c : FieldContent) : KindType → Type 0
   a_message : {i : ℕ} → IsWrittenAt ms c.type_name i → Sorted ms es c (types.message i)
   an_enum : {i : ℕ} → IsWrittenAt es c.type_name i → Sorted ms es c (types.enumeration i)
 
-pub sorted : (ms es : List FullName) (c : FieldContent) (k : KindType) → Holds ms es c k
+pub sorted : (ms es : List FullName) (c : FieldContent) (k : KindType) → HoldsKind ms es c k
     → Sorted ms es c k
 sorted ms es c (types.message i) h = a_message h
 sorted ms es c (types.enumeration i) h = an_enum h

@@ -29,10 +29,10 @@ pub record HoldsScalar (f : FieldContent) (k : KindType) : Type 0 where
   pub holds : scalar_type type ≡ Some k
 
 -- what a field holds: the message or the enum of its type's name, or else a scalar
-abbrev pub Holds : (ms es : List FullName) → FieldContent → KindType → Type 0
-Holds ms es f (message i) = IsWrittenAt ms f.type_name i
-Holds ms es f (enumeration i) = IsWrittenAt es f.type_name i
-Holds ms es f k = HoldsScalar f k
+abbrev pub HoldsKind : (ms es : List FullName) → FieldContent → KindType → Type 0
+HoldsKind ms es f (message i) = IsWrittenAt ms f.type_name i
+HoldsKind ms es f (enumeration i) = IsWrittenAt es f.type_name i
+HoldsKind ms es f k = HoldsScalar f k
 
 -- what a text is the default of; messages have none
 abbrev pub IsGiven : KindType → Option ℤ → Text → Option DefaultType → Type 0
@@ -47,7 +47,7 @@ HasDefault k f d = elim f.default_value
 -- messages and enums
 pub record IsEntryOf (ms es : List FullName) (proto3 extension : Bool) (f : FieldContent)
     (e : FieldType) : Type 0 where
-  pub holds : Holds ms es f e.kind
+  pub holds : HoldsKind ms es f e.kind
   pub number : e.number ≡ unwrap_or (natural f.number) 0
   pub repeated : pool.is_repeated e.cardinality ≡ is_repeated f
   pub group : e.group ≡ is_group f

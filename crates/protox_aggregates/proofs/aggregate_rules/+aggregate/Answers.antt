@@ -3,7 +3,7 @@ use Rattle.protox_aggregates.proofs.AggregateLaws.{list_turns, fields_turns, Loc
 use Rattle.protox_aggregates.proofs.Braces.{closed_fails, inside_fails, inside_is, one_less}
 use Rattle.protox_aggregates.proofs.Turns.{between_goes, between_ends, between_fails, between_stops, each_goes, each_ends, each_stops}
 use Rattle.protox_aggregates.proofs.Written.{then_ok, writes_expected, writes_then}
-use Rattle.protox_aggregates.specs.BraceTexts.{Writes}
+use Rattle.protox_aggregates.specs.BraceTexts.{WritesTokens}
 use Rattle.protox_aggregates.specs.AggregateGrammar.{passes, must, elements_unless, value_with, list_with, field_with, fields_with, braces}
 use Rattle.protox_tokens.specs.Parser.{Parser, and_then, ◌>>◌, sees_in, pass_in, behind_in, until_in, many}
 use Rattle.protox_tokens.specs.Reads.{Fails}
@@ -115,7 +115,7 @@ list-returns-clause-reads t c =
 
 pub braces-returns-clause-writes : goal.braces-returns-clause-writes
 braces-returns-clause-writes t c =
-    let opened : Writes (stream c.args.tokens.now) (string_bytes c.args.text.now) (stream c.expect_in_text.new.self) (string_bytes c.add.new.text) =
+    let opened : WritesTokens (stream c.args.tokens.now) (string_bytes c.args.text.now) (stream c.expect_in_text.new.self) (string_bytes c.add.new.text) =
     rw c.in_ok-add.ensures (writes_expected (stream c.args.tokens.now) (stream c.expect_in_text.new.self) (string_bytes c.args.text.now) c.in-Some.open c.in_ok-span.span c.in_ok-span.ensures.reads) in
     then_ok _ _ c.expect.result (writes_then opened c.in_ok-fields.ensures.writes) c.expect.ensures.writes
 

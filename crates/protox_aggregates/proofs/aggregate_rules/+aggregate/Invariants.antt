@@ -1,6 +1,6 @@
 use Rattle.protox_lex.specs.Token.{sign}
 use Rattle.protox_aggregates.specs.AggregateGrammar.{braces, value_with, field_with}
-use Rattle.protox_aggregates.specs.BraceTexts.{Writes}
+use Rattle.protox_aggregates.specs.BraceTexts.{WritesTokens}
 use Rattle.protox_tokens.specs.Left.{left}
 use Rattle.protox_tokens.specs.Parser.{behind_in, until_in, many}
 use Rattle.protox_tokens.specs.Stream.{stream, text}
@@ -32,7 +32,7 @@ invariant-list-elements l =
     record {
       moves : left l.tokens ≤ left l.initial.tokens;
       so_far : rest (stream l.tokens) ≡ rest (stream l.initial.tokens);
-      writes : Writes (stream l.initial.tokens) (string_bytes l.initial.text) (stream l.tokens) (string_bytes l.text);
+      writes : WritesTokens (stream l.initial.tokens) (string_bytes l.initial.text) (stream l.tokens) (string_bytes l.text);
     }
 
 abbrev pub decreases-list-elements : goal.decreases-list-elements
@@ -44,7 +44,7 @@ invariant-fields-fields l =
     record {
       moves : left l.tokens ≤ left l.initial.tokens;
       so_far : rest (stream l.tokens) ≡ rest (stream l.initial.tokens);
-      writes : Writes (stream l.initial.tokens) (string_bytes l.initial.text) (stream l.tokens) (string_bytes l.text);
+      writes : WritesTokens (stream l.initial.tokens) (string_bytes l.initial.text) (stream l.tokens) (string_bytes l.text);
     }
 
 abbrev pub decreases-fields-fields : goal.decreases-fields-fields

@@ -1,6 +1,6 @@
 use Rattle.protox_lex.specs.Token.{sign}
 use Rattle.protox_aggregates.specs.AggregateGrammar.{an_ident_as}
-use Rattle.protox_aggregates.specs.BraceTexts.{Writes}
+use Rattle.protox_aggregates.specs.BraceTexts.{WritesTokens}
 use Rattle.protox_tokens.specs.Left.{left}
 use Rattle.protox_tokens.specs.Parser.{behind_in, many}
 use Rattle.protox_tokens.specs.Refusal.{an_ident}
@@ -15,7 +15,7 @@ invariant-parts l =
     record {
       moves : left l.tokens ≤ left l.initial.tokens;
       so_far : rest (stream l.tokens) ≡ rest (stream l.initial.tokens);
-      writes : Writes (stream l.initial.tokens) (string_bytes l.initial.text) (stream l.tokens) (string_bytes l.text);
+      writes : WritesTokens (stream l.initial.tokens) (string_bytes l.initial.text) (stream l.tokens) (string_bytes l.text);
     }
 
 abbrev pub decreases-parts : goal.decreases-parts

@@ -1,5 +1,5 @@
 use Rattle.protox_aggregates.specs.AggregateGrammar.{a_literal}
-use Rattle.protox_aggregates.specs.BraceTexts.{Writes}
+use Rattle.protox_aggregates.specs.BraceTexts.{WritesTokens}
 use Rattle.protox_tokens.specs.Left.{left}
 use Rattle.protox_tokens.specs.Parser.{when, many, is_string_in}
 use Rattle.protox_tokens.specs.Stream.{stream, text}
@@ -12,7 +12,7 @@ invariant-literals l =
     record {
       moves : left l.tokens ≤ left l.initial.tokens;
       so_far : rest (stream l.tokens) ≡ rest (stream l.initial.tokens);
-      writes : Writes (stream l.initial.tokens) (string_bytes l.initial.text) (stream l.tokens) (string_bytes l.text);
+      writes : WritesTokens (stream l.initial.tokens) (string_bytes l.initial.text) (stream l.tokens) (string_bytes l.text);
     }
 
 abbrev pub decreases-literals : goal.decreases-literals

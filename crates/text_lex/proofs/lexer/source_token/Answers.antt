@@ -57,7 +57,7 @@ returns-in-Ok-Some c =
     let l = c.in-Ok-Some.lexeme in
     let found = token_found z c.requires.some begins c.args.at _ c.new-source.ensures l.span.start l.span.end (source.token_of l.token) _ (rw c.in-Ok-Some.field-0-is at c.in-Ok-Some.ensures.ok) in
     let same = ap (λ o. spec.taken c.args.at o l.span.end) c.text_token.ensures ∙ sym found.1 in
-    subst (source.Gives (λ p. (token (token_of p.0), p.1)) c.taken.result) same c.taken.ensures
+    subst (source.Returns (λ p. (token (token_of p.0), p.1)) c.taken.result) same c.taken.ensures
 
 pub returns-in-Ok-None : goal.returns-in-Ok-None
 returns-in-Ok-None c =
@@ -71,4 +71,4 @@ returns-in-Err c =
     let begins : BeginsToken (slice_index z 0) = record { blank = c.requires.begins.0; hash = c.requires.begins.1; slash = c.requires.slash } in
     let e = c.in-Err.error in
     let found = fault_found z c.requires.some begins c.args.at _ c.new-source.ensures e.kind e.span.start e.span.end c.in-Err.ensures.err.0 in
-    subst (source.Gives (λ p. (token (token_of p.0), p.1)) c.refused.result) (sym found.1) c.refused.ensures
+    subst (source.Returns (λ p. (token (token_of p.0), p.1)) c.refused.result) (sym found.1) c.refused.ensures
