@@ -10,6 +10,7 @@ use Rattle.reflect_wire.specs.Encoding.{delimited_bytes, key_bytes, varint_bytes
 use Rattle.reflect_wire.specs.Records.{Payload, delimited, key_of, varint}
 use Rattle.reflect_wire.specs.Written.{FitsPayload}
 use Rattle.reflect_wire.specs.declared.wire_key.WireType.TheVariants.{LengthDelimited}
+use Rattle.reflect_wire.proofs.Signed.{extended_back, extended_fits}
 use Rattle.reflect_wire.proofs.Spelling.{varint_spelled}
 use Rattle.reflect_codec.specs.Fields.{bool_field, int32_field, int32s_field, number_field, options_field, packed_field, payload_field, record_field, records_field, text_field, texts_field}
 use Rattle.reflect_codec.specs.Meaning.{AreOptions, IsOptions, OptionsAt}
@@ -17,18 +18,6 @@ use Rattle.reflect_codec.specs.Reading.{AreNumbers, BoolAt, Field, Int32At, Int3
 use Rattle.reflect_codec.specs.declared.options.OptionsOf.{OptionsOf}
 use Rattle.codec_laws.specs.Plain.{ArePlainOptions, FitsInt32, IfThere}
 use Rattle.codec_laws.proofs.Parts.{IsRight, Part, row_bytes}
-
--- numbers of 32 bits, written in the 64 bits that they are extended to
-extended_fits : (z : ℤ) → FitsInt32 z → cast_unsigned w64 z < 2 ^ 64
-extended_fits (pos n) f = let s = f.sfits in omega arith
-extended_fits (negsuc n) f = let s = f.sfits in omega arith
-
-low_extended : (z : ℤ) → FitsInt32 z → cast_unsigned w64 z % 2 ^ 32 ≡ cast_unsigned w32 z
-low_extended (pos n) f = let s = f.sfits in omega arith
-low_extended (negsuc n) f = let s = f.sfits in omega arith
-
-extended_back : (z : ℤ) → FitsInt32 z → z ≡ int32_of (cast_unsigned w64 z)
-extended_back z f = sym (ap (cast_signed w32) (low_extended z f) ∙ to_z-of_z w32 z f)
 
 -- ---- payloads
 abbrev pub text_payloads : Option (String Global) → List Payload
@@ -186,13 +175,13 @@ one_each (z ∷ zs) = ap (λ ys. z ∷ ys) (one_each zs)
 
 numbers_zip : (zs : List ℤ) → AllByRecursion FitsInt32 zs → AllZip IsNumbers (map value_of (int32s_payloads zs ++ [])) (map (λ z. z ∷ []) zs)
 numbers_zip [] h = tt
-numbers_zip (z ∷ zs) h = (ap (λ y. y ∷ []) (extended_back z h.0), numbers_zip zs h.1)
+numbers_zip (z ∷ zs) h = (ap (λ y. y ∷ []) (sym (extended_back z h.0)), numbers_zip zs h.1)
 
 numbers_spelled : (zs : List ℤ) → AllByRecursion FitsInt32 zs → SpellsNumbers (numbers_bytes zs) zs
 numbers_spelled [] h = refl
 numbers_spelled (z ∷ zs) h =
     let n = cast_unsigned w64 z in
-    (varint_bytes n, numbers_bytes zs, n, varint_spelled n (extended_fits z h.0), extended_back z h.0, numbers_spelled zs h.1, refl)
+    (varint_bytes n, numbers_bytes zs, n, varint_spelled n (extended_fits z h.0), sym (extended_back z h.0), numbers_spelled zs h.1, refl)
 
 abbrev Spells : Value → String Global → Type 0
 Spells v t = IsText v (string_bytes t)
@@ -224,7 +213,7 @@ module _ (n : ℕ) (fs : List Field) where
 
   pub int32_at : (o : Option ℤ) → IfThere FitsInt32 o → Holds n fs (int32_payloads o) → Int32At n fs o
   int32_at None f e = subst (λ vs. IsLast IsInt32 vs None) (sym e) ([], tt, refl)
-  int32_at (Some z) f e = subst (λ vs. IsLast IsInt32 vs (Some z)) (sym e) (z ∷ [], ((cast_unsigned w64 z, refl, extended_back z f), tt), refl)
+  int32_at (Some z) f e = subst (λ vs. IsLast IsInt32 vs (Some z)) (sym e) (z ∷ [], ((cast_unsigned w64 z, refl, sym (extended_back z f)), tt), refl)
 
   pub int32s_at : (zs : Vec ℤ Global) → AllByRecursion FitsInt32 zs.items → Holds n fs (int32s_payloads zs.items) → Int32sAt n fs zs
   int32s_at zs f e = subst (λ vs. AreNumbers vs zs.items) (sym e) (map (λ z. z ∷ []) zs.items, numbers_zip zs.items f, one_each zs.items)

@@ -11,6 +11,7 @@ use Rattle.descriptor_records.specs.declared.message.DescriptorProto.TheViews.{o
 use Rattle.descriptor_records.specs.declared.options.Options.{Options}
 use Rattle.descriptor_records.specs.declared.source_info.SourceCodeInfo.{SourceCodeInfo}
 use Rattle.reflect_wire.specs.Records.{Records, SpellsRecords, more_records, no_records}
+use Rattle.reflect_wire.proofs.Whole.{join, spells_join}
 use Rattle.reflect_codec.specs.Meaning.{AreOptions, IsEnum, IsEnumRange, IsEnumValue, IsExtensionRange, IsField, IsFile, IsFileBytes, IsLocation, IsMessage, IsMethod, IsOneof, IsReservedRange, IsService, IsSetBytes, IsSourceInfo}
 use Rattle.reflect_codec.specs.Reading.{AreNumbers, Field, IsInt32, IsLast, IsMerged, IsNumbers, IsPartBelow, IsPayload, IsRecord, SpellsFields, SpellsNumbers, Value, eight_bytes, fields_in, int32_of, joined, joins, last, number, other, payload, value_of, values_at}
 use Rattle.reflect_codec.specs.declared.options.OptionsOf.{OptionsOf}
@@ -64,18 +65,14 @@ int32s_plain vs zs (parts, all, is) = subst (AllByRecursion FitsInt32) (sym is) 
 
 -- ---- options
 
--- records behind records spell the fields of both
-joined_spelled : (levels : ℕ) (a b : List ℕ) (rs : Records) → SpellsRecords levels a rs → (gs : List Field) → SpellsFields levels b gs → SpellsFields levels (a ++ b) (fields_in rs ++ gs)
-joined_spelled levels a b no_records h gs k = subst (λ a. SpellsFields levels (a ++ b) gs) (sym h) k
-joined_spelled levels a b (more_records n p rs) h gs k =
-    let rest = joined_spelled levels h.2 b rs h.5 gs k in (
-      more_records n p rest.0,
-      (h.0, h.1, h.2 ++ b, h.3, h.4, rest.1, ap (λ a. a ++ b) h.6 ∙ append_assoc h.0 (h.1 ++ h.2) b ∙ ap (λ c. h.0 ++ c) (append_assoc h.1 h.2 b)),
-      ap (λ fs. (n, value_of p) ∷ fs) rest.2,
-    )
+fields_in_both : (rs ts : Records) → fields_in rs ++ fields_in ts ≡ fields_in (join rs ts)
+fields_in_both no_records ts = refl
+fields_in_both (more_records n p rs) ts = ap (λ fs. (n, value_of p) ∷ fs) (fields_in_both rs ts)
 
+-- records behind records spell the fields of both
 fields_join : (levels : ℕ) (a b : List ℕ) (fs gs : List Field) → SpellsFields levels a fs → SpellsFields levels b gs → SpellsFields levels (a ++ b) (fs ++ gs)
-fields_join levels a b fs gs (rs, h, is) k = subst (λ fs. SpellsFields levels (a ++ b) (fs ++ gs)) (sym is) (joined_spelled levels a b rs h gs k)
+fields_join levels a b fs gs (rs, h, is) (ts, k, js) =
+    (join rs ts, spells_join levels a b rs ts h k, ap (λ fs. fs ++ gs) is ∙ ap (λ gs. fields_in rs ++ gs) js ∙ fields_in_both rs ts)
 
 -- the payloads of one field, and their fields, one behind the other
 parts_spelled : (outside : ℕ) (vs : List Value) (parts : List (List Field)) (payloads : List (List ℕ)) → AllZip (IsPartBelow outside 100) vs parts → AllZip IsPayload vs payloads

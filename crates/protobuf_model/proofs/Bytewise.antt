@@ -1,12 +1,10 @@
 -- The laws of records as laws of bytes.
 use Rattle.std.proofs.Common.{◌≡◌, ◌↔◌, ℕ, zero, suc, ◌<◌, ◌≤◌, ◌^◌, List, [], ◌∷◌, ◌++◌, length, refl, sym, ap, ◌∙◌, subst, arith}
 use Rattle.std.specs.List.{AllByRecursion}
-use Rattle.reflect_wire.specs.declared.wire_key.WireKey.{WireKey}
-use Rattle.reflect_wire.specs.Records.{Payload, Records, no_records, more_records, SpellsPayload, SpellsRecords}
+use Rattle.reflect_wire.specs.Records.{Payload, Records, no_records, more_records, SpellsRecords}
 use Rattle.reflect_wire.specs.Views.{records_of}
 use Rattle.reflect_wire.proofs.Spelling.{one_list, records_spelled}
-use Rattle.reflect_wire.proofs.Unique.{one_key, one_payload}
-use Rattle.reflect_wire.proofs.Whole.{key_there, regrouped}
+use Rattle.reflect_wire.proofs.Whole.{join, spells_join, spells_rest}
 use Rattle.protobuf_model.specs.Values.{Message, nothing}
 use Rattle.protobuf_model.specs.Types.{Name, Types}
 use Rattle.protobuf_model.specs.Reader.{inside_of, list_of}
@@ -21,31 +19,9 @@ use Rattle.protobuf_model.proofs.Reading.{listed_back, records_back}
 use Rattle.protobuf_model.proofs.RoundTrip.{accepted_fits, round_trip}
 use Rattle.protobuf_model.proofs.Merging.{merged_typed}
 
-abbrev join : Records → Records → Records
-join no_records ts = ts
-join (more_records n p rs) ts = more_records n p (join rs ts)
-
 join_lists : (rs ts : List (ℕ × Payload)) → records_of (rs ++ ts) ≡ join (records_of rs) (records_of ts)
 join_lists [] ts = refl
 join_lists (r ∷ rs) ts = ap (more_records r.0 r.1) (join_lists rs ts)
-
-spells_join : (levels : ℕ) (a b : List ℕ) (rs ts : Records) → SpellsRecords levels a rs → SpellsRecords levels b ts → SpellsRecords levels (a ++ b) (join rs ts)
-spells_join levels a b no_records ts h k = subst (λ a. SpellsRecords levels (a ++ b) ts) (sym h) k
-spells_join levels a b (more_records n p rs) ts h k = (h.0, h.1, h.2 ++ b, h.3, h.4, spells_join levels h.2 b rs ts h.5 k, ap (λ a. a ++ b) h.6 ∙ regrouped h.0 h.1 h.2 b)
-
--- behind the records that were read stand the others
-spells_rest : (levels : ℕ) (a b whole : List ℕ) (rs ts : Records) → SpellsRecords levels a rs → SpellsRecords levels whole ts → a ++ b ≡ whole → (us : Records) × SpellsRecords levels b us × (ts ≡ join rs us)
-spells_rest levels a b whole no_records ts h k w = (ts, subst (λ x. SpellsRecords levels x ts) (sym w ∙ ap (λ a. a ++ b) h) k, refl)
-spells_rest levels a b whole (more_records m p rs) no_records h k w =
-    let none : h.0 ++ (h.1 ++ (h.2 ++ b)) ≡ [] = cc (w, k, h.6, regrouped h.0 h.1 h.2 b) in
-    absurd (key_there h.0 (h.1 ++ (h.2 ++ b)) _ h.3 none)
-spells_rest levels a b whole (more_records m p rs) (more_records o q ts) h k w =
-    let all : h.0 ++ (h.1 ++ (h.2 ++ b)) ≡ k.0 ++ (k.1 ++ k.2) = cc (w, h.6, regrouped h.0 h.1 h.2 b, k.6) in
-    let one = one_key h.0 k.0 _ _ _ _ h.3 k.3 all in
-    let number : m ≡ o = ap (λ (c : WireKey). c.number) one.1 in
-    let value = one_payload levels m h.1 k.1 _ _ p q (ap (λ (c : WireKey). c.wire) one.1) h.4 (subst (λ v. SpellsPayload levels v k.1 q) (sym number) k.4) one.2 in
-    let more = spells_rest levels h.2 b k.2 rs ts h.5 k.5 value.2 in
-    (more.0, more.1, cc (number, value.1, more.2))
 
 listed_join : (rs us : Records) → list_of (join rs us) ≡ list_of rs ++ list_of us
 listed_join no_records us = refl

@@ -7,6 +7,7 @@ use Rattle.std.proofs.Math.Nat.{mod-eq_of_lt}
 use Rattle.reflect_wire.specs.Records.{Payload, varint, fixed64, delimited, group, fixed32, SpellsPayload}
 use Rattle.reflect_wire.specs.Written.{FitsPayload}
 use Rattle.reflect_wire.specs.declared.wire_key.WireType.{WireType}
+use Rattle.reflect_wire.proofs.Signed.{extended_back, extended_fits, fits32, fits64}
 use Rattle.reflect_wire.proofs.Spelling.{payload_spelled}
 use Rattle.reflect_wire.proofs.Unique.{one_payload}
 use Rattle.reflect_pool.specs.declared.kind.Kind.{Kind}
@@ -25,26 +26,6 @@ plain_spelled (delimited p) h = payload_spelled 0 1 (delimited p) (omega arith) 
 plain_spelled (group rs) h = absurd (omega (arith, h.0))
 plain_spelled (fixed32 n) h = payload_spelled 0 1 (fixed32 n) (omega arith) (omega arith) h
 
-extended_fits : (z : ℤ) → FitsSigned w32 z → cast_unsigned w64 z < 2 ^ 64
-extended_fits (pos n) f = let s = f.sfits in omega arith
-extended_fits (negsuc n) f = let s = f.sfits in omega arith
-
-fits64 : (z : ℤ) → FitsSigned w64 z → cast_unsigned w64 z < 2 ^ 64
-fits64 (pos n) f = let s = f.sfits in omega arith
-fits64 (negsuc n) f = let s = f.sfits in omega arith
-
-fits32 : (z : ℤ) → FitsSigned w32 z → cast_unsigned w32 z < 2 ^ 32
-fits32 (pos n) f = let s = f.sfits in omega arith
-fits32 (negsuc n) f = let s = f.sfits in omega arith
-
--- the low 32 bits of a number whose sign was carried to 64
-low_extended : (z : ℤ) → FitsSigned w32 z → low (cast_unsigned w64 z) ≡ cast_unsigned w32 z
-low_extended (pos n) f = let s = f.sfits in omega arith
-low_extended (negsuc n) f = let s = f.sfits in omega arith
-
-extended_back : (z : ℤ) → FitsSigned w32 z → z ≡ cast_signed w32 (low (cast_unsigned w64 z))
-extended_back z f = sym (ap (cast_signed w32) (low_extended z f) ∙ to_z-of_z w32 z f)
-
 zigzag32_fits : (z : ℤ) → FitsSigned w32 z → zigzag z < 2 ^ 32
 zigzag32_fits (pos n) f = let s = f.sfits in omega arith
 zigzag32_fits (negsuc n) f = let s = f.sfits in omega arith
@@ -60,7 +41,7 @@ one_zigzag (negsuc m) (pos n) e = absurd (omega arith)
 one_zigzag (negsuc m) (negsuc n) e = let same : m ≡ n = omega arith in ap negsuc same
 
 means_written : (kind : Kind) (v : Single) → Fits v → IfSome (written kind v) (λ p. FitsPayload 0 p × StandsFor kind p v)
-means_written kinds.Int32 (int32 z) f = (extended_fits z f, ap int32 (extended_back z f))
+means_written kinds.Int32 (int32 z) f = (extended_fits z f, ap int32 (sym (extended_back z f)))
 means_written kinds.Int64 (int64 z) f = (fits64 z f, ap int64 (sym (to_z-of_z w64 z f)))
 means_written kinds.Uint32 (uint32 n) f = (omega arith, ap uint32 (sym (mod-eq_of_lt f)))
 means_written kinds.Uint64 (uint64 n) f = (f, refl)
@@ -72,7 +53,7 @@ means_written kinds.Sfixed32 (int32 z) f = (fits32 z f, ap int32 (sym (to_z-of_z
 means_written kinds.Sfixed64 (int64 z) f = (fits64 z f, ap int64 (sym (to_z-of_z w64 z f)))
 means_written kinds.Bool (truth true) f = (omega arith, refl)
 means_written kinds.Bool (truth false) f = (omega arith, refl)
-means_written (kinds.Enum e) (enumerated z) f = (extended_fits z f, ap enumerated (extended_back z f))
+means_written (kinds.Enum e) (enumerated z) f = (extended_fits z f, ap enumerated (sym (extended_back z f)))
 means_written kinds.String (text t) f = (f.1, (f.0, refl))
 means_written kinds.Bytes (blob b) f = (f, refl)
 means_written kind v f = tt

@@ -4,6 +4,7 @@ pub mod Groups
 pub mod Keys
 pub mod Lengths
 pub mod Reading
+pub mod Signed
 pub mod Unique
 pub mod Spelling
 pub mod Varints

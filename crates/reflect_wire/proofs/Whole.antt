@@ -9,29 +9,39 @@ use Rattle.reflect_wire.proofs.Unique.{one_key, one_payload}
 pub regrouped : (key value rest more : List ℕ) → (key ++ (value ++ rest)) ++ more ≡ key ++ (value ++ (rest ++ more))
 regrouped key value rest more = simp append_assoc
 
-pub key_there : (key more : List ℕ) (k : WireKey) → IsKey key k → key ++ more ≡ [] → ⊥
+key_there : (key more : List ℕ) (k : WireKey) → IsKey key k → key ++ more ≡ [] → ⊥
 key_there [] more k h e = h.spelled.spelled
 key_there (b ∷ bs) more k h e = cc
 
+-- ---- records behind records
+
+abbrev pub join : Records → Records → Records
+join no_records ts = ts
+join (more_records n p rs) ts = more_records n p (join rs ts)
+
+pub spells_join : (levels : ℕ) (a b : List ℕ) (rs ts : Records) → SpellsRecords levels a rs → SpellsRecords levels b ts → SpellsRecords levels (a ++ b) (join rs ts)
+spells_join levels a b no_records ts h k = subst (λ a. SpellsRecords levels (a ++ b) ts) (sym h) k
+spells_join levels a b (more_records n p rs) ts h k = (h.0, h.1, h.2 ++ b, h.3, h.4, spells_join levels h.2 b rs ts h.5 k, ap (λ a. a ++ b) h.6 ∙ regrouped h.0 h.1 h.2 b)
+
 -- behind the records that were read stand the others
-left : (levels : ℕ) (front rest body : List ℕ) (done rs : Records) → SpellsRecords levels front done → SpellsRecords levels body rs → front ++ rest ≡ body
-    → (ts : Records) × SpellsRecords levels rest ts
-left levels front rest body no_records rs h k w = (rs, subst (λ b. SpellsRecords levels b rs) (let e : body ≡ rest = cc (h, w) in e) k)
-left levels front rest body (more_records m p done) no_records h k w =
-    let none : h.0 ++ (h.1 ++ (h.2 ++ rest)) ≡ [] = cc (w, k, h.6, regrouped h.0 h.1 h.2 rest) in
-    absurd (key_there h.0 (h.1 ++ (h.2 ++ rest)) _ h.3 none)
-left levels front rest body (more_records m p done) (more_records o q ts) h k w =
-    let whole : h.0 ++ (h.1 ++ (h.2 ++ rest)) ≡ k.0 ++ (k.1 ++ k.2) = cc (w, h.6, regrouped h.0 h.1 h.2 rest, k.6) in
-    let one = one_key h.0 k.0 _ _ _ _ h.3 k.3 whole in
+pub spells_rest : (levels : ℕ) (a b whole : List ℕ) (rs ts : Records) → SpellsRecords levels a rs → SpellsRecords levels whole ts → a ++ b ≡ whole → (us : Records) × SpellsRecords levels b us × (ts ≡ join rs us)
+spells_rest levels a b whole no_records ts h k w = (ts, subst (λ x. SpellsRecords levels x ts) (sym w ∙ ap (λ a. a ++ b) h) k, refl)
+spells_rest levels a b whole (more_records m p rs) no_records h k w =
+    let none : h.0 ++ (h.1 ++ (h.2 ++ b)) ≡ [] = cc (w, k, h.6, regrouped h.0 h.1 h.2 b) in
+    absurd (key_there h.0 (h.1 ++ (h.2 ++ b)) _ h.3 none)
+spells_rest levels a b whole (more_records m p rs) (more_records o q ts) h k w =
+    let all : h.0 ++ (h.1 ++ (h.2 ++ b)) ≡ k.0 ++ (k.1 ++ k.2) = cc (w, h.6, regrouped h.0 h.1 h.2 b, k.6) in
+    let one = one_key h.0 k.0 _ _ _ _ h.3 k.3 all in
     let number : m ≡ o = ap (λ (c : WireKey). c.number) one.1 in
     let value = one_payload levels m h.1 k.1 _ _ p q (ap (λ (c : WireKey). c.wire) one.1) h.4 (subst (λ v. SpellsPayload levels v k.1 q) (sym number) k.4) one.2 in
-    left levels h.2 rest k.2 done ts h.5 k.5 value.2
+    let more = spells_rest levels h.2 b k.2 rs ts h.5 k.5 value.2 in
+    (more.0, more.1, cc (number, value.1, more.2))
 
 module _ (levels : ℕ) (bytes rest : List ℕ) (done : Records) (found : Fronts (SpellsRecords levels) bytes done rest) (more : rest ≡ [] → ⊥) where
   -- what any reading of the bytes has there: a key, and its value behind it
   next : (rs : Records) → SpellsRecords levels bytes rs
       → (k : WireKey) × (key value behind : List ℕ) × (p : Payload) × IsKey key k × (k.wire ≡ wire_of p) × SpellsPayload levels k.number value p × (rest ≡ key ++ (value ++ behind))
-  next rs h = by (left levels found.0 rest bytes done rs found.1 h (sym found.2)) where
+  next rs h = let ts = spells_rest levels found.0 rest bytes done rs found.1 h (sym found.2) in by (ts.0, ts.1) where
     by : (ts : Records) × SpellsRecords levels rest ts
         → (k : WireKey) × (key value behind : List ℕ) × (p : Payload) × IsKey key k × (k.wire ≡ wire_of p) × SpellsPayload levels k.number value p × (rest ≡ key ++ (value ++ behind))
     by (no_records, e) = absurd (more e)
