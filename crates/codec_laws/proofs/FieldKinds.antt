@@ -17,7 +17,7 @@ use Rattle.reflect_codec.specs.Meaning.{AreOptions, IsOptions, OptionsAt}
 use Rattle.reflect_codec.specs.Reading.{AreNumbers, BoolAt, Field, Int32At, Int32sAt, IsBool, IsInt32, IsLast, IsMerged, IsNumbers, IsRecord, IsText, MergedAt, RecordsAt, SpellsFields, SpellsNumbers, TextAt, TextsAt, Value, int32_of, joins, payload, value_of, values_at}
 use Rattle.reflect_codec.specs.declared.options.OptionsOf.{OptionsOf}
 use Rattle.codec_laws.specs.Plain.{ArePlainOptions, FitsInt32, IfThere}
-use Rattle.codec_laws.proofs.Parts.{IsRight, Part, row_bytes}
+use Rattle.codec_laws.proofs.Parts.{IsRow, Part, row_bytes}
 
 -- ---- payloads
 abbrev pub text_payloads : Option (String Global) → List Payload
@@ -53,34 +53,6 @@ abbrev pub options_payloads : Option Options → List Payload
 options_payloads None = []
 options_payloads (Some o) = delimited o.encoded.items ∷ []
 
--- ---- parts
-abbrev pub text_part : ℕ → Option (String Global) → Part
-text_part n o = record { number = n; bytes = text_field n o; payloads = text_payloads o }
-
-abbrev pub texts_part : ℕ → List (String Global) → Part
-texts_part n ts = record { number = n; bytes = texts_field n ts; payloads = each_payload string_bytes ts }
-
-abbrev pub int32_part : ℕ → Option ℤ → Part
-int32_part n o = record { number = n; bytes = int32_field n o; payloads = int32_payloads o }
-
-abbrev pub int32s_part : ℕ → List ℤ → Part
-int32s_part n zs = record { number = n; bytes = int32s_field n zs; payloads = int32s_payloads zs }
-
-abbrev pub packed_part : ℕ → List ℤ → Part
-packed_part n zs = record { number = n; bytes = packed_field n zs; payloads = packed_payloads zs }
-
-abbrev pub bool_part : ℕ → Option Bool → Part
-bool_part n o = record { number = n; bytes = bool_field n o; payloads = bool_payloads o }
-
-abbrev pub record_part : {R : Type 0} → (R → List ℕ) → ℕ → Option R → Part
-record_part bytes n o = record { number = n; bytes = record_field bytes n o; payloads = record_payloads bytes o }
-
-abbrev pub records_part : {R : Type 0} → (R → List ℕ) → ℕ → List R → Part
-records_part bytes n rs = record { number = n; bytes = records_field bytes n rs; payloads = each_payload bytes rs }
-
-abbrev pub options_part : ℕ → Option Options → Part
-options_part n o = record { number = n; bytes = options_field n o; payloads = options_payloads o }
-
 pub inside_short : (n : ℕ) (b : List ℕ) → length b ≤ length (payload_field n b)
 inside_short n b =
     let outer = length-append (key_bytes (key_of n LengthDelimited)) (delimited_bytes b) in
@@ -91,7 +63,7 @@ bool_fits : (b : Bool) → (if b then 1 else 0) < 2 ^ 64
 bool_fits true = omega arith
 bool_fits false = omega arith
 
--- each is written as its payloads are
+-- ---- parts: each is written as its payloads are
 module _ (n : ℕ) (some : 0 < n) (small : n < 2 ^ 29) where
   each_row : {X : Type 0} (f : X → List ℕ) (xs : List X) → flat_map (λ x. payload_field n (f x)) xs ≡ row_bytes n (each_payload f xs)
   each_row f [] = refl
@@ -112,52 +84,79 @@ module _ (n : ℕ) (some : 0 < n) (small : n < 2 ^ 29) where
   numbers_fit levels [] h = tt
   numbers_fit levels (z ∷ zs) h = (extended_fits z h.0, numbers_fit levels zs h.1)
 
-  one_right : (b : List ℕ) → IsRight (record { number = n; bytes = payload_field n b; payloads = delimited b ∷ [] })
-  one_right b = record {
+  one_row : (b : List ℕ) → IsRow n (payload_field n b) (delimited b ∷ [])
+  one_row b = record {
     some = some;
     small = small;
     same = sym (append-nil (payload_field n b));
     fits = λ levels h. let short : length b < 2 ^ 64 = omega (arith, h, inside_short n b) in (short, tt);
   }
 
-  none_right : IsRight (record { number = n; bytes = []; payloads = [] })
-  none_right = record { some = some; small = small; same = refl; fits = λ levels h. tt }
+  none_row : IsRow n [] []
+  none_row = record { some = some; small = small; same = refl; fits = λ levels h. tt }
 
-  number_right : (v : ℕ) → v < 2 ^ 64 → IsRight (record { number = n; bytes = number_field n v; payloads = varint v ∷ [] })
-  number_right v fits = record { some = some; small = small; same = sym (append-nil (number_field n v)); fits = λ levels h. (fits, tt) }
+  number_row : (v : ℕ) → v < 2 ^ 64 → IsRow n (number_field n v) (varint v ∷ [])
+  number_row v fits = record { some = some; small = small; same = sym (append-nil (number_field n v)); fits = λ levels h. (fits, tt) }
 
-  pub text_right : (o : Option (String Global)) → IsRight (text_part n o)
-  text_right None = none_right
-  text_right (Some t) = one_right (string_bytes t)
+  text_row : (o : Option (String Global)) → IsRow n (text_field n o) (text_payloads o)
+  text_row None = none_row
+  text_row (Some t) = one_row (string_bytes t)
 
-  pub texts_right : (ts : List (String Global)) → IsRight (texts_part n ts)
-  texts_right ts = record { some = some; small = small; same = each_row string_bytes ts; fits = λ levels h. each_fits string_bytes levels ts h }
+  abbrev pub text_part : Option (String Global) → Part
+  text_part o = record { number = n; bytes = text_field n o; payloads = text_payloads o; is_row = text_row o }
 
-  pub int32_right : (o : Option ℤ) → IfThere FitsInt32 o → IsRight (int32_part n o)
-  int32_right None h = none_right
-  int32_right (Some z) h = number_right (cast_unsigned w64 z) (extended_fits z h)
+  texts_row : (ts : List (String Global)) → IsRow n (texts_field n ts) (each_payload string_bytes ts)
+  texts_row ts = record { some = some; small = small; same = each_row string_bytes ts; fits = λ levels h. each_fits string_bytes levels ts h }
 
-  pub int32s_right : (zs : List ℤ) → AllByRecursion FitsInt32 zs → IsRight (int32s_part n zs)
-  int32s_right zs all = record { some = some; small = small; same = numbers_row zs; fits = λ levels h. numbers_fit levels zs all }
+  abbrev pub texts_part : List (String Global) → Part
+  texts_part ts = record { number = n; bytes = texts_field n ts; payloads = each_payload string_bytes ts; is_row = texts_row ts }
 
-  pub packed_right : (zs : List ℤ) → IsRight (packed_part n zs)
-  packed_right [] = none_right
-  packed_right (z ∷ zs) = one_right (numbers_bytes (z ∷ zs))
+  int32_row : (o : Option ℤ) → IfThere FitsInt32 o → IsRow n (int32_field n o) (int32_payloads o)
+  int32_row None h = none_row
+  int32_row (Some z) h = number_row (cast_unsigned w64 z) (extended_fits z h)
 
-  pub bool_right : (o : Option Bool) → IsRight (bool_part n o)
-  bool_right None = none_right
-  bool_right (Some b) = number_right (if b then 1 else 0) (bool_fits b)
+  abbrev pub int32_part : (o : Option ℤ) → IfThere FitsInt32 o → Part
+  int32_part o h = record { number = n; bytes = int32_field n o; payloads = int32_payloads o; is_row = int32_row o h }
 
-  pub record_right : {R : Type 0} (bytes : R → List ℕ) (o : Option R) → IsRight (record_part bytes n o)
-  record_right bytes None = none_right
-  record_right bytes (Some r) = one_right (bytes r)
+  int32s_row : (zs : List ℤ) → AllByRecursion FitsInt32 zs → IsRow n (int32s_field n zs) (int32s_payloads zs)
+  int32s_row zs all = record { some = some; small = small; same = numbers_row zs; fits = λ levels h. numbers_fit levels zs all }
 
-  pub records_right : {R : Type 0} (bytes : R → List ℕ) (rs : List R) → IsRight (records_part bytes n rs)
-  records_right bytes rs = record { some = some; small = small; same = each_row bytes rs; fits = λ levels h. each_fits bytes levels rs h }
+  abbrev pub int32s_part : (zs : List ℤ) → AllByRecursion FitsInt32 zs → Part
+  int32s_part zs h = record { number = n; bytes = int32s_field n zs; payloads = int32s_payloads zs; is_row = int32s_row zs h }
 
-  pub options_right : (o : Option Options) → IsRight (options_part n o)
-  options_right None = none_right
-  options_right (Some o) = one_right o.encoded.items
+  packed_row : (zs : List ℤ) → IsRow n (packed_field n zs) (packed_payloads zs)
+  packed_row [] = none_row
+  packed_row (z ∷ zs) = one_row (numbers_bytes (z ∷ zs))
+
+  abbrev pub packed_part : List ℤ → Part
+  packed_part zs = record { number = n; bytes = packed_field n zs; payloads = packed_payloads zs; is_row = packed_row zs }
+
+  bool_row : (o : Option Bool) → IsRow n (bool_field n o) (bool_payloads o)
+  bool_row None = none_row
+  bool_row (Some b) = number_row (if b then 1 else 0) (bool_fits b)
+
+  abbrev pub bool_part : Option Bool → Part
+  bool_part o = record { number = n; bytes = bool_field n o; payloads = bool_payloads o; is_row = bool_row o }
+
+  record_row : {R : Type 0} (bytes : R → List ℕ) (o : Option R) → IsRow n (record_field bytes n o) (record_payloads bytes o)
+  record_row bytes None = none_row
+  record_row bytes (Some r) = one_row (bytes r)
+
+  abbrev pub record_part : {R : Type 0} → (R → List ℕ) → Option R → Part
+  record_part bytes o = record { number = n; bytes = record_field bytes n o; payloads = record_payloads bytes o; is_row = record_row bytes o }
+
+  records_row : {R : Type 0} (bytes : R → List ℕ) (rs : List R) → IsRow n (records_field bytes n rs) (each_payload bytes rs)
+  records_row bytes rs = record { some = some; small = small; same = each_row bytes rs; fits = λ levels h. each_fits bytes levels rs h }
+
+  abbrev pub records_part : {R : Type 0} → (R → List ℕ) → List R → Part
+  records_part bytes rs = record { number = n; bytes = records_field bytes n rs; payloads = each_payload bytes rs; is_row = records_row bytes rs }
+
+  options_row : (o : Option Options) → IsRow n (options_field n o) (options_payloads o)
+  options_row None = none_row
+  options_row (Some o) = one_row o.encoded.items
+
+  abbrev pub options_part : Option Options → Part
+  options_part o = record { number = n; bytes = options_field n o; payloads = options_payloads o; is_row = options_row o }
 
 -- ---- what they mean
 

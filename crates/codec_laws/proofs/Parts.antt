@@ -9,21 +9,23 @@ use Rattle.reflect_wire.proofs.Spelling.{records_spelled}
 use Rattle.reflect_wire.specs.Records.{SpellsRecords}
 use Rattle.reflect_codec.specs.Reading.{Field, SpellsFields, fields_in, value_of, values_at}
 
+abbrev pub row_bytes : ℕ → List Payload → List ℕ
+row_bytes n [] = []
+row_bytes n (p ∷ ps) = field_bytes (n, p) ++ row_bytes n ps
+
+-- the bytes are those of the payloads under the number
+pub record IsRow (n : ℕ) (bytes : List ℕ) (payloads : List Payload) : Type 0 where
+  pub some : 0 < n
+  pub small : n < 2 ^ 29
+  pub same : bytes ≡ row_bytes n payloads
+  pub fits : (levels : ℕ) → length bytes < 2 ^ 64 → AllByRecursion (FitsPayload levels) payloads
+
 -- what is written of a field, and the payloads that this spells
 pub record Part : Type 0 where
   pub number : ℕ
   pub bytes : List ℕ
   pub payloads : List Payload
-
-abbrev pub row_bytes : ℕ → List Payload → List ℕ
-row_bytes n [] = []
-row_bytes n (p ∷ ps) = field_bytes (n, p) ++ row_bytes n ps
-
-pub record IsRight (p : Part) : Type 0 where
-  pub some : 0 < p.number
-  pub small : p.number < 2 ^ 29
-  pub same : p.bytes ≡ row_bytes p.number p.payloads
-  pub fits : (levels : ℕ) → length p.bytes < 2 ^ 64 → AllByRecursion (FitsPayload levels) p.payloads
+  pub is_row : IsRow number bytes payloads
 
 abbrev row : ℕ → List Payload → List (ℕ × Payload)
 row n ps = map (λ p. (n, p)) ps
@@ -42,26 +44,26 @@ row_written : (n : ℕ) (ps : List Payload) (more : List (ℕ × Payload)) → r
 row_written n [] more = refl
 row_written n (p ∷ ps) more = ap (λ bs. field_bytes (n, p) ++ bs) (row_written n ps more) ∙ sym (append_assoc (field_bytes (n, p)) (row_bytes n ps) (records_bytes (records_of more)))
 
-all_written : (ps : List Part) → AllByRecursion IsRight ps → records_bytes (records_of (rows ps)) ≡ written ps
-all_written [] h = refl
-all_written (p ∷ ps) h =
-    row_written p.number p.payloads (rows ps) ∙ ap (λ bs. bs ++ records_bytes (records_of (rows ps))) (sym h.0.same) ∙ ap (λ bs. p.bytes ++ bs) (all_written ps h.1)
+all_written : (ps : List Part) → records_bytes (records_of (rows ps)) ≡ written ps
+all_written [] = refl
+all_written (p ∷ ps) =
+    row_written p.number p.payloads (rows ps) ∙ ap (λ bs. bs ++ records_bytes (records_of (rows ps))) (sym p.is_row.same) ∙ ap (λ bs. p.bytes ++ bs) (all_written ps)
 
 row_fits : (levels n : ℕ) (ps : List Payload) (more : List (ℕ × Payload)) → 0 < n → n < 2 ^ 29 → AllByRecursion (FitsPayload levels) ps → FitsRecords levels (records_of more) → FitsRecords levels (records_of (row n ps ++ more))
 row_fits levels n [] more some small h k = k
 row_fits levels n (p ∷ ps) more some small h k = (some, small, h.0, row_fits levels n ps more some small h.1 k)
 
-all_fit : (levels : ℕ) (ps : List Part) → AllByRecursion IsRight ps → length (written ps) < 2 ^ 64 → FitsRecords levels (records_of (rows ps))
-all_fit levels [] h short = tt
-all_fit levels (p ∷ ps) h short =
+all_fit : (levels : ℕ) (ps : List Part) → length (written ps) < 2 ^ 64 → FitsRecords levels (records_of (rows ps))
+all_fit levels [] short = tt
+all_fit levels (p ∷ ps) short =
     let long = length-append p.bytes (written ps) in
-    row_fits levels p.number p.payloads (rows ps) h.0.some h.0.small (h.0.fits levels (omega (arith, short, long))) (all_fit levels ps h.1 (omega (arith, short, long)))
+    row_fits levels p.number p.payloads (rows ps) p.is_row.some p.is_row.small (p.is_row.fits levels (omega (arith, short, long))) (all_fit levels ps (omega (arith, short, long)))
 
 -- the parts spell their fields
-pub spelled : (levels : ℕ) (ps : List Part) → AllByRecursion IsRight ps → length (written ps) < 2 ^ 64 → SpellsFields levels (written ps) (fields ps)
-spelled levels ps h short = (
+pub spelled : (levels : ℕ) (ps : List Part) → length (written ps) < 2 ^ 64 → SpellsFields levels (written ps) (fields ps)
+spelled levels ps short = (
   records_of (rows ps),
-  subst (λ bs. SpellsRecords levels bs (records_of (rows ps))) (all_written ps h) (records_spelled levels (records_of (rows ps)) (all_fit levels ps h short)),
+  subst (λ bs. SpellsRecords levels bs (records_of (rows ps))) (all_written ps) (records_spelled levels (records_of (rows ps)) (all_fit levels ps short)),
   refl,
 )
 

@@ -17,15 +17,15 @@ use Rattle.descriptor_records.specs.declared.service.MethodDescriptorProto.{Meth
 use Rattle.descriptor_records.specs.declared.service.ServiceDescriptorProto.{ServiceDescriptorProto}
 use Rattle.descriptor_records.specs.declared.source_info.Location.{Location}
 use Rattle.descriptor_records.specs.declared.source_info.SourceCodeInfo.{SourceCodeInfo}
-use Rattle.reflect_codec.specs.Fields.{payload_field, records_field}
+use Rattle.reflect_codec.specs.Fields.{payload_field, record_field, records_field}
 use Rattle.reflect_codec.specs.Meaning.{IsEnum, IsEnumRange, IsEnumValue, IsExtensionRange, IsField, IsFile, IsFileBytes, IsLocation, IsMessage, IsMethod, IsOneof, IsReservedRange, IsService, IsSetBytes, IsSourceInfo}
 use Rattle.reflect_codec.specs.Reading.{Field, SpellsFields, Value, payload, value_of}
 use Rattle.reflect_codec.specs.Written.{enum_bytes, enum_range_bytes, enum_value_bytes, extension_range_bytes, field_bytes, file_bytes, location_bytes, message_bytes, method_bytes, oneof_bytes, reserved_range_bytes, service_bytes, set_bytes, source_info_bytes}
 use Rattle.reflect_codec.specs.declared.options.OptionsOf.TheVariants as of
 use Rattle.reflect_codec.proofs.Messages.{message_bytes-out}
 use Rattle.codec_laws.specs.Plain.{IfThere, IsInside, IsPlainEnum, IsPlainEnumRange, IsPlainEnumValue, IsPlainExtensionRange, IsPlainField, IsPlainFile, IsPlainLocation, IsPlainMessage, IsPlainMethod, IsPlainOneof, IsPlainReservedRange, IsPlainService, IsPlainSet, IsPlainSourceInfo}
-use Rattle.codec_laws.proofs.FieldKinds.{Reads, ReadsInside, bool_at, bool_part, bool_right, each_payload, inside_short, int32_at, int32_part, int32_right, int32s_at, int32s_part, int32s_right, merged_at, options_at, options_part, options_right, packed_at, packed_part, packed_right, record_part, record_right, records_at, records_part, records_right, text_at, text_part, text_right, texts_at, texts_part, texts_right}
-use Rattle.codec_laws.proofs.Parts.{IsRight, Part, fields, spelled, values, written}
+use Rattle.codec_laws.proofs.FieldKinds.{Reads, ReadsInside, bool_at, bool_part, each_payload, inside_short, int32_at, int32_part, int32s_at, int32s_part, merged_at, options_at, options_part, packed_at, packed_part, record_part, records_at, records_part, text_at, text_part, texts_at, texts_part}
+use Rattle.codec_laws.proofs.Parts.{Part, fields, spelled, values, written}
 
 -- each part is no longer than all of them
 shorts : (ps : List Part) → length (written ps) < 2 ^ 64 → AllByRecursion (λ (p : Part). length p.bytes < 2 ^ 64) ps
@@ -53,62 +53,26 @@ each_reads means bytes n P levels (r ∷ rs) h short reads =
     ((h.0.0, reads (levels - 1) r h.0.1 (one_short n (bytes r) more short)), each_reads means bytes n P levels rs h.1 (more_short n (bytes r) more short) reads)
 
 -- ---- FieldDescriptorProto
-abbrev field_parts : FieldDescriptorProto → List Part
-field_parts x =
-    text_part 1 x.name
-    ∷ text_part 2 x.extendee
-    ∷ int32_part 3 x.number
-    ∷ int32_part 4 x.label
-    ∷ int32_part 5 x.field_type
-    ∷ text_part 6 x.type_name
-    ∷ text_part 7 x.default_value
-    ∷ options_part 8 x.options
-    ∷ int32_part 9 x.oneof_index
-    ∷ text_part 10 x.json_name
-    ∷ bool_part 17 x.proto3_optional ∷ []
-
-field_right : (levels : ℕ) (x : FieldDescriptorProto) → IsPlainField levels x → AllByRecursion IsRight (field_parts x)
-field_right levels x plain = (
-  text_right 1 (omega arith) (omega arith) x.name,
-  (
-    text_right 2 (omega arith) (omega arith) x.extendee,
-    (
-      int32_right 3 (omega arith) (omega arith) x.number plain.number,
-      (
-        int32_right 4 (omega arith) (omega arith) x.label plain.label,
-        (
-          int32_right 5 (omega arith) (omega arith) x.field_type plain.field_type,
-          (
-            text_right 6 (omega arith) (omega arith) x.type_name,
-            (
-              text_right 7 (omega arith) (omega arith) x.default_value,
-              (
-                options_right 8 (omega arith) (omega arith) x.options,
-                (
-                  int32_right 9 (omega arith) (omega arith) x.oneof_index plain.oneof_index,
-                  (
-                    text_right 10 (omega arith) (omega arith) x.json_name,
-                    (
-                      bool_right 17 (omega arith) (omega arith) x.proto3_optional,
-                      tt,
-                    ),
-                  ),
-                ),
-              ),
-            ),
-          ),
-        ),
-      ),
-    ),
-  ),
-)
+abbrev field_parts : (levels : ℕ) (x : FieldDescriptorProto) → IsPlainField levels x → List Part
+field_parts levels x plain =
+    text_part 1 (omega arith) (omega arith) x.name
+    ∷ text_part 2 (omega arith) (omega arith) x.extendee
+    ∷ int32_part 3 (omega arith) (omega arith) x.number plain.number
+    ∷ int32_part 4 (omega arith) (omega arith) x.label plain.label
+    ∷ int32_part 5 (omega arith) (omega arith) x.field_type plain.field_type
+    ∷ text_part 6 (omega arith) (omega arith) x.type_name
+    ∷ text_part 7 (omega arith) (omega arith) x.default_value
+    ∷ options_part 8 (omega arith) (omega arith) x.options
+    ∷ int32_part 9 (omega arith) (omega arith) x.oneof_index plain.oneof_index
+    ∷ text_part 10 (omega arith) (omega arith) x.json_name
+    ∷ bool_part 17 (omega arith) (omega arith) x.proto3_optional ∷ []
 
 field_reads : ReadsPlain IsField field_bytes IsPlainField
 field_reads levels x plain short =
-    let ps = field_parts x in
+    let ps = field_parts levels x plain in
     let gs = fields ps in (
       gs,
-      spelled levels ps (field_right levels x plain) short,
+      spelled levels ps short,
       record {
         name = text_at 1 gs x.name (values 1 ps);
         extendee = text_at 2 gs x.extendee (values 2 ps);
@@ -127,24 +91,15 @@ field_reads levels x plain short =
 -- ---- OneofDescriptorProto
 abbrev oneof_parts : OneofDescriptorProto → List Part
 oneof_parts x =
-    text_part 1 x.name
-    ∷ options_part 2 x.options ∷ []
-
-oneof_right : (levels : ℕ) (x : OneofDescriptorProto) → IsPlainOneof levels x → AllByRecursion IsRight (oneof_parts x)
-oneof_right levels x plain = (
-  text_right 1 (omega arith) (omega arith) x.name,
-  (
-    options_right 2 (omega arith) (omega arith) x.options,
-    tt,
-  ),
-)
+    text_part 1 (omega arith) (omega arith) x.name
+    ∷ options_part 2 (omega arith) (omega arith) x.options ∷ []
 
 oneof_reads : ReadsPlain IsOneof oneof_bytes IsPlainOneof
 oneof_reads levels x plain short =
     let ps = oneof_parts x in
     let gs = fields ps in (
       gs,
-      spelled levels ps (oneof_right levels x plain) short,
+      spelled levels ps short,
       record {
         name = text_at 1 gs x.name (values 1 ps);
         options = options_at 2 gs of.Other levels x.options plain.options (values 2 ps);
@@ -152,30 +107,18 @@ oneof_reads levels x plain short =
     )
 
 -- ---- EnumValueDescriptorProto
-abbrev enum_value_parts : EnumValueDescriptorProto → List Part
-enum_value_parts x =
-    text_part 1 x.name
-    ∷ int32_part 2 x.number
-    ∷ options_part 3 x.options ∷ []
-
-enum_value_right : (levels : ℕ) (x : EnumValueDescriptorProto) → IsPlainEnumValue levels x → AllByRecursion IsRight (enum_value_parts x)
-enum_value_right levels x plain = (
-  text_right 1 (omega arith) (omega arith) x.name,
-  (
-    int32_right 2 (omega arith) (omega arith) x.number plain.number,
-    (
-      options_right 3 (omega arith) (omega arith) x.options,
-      tt,
-    ),
-  ),
-)
+abbrev enum_value_parts : (levels : ℕ) (x : EnumValueDescriptorProto) → IsPlainEnumValue levels x → List Part
+enum_value_parts levels x plain =
+    text_part 1 (omega arith) (omega arith) x.name
+    ∷ int32_part 2 (omega arith) (omega arith) x.number plain.number
+    ∷ options_part 3 (omega arith) (omega arith) x.options ∷ []
 
 enum_value_reads : ReadsPlain IsEnumValue enum_value_bytes IsPlainEnumValue
 enum_value_reads levels x plain short =
-    let ps = enum_value_parts x in
+    let ps = enum_value_parts levels x plain in
     let gs = fields ps in (
       gs,
-      spelled levels ps (enum_value_right levels x plain) short,
+      spelled levels ps short,
       record {
         name = text_at 1 gs x.name (values 1 ps);
         number = int32_at 2 gs x.number plain.number (values 2 ps);
@@ -184,26 +127,17 @@ enum_value_reads levels x plain short =
     )
 
 -- ---- EnumReservedRange
-abbrev enum_range_parts : EnumReservedRange → List Part
-enum_range_parts x =
-    int32_part 1 x.start
-    ∷ int32_part 2 x.end ∷ []
-
-enum_range_right : (levels : ℕ) (x : EnumReservedRange) → IsPlainEnumRange levels x → AllByRecursion IsRight (enum_range_parts x)
-enum_range_right levels x plain = (
-  int32_right 1 (omega arith) (omega arith) x.start plain.start,
-  (
-    int32_right 2 (omega arith) (omega arith) x.end plain.end,
-    tt,
-  ),
-)
+abbrev enum_range_parts : (levels : ℕ) (x : EnumReservedRange) → IsPlainEnumRange levels x → List Part
+enum_range_parts levels x plain =
+    int32_part 1 (omega arith) (omega arith) x.start plain.start
+    ∷ int32_part 2 (omega arith) (omega arith) x.end plain.end ∷ []
 
 enum_range_reads : ReadsPlain IsEnumRange enum_range_bytes IsPlainEnumRange
 enum_range_reads levels x plain short =
-    let ps = enum_range_parts x in
+    let ps = enum_range_parts levels x plain in
     let gs = fields ps in (
       gs,
-      spelled levels ps (enum_range_right levels x plain) short,
+      spelled levels ps short,
       record {
         start = int32_at 1 gs x.start plain.start (values 1 ps);
         end = int32_at 2 gs x.end plain.end (values 2 ps);
@@ -213,29 +147,11 @@ enum_range_reads levels x plain short =
 -- ---- EnumDescriptorProto
 abbrev enum_parts : EnumDescriptorProto → List Part
 enum_parts x =
-    text_part 1 x.name
-    ∷ records_part enum_value_bytes 2 x.value.items
-    ∷ options_part 3 x.options
-    ∷ records_part enum_range_bytes 4 x.reserved_range.items
-    ∷ texts_part 5 x.reserved_name.items ∷ []
-
-enum_right : (levels : ℕ) (x : EnumDescriptorProto) → IsPlainEnum levels x → AllByRecursion IsRight (enum_parts x)
-enum_right levels x plain = (
-  text_right 1 (omega arith) (omega arith) x.name,
-  (
-    records_right 2 (omega arith) (omega arith) enum_value_bytes x.value.items,
-    (
-      options_right 3 (omega arith) (omega arith) x.options,
-      (
-        records_right 4 (omega arith) (omega arith) enum_range_bytes x.reserved_range.items,
-        (
-          texts_right 5 (omega arith) (omega arith) x.reserved_name.items,
-          tt,
-        ),
-      ),
-    ),
-  ),
-)
+    text_part 1 (omega arith) (omega arith) x.name
+    ∷ records_part 2 (omega arith) (omega arith) enum_value_bytes x.value.items
+    ∷ options_part 3 (omega arith) (omega arith) x.options
+    ∷ records_part 4 (omega arith) (omega arith) enum_range_bytes x.reserved_range.items
+    ∷ texts_part 5 (omega arith) (omega arith) x.reserved_name.items ∷ []
 
 enum_reads : ReadsPlain IsEnum enum_bytes IsPlainEnum
 enum_reads levels x plain short =
@@ -243,7 +159,7 @@ enum_reads levels x plain short =
     let gs = fields ps in
     let each = shorts ps short in (
       gs,
-      spelled levels ps (enum_right levels x plain) short,
+      spelled levels ps short,
       record {
         name = text_at 1 gs x.name (values 1 ps);
         value = records_at 2 gs IsEnumValue enum_value_bytes levels x.value
@@ -258,40 +174,19 @@ enum_reads levels x plain short =
 -- ---- MethodDescriptorProto
 abbrev method_parts : MethodDescriptorProto → List Part
 method_parts x =
-    text_part 1 x.name
-    ∷ text_part 2 x.input_type
-    ∷ text_part 3 x.output_type
-    ∷ options_part 4 x.options
-    ∷ bool_part 5 x.client_streaming
-    ∷ bool_part 6 x.server_streaming ∷ []
-
-method_right : (levels : ℕ) (x : MethodDescriptorProto) → IsPlainMethod levels x → AllByRecursion IsRight (method_parts x)
-method_right levels x plain = (
-  text_right 1 (omega arith) (omega arith) x.name,
-  (
-    text_right 2 (omega arith) (omega arith) x.input_type,
-    (
-      text_right 3 (omega arith) (omega arith) x.output_type,
-      (
-        options_right 4 (omega arith) (omega arith) x.options,
-        (
-          bool_right 5 (omega arith) (omega arith) x.client_streaming,
-          (
-            bool_right 6 (omega arith) (omega arith) x.server_streaming,
-            tt,
-          ),
-        ),
-      ),
-    ),
-  ),
-)
+    text_part 1 (omega arith) (omega arith) x.name
+    ∷ text_part 2 (omega arith) (omega arith) x.input_type
+    ∷ text_part 3 (omega arith) (omega arith) x.output_type
+    ∷ options_part 4 (omega arith) (omega arith) x.options
+    ∷ bool_part 5 (omega arith) (omega arith) x.client_streaming
+    ∷ bool_part 6 (omega arith) (omega arith) x.server_streaming ∷ []
 
 method_reads : ReadsPlain IsMethod method_bytes IsPlainMethod
 method_reads levels x plain short =
     let ps = method_parts x in
     let gs = fields ps in (
       gs,
-      spelled levels ps (method_right levels x plain) short,
+      spelled levels ps short,
       record {
         name = text_at 1 gs x.name (values 1 ps);
         input_type = text_at 2 gs x.input_type (values 2 ps);
@@ -305,21 +200,9 @@ method_reads levels x plain short =
 -- ---- ServiceDescriptorProto
 abbrev service_parts : ServiceDescriptorProto → List Part
 service_parts x =
-    text_part 1 x.name
-    ∷ records_part method_bytes 2 x.method.items
-    ∷ options_part 3 x.options ∷ []
-
-service_right : (levels : ℕ) (x : ServiceDescriptorProto) → IsPlainService levels x → AllByRecursion IsRight (service_parts x)
-service_right levels x plain = (
-  text_right 1 (omega arith) (omega arith) x.name,
-  (
-    records_right 2 (omega arith) (omega arith) method_bytes x.method.items,
-    (
-      options_right 3 (omega arith) (omega arith) x.options,
-      tt,
-    ),
-  ),
-)
+    text_part 1 (omega arith) (omega arith) x.name
+    ∷ records_part 2 (omega arith) (omega arith) method_bytes x.method.items
+    ∷ options_part 3 (omega arith) (omega arith) x.options ∷ []
 
 service_reads : ReadsPlain IsService service_bytes IsPlainService
 service_reads levels x plain short =
@@ -327,7 +210,7 @@ service_reads levels x plain short =
     let gs = fields ps in
     let each = shorts ps short in (
       gs,
-      spelled levels ps (service_right levels x plain) short,
+      spelled levels ps short,
       record {
         name = text_at 1 gs x.name (values 1 ps);
         method = records_at 2 gs IsMethod method_bytes levels x.method
@@ -339,36 +222,18 @@ service_reads levels x plain short =
 -- ---- Location
 abbrev location_parts : Location → List Part
 location_parts x =
-    packed_part 1 x.path.items
-    ∷ packed_part 2 x.span.items
-    ∷ text_part 3 x.leading_comments
-    ∷ text_part 4 x.trailing_comments
-    ∷ texts_part 6 x.leading_detached_comments.items ∷ []
-
-location_right : (levels : ℕ) (x : Location) → IsPlainLocation levels x → AllByRecursion IsRight (location_parts x)
-location_right levels x plain = (
-  packed_right 1 (omega arith) (omega arith) x.path.items,
-  (
-    packed_right 2 (omega arith) (omega arith) x.span.items,
-    (
-      text_right 3 (omega arith) (omega arith) x.leading_comments,
-      (
-        text_right 4 (omega arith) (omega arith) x.trailing_comments,
-        (
-          texts_right 6 (omega arith) (omega arith) x.leading_detached_comments.items,
-          tt,
-        ),
-      ),
-    ),
-  ),
-)
+    packed_part 1 (omega arith) (omega arith) x.path.items
+    ∷ packed_part 2 (omega arith) (omega arith) x.span.items
+    ∷ text_part 3 (omega arith) (omega arith) x.leading_comments
+    ∷ text_part 4 (omega arith) (omega arith) x.trailing_comments
+    ∷ texts_part 6 (omega arith) (omega arith) x.leading_detached_comments.items ∷ []
 
 location_reads : ReadsPlain IsLocation location_bytes IsPlainLocation
 location_reads levels x plain short =
     let ps = location_parts x in
     let gs = fields ps in (
       gs,
-      spelled levels ps (location_right levels x plain) short,
+      spelled levels ps short,
       record {
         path = packed_at 1 gs x.path plain.path (values 1 ps);
         span = packed_at 2 gs x.span plain.span (values 2 ps);
@@ -381,13 +246,7 @@ location_reads levels x plain short =
 -- ---- SourceCodeInfo
 abbrev source_info_parts : SourceCodeInfo → List Part
 source_info_parts x =
-    records_part location_bytes 1 x.location.items ∷ []
-
-source_info_right : (levels : ℕ) (x : SourceCodeInfo) → IsPlainSourceInfo levels x → AllByRecursion IsRight (source_info_parts x)
-source_info_right levels x plain = (
-  records_right 1 (omega arith) (omega arith) location_bytes x.location.items,
-  tt,
-)
+    records_part 1 (omega arith) (omega arith) location_bytes x.location.items ∷ []
 
 source_info_reads : ReadsPlain IsSourceInfo source_info_bytes IsPlainSourceInfo
 source_info_reads levels x plain short =
@@ -395,7 +254,7 @@ source_info_reads levels x plain short =
     let gs = fields ps in
     let each = shorts ps short in (
       gs,
-      spelled levels ps (source_info_right levels x plain) short,
+      spelled levels ps short,
       record {
         location = records_at 1 gs IsLocation location_bytes levels x.location
             (each_reads IsLocation location_bytes 1 IsPlainLocation levels x.location.items plain.location each.0 location_reads) (values 1 ps);
@@ -403,30 +262,18 @@ source_info_reads levels x plain short =
     )
 
 -- ---- ExtensionRange
-abbrev extension_range_parts : ExtensionRange → List Part
-extension_range_parts x =
-    int32_part 1 x.start
-    ∷ int32_part 2 x.end
-    ∷ options_part 3 x.options ∷ []
-
-extension_range_right : (levels : ℕ) (x : ExtensionRange) → IsPlainExtensionRange levels x → AllByRecursion IsRight (extension_range_parts x)
-extension_range_right levels x plain = (
-  int32_right 1 (omega arith) (omega arith) x.start plain.start,
-  (
-    int32_right 2 (omega arith) (omega arith) x.end plain.end,
-    (
-      options_right 3 (omega arith) (omega arith) x.options,
-      tt,
-    ),
-  ),
-)
+abbrev extension_range_parts : (levels : ℕ) (x : ExtensionRange) → IsPlainExtensionRange levels x → List Part
+extension_range_parts levels x plain =
+    int32_part 1 (omega arith) (omega arith) x.start plain.start
+    ∷ int32_part 2 (omega arith) (omega arith) x.end plain.end
+    ∷ options_part 3 (omega arith) (omega arith) x.options ∷ []
 
 extension_range_reads : ReadsPlain IsExtensionRange extension_range_bytes IsPlainExtensionRange
 extension_range_reads levels x plain short =
-    let ps = extension_range_parts x in
+    let ps = extension_range_parts levels x plain in
     let gs = fields ps in (
       gs,
-      spelled levels ps (extension_range_right levels x plain) short,
+      spelled levels ps short,
       record {
         start = int32_at 1 gs x.start plain.start (values 1 ps);
         end = int32_at 2 gs x.end plain.end (values 2 ps);
@@ -435,26 +282,17 @@ extension_range_reads levels x plain short =
     )
 
 -- ---- ReservedRange
-abbrev reserved_range_parts : ReservedRange → List Part
-reserved_range_parts x =
-    int32_part 1 x.start
-    ∷ int32_part 2 x.end ∷ []
-
-reserved_range_right : (levels : ℕ) (x : ReservedRange) → IsPlainReservedRange levels x → AllByRecursion IsRight (reserved_range_parts x)
-reserved_range_right levels x plain = (
-  int32_right 1 (omega arith) (omega arith) x.start plain.start,
-  (
-    int32_right 2 (omega arith) (omega arith) x.end plain.end,
-    tt,
-  ),
-)
+abbrev reserved_range_parts : (levels : ℕ) (x : ReservedRange) → IsPlainReservedRange levels x → List Part
+reserved_range_parts levels x plain =
+    int32_part 1 (omega arith) (omega arith) x.start plain.start
+    ∷ int32_part 2 (omega arith) (omega arith) x.end plain.end ∷ []
 
 reserved_range_reads : ReadsPlain IsReservedRange reserved_range_bytes IsPlainReservedRange
 reserved_range_reads levels x plain short =
-    let ps = reserved_range_parts x in
+    let ps = reserved_range_parts levels x plain in
     let gs = fields ps in (
       gs,
-      spelled levels ps (reserved_range_right levels x plain) short,
+      spelled levels ps short,
       record {
         start = int32_at 1 gs x.start plain.start (values 1 ps);
         end = int32_at 2 gs x.end plain.end (values 2 ps);
@@ -464,49 +302,16 @@ reserved_range_reads levels x plain short =
 -- ---- DescriptorProto
 abbrev message_parts : DescriptorProto-F DescriptorProto → List Part
 message_parts x =
-    text_part 1 x.name
-    ∷ records_part field_bytes 2 x.field.items
-    ∷ records_part message_bytes 3 x.nested_type.items
-    ∷ records_part enum_bytes 4 x.enum_type.items
-    ∷ records_part extension_range_bytes 5 x.extension_range.items
-    ∷ records_part field_bytes 6 x.extension.items
-    ∷ options_part 7 x.options
-    ∷ records_part oneof_bytes 8 x.oneof_decl.items
-    ∷ records_part reserved_range_bytes 9 x.reserved_range.items
-    ∷ texts_part 10 x.reserved_name.items ∷ []
-
-message_right : (x : DescriptorProto-F DescriptorProto) → AllByRecursion IsRight (message_parts x)
-message_right x = (
-  text_right 1 (omega arith) (omega arith) x.name,
-  (
-    records_right 2 (omega arith) (omega arith) field_bytes x.field.items,
-    (
-      records_right 3 (omega arith) (omega arith) message_bytes x.nested_type.items,
-      (
-        records_right 4 (omega arith) (omega arith) enum_bytes x.enum_type.items,
-        (
-          records_right 5 (omega arith) (omega arith) extension_range_bytes x.extension_range.items,
-          (
-            records_right 6 (omega arith) (omega arith) field_bytes x.extension.items,
-            (
-              options_right 7 (omega arith) (omega arith) x.options,
-              (
-                records_right 8 (omega arith) (omega arith) oneof_bytes x.oneof_decl.items,
-                (
-                  records_right 9 (omega arith) (omega arith) reserved_range_bytes x.reserved_range.items,
-                  (
-                    texts_right 10 (omega arith) (omega arith) x.reserved_name.items,
-                    tt,
-                  ),
-                ),
-              ),
-            ),
-          ),
-        ),
-      ),
-    ),
-  ),
-)
+    text_part 1 (omega arith) (omega arith) x.name
+    ∷ records_part 2 (omega arith) (omega arith) field_bytes x.field.items
+    ∷ records_part 3 (omega arith) (omega arith) message_bytes x.nested_type.items
+    ∷ records_part 4 (omega arith) (omega arith) enum_bytes x.enum_type.items
+    ∷ records_part 5 (omega arith) (omega arith) extension_range_bytes x.extension_range.items
+    ∷ records_part 6 (omega arith) (omega arith) field_bytes x.extension.items
+    ∷ options_part 7 (omega arith) (omega arith) x.options
+    ∷ records_part 8 (omega arith) (omega arith) oneof_bytes x.oneof_decl.items
+    ∷ records_part 9 (omega arith) (omega arith) reserved_range_bytes x.reserved_range.items
+    ∷ texts_part 10 (omega arith) (omega arith) x.reserved_name.items ∷ []
 
 messages_zip : (inner : Value → DescriptorProto → Type 0) (n : ℕ) (P : DescriptorProto → Type 0) (ms : List DescriptorProto) → AllByRecursion P ms → length (records_field message_bytes n ms) < 2 ^ 64
     → ((m : DescriptorProto) → P m → length (message_bytes m) < 2 ^ 64 → inner (payload (message_bytes m)) m) → AllZip inner (map value_of (each_payload message_bytes ms ++ [])) ms
@@ -523,7 +328,7 @@ message_reads (suc levels) m plain short =
     let gs = fields ps in
     let all : length (written ps) < 2 ^ 64 = subst (λ bs. length bs < 2 ^ 64) (message_bytes-out m) short in
     let each = shorts ps all in
-    let spells = subst (λ bs. SpellsFields levels bs gs) (sym (message_bytes-out m)) (spelled levels ps (message_right x) all) in (
+    let spells = subst (λ bs. SpellsFields levels bs gs) (sym (message_bytes-out m)) (spelled levels ps all) in (
       gs,
       (message_bytes m, (omega arith, refl), spells),
       record {
@@ -550,61 +355,22 @@ message_reads (suc levels) m plain short =
     )
 
 -- ---- FileDescriptorProto
-abbrev file_parts : FileDescriptorProto → List Part
-file_parts x =
-    text_part 1 x.name
-    ∷ text_part 2 x.package
-    ∷ texts_part 3 x.dependency.items
-    ∷ records_part message_bytes 4 x.message_type.items
-    ∷ records_part enum_bytes 5 x.enum_type.items
-    ∷ records_part service_bytes 6 x.service.items
-    ∷ records_part field_bytes 7 x.extension.items
-    ∷ options_part 8 x.options
-    ∷ record_part source_info_bytes 9 x.source_code_info
-    ∷ int32s_part 10 x.public_dependency.items
-    ∷ int32s_part 11 x.weak_dependency.items
-    ∷ text_part 12 x.syntax ∷ []
+abbrev file_parts : (levels : ℕ) (x : FileDescriptorProto) → IsPlainFile levels x → List Part
+file_parts levels x plain =
+    text_part 1 (omega arith) (omega arith) x.name
+    ∷ text_part 2 (omega arith) (omega arith) x.package
+    ∷ texts_part 3 (omega arith) (omega arith) x.dependency.items
+    ∷ records_part 4 (omega arith) (omega arith) message_bytes x.message_type.items
+    ∷ records_part 5 (omega arith) (omega arith) enum_bytes x.enum_type.items
+    ∷ records_part 6 (omega arith) (omega arith) service_bytes x.service.items
+    ∷ records_part 7 (omega arith) (omega arith) field_bytes x.extension.items
+    ∷ options_part 8 (omega arith) (omega arith) x.options
+    ∷ record_part 9 (omega arith) (omega arith) source_info_bytes x.source_code_info
+    ∷ int32s_part 10 (omega arith) (omega arith) x.public_dependency.items plain.public_dependency
+    ∷ int32s_part 11 (omega arith) (omega arith) x.weak_dependency.items plain.weak_dependency
+    ∷ text_part 12 (omega arith) (omega arith) x.syntax ∷ []
 
-file_right : (levels : ℕ) (x : FileDescriptorProto) → IsPlainFile levels x → AllByRecursion IsRight (file_parts x)
-file_right levels x plain = (
-  text_right 1 (omega arith) (omega arith) x.name,
-  (
-    text_right 2 (omega arith) (omega arith) x.package,
-    (
-      texts_right 3 (omega arith) (omega arith) x.dependency.items,
-      (
-        records_right 4 (omega arith) (omega arith) message_bytes x.message_type.items,
-        (
-          records_right 5 (omega arith) (omega arith) enum_bytes x.enum_type.items,
-          (
-            records_right 6 (omega arith) (omega arith) service_bytes x.service.items,
-            (
-              records_right 7 (omega arith) (omega arith) field_bytes x.extension.items,
-              (
-                options_right 8 (omega arith) (omega arith) x.options,
-                (
-                  record_right 9 (omega arith) (omega arith) source_info_bytes x.source_code_info,
-                  (
-                    int32s_right 10 (omega arith) (omega arith) x.public_dependency.items plain.public_dependency,
-                    (
-                      int32s_right 11 (omega arith) (omega arith) x.weak_dependency.items plain.weak_dependency,
-                      (
-                        text_right 12 (omega arith) (omega arith) x.syntax,
-                        tt,
-                      ),
-                    ),
-                  ),
-                ),
-              ),
-            ),
-          ),
-        ),
-      ),
-    ),
-  ),
-)
-
-source_info_there : (levels : ℕ) (o : Option SourceCodeInfo) → IfThere (IsInside IsPlainSourceInfo levels) o → length (record_part source_info_bytes 9 o).bytes < 2 ^ 64
+source_info_there : (levels : ℕ) (o : Option SourceCodeInfo) → IfThere (IsInside IsPlainSourceInfo levels) o → length (record_field source_info_bytes 9 o) < 2 ^ 64
     → IfThere (ReadsInside IsSourceInfo source_info_bytes levels) o
 source_info_there levels None plain short = tt
 source_info_there levels (Some s) plain short =
@@ -613,11 +379,11 @@ source_info_there levels (Some s) plain short =
 
 file_reads : ReadsPlain IsFile file_bytes IsPlainFile
 file_reads levels x plain short =
-    let ps = file_parts x in
+    let ps = file_parts levels x plain in
     let gs = fields ps in
     let each = shorts ps short in (
       gs,
-      spelled levels ps (file_right levels x plain) short,
+      spelled levels ps short,
       record {
         name = text_at 1 gs x.name (values 1 ps);
         package_name = text_at 2 gs x.package (values 2 ps);
@@ -644,7 +410,7 @@ file_read f plain short = file_reads 100 f plain short
 
 -- ---- FileDescriptorSet
 abbrev set_parts : FileDescriptorSet → List Part
-set_parts s = records_part file_bytes 1 s.file.items ∷ []
+set_parts s = records_part 1 (omega arith) (omega arith) file_bytes s.file.items ∷ []
 
 pub set_read : (s : FileDescriptorSet) → IsPlainSet s → length (set_bytes s) < 2 ^ 64 → IsSetBytes (set_bytes s) s
 set_read s plain short =
@@ -652,7 +418,7 @@ set_read s plain short =
     let gs = fields ps in
     let each = shorts ps short in (
       gs,
-      spelled 100 ps (records_right 1 (omega arith) (omega arith) file_bytes s.file.items, tt) short,
+      spelled 100 ps short,
       record {
         file = records_at 1 gs IsFile file_bytes 100 s.file (each_reads IsFile file_bytes 1 IsPlainFile 100 s.file.items plain each.0 file_reads) (values 1 ps);
       },
