@@ -41,7 +41,7 @@ use Rattle.reflect_declarations.specs.Tree.{MessageParts}
 use Rattle.schema_view.specs.Declarations as view
 use Rattle.schema_view.specs.Files.{is_proto3}
 use Rattle.schema_view.specs.Lawful.{outlines, all_linked, IsLawful, IsOneMap, KeepsForExtensions, Meanings}
-use Rattle.schema_view.specs.Means.{Means as IsMeaning}
+use Rattle.schema_view.specs.Means.{ReferenceMeans}
 use Rattle.schema_view.specs.Outlines.{head_of, outline_of, sort_of, IsDeclared}
 use Rattle.schema_view.specs.References.{Reference as Naming, Target, dotted, linked}
 use Rattle.schema_view.proofs.Batches.{linked_once}
@@ -179,7 +179,7 @@ module _ (earlier : List (List FileContent)) (old : PoolType) (w : Linking)
 
   linked_same : all_linked meanings more ≡ all_linked meant more
   linked_same = linked_once (outlines (given ++ more)) lawful.apart meanings meant more lawful.means
-      (λ f r i j. subst (λ fs. IsMeaning (outlines fs) (outline_of f) r (meant f r))
+      (λ f r i j. subst (λ fs. ReferenceMeans (outlines fs) (outline_of f) r (meant f r))
       (map-append file_view old.records ns)
       (files_mean all known known_all indexes sees w.first ns names_at seen_all
       (are_meant old w ns meanings built.named is lawful) f r i j))

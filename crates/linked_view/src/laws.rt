@@ -146,7 +146,8 @@ pub fn references_have_no_fault_where_they_mean_something()
         (at : ℕ → Places) (before : Offsets) (first : ℕ)
         → AreKnown files known → AreSeenBy files first new sees
         → Each IsComplete (map file_view new)
-        → ((reference_faults_along at (views_of known sees) (batch_declarations before first new) ≡ [])
+        → ((reference_faults_along at (views_of known sees)
+        (batch_declarations before first new) ≡ [])
         ↔ (Each IsLabelled (map file_view new) × Each IsTyped (map file_view new)
         × AreMeant (outlines (map file_view files)) (map file_view new))) }
 {}
@@ -253,9 +254,10 @@ pub fn accepted_defaults_are_values()
     ensures { (old new : PoolType) (files : List FileDescriptorProto) → IsWellNamed old
         → IsIndexed new → IsKept new → TellsValues old → FaultlessFiles old files new
         → (w : Linking) × IsOf old w
-        × (l : AreLawfulAlone (map file_view old.records) (map file_view (new_files w.indexes files))
-        (map file_view new.records))
-        × SuitEnums (map file_view old.records) (map file_view (new_files w.indexes files)) l.meanings }
+        × (l : AreLawfulAlone (map file_view old.records)
+        (map file_view (new_files w.indexes files)) (map file_view new.records))
+        × SuitEnums (map file_view old.records) (map file_view (new_files w.indexes files))
+        l.meanings }
 {}
 
 /// Where files are accepted, each extension of theirs has a number that the message that it extends
@@ -264,9 +266,10 @@ pub fn accepted_numbers_are_kept()
     ensures { (old new : PoolType) (files : List FileDescriptorProto) → IsWellNamed old
         → IsKept new → FaultlessFiles old files new
         → (w : Linking) × IsOf old w
-        × (l : AreLawfulAlone (map file_view old.records) (map file_view (new_files w.indexes files))
-        (map file_view new.records))
-        × KeepNumbers (map file_view old.records) (map file_view (new_files w.indexes files)) l.meanings }
+        × (l : AreLawfulAlone (map file_view old.records)
+        (map file_view (new_files w.indexes files)) (map file_view new.records))
+        × KeepNumbers (map file_view old.records) (map file_view (new_files w.indexes files))
+        l.meanings }
 {}
 
 /// Where files are accepted, the type of a map's entries that they declare is the type of one of
@@ -275,13 +278,13 @@ pub fn accepted_entries_have_one_use()
     ensures { (old new : PoolType) (files : List FileDescriptorProto) → IsWellNamed old
         → IsIndexed new → IsKept new → FaultlessFiles old files new
         → (w : Linking) × IsOf old w
-        × (l : AreLawfulAlone (map file_view old.records) (map file_view (new_files w.indexes files))
-        (map file_view new.records))
+        × (l : AreLawfulAlone (map file_view old.records)
+        (map file_view (new_files w.indexes files)) (map file_view new.records))
         × HaveOneUse (all_linked l.meanings (map file_view (new_files w.indexes files))) }
 {}
 
-/// A pool without files tells of the types of maps' entries that its records declare, and so it stays
-/// where files are accepted.
+/// A pool without files tells of the types of maps' entries that its records declare, and so it
+/// stays where files are accepted.
 pub fn pools_tell_of_entries()
     ensures empty { TellsEntries empty_pool }
     ensures kept { (old new : PoolType) (files : List FileDescriptorProto) → IsWellNamed old
@@ -298,8 +301,8 @@ pub fn pools_have_declared_entries()
         → FaultlessFiles old files new → HasDeclaredEntries new }
 {}
 
-/// Behind a pool that batches built, accepted files are added: they are lawful behind the pool's own,
-/// and the pool's new records are its own and behind them these, linked.
+/// Behind a pool that batches built, accepted files are added: they are lawful behind the pool's
+/// own, and the pool's new records are its own and behind them these, linked.
 pub fn accepted_files_are_added()
     ensures { (earlier : List (List FileContent)) (old new : PoolType)
         (files : List FileDescriptorProto) → IsBuilt earlier old → IsIndexed new → IsKept new
@@ -309,8 +312,8 @@ pub fn accepted_files_are_added()
         (map file_view new.records) }
 {}
 
-/// A pool without files is built of no batch, and where files are accepted of one more, of those that
-/// the pool has not yet: what is asked of the new pool beside this its type keeps, as
+/// A pool without files is built of no batch, and where files are accepted of one more, of those
+/// that the pool has not yet: what is asked of the new pool beside this its type keeps, as
 /// `pools_are_recorded`, `pools_are_indexed` and `pools_are_linked` say.
 pub fn pools_are_built()
     ensures empty { IsBuilt [] empty_pool }

@@ -8,4 +8,5 @@ use Rattle.reflect_decode.specs.Spelled.{IsMerged}
 abbrev pub MergesEach : MessageDescriptor → DynamicMessage → List (List ℕ) → DynamicMessage → Type 0
 MergesEach d old [] new = old ≡ new
 MergesEach d old (b ∷ bs) new =
-    (next : DynamicMessage) × (next.descriptor ≡ d) × IsMerged d b old next × MergesEach d next bs new
+    (next : DynamicMessage) × (next.descriptor ≡ d) × IsMerged d b old next
+    × MergesEach d next bs new

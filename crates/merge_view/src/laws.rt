@@ -26,12 +26,14 @@ pub fn merged_bytes_mean_what_they_leave()
     ensures { (d : MessageDescriptor) → IsSound d.pool.now → (bytes : List ℕ) → AreBytes bytes
         → (old new : DynamicMessage) → old.descriptor ≡ d → new.descriptor ≡ d
         → Suits 100 d (content_of old)
-        → (levels : ℕ) → IsTyped levels (types_of d.pool.now) (name_at d.pool.now d.index) (view old)
+        → (levels : ℕ)
+        → IsTyped levels (types_of d.pool.now) (name_at d.pool.now d.index) (view old)
         → IsMerged d bytes old new
         → AreMerged (types_of d.pool.now) (name_at d.pool.now d.index) (view old) bytes (view new) }
 {}
 
-/// It suits the type again, in both words, where the message was as deep as bytes may be, or deeper.
+/// It suits the type again, in both words, where the message was as deep as bytes may be, or
+/// deeper.
 pub fn merged_messages_suit_the_type()
     ensures { (d : MessageDescriptor) → IsSound d.pool.now → (bytes : List ℕ) → AreBytes bytes
         → (old new : DynamicMessage) → old.descriptor ≡ d → new.descriptor ≡ d

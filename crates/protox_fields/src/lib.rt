@@ -1,5 +1,5 @@
-//! Reads what of messages nothing nests in off the tokens of a source: fields, what all fields have,
-//! flat statements, and what oneofs and extensions begin with.
+//! Reads what of messages nothing nests in off the tokens of a source: fields, what all fields
+//! have, flat statements, and what oneofs and extensions begin with.
 #![tactic(auto)]
 
 mod field;

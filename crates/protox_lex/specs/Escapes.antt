@@ -8,7 +8,8 @@ abbrev pub octal_escape : ℕ → List ℕ
 octal_escape b = 92 ∷ padded_integral (format_spec 32 0 4 3 (2 ^ 64 - 1)) false []
     (digits 8 false b)
 
--- `\t`, `\r`, `\n`, `\'`, `\"`, `\\`; other printable ASCII as itself, and other bytes in octal digits
+-- `\t`, `\r`, `\n`, `\'`, `\"`, `\\`; other printable ASCII as itself, and other bytes in octal
+-- digits
 abbrev pub escaped_byte : ℕ → List ℕ
 escaped_byte b =
     if b == 9 then 92 ∷ 116 ∷ []

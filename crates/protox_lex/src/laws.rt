@@ -1,7 +1,9 @@
 //! Laws of a source's tokens, each the contract of a function that does nothing.
 //!
-//! `Lexes at z ts` says that the text `z`, which begins at the place `at`, is cut into `ts` by the longest match: each piece is spelled as "Lexical
-//! elements" of the protobuf language specification has it, no longer front of what is left is a piece, and a fault is true where it stands.
+//! `Lexes at z ts` says that the text `z`, which begins at the place `at`, is cut into `ts` by the
+//! longest match: each piece is spelled as "Lexical elements" of the protobuf language
+//! specification has it, no longer front of what is left is a piece, and a fault is true where it
+//! stands.
 ghost use Rattle.protox_lex.specs.Class.{Text};
 ghost use Rattle.protox_lex.specs.Lex.{lexemes, unescaped};
 ghost use Rattle.protox_lex.specs.Longest.{Lexes};

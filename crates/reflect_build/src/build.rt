@@ -78,8 +78,8 @@ fn add_new(
     outcome
 }
 
-/// The same refusal, but for one that there is too much of something, which is want of memory: where
-/// each has an index, a walk ends early for nothing else.
+/// The same refusal, but for one that there is too much of something, which is want of memory:
+/// where each has an index, a walk ends early for nothing else.
 fn not_of_many(alloc: Global, error: DescriptorError) -> DescriptorError
     ensures kept { (result ≡ error) ⊎ (faults_of result ≡ another ∷ []) }
     ensures few { is_too_many result.first ≡ false }
@@ -152,10 +152,10 @@ pub trait BuildFiles {
     /// Adds files, linked with each other and with those that are there. Files whose names the pool
     /// has are passed over.
     ///
-    /// Files are accepted only where no pass finds a fault. The error is `TooMany` exactly where the
-    /// pool's files, types, extensions and services, and all that files declare which it has not,
-    /// are 2^31 or more; else it lists exactly the faults of the first faulty pass, or is `Memory`.
-    /// After a refusal the pool is as it was.
+    /// Files are accepted only where no pass finds a fault. The error is `TooMany` exactly where
+    /// the pool's files, types, extensions and services, and all that files declare which it has
+    /// not, are 2^31 or more; else it lists exactly the faults of the first faulty pass, or is
+    /// `Memory`. After a refusal the pool is as it was.
     fn build_files(
         &mut self,
         alloc: Global,

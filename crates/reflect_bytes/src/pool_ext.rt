@@ -77,8 +77,8 @@ impl<T: Drop> From<AllocFailed<T>> for PoolError {
 }
 
 /// Calls that link files into a pool. They read no options. Files whose names the pool has are
-/// passed over, and a refusal leaves the pool as it was: `Wire` where bytes spell no such files, with
-/// what is so of them, `Link` with exactly the faults of the first pass that finds any.
+/// passed over, and a refusal leaves the pool as it was: `Wire` where bytes spell no such files,
+/// with what is so of them, `Link` with exactly the faults of the first pass that finds any.
 pub trait PoolExt: Sized {
     /// What the pool holds.
     ghost holds: { Self → PoolType };

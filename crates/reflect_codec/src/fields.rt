@@ -100,8 +100,8 @@ fn raw_value_at(
     }
 }
 
-/// For how many fields there is room at first in a record of so many bytes: enough for most, so that
-/// few lists grow.
+/// For how many fields there is room at first in a record of so many bytes: enough for most, so
+/// that few lists grow.
 fn first_room(bytes: usize) -> usize {
     (bytes / 16).clamp(8, 64)
 }

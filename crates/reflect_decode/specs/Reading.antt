@@ -106,7 +106,7 @@ abbrev pub TellsList : ℕ → WireKey → Bool → Kind → Value → List ℕ 
 TellsList levels key grouped kind old bytes r =
     IsSome (list_items old)
     → IfErr r
-        (TellsTrue (RunFault levels key (ElementFault (Within levels) grouped kind key)) bytes)
+    (TellsTrue (RunFault levels key (ElementFault (Within levels) grouped kind key)) bytes)
 
 -- one element, or a packed record
 abbrev pub ReadsElement : ℕ → WireKey → Bool → Kind → List Value → List Value → List ℕ → Outcome

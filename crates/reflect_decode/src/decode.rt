@@ -231,7 +231,8 @@ fn keep_unknown<'b>(
 
 /// Takes in a record of a field or an extension.
 ///
-/// `BadWireType` where its wire type is not that of the field, or the message holds what does not suit the field.
+/// `BadWireType` where its wire type is not that of the field, or the message holds what does not
+/// suit the field.
 #[cycle(merge)]
 fn merge_field<'p, 'b>(
     content: &mut Entries<Value<'p>>,

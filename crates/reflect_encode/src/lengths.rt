@@ -56,7 +56,8 @@ pub fn message_len(message: &DynamicMessage<'_>) -> Option<usize>
 /// The length of the records of what a message of the type holds.
 #[cycle(length)]
 fn parts_len<'p>(descriptor: MessageDescriptor<'p>, parts: &Parts<'p>) -> Option<usize>
-    ensures { let n = length (parts_bytes descriptor.entry.pool.now descriptor.entry.index parts.now)
+    ensures { let n =
+        length (parts_bytes descriptor.entry.pool.now descriptor.entry.index parts.now)
         in SomeIff result (n < 2 ^ 64) n }
 {
     let fields = fields_len(descriptor, parts)?;

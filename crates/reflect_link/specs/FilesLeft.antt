@@ -1,5 +1,5 @@
--- What the iterators over files and over their records have left: each file by its pool and its place
--- there.
+-- What the iterators over files and over their records have left: each file by its pool and its
+-- place there.
 use Rattle.std.specs.Prelude.{ℕ, List, length, map}
 use Rattle.descriptor_records.specs.declared.file.FileDescriptorProto.{FileDescriptorProto}
 use Rattle.reflect_tables.specs.Types.{PoolType}

@@ -1,5 +1,5 @@
--- What the iterators over a pool's types, extensions and services have left: each by its pool and its
--- place there.
+-- What the iterators over a pool's types, extensions and services have left: each by its pool and
+-- its place there.
 use Rattle.std.specs.Prelude.{ℕ, List, length}
 use Rattle.reflect_tables.specs.Types.{PoolType}
 use Rattle.reflect_pool.specs.PlacesLeft.{places_from}

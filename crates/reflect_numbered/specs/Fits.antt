@@ -1,7 +1,7 @@
--- Which values suit which fields (protobuf.dev, "Language Guide": Scalar Value Types, Maps), and how
--- much: on the surface a message is of its field's type, whatever it holds; in shape what is held at
--- each depth has the case of its field's kind and label; in type each message is besides of its
--- field's type.
+-- Which values suit which fields (protobuf.dev, "Language Guide": Scalar Value Types, Maps), and
+-- how much: on the surface a message is of its field's type, whatever it holds; in shape what is
+-- held at each depth has the case of its field's kind and label; in type each message is besides of
+-- its field's type.
 use Rattle.std.specs.Prelude.{◌≡◌, ℕ, ◌==◌, ◌&&◌, not, Bool, true, false, List, map, Option, None, Some, bytes_eq, string_bytes}
 use Rattle.std.specs.List.{list_all}
 use Rattle.reflect_tables.specs.Types.{PoolType, FieldType, KindType, type_at}

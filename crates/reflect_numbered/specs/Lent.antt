@@ -1,5 +1,5 @@
--- What messages end as, once a `&mut` to the value of a field that was looked for has ended, and why
--- none is lent.
+-- What messages end as, once a `&mut` to the value of a field that was looked for has ended, and
+-- why none is lent.
 use Rattle.std.specs.Prelude.{◌≡◌, ℕ, Option, Result}
 use Rattle.std.specs.Borrow.{Fml, RattleType, MutBor, LendsSoOk}
 use Rattle.reflect_entries.specs.Entries.{value_at}

@@ -66,8 +66,8 @@ pub trait TrySetField<'p> {
 
     /// Sets the field, one of the message's type, as `set_field` does.
     ///
-    /// `InvalidType` hands field and value back where the field does not take the value; then, and for want of memory,
-    /// the message is unchanged.
+    /// `InvalidType` hands field and value back where the field does not take the value; then, and
+    /// for want of memory, the message is unchanged.
     fn try_set_field(
         &mut self,
         field: &FieldDescriptor<'p>,

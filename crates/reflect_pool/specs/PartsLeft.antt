@@ -1,5 +1,5 @@
--- What the iterators over oneofs, over their members and over values have left: each by its type and
--- its place there.
+-- What the iterators over oneofs, over their members and over values have left: each by its type
+-- and its place there.
 use Rattle.std.specs.Prelude.{ℕ, List, length}
 use Rattle.reflect_tables.specs.Types.{type_at, enum_at}
 use Rattle.reflect_pool.specs.PlacesLeft.{places_from, places_in}

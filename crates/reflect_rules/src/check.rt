@@ -13,9 +13,10 @@ use std::alloc::Global;
 
 /// All that is wrong with the numbers, defaults, oneof indexes and map entries of the files.
 ///
-/// `before` are the counts of what stands before the files, and `first` the index of the first of them; `references` are what
-/// their references mean, in the order in which a walk meets them, and `types` knows the types of the files and all older ones.
-/// `TooMany` and `Memory` end the walk early.
+/// `before` are the counts of what stands before the files, and `first` the index of the first of
+/// them; `references` are what their references mean, in the order in which a walk meets them, and
+/// `types` knows the types of the files and all older ones. `TooMany` and `Memory` end the walk
+/// early.
 pub fn check_rules<T: Types>(
     alloc: Global,
     before: Offsets,

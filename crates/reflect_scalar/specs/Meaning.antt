@@ -89,5 +89,5 @@ abbrev pub ScalarFault : Kind → WireType → List ℕ → WireError → Type 0
 ScalarFault kind wire bytes BadWireType = (wire ≢ wire_type kind) ⊎ IsUnread kind
 ScalarFault kind wire bytes BadUtf8 = (wire ≡ wire_type kind)
     × ((p : Payload)
-        × ((rest : List ℕ) × Fronts (IsPlainPayload wire) bytes p rest × IsNoText kind p))
+    × ((rest : List ℕ) × Fronts (IsPlainPayload wire) bytes p rest × IsNoText kind p))
 ScalarFault kind wire bytes e = (wire ≡ wire_type kind) × PlainFault wire bytes e

@@ -201,7 +201,8 @@ impl MapKey {
 
     /// The key to be changed, if it is a text.
     pub fn as_string_mut(&mut self) -> Option<&mut String>
-        ensures* writes_back { sem 𝓛 (LendsIf the_row text_row self.entry result keys.String self.old) }
+        ensures* writes_back { sem 𝓛
+            (LendsIf the_row text_row self.entry result keys.String self.old) }
         ensures value { option_map (λ t. string_bytes t.now) result ≡ text_of (key_view self.old) }
     {
         match self {

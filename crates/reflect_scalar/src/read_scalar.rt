@@ -84,8 +84,8 @@ pub fn varint_scalar<'b>(kind: &Kind<'_>, n: u64) -> Result<Scalar<'b>, WireErro
 
 /// The value of a kind that is written so.
 ///
-/// `BadWireType` where the kind is written in another form or is none of a single value, `BadUtf8` where a string is no
-/// UTF-8.
+/// `BadWireType` where the kind is written in another form or is none of a single value, `BadUtf8`
+/// where a string is no UTF-8.
 #[inline]
 fn value_of<'b>(kind: &Kind<'_>, written: WireScalar<'b>) -> Result<Scalar<'b>, WireError>
     ensures ok { IfOk result (λ s. StandsFor kind.now (wire_view written.entry) (scalar_view s)) }
@@ -137,8 +137,8 @@ fn wire_scalar_at(wire: WireType, bytes: &[u8]) -> Result<(WireScalar<'_>, &[u8]
 
 /// The value at the front, of a kind that is no message, and the bytes behind it.
 ///
-/// `BadWireType` where the record has another wire type than the kind, `BadUtf8` where a string is no UTF-8, else as the
-/// reader of its form is refused. Takes no memory.
+/// `BadWireType` where the record has another wire type than the kind, `BadUtf8` where a string is
+/// no UTF-8, else as the reader of its form is refused. Takes no memory.
 #[inline]
 pub fn scalar_at<'b>(
     kind: &Kind<'_>,

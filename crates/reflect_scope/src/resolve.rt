@@ -258,11 +258,14 @@ fn by_full_name(
 
 /// What `name` means where it stands in `scope`, the full name of the declaration that holds it.
 ///
-/// `dependencies` are the files that are seen there. See "Packages and Name Resolution" in the public Language Guide.
+/// `dependencies` are the files that are seen there. See "Packages and Name Resolution" in the
+/// public Language Guide.
 /// - Behind a leading dot stands a full name.
-/// - A name without a dot means the innermost definition of a wanted kind that is seen; others are passed over.
-/// - Any other name is settled at the innermost scope where its first part is a package, message, service or enum, seen or
-///   not: it is `Shadowed` where the whole is not defined there, and `NotFound` where it is defined but not seen.
+/// - A name without a dot means the innermost definition of a wanted kind that is seen; others are
+///   passed over.
+/// - Any other name is settled at the innermost scope where its first part is a package, message,
+///   service or enum, seen or not: it is `Shadowed` where the whole is not defined there, and
+///   `NotFound` where it is defined but not seen.
 ///
 /// Where nothing of a wanted kind is found, it is `InvalidType` where a definition of another kind
 /// is seen under the name, picked or passed over; else `NotFound`. Packages are seen everywhere.

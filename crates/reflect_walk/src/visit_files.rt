@@ -13,7 +13,8 @@ use std::alloc::Global;
 /// Calls the visitor at each declaration of the files, the first of which has the index `first`, as
 /// `visit` does of one file.
 ///
-/// `before` counts what is declared in the files before them; the answer counts what they declare too.
+/// `before` counts what is declared in the files before them; the answer counts what they declare
+/// too.
 pub fn visit_all<V: Visitor>(
     alloc: Global,
     before: Offsets,

@@ -120,8 +120,8 @@ fn visit_messages<V: Visitor>(
 /// its parts, and parts by the number that stands for them in a path, those of one number in their
 /// order.
 ///
-/// `offsets` counts what is declared in the files before; the answer counts this file's declarations too. An index past
-/// `i32::MAX` is `TooMany`; the visitor may then have been called.
+/// `offsets` counts what is declared in the files before; the answer counts this file's
+/// declarations too. An index past `i32::MAX` is `TooMany`; the visitor may then have been called.
 pub fn visit<V: Visitor>(
     alloc: Global,
     offsets: Offsets,

@@ -104,7 +104,8 @@ pub fn push_fixed64(out: &mut Vec<u8>, n: u64) -> Result<(), AllocError>
 
 /// Makes room for a number of bytes, as the length of a value tells it.
 ///
-/// `TooLong` where there is no such number, `Memory` where there is no room. The bytes stay, whatever the answer.
+/// `TooLong` where there is no such number, `Memory` where there is no room. The bytes stay,
+/// whatever the answer.
 pub fn reserve_room(out: &mut Vec<u8>, len: Option<usize>) -> Result<(), WireError>
     ensures items { out.new.items ≡ out.old.items }
     ensures room { IfSome len (λ n. OnOk result (vec_len out.new + n ≤ vec_capacity out.new)) }

@@ -1,6 +1,6 @@
 //! Laws of the batches that a schema is built of, each the contract of a function that does
-//! nothing. With them the laws of `schema_view` speak of schemas: a batch is what was added, without
-//! the files that were there, and with the options that linking reads where it reads them.
+//! nothing. With them the laws of `schema_view` speak of schemas: a batch is what was added,
+//! without the files that were there, and with the options that linking reads where it reads them.
 ghost use Rattle.std.specs.Prelude.{◌≡◌, ◌∷◌, ℕ, List, map, Contains};
 ghost use Rattle.descriptor_records.specs.Content.{FileContent, file_view};
 ghost use Rattle.descriptor_records.specs.declared.file.FileDescriptorProto.{FileDescriptorProto};
@@ -26,8 +26,8 @@ ghost use Rattle.schema_core.specs.declared.schema.Schema.{Schema};
 ghost use Rattle.schema_laws.specs.Batches.{AreNoBatch};
 
 /// Sources that are added are one batch more, and the schema's pool still tells of its fields. What
-/// is asked of the new schema's pool each pool has, as `pools_are_recorded`, `pools_are_indexed` and
-/// `pools_are_linked` say.
+/// is asked of the new schema's pool each pool has, as `pools_are_recorded`, `pools_are_indexed`
+/// and `pools_are_linked` say.
 pub fn added_sources_are_a_batch()
     ensures { (earlier : List (List FileContent)) (old new : Schema)
         (sources : List (List ℕ × List ℕ)) → IsTyped earlier old.pool
@@ -70,8 +70,8 @@ pub fn sets_that_do_not_link_are_no_batch()
         × TypedFiles files typed × AreNoBatch is.linked old.pool typed e }
 {}
 
-/// Two schemas that the same files were added to, in whatever batches and order, have the same types,
-/// where the files' names have no dots.
+/// Two schemas that the same files were added to, in whatever batches and order, have the same
+/// types, where the files' names have no dots.
 pub fn schemas_have_one_order()
     ensures { (batches others : List (List FileContent)) (s t : Schema)
         → ((f : FileContent) → Contains (sources batches) f → IsPlainFile f)

@@ -24,7 +24,8 @@ pub record ExtendsField (old new : DynamicMessage) (f : FieldDescriptor) : Type 
 -- what stands under the extension's number may change, and nothing else is changed
 pub record ExtendsExtension (old new : DynamicMessage) (x : ExtensionDescriptor) : Type 0 where
   pub same_type : new.descriptor ≡ old.descriptor
-  pub others : (n : ℕ) → n ≢ (extension_type x).number → Same (extensions_of old) (extensions_of new) n
+  pub others : (n : ℕ) → n ≢ (extension_type x).number
+      → Same (extensions_of old) (extensions_of new) n
   pub ascending : IsAscending (extensions_of old) → IsAscending (extensions_of new)
   pub fields : fields_of new ≡ fields_of old
   pub unknown : unknown_of new ≡ unknown_of old

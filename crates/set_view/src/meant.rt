@@ -148,8 +148,8 @@ pub fn entries_that_suit_give_what_suits()
 
 /// A list that suits its field does so with elements behind it that suit.
 pub fn longer_lists_suit_the_field()
-    ensures { (depth : ℕ) (types : Types) (t : Name) (n : ℕ) (f : Field) (packed : Bool) (held : Held)
-        (cs : List Content) → types t n ≡ Some f → f.label ≡ many packed
+    ensures { (depth : ℕ) (types : Types) (t : Name) (n : ℕ) (f : Field) (packed : Bool)
+        (held : Held) (cs : List Content) → types t n ≡ Some f → f.label ≡ many packed
         → IsHeldOf (IsTyped depth types) (suc depth) (types t n) held
         → AllByRecursion (IsOf (IsTyped depth types) f.part.kind) cs
         → IsHeldOf (IsTyped depth types) (suc depth) (types t n) (if_any (items held ++ cs)) }
@@ -161,7 +161,8 @@ pub fn fuller_maps_suit_the_field()
         (es : List (Single × Content)) → types t n ≡ Some f → f.label ≡ keyed key
         → IsHeldOf (IsTyped depth types) (suc depth) (types t n) held
         → AllByRecursion (IsEntryOf (IsTyped depth types) key f.part) es
-        → IsHeldOf (IsTyped depth types) (suc depth) (types t n) (if_some (put_all (pairs held) es)) }
+        → IsHeldOf (IsTyped depth types) (suc depth) (types t n)
+        (if_some (put_all (pairs held) es)) }
 {}
 
 /// Where a message is in shape and suits its type, it still does with entries put into a field that

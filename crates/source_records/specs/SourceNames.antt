@@ -55,7 +55,8 @@ pub record IsGroupField (nested : MessageContents) (f : FieldContent) : Type 0 w
   pub lower : f.name ≡ Some (map to_ascii_lowercase type)
 
 abbrev pub HaveGroupNames : MessageContents → List FieldContent → Type 0
-HaveGroupNames nested fs = AllByRecursion (λ (f : FieldContent). IsGroup f → IsGroupField nested f) fs
+HaveGroupNames nested fs =
+    AllByRecursion (λ (f : FieldContent). IsGroup f → IsGroupField nested f) fs
 
 -- ---- entries of maps
 
@@ -79,8 +80,8 @@ IsEntry (Some options) = options.map_entry ≡ Some true
 
 -- ---- messages and files
 
--- What a message has beside the types in it. The type of a map's entries is named after its field, by
--- what may begin with a digit, and nothing is declared in it.
+-- What a message has beside the types in it. The type of a map's entries is named after its field,
+-- by what may begin with a digit, and nothing is declared in it.
 pub record HasOwnNames (name : Option Text) (fields extensions : List FieldContent)
     (nested : MessageContents) (enums : List EnumContent) (options : Option OptionsContent) : Type 0
   where

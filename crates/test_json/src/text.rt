@@ -5,8 +5,8 @@ use std::fmt::Display;
 
 /// A text that is written piece by piece.
 ///
-/// Want of memory is told when the text is taken, so that none who writes a piece of it has an error
-/// to pass on: a function that writes an answer costs a proof of each place where it returns.
+/// Want of memory is told when the text is taken, so that none who writes a piece of it has an
+/// error to pass on: a function that writes an answer costs a proof of each place where it returns.
 #[derive(Drop)]
 pub struct Text {
     written: String,

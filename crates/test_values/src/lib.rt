@@ -1,4 +1,5 @@
-//! Cases of calls of types, values and keys of maps, and what all cases of calls are given and show.
+//! Cases of calls of types, values and keys of maps, and what all cases of calls are given and
+//! show.
 #![tactic(auto)]
 
 mod answers;

@@ -318,8 +318,8 @@ impl ParseError {
     }
 
     /// The line and the column of the first byte at fault in the text that was read, both counted
-    /// from 1 and the column in bytes; nothing where `span` gives nothing, or where the text given is
-    /// another, too short to have that place. Takes no memory.
+    /// from 1 and the column in bytes; nothing where `span` gives nothing, or where the text given
+    /// is another, too short to have that place. Takes no memory.
     pub fn position(&self, text: &str) -> Option<(usize, usize)>
         ensures { result ≡ option_and_then (begins_in text.now) (place_of self.now.kind) }
     {

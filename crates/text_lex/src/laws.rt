@@ -1,7 +1,8 @@
 //! Laws of a text's tokens, each the contract of a function that does nothing.
 //!
-//! `Lexes at z ts` says that the text `z`, which begins at the place `at`, is cut into `ts` by the longest match: each piece is spelled as "Lexical
-//! elements" of the text format specification has it, no longer front of what is left is a piece, and a fault is true where it stands.
+//! `Lexes at z ts` says that the text `z`, which begins at the place `at`, is cut into `ts` by the
+//! longest match: each piece is spelled as "Lexical elements" of the text format specification has
+//! it, no longer front of what is left is a piece, and a fault is true where it stands.
 ghost use Rattle.protox_lex.specs.Class.{Text};
 ghost use Rattle.std.specs.Prelude.{◌≡◌, ℕ, ◌+◌, List, length};
 ghost use Rattle.text_lex.specs.Lex.{lexemes};

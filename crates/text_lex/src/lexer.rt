@@ -274,8 +274,9 @@ fn source_token(rest: &str, at: usize) -> Result<(Token<'_>, usize), LexError>
 
 /// The token in the front of what is left of a text, and its length.
 ///
-/// A source has all but `/` there too. What most tokens are is cut here: a source's lexer tests that
-/// words are text, which is known here, and counts what digits write, which may be of any length.
+/// A source has all but `/` there too. What most tokens are is cut here: a source's lexer tests
+/// that words are text, which is known here, and counts what digits write, which may be of any
+/// length.
 fn front(rest: &str, at: usize) -> Result<(Token<'_>, usize), LexError>
     requires some { 0 < length rest.now }
     requires fits { at + length rest.now < 2 ^ 64 }

@@ -14,8 +14,8 @@ ghost use Rattle.types_view.specs.Fields.{TellsFields};
 ghost use Rattle.types_view.specs.Typed.{IsTyped};
 ghost use Rattle.texts_view.specs.Named.{schema_in};
 
-/// What a pool that batches built says to texts is what the view of its records says: its types, the
-/// names of fields, extensions and enums' values, and which message keeps any other.
+/// What a pool that batches built says to texts is what the view of its records says: its types,
+/// the names of fields, extensions and enums' values, and which message keeps any other.
 pub fn built_pools_have_the_names_of_their_records()
     ensures { (batches : List (List FileContent)) (p : PoolType) → IsBuilt batches p → IsKept p
         → TellsFields p → (decoded : Name → List ℕ → Option Message)
