@@ -1,9 +1,8 @@
 -- The kinds of fields: the payloads that are written of each, and what they mean.
-use Rattle.std.proofs.Common.{◌≡◌, ℕ, ℤ, pos, negsuc, ◌<◌, ◌≤◌, ◌-◌, ◌%◌, ◌^◌, ◌==◌, not, Bool, true, false, List, [], ◌∷◌, ◌++◌, map, length, Option, Some, None, String, Vec, Global, refl, sym, ap, ◌∙◌, subst, append-nil, length-append, arith, if◌then◌else◌}
+use Rattle.std.proofs.Common.{◌≡◌, ℕ, ℤ, ◌<◌, ◌≤◌, ◌-◌, ◌^◌, ◌==◌, not, Bool, true, false, List, [], ◌∷◌, ◌++◌, map, length, Option, Some, None, String, Vec, Global, refl, sym, ap, subst, append-nil, length-append, arith, if◌then◌else◌}
 use Rattle.std.specs.Prelude.{string_bytes}
-use Rattle.std.specs.Int.{w32, w64, cast_signed, cast_unsigned}
+use Rattle.std.specs.Int.{w64, cast_unsigned}
 use Rattle.std.specs.List.{AllByRecursion, AllZip, flat_map}
-use Rattle.std.proofs.lemmas.Int.{to_z-of_z}
 use Rattle.std.proofs.lemmas.Str.{IsUtf8-string_bytes}
 use Rattle.descriptor_records.specs.declared.options.Options.{Options}
 use Rattle.reflect_wire.specs.Encoding.{delimited_bytes, key_bytes, varint_bytes}
@@ -14,7 +13,7 @@ use Rattle.reflect_wire.proofs.Signed.{extended_back, extended_fits}
 use Rattle.reflect_wire.proofs.Spelling.{varint_spelled}
 use Rattle.reflect_codec.specs.Fields.{bool_field, int32_field, int32s_field, number_field, options_field, packed_field, payload_field, record_field, records_field, text_field, texts_field}
 use Rattle.reflect_codec.specs.Meaning.{AreOptions, IsOptions, OptionsAt}
-use Rattle.reflect_codec.specs.Reading.{AreNumbers, BoolAt, Field, Int32At, Int32sAt, IsBool, IsInt32, IsLast, IsMerged, IsNumbers, IsRecord, IsText, MergedAt, RecordsAt, SpellsFields, SpellsNumbers, TextAt, TextsAt, Value, int32_of, joins, payload, value_of, values_at}
+use Rattle.reflect_codec.specs.Reading.{AreNumbers, BoolAt, Field, Int32At, Int32sAt, IsBool, IsInt32, IsLast, IsMerged, IsNumbers, IsRecord, IsText, MergedAt, RecordsAt, SpellsFields, SpellsNumbers, TextAt, TextsAt, Value, joins, payload, value_of, values_at}
 use Rattle.reflect_codec.specs.declared.options.OptionsOf.{OptionsOf}
 use Rattle.codec_laws.specs.Plain.{ArePlainOptions, FitsInt32, IfThere}
 use Rattle.codec_laws.proofs.Parts.{IsRow, Part, row_bytes}
@@ -98,60 +97,60 @@ module _ (n : ℕ) (some : 0 < n) (small : n < 2 ^ 29) where
   number_row : (v : ℕ) → v < 2 ^ 64 → IsRow n (number_field n v) (varint v ∷ [])
   number_row v fits = record { some = some; small = small; same = sym (append-nil (number_field n v)); fits = λ levels h. (fits, tt) }
 
-  text_row : (o : Option (String Global)) → IsRow n (text_field n o) (text_payloads o)
+  pub text_row : (o : Option (String Global)) → IsRow n (text_field n o) (text_payloads o)
   text_row None = none_row
   text_row (Some t) = one_row (string_bytes t)
 
   abbrev pub text_part : Option (String Global) → Part
   text_part o = record { number = n; bytes = text_field n o; payloads = text_payloads o; is_row = text_row o }
 
-  texts_row : (ts : List (String Global)) → IsRow n (texts_field n ts) (each_payload string_bytes ts)
+  pub texts_row : (ts : List (String Global)) → IsRow n (texts_field n ts) (each_payload string_bytes ts)
   texts_row ts = record { some = some; small = small; same = each_row string_bytes ts; fits = λ levels h. each_fits string_bytes levels ts h }
 
   abbrev pub texts_part : List (String Global) → Part
   texts_part ts = record { number = n; bytes = texts_field n ts; payloads = each_payload string_bytes ts; is_row = texts_row ts }
 
-  int32_row : (o : Option ℤ) → IfThere FitsInt32 o → IsRow n (int32_field n o) (int32_payloads o)
+  pub int32_row : (o : Option ℤ) → IfThere FitsInt32 o → IsRow n (int32_field n o) (int32_payloads o)
   int32_row None h = none_row
   int32_row (Some z) h = number_row (cast_unsigned w64 z) (extended_fits z h)
 
   abbrev pub int32_part : (o : Option ℤ) → IfThere FitsInt32 o → Part
   int32_part o h = record { number = n; bytes = int32_field n o; payloads = int32_payloads o; is_row = int32_row o h }
 
-  int32s_row : (zs : List ℤ) → AllByRecursion FitsInt32 zs → IsRow n (int32s_field n zs) (int32s_payloads zs)
+  pub int32s_row : (zs : List ℤ) → AllByRecursion FitsInt32 zs → IsRow n (int32s_field n zs) (int32s_payloads zs)
   int32s_row zs all = record { some = some; small = small; same = numbers_row zs; fits = λ levels h. numbers_fit levels zs all }
 
   abbrev pub int32s_part : (zs : List ℤ) → AllByRecursion FitsInt32 zs → Part
   int32s_part zs h = record { number = n; bytes = int32s_field n zs; payloads = int32s_payloads zs; is_row = int32s_row zs h }
 
-  packed_row : (zs : List ℤ) → IsRow n (packed_field n zs) (packed_payloads zs)
+  pub packed_row : (zs : List ℤ) → IsRow n (packed_field n zs) (packed_payloads zs)
   packed_row [] = none_row
   packed_row (z ∷ zs) = one_row (numbers_bytes (z ∷ zs))
 
   abbrev pub packed_part : List ℤ → Part
   packed_part zs = record { number = n; bytes = packed_field n zs; payloads = packed_payloads zs; is_row = packed_row zs }
 
-  bool_row : (o : Option Bool) → IsRow n (bool_field n o) (bool_payloads o)
+  pub bool_row : (o : Option Bool) → IsRow n (bool_field n o) (bool_payloads o)
   bool_row None = none_row
   bool_row (Some b) = number_row (if b then 1 else 0) (bool_fits b)
 
   abbrev pub bool_part : Option Bool → Part
   bool_part o = record { number = n; bytes = bool_field n o; payloads = bool_payloads o; is_row = bool_row o }
 
-  record_row : {R : Type 0} (bytes : R → List ℕ) (o : Option R) → IsRow n (record_field bytes n o) (record_payloads bytes o)
+  pub record_row : {R : Type 0} (bytes : R → List ℕ) (o : Option R) → IsRow n (record_field bytes n o) (record_payloads bytes o)
   record_row bytes None = none_row
   record_row bytes (Some r) = one_row (bytes r)
 
   abbrev pub record_part : {R : Type 0} → (R → List ℕ) → Option R → Part
   record_part bytes o = record { number = n; bytes = record_field bytes n o; payloads = record_payloads bytes o; is_row = record_row bytes o }
 
-  records_row : {R : Type 0} (bytes : R → List ℕ) (rs : List R) → IsRow n (records_field bytes n rs) (each_payload bytes rs)
+  pub records_row : {R : Type 0} (bytes : R → List ℕ) (rs : List R) → IsRow n (records_field bytes n rs) (each_payload bytes rs)
   records_row bytes rs = record { some = some; small = small; same = each_row bytes rs; fits = λ levels h. each_fits bytes levels rs h }
 
   abbrev pub records_part : {R : Type 0} → (R → List ℕ) → List R → Part
   records_part bytes rs = record { number = n; bytes = records_field bytes n rs; payloads = each_payload bytes rs; is_row = records_row bytes rs }
 
-  options_row : (o : Option Options) → IsRow n (options_field n o) (options_payloads o)
+  pub options_row : (o : Option Options) → IsRow n (options_field n o) (options_payloads o)
   options_row None = none_row
   options_row (Some o) = one_row o.encoded.items
 

@@ -1,5 +1,5 @@
 -- What bytes say of each kind of record is plain.
-use Rattle.std.proofs.Common.{◌≡◌, ℕ, ℤ, zero, suc, ◌<◌, ◌+◌, ◌-◌, ◌%◌, ◌^◌, List, [], ◌∷◌, ◌++◌, Option, Some, None, refl, sym, ap, ◌∙◌, subst, append-nil, append_assoc, arith}
+use Rattle.std.proofs.Common.{◌≡◌, ℕ, ℤ, zero, suc, ◌<◌, ◌+◌, ◌-◌, ◌%◌, ◌^◌, List, [], ◌∷◌, ◌++◌, Option, Some, None, refl, sym, ap, ◌∙◌, subst, append-nil, arith}
 use Rattle.std.specs.Int.{cast_signed, w32}
 use Rattle.std.specs.Prelude.{unwrap_or}
 use Rattle.std.proofs.lemmas.Int.{SFits-int_wrap, wrapping_add-bits}
@@ -10,7 +10,7 @@ use Rattle.descriptor_records.specs.declared.message.DescriptorProto.{Descriptor
 use Rattle.descriptor_records.specs.declared.message.DescriptorProto.TheViews.{out-DescriptorProto}
 use Rattle.descriptor_records.specs.declared.options.Options.{Options}
 use Rattle.descriptor_records.specs.declared.source_info.SourceCodeInfo.{SourceCodeInfo}
-use Rattle.reflect_wire.specs.Records.{Records, SpellsRecords, more_records, no_records}
+use Rattle.reflect_wire.specs.Records.{Records, more_records, no_records}
 use Rattle.reflect_wire.proofs.Whole.{join, spells_join}
 use Rattle.reflect_codec.specs.Meaning.{AreOptions, IsEnum, IsEnumRange, IsEnumValue, IsExtensionRange, IsField, IsFile, IsFileBytes, IsLocation, IsMessage, IsMethod, IsOneof, IsReservedRange, IsService, IsSetBytes, IsSourceInfo}
 use Rattle.reflect_codec.specs.Reading.{AreNumbers, Field, IsInt32, IsLast, IsMerged, IsNumbers, IsPartBelow, IsPayload, IsRecord, SpellsFields, SpellsNumbers, Value, eight_bytes, fields_in, int32_of, joined, joins, last, number, other, payload, value_of, values_at}

@@ -4,6 +4,6 @@ use Rattle.reflect_entries.specs.Ahead.{entries_left}
 use Rattle.reflect_entries.specs.declared.entries.Iter.{Iter}
 
 -- the numbers and the values that are left, none where there is nothing to walk over
-abbrev pub entries_left : {V : Type 0} → Option (Iter V) → List (ℕ × V)
-entries_left None = []
-entries_left (Some i) = entries_left i
+abbrev pub walked_left : {V : Type 0} → Option (Iter V) → List (ℕ × V)
+walked_left None = []
+walked_left (Some i) = entries_left i

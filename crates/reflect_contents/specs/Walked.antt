@@ -14,7 +14,7 @@ use Rattle.reflect_message.specs.Bytes.{form_of, is_set}
 use Rattle.reflect_message.specs.Held.{fields_of, extensions_of, unknown_of}
 use Rattle.reflect_message.specs.Known.{numbered_field}
 use Rattle.reflect_message.specs.Names.{DynamicMessage, Value}
-use Rattle.reflect_contents.specs.EntriesLeft.{entries_left}
+use Rattle.reflect_contents.specs.EntriesLeft.{walked_left}
 use Rattle.reflect_contents.specs.declared.taken.TakenExtensions.{TakenExtensions}
 use Rattle.reflect_contents.specs.declared.taken.TakenFields.{TakenFields}
 use Rattle.reflect_contents.specs.declared.walks.ExtensionValues.{ExtensionValues}
@@ -80,11 +80,11 @@ of_message m hs = map (λ h. (m, h)) hs
 abbrev pub fields_left : FieldValues → List FieldGiven
 fields_left s =
     of_message s.descriptor
-    (set_fields s.descriptor.pool.now s.descriptor.index (entries_left s.entries))
+    (set_fields s.descriptor.pool.now s.descriptor.index (walked_left s.entries))
 
 abbrev pub extensions_left : ExtensionValues → List Holding
 extensions_left s =
-    set_extensions s.descriptor.pool.now s.descriptor.index (entries_left s.entries)
+    set_extensions s.descriptor.pool.now s.descriptor.index (walked_left s.entries)
 
 abbrev pub taken_fields_left : TakenFields → List FieldGiven
 taken_fields_left s =

@@ -5,7 +5,7 @@ ghost use Rattle.std.specs.Bool.{Decides};
 ghost use Rattle.reflect_pool.specs.FieldsLeft.{field_type};
 ghost use Rattle.reflect_scalar.specs.FieldTypes.{extension_type};
 ghost use Rattle.reflect_message.specs.Held.{fields_of, extensions_of, unknown_of};
-ghost use Rattle.reflect_contents.specs.EntriesLeft.{entries_left};
+ghost use Rattle.reflect_contents.specs.EntriesLeft.{walked_left};
 ghost use Rattle.reflect_contents.specs.Left.{records_left};
 ghost use Rattle.reflect_contents.specs.Walked.{HoldsNothing, extensions_left, fields_left, of_message, set_extension, set_extensions_of, set_field, set_fields_of};
 
@@ -75,7 +75,7 @@ impl<'p> MessageWalks<'p> for DynamicMessage<'p> {
 
 /// What the declared fields hold, by ascending number, if the message holds anything.
 fn field_entries<'m, 'p>(message: &'m DynamicMessage<'p>) -> Option<entries::Iter<'m, Value<'p>>>
-    ensures { entries_left result ≡ fields_of message.now }
+    ensures { walked_left result ≡ fields_of message.now }
 {
     match message.held() {
         Held::Block(parts) => Some(parts.fields.iter()),
@@ -87,7 +87,7 @@ fn field_entries<'m, 'p>(message: &'m DynamicMessage<'p>) -> Option<entries::Ite
 fn extension_entries<'m, 'p>(
     message: &'m DynamicMessage<'p>,
 ) -> Option<entries::Iter<'m, Value<'p>>>
-    ensures { entries_left result ≡ extensions_of message.now }
+    ensures { walked_left result ≡ extensions_of message.now }
 {
     match message.held() {
         Held::Block(parts) => Some(parts.extensions.iter()),

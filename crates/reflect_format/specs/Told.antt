@@ -177,7 +177,7 @@ NamedFault n inner (plain w) name m ls kind =
 NamedFault n inner (extension e) name m ls kind =
     (ExtensionFault m.descriptor (written e) kind × (place_of kind ≡ Some name))
     ⊎ ((t : Target) × NamesExtension m.descriptor (written e) t
-        × AssignmentFault n inner t m ls kind)
+    × AssignmentFault n inner t m ls kind)
 NamedFault n inner (expansion domain e) name m ls kind =
     ExpansionFault n inner (written e) name m ls kind
 

@@ -43,7 +43,7 @@ pub struct Parser<'a> {
 }
 
 impl<'a> Parser<'a> {
-    /// A parser at the start of a text. BelongsTo no memory.
+    /// A parser at the start of a text. Takes no memory.
     pub fn new(alloc: Global, text: &'a str) -> Parser<'a>
         ensures { Lexes 0 text.now (remaining result.tokens) }
     {
