@@ -96,12 +96,20 @@ impl fmt::Display for OptionErrorKind {
 }
 
 impl From<AllocError> for OptionErrorKind {
+    ghost use Rattle.option_parts.specs.declared.option_error.OptionErrorKind.TheVariants.{Memory};
+
+    ghost from_gives = { λ _ e. e ≡ Memory };
+
     fn from(_error: AllocError) -> OptionErrorKind {
         OptionErrorKind::Memory
     }
 }
 
 impl<T: Drop> From<AllocFailed<T>> for OptionErrorKind {
+    ghost use Rattle.option_parts.specs.declared.option_error.OptionErrorKind.TheVariants.{Memory};
+
+    ghost from_gives = { λ _ e. e ≡ Memory };
+
     fn from(_error: AllocFailed<T>) -> OptionErrorKind {
         OptionErrorKind::Memory
     }

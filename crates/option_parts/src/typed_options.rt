@@ -2,7 +2,7 @@
 
 ghost use Rattle.std.specs.Prelude.{◌≡◌, map};
 ghost use Rattle.descriptor_records.specs.Content.{option_view, options_view, field_view, enum_view, message_view, file_view};
-ghost use Rattle.option_parts.specs.TypedOptions.{is_named, written_truth, typed_field, typed_enum, typed_message, typed_file, TypedFiles};
+ghost use Rattle.option_parts.specs.TypedOptions.{is_named, truth_of, written_truth, typed_field, typed_enum, typed_message, typed_file, TypedFiles};
 
 use descriptor_records::{
     DescriptorProto, EnumDescriptorProto, FieldDescriptorProto, FileDescriptorProto, Options,
@@ -19,17 +19,24 @@ fn is_named(option: &UninterpretedOption, name: &str) -> bool
     }
 }
 
+/// The truth value that the option's value is: the word `true` or `false`.
+pub fn truth_said(option: &UninterpretedOption) -> Option<bool>
+    ensures { result ≡ truth_of (option_view option.now).identifier_value }
+{
+    match &option.identifier_value {
+        Some(value) if value.as_str() == "true" => Some(true),
+        Some(value) if value.as_str() == "false" => Some(false),
+        _ => None,
+    }
+}
+
 /// What the first option of the name says, where its value is true or false.
 fn written_truth(options: &Options, name: &str) -> Option<bool>
     ensures { result ≡ written_truth name.now (options_view options.now).uninterpreted_option }
 {
     for option in &options.uninterpreted_option {
         if is_named(option, name) {
-            return match &option.identifier_value {
-                Some(value) if value.as_str() == "true" => Some(true),
-                Some(value) if value.as_str() == "false" => Some(false),
-                _ => None,
-            };
+            return truth_said(option);
         }
     }
     None

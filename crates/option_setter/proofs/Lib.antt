@@ -1,0 +1,4 @@
+pub mod SaidTexts
+pub mod Held
+pub mod Refusals
+pub mod Parts

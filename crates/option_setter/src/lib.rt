@@ -3,5 +3,6 @@
 
 mod option_setter;
 mod option_value;
+mod part_target;
 
 pub use option_setter::{NameScope, OptionSetter, option_name};

@@ -1,12 +1,23 @@
 //! One option, set in a message of options.
 
-use crate::option_value::{aggregate, option_value};
+ghost use Rattle.std.specs.Prelude.{◌≡◌, ◌++◌, ℤ, List, IfErr, IfOk, OnOk, true};
+ghost use Rattle.descriptor_records.specs.Content.{option_view};
+ghost use Rattle.option_parts.specs.declared.option_error.OptionErrorKind.TheVariants.{Memory};
+ghost use Rattle.option_setter.specs.OptionNames.{LacksExtension, LacksTarget, NamesExtension, NamesTarget, UnlessMemory};
+ghost use Rattle.option_setter.specs.OptionValues.{IsSaid};
+ghost use Rattle.reflect_message.specs.declared.value.ValueOf.TheVariants as values;
+ghost use Rattle.option_setter.specs.SetOptions.{IsNoMessage, LeadsInto, LeadsNowhere, RefusesLast, RefusesParts, RefusesValue, SetsLast, SetsParts};
+ghost use Rattle.reflect_format.specs.Takes.{BelongsTo, holds_many, target_pool, target_type};
+ghost use Rattle.reflect_scalar.specs.Floats.{HoldsFloats};
+
+use crate::option_value::option_value;
+use crate::part_target::{holds_float_numbers, is_list, number_of, place_of, taken, values_held};
 use descriptor_records::{NamePart, UninterpretedOption};
-use option_parts::{OptionErrorKind, OptionTarget};
+use option_parts::OptionErrorKind;
+use reflect_format::Target;
 use reflect_link::{DescriptorPool, Kind, MessageDescriptor};
-use reflect_message::{DynamicMessage, MapKey, Value};
-use reflect_names::{Links, ResolveNameError, ResolveNameFilter, SeenFiles, resolve_name};
-use reflect_numbered::FieldsByNumber;
+use reflect_message::{DynamicMessage, Value};
+use reflect_names::{ResolveNameError, ResolveNameFilter, SeenFiles, resolve_name};
 use reflect_wire::MAX_LEVELS;
 use std::alloc::{AllocError, Global};
 
@@ -62,14 +73,24 @@ impl<'a, 'p> OptionSetter<'a, 'p> {
     /// Sets the option in a message of options, and gives the path of what it set there: the
     /// numbers of the fields, and behind that of a list the place of the element. An option without
     /// a name sets nothing.
-    pub fn set(&self, message: &mut DynamicMessage<'p>) -> Result<Vec<i32>, OptionErrorKind> {
+    pub fn set(&self, message: &mut DynamicMessage<'p>) -> Result<Vec<i32>, OptionErrorKind>
+        ensures type_stays { message.new.descriptor ≡ message.old.descriptor }
+        ensures set { IfOk result (λ path. SetsParts self.now.scope
+            (option_view self.now.option.now) 100 self.now.option.now.name.items message.old
+            message.new path.items) }
+        ensures refused { IfErr result (UnlessMemory
+            (RefusesParts self.now.scope (option_view self.now.option.now) 100
+            self.now.option.now.name.items message.old)) }
+    {
         let mut path = Vec::with_capacity(self.alloc, self.option.name.len().saturating_add(1))?;
         self.set_parts(message, self.option.name.as_slice(), MAX_LEVELS, &mut path)?;
         Ok(path)
     }
 
-    /// The name of the option, for a fault.
-    fn name(&self) -> Result<String, OptionErrorKind> {
+    /// The name of the option, for a fault. Refused for want of memory alone.
+    fn name(&self) -> Result<String, OptionErrorKind>
+        ensures { IfErr result (λ e. e ≡ Memory) }
+    {
         Ok(option_name(self.alloc, self.option)?)
     }
 
@@ -81,28 +102,30 @@ impl<'a, 'p> OptionSetter<'a, 'p> {
         parts: &[NamePart],
         levels: u32,
         path: &mut Vec<i32>,
-    ) -> Result<(), OptionErrorKind> {
+    ) -> Result<(), OptionErrorKind>
+        ensures type_stays { message.new.descriptor ≡ message.old.descriptor }
+        ensures set { OnOk result ((rest : List ℤ) × SetsParts self.now.scope
+            (option_view self.now.option.now) levels parts.now message.old message.new rest
+            × (path.new.items ≡ path.old.items ++ rest)) }
+        ensures refused { IfErr result (UnlessMemory
+            (RefusesParts self.now.scope (option_view self.now.option.now) levels parts.now
+            message.old)) }
+    {
         let Some((part, rest)) = parts.split_first() else {
             return Ok(());
         };
         let target = self.target(message.descriptor(), part)?;
-        path.push(target.number().cast_signed())?;
+        path.push(number_of(target).cast_signed())?;
         if rest.is_empty() {
             return self.set_last(message, target, path);
         }
         if levels == 0 {
             return Err(OptionErrorKind::OptionTooDeep);
         }
-        let name = self.name()?;
-        if target.is_list() || target.is_map() {
-            return Err(OptionErrorKind::InvalidOptionType { name });
-        }
-        if let Some(held) = target.value_mut(message)? {
-            if let Some(inner) = held.as_message_mut() {
-                return self.set_parts(inner, rest, levels - 1, path);
-            }
-        }
-        Err(OptionErrorKind::InvalidOptionType { name })
+        let mut inner = self.inner(message, target)?;
+        self.set_parts(&mut inner, rest, levels - 1, path)?;
+        target.set(message, Value::Message(inner))?;
+        Ok(())
     }
 
     /// What a part of the name means in a message of the type.
@@ -110,12 +133,17 @@ impl<'a, 'p> OptionSetter<'a, 'p> {
         &self,
         message: MessageDescriptor<'p>,
         part: &NamePart,
-    ) -> Result<OptionTarget<'p>, OptionErrorKind> {
+    ) -> Result<Target<'p>, OptionErrorKind>
+        ensures takes { IfOk result (BelongsTo message.entry) }
+        ensures found { IfOk result (NamesTarget self.now.scope message.entry part.now) }
+        ensures refused { IfErr result (UnlessMemory
+            (LacksTarget self.now.scope message.entry part.now)) }
+    {
         if part.is_extension {
             return self.extension(message, part.name_part.as_str());
         }
         match message.get_field_by_name(part.name_part.as_str()) {
-            Some(field) => Ok(OptionTarget::Field(field)),
+            Some(field) => Ok(Target::Field(field)),
             None => Err(OptionErrorKind::OptionNotFound { name: self.name()? }),
         }
     }
@@ -125,7 +153,12 @@ impl<'a, 'p> OptionSetter<'a, 'p> {
         &self,
         message: MessageDescriptor<'p>,
         name: &str,
-    ) -> Result<OptionTarget<'p>, OptionErrorKind> {
+    ) -> Result<Target<'p>, OptionErrorKind>
+        ensures takes { IfOk result (BelongsTo message.entry) }
+        ensures found { IfOk result (NamesExtension self.now.scope message.entry name.now) }
+        ensures refused { IfErr result (UnlessMemory
+            (LacksExtension self.now.scope message.entry name.now)) }
+    {
         let scope = self.scope;
         let filter = ResolveNameFilter::Extension;
         let names = scope.pool.names();
@@ -134,15 +167,45 @@ impl<'a, 'p> OptionSetter<'a, 'p> {
             Err(ResolveNameError::Memory) => return Err(OptionErrorKind::Memory),
             Err(_) => return Err(OptionErrorKind::OptionNotFound { name: self.name()? }),
         };
-        match scope
-            .pool
-            .get_extension_by_name(resolved.full_name.as_str())
-        {
-            Some(extension) if extension.containing_message().is_same(&message) => {
-                Ok(OptionTarget::Extension(extension))
-            }
+        let full_name = resolved.full_name.as_str();
+        if let Some(extension) = message.get_extension_by_full_name(full_name) {
+            return Ok(Target::Extension(extension));
+        }
+        match scope.pool.get_extension_by_name(full_name) {
             Some(_) => Err(OptionErrorKind::InvalidOptionExtendee { name: self.name()? }),
             None => Err(OptionErrorKind::OptionNotFound { name: self.name()? }),
+        }
+    }
+
+    /// The message that a value is.
+    fn held_message(&self, held: Value<'p>) -> Result<DynamicMessage<'p>, OptionErrorKind>
+        ensures message { IfOk result (λ m. held.entry ≡ values.Message m) }
+        ensures none { IfErr result (UnlessMemory (IsNoMessage held.entry)) }
+    {
+        match held {
+            Value::Message(inner) => Ok(inner),
+            _ => Err(OptionErrorKind::InvalidOptionType { name: self.name()? }),
+        }
+    }
+
+    /// The message that a part of the name leads into, taken out of the one that holds it: a new
+    /// one where none is held.
+    fn inner(
+        &self,
+        message: &mut DynamicMessage<'p>,
+        target: Target<'p>,
+    ) -> Result<DynamicMessage<'p>, OptionErrorKind>
+        requires { BelongsTo message.old.descriptor target }
+        ensures type_stays { message.new.descriptor ≡ message.old.descriptor }
+        ensures led { IfOk result (LeadsInto target.entry message.old message.new) }
+        ensures refused { IfErr result (UnlessMemory (LeadsNowhere target.entry message.old)) }
+    {
+        match target.kind() {
+            Kind::Message(kind) if !target.holds_many() => match taken(target, message) {
+                Some(held) => self.held_message(held),
+                None => Ok(DynamicMessage::new(self.alloc, kind)),
+            },
+            _ => Err(OptionErrorKind::InvalidOptionType { name: self.name()? }),
         }
     }
 
@@ -151,19 +214,24 @@ impl<'a, 'p> OptionSetter<'a, 'p> {
     fn set_last(
         &self,
         message: &mut DynamicMessage<'p>,
-        target: OptionTarget<'p>,
+        target: Target<'p>,
         path: &mut Vec<i32>,
-    ) -> Result<(), OptionErrorKind> {
-        if target.holds_floats() {
+    ) -> Result<(), OptionErrorKind>
+        requires { BelongsTo message.old.descriptor target }
+        ensures type_stays { message.new.descriptor ≡ message.old.descriptor }
+        ensures set { OnOk result ((rest : List ℤ) × SetsLast target.entry
+            (option_view self.now.option.now) message.old message.new rest
+            × (path.new.items ≡ path.old.items ++ rest)) }
+        ensures refused { IfErr result (UnlessMemory
+            (RefusesLast target.entry (option_view self.now.option.now) message.old)) }
+    {
+        if holds_float_numbers(target) {
             return Err(OptionErrorKind::FloatOption { name: self.name()? });
         }
-        if target.is_map() {
-            return self.insert(message, target);
+        if target.holds_many() {
+            return self.add(message, target, path);
         }
-        if target.is_list() {
-            return self.append(message, target, path);
-        }
-        if target.is_present(message) {
+        if target.is_set(message) {
             return Err(OptionErrorKind::DuplicateOption { name: self.name()? });
         }
         let value = self.value(target.kind())?;
@@ -172,80 +240,44 @@ impl<'a, 'p> OptionSetter<'a, 'p> {
     }
 
     /// One value of the kind.
-    fn value(&self, kind: Kind<'p>) -> Result<Value<'p>, OptionErrorKind> {
+    fn value(&self, kind: Kind<'p>) -> Result<Value<'p>, OptionErrorKind>
+        ensures said { IfOk result (IsSaid kind.entry (option_view self.now.option.now)) }
+        ensures refused { IfErr result (UnlessMemory
+            (RefusesValue kind.entry (option_view self.now.option.now))) }
+    {
         match option_value(self.alloc, self.option, kind) {
             Ok(value) => Ok(value),
             Err(fault) => Err(fault.of_option(self.name()?)),
         }
     }
 
-    fn append(
+    /// Puts the value behind those of a list, whose place ends the path, or, as an entry, into a
+    /// map.
+    fn add(
         &self,
         message: &mut DynamicMessage<'p>,
-        target: OptionTarget<'p>,
+        target: Target<'p>,
         path: &mut Vec<i32>,
-    ) -> Result<(), OptionErrorKind> {
+    ) -> Result<(), OptionErrorKind>
+        requires takes { BelongsTo message.old.descriptor target }
+        requires no_floats { HoldsFloats (target_pool target) (target_type target)
+            → ⊥ }
+        requires many { holds_many target ≡ true }
+        ensures type_stays { message.new.descriptor ≡ message.old.descriptor }
+        ensures set { OnOk result ((rest : List ℤ) × SetsLast target.entry
+            (option_view self.now.option.now) message.old message.new rest
+            × (path.new.items ≡ path.old.items ++ rest)) }
+        ensures refused { IfErr result (UnlessMemory
+            (RefusesLast target.entry (option_view self.now.option.now) message.old)) }
+    {
         let value = self.value(target.kind())?;
-        if let Some(held) = target.value_mut(message)? {
-            if let Some(list) = held.as_list_mut() {
-                path.push(i32::try_from(list.len()).unwrap_or(i32::MAX))?;
-                list.push(value)?;
-            }
+        if is_list(target) {
+            let place = values_held(target, message)?;
+            path.push(place_of(place))?;
         }
+        let mut values = Vec::with_capacity(self.alloc, 1)?;
+        values.push(value)?;
+        target.add(message, values)?;
         Ok(())
-    }
-
-    /// Puts the entry in the option's braces into a map.
-    fn insert(
-        &self,
-        message: &mut DynamicMessage<'p>,
-        target: OptionTarget<'p>,
-    ) -> Result<(), OptionErrorKind> {
-        let Kind::Message(entry) = target.kind() else {
-            return Err(OptionErrorKind::InvalidOptionType { name: self.name()? });
-        };
-        let mut parsed = match aggregate(self.alloc, self.option, entry) {
-            Ok(parsed) => parsed,
-            Err(fault) => return Err(fault.of_option(self.name()?)),
-        };
-        let key = match taken(self.alloc, &mut parsed, 1)? {
-            Some(key) => key.into_map_key(),
-            None => None,
-        };
-        let value = taken(self.alloc, &mut parsed, 2)?;
-        if let (Some(key), Some(value)) = (key, value) {
-            return put_entry(target, message, key, value);
-        }
-        Ok(())
-    }
-}
-
-/// Puts a value under a key of a map.
-fn put_entry<'p>(
-    target: OptionTarget<'p>,
-    message: &mut DynamicMessage<'p>,
-    key: MapKey,
-    value: Value<'p>,
-) -> Result<(), OptionErrorKind> {
-    if let Some(held) = target.value_mut(message)? {
-        if let Some(map) = held.as_map_mut() {
-            map.insert(key, value)?;
-        }
-    }
-    Ok(())
-}
-
-/// What the field of a number holds in an entry, or its default.
-fn taken<'p>(
-    alloc: Global,
-    entry: &mut DynamicMessage<'p>,
-    number: u32,
-) -> Result<Option<Value<'p>>, AllocError> {
-    if let Some(value) = entry.take_field_by_number(number) {
-        return Ok(Some(value));
-    }
-    match entry.descriptor().get_field(number) {
-        Some(field) => Ok(Some(Value::default_value_for_field(alloc, &field)?)),
-        None => Ok(None),
     }
 }

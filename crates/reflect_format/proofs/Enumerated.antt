@@ -25,13 +25,13 @@ named w = record {
   passes = λ v e. (bytes_eq-Decides v.name w).1 e;
 }
 
-number_found : (e : EnumDescriptor) (w : Text) (k : _) → IsFirst (λ v. v.name ≡ w) (enum_at e.pool.now e.index).values (Some k)
+pub number_found : (e : EnumDescriptor) (w : Text) (k : _) → IsFirst (λ v. v.name ≡ w) (enum_at e.pool.now e.index).values (Some k)
     → number_named e w ≡ Some (type_of_value e.pool.now e.index k).number
 number_found e w k h =
     ap (option_map (λ v. v.number))
     (find_some (λ (v : ValueType). v.name ≡ w) (λ v. bytes_eq v.name w) (named w) (enum_at e.pool.now e.index).values no_value k h)
 
-number_missing : (e : EnumDescriptor) (w : Text) → IsFirst (λ v. v.name ≡ w) (enum_at e.pool.now e.index).values None
+pub number_missing : (e : EnumDescriptor) (w : Text) → IsFirst (λ v. v.name ≡ w) (enum_at e.pool.now e.index).values None
     → number_named e w ≡ None
 number_missing e w h =
     ap (option_map (λ v. v.number))

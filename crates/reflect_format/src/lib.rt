@@ -7,5 +7,6 @@ mod scalar;
 mod target;
 
 pub use parser::Parser;
+pub use target::Target;
 pub use text_error::{ParseError, ParseErrorKind};
 pub use text_lex::{Int, Radix, Span, Token};
