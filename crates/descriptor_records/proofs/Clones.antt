@@ -1,7 +1,7 @@
 -- Clones of what a field holds have its content.
-use Rattle.std.proofs.Common.{◌≡◌, ℕ, List, [], ◌∷◌, Option, Some, None, String, string_bytes, Vec, Global, map, refl, ap}
+use Rattle.std.proofs.Common.{◌≡◌, List, [], ◌∷◌, Option, Some, None, String, string_bytes, Global, map, refl, ap}
 use Rattle.std.specs.Option.{option_map}
-use Rattle.std.specs.List.{AllZip, each_same}
+use Rattle.std.specs.List.{AllZip}
 use Rattle.descriptor_records.specs.Content.{text_view}
 
 pub same_views : {A B : Type 0} (view : A → B) (xs ys : List A) → AllZip (λ a b. view b ≡ view a) xs ys → map view ys ≡ map view xs

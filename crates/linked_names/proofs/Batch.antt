@@ -24,7 +24,7 @@ use Rattle.reflect_index.specs.declared.batch.Batch.{Batch}
 use Rattle.reflect_passes.specs.NameFaults.{name_faults}
 use Rattle.reflect_tables.specs.Names.{FullName, AreFound, found, place_in, names_of, message_name, extension_name, messages, extensions}
 use Rattle.reflect_tables.specs.Types.{PoolType, MessageType, FileType, ArePooled, no_type, type_at}
-use Rattle.reflect_tables.specs.Views.{file_of, record_of, record_file, message_of, extension_of, pool_of}
+use Rattle.reflect_tables.specs.Views.{file_of, record_of, record_file, message_of, extension_of}
 use Rattle.reflect_tables.specs.Views as views
 use Rattle.reflect_tables.specs.declared.stored.StoredFile.{StoredFile}
 use Rattle.reflect_link.specs.FileTypes.{no_file, file_type_at}

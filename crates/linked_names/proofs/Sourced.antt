@@ -2,7 +2,7 @@
 use Rattle.std.proofs.Common.{◌≡◌, ◌⊎◌, inl, inr, ◌+◌, ◌++◌, ℕ, suc, ℤ, pos, true, false, List, [], ◌∷◌, map, Option, None, Some, option_map, String, Global, slice_get, refl, ap, subst, arith}
 use Rattle.std.specs.Char.{to_ascii_lowercase}
 use Rattle.std.specs.List.{AllByRecursion}
-use Rattle.descriptor_records.specs.Content.{Text, text_view, field_view, enum_view, enum_value_view, options_view, message_view, file_view}
+use Rattle.descriptor_records.specs.Content.{Text, text_view, field_view, enum_view, options_view, message_view, file_view}
 use Rattle.descriptor_records.specs.Content as content
 use Rattle.descriptor_records.specs.declared.enums.EnumDescriptorProto.{EnumDescriptorProto}
 use Rattle.descriptor_records.specs.declared.enums.EnumValueDescriptorProto.{EnumValueDescriptorProto}

@@ -9,7 +9,7 @@ use Rattle.reflect_defaults.specs.Defaults.{IsTruth, Says, HasDefault, IsScalarS
 use Rattle.reflect_defaults.specs.Defaults as pass
 use Rattle.reflect_defaults.specs.declared.default.DefaultText.{DefaultText}
 use Rattle.reflect_defaults.specs.declared.default.DefaultText.TheVariants as says
-use Rattle.schema_view.specs.Scalars.{is_scalar, IsDefault, IsScalarDefault}
+use Rattle.schema_view.specs.Scalars.{IsDefault, IsScalarDefault}
 use Rattle.schema_view.specs.Scalars as view
 
 decimal_same : (text : List ℕ) → pass.is_decimal text ≡ view.is_decimal text

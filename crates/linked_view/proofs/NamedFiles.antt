@@ -14,7 +14,7 @@ use Rattle.reflect_names.specs.Names.{Places, import_fault, public_fault, import
 use Rattle.reflect_names.proofs.FileRuns.{with_new}
 use Rattle.reflect_pool.specs.Imports.{names_of_files}
 use Rattle.schema_view.specs.Files as files
-use Rattle.schema_view.specs.Files.{Import, imports_from, imports_of, file_name, IsThere, HasSyntax, HavePlaces}
+use Rattle.schema_view.specs.Files.{Import, imports_from, imports_of, file_name, IsThere}
 use Rattle.schema_view.specs.Outlines.{IsNamed, times, times_named}
 use Rattle.schema_view.specs.Lawful.{outlines, IsFile}
 use Rattle.schema_view.proofs.Lists.{contains_here, contains_there, contains_cases, contains_none, contains_map, contains_map_cases}

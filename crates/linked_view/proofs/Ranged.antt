@@ -17,7 +17,7 @@ use Rattle.reflect_declarations.specs.Batches.{batch_declarations}
 use Rattle.reflect_build.specs.Accepted.{FaultlessBatch, FaultlessFiles}
 use Rattle.reflect_build.specs.Refusals.{AreTypes, Linking, with_declared, IsOf, new_files}
 use Rattle.linked_messages.specs.Kept.{IsKept}
-use Rattle.schema_view.specs.Declarations.{Body, of_message, of_field, of_oneof, of_enum, of_value, of_service, of_method, of_extension, Declaration, declarations}
+use Rattle.schema_view.specs.Declarations.{Body, of_message, of_field, of_oneof, of_enum, of_service, of_method, of_extension, Declaration, declarations}
 use Rattle.schema_view.specs.Lawful.{outlines}
 use Rattle.schema_view.specs.References.{linked}
 use Rattle.schema_view.proofs.Lists.{contains_none, contains_map, contains_map_cases}

@@ -3,7 +3,7 @@ use Rattle.std.proofs.Common.{◌≡◌, ◌∙◌, ℕ, ◌+◌, ℤ, pos, List
 use Rattle.std.specs.List.{flat_map}
 use Rattle.std.proofs.lemmas.List.{map-append}
 use Rattle.std.proofs.lemmas.List.Concat.{flat_map-cons}
-use Rattle.descriptor_records.specs.Content.{FileContent, MessageContent, MessageContents, text_view, field_view, oneof_view, enum_value_view, enum_view, method_view, service_view, extension_range_view, options_view, message_view, file_view}
+use Rattle.descriptor_records.specs.Content.{MessageContent, MessageContents, text_view, field_view, oneof_view, enum_value_view, enum_view, method_view, service_view, extension_range_view, options_view, message_view, file_view}
 use Rattle.descriptor_records.specs.Content as content
 use Rattle.descriptor_records.specs.declared.enums.EnumDescriptorProto.{EnumDescriptorProto}
 use Rattle.descriptor_records.specs.declared.enums.EnumValueDescriptorProto.{EnumValueDescriptorProto}

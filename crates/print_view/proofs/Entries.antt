@@ -38,7 +38,7 @@ use Rattle.message_view.specs.Sound.{AreApart, HaveFieldNumbers, HaveNames, Have
 use Rattle.message_view.specs.Types.{field_of, field_at, either_field, oneof_at, values_of, part_of}
 use Rattle.message_view.specs.Types as described
 use Rattle.message_view.specs.Views as views
-use Rattle.message_view.specs.Views.{held_in, held_either, content_view, contents_view, view, view_of}
+use Rattle.message_view.specs.Views.{held_either, content_view, contents_view, view, view_of}
 use Rattle.message_view.proofs.Accepting.{known_whole, extension_known_whole}
 use Rattle.message_view.proofs.Entries.{Sort, plain, floating, message_type, sort_of}
 use Rattle.message_view.proofs.Fields.{known, known_extension_is, none_owned}

@@ -7,7 +7,7 @@ use Rattle.text_lines.specs.Pieces.{bracketed, padding, colon, before_element, b
 use Rattle.text_lines.specs.Pieces as pieces
 use Rattle.text_model.specs.Forms.{between}
 use Rattle.text_model.specs.Printed.{joined, parts}
-use Rattle.text_model.specs.Rendered.{run, token_text, line, lines, pretty_value, pretty_more, pretty_values, pretty_given, text_of}
+use Rattle.text_model.specs.Rendered.{run, token_text, line, lines, pretty_value, pretty_more, pretty_values, pretty_given}
 use Rattle.text_model.specs.Rendered as rendered
 use Rattle.text_model.specs.Tokens.{full_name_tokens, name_tokens, scalar_tokens, given_tokens, value_tokens, values_tokens, more_tokens, fields_tokens}
 use Rattle.text_model.specs.Tree.{FullName, FieldName, plain, extension, ScalarValue, Value, scalar, Given, one_scalar, one_message, listed, Values, no_values, more_values, Fields, braced, curly, no_separator, comma}

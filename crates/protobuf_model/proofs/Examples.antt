@@ -5,7 +5,7 @@ use Rattle.reflect_wire.specs.Records.{varint, delimited, group, more_records, n
 use Rattle.reflect_wire.specs.Encoding.{records_bytes}
 use Rattle.reflect_wire.specs.Views.{records_of}
 use Rattle.protobuf_model.specs.Values.{int32, text, single, list, dictionary, more_contents, no_contents, more_entries, no_entries, content, records, absent, nothing}
-use Rattle.protobuf_model.specs.Types.{Name, oneof_of, same_oneof, rival, Kind, scalar, nested, sized, tagged, Label, one, many, keyed, Field, Types}
+use Rattle.protobuf_model.specs.Types.{Name, oneof_of, same_oneof, rival, scalar, nested, sized, one, many, keyed, Field, Types}
 use Rattle.protobuf_model.specs.Types as kinds
 use Rattle.protobuf_model.specs.Reader.{inside, row}
 use Rattle.protobuf_model.specs.Meaning.{meaning}

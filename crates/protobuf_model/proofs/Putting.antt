@@ -5,7 +5,7 @@ use Rattle.reflect_wire.specs.declared.wire_key.WireType.TheVariants.{StartGroup
 use Rattle.reflect_wire.specs.Records.{Payload, varint, fixed64, delimited, group, fixed32, wire_of}
 use Rattle.reflect_wire.specs.Written.{FitsPayload}
 use Rattle.protobuf_model.specs.Values.{Single, Content, single, message, content, Message, absent, nothing}
-use Rattle.protobuf_model.specs.Types.{Name, Scalar, Frame, sized, tagged, Kind, scalar, nested, Part, Key, Label, one, many, keyed, Field, Types}
+use Rattle.protobuf_model.specs.Types.{Name, Scalar, Frame, sized, tagged, Kind, scalar, nested, Part, one, Types}
 use Rattle.protobuf_model.specs.Types as kinds
 use Rattle.protobuf_model.specs.Scalars.{meant, packs, wire_type, same, Suits}
 use Rattle.protobuf_model.specs.Reader.{inside_of}

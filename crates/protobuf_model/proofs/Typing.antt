@@ -4,7 +4,7 @@ use Rattle.std.specs.List.{flat_map, AllByRecursion}
 use Rattle.reflect_wire.specs.Records.{Payload, varint, fixed64, delimited, fixed32, wire_of}
 use Rattle.reflect_wire.specs.Written.{FitsPayload}
 use Rattle.protobuf_model.specs.Values.{Single, Content, single, message, list, dictionary, more_contents, more_entries, Held, content, records, Message, absent, nothing}
-use Rattle.protobuf_model.specs.Types.{Name, Scalar, Frame, Kind, scalar, nested, Part, Key, Label, one, many, keyed, Field, Types, rival, same_oneof, oneof_of}
+use Rattle.protobuf_model.specs.Types.{Name, Scalar, Frame, Kind, scalar, nested, Part, Key, Label, one, many, keyed, Field}
 use Rattle.protobuf_model.specs.Types as kinds
 use Rattle.protobuf_model.specs.Scalars.{meant, packs, wire_type, same, Suits}
 use Rattle.protobuf_model.specs.Keys.{below, put, Ascend}

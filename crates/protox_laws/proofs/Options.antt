@@ -6,7 +6,7 @@ use Rattle.protox_declaration_records.specs.OptionRecords.{list_options_of, list
 use Rattle.protox_declaration_records.specs.Texts.{signed_text, text_of}
 use Rattle.protox_laws.proofs.Lists.{maps}
 use Rattle.protox_tree.specs.Tree as tree
-use Rattle.protox_tree.specs.Tree.{Word, joined, type_text}
+use Rattle.protox_tree.specs.Tree.{joined, type_text}
 use Rattle.protox_tree.specs.View.{body_view, float_view, ident_view, name_part_view, option_list_view, option_view, strings_view, type_name_view, value_view}
 use Rattle.protox_tree.specs.declared.option.OptionBody.{OptionBody}
 use Rattle.protox_tree.specs.declared.option.OptionList.{OptionList}

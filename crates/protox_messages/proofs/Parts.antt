@@ -1,6 +1,6 @@
 -- What stands in messages, seen as the tree.
 use Rattle.protox_lex.specs.declared.span.Span.{Span}
-use Rattle.protox_tree.specs.Nest.{Item, Member, AddedItem, message, items_of, item_field, item_oneof, item_message, item_enum, item_extend, item_empty, oneof, members_of, member_field, member_option, member_empty, extend, added_of, added_field, added_empty}
+use Rattle.protox_tree.specs.Nest.{message, items_of, item_field, item_oneof, item_message, item_enum, item_extend, item_empty, oneof, members_of, member_field, member_option, member_empty, extend, added_of, added_field, added_empty}
 use Rattle.protox_tree.specs.NestView.{message_view, item_view, items_view, field_view, oneof_view, member_view, members_view, extend_view, added_view, added_items_view}
 use Rattle.protox_tree.specs.View.{ident_view, type_name_view, option_view, enum_view}
 use Rattle.protox_tree.specs.declared.enumeration.Enum.{Enum}

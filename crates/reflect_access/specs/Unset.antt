@@ -1,6 +1,6 @@
 -- Values that say as much as a field that is not set (protobuf.dev, "Language Guide", Default Field
 -- Values).
-use Rattle.std.specs.Prelude.{◌≡◌, true, [], None, Some}
+use Rattle.std.specs.Prelude.{◌≡◌, true, [], Some}
 use Rattle.reflect_tables.specs.Types.{PoolType, FieldType}
 use Rattle.reflect_contents.specs.Walked.{HoldsNothing}
 use Rattle.reflect_pool.specs.declared.kind.Kind.{Kind}

@@ -1,5 +1,5 @@
 -- What the parts of a pool are linked with, which files it has not yet, and what stays of it.
-use Rattle.std.proofs.Common.{◌≡◌, ◌∙◌, ◌≤◌, ◌+◌, ◌^◌, ℕ, Bool, true, List, Option, Some, None, Result, Ok, Err, IsErrAnd, OnErr, OnOk, length, nat_le, slice_get, sum_by, ap, refl, subst, sym}
+use Rattle.std.proofs.Common.{◌≡◌, ◌∙◌, ◌≤◌, ◌+◌, ◌^◌, ℕ, Bool, true, List, Option, Some, None, Result, Ok, Err, IsErrAnd, OnErr, OnOk, length, nat_le, sum_by, ap, refl, subst, sym}
 use Rattle.std.proofs.lemmas.Bool.{le-leb, leb-true}
 use Rattle.descriptor_records.specs.declared.file.FileDescriptorProto.{FileDescriptorProto}
 use Rattle.reflect_declarations.specs.declared.offsets.Offsets.{Offsets}

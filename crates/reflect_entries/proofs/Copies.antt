@@ -6,11 +6,10 @@ use Rattle.std.specs.List.Sorted.{IsStrictlySortedBy}
 use Rattle.std.specs.BTreeMap.{insert_entry}
 use Rattle.std.specs.Map.{keys_of}
 use Rattle.std.specs.Ordering.{nat_cmp, match_ordering}
-use Rattle.std.specs.declared.cmp.Ordering.{Ordering}
-use Rattle.std.specs.declared.cmp.Ordering.TheVariants.{Less, Equal, Greater}
+use Rattle.std.specs.declared.cmp.Ordering.TheVariants.{Less, Greater}
 use Rattle.std.proofs.lemmas.Map.Keys.{sorted_head, sorted_tail}
 use Rattle.reflect_wire.proofs.Views.{set_view-out}
-use Rattle.reflect_wire.specs.Records.{Payload, Records, no_records, more_records}
+use Rattle.reflect_wire.specs.Records.{Payload}
 use Rattle.reflect_wire.specs.Views.{records_of, set_view}
 use Rattle.reflect_wire.specs.declared.unknown.UnknownFieldSet.{UnknownFieldSet}
 use Rattle.reflect_entries.specs.Sets.{set_records, records_in, AreGrouped}

@@ -1,10 +1,10 @@
 -- What stands under a number, of numbers and values side by side.
-use Rattle.std.proofs.Common.{◌≡◌, ℕ, zero, suc, unwrap_or, ◌+◌, ◌<◌, ◌≤◌, List, [], ◌∷◌, ◌++◌, length, get_or, set, Option, Some, None, refl, sym, ap, ◌∙◌, subst, arith, nat_cmp, length-set}
+use Rattle.std.proofs.Common.{◌≡◌, ℕ, zero, suc, unwrap_or, ◌<◌, ◌≤◌, List, [], ◌∷◌, length, get_or, set, Some, None, refl, sym, ap, ◌∙◌, arith, nat_cmp}
 use Rattle.std.proofs.lemmas.List.Edits.{get_or-insert_at, length-insert, length-remove}
 use Rattle.std.proofs.lemmas.Slice.Zip.{get_or-zip, length-zip}
 use Rattle.std.specs.List.{HoldsAt, zip, insert, remove}
 use Rattle.std.specs.List.Sorted.{IsPartitionPoint, IsStrictlySortedBy}
-use Rattle.reflect_entries.specs.Entries.{Ascend, IsAscending, Updates, value_at}
+use Rattle.reflect_entries.specs.Entries.{IsAscending, Updates, value_at}
 use Rattle.reflect_entries.proofs.Places.{found, missing, put, taken, written, unchanged}
 use Rattle.reflect_entries.proofs.Zips.{ascend_from, pairs_ascend, numbers_sorted, held_at, parted, zip-insert, zip-remove, zip-set}
 

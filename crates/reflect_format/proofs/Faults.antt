@@ -1,5 +1,5 @@
 -- What refusals tell, from what is read before them.
-use Rattle.std.proofs.Common.{◌≡◌, ◌∙◌, ◌-◌, inl, inr, ℕ, zero, suc, true, false, List, [], ◌∷◌, ◌++◌, Option, Some, None, option_map, Result, Ok, Err, IfErr, IfOk, IsErrAnd, refl, sym, ap, subst}
+use Rattle.std.proofs.Common.{◌≡◌, ◌∙◌, ◌-◌, inl, inr, ℕ, zero, suc, true, false, List, Option, Some, None, option_map, Result, Ok, Err, IfErr, IfOk, IsErrAnd, refl, sym, ap, subst}
 use Rattle.protobuf_model.specs.Types.{Scalar}
 use Rattle.protobuf_model.specs.Values.{Single}
 use Rattle.protox_lex.specs.Class.{Text}
@@ -33,7 +33,7 @@ use Rattle.reflect_format.specs.Steps.{is_set}
 use Rattle.reflect_format.specs.Told.{BodyFault, ListBegins, MessageFault, MessageFaults, SecondFault, Told, ValueBytes, ValueFault}
 use Rattle.reflect_format.specs.Unfit.{CannotMake}
 use Rattle.reflect_format.specs.declared.target.Target.{Target}
-use Rattle.reflect_format.proofs.Filling.{cause, cause_of}
+use Rattle.reflect_format.proofs.Filling.{cause_of}
 use Rattle.reflect_format.proofs.Telling.{passed}
 
 -- ---- what is passed on

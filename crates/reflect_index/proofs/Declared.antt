@@ -3,7 +3,7 @@ use Rattle.std.proofs.Common.{◌≡◌, inl, inr, ◌+◌, ◌&&◌, ℕ, zero,
 use Rattle.descriptor_records.specs.declared.field.FieldDescriptorProto.{FieldDescriptorProto}
 use Rattle.descriptor_records.specs.declared.file.FileDescriptorProto.{FileDescriptorProto}
 use Rattle.reflect_declarations.specs.Batches.{batch_declarations}
-use Rattle.reflect_declarations.specs.Declarations.{Declaration, Body, of_message, of_field, of_extension}
+use Rattle.reflect_declarations.specs.Declarations.{Declaration, Body, of_field, of_extension}
 use Rattle.reflect_declarations.specs.declared.offsets.Offsets.{Offsets}
 use Rattle.reflect_names.specs.declared.resolve_visitor.Reference.{Reference}
 use Rattle.reflect_references.specs.Meanings.{meaning}
@@ -15,7 +15,6 @@ use Rattle.reflect_index.specs.Along.{AtHand, Met, along, before_files, hand_beh
 use Rattle.reflect_index.specs.BatchEntries.{IsBatchOf}
 use Rattle.reflect_index.specs.Entries.{HasKind, DeclaredField, IsFieldBy, IsFieldOf, IsExtensionBy, IsExtensionOf}
 use Rattle.reflect_index.specs.Grown.{declared_field, stored_fields, list_at}
-use Rattle.reflect_index.specs.OfDeclarations.{RangesType, AreDeclared, AllDeclared, messages_in}
 use Rattle.reflect_index.specs.declared.batch.Batch.{Batch}
 use Rattle.reflect_index.proofs.Among.{Among, of_filter, of_zip, of_place, place_of, zip_place, get_map, got_map}
 

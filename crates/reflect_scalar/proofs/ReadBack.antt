@@ -1,7 +1,7 @@
 -- What a value is written as means that value, and no other.
 use Rattle.std.proofs.Common.{◌≡◌, ℕ, ℤ, pos, negsuc, ◌<◌, ◌^◌, List, ◌++◌, refl, sym, ap, ◌∙◌, subst, arith, IfSome, Option, Some, None, FitsSigned, true, false}
 use Rattle.std.specs.Prelude.{option_map, is_some}
-use Rattle.std.specs.Int.{w32, w64, cast_signed, cast_unsigned}
+use Rattle.std.specs.Int.{w32, w64}
 use Rattle.std.proofs.lemmas.Int.{to_z-of_z}
 use Rattle.std.proofs.Math.Nat.{mod-eq_of_lt}
 use Rattle.reflect_wire.specs.Records.{Payload, varint, fixed64, delimited, group, fixed32, SpellsPayload}
@@ -14,7 +14,7 @@ use Rattle.reflect_pool.specs.declared.kind.Kind.{Kind}
 use Rattle.reflect_pool.specs.declared.kind.Kind.TheVariants as kinds
 use Rattle.reflect_scalar.specs.declared.scalar.WireScalar.{WireScalar}
 use Rattle.reflect_scalar.specs.Kinds.{wire_type, suits}
-use Rattle.reflect_scalar.specs.Meaning.{StandsFor, IsScalar, zigzag, low}
+use Rattle.reflect_scalar.specs.Meaning.{StandsFor, IsScalar, zigzag}
 use Rattle.reflect_scalar.specs.Singles.{Single, truth, int32, int64, uint32, uint64, text, blob, enumerated, wire_view}
 use Rattle.reflect_scalar.specs.Written.{written, plain_bytes, Fits, IsReadAs}
 use Rattle.reflect_scalar.proofs.Meanings.{form_of_meaning}

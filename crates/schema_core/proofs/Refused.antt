@@ -20,7 +20,6 @@ use Rattle.reflect_passes.specs.declared.error.DescriptorError.{DescriptorError}
 use Rattle.reflect_build.specs.Refusals.{AreRefused}
 use Rattle.reflect_bytes.specs.Spelled.{SpellsSet}
 use Rattle.reflect_bytes.proofs.Refused.{unspelled}
-use Rattle.reflect_format.specs.Truth.{TrueOf}
 use Rattle.text_error.specs.declared.error.ParseError as text
 use Rattle.text_error.specs.declared.error.ParseErrorKind.{ParseErrorKind}
 use Rattle.text_error.specs.declared.error.ParseErrorKind.TheVariants as texts
@@ -34,7 +33,7 @@ use Rattle.reflect_decode.specs.Spelled.{TellsWhy}
 use Rattle.reflect_pool.specs.declared.message.MessageDescriptor.{MessageDescriptor}
 use Rattle.schema_core.specs.Payloads.{IsType}
 use Rattle.schema_core.specs.Serving.{IsPayload, PayloadRefused, of_schema}
-use Rattle.schema_core.specs.Refusals.{of_source, of_wire, of_text, IsKnown, IsNoText, BytesRefused, TextRefused, IsNoSet, FilesFit, FilesRefused, sources_of, IsFileOf, AreFilesOf, SourcesLinked, SourcesRefused, SetRefused}
+use Rattle.schema_core.specs.Refusals.{of_source, of_wire, of_text, IsNoText, BytesRefused, TextRefused, IsNoSet, FilesFit, FilesRefused, sources_of, IsFileOf, AreFilesOf, SourcesLinked, SourcesRefused, SetRefused}
 
 -- a linker's refusal is one of files
 pub of_link : (p : PoolType) (files typed : List FileDescriptorProto) (d : DescriptorError) (e : SchemaError) → TypedFiles files typed → AreRefused p typed d → (e ≡ Memory) ⊎ (e ≡ Link d) → FilesRefused p files e

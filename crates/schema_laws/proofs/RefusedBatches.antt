@@ -1,5 +1,5 @@
 -- Files that are refused as they are linked are no batch.
-use Rattle.std.proofs.Common.{◌≡◌, ◌⊎◌, inl, inr, List, ◌∷◌, true, refl}
+use Rattle.std.proofs.Common.{◌≡◌, ◌⊎◌, inl, inr, List, true, refl}
 use Rattle.descriptor_records.specs.Content.{FileContent}
 use Rattle.descriptor_records.specs.declared.file.FileDescriptorProto.{FileDescriptorProto}
 use Rattle.reflect_names.specs.Faults.{another, fault_view}

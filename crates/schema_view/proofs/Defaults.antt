@@ -11,7 +11,7 @@ use Rattle.descriptor_records.specs.declared.field.FieldType.{FieldType}
 use Rattle.descriptor_records.specs.declared.field.FieldType.TheVariants as numbers
 use Rattle.protobuf_model.specs.Coded.{IsRecoded, Mean}
 use Rattle.protobuf_model.specs.Values.{Message, enumerated}
-use Rattle.protobuf_model.specs.Types.{Name, Scalar, Frame, sized, tagged, Kind, scalar, nested, Part, Key, Label, one, many, keyed, Field, Types}
+use Rattle.protobuf_model.specs.Types.{Scalar, Frame, sized, tagged, Kind, scalar, nested, Part, one, many, keyed, Field}
 use Rattle.protobuf_model.specs.Types as kinds
 use Rattle.protobuf_model.specs.Scalars.{Suits}
 use Rattle.protobuf_model.specs.Typed.{HasDefault, HasEntryDefaults, HasDefaults, HaveDefaults}

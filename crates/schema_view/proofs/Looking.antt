@@ -10,7 +10,7 @@ use Rattle.schema_view.specs.Declarations.{FieldFacts, facts_of, MessageFacts, B
 use Rattle.schema_view.specs.Outlines.{Outline, outline_of, Head, head_of, times}
 use Rattle.schema_view.specs.Lawful.{outlines}
 use Rattle.schema_view.specs.Views as views
-use Rattle.schema_view.specs.Views.{FileFacts, Held, View, first, when, file_at, declared_at, view_of}
+use Rattle.schema_view.specs.Views.{FileFacts, Held, when, file_at, declared_at, view_of}
 use Rattle.schema_view.proofs.Lists.{contains_none, contains_there, contains_cases, contains_map, contains_map_cases, contains_flat, contains_flat_cases, sum_map, sum_some, sum_same, one_of, first_from, first_some}
 use Rattle.schema_view.proofs.Orders.{when_true}
 use Rattle.schema_view.proofs.Road.{AreLinked}

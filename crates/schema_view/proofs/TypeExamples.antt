@@ -3,7 +3,7 @@ use Rattle.std.proofs.Common.{◌≡◌, ℤ, pos, negsuc, Bool, true, false, []
 use Rattle.std.specs.Prelude.{codes}
 use Rattle.descriptor_records.specs.Content.{Text, OptionsContent, FieldContent, EnumContent, MessageContent, message, no_messages, more_messages, FileContent}
 use Rattle.protobuf_model.specs.Values.{int32, text, enumerated}
-use Rattle.protobuf_model.specs.Types.{sized, tagged, scalar, nested, one, many, keyed}
+use Rattle.protobuf_model.specs.Types.{tagged, scalar, nested, one, many, keyed}
 use Rattle.protobuf_model.specs.Types as kinds
 use Rattle.schema_view.specs.Views.{View, view_of}
 use Rattle.schema_view.specs.Types.{types_of}

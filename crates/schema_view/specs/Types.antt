@@ -6,7 +6,7 @@ use Rattle.std.specs.Str.Parse.{digits_value, signed_digits_value}
 use Rattle.descriptor_records.specs.Content.{Text, FieldContent, EnumValueContent, EnumContent}
 use Rattle.protox_lex.specs.Lex.{unescaped}
 use Rattle.protobuf_model.specs.Values.{Single, truth, int32, int64, uint32, uint64, text, blob, enumerated}
-use Rattle.protobuf_model.specs.Types.{Name, Scalar, sized, tagged, Kind, scalar, nested, Part, Key, Label, one, many, keyed, Field, Types}
+use Rattle.protobuf_model.specs.Types.{Scalar, sized, tagged, Kind, scalar, nested, Part, Key, one, many, keyed, Field, Types}
 use Rattle.protobuf_model.specs.Types as kinds
 use Rattle.schema_view.specs.Files.{text_of, join}
 use Rattle.schema_view.specs.Declarations.{FieldFacts, MessageFacts, Body, of_message, of_field, of_enum, of_extension}

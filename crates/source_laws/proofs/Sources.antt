@@ -2,7 +2,7 @@
 use Rattle.std.proofs.Common.{List, [], ◌∷◌, Option, None, Ok, fold, flat_map, map, subst, sym}
 use Rattle.std.specs.List.{AllByRecursion}
 use Rattle.descriptor_records.specs.Content as records
-use Rattle.descriptor_records.specs.Content.{EnumContent, FileContent, messages_of}
+use Rattle.descriptor_records.specs.Content.{FileContent, messages_of}
 use Rattle.descriptor_records.specs.declared.file.FileDescriptorProto.{FileDescriptorProto}
 use Rattle.protox_lex.specs.Class.{Text}
 use Rattle.protox_parse.specs.Answers.{IsAnswered}

@@ -10,7 +10,7 @@ use Rattle.std.proofs.lemmas.List.Sums.{prefix_len-le-length}
 use Rattle.std.proofs.lemmas.Str.{IsCharBoundary-after_ascii, IsCharBoundary-before_ascii}
 use Rattle.protox_lex.specs.Class.{Text, is_in}
 use Rattle.protox_lex.specs.Lex as source_lex
-use Rattle.protox_lex.specs.Lex.{sign_of, char_len, Escaped, is_hex, value, short, scalar, byte_of, char_of, simple, simple_of, hex, octal_escape, unicode, escape, fault_len, contents_len, comment_len}
+use Rattle.protox_lex.specs.Lex.{sign_of, char_len, is_hex, value, short, scalar, byte_of, char_of, simple, simple_of, hex, octal_escape, unicode, escape, fault_len, contents_len}
 use Rattle.protox_lex.specs.Longest as source
 use Rattle.protox_lex.specs.Token as sources
 use Rattle.protox_lex.specs.declared.class.Class.TheVariants as class

@@ -10,7 +10,7 @@ use Rattle.std.proofs.lemmas.Fmt.{decimal_is_IsNumeral, first_decimal, decimal_d
 use Rattle.std.proofs.lemmas.Str.Parse.{digit_from_value}
 use Rattle.protox_lex.specs.Class.{Text, is_in, past}
 use Rattle.protox_lex.specs.Lex as source
-use Rattle.protox_lex.specs.Lex.{number, integer, octal, is_hex, is_float, past_fraction, past_exponent, short, value, sized}
+use Rattle.protox_lex.specs.Lex.{number, integer, octal, past_fraction, past_exponent, short, value, sized}
 use Rattle.protox_lex.specs.Token as sources
 use Rattle.protox_lex.specs.declared.class.Class.TheVariants as class
 use Rattle.protox_lex.specs.declared.error.LexErrorKind.TheVariants as kinds

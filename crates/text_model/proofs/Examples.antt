@@ -12,7 +12,7 @@ use Rattle.reflect_wire.specs.Records.{Payload}
 use Rattle.reflect_wire.specs.Views.{records_of}
 use Rattle.reflect_wire.specs.Encoding.{records_bytes, varint_bytes}
 use Rattle.protobuf_model.specs.Values.{Single, truth, int32, uint32, text, blob, enumerated, single, message, list, dictionary, more_contents, no_contents, more_entries, no_entries, Held, content, Message, absent, nothing}
-use Rattle.protobuf_model.specs.Types.{Name, Scalar, Kind, nested, sized, Label, one, many, keyed, Field, Types, rival}
+use Rattle.protobuf_model.specs.Types.{Name, Scalar, nested, sized, one, many, keyed, Field, Types, rival}
 use Rattle.protobuf_model.specs.Types as kinds
 use Rattle.protobuf_model.specs.Bytes.{count_from, field_numbers, is_declared, bytes_of, numbered, payloads_under}
 use Rattle.text_model.specs.Tree.{expansion, no_separator, comma, FieldName, plain, integer, floating, identifier, ScalarValue, signed, strings, curly, scalar, no_values, more_values, Given, one_scalar, one_message, listed, Fields, no_fields, more_fields}

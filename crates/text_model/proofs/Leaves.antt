@@ -6,7 +6,7 @@ use Rattle.std.proofs.lemmas.Bool.Decides.{eqb_tells}
 use Rattle.protox_lex.specs.Class.{Text, is_in, past}
 use Rattle.protox_lex.specs.Escapes.{escaped}
 use Rattle.protox_lex.specs.Lex as source
-use Rattle.protox_lex.specs.Lex.{number, integer, octal, is_hex, is_float, past_fraction, past_exponent, short, value, sized, quoted, closed}
+use Rattle.protox_lex.specs.Lex.{number, quoted, closed}
 use Rattle.protox_lex.specs.Token as sources
 use Rattle.protox_lex.specs.declared.class.Class.TheVariants as class
 use Rattle.protox_lex.specs.declared.token.Sign.TheVariants as signs

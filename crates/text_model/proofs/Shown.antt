@@ -7,7 +7,7 @@ use Rattle.protox_lex.specs.Class.{Text}
 use Rattle.text_lex.specs.Lex.{lexemes}
 use Rattle.text_lex.proofs.Lexing.{all_longest}
 use Rattle.protobuf_model.specs.Values.{Single, truth, int32, int64, uint32, uint64, text, blob, enumerated, Content, single, message, list, dictionary, Contents, no_contents, more_contents, Entries, no_entries, more_entries, Held, content, records, Message, list_of, pairs_of}
-use Rattle.protobuf_model.specs.Types.{Name, Scalar, Kind, scalar, nested, Part, Key, Label, one, many, keyed, Field, Types}
+use Rattle.protobuf_model.specs.Types.{Name, Scalar, Kind, scalar, nested, Part, Key, Label, one, many, keyed, Field}
 use Rattle.protobuf_model.specs.Types as kinds
 use Rattle.protobuf_model.specs.Scalars.{Suits}
 use Rattle.protobuf_model.specs.Coded.{SuitsType}

@@ -1,7 +1,7 @@
 -- The key and the value of the entries of a map.
 use Rattle.std.proofs.Common.{◌≡◌, ℕ, ◌==◌, ◌&&◌, ◌||◌, true, false, cond, Some, None, refl, sym, ap, ◌∙◌, is_some}
 use Rattle.std.specs.Option.{option_and_then}
-use Rattle.reflect_tables.specs.Types.{PoolType, FieldType, ExtensionType, KindType, type_at, type_of_field, extension_at, no_field, no_extension}
+use Rattle.reflect_tables.specs.Types.{PoolType, FieldType, KindType, type_at, type_of_field, no_field}
 use Rattle.reflect_tables.specs.Types as types
 use Rattle.reflect_tables.specs.declared.stored.StoredEntry.{StoredEntry}
 use Rattle.reflect_pool.specs.Shapes.{is_entry, holds_map}

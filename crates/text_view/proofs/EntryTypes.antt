@@ -3,7 +3,7 @@ use Rattle.std.proofs.Common.{◌≡◌, ◌<◌, ℕ, ℤ, zero, suc, Bool, tru
 use Rattle.std.specs.Prelude.{slice_index_or}
 use Rattle.std.specs.Option.{option_and_then, option_or}
 use Rattle.protox_lex.specs.Class.{Text}
-use Rattle.protobuf_model.specs.Types.{Name, Field, Key, Part, one, keyed, rival}
+use Rattle.protobuf_model.specs.Types.{Name, Key, Part, one, keyed, rival}
 use Rattle.protobuf_model.specs.Types as kinds
 use Rattle.protobuf_model.specs.Values.{text, Message}
 use Rattle.reflect_tables.specs.Types.{PoolType, FieldType, KindType, MessageType, no_type, type_at, type_of_field}

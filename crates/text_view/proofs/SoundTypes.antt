@@ -8,7 +8,7 @@ use Rattle.std.specs.Prelude.{slice_index_or, bytes_eq}
 use Rattle.protox_lex.specs.Class.{Text}
 use Rattle.protobuf_model.specs.Types.{Name, Scalar, string, bytes, scalar, Part, Field, Key, keyed}
 use Rattle.protobuf_model.specs.Values.{Message}
-use Rattle.reflect_tables.specs.Types.{PoolType, FieldType, KindType, EnumType, ValueType, no_enum, enum_at, type_at, type_of_field, extension_at}
+use Rattle.reflect_tables.specs.Types.{PoolType, FieldType, KindType, ValueType, no_enum, enum_at, type_at}
 use Rattle.reflect_tables.specs.Types as types
 use Rattle.reflect_pool.specs.Shapes.{holds_list, holds_map}
 use Rattle.reflect_message.specs.Known.{is_float, if_held, known_field, known_extension, numbered_field}

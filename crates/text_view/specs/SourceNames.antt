@@ -3,7 +3,7 @@
 use Rattle.std.specs.Prelude.{◌≡◌, ◌≢◌, ◌<◌, ℕ, length, map, true, false, None, Some, codes}
 use Rattle.std.specs.Char.{to_ascii_lowercase}
 use Rattle.protobuf_model.specs.Types.{rival}
-use Rattle.reflect_tables.specs.Types.{PoolType, FieldType, KindType, type_at, type_of_field, enum_at, extension_at}
+use Rattle.reflect_tables.specs.Types.{PoolType, FieldType, type_at, type_of_field, enum_at, extension_at}
 use Rattle.reflect_tables.specs.Types as types
 use Rattle.reflect_tables.specs.declared.stored.StoredEntry.{StoredEntry}
 use Rattle.reflect_pool.specs.Parts.{type_of_value}

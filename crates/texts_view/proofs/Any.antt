@@ -7,7 +7,7 @@ use Rattle.reflect_any.specs.Any as any
 use Rattle.reflect_fields.specs.Fields.{natural}
 use Rattle.reflect_index.proofs.Among.{index_is}
 use Rattle.reflect_message.specs.Known.{numbered_field}
-use Rattle.reflect_pool.specs.Shapes.{holds_list, holds_map, is_entry}
+use Rattle.reflect_pool.specs.Shapes.{is_entry}
 use Rattle.reflect_pool.specs.Shapes as shapes
 use Rattle.reflect_tables.specs.Names.{enums, messages, names_of}
 use Rattle.reflect_tables.specs.Types.{KindType, MessageType, PoolType, no_oneof, no_type, type_at}

@@ -10,7 +10,7 @@ use Rattle.descriptor_records.specs.declared.field.FieldType.TheVariants as numb
 use Rattle.protobuf_model.specs.Types.{Name}
 use Rattle.reflect_fields.specs.Fields.{is_message, scalar_type}
 use Rattle.reflect_tables.specs.Names.{FullName, enums, messages, names_of}
-use Rattle.reflect_tables.specs.Types.{EnumType, FieldType, KindType, MessageType, PoolType, ValueType, no_enum, no_type}
+use Rattle.reflect_tables.specs.Types.{EnumType, KindType, MessageType, PoolType, ValueType, no_enum, no_type}
 use Rattle.reflect_tables.specs.Types as types
 use Rattle.reflect_print.specs.Named as print
 use Rattle.schema_view.specs.Declarations.{of_enum, of_message}

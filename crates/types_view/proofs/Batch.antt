@@ -11,7 +11,6 @@ use Rattle.reflect_build.proofs.Stored.{zip_both}
 use Rattle.reflect_build.specs.Accepted.{FaultlessBatch, FaultlessFiles}
 use Rattle.reflect_build.specs.Refusals.{IsOf, Linking, new_files, with_declared}
 use Rattle.reflect_fields.specs.Fields as fields
-use Rattle.reflect_fields.specs.Fields.{natural}
 use Rattle.reflect_index.proofs.Among.{Among, got_map, of_all, of_place, place_of, get_map, zip_place}
 use Rattle.reflect_index.proofs.Declared.{ExtensionDeclared, FieldDeclared, extension_declared, field_declared, list_of, of_along}
 use Rattle.reflect_index.specs.Along.{AtHand, Met, along, all_of, before_files, hand_behind, is_field, is_message, parts}

@@ -10,7 +10,7 @@ use Rattle.descriptor_records.specs.Content.{Text, EnumContent, EnumValueContent
 use Rattle.descriptor_records.specs.FieldNumbers.{IsTypeOf, type_number}
 use Rattle.descriptor_records.specs.declared.field.FieldType.{FieldType as TypeNumber}
 use Rattle.descriptor_records.specs.declared.field.FieldType.TheVariants as numbers
-use Rattle.protobuf_model.specs.Types.{Kind, nested, scalar}
+use Rattle.protobuf_model.specs.Types.{scalar}
 use Rattle.protobuf_model.specs.Types as kinds
 use Rattle.protobuf_model.specs.Values as model
 use Rattle.protobuf_model.specs.Values.{Single, enumerated}
@@ -20,14 +20,14 @@ use Rattle.reflect_defaults.specs.declared.default.DefaultText.TheVariants as sa
 use Rattle.reflect_fields.specs.FieldDefaults.{IsDefaultOf, IsNumbered, IsScalarDefault, default_type}
 use Rattle.reflect_fields.specs.Fields.{scalar_type}
 use Rattle.reflect_tables.specs.Names.{enums, messages, names_of}
-use Rattle.reflect_tables.specs.Types.{DefaultType, EnumType, FieldType, KindType, MessageType, PoolType, ValueType, named, no_enum}
+use Rattle.reflect_tables.specs.Types.{DefaultType, EnumType, KindType, PoolType, ValueType, named, no_enum}
 use Rattle.reflect_tables.specs.Types as types
 use Rattle.schema_view.specs.Declarations.{Body, MessageFacts, of_message, of_field, of_oneof, of_enum, of_value, of_service, of_method, of_extension}
 use Rattle.schema_view.specs.Lawful.{HasNamedDefault, IsSettled, outlines}
 use Rattle.schema_view.specs.Outlines.{IsDeclared, Outline, enum_sort, sort_of, value_name}
 use Rattle.schema_view.specs.Scalars.{IsDefault, is_scalar}
 use Rattle.schema_view.specs.Types as said
-use Rattle.schema_view.specs.Types.{enum_in, field_in, first_number, number_in, said_of, type_at, value_number, values_of, zero_of}
+use Rattle.schema_view.specs.Types.{field_in, first_number, number_in, said_of, type_at, value_number, values_of, zero_of}
 use Rattle.schema_view.specs.Views.{or_else, when}
 use Rattle.schema_view.proofs.Lists.{contains_cases, contains_none}
 use Rattle.schema_view.proofs.Road.{AreLinked}

@@ -30,7 +30,7 @@ use Rattle.reflect_pool.specs.Shapes.{holds_map}
 use Rattle.message_view.specs.Singles.{scalar_of}
 use Rattle.message_view.specs.Sound.{HaveNames}
 use Rattle.message_view.specs.Types as pool
-use Rattle.message_view.specs.Types.{field_of, kind_in, label_of, name_at, values_of}
+use Rattle.message_view.specs.Types.{field_of, kind_in, label_of, values_of}
 use Rattle.linked_view.specs.Valued.{TellsValues}
 use Rattle.linked_view.proofs.Places.{contains_get, get_contains, get_less}
 use Rattle.reflect_index.proofs.Among.{index_is}

@@ -8,7 +8,7 @@ use Rattle.protobuf_model.specs.Types.{nested, sized, tagged, scalar}
 use Rattle.reflect_fields.specs.Fields.{is_message, scalar_type}
 use Rattle.reflect_fields.specs.Fields as fields
 use Rattle.reflect_tables.specs.Names.{FullName, names_of, messages, enums}
-use Rattle.reflect_tables.specs.Types.{FieldType, KindType, MessageType, PoolType, no_type}
+use Rattle.reflect_tables.specs.Types.{KindType, MessageType, PoolType, no_type}
 use Rattle.reflect_tables.specs.Types as types
 use Rattle.schema_view.specs.Declarations.{of_enum, of_message}
 use Rattle.schema_view.specs.Fields.{holds_message, is_group, is_packable}

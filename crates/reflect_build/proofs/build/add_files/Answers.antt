@@ -1,5 +1,5 @@
 -- The files that a pool has not yet are added, and are too many exactly where this is told.
-use Rattle.std.proofs.Common.{rules, of_calls, ◌≡◌, ◌∙◌, Err, ap, false, inl, subst, sym, true}
+use Rattle.std.proofs.Common.{rules, of_calls, ◌∙◌, Err, ap, false, inl, subst, sym, true}
 use Rattle.std.proofs.lemmas.Fn.{filter_same}
 use Rattle.reflect_passes.specs.Errors.{is_too_many}
 use Rattle.reflect_build.specs.Accepted.{AddsNames, Faultless}

@@ -6,7 +6,6 @@ use mathlib.Core.HLevel.{×_prop}
 use native.Mathlib.Nat.{ℕ_set}
 use native.Mathlib.Omega.{arith}
 use lib.ListN.{length-map}
-use base.Stored.{gcons, coded_ℕ}
 use denote.RattleType.{RattleType}
 use denote.HoleLaws.{Alike}
 use denote.HolePlaces.{Recodes, struct_places, laid}

@@ -1,8 +1,6 @@
-use Rattle.std.proofs.Common.{◌≡◌, ◌≤◌, ℕ, List, Option, None, Some, Result, IfErr, IfSome, slice_get, ap, subst, ◌∙◌}
-use Rattle.descriptor_records.specs.declared.file.FileDescriptorProto.{FileDescriptorProto}
-use Rattle.reflect_names.specs.Faults.{Place}
+use Rattle.std.proofs.Common.{◌≡◌, Some, IfSome, slice_get, ap, subst}
 use Rattle.reflect_tables.specs.Types.{PoolType}
-use Rattle.option_parts.specs.Places.{option_place, IsPlaceIn, StandsFrom}
+use Rattle.option_parts.specs.Places.{option_place, StandsFrom}
 use Rattle.reflect_options.proofs.Located.{in_file, passed}
 use Rattle.reflect_options.proofs.resolve.collect_edits.Goals as goal
 

@@ -1,4 +1,4 @@
-use Rattle.std.proofs.Common.{◌≡◌, ◌∙◌, ℤ, List, ap, sym, int_eq}
+use Rattle.std.proofs.Common.{◌∙◌, ap, sym, int_eq}
 use Rattle.std.specs.Cmp.Lexicographic.{pointwise}
 use Rattle.reflect_names.specs.Spans.{span_among, span_of}
 use Rattle.reflect_options.proofs.Located.{here, further}

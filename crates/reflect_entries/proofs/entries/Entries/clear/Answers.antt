@@ -1,4 +1,4 @@
-use Rattle.std.proofs.Common.{◌≡◌, [], length, ap, ◌∙◌, sym, arith}
+use Rattle.std.proofs.Common.{[], length, ap, ◌∙◌, sym, arith}
 use Rattle.reflect_entries.proofs.Zips.{sorted_from}
 use Rattle.reflect_entries.proofs.entries.Entries.clear.Goals as goal
 

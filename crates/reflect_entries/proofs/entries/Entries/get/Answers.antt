@@ -1,5 +1,5 @@
 -- The value at the number's place stands under it, and where there is none nothing does.
-use Rattle.std.proofs.Common.{◌≡◌, sym, ap, ◌∙◌}
+use Rattle.std.proofs.Common.{sym, ap, ◌∙◌}
 use Rattle.reflect_entries.specs.Entries.{value_at}
 use Rattle.reflect_entries.proofs.Side.{got, not_got}
 use Rattle.reflect_entries.proofs.Zips.{ascend_from}

@@ -1,5 +1,5 @@
 -- What is written goes over what stood under the number.
-use Rattle.std.proofs.Common.{◌≡◌, refl, sym, ap, ◌∙◌, true, false, true≢false}
+use Rattle.std.proofs.Common.{refl, sym, ap, ◌∙◌, true, false, true≢false}
 use Rattle.reflect_entries.specs.Entries.{value_at}
 use Rattle.reflect_entries.proofs.Side.{got, not_got, put_over}
 use Rattle.reflect_entries.proofs.Zips.{ascend_from}

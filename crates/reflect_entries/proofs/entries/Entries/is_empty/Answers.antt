@@ -1,4 +1,4 @@
-use Rattle.std.proofs.Common.{◌≡◌, List, [], ◌∷◌, length, ap, ◌∙◌, sym, refl, arith, tests}
+use Rattle.std.proofs.Common.{◌≡◌, List, [], ◌∷◌, length, ap, refl, arith, tests}
 use Rattle.std.proofs.lemmas.Slice.Zip.{length-zip}
 use Rattle.reflect_entries.proofs.entries.Entries.is_empty.Goals as goal
 

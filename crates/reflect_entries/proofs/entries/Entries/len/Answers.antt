@@ -1,4 +1,4 @@
-use Rattle.std.proofs.Common.{◌≡◌, length, ap, ◌∙◌, sym, arith}
+use Rattle.std.proofs.Common.{length, ap, arith}
 use Rattle.std.proofs.lemmas.Slice.Zip.{length-zip}
 use Rattle.reflect_entries.proofs.entries.Entries.len.Goals as goal
 

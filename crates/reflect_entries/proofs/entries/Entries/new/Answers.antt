@@ -1,5 +1,5 @@
 -- No numbers ascend.
-use Rattle.std.proofs.Common.{◌≡◌, [], ap, ◌∙◌, sym, length, arith}
+use Rattle.std.proofs.Common.{[], ap, ◌∙◌, sym, length, arith}
 use Rattle.reflect_entries.proofs.Zips.{sorted_from}
 use Rattle.reflect_entries.proofs.entries.Entries.new.Goals as goal
 

@@ -1,8 +1,8 @@
 -- What is written goes over what stands at the number's place.
-use Rattle.std.proofs.Common.{◌≡◌, ℕ, ◌<◌, length, refl, sym, ap, ◌∙◌, arith, unwrap_or}
-use Rattle.std.proofs.lemmas.Slice.Zip.{length-zip, get_or-zip}
+use Rattle.std.proofs.Common.{◌≡◌, ◌<◌, length, refl, sym, ap, ◌∙◌, arith, unwrap_or}
+use Rattle.std.proofs.lemmas.Slice.Zip.{length-zip}
 use Rattle.std.specs.List.{HoldsAt}
-use Rattle.reflect_entries.specs.Entries.{Updates, value_at}
+use Rattle.reflect_entries.specs.Entries.{value_at}
 use Rattle.reflect_entries.proofs.Places.{again}
 use Rattle.reflect_entries.proofs.Side.{got, put_over}
 use Rattle.reflect_entries.proofs.Zips.{number_at}

@@ -1,8 +1,7 @@
 -- The number and its value go out of their places.
-use Rattle.std.proofs.Common.{◌≡◌, length, sym, ap, ◌∙◌, subst, arith}
+use Rattle.std.proofs.Common.{length, sym, ap, ◌∙◌, arith}
 use Rattle.std.proofs.lemmas.List.Edits.{length-remove}
-use Rattle.std.specs.List.{zip}
-use Rattle.reflect_entries.specs.Entries.{Updates, value_at}
+use Rattle.reflect_entries.specs.Entries.{value_at}
 use Rattle.reflect_entries.proofs.Side.{got, not_got, took, sorted_out, left}
 use Rattle.reflect_entries.proofs.Zips.{ascend_from}
 use Rattle.reflect_entries.proofs.entries.Entries.take.Goals as goal

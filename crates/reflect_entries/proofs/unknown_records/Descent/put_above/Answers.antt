@@ -1,11 +1,11 @@
 -- The set ahead is written where its number is above the least, and then the one before it is ahead.
-use Rattle.std.proofs.Common.{◌≡◌, ℕ, ◌<◌, ◌≤◌, List, ◌++◌, ◌∷◌, [], ap, sym, ◌∙◌, arith}
+use Rattle.std.proofs.Common.{◌≡◌, ◌<◌, ◌++◌, ap, sym, ◌∙◌, arith}
 use Rattle.reflect_codec.specs.Held.{held}
 use Rattle.reflect_wire.specs.Encoding.{records_bytes}
 use Rattle.reflect_wire.specs.Views.{records_of, set_view}
 use Rattle.reflect_entries.specs.Descends.{sets_left}
 use Rattle.reflect_entries.specs.Sets.{records_in, above, up_to}
-use Rattle.reflect_entries.proofs.Descends.{TakesTheLast, last_of, stepped, still_up, still_grouped, none_above, all_up_to, up_to_same, written_more}
+use Rattle.reflect_entries.proofs.Descends.{last_of, stepped, still_up, still_grouped, none_above, all_up_to, up_to_same, written_more}
 use Rattle.reflect_entries.proofs.unknown_records.Descent.put_above.Goals as goal
 
 pub returns-then-number-least-clause-written : goal.returns-then-number-least-clause-written

@@ -1,6 +1,5 @@
 -- A set that is copied goes behind the copies of those before it.
-use Rattle.std.proofs.Common.{◌≡◌, ap}
-use Rattle.reflect_entries.proofs.Copies.{Copies, copied_one}
+use Rattle.reflect_entries.proofs.Copies.{copied_one}
 use Rattle.reflect_entries.proofs.unknown_records.UnknownRecords.clone.Goals as goal
 
 pub loop-number-preserved-in_ok-insert : goal.loop-number-preserved-in_ok-insert

@@ -1,5 +1,5 @@
 -- The first set that is left is counted next; where a sum passes the largest length, so does the whole.
-use Rattle.std.proofs.Common.{◌≡◌, ◌+◌, length, arith, ap}
+use Rattle.std.proofs.Common.{length, arith, ap}
 use Rattle.reflect_wire.proofs.Lengths.{none_told}
 use Rattle.reflect_wire.specs.Encoding.{records_bytes}
 use Rattle.reflect_wire.specs.Views.{records_of}

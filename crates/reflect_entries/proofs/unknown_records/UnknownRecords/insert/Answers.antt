@@ -1,5 +1,5 @@
 -- A record goes behind those of its number, or into a set of its own where there are none.
-use Rattle.std.proofs.Common.{◌≡◌, ℕ, ◌++◌, ◌∷◌, [], map, true, arith, ap, sym, ◌∙◌, refl, Result, Ok, Err, OnOk, OnErr}
+use Rattle.std.proofs.Common.{◌≡◌, ℕ, ◌++◌, ◌∷◌, [], map, true, arith, ap, sym, ◌∙◌, Result, Ok, Err, OnOk, OnErr}
 use Rattle.std.specs.BTreeMap.{is_at, insert_entry}
 use Rattle.std.specs.Ordering.{nat_cmp}
 use Rattle.reflect_wire.proofs.Views.{no_fields_in}

@@ -1,5 +1,5 @@
 -- Records without a set are none, and a set has records.
-use Rattle.std.proofs.Common.{◌≡◌, ap, length, arith, sym, ◌∙◌, refl}
+use Rattle.std.proofs.Common.{ap, length}
 use Rattle.reflect_entries.specs.Sets.{records_in}
 use Rattle.reflect_entries.proofs.Sets.{none_in, empty_of}
 use Rattle.reflect_entries.proofs.unknown_records.UnknownRecords.is_empty.Goals as goal

@@ -1,7 +1,7 @@
-use Rattle.std.proofs.Common.{◌≡◌, ◌∙◌, ◌<◌, All, map, length, List, ℕ, ap, sym, subst}
+use Rattle.std.proofs.Common.{◌∙◌, ◌<◌, All, map, length, List, ℕ, ap, sym, subst}
 use Rattle.std.specs.List.{AllByRecursion}
 use Rattle.std.proofs.lemmas.Simd.{map-map}
-use Rattle.reflect_tables.specs.Types.{PoolType, OneofType, ListsMembers, type_at, type_of_field}
+use Rattle.reflect_tables.specs.Types.{PoolType, OneofType, ListsMembers, type_at}
 use Rattle.reflect_pool.specs.FieldsLeft.{type_in}
 use Rattle.reflect_pool.specs.Parts.{type_of_oneof}
 use Rattle.reflect_pool.specs.PlacesLeft.{places_in}

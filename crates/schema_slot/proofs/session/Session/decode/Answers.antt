@@ -1,4 +1,4 @@
-use Rattle.std.proofs.Common.{◌≡◌, ◌∙◌, rules, string_bytes, subst, sym}
+use Rattle.std.proofs.Common.{◌≡◌, rules, string_bytes, subst, sym}
 use Rattle.schema_core.specs.Payloads.{Decoded}
 use Rattle.schema_core.specs.Refusals.{BytesRefused}
 use Rattle.schema_slot.proofs.Ended.{ends_done}
