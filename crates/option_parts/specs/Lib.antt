@@ -1,3 +1,4 @@
+pub mod Moves
 pub mod OptionTypes
 pub mod Places
 pub mod Texts

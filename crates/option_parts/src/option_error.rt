@@ -183,7 +183,9 @@ impl fmt::Display for OptionError {
 impl Error for OptionError {}
 
 impl From<AllocError> for OptionError {
-    ghost from_gives = { λ _ e. e.place ≡ None };
+    ghost use Rattle.option_parts.specs.declared.option_error.OptionErrorKind.TheVariants.{Memory};
+
+    ghost from_gives = { λ _ e. (e.kind ≡ Memory) × (e.place ≡ None) };
 
     fn from(_error: AllocError) -> OptionError {
         OptionError::new(OptionErrorKind::Memory, None)
@@ -191,7 +193,9 @@ impl From<AllocError> for OptionError {
 }
 
 impl<T: Drop> From<AllocFailed<T>> for OptionError {
-    ghost from_gives = { λ _ e. e.place ≡ None };
+    ghost use Rattle.option_parts.specs.declared.option_error.OptionErrorKind.TheVariants.{Memory};
+
+    ghost from_gives = { λ _ e. (e.kind ≡ Memory) × (e.place ≡ None) };
 
     fn from(_error: AllocFailed<T>) -> OptionError {
         OptionError::new(OptionErrorKind::Memory, None)
