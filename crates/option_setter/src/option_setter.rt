@@ -1,12 +1,13 @@
 //! One option, set in a message of options.
 
-ghost use Rattle.std.specs.Prelude.{◌≡◌, ◌++◌, ℤ, List, IfErr, IfOk, OnOk, true};
-ghost use Rattle.descriptor_records.specs.Content.{option_view};
+ghost use Rattle.std.specs.Prelude.{◌≡◌, ◌++◌, ℤ, List, IfErr, IfOk, OnOk, string_bytes, true};
+ghost use Rattle.descriptor_records.specs.Content.{name_view, option_view};
 ghost use Rattle.option_parts.specs.declared.option_error.OptionErrorKind.TheVariants.{Memory};
 ghost use Rattle.option_setter.specs.OptionNames.{LacksExtension, LacksTarget, NamesExtension, NamesTarget, UnlessMemory};
 ghost use Rattle.option_setter.specs.OptionValues.{IsSaid};
-ghost use Rattle.reflect_message.specs.declared.value.ValueOf.TheVariants as values;
 ghost use Rattle.option_setter.specs.SetOptions.{IsNoMessage, LeadsInto, LeadsNowhere, RefusesLast, RefusesParts, RefusesValue, SetsLast, SetsParts};
+ghost use Rattle.option_setter.specs.WrittenNames.{TellsOption, behind_dot, written_name};
+ghost use Rattle.reflect_message.specs.declared.value.ValueOf.TheVariants as values;
 ghost use Rattle.reflect_format.specs.Takes.{BelongsTo, holds_many, target_pool, target_type};
 ghost use Rattle.reflect_scalar.specs.Floats.{HoldsFloats};
 
@@ -31,19 +32,29 @@ pub struct NameScope<'a, 'p> {
     pub name: &'a str,
 }
 
-/// The name of an option as it is written.
-pub fn option_name(alloc: Global, option: &UninterpretedOption) -> Result<String, AllocError> {
+/// Puts a part of an option's name behind those in front of it. A refusal may leave some of it.
+fn push_part(name: &mut String, part: &NamePart) -> Result<(), AllocError>
+    ensures { OnOk result (string_bytes name.new
+        ≡ behind_dot (string_bytes name.old) (name_view part.now)) }
+{
+    if !name.is_empty() {
+        name.push_str(".")?;
+    }
+    if !part.is_extension {
+        return name.push_str(part.name_part.as_str());
+    }
+    name.push_str("(")?;
+    name.push_str(part.name_part.as_str())?;
+    name.push_str(")")
+}
+
+/// The name of an option as it is written. Refused for want of memory alone.
+pub fn option_name(alloc: Global, option: &UninterpretedOption) -> Result<String, AllocError>
+    ensures { IfOk result (λ name. string_bytes name ≡ written_name (option_view option.now)) }
+{
     let mut name = String::new(alloc);
-    for part in &option.name {
-        if !name.is_empty() {
-            name.push('.')?;
-        }
-        if part.is_extension {
-            let part = format!(in alloc; "({})", part.name_part)?;
-            name.push_str(part.as_str())?;
-        } else {
-            name.push_str(part.name_part.as_str())?;
-        }
+    'parts: for part in &option.name {
+        push_part(&mut name, part)?;
     }
     Ok(name)
 }
@@ -81,6 +92,7 @@ impl<'a, 'p> OptionSetter<'a, 'p> {
         ensures refused { IfErr result (UnlessMemory
             (RefusesParts self.now.scope (option_view self.now.option.now) 100
             self.now.option.now.name.items message.old)) }
+        ensures named { IfErr result (TellsOption (option_view self.now.option.now)) }
     {
         let mut path = Vec::with_capacity(self.alloc, self.option.name.len().saturating_add(1))?;
         self.set_parts(message, self.option.name.as_slice(), MAX_LEVELS, &mut path)?;
@@ -89,7 +101,9 @@ impl<'a, 'p> OptionSetter<'a, 'p> {
 
     /// The name of the option, for a fault. Refused for want of memory alone.
     fn name(&self) -> Result<String, OptionErrorKind>
-        ensures { IfErr result (λ e. e ≡ Memory) }
+        ensures written { IfOk result (λ name. string_bytes name
+            ≡ written_name (option_view self.now.option.now)) }
+        ensures refused { IfErr result (λ e. e ≡ Memory) }
     {
         Ok(option_name(self.alloc, self.option)?)
     }
@@ -110,6 +124,7 @@ impl<'a, 'p> OptionSetter<'a, 'p> {
         ensures refused { IfErr result (UnlessMemory
             (RefusesParts self.now.scope (option_view self.now.option.now) levels parts.now
             message.old)) }
+        ensures named { IfErr result (TellsOption (option_view self.now.option.now)) }
     {
         let Some((part, rest)) = parts.split_first() else {
             return Ok(());
@@ -138,6 +153,7 @@ impl<'a, 'p> OptionSetter<'a, 'p> {
         ensures found { IfOk result (NamesTarget self.now.scope message.entry part.now) }
         ensures refused { IfErr result (UnlessMemory
             (LacksTarget self.now.scope message.entry part.now)) }
+        ensures named { IfErr result (TellsOption (option_view self.now.option.now)) }
     {
         if part.is_extension {
             return self.extension(message, part.name_part.as_str());
@@ -158,6 +174,7 @@ impl<'a, 'p> OptionSetter<'a, 'p> {
         ensures found { IfOk result (NamesExtension self.now.scope message.entry name.now) }
         ensures refused { IfErr result (UnlessMemory
             (LacksExtension self.now.scope message.entry name.now)) }
+        ensures named { IfErr result (TellsOption (option_view self.now.option.now)) }
     {
         let scope = self.scope;
         let filter = ResolveNameFilter::Extension;
@@ -181,6 +198,7 @@ impl<'a, 'p> OptionSetter<'a, 'p> {
     fn held_message(&self, held: Value<'p>) -> Result<DynamicMessage<'p>, OptionErrorKind>
         ensures message { IfOk result (λ m. held.entry ≡ values.Message m) }
         ensures none { IfErr result (UnlessMemory (IsNoMessage held.entry)) }
+        ensures named { IfErr result (TellsOption (option_view self.now.option.now)) }
     {
         match held {
             Value::Message(inner) => Ok(inner),
@@ -199,6 +217,7 @@ impl<'a, 'p> OptionSetter<'a, 'p> {
         ensures type_stays { message.new.descriptor ≡ message.old.descriptor }
         ensures led { IfOk result (LeadsInto target.entry message.old message.new) }
         ensures refused { IfErr result (UnlessMemory (LeadsNowhere target.entry message.old)) }
+        ensures named { IfErr result (TellsOption (option_view self.now.option.now)) }
     {
         match target.kind() {
             Kind::Message(kind) if !target.holds_many() => match taken(target, message) {
@@ -224,6 +243,7 @@ impl<'a, 'p> OptionSetter<'a, 'p> {
             × (path.new.items ≡ path.old.items ++ rest)) }
         ensures refused { IfErr result (UnlessMemory
             (RefusesLast target.entry (option_view self.now.option.now) message.old)) }
+        ensures named { IfErr result (TellsOption (option_view self.now.option.now)) }
     {
         if holds_float_numbers(target) {
             return Err(OptionErrorKind::FloatOption { name: self.name()? });
@@ -244,6 +264,7 @@ impl<'a, 'p> OptionSetter<'a, 'p> {
         ensures said { IfOk result (IsSaid kind.entry (option_view self.now.option.now)) }
         ensures refused { IfErr result (UnlessMemory
             (RefusesValue kind.entry (option_view self.now.option.now))) }
+        ensures named { IfErr result (TellsOption (option_view self.now.option.now)) }
     {
         match option_value(self.alloc, self.option, kind) {
             Ok(value) => Ok(value),
@@ -269,6 +290,7 @@ impl<'a, 'p> OptionSetter<'a, 'p> {
             × (path.new.items ≡ path.old.items ++ rest)) }
         ensures refused { IfErr result (UnlessMemory
             (RefusesLast target.entry (option_view self.now.option.now) message.old)) }
+        ensures named { IfErr result (TellsOption (option_view self.now.option.now)) }
     {
         let value = self.value(target.kind())?;
         if is_list(target) {

@@ -6,6 +6,7 @@ ghost use Rattle.descriptor_records.specs.Content.{OptionContent, option_view};
 ghost use Rattle.option_setter.specs.OptionNames.{UnlessMemory};
 ghost use Rattle.option_setter.specs.OptionValues.{IsSaid, MakesSaid, SaysNoText, SaysNothing, number, number_64, plain_said, without_sign};
 ghost use Rattle.option_setter.specs.SetOptions.{RefusesValue};
+ghost use Rattle.option_setter.specs.WrittenNames.{name_told};
 ghost use Rattle.reflect_format.specs.Enums.{number_named};
 ghost use Rattle.reflect_format.specs.Kinds.{single_of};
 ghost use Rattle.protobuf_model.specs.Types.{bytes, string};
@@ -43,8 +44,9 @@ impl From<AllocError> for ValueFault {
 impl ValueFault {
     /// The fault of the option of this name.
     pub fn of_option(self, name: String) -> OptionErrorKind
-        ensures { (k : Kind) (o : OptionContent) → SaysNothing k o self
+        ensures refused { (k : Kind) (o : OptionContent) → SaysNothing k o self
             → UnlessMemory (RefusesValue k o) result }
+        ensures named { IfSome (name_told result) (λ told. told ≡ string_bytes name) }
     {
         match self {
             ValueFault::Unsuited => OptionErrorKind::InvalidOptionType { name },
