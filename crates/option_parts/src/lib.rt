@@ -1,6 +1,6 @@
 //! What reading options asks of declarations alone: which types of options there are and what they
-//! must have, where the locations of options move, the options that linking reads itself, and how all
-//! this is refused.
+//! must have, where the locations of options move, the options that linking reads itself, and how
+//! all this is refused.
 #![tactic(auto)]
 
 mod moved_locations;

@@ -7,6 +7,7 @@ ghost use Rattle.reflect_names.specs.Spans.{locations};
 
 use descriptor_records::{FileDescriptorProto, join_path, tag};
 use reflect_build::Edit;
+use reflect_scope::FileIndex;
 use std::alloc::{AllocError, Global};
 use std::collections::BTreeMap;
 
@@ -55,15 +56,15 @@ fn moved_path(
 /// Adds the edits of a file's locations: those of options move to where these were set.
 pub fn move_locations(
     alloc: Global,
-    file: u32,
-    record: &FileDescriptorProto,
+    file: FileIndex,
+    proto: &FileDescriptorProto,
     moved: &BTreeMap<Vec<i32>, Vec<i32>>,
     edits: &mut Vec<Edit>,
 ) -> Result<(), AllocError>
     ensures { OnOk result ((es : List Edit) × EditsLocations (targets_of moved.now) file 0
-        (locations record.now) es × (edits.new.items ≡ edits.old.items ++ es)) }
+        (locations proto.now) es × (edits.new.items ≡ edits.old.items ++ es)) }
 {
-    let Some(info) = &record.source_code_info else {
+    let Some(info) = &proto.source_code_info else {
         return Ok(());
     };
     let mut place = 0u32;

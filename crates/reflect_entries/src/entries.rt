@@ -32,7 +32,8 @@ impl<V> Model for Entries<V> {
 
     ghost view = { λ e. zip e.numbers.items e.values.items };
 
-    ghost invariant = { λ e. (length e.values.items ≡ length e.numbers.items) × IsStrictlySortedBy nat_cmp e.numbers.items };
+    ghost invariant = { λ e. (length e.values.items ≡ length e.numbers.items)
+        × IsStrictlySortedBy nat_cmp e.numbers.items };
 }
 
 impl<V: Drop> Drop for Entries<V> {

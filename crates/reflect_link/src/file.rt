@@ -183,7 +183,8 @@ fn text(text: &Option<String>) -> &str
 pub struct Files<'p> {
     pool: &'p DescriptorPool,
     places: &'p [FileIndex],
-    ghost inside: { All (λ place. place < length pool.now.files) places.now } by { Prim.hlevel props },
+    ghost inside: { All (λ place. place < length pool.now.files)
+        places.now } by { Prim.hlevel props },
 }
 
 impl<'p> Iterator for Files<'p> {

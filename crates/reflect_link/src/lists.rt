@@ -11,7 +11,8 @@ use reflect_scope::{EnumIndex, ExtensionIndex, MessageIndex};
 pub struct Messages<'p> {
     pub(crate) pool: &'p DescriptorPool,
     pub(crate) places: &'p [MessageIndex],
-    ghost inside: { All (λ place. place < length pool.now.messages) places.now } by { Prim.hlevel props },
+    ghost inside: { All (λ place. place < length pool.now.messages)
+        places.now } by { Prim.hlevel props },
 }
 
 impl<'p> Iterator for Messages<'p> {
@@ -37,7 +38,8 @@ impl<'p> Iterator for Messages<'p> {
 pub struct Enums<'p> {
     pub(crate) pool: &'p DescriptorPool,
     pub(crate) places: &'p [EnumIndex],
-    ghost inside: { All (λ place. place < length pool.now.enums) places.now } by { Prim.hlevel props },
+    ghost inside: { All (λ place. place < length pool.now.enums)
+        places.now } by { Prim.hlevel props },
 }
 
 impl<'p> Iterator for Enums<'p> {
@@ -63,7 +65,8 @@ impl<'p> Iterator for Enums<'p> {
 pub struct Extensions<'p> {
     pub(crate) pool: &'p DescriptorPool,
     pub(crate) places: &'p [ExtensionIndex],
-    ghost inside: { All (λ place. place < length pool.now.extensions) places.now } by { Prim.hlevel props },
+    ghost inside: { All (λ place. place < length pool.now.extensions)
+        places.now } by { Prim.hlevel props },
 }
 
 impl<'p> Iterator for Extensions<'p> {

@@ -75,7 +75,8 @@ impl<'p> Iterator for EnumReservedRanges<'p> {
 
     type Item = RangeInclusive<i32>;
 
-    ghost next_gives = { YieldsFirstBy (λ r. (range_inclusive_start r, range_inclusive_end r)) enum_left };
+    ghost next_gives = { YieldsFirstBy
+        (λ r. (range_inclusive_start r, range_inclusive_end r)) enum_left };
 
     ghost remaining = { item_count enum_left };
 

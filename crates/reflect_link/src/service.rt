@@ -148,7 +148,8 @@ impl<'p> ServiceDescriptor<'p> {
 pub struct Services<'p> {
     pub(crate) pool: &'p DescriptorPool,
     pub(crate) places: &'p [ServiceIndex],
-    ghost inside: { All (λ place. place < length pool.now.services) places.now } by { Prim.hlevel props },
+    ghost inside: { All (λ place. place < length pool.now.services)
+        places.now } by { Prim.hlevel props },
 }
 
 impl<'p> Iterator for Services<'p> {

@@ -18,7 +18,8 @@ pub struct Faults<'a> {
     found: Vec<DescriptorErrorKind>,
     /// The spans of the file that was asked for last.
     spans: Option<(FileIndex, FileSpans<'a>)>,
-    ghost told: { IfSome spans (λ s. s.1.locations.now ≡ locations_at files.now first s.0) } by { Prim.hlevel props },
+    ghost told: { IfSome spans (λ s. s.1.locations.now
+        ≡ locations_at files.now first s.0) } by { Prim.hlevel props },
 }
 
 /// The text, empty where it is missing.

@@ -59,7 +59,7 @@ impl<'a> NameVisitor<'a> {
         }
     }
 
-    /// AddsName what the files declare, the first of which has the index `first`; `before` are the
+    /// Adds what the files declare, the first of which has the index `first`; `before` are the
     /// counts of what stands before them, and the answer those behind them.
     pub fn declare_files(
         &mut self,

@@ -121,7 +121,8 @@ impl<'p> Eq for OneofDescriptor<'p> {
 pub struct OneofFields<'p> {
     message: MessageDescriptor<'p>,
     places: &'p [FieldIndex],
-    ghost inside: { All (λ place. place < length (type_at message.pool.now message.index).fields) places.now } by { Prim.hlevel props },
+    ghost inside: { All (λ place. place < length (type_at message.pool.now message.index).fields)
+        places.now } by { Prim.hlevel props },
 }
 
 impl<'p> Iterator for OneofFields<'p> {

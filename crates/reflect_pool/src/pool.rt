@@ -48,7 +48,8 @@ impl Model for DescriptorPool {
 
     ghost view = { λ p. pool_of p.tables };
 
-    ghost invariant = { λ p. IsLinked (pool_of p.tables) p.names p.file_names p.extension_numbers p.links.items p.tables.messages.items };
+    ghost invariant = { λ p. IsLinked (pool_of p.tables) p.names p.file_names
+        p.extension_numbers p.links.items p.tables.messages.items };
 }
 
 /// A full name without its leading dot, if it has one.

@@ -19,9 +19,12 @@ pub struct FieldList {
     pub by_name: Vec<FieldIndex>,
     /// That of each JSON name that was written, and that of the first field without one.
     pub by_json_name: Vec<FieldIndex>,
-    ghost numbers: { IsIndex (map (field_key by.Number) list.items) by_number.items } by { Prim.hlevel props },
-    ghost names: { IsIndex (map (field_key by.Name) list.items) by_name.items } by { Prim.hlevel props },
-    ghost json_names: { IsIndex (map (field_key by.JsonName) list.items) by_json_name.items } by { Prim.hlevel props },
+    ghost numbers: { IsIndex (map (field_key by.Number) list.items)
+        by_number.items } by { Prim.hlevel props },
+    ghost names: { IsIndex (map (field_key by.Name) list.items)
+        by_name.items } by { Prim.hlevel props },
+    ghost json_names: { IsIndex (map (field_key by.JsonName) list.items)
+        by_json_name.items } by { Prim.hlevel props },
 }
 
 /// The values of an enum type.
@@ -33,6 +36,8 @@ pub struct ValueList {
     pub by_number: Vec<EnumValueIndex>,
     /// That of each name.
     pub by_name: Vec<EnumValueIndex>,
-    ghost numbers: { IsIndex (map (value_key by.Number) list.items) by_number.items } by { Prim.hlevel props },
-    ghost names: { IsIndex (map (value_key by.Name) list.items) by_name.items } by { Prim.hlevel props },
+    ghost numbers: { IsIndex (map (value_key by.Number) list.items)
+        by_number.items } by { Prim.hlevel props },
+    ghost names: { IsIndex (map (value_key by.Name) list.items)
+        by_name.items } by { Prim.hlevel props },
 }

@@ -1,6 +1,6 @@
 //! Where declarations stand: their paths, their names and their numbers.
 
-ghost use Rattle.std.specs.Prelude.{◌≡◌, ◌+◌, ◌<◌, ◌^◌, OnOk, IfOk, string_bytes};
+ghost use Rattle.std.specs.Prelude.{◌≡◌, ◌+◌, ◌<◌, ◌^◌, [], OnOk, IfOk, string_bytes};
 ghost use Rattle.reflect_declarations.specs.Declarations.{entry};
 ghost use Rattle.reflect_declarations.specs.Tree.{text_of as content_of};
 ghost use Rattle.reflect_scope.specs.Means.{join};
@@ -36,10 +36,7 @@ pub fn next_index(count: &mut u32) -> Result<u32, VisitError>
     ensures index { IfOk result (λ i. i ≡ count.old) }
     ensures more { OnOk result (count.new ≡ count.old + 1) }
 {
-    let index = *count;
-    if index > 0x7fff_ffff {
-        return Err(VisitError::TooMany);
-    }
+    let index = list_index(*count as usize)?;
     *count = index + 1;
     Ok(index)
 }
@@ -67,8 +64,11 @@ pub struct Place {
 }
 
 impl Place {
-    /// Takes no memory.
-    pub fn new(alloc: Global) -> Place {
+    /// The place of a file, which has no path and no name. Takes no memory.
+    pub fn new(alloc: Global) -> Place
+        ensures path { result.path.items ≡ [] }
+        ensures name { string_bytes result.full_name ≡ [] }
+    {
         Place {
             path: Vec::new(alloc),
             full_name: String::new(alloc),

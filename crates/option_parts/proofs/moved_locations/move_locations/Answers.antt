@@ -54,6 +54,6 @@ returns c =
     let n = c.locations.location-index in
     let at = c.locations.invariant.edits in
     let all = edits_all targets c.args.file ls n at.0 (drop_all n ls c.locations-test.false) at.1 in
-    let same : ls ≡ locations c.args.record.now =
+    let same : ls ≡ locations c.args.proto.now =
     c.deref-location-items.ensures.value ∙ sym (ap (λ o. elim o [ None ↦ [] | Some info ↦ info.location.items ]) c.in-Some.is) in
     (at.0, subst (λ xs. EditsLocations targets c.args.file 0 xs at.0) same all, at.2)
