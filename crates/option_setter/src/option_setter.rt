@@ -73,7 +73,10 @@ impl<'a, 'p> OptionSetter<'a, 'p> {
         alloc: Global,
         scope: NameScope<'a, 'p>,
         option: &'a UninterpretedOption,
-    ) -> OptionSetter<'a, 'p> {
+    ) -> OptionSetter<'a, 'p>
+        ensures scope { result.scope ≡ scope.entry }
+        ensures option { result.option.now ≡ option.now }
+    {
         OptionSetter {
             alloc,
             scope,

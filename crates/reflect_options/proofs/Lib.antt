@@ -1,1 +1,5 @@
+pub mod Deciding
 pub mod Located
+pub mod Moving
+pub mod Passing
+pub mod Setting

@@ -1,5 +1,6 @@
--- The span of a path among locations, and faults that are passed on with their places.
-use Rattle.std.proofs.Common.{◌≡◌, ◌∙◌, ◌≤◌, ℕ, ℤ, List, ◌∷◌, Bool, true, false, cond, Option, None, Some, IfSome, Result, IfErr, IsErrAnd, slice_get, int_cmp, int_eq, ap, sym, subst, refl}
+-- The span of a path among locations, and what one file more adds: its edits, or its fault with
+-- the place.
+use Rattle.std.proofs.Common.{◌≡◌, ◌∙◌, ◌≤◌, ◌+◌, ◌-◌, ◌++◌, suc, arith, ℕ, ℤ, List, ◌∷◌, Bool, true, false, cond, Option, None, Some, IfSome, Result, IfErr, IsErrAnd, slice_get, int_cmp, int_eq, ap, sym, subst, refl}
 use Rattle.std.proofs.lemmas.Result.{err_from_is_err_and}
 use Rattle.std.specs.Cmp.Lexicographic.{pointwise, lists_ties}
 use Rattle.std.specs.Option.{option_or}
@@ -10,6 +11,11 @@ use Rattle.reflect_names.specs.Spans.{same_path, span_among, span_of}
 use Rattle.reflect_names.specs.declared.label.SourceSpan.{SourceSpan}
 use Rattle.option_parts.specs.Places.{IsPlaceIn, StandsFrom}
 use Rattle.option_parts.specs.declared.option_error.OptionError.{OptionError}
+use Rattle.option_parts.specs.declared.option_error.OptionErrorKind.{OptionErrorKind}
+use Rattle.reflect_growth.specs.declared.settle.Edit.{Edit}
+use Rattle.reflect_link.specs.declared.file.FileDescriptor.{FileDescriptor}
+use Rattle.reflect_tables.specs.Types.{PoolType}
+use Rattle.reflect_options.specs.Settling.{RefusesFile, RefusesFrom, SettlesFile, SettlesFiles}
 
 as_path : (xs ys : List ℤ) → pointwise int_eq xs ys ≡ same_path xs ys
 as_path = lists_ties int_cmp (λ x y. refl)
@@ -37,3 +43,27 @@ in_file files first i f from at (Some p) place = (i, f, from, at, place)
 -- what holds of a fault holds of the refusal that passes it on
 pub passed : {T : Type 0} (r : Result T OptionError) (Q : OptionError → Type 0) (fault : OptionError) → IsErrAnd r (λ e. e ≡ fault) → Q fault → IfErr r Q
 passed r Q fault err q = let p = err_from_is_err_and r err in rw p.1 (subst Q (sym p.2) q)
+
+-- the record of the file at an index
+pub record_at : (pool : PoolType) (file : FileDescriptor) (i : ℕ) (f : FileDescriptorProto) → file.pool.now ≡ pool → file.index ≡ i → slice_get file.pool.now.records file.index ≡ Some f → slice_get pool.records i ≡ Some f
+record_at pool file i f is at stands = subst (λ n. slice_get pool.records n ≡ Some f) at (subst (λ (p : PoolType). slice_get p.records file.index ≡ Some f) is stands)
+
+again : (first i : ℕ) → first ≤ i → first + (i - first) ≡ i
+again first i from = omega (arith, from)
+
+more : (first i : ℕ) → first ≤ i → suc (i - first) ≡ i + 1 - first
+more first i from = omega (arith, from)
+
+-- behind the edits of the files before it those of the file at an index
+pub settles_next : (pool : PoolType) (first i : ℕ) (front own new : List Edit) (f : FileDescriptorProto) → first ≤ i → SettlesFiles pool first (i - first) front → slice_get pool.records i ≡ Some f → SettlesFile pool i f own → new ≡ front ++ own → SettlesFiles pool first (i + 1 - first) new
+settles_next pool first i front own new f from before at settles is =
+    let e = sym (again first i from) in
+    subst (λ n. SettlesFiles pool first n new) (more first i from)
+    (front, own, f, before, subst (λ n. slice_get pool.records n ≡ Some f) e at, subst (λ n. SettlesFile pool n f own) e settles, is)
+
+-- the file at an index is refused, behind those before it
+pub refuses_next : (pool : PoolType) (first i : ℕ) (front : List Edit) (f : FileDescriptorProto) (place : Option Place) → first ≤ i → SettlesFiles pool first (i - first) front → slice_get pool.records i ≡ Some f → IfSome place (IsPlaceIn f) → (kind : OptionErrorKind) → (p : Place) × (place ≡ Some p) × RefusesFile pool i f p.path kind → RefusesFrom pool first place kind
+refuses_next pool first i front f place from before at stands kind (p, is, refuses) =
+    let e = sym (again first i from) in
+    subst (λ o. RefusesFrom pool first o kind) (sym is)
+    (i - first, front, f, before, subst (λ n. slice_get pool.records n ≡ Some f) e at, subst (λ n. RefusesFile pool n f p.path kind) e refuses, subst (λ o. IfSome o (IsPlaceIn f)) is stands)

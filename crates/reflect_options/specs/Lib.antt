@@ -1,0 +1,4 @@
+pub mod Entities
+pub mod Settled
+pub mod Settling
+pub mod Visiting

@@ -1,9 +1,15 @@
-ghost use Rattle.std.specs.Prelude.{◌≡◌, OnErr, IfOk, IfErr, IfSome, map};
+ghost use Rattle.std.specs.Prelude.{◌≡◌, ◌++◌, List, Some, OnErr, OnOk, IfOk, IfErr, IfSome, map};
+ghost use Rattle.reflect_growth.specs.declared.settle.Edit.{Edit};
 ghost use Rattle.reflect_growth.specs.Settled.{bare_of};
 ghost use Rattle.reflect_tables.specs.Types.{PoolType, IsSettled};
-ghost use Rattle.reflect_names.specs.Faults.{place_of};
+ghost use Rattle.reflect_names.specs.Faults.{Place, place_of};
 ghost use Rattle.reflect_names.specs.Spans.{span_among};
+ghost use Rattle.option_parts.specs.OptionTypes.{CanRead};
 ghost use Rattle.option_parts.specs.Places.{option_place, IsPlaceIn, StandsFrom};
+ghost use Rattle.option_parts.specs.declared.option_scope.OptionScope.{OptionScope};
+ghost use Rattle.option_setter.specs.OptionNames.{UnlessMemory};
+ghost use Rattle.reflect_options.specs.Settling.{RefusesFile, RefusesFrom, SettlesFile, SettlesFrom, SettlesPool};
+ghost use Rattle.reflect_options.specs.Visiting.{IsClean};
 
 use crate::options_visitor::OptionsVisitor;
 use descriptor_records::{FileDescriptorProto, Location};
@@ -24,10 +30,15 @@ pub trait ResolveOptions {
     /// follows the bytes, and the locations of options move to where these were set (protobuf.dev,
     /// "Custom Options").
     ///
-    /// The error is the first fault that was met. After a refusal the pool is as it was; else
-    /// nothing changes but the options in records and the paths of their locations.
+    /// The error is the first fault that was met: a type of options that options cannot be read by,
+    /// without a place, or, with its place, options that are refused; or want of memory. After a
+    /// refusal the pool is as it was; else nothing changes but the options in records and the paths
+    /// of their locations.
     fn resolve_options(&mut self, alloc: Global, first: FileIndex) -> Result<(), OptionError>
+        ensures options { OnOk result (SettlesPool (holds self.old) first (holds self.new)) }
         ensures unchanged { OnErr result (holds self.new ≡ holds self.old) }
+        ensures refused { IfErr result (λ e. UnlessMemory
+            (RefusesFrom (holds self.old) first (option_place e)) e.kind) }
         ensures place { IfErr result (λ e. IfSome (option_place e)
             (StandsFrom (holds self.old).records first)) }
         ensures settled { IsSettled (holds self.old) (holds self.new) }
@@ -47,7 +58,8 @@ impl ResolveOptions for DescriptorPool {
 
 /// The place of a path in a file, with its span where the file's record has one.
 fn label_of(alloc: Global, file: &FileDescriptorProto, path: Vec<i32>) -> Result<Label, AllocError>
-    ensures { IfOk result (λ l. IsPlaceIn file.now (place_of l)) }
+    ensures place { IfOk result (λ l. IsPlaceIn file.now (place_of l)) }
+    ensures path { IfOk result (λ l. (place_of l).path ≡ path.items) }
 {
     let name = match &file.name {
         Some(name) => name.as_str(),
@@ -83,7 +95,15 @@ fn collect_file<'p>(
     file: &FileDescriptorProto,
     visitor: &mut OptionsVisitor<'p>,
 ) -> Result<(), OptionError>
-    ensures { IfErr result (λ e. IfSome (option_place e) (IsPlaceIn file.now)) }
+    requires { IsClean visitor.old }
+    ensures pool { OnOk result (visitor.new.pool.now ≡ visitor.old.pool.now) }
+    ensures clean { OnOk result (IsClean visitor.new) }
+    ensures settled { OnOk result ((es : List Edit) × SettlesFile visitor.old.pool.now index
+        file.now es × (visitor.new.edits.items ≡ visitor.old.edits.items ++ es)) }
+    ensures place { IfErr result (λ e. IfSome (option_place e) (IsPlaceIn file.now)) }
+    ensures refused { IfErr result (λ e. UnlessMemory (λ kind. (p : Place)
+        × (option_place e ≡ Some p)
+        × RefusesFile visitor.old.pool.now index file.now p.path kind) e.kind) }
 {
     let none = Offsets {
         messages: 0,
@@ -112,7 +132,12 @@ fn collect_edits(
     pool: &DescriptorPool,
     first: FileIndex,
 ) -> Result<Vec<Edit>, OptionError>
-    ensures { IfErr result (λ e. IfSome (option_place e) (StandsFrom pool.now.records first)) }
+    ensures readable { OnOk result ((scope : OptionScope) → CanRead pool.now scope) }
+    ensures settled { IfOk result (λ es. SettlesFrom pool.now first es.items) }
+    ensures place { IfErr result (λ e. IfSome (option_place e)
+        (StandsFrom pool.now.records first)) }
+    ensures refused { IfErr result (λ e. UnlessMemory
+        (RefusesFrom pool.now first (option_place e)) e.kind) }
 {
     if let Some(kind) = check_option_types(alloc, pool)? {
         return Err(OptionError::new(kind, None));

@@ -1,12 +1,20 @@
 //! The options of one record, read by their type.
 
+ghost use Rattle.std.specs.Prelude.{◌≡◌, IfErr, IfNone, IfOk, IfSome, IsSome, None, OnOk};
+ghost use Rattle.descriptor_records.specs.Content.{option_view, options_view};
+ghost use Rattle.option_parts.specs.declared.option_error.OptionErrorKind.TheVariants.{Memory};
+ghost use Rattle.option_setter.specs.OptionNames.{UnlessMemory};
+ghost use Rattle.reflect_message.specs.Bytes.{message_bytes};
+ghost use Rattle.reflect_message.specs.Names.{DynamicMessage};
+ghost use Rattle.reflect_options.specs.Settled.{FindsForbidden, IsForbiddenAt, IsReadBack, IsRecordOf, IsStored, IsWhole, RefusesAt, RefusesOptions, RefusesStored, RefusesTyped, RefusesWritten, SetsAll, Settles, StayAsTheyAre, is_forbidden, is_reserved, lists_of, settled_record, truth_said, typed_said};
+
 use descriptor_records::{Options, UninterpretedOption};
 use option_parts::{OptionErrorKind, OptionScope, UNINTERPRETED_OPTION};
 use option_setter::{NameScope, OptionSetter, option_name};
 use reflect_decode::DecodeMessage;
 use reflect_encode::EncodeMessage;
 use reflect_link::MessageDescriptor;
-use reflect_message::DynamicMessage;
+use reflect_message::{DynamicMessage, declared_field};
 use reflect_numbered::FieldsByNumber;
 use reflect_wire::WireError;
 use std::alloc::{AllocError, AllocFailed, Global};
@@ -20,18 +28,24 @@ pub struct OptionFault {
 }
 
 impl From<OptionErrorKind> for OptionFault {
+    ghost from_gives = { λ kind f. (f.kind ≡ kind) × (f.option ≡ None) };
+
     fn from(kind: OptionErrorKind) -> OptionFault {
         OptionFault { kind, option: None }
     }
 }
 
 impl From<AllocError> for OptionFault {
+    ghost from_gives = { λ _ f. (f.kind ≡ Memory) × (f.option ≡ None) };
+
     fn from(_error: AllocError) -> OptionFault {
         OptionFault::from(OptionErrorKind::Memory)
     }
 }
 
 impl<T: Drop> From<AllocFailed<T>> for OptionFault {
+    ghost from_gives = { λ _ f. (f.kind ≡ Memory) × (f.option ≡ None) };
+
     fn from(_error: AllocFailed<T>) -> OptionFault {
         OptionFault::from(OptionErrorKind::Memory)
     }
@@ -45,26 +59,34 @@ pub struct SettledOptions {
     pub targets: Vec<Vec<i32>>,
 }
 
-/// The option is one that no source may set: the list of uninterpreted ones, and what says that a
-/// message is a map's entry.
-fn is_forbidden(scope: OptionScope, option: &UninterpretedOption) -> bool {
-    match option.name.first() {
-        Some(part) if !part.is_extension => match part.name_part.as_str() {
-            "uninterpreted_option" => true,
-            "map_entry" => scope == OptionScope::Message,
-            _ => false,
-        },
+/// No source may set the field of this name: the list of uninterpreted options, and what says that
+/// a message is a map's entry.
+fn is_reserved(scope: OptionScope, name: &str) -> bool
+    ensures { result ≡ is_reserved scope name.now }
+{
+    match scope {
+        OptionScope::Message => name == "uninterpreted_option" || name == "map_entry",
+        _ => name == "uninterpreted_option",
+    }
+}
+
+/// The option is one that no source may set.
+fn is_forbidden(scope: OptionScope, option: &UninterpretedOption) -> bool
+    ensures { result ≡ is_forbidden scope (option_view option.now).name }
+{
+    match option.name.as_slice() {
+        [part, ..] => !part.is_extension && is_reserved(scope, part.name_part.as_str()),
         _ => false,
     }
 }
 
-/// Refuses options that no source may set.
-fn check_forbidden(
-    alloc: Global,
-    scope: OptionScope,
-    options: &[UninterpretedOption],
-) -> Result<(), OptionFault> {
-    for (place, option) in options.iter().enumerate() {
+/// Refuses options that no source may set: the first of them is told.
+fn check_forbidden(alloc: Global, scope: OptionScope, options: &Options) -> Result<(), OptionFault>
+    ensures none { OnOk result (FindsForbidden scope options.now None) }
+    ensures told { IfErr result (λ f. UnlessMemory (IsForbiddenAt scope options.now f.option)
+        f.kind) }
+{
+    'options: for (place, option) in options.uninterpreted_option.iter().enumerate() {
         if is_forbidden(scope, option) {
             let name = option_name(alloc, option)?;
             return Err(OptionFault {
@@ -77,14 +99,16 @@ fn check_forbidden(
 }
 
 /// What the truth value of a number says, where it is set.
-fn truth_at(message: &DynamicMessage<'_>, number: u32) -> Result<Option<bool>, AllocError> {
-    if !message.has_field_by_number(number) {
+fn truth_at(message: &DynamicMessage<'_>, number: u32) -> Result<Option<bool>, AllocError>
+    ensures { IfOk result (λ said. said ≡ truth_said number message.now) }
+{
+    let Some(field) = declared_field(message.descriptor(), number) else {
+        return Ok(None);
+    };
+    if !message.has_field(&field) {
         return Ok(None);
     }
-    match message.get_field_by_number(number)? {
-        Some(held) => Ok(held.value().as_bool()),
-        None => Ok(None),
-    }
+    Ok(message.get_field(&field)?.value().as_bool())
 }
 
 /// The message of options that the stored bytes spell. Those of a message must say of map entries
@@ -94,7 +118,13 @@ fn stored_message<'p>(
     scope: OptionScope,
     descriptor: MessageDescriptor<'p>,
     options: &Options,
-) -> Result<DynamicMessage<'p>, OptionFault> {
+) -> Result<DynamicMessage<'p>, OptionFault>
+    ensures same_type { IfOk result (λ m. m.descriptor ≡ descriptor.entry) }
+    ensures stored { IfOk result (IsStored scope descriptor.entry options.now) }
+    ensures first { IfErr result (λ f. f.option ≡ None) }
+    ensures refused { IfErr result (λ f.
+        UnlessMemory (RefusesStored scope descriptor.entry options.now) f.kind) }
+{
     let message = match DynamicMessage::decode(alloc, descriptor, options.encoded.as_slice()) {
         Ok(message) => message,
         Err(WireError::Memory) => return Err(OptionFault::from(OptionErrorKind::Memory)),
@@ -119,9 +149,15 @@ fn set_all<'p>(
     names: NameScope<'_, 'p>,
     options: &[UninterpretedOption],
     message: &mut DynamicMessage<'p>,
-) -> Result<Vec<Vec<i32>>, OptionFault> {
+) -> Result<Vec<Vec<i32>>, OptionFault>
+    ensures type_stays { message.new.descriptor ≡ message.old.descriptor }
+    ensures set { IfOk result (λ paths. SetsAll names.entry options.now message.old message.new
+        (lists_of paths)) }
+    ensures refused { IfErr result (λ f. UnlessMemory (λ kind. IfSome f.option (λ place.
+        RefusesAt names.entry options.now message.old place kind) × IsSome f.option) f.kind) }
+{
     let mut targets = Vec::with_capacity(alloc, options.len())?;
-    for (place, option) in options.iter().enumerate() {
+    'options: for (place, option) in options.iter().enumerate() {
         match OptionSetter::new(alloc, names, option).set(message) {
             Ok(target) => targets.push(target)?,
             Err(kind) => {
@@ -136,7 +172,12 @@ fn set_all<'p>(
 }
 
 /// The bytes of a message of options, which must nest as messages may.
-fn written(alloc: Global, message: &DynamicMessage<'_>) -> Result<Vec<u8>, OptionFault> {
+fn written(alloc: Global, message: &DynamicMessage<'_>) -> Result<Vec<u8>, OptionFault>
+    ensures bytes { IfOk result (λ bytes. bytes.items ≡ message_bytes message.now) }
+    ensures read { OnOk result (IsReadBack message.now) }
+    ensures none { IfErr result (λ f. f.option ≡ None) }
+    ensures refused { IfErr result (λ f. UnlessMemory (RefusesWritten message.now) f.kind) }
+{
     let bytes = match message.encode_to_vec() {
         Ok(bytes) => bytes,
         Err(_) => return Err(OptionFault::from(OptionErrorKind::Memory)),
@@ -152,41 +193,105 @@ fn written(alloc: Global, message: &DynamicMessage<'_>) -> Result<Vec<u8>, Optio
     }
 }
 
+/// What linking reads itself of a message of options, where it says it.
+fn typed_truth(scope: OptionScope, message: &DynamicMessage<'_>) -> Result<Option<bool>, AllocError>
+    ensures { IfOk result (λ said. said ≡ typed_said scope message.now) }
+{
+    match scope.typed_option() {
+        Some((_, number)) => truth_at(message, number),
+        None => Ok(None),
+    }
+}
+
+/// The record of options that have these bytes, and say this of what linking reads itself. Takes no
+/// memory.
+fn settled_record(
+    alloc: Global,
+    scope: OptionScope,
+    said: Option<bool>,
+    encoded: Vec<u8>,
+) -> Options
+    ensures { options_view result ≡ settled_record scope said encoded.items }
+{
+    let (packed, allow_alias, map_entry) = match scope {
+        OptionScope::Field => (said, None, None),
+        OptionScope::Enum => (None, said, None),
+        OptionScope::Message => (None, None, said),
+        _ => (None, None, None),
+    };
+    Options {
+        encoded,
+        packed,
+        allow_alias,
+        map_entry,
+        uninterpreted_option: Vec::new(alloc),
+    }
+}
+
 /// The record of a message of options.
 fn record_of(
     alloc: Global,
     scope: OptionScope,
     message: &DynamicMessage<'_>,
-) -> Result<Options, OptionFault> {
-    let mut options = Options::new(alloc);
-    options.encoded = written(alloc, message)?;
-    let typed = match scope.typed_option() {
-        Some((_, number)) => truth_at(message, number)?,
-        None => None,
-    };
-    match scope {
-        OptionScope::Field => options.packed = typed,
-        OptionScope::Enum => options.allow_alias = typed,
-        OptionScope::Message => options.map_entry = typed,
-        _ => {}
-    }
-    Ok(options)
+) -> Result<Options, OptionFault>
+    ensures whole { IfOk result (λ o. IsRecordOf scope message.now (options_view o)) }
+    ensures none { IfErr result (λ f. f.option ≡ None) }
+    ensures refused { IfErr result (λ f. UnlessMemory (RefusesWritten message.now) f.kind) }
+{
+    let encoded = written(alloc, message)?;
+    let said = typed_truth(scope, message)?;
+    Ok(settled_record(alloc, scope, said, encoded))
+}
+
+/// The options of a record, read by their type: the stored bytes, then what a source wrote, in
+/// order.
+fn settled_by<'p>(
+    alloc: Global,
+    scope: OptionScope,
+    names: NameScope<'_, 'p>,
+    descriptor: MessageDescriptor<'p>,
+    options: &Options,
+) -> Result<SettledOptions, OptionFault>
+    ensures settled { IfOk result (λ settled. (whole : DynamicMessage)
+        × IsWhole scope names.entry descriptor.entry options.now whole (lists_of settled.targets)
+        × IsRecordOf scope whole (options_view settled.options)) }
+    ensures refused { IfErr result (λ f. UnlessMemory
+        (RefusesTyped scope names.entry descriptor.entry options.now f.option) f.kind) }
+{
+    let mut message = stored_message(alloc, scope, descriptor, options)?;
+    let targets = set_all(
+        alloc,
+        names,
+        options.uninterpreted_option.as_slice(),
+        &mut message,
+    )?;
+    message.clear_field_by_number(UNINTERPRETED_OPTION);
+    let options = record_of(alloc, scope, &message)?;
+    Ok(SettledOptions { options, targets })
 }
 
 /// The options of a record, read by the pool's type for them: the stored bytes, then what a source
 /// wrote, in order.
 ///
-/// Nothing where the pool has no type for them and a source wrote none.
+/// Nothing where the pool has no type for them and a source wrote none. Refused at the first of
+/// those that a source wrote that no source may set, that there is no type for, or that is not set;
+/// and, at none of them, where the stored bytes are no options of the type, contradict the record
+/// about map entries, or nest too deep with what was set.
 pub fn settled_options<'p>(
     alloc: Global,
     scope: OptionScope,
     names: NameScope<'_, 'p>,
     options: &Options,
-) -> Result<Option<SettledOptions>, OptionFault> {
-    let list = options.uninterpreted_option.as_slice();
-    check_forbidden(alloc, scope, list)?;
+) -> Result<Option<SettledOptions>, OptionFault>
+    ensures settled { IfOk result (λ o. IfSome o (λ settled. Settles scope names.entry options.now
+        (options_view settled.options) (lists_of settled.targets))) }
+    ensures none { IfOk result (λ o. IfNone o (StayAsTheyAre scope names.entry options.now)) }
+    ensures refused { IfErr result (λ f. UnlessMemory
+        (RefusesOptions scope names.entry options.now f.option) f.kind) }
+{
+    check_forbidden(alloc, scope, options)?;
     let Some(descriptor) = names.pool.get_message_by_name(scope.type_name()) else {
-        if list.is_empty() {
+        if options.uninterpreted_option.is_empty() {
             return Ok(None);
         }
         return Err(OptionFault {
@@ -194,9 +299,5 @@ pub fn settled_options<'p>(
             option: Some(0),
         });
     };
-    let mut message = stored_message(alloc, scope, descriptor, options)?;
-    let targets = set_all(alloc, names, list, &mut message)?;
-    message.clear_field_by_number(UNINTERPRETED_OPTION);
-    let options = record_of(alloc, scope, &message)?;
-    Ok(Some(SettledOptions { options, targets }))
+    Ok(Some(settled_by(alloc, scope, names, descriptor, options)?))
 }
