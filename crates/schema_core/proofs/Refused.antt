@@ -15,7 +15,7 @@ use Rattle.protox_parse.specs.Refusals.{IsRefusalOf}
 use Rattle.protox_parse.specs.declared.error.ParseError.{ParseError}
 use Rattle.protox_parse.specs.declared.error.ParseError.TheVariants as parsed
 use Rattle.reflect_tables.specs.Types.{PoolType}
-use Rattle.reflect_names.specs.Faults.{Place, place_of}
+use Rattle.reflect_names.specs.Faults.{place_of}
 use Rattle.reflect_passes.specs.declared.error.DescriptorError.{DescriptorError}
 use Rattle.reflect_build.specs.Refusals.{AreRefused}
 use Rattle.reflect_bytes.specs.Spelled.{SpellsSet}
@@ -23,9 +23,15 @@ use Rattle.reflect_bytes.proofs.Refused.{unspelled}
 use Rattle.text_error.specs.declared.error.ParseError as text
 use Rattle.text_error.specs.declared.error.ParseErrorKind.{ParseErrorKind}
 use Rattle.text_error.specs.declared.error.ParseErrorKind.TheVariants as texts
-use Rattle.option_parts.specs.Places.{option_place, StandsFrom}
+use Rattle.option_parts.specs.OptionTypes.{ReadsOptions, TellsType}
+use Rattle.option_parts.specs.Places.{option_place}
 use Rattle.option_parts.specs.TypedOptions.{TypedFiles}
 use Rattle.option_parts.specs.declared.option_error.OptionError.{OptionError}
+use Rattle.option_parts.specs.declared.option_error.OptionErrorKind.{OptionErrorKind}
+use Rattle.option_parts.specs.declared.option_error.OptionErrorKind.TheVariants as kinds
+use Rattle.option_setter.specs.OptionNames.{UnlessMemory}
+use Rattle.reflect_options.specs.Settling.{RefusesFrom}
+use Rattle.reflect_pool.specs.Linked.{empty_pool}
 use Rattle.schema_core.specs.declared.payload.Fault.{Fault}
 use Rattle.schema_core.specs.declared.error.SchemaError.{SchemaError}
 use Rattle.schema_core.specs.declared.error.SchemaError.TheVariants.{Parse, Link, Options, Wire, Text, UnknownType, Memory, TooLong}
@@ -33,7 +39,7 @@ use Rattle.reflect_decode.specs.Spelled.{TellsWhy}
 use Rattle.reflect_pool.specs.declared.message.MessageDescriptor.{MessageDescriptor}
 use Rattle.schema_core.specs.Payloads.{IsType}
 use Rattle.schema_core.specs.Serving.{IsPayload, PayloadRefused, of_schema}
-use Rattle.schema_core.specs.Refusals.{of_source, of_wire, of_text, IsNoText, BytesRefused, TextRefused, IsNoSet, FilesFit, FilesRefused, sources_of, IsFileOf, AreFilesOf, SourcesLinked, SourcesRefused, SetRefused}
+use Rattle.schema_core.specs.Refusals.{of_source, of_wire, of_text, of_options, IsNoText, BytesRefused, TextRefused, DescriptorRefused, IsNoSet, FilesFit, FilesRefused, sources_of, IsFileOf, AreFilesOf, SourcesLinked, SourcesRefused, SetRefused}
 
 -- a linker's refusal is one of files
 pub of_link : (p : PoolType) (files typed : List FileDescriptorProto) (d : DescriptorError) (e : SchemaError) → TypedFiles files typed → AreRefused p typed d → (e ≡ Memory) ⊎ (e ≡ Link d) → FilesRefused p files e
@@ -41,10 +47,10 @@ of_link p files typed d e t r (inl m) = rw m tt
 of_link p files typed d e t r (inr l) = rw l (typed, t, r)
 
 -- files that fit together are refused for their options
-pub of_options : (p : PoolType) (files : List FileDescriptorProto) (new : PoolType) (o : OptionError) (e : SchemaError) → FilesFit p files new → IfSome (option_place o) (StandsFrom new.records (length p.files)) → (e ≡ Memory) ⊎ (e ≡ Options o)
-    → FilesRefused p files e
-of_options p files new o e fit at (inl m) = rw m tt
-of_options p files new o e fit at (inr x) = rw x (new, fit, at)
+pub refused_options : (p : PoolType) (files : List FileDescriptorProto) (linked : PoolType) (o : OptionError) (kind : OptionErrorKind) → o.kind ≡ kind → FilesFit p files linked → UnlessMemory (RefusesFrom linked (length p.files) (option_place o)) kind
+    → FilesRefused p files (of_options o kind)
+refused_options p files linked o kinds.Memory is fit refused = tt
+refused_options p files linked o kind is fit refused = (linked, fit, subst (RefusesFrom linked (length p.files) (option_place o)) (sym is) refused)
 
 -- files that are refused are refused as the set that they stand in
 pub of_set : (p : PoolType) (bytes : List ℕ) (files : List FileDescriptorProto) (e : SchemaError) → SpellsSet bytes files → FilesRefused p files e → SetRefused p bytes e
@@ -107,13 +113,15 @@ of_sources p batch files (Text e) a r = absurd r
 of_sources p batch files (UnknownType n) a r = absurd r
 of_sources p batch files TooLong a r = absurd r
 
--- of an error without a place nothing is said
-nowhere : (o : OptionError) (Q : Place → Type 0) → o.place ≡ None → IfSome (option_place o) Q
-nowhere o Q none = subst (λ l. IfSome (option_map place_of l) Q) (sym none) tt
+-- a source that is refused as such declares no types of options
+pub refused_descriptor : (batch : List (List ℕ × List ℕ)) (e : SchemaError) → SourcesRefused empty_pool batch e → DescriptorRefused batch e
+refused_descriptor batch (Options e) refused = inl refused
+refused_descriptor batch e refused = refused
 
--- sources that fit together are refused for their options, at no place
-pub sources_options : (p : PoolType) (batch : List (List ℕ × List ℕ)) (new : PoolType) (o : OptionError) (e : SchemaError) → SourcesLinked p batch new → o.place ≡ None → (e ≡ Memory) ⊎ (e ≡ Options o) → SourcesRefused p batch e
-sources_options p batch new o e (files, read, (linked, fit, settled, bare)) none x = of_sources p batch files e read (of_options p files linked o e fit (nowhere o (StandsFrom linked.records (length p.files)) none) x)
+-- a source that is added, and does not declare all that options are read by
+pub lacks_types : (batch : List (List ℕ × List ℕ)) (new : PoolType) (o : OptionError) (kind : OptionErrorKind) → o.kind ≡ kind → SourcesLinked empty_pool batch new → o.place ≡ None → TellsType (ReadsOptions new) kind → DescriptorRefused batch (of_options o kind)
+lacks_types batch new o kinds.Memory is linked none told = tt
+lacks_types batch new o kind is linked none told = inr (new, linked, ap (option_map place_of) none, subst (TellsType (ReadsOptions new)) (sym is) told)
 
 -- bytes that are read as no set spell none, and have the fault that is told
 no_set : (bytes : List ℕ) (e : WireError) → (e ≡ wire.Memory → ⊥) → Rejects IsSetBytes SetBytesFault bytes e → IsNoSet bytes e

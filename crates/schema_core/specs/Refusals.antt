@@ -1,5 +1,5 @@
 -- Which refusals the calls of a schema give.
-use Rattle.std.specs.Prelude.{◌≡◌, ◌<◌, ◌^◌, ℕ, List, [], ◌∷◌, None, Some, Ok, Err, IfSome, map, length, take, slice_get, string_bytes, codes}
+use Rattle.std.specs.Prelude.{◌≡◌, ◌⊎◌, ◌<◌, ◌^◌, ℕ, List, [], ◌∷◌, None, Some, Ok, Err, map, length, take, slice_get, string_bytes, codes}
 use Rattle.std.specs.Borrow.{Bor}
 use Rattle.protox_parse.specs.Answers.{IsAnswered}
 use Rattle.protox_parse.specs.Refusals.{IsRefusalOf}
@@ -10,6 +10,7 @@ use Rattle.reflect_tables.specs.Types.{PoolType, IsSettled}
 use Rattle.descriptor_records.specs.declared.file.FileDescriptorProto.{FileDescriptorProto}
 use Rattle.reflect_growth.specs.Settled.{bare_of}
 use Rattle.reflect_pool.specs.Dots.{without_dot}
+use Rattle.reflect_pool.specs.Linked.{empty_pool}
 use Rattle.reflect_build.specs.Refusals.{AreRefused}
 use Rattle.reflect_wire.specs.declared.wire_error.WireError.{WireError}
 use Rattle.reflect_wire.specs.declared.wire_error.WireError.TheVariants as wire
@@ -25,8 +26,13 @@ use Rattle.schema_core.specs.Payloads.{IsType}
 use Rattle.text_error.specs.declared.error.ParseError as text
 use Rattle.text_error.specs.declared.error.ParseErrorKind.{ParseErrorKind}
 use Rattle.text_error.specs.declared.error.ParseErrorKind.TheVariants as texts
-use Rattle.option_parts.specs.Places.{option_place, StandsFrom}
+use Rattle.option_parts.specs.OptionTypes.{ReadsOptions, TellsType}
+use Rattle.option_parts.specs.Places.{option_place}
 use Rattle.option_parts.specs.TypedOptions.{TypedFiles}
+use Rattle.option_parts.specs.declared.option_error.OptionError.{OptionError}
+use Rattle.option_parts.specs.declared.option_error.OptionErrorKind.{OptionErrorKind}
+use Rattle.option_parts.specs.declared.option_error.OptionErrorKind.TheVariants as kinds
+use Rattle.reflect_options.specs.Settling.{RefusesFrom, SettlesPool}
 use Rattle.schema_core.specs.declared.error.SchemaError.{SchemaError}
 use Rattle.schema_core.specs.declared.error.SchemaError.TheVariants.{Parse, Link, Options, Wire, Text, UnknownType, Memory, TooLong}
 
@@ -46,6 +52,11 @@ abbrev pub of_text : text.ParseError → ParseErrorKind → SchemaError
 of_text e texts.Memory = Memory
 of_text e (texts.TooLong span) = TooLong
 of_text e _ = Text e
+
+-- a refusal of options, by its kind, as one of the schema
+abbrev pub of_options : OptionError → OptionErrorKind → SchemaError
+of_options e kinds.Memory = Memory
+of_options e kind = Options e
 
 -- there is a message type of the name
 abbrev pub IsKnown : PoolType → List ℕ → Type 0
@@ -92,19 +103,20 @@ abbrev pub FilesFit : PoolType → List FileDescriptorProto → PoolType → Typ
 FilesFit p files new = (typed : List FileDescriptorProto) × TypedFiles files typed
     × RecordsLinked p typed new
 
--- files are added to a pool, and what settles their options changes records alone, and in these
--- nothing but options and the paths of their locations
+-- files are added to a pool and their options are settled, which changes records alone, and in
+-- these nothing but options and the paths of their locations
 abbrev pub FilesLinked : PoolType → List FileDescriptorProto → PoolType → Type 0
-FilesLinked p files new = (linked : PoolType) × FilesFit p files linked × IsSettled linked new
+FilesLinked p files new = (linked : PoolType) × FilesFit p files linked
+    × SettlesPool linked (length p.files) new × IsSettled linked new
     × (map bare_of new.records ≡ map bare_of linked.records)
 
--- of files: they do not fit together, or are too many; or they fit and options of one of them,
--- where the fault stands, do not suit their types
+-- of files: they do not fit together, or are too many; or they fit, and a type of options is none
+-- to read options by, or options of theirs are refused, at that place
 abbrev pub FilesRefused : PoolType → List FileDescriptorProto → SchemaError → Type 0
 FilesRefused p files (Link e) = (typed : List FileDescriptorProto) × TypedFiles files typed
     × AreRefused p typed e
-FilesRefused p files (Options e) = (new : PoolType) × FilesFit p files new
-    × IfSome (option_place e) (StandsFrom new.records (length p.files))
+FilesRefused p files (Options e) = (linked : PoolType) × FilesFit p files linked
+    × RefusesFrom linked (length p.files) (option_place e) e.kind
 FilesRefused p files Memory = Unit {0}
 FilesRefused p files _ = ⊥
 
@@ -149,6 +161,14 @@ SourcesRefused p sources (Options e) = (files : List FileDescriptorProto) × Are
     × FilesRefused p files (Options e)
 SourcesRefused p sources Memory = Unit {0}
 SourcesRefused p sources _ = ⊥
+
+-- of the one source that is to declare the types of options: it is refused as sources are, or it
+-- is added and not all of the types are there to read options by
+abbrev pub DescriptorRefused : List (List ℕ × List ℕ) → SchemaError → Type 0
+DescriptorRefused sources (Options e) = SourcesRefused empty_pool sources (Options e)
+    ⊎ ((new : PoolType) × SourcesLinked empty_pool sources new × (option_place e ≡ None)
+    × TellsType (ReadsOptions new) e.kind)
+DescriptorRefused sources e = SourcesRefused empty_pool sources e
 
 -- bytes are those of a descriptor set whose files are added
 abbrev pub SetLinked : PoolType → List ℕ → PoolType → Type 0

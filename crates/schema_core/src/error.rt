@@ -148,15 +148,15 @@ impl From<DescriptorError> for SchemaError {
 }
 
 impl From<OptionError> for SchemaError {
-    ghost use Rattle.schema_core.specs.declared.error.SchemaError.TheVariants.{Memory, Options};
+    ghost use Rattle.schema_core.specs.Refusals.{of_options};
 
-    ghost from_gives = { λ error e. (e ≡ Memory) ⊎ (e ≡ Options error) };
+    ghost from_gives = { λ error e. e ≡ of_options error error.kind };
 
     fn from(error: OptionError) -> SchemaError {
-        if matches!(error.kind(), OptionErrorKind::Memory) {
-            return SchemaError::Memory;
+        match error.kind() {
+            OptionErrorKind::Memory => SchemaError::Memory,
+            _ => SchemaError::Options(error),
         }
-        SchemaError::Options(error)
     }
 }
 

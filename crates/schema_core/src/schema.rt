@@ -36,7 +36,7 @@ impl Schema {
     ghost use Rattle.option_parts.specs.declared.option_scope.OptionScope.{OptionScope};
     ghost use Rattle.schema_core.specs.declared.error.SchemaError.TheVariants.{Memory};
     ghost use Rattle.schema_core.specs.Payloads.{IsReadOfType, Encoded, Decoded, Recoded};
-    ghost use Rattle.schema_core.specs.Refusals.{TypeRefused, BytesRefused, TextRefused, FilesLinked, FilesRefused, SourcesLinked, SourcesRefused, SetLinked, SetRefused, descriptor_name, sources_of};
+    ghost use Rattle.schema_core.specs.Refusals.{TypeRefused, BytesRefused, TextRefused, DescriptorRefused, FilesLinked, FilesRefused, SourcesLinked, SourcesRefused, SetLinked, SetRefused, descriptor_name, sources_of};
 
     /// A schema without files. Takes no memory.
     pub fn bare(alloc: Global) -> Schema
@@ -57,7 +57,7 @@ impl Schema {
         ensures types { IfOk result (λ s. (scope : OptionScope) → ReadsOptions s.pool scope) }
         ensures linked { IfOk result (λ s. SourcesLinked empty_pool
             ((descriptor_name, descriptor_source.now) ∷ []) s.pool) }
-        ensures err { IfErr result (SourcesRefused empty_pool
+        ensures err { IfErr result (DescriptorRefused
             ((descriptor_name, descriptor_source.now) ∷ [])) }
     {
         let mut schema = Schema::bare(alloc);

@@ -21,7 +21,7 @@ pub record IsBatch (earlier : List (List FileContent)) (old : PoolType)
 pub linked_batch : (earlier : List (List FileContent)) (old new : PoolType)
     (files : List FileDescriptorProto) → IsTyped earlier old → IsRecorded new → IsIndexed new
     → IsKept new → FilesLinked old files new → IsBatch earlier old files new
-linked_batch earlier old new files is recorded index kept (linked, fit, settled, bare) =
+linked_batch earlier old new files is recorded index kept (linked, fit, options, settled, bare) =
     let r = typed_more earlier old linked new fit.0 is recorded index kept fit.2.1
     (record { settled = settled; bare = bare }) in
     record { typed = fit.0; linking = r.0; types = fit.1; of = r.1; built = r.2 }

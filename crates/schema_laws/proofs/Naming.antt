@@ -23,7 +23,7 @@ of_sources (s ∷ ss) (f ∷ fs) h = (source_names s.0 s.1 f h.0, of_sources ss 
 
 -- so such names stay, where sources are added to a pool
 pub named_by_sources : (old new : PoolType) (sources : List (List ℕ × List ℕ)) → IsSound old → SourcesLinked old sources new → IsSourcePool old → IsSourcePool new
-named_by_sources old new sources sound (files, read, (linked, fit, settled, bare)) names =
+named_by_sources old new sources sound (files, read, (linked, fit, options, settled, bare)) names =
     let typed = typed_files files fit.0 fit.1 (of_sources sources files read) in
     settled_sources linked new settled (accepted_sources old linked fit.0 sound fit.2.1 typed names)
 

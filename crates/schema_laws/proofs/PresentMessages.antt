@@ -15,7 +15,7 @@ use Rattle.linked_names.specs.Presence.{HasMessagePresence, HasPresentMessages}
 use Rattle.schema_core.specs.Refusals.{FilesLinked}
 
 pub linked_present : (old new : PoolType) (files : List FileDescriptorProto) → IsSound old → FilesLinked old files new → HasPresentMessages old → HasPresentMessages new
-linked_present old new files sound (linked, fit, settled, bare) has =
+linked_present old new files sound (linked, fit, options, settled, bare) has =
     settled_present linked new settled (accepted_present old linked fit.0 sound fit.2.1 has)
 
 pub printed_present : (pool : PoolType) → HasPresentMessages pool → HaveMessagePresence pool

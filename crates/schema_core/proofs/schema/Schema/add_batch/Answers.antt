@@ -1,12 +1,14 @@
-use Rattle.std.proofs.Common.{◌≡◌, IfErr, IfSome, map, subst, rules, of_calls}
+use Rattle.std.proofs.Common.{◌≡◌, IfErr, map, refl, subst, rules, of_calls}
 use Rattle.std.proofs.lemmas.Result.{err_from_is_err_and}
 use Rattle.reflect_growth.specs.Settled.{bare_of}
 use Rattle.reflect_tables.specs.Types.{IsSettled}
 use Rattle.linked_messages.proofs.Accepted.{accepted_sound}
 use Rattle.linked_messages.proofs.Stays.{settled_sound}
-use Rattle.option_parts.specs.Places.{option_place, StandsFrom}
+use Rattle.option_parts.specs.Places.{option_place}
+use Rattle.option_setter.specs.OptionNames.{UnlessMemory}
+use Rattle.reflect_options.specs.Settling.{RefusesFrom, SettlesPool}
 use Rattle.schema_core.specs.Refusals.{FilesFit}
-use Rattle.schema_core.proofs.Refused.{of_link, of_options}
+use Rattle.schema_core.proofs.Refused.{of_link, refused_options}
 use Rattle.schema_core.proofs.schema.Schema.add_batch.Goals as goal
 use Rattle.schema_core.proofs.schema.Schema.add_batch.Goals.{then-is_err, else-is_err}
 
@@ -19,18 +21,23 @@ pub returns-in_err-settled-clause-err : goal.returns-in_err-settled-clause-err
 returns-in_err-settled-clause-err c =
     let r = c.from_residual-in_err-settled in
     let p = err_from_is_err_and r.result r.ensures.1 in
-    let fit : FilesFit c.args.self.now.pool c.args.files.items c.build_files.new.self = (c.copy_typed_options.new.files.items, c.copy_typed_options.ensures, (c.in_ok-build_files.ensures.added, c.in_ok-build_files.ensures.accepted)) in
+    let old = c.args.self.now.pool in
+    let linked = c.build_files.new.self in
+    let fit : FilesFit old c.args.files.items linked = (c.copy_typed_options.new.files.items, c.copy_typed_options.ensures, (c.in_ok-build_files.ensures.added, c.in_ok-build_files.ensures.accepted)) in
     let e = c.in_err-settled.field-0.0 in
-    let place = subst (λ s. IfErr s (λ f. IfSome (option_place f) (StandsFrom c.build_files.new.self.records c.mark-mark.result))) c.in_err-settled.was c.resolve_options-settled.ensures.place in
-    let at = subst (λ n. IfSome (option_place e) (StandsFrom c.build_files.new.self.records n)) c.mark-mark.ensures place in
-    rw p.1 (of_options c.args.self.now.pool c.args.files.items c.build_files.new.self c.in_err-settled.field-0.0 _ fit at p.2)
+    let from_mark = subst (λ s. IfErr s (λ f. UnlessMemory (RefusesFrom linked c.mark-mark.result (option_place f)) f.kind)) c.in_err-settled.was c.resolve_options-settled.ensures.refused in
+    let refused = subst (λ n. UnlessMemory (RefusesFrom linked n (option_place e)) e.kind) c.mark-mark.ensures from_mark in
+    rw (p.1, p.2) (refused_options old c.args.files.items linked e e.kind refl fit refused)
 
 pub returns-clause-linked : goal.returns-clause-linked
 returns-clause-linked c =
-    let fit : FilesFit c.args.self.now.pool c.args.files.items c.build_files.new.self = (c.copy_typed_options.new.files.items, c.copy_typed_options.ensures, (c.in_ok-build_files.ensures.added, c.in_ok-build_files.ensures.accepted)) in
-    let settled : IsSettled c.build_files.new.self c.if-is_err.self.pool = elim c.if-is_err.branch [ then-is_err w ↦ search (rules, of_calls) | else-is_err w ↦ search (rules, of_calls) ] in
-    let bare : map bare_of c.if-is_err.self.pool.records ≡ map bare_of c.build_files.new.self.records = elim c.if-is_err.branch [ then-is_err w ↦ search (rules, of_calls) | else-is_err w ↦ search (rules, of_calls) ] in
-    (c.build_files.new.self, fit, settled, bare)
+    let linked = c.build_files.new.self in
+    let new = c.if-is_err.self.pool in
+    let fit : FilesFit c.args.self.now.pool c.args.files.items linked = (c.copy_typed_options.new.files.items, c.copy_typed_options.ensures, (c.in_ok-build_files.ensures.added, c.in_ok-build_files.ensures.accepted)) in
+    let options : SettlesPool linked c.mark-mark.result new = elim c.if-is_err.branch [ then-is_err w ↦ search (rules, of_calls) | else-is_err w ↦ search (rules, of_calls) ] in
+    let settled : IsSettled linked new = elim c.if-is_err.branch [ then-is_err w ↦ search (rules, of_calls) | else-is_err w ↦ search (rules, of_calls) ] in
+    let bare : map bare_of new.records ≡ map bare_of linked.records = elim c.if-is_err.branch [ then-is_err w ↦ search (rules, of_calls) | else-is_err w ↦ search (rules, of_calls) ] in
+    (linked, fit, subst (λ n. SettlesPool linked n new) c.mark-mark.ensures options, settled, bare)
 
 pub invariant_of-self-else-is_err : goal.invariant_of-self-else-is_err
 invariant_of-self-else-is_err c =
