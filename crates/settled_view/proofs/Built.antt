@@ -12,11 +12,11 @@ use Rattle.linked_view.specs.Built.{IsBuilt}
 use Rattle.linked_view.specs.Extended.{IsIndexed}
 use Rattle.linked_view.proofs.Together.{added_all, built_more, empty_built}
 use Rattle.schema_view.proofs.Road.{built_linked}
-use Rattle.settled_view.specs.BuiltBut.{IsBuiltBut, Settles}
+use Rattle.settled_view.specs.BuiltBut.{IsBuiltBut, ChangesOptions}
 use Rattle.settled_view.proofs.Transfer.{recorded_before, indexed_before, kept_before}
 use Rattle.settled_view.proofs.Unsettled.{linking, is_before, added, batch_before, added_settles}
 
-pub itself : (p : PoolType) → Settles p p
+pub itself : (p : PoolType) → ChangesOptions p p
 itself p = record { settled = refl; bare = refl }
 
 pub empty_built_but : IsBuiltBut [] empty_pool
@@ -27,7 +27,7 @@ empty_built_but = record {
 }
 
 -- one that is settled twice is settled
-twice : (a b c : PoolType) → Settles a b → Settles b c → Settles a c
+twice : (a b c : PoolType) → ChangesOptions a b → ChangesOptions b c → ChangesOptions a c
 twice a b c s t = record {
   settled = t.settled ∙ ap (λ (q : PoolType). record q { records = c.records }) s.settled;
   bare = t.bare ∙ s.bare;
@@ -44,11 +44,11 @@ pub record IsLinkedMore (earlier : List (List FileContent)) (old before new : Po
   pub kept : IsKept linked
   pub faultless : FaultlessFiles before files linked
   pub built : IsBuilt (map file_view (new_files linking.indexes files) ∷ earlier) linked
-  pub settles : Settles linked new
+  pub settles : ChangesOptions linked new
 
 pub linked_more : (earlier : List (List FileContent)) (old linked new : PoolType)
     (files : List FileDescriptorProto) (is : IsBuiltBut earlier old) → IsRecorded new
-    → IsIndexed new → IsKept new → FaultlessFiles old files linked → Settles linked new
+    → IsIndexed new → IsKept new → FaultlessFiles old files linked → ChangesOptions linked new
     → IsLinkedMore earlier old is.linked new files
 linked_more earlier old linked new files is recorded index kept (w, of, (names, batch)) settles =
     let before = is.linked in
@@ -90,7 +90,7 @@ linked_more earlier old linked new files is recorded index kept (w, of, (names, 
 
 pub built_but_more : (earlier : List (List FileContent)) (old linked new : PoolType)
     (files : List FileDescriptorProto) → IsBuiltBut earlier old → IsRecorded new → IsIndexed new
-    → IsKept new → FaultlessFiles old files linked → Settles linked new
+    → IsKept new → FaultlessFiles old files linked → ChangesOptions linked new
     → (w : Linking) × IsOf old w
     × IsBuiltBut (map file_view (new_files w.indexes files) ∷ earlier) new
 built_but_more earlier old linked new files is recorded index kept faultless settles =

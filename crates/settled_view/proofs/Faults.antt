@@ -8,11 +8,11 @@ use Rattle.reflect_tables.specs.Types.{PoolType}
 use Rattle.schema_view.specs.Lawful.{IsLawful, Meanings}
 use Rattle.linked_messages.specs.Kept.{IsKept}
 use Rattle.linked_view.proofs.Lawful as unsettled
-use Rattle.settled_view.specs.BuiltBut.{IsBuiltBut, Settles}
+use Rattle.settled_view.specs.BuiltBut.{IsBuiltBut, ChangesOptions}
 use Rattle.settled_view.proofs.Transfer.{kept_before}
 use Rattle.settled_view.proofs.Unsettled.{linking, is_before, types_before, means_before, are_types_before}
 
-module _ (before p : PoolType) (s : Settles before p) (w : Linking) (is : IsOf p w)
+module _ (before p : PoolType) (s : ChangesOptions before p) (w : Linking) (is : IsOf p w)
     (ns : List FileDescriptorProto) where
   abbrev own : Linking
   own = linking before p s w is
@@ -47,13 +47,13 @@ module _ (before p : PoolType) (s : Settles before p) (w : Linking) (is : IsOf p
 -- ---- any files
 
 -- the pool before differs from the settled one as that does from it
-back : (before p : PoolType) → Settles before p → Settles p before
+back : (before p : PoolType) → ChangesOptions before p → ChangesOptions p before
 back before p s = record {
   settled = sym (ap (λ (q : PoolType). record q { records = before.records }) s.settled);
   bare = sym s.bare;
 }
 
-to_before : (before p : PoolType) → Settles before p → (files : List FileDescriptorProto)
+to_before : (before p : PoolType) → ChangesOptions before p → (files : List FileDescriptorProto)
     → (xs : List Fault) → FaultyFiles p files xs → FaultyFiles before files xs
 to_before before p s files xs (w, is, faults) = (
   linking before p s w is,
@@ -61,7 +61,7 @@ to_before before p s files xs (w, is, faults) = (
   faulty_before before p s w is (new_files w.indexes files) xs faults,
 )
 
-pub same_faults : (linked p : PoolType) → Settles linked p → (files : List FileDescriptorProto)
+pub same_faults : (linked p : PoolType) → ChangesOptions linked p → (files : List FileDescriptorProto)
     → (xs : List Fault) → (FaultyFiles linked files xs ↔ FaultyFiles p files xs)
 same_faults linked p s files xs =
     (to_before p linked (back linked p s) files xs, to_before linked p s files xs)
@@ -75,7 +75,7 @@ module _ (earlier : List (List FileContent)) (old : PoolType) (w : Linking)
   abbrev before : PoolType
   before = built.linked
 
-  abbrev s : Settles before old
+  abbrev s : ChangesOptions before old
   s = built.settles
 
   pub no_extension_faults : (xs : List Fault) → FaultyExtensions (with_declared w ns) ns xs → xs ≡ []

@@ -13,7 +13,7 @@ use Rattle.linked_messages.specs.Kept.{IsKept}
 use Rattle.linked_view.specs.Alone.{IsRecorded}
 use Rattle.linked_view.specs.Extended.{IsIndexed}
 use Rattle.reflect_build.proofs.Stays.{names_bare}
-use Rattle.settled_view.specs.BuiltBut.{Settles}
+use Rattle.settled_view.specs.BuiltBut.{ChangesOptions}
 
 -- what is told by the bare content of a record is told of all records of a list
 each_told : {B : Type 0} (g : FileDescriptorProto → B)
@@ -30,7 +30,7 @@ each_told g told (f ∷ fs) (h ∷ hs) e =
 header_bare : (f h : FileDescriptorProto) → bare_of h ≡ bare_of f → record_file h ≡ record_file f
 header_bare f h e = header_seen h ∙ ap header_told e ∙ sym (header_seen f)
 
-module _ (linked p : PoolType) (s : Settles linked p) where
+module _ (linked p : PoolType) (s : ChangesOptions linked p) where
   pub names_same : map names_of_file p.records ≡ map names_of_file linked.records
   names_same = each_told names_of_file names_bare linked.records p.records s.bare
 

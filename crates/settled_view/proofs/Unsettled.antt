@@ -16,7 +16,7 @@ use Rattle.reflect_tables.specs.declared.tables.Tables.{Tables}
 use Rattle.reflect_build.specs.Accepted.{FaultlessBatch}
 use Rattle.reflect_build.specs.Refusals.{Linking, with_declared, IsOf, ReferencesMean, AreTypes}
 use Rattle.reflect_build.proofs.Stored.{stored_settled}
-use Rattle.settled_view.specs.BuiltBut.{Settles}
+use Rattle.settled_view.specs.BuiltBut.{ChangesOptions}
 use Rattle.settled_view.proofs.Transfer.{headers_same, known_same, counts_same}
 
 -- ---- tables with other records
@@ -65,7 +65,7 @@ rest_same xs ys zs e =
 
 -- ---- the pool before
 
-module _ (before p : PoolType) (s : Settles before p) (w : Linking) (is : IsOf p w) where
+module _ (before p : PoolType) (s : ChangesOptions before p) (w : Linking) (is : IsOf p w) where
   abbrev rs : List FileDescriptorProto
   rs = before.records
 
@@ -207,7 +207,7 @@ module _ (before p : PoolType) (s : Settles before p) (w : Linking) (is : IsOf p
     }
 
     -- which the pool after settles, as the settled pool does the pool before
-    pub added_settles : Settles added after
+    pub added_settles : ChangesOptions added after
     added_settles = record {
       settled = refl;
       bare = ap (map bare_of) after_records ∙ map-append bare_of p.records more

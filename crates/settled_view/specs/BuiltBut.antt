@@ -7,7 +7,7 @@ use Rattle.linked_view.specs.Built.{IsBuilt}
 
 -- nothing but records is otherwise in the second pool than in the first, and in these nothing but
 -- options and the paths of locations
-pub record Settles (linked p : PoolType) : Type 0 where
+pub record ChangesOptions (linked p : PoolType) : Type 0 where
   pub settled : IsSettled linked p
   pub bare : map bare_of p.records ≡ map bare_of linked.records
 
@@ -15,4 +15,4 @@ pub record Settles (linked p : PoolType) : Type 0 where
 pub record IsBuiltBut (batches : List (List FileContent)) (p : PoolType) : Type 0 where
   pub linked : PoolType
   pub built : IsBuilt batches linked
-  pub settles : Settles linked p
+  pub settles : ChangesOptions linked p

@@ -17,7 +17,7 @@ ghost use Rattle.schema_view.specs.Views.{view_of};
 ghost use Rattle.linked_messages.specs.Kept.{IsKept};
 ghost use Rattle.linked_view.specs.Alone.{IsRecorded};
 ghost use Rattle.linked_view.specs.Extended.{IsIndexed};
-ghost use Rattle.settled_view.specs.BuiltBut.{IsBuiltBut, Settles};
+ghost use Rattle.settled_view.specs.BuiltBut.{IsBuiltBut, ChangesOptions};
 
 /// A pool without files is built of no batch. Where files are accepted and options are settled,
 /// it is built of one batch more, of those files that the pool had not yet, but for its options:
@@ -27,7 +27,7 @@ pub fn settled_pools_are_built()
     ensures empty { IsBuiltBut [] empty_pool }
     ensures kept { (earlier : List (List FileContent)) (old linked new : PoolType)
         (files : List FileDescriptorProto) → IsBuiltBut earlier old → IsRecorded new
-        → IsIndexed new → IsKept new → FaultlessFiles old files linked → Settles linked new
+        → IsIndexed new → IsKept new → FaultlessFiles old files linked → ChangesOptions linked new
         → (w : Linking) × IsOf old w
         × IsBuiltBut (map file_view (new_files w.indexes files) ∷ earlier) new }
 {}
@@ -45,7 +45,7 @@ pub fn settled_batches_in_another_order()
 /// Whatever options were settled since, files have the same faults as behind the pool that linking
 /// made: no fault hangs on what an option in the record of an older file says.
 pub fn settled_options_change_no_fault()
-    ensures { (linked p : PoolType) → Settles linked p → (files : List FileDescriptorProto)
+    ensures { (linked p : PoolType) → ChangesOptions linked p → (files : List FileDescriptorProto)
         → (xs : List Fault) → (FaultyFiles linked files xs ↔ FaultyFiles p files xs) }
 {}
 

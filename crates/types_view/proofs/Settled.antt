@@ -18,7 +18,7 @@ use Rattle.linked_messages.specs.Kept.{IsKept}
 use Rattle.linked_view.specs.Alone.{IsRecorded}
 use Rattle.linked_view.specs.Built.{IsBuilt}
 use Rattle.linked_view.specs.Extended.{IsIndexed}
-use Rattle.settled_view.specs.BuiltBut.{Settles}
+use Rattle.settled_view.specs.BuiltBut.{ChangesOptions}
 use Rattle.linked_view.proofs.Together.{empty_built}
 use Rattle.settled_view.proofs.Built.{itself, linked_more}
 use Rattle.settled_view.proofs.Transfer.{kept_before}
@@ -53,7 +53,7 @@ types_stay batches others p q plain same a b kept also =
 
 pub typed_more : (earlier : List (List FileContent)) (old linked new : PoolType)
     (files : List FileDescriptorProto) → IsTyped earlier old → IsRecorded new → IsIndexed new
-    → IsKept new → FaultlessFiles old files linked → Settles linked new
+    → IsKept new → FaultlessFiles old files linked → ChangesOptions linked new
     → (w : Linking) × IsOf old w
     × IsTyped (map file_view (new_files w.indexes files) ∷ earlier) new
 typed_more earlier old linked new files t recorded index kept faultless settles =

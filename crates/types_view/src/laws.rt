@@ -15,7 +15,7 @@ ghost use Rattle.linked_messages.specs.Kept.{IsKept};
 ghost use Rattle.linked_view.specs.Alone.{IsRecorded, IsWellNamed};
 ghost use Rattle.linked_view.specs.Built.{IsBuilt};
 ghost use Rattle.linked_view.specs.Extended.{IsIndexed};
-ghost use Rattle.settled_view.specs.BuiltBut.{Settles};
+ghost use Rattle.settled_view.specs.BuiltBut.{ChangesOptions};
 ghost use Rattle.types_view.specs.Fields.{TellsFields};
 ghost use Rattle.types_view.specs.Typed.{IsTyped};
 
@@ -44,7 +44,7 @@ pub fn settled_pools_are_typed()
     ensures empty { IsTyped [] empty_pool }
     ensures kept { (earlier : List (List FileContent)) (old linked new : PoolType)
         (files : List FileDescriptorProto) → IsTyped earlier old → IsRecorded new
-        → IsIndexed new → IsKept new → FaultlessFiles old files linked → Settles linked new
+        → IsIndexed new → IsKept new → FaultlessFiles old files linked → ChangesOptions linked new
         → (w : Linking) × IsOf old w
         × IsTyped (map file_view (new_files w.indexes files) ∷ earlier) new }
 {}
