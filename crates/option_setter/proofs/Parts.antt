@@ -38,11 +38,11 @@ module _ (s : NameScope) (o : OptionContent) (part : NamePart) (t : Target) wher
   set_last_part levels parts (next ∷ rest) is none old new xs named set = absurd (cc none)
 
   pub set_inner_part : (levels less : ℕ) → levels ≡ suc less → (parts rest : List NamePart) → parts ≡ part ∷ rest → (rest ≡ [] → ⊥) → (old left inner set new : DynamicMessage) (xs : List ℤ)
-      → NamesTarget s old.descriptor part t → LeadsInto t old left inner → SetsParts s o less rest inner set xs → Puts t (held.Message set) left new
+      → NamesTarget s old.descriptor part t → LeadsInto t old left inner → SetsParts s o less rest inner set xs → Puts t (held.Message set) left new → new.descriptor ≡ old.descriptor
       → SetsParts s o levels parts old new (number_of t ∷ xs)
-  set_inner_part levels less one parts [] is some old left inner set new xs named into sets puts = absurd (some refl)
-  set_inner_part levels less one parts (next ∷ rest) is some old left inner set new xs named into sets puts =
-      rw (one, is) (t, xs, left, inner, set, named, into, sets, puts, refl)
+  set_inner_part levels less one parts [] is some old left inner set new xs named into sets puts same = absurd (some refl)
+  set_inner_part levels less one parts (next ∷ rest) is some old left inner set new xs named into sets puts same =
+      rw (one, is) (t, xs, left, inner, set, named, into, sets, puts, same, refl)
 
   -- ---- what is refused
   module _ (m : DynamicMessage) (e : OptionErrorKind) where

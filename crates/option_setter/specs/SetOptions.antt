@@ -51,11 +51,12 @@ PutsSaid t v old new =
     ((holds_many t ≡ false) × (is_set old t ≡ false) × Puts t v old new)
     ⊎ ((holds_many t ≡ true) × AddsValues t (v ∷ []) old new)
 
--- the last part of the name gets what the option says
+-- the last part of the name gets what the option says, in a message that stays of its type
 pub record SetsLast (t : Target) (o : OptionContent) (old new : DynamicMessage)
     (path : List ℤ) : Type 0 where
   pub no_floats : HoldsFloats (target_pool t) (target_type t) → ⊥
   pub put : (k : Kind) × OfKind t k × (v : Value) × IsSaid k o v × PutsSaid t v old new
+  pub same_type : new.descriptor ≡ old.descriptor
   pub placed : path ≡ next_place t old
 
 -- the option says nothing to the kind
@@ -100,7 +101,7 @@ abbrev pub number_of : Target → ℤ
 number_of t = cast_signed w32 (target_type t).number
 
 -- the parts lead from a message, below which so many levels may lie, along the path to what the
--- option sets
+-- option sets; each message on the way stays of its type
 abbrev pub SetsParts : NameScope → OptionContent → ℕ → List NamePart → DynamicMessage
     → DynamicMessage → List ℤ → Type 0
 SetsParts s o levels [] old new path = (new ≡ old) × (path ≡ [])
@@ -112,7 +113,8 @@ SetsParts s o (suc levels) (part ∷ next ∷ parts) old new path =
     (t : Target) × (rest : List ℤ) × (left inner set : DynamicMessage)
     × NamesTarget s old.descriptor part t × LeadsInto t old left inner
     × SetsParts s o levels (next ∷ parts) inner set rest
-    × Puts t (held.Message set) left new × (path ≡ number_of t ∷ rest)
+    × Puts t (held.Message set) left new × (new.descriptor ≡ old.descriptor)
+    × (path ≡ number_of t ∷ rest)
 
 -- why they do not
 abbrev pub RefusesParts : NameScope → OptionContent → ℕ → List NamePart → DynamicMessage

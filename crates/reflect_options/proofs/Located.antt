@@ -31,10 +31,6 @@ here l ls path s is told = own l ls path true is ∙ ap (λ o. option_or o (span
 pub further : (l : Location) (ls : List Location) (path : List ℤ) → pointwise int_eq l.path.items path ≡ false → span_among ls path ≡ span_among (l ∷ ls) path
 further l ls path is = sym (own l ls path false is)
 
--- it has the path, and no span
-pub untold : (l : Location) (ls : List Location) (path : List ℤ) → pointwise int_eq l.path.items path ≡ true → span_of l.span.items ≡ None → span_among ls path ≡ span_among (l ∷ ls) path
-untold l ls path is none = sym (own l ls path true is ∙ ap (λ o. option_or o (span_among ls path)) none)
-
 -- a place in a file at an index is one from each index before it on
 pub in_file : (files : List FileDescriptorProto) (first i : ℕ) (f : FileDescriptorProto) → first ≤ i → slice_get files i ≡ Some f → (p : Option Place) → IfSome p (IsPlaceIn f) → IfSome p (StandsFrom files first)
 in_file files first i f from at None place = tt
@@ -48,22 +44,22 @@ passed r Q fault err q = let p = err_from_is_err_and r err in rw p.1 (subst Q (s
 pub record_at : (pool : PoolType) (file : FileDescriptor) (i : ℕ) (f : FileDescriptorProto) → file.pool.now ≡ pool → file.index ≡ i → slice_get file.pool.now.records file.index ≡ Some f → slice_get pool.records i ≡ Some f
 record_at pool file i f is at stands = subst (λ n. slice_get pool.records n ≡ Some f) at (subst (λ (p : PoolType). slice_get p.records file.index ≡ Some f) is stands)
 
-again : (first i : ℕ) → first ≤ i → first + (i - first) ≡ i
-again first i from = omega (arith, from)
+back_at : (first i : ℕ) → first ≤ i → first + (i - first) ≡ i
+back_at first i from = omega (arith, from)
 
-more : (first i : ℕ) → first ≤ i → suc (i - first) ≡ i + 1 - first
-more first i from = omega (arith, from)
+one_further : (first i : ℕ) → first ≤ i → suc (i - first) ≡ i + 1 - first
+one_further first i from = omega (arith, from)
 
 -- behind the edits of the files before it those of the file at an index
 pub settles_next : (pool : PoolType) (first i : ℕ) (front own new : List Edit) (f : FileDescriptorProto) → first ≤ i → SettlesFiles pool first (i - first) front → slice_get pool.records i ≡ Some f → SettlesFile pool i f own → new ≡ front ++ own → SettlesFiles pool first (i + 1 - first) new
 settles_next pool first i front own new f from before at settles is =
-    let e = sym (again first i from) in
-    subst (λ n. SettlesFiles pool first n new) (more first i from)
+    let e = sym (back_at first i from) in
+    subst (λ n. SettlesFiles pool first n new) (one_further first i from)
     (front, own, f, before, subst (λ n. slice_get pool.records n ≡ Some f) e at, subst (λ n. SettlesFile pool n f own) e settles, is)
 
 -- the file at an index is refused, behind those before it
 pub refuses_next : (pool : PoolType) (first i : ℕ) (front : List Edit) (f : FileDescriptorProto) (place : Option Place) → first ≤ i → SettlesFiles pool first (i - first) front → slice_get pool.records i ≡ Some f → IfSome place (IsPlaceIn f) → (kind : OptionErrorKind) → (p : Place) × (place ≡ Some p) × RefusesFile pool i f p.path kind → RefusesFrom pool first place kind
 refuses_next pool first i front f place from before at stands kind (p, is, refuses) =
-    let e = sym (again first i from) in
+    let e = sym (back_at first i from) in
     subst (λ o. RefusesFrom pool first o kind) (sym is)
     (i - first, front, f, before, subst (λ n. slice_get pool.records n ≡ Some f) e at, subst (λ n. RefusesFile pool n f p.path kind) e refuses, subst (λ o. IfSome o (IsPlaceIn f)) is stands)

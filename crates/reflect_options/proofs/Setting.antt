@@ -1,12 +1,10 @@
 -- Options that are set one after another, and the first that is forbidden.
-use Rattle.std.proofs.Common.{◌≡◌, ◌∙◌, ◌+◌, ◌++◌, ℕ, ℤ, List, [], ◌∷◌, Bool, true, false, not, Option, None, Some, IfSome, IsSome, inr, option_map, nat_lt, slice_get, slice_index_or, take, ap, refl, sym, subst, arith}
-use Rattle.std.proofs.lemmas.Option.{get_or_from_slice_get}
-use Rattle.std.specs.List.{AllWithin}
+use Rattle.std.proofs.Common.{◌≡◌, ◌∙◌, ◌++◌, ℕ, ℤ, List, [], ◌∷◌, Bool, true, false, not, Option, None, Some, IfSome, IsSome, inr, option_map, slice_get, take, ap, refl, sym, subst}
 use Rattle.std.specs.Bool.{beq}
 use Rattle.std.specs.Option.{option_and_then, unwrap_or}
 use Rattle.descriptor_records.specs.declared.options.Options.{Options}
 use Rattle.descriptor_records.specs.declared.options.UninterpretedOption.{UninterpretedOption}
-use Rattle.option_parts.specs.OptionTypes.{type_name, typed_option}
+use Rattle.option_parts.specs.OptionTypes.{typed_option}
 use Rattle.option_parts.specs.declared.option_error.OptionErrorKind.{OptionErrorKind}
 use Rattle.option_parts.specs.declared.option_error.OptionErrorKind.TheVariants as kinds
 use Rattle.option_parts.specs.declared.option_scope.OptionScope.{OptionScope}
@@ -18,21 +16,16 @@ use Rattle.option_setter.specs.WrittenNames.{TellsOption}
 use Rattle.descriptor_records.specs.Content.{option_view}
 use Rattle.option_setter.specs.declared.option_setter.NameScope.{NameScope}
 use Rattle.reflect_decode.specs.Spelled.{IsSpelled}
-use Rattle.reflect_pool.specs.FindsNames.{FindsMessage}
 use Rattle.reflect_entries.specs.Entries.{value_at}
 use Rattle.reflect_message.specs.Held.{fields_of}
 use Rattle.reflect_message.specs.Known.{known_field}
-use Rattle.reflect_message.specs.Names.{DynamicMessage, Value}
-use Rattle.reflect_message.specs.Present.{held_if_set, is_held}
-use Rattle.reflect_message.specs.Shown.{IsHeldOrDefault}
-use Rattle.reflect_message.specs.Singles.{single}
+use Rattle.reflect_message.specs.Names.{DynamicMessage}
+use Rattle.reflect_message.specs.Present.{held_if_set}
 use Rattle.reflect_pool.specs.FieldsLeft.{field_type}
 use Rattle.reflect_pool.specs.declared.field.FieldDescriptor.{FieldDescriptor}
 use Rattle.reflect_pool.specs.declared.message.MessageDescriptor.{MessageDescriptor}
-use Rattle.reflect_scalar.specs.Cases.{truth_of}
 use Rattle.reflect_scalar.specs.FieldTypes.{field_pool}
-use Rattle.reflect_tables.specs.Types.{FieldType, PoolType}
-use Rattle.reflect_options.specs.Settled.{FindsForbidden, IsStored, IsWhole, RefusesAt, RefusesOptions, RefusesStored, RefusesTyped, RefusesWritten, SetsAll, SetsOption, truth_in, truth_said}
+use Rattle.reflect_options.specs.Settled.{FindsForbidden, IsStored, IsType, IsWhole, RefusesAt, RefusesOptions, RefusesStored, RefusesTyped, RefusesWritten, SetsAll, SetsOption, truth_in, truth_said}
 
 -- one option more is set behind others
 pub set_more : (s : NameScope) (os : List UninterpretedOption) (o : UninterpretedOption) (a b c : DynamicMessage) (ps : List (List ℤ)) (p : List ℤ)
@@ -40,16 +33,6 @@ pub set_more : (s : NameScope) (os : List UninterpretedOption) (o : Uninterprete
 set_more s [] o a b c ps p (same, none) sets = (c, p, [], subst (λ m. SetsOption s o m c p) same sets, (refl, refl), ap (λ l. l ++ p ∷ []) none)
 set_more s (x ∷ os) o a b c ps p (next, path, rest, first, more, is) sets =
     (next, path, rest ++ p ∷ [], first, set_more s os o next b c rest p more sets, ap (λ l. l ++ p ∷ []) is)
-
--- what is so of none before a place, and not of the one there, is so of none up to it
-pub none_up_to : {X : Type 0} (P : X → Type 0) (xs : List X) (i : ℕ) (x : X) → AllWithin (λ y. P y → ⊥) xs 0 i → slice_get xs i ≡ Some x → (P x → ⊥) → AllWithin (λ y. P y → ⊥) xs 0 (i + 1)
-none_up_to P xs i x before at this k d low less = by (nat_lt k i) refl
-  where
-    by : (b : Bool) → nat_lt k i ≡ b → P (slice_index_or xs k d) → ⊥
-    by true e h = before k d low (grind (arith, e)) h
-    by false e h =
-        let last : k ≡ i = grind (arith, e, less) in
-        this (subst P (ap (λ j. slice_index_or xs j d) last ∙ get_or_from_slice_get xs i x d at) h)
 
 -- ---- what linking reads itself
 module _ (m : DynamicMessage) (n : ℕ) (d : MessageDescriptor) (is : d ≡ m.descriptor) where
@@ -67,15 +50,6 @@ module _ (m : DynamicMessage) (n : ℕ) (d : MessageDescriptor) (is : d ≡ m.de
       ap (option_and_then (λ g. truth_in (held_if_set m.descriptor.pool.now g (value_at (fields_of m) n)))) here
       ∙ ap (λ p. truth_in (held_if_set p (field_type f) (value_at (fields_of m) n))) (ap (λ (d : MessageDescriptor). d.pool.now) (sym (message ∙ is)))
       ∙ ap (λ k. truth_in (held_if_set (field_pool f) (field_type f) (value_at (fields_of m) k))) (sym number)
-
--- what is not set says nothing, and what is set says what it holds
-pub unset_says : (p : PoolType) (f : FieldType) (held : Option Value) → is_held p f held ≡ false → truth_in (held_if_set p f held) ≡ None
-unset_says p f None e = refl
-unset_says p f (Some v) e = rw e refl
-
-pub set_says : (p : PoolType) (f : FieldType) (held : Option Value) (v : Value) → is_held p f held ≡ true → IsHeldOrDefault p f held v → truth_in (held_if_set p f held) ≡ option_and_then truth_of (single v)
-set_says p f None v e is = absurd (cc e)
-set_says p f (Some w) v e is = rw e (ap (λ x. option_and_then truth_of (single x)) (sym is))
 
 -- ---- what is refused
 -- the number that a message's options are asked for
@@ -110,7 +84,7 @@ module _ (scope : OptionScope) (s : NameScope) (d : MessageDescriptor) (o : Opti
   whole_refused whole paths is at none e h = rw none (unless_then (RefusesWritten whole) (RefusesTyped scope s d o None) (λ e h. inr (whole, paths, is, h)) e h)
 
   -- the type refuses them
-  pub typed_refused : FindsForbidden scope o None → FindsMessage s.pool.now (type_name scope) (Some d) → (at : Option ℕ) (e : OptionErrorKind) → UnlessMemory (RefusesTyped scope s d o at) e → UnlessMemory (RefusesOptions scope s o at) e
+  pub typed_refused : FindsForbidden scope o None → IsType scope s d → (at : Option ℕ) (e : OptionErrorKind) → UnlessMemory (RefusesTyped scope s d o at) e → UnlessMemory (RefusesOptions scope s o at) e
   typed_refused none finds at e h = unless_then (RefusesTyped scope s d o at) (RefusesOptions scope s o at) (λ e h. inr (none, inr (d, finds, h))) e h
 
 both : (P Q : OptionErrorKind → Type 0) (e : OptionErrorKind) → UnlessMemory P e → Q e → UnlessMemory (λ k. P k × Q k) e

@@ -1,14 +1,13 @@
 -- The entities that may have options (descriptor.proto; protobuf.dev, "Custom Options"): each
 -- declaration, and the extension ranges of messages.
-use Rattle.std.specs.Prelude.{◌++◌, ◌∷◌, [], ℕ, ℤ, pos, List, Option}
+use Rattle.std.specs.Prelude.{◌∷◌, [], ℕ, ℤ, pos, List, Option}
 use Rattle.std.specs.List.{flat_map}
 use Rattle.descriptor_records.specs.declared.file.FileDescriptorProto.{FileDescriptorProto}
 use Rattle.descriptor_records.specs.declared.message.ExtensionRange.{ExtensionRange}
 use Rattle.descriptor_records.specs.declared.options.Options.{Options}
 use Rattle.option_parts.specs.declared.option_scope.OptionScope.{OptionScope}
 use Rattle.option_parts.specs.declared.option_scope.OptionScope.TheVariants as scopes
-use Rattle.option_setter.specs.SetOptions.{place_of}
-use Rattle.reflect_declarations.specs.Declarations.{Declaration, each, file_declarations, of_enum, of_enum_value, of_extension, of_field, of_file, of_message, of_method, of_oneof, of_service}
+use Rattle.reflect_declarations.specs.Declarations.{Declaration, each, entry, file_declarations, of_enum, of_enum_value, of_extension, of_field, of_file, of_message, of_method, of_oneof, of_service}
 use Rattle.reflect_declarations.specs.Tree.{text_of}
 use Rattle.reflect_declarations.specs.declared.offsets.Offsets.{Offsets}
 
@@ -38,7 +37,7 @@ abbrev pub range_at : ℕ → List ℤ → List ℕ → ℕ → ExtensionRange �
 range_at file path name place r = record {
   scope = scopes.ExtensionRange;
   file = file;
-  path = path ++ (pos 5 ∷ place_of place ∷ []);
+  path = entry path (pos 5) place;
   number = pos 3;
   name = name;
   options = r.options;

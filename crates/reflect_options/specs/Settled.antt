@@ -31,6 +31,11 @@ use Rattle.reflect_scalar.specs.Cases.{truth_of}
 use Rattle.reflect_tables.specs.Finding.{IsFirst}
 use Rattle.reflect_wire.specs.declared.wire_error.WireError.TheVariants.{TooDeep}
 
+-- the schema's type for the options of a scope
+abbrev pub IsType : OptionScope → NameScope → MessageDescriptor → Type 0
+IsType scope s d = (d.pool.now ≡ s.pool.now)
+    × FindsMessage s.pool.now (type_name scope) (Some d)
+
 -- ---- options that no source may set
 -- the list of uninterpreted ones, and what says that a message is the type of a map's entries
 abbrev pub is_reserved : OptionScope → List ℕ → Bool
@@ -65,9 +70,10 @@ AgreesOnEntries scopes.Message o m =
     unwrap_or (truth_said 7 m) false ≡ unwrap_or o.map_entry false
 AgreesOnEntries scope o m = Unit {0}
 
--- the stored bytes spell a message of options that agrees with the record
+-- the stored bytes spell a message of the type that agrees with the record
 abbrev pub IsStored : OptionScope → MessageDescriptor → Options → DynamicMessage → Type 0
-IsStored scope d o m = IsSpelled d o.encoded.items m × AgreesOnEntries scope o m
+IsStored scope d o m = (m.descriptor ≡ d) × IsSpelled d o.encoded.items m
+    × AgreesOnEntries scope o m
 
 -- they spell none, or one that does not agree
 abbrev pub RefusesStored : OptionScope → MessageDescriptor → Options → OptionErrorKind → Type 0
@@ -145,9 +151,8 @@ IsWhole scope s d o whole paths =
 -- source wrote
 abbrev pub Settles : OptionScope → NameScope → Options → OptionsContent → List (List ℤ) → Type 0
 Settles scope s o settled paths = FindsForbidden scope o None
-    × ((d : MessageDescriptor) × FindsMessage s.pool.now (type_name scope) (Some d)
-    × (whole : DynamicMessage) × IsWhole scope s d o whole paths
-    × IsRecordOf scope whole settled)
+    × ((d : MessageDescriptor) × IsType scope s d × (whole : DynamicMessage)
+    × IsWhole scope s d o whole paths × IsRecordOf scope whole settled)
 
 -- it has none, and there is nothing to settle
 abbrev pub StayAsTheyAre : OptionScope → NameScope → Options → Type 0
@@ -180,5 +185,4 @@ LacksType scope s o at e = FindsMessage s.pool.now (type_name scope) None
 abbrev pub RefusesOptions : OptionScope → NameScope → Options → Option ℕ → OptionErrorKind → Type 0
 RefusesOptions scope s o at e = IsForbiddenAt scope o at e
     ⊎ (FindsForbidden scope o None × (LacksType scope s o at e
-    ⊎ ((d : MessageDescriptor) × FindsMessage s.pool.now (type_name scope) (Some d)
-    × RefusesTyped scope s d o at e)))
+    ⊎ ((d : MessageDescriptor) × IsType scope s d × RefusesTyped scope s d o at e)))

@@ -1,8 +1,7 @@
 ghost use Rattle.std.specs.Prelude.{◌≡◌, ◌++◌, ◌∷◌, [], ℤ, pos, IfOk, List, None, OnOk, Vec};
 ghost use Rattle.std.specs.declared.alloc.Global.{Global};
 ghost use Rattle.option_parts.specs.Moves.{EditsLocations, targets_of};
-ghost use Rattle.option_setter.specs.SetOptions.{place_of};
-ghost use Rattle.reflect_declarations.specs.Declarations.{Runs, each};
+ghost use Rattle.reflect_declarations.specs.Declarations.{Runs, each, entry};
 ghost use Rattle.reflect_declarations.specs.Tree.{text_of};
 ghost use Rattle.reflect_growth.specs.declared.settle.Edit.{Edit};
 ghost use Rattle.reflect_growth.specs.declared.settle.Edit.TheVariants as edits;
@@ -248,11 +247,12 @@ fn written_path(alloc: Global, options: &[i32], place: usize) -> Result<Vec<i32>
     join_path(alloc, options, &[tag::UNINTERPRETED_OPTION, place])
 }
 
-/// The path of the extension range at a place of the message at a path, as far as 32 bits count.
+/// The path of the extension range at a place of the message at a path. More of them than an `i32`
+/// counts are want of memory.
 fn range_path(alloc: Global, message: &[i32], place: usize) -> Result<Vec<i32>, AllocError>
-    ensures { IfOk result (λ path. path.items ≡ message.now ++ (pos 5 ∷ place_of place ∷ [])) }
+    ensures { IfOk result (λ path. path.items ≡ entry message.now (pos 5) place) }
 {
-    let place = i32::try_from(place).unwrap_or(i32::MAX);
+    let place = i32::try_from(place).map_err(|_| AllocError)?;
     join_path(alloc, message, &[tag::message::EXTENSION_RANGE, place])
 }
 

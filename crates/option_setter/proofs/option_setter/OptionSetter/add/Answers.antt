@@ -23,6 +23,7 @@ returns-clause-set c =
       record {
         no_floats = c.requires.no_floats;
         put = (c.kind.result, c.kind.ensures, c.in_ok-value.value, c.in_ok-value.ensures.said, inr (c.requires.many, search rules));
+        same_type = search rules;
         placed = refl;
       },
       path,
