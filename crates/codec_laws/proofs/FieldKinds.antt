@@ -227,9 +227,13 @@ module _ (n : ℕ) (fs : List Field) where
   bool_at None e = subst (λ vs. IsLast IsBool vs None) (sym e) ([], tt, refl)
   bool_at (Some b) e = subst (λ vs. IsLast IsBool vs (Some b)) (sym e) (b ∷ [], ((if b then 1 else 0, refl, bool_back b), tt), refl)
 
+  pub records_among : {R : Type 0} (means : ℕ → List Field → R → Type 0) (bytes : R → List ℕ) (levels : ℕ) (rs : List R) → AllByRecursion (ReadsInside means bytes levels) rs
+      → Holds n fs (each_payload bytes rs) → AllZip (IsRecord means levels) (values_at n fs) rs
+  records_among means bytes levels rs all e = subst (λ vs. AllZip (IsRecord means levels) vs rs) (sym e) (records_zip means bytes levels rs all)
+
   pub records_at : {R : Type 0} (means : ℕ → List Field → R → Type 0) (bytes : R → List ℕ) (levels : ℕ) (rs : Vec R Global) → AllByRecursion (ReadsInside means bytes levels) rs.items
       → Holds n fs (each_payload bytes rs.items) → RecordsAt means levels n fs rs
-  records_at means bytes levels rs all e = subst (λ vs. AllZip (IsRecord means levels) vs rs.items) (sym e) (records_zip means bytes levels rs.items all)
+  records_at means bytes levels rs = records_among means bytes levels rs.items
 
   pub merged_at : {R : Type 0} (means : ℕ → List Field → R → Type 0) (bytes : R → List ℕ) (levels : ℕ) (o : Option R) → IfThere (ReadsInside means bytes levels) o
       → Holds n fs (record_payloads bytes o) → MergedAt means levels n fs o

@@ -1,5 +1,5 @@
-mod Again
+pub mod Again
 mod FieldKinds
 mod Parts
-mod Said
-mod Written
+pub mod Said
+pub mod Written

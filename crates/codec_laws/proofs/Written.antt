@@ -1,6 +1,7 @@
 -- What is written of each kind of record is read as that record.
 use Rattle.std.proofs.Common.{ℕ, zero, suc, ◌<◌, ◌-◌, ◌^◌, List, [], ◌∷◌, ◌++◌, map, length, Option, Some, None, refl, sym, subst, length-append, arith}
 use Rattle.std.specs.List.{AllByRecursion, AllZip}
+use Rattle.std.proofs.lemmas.List.{append-nil}
 use Rattle.descriptor_records.specs.declared.enums.EnumDescriptorProto.{EnumDescriptorProto}
 use Rattle.descriptor_records.specs.declared.enums.EnumReservedRange.{EnumReservedRange}
 use Rattle.descriptor_records.specs.declared.enums.EnumValueDescriptorProto.{EnumValueDescriptorProto}
@@ -19,12 +20,12 @@ use Rattle.descriptor_records.specs.declared.source_info.Location.{Location}
 use Rattle.descriptor_records.specs.declared.source_info.SourceCodeInfo.{SourceCodeInfo}
 use Rattle.reflect_codec.specs.Fields.{payload_field, record_field, records_field}
 use Rattle.reflect_codec.specs.Meaning.{IsEnum, IsEnumRange, IsEnumValue, IsExtensionRange, IsField, IsFile, IsFileBytes, IsLocation, IsMessage, IsMethod, IsOneof, IsReservedRange, IsService, IsSetBytes, IsSourceInfo}
-use Rattle.reflect_codec.specs.Reading.{Field, SpellsFields, Value, payload, value_of}
+use Rattle.reflect_codec.specs.Reading.{Field, IsRecord, SpellsFields, Value, payload, value_of, values_at}
 use Rattle.reflect_codec.specs.Written.{enum_bytes, enum_range_bytes, enum_value_bytes, extension_range_bytes, field_bytes, file_bytes, location_bytes, message_bytes, method_bytes, oneof_bytes, reserved_range_bytes, service_bytes, set_bytes, source_info_bytes}
 use Rattle.reflect_codec.specs.declared.options.OptionsOf.TheVariants as of
 use Rattle.reflect_codec.proofs.Messages.{message_bytes-out}
 use Rattle.codec_laws.specs.Plain.{IfThere, IsInside, IsPlainEnum, IsPlainEnumRange, IsPlainEnumValue, IsPlainExtensionRange, IsPlainField, IsPlainFile, IsPlainLocation, IsPlainMessage, IsPlainMethod, IsPlainOneof, IsPlainReservedRange, IsPlainService, IsPlainSet, IsPlainSourceInfo}
-use Rattle.codec_laws.proofs.FieldKinds.{Reads, ReadsInside, bool_at, bool_part, each_payload, inside_short, int32_at, int32_part, int32s_at, int32s_part, merged_at, options_at, options_part, packed_at, packed_part, record_part, records_at, records_part, text_at, text_part, texts_at, texts_part}
+use Rattle.codec_laws.proofs.FieldKinds.{Reads, ReadsInside, bool_at, bool_part, each_payload, inside_short, int32_at, int32_part, int32s_at, int32s_part, merged_at, options_at, options_part, packed_at, packed_part, record_part, records_among, records_at, records_part, text_at, text_part, texts_at, texts_part}
 use Rattle.codec_laws.proofs.Parts.{Part, fields, spelled, values, written}
 
 -- each part is no longer than all of them
@@ -409,17 +410,25 @@ pub file_read : (f : FileDescriptorProto) → IsPlainFile 100 f → length (file
 file_read f plain short = file_reads 100 f plain short
 
 -- ---- FileDescriptorSet
-abbrev set_parts : FileDescriptorSet → List Part
-set_parts s = records_part 1 (omega arith) (omega arith) file_bytes s.file.items ∷ []
+abbrev files_parts : List FileDescriptorProto → List Part
+files_parts xs = records_part 1 (omega arith) (omega arith) file_bytes xs ∷ []
+
+-- files one behind another, as a set has them
+files_spelled : (xs : List FileDescriptorProto) → AllByRecursion (IsInside IsPlainFile 100) xs → length (written (files_parts xs)) < 2 ^ 64
+    → (gs : List Field) × SpellsFields 100 (written (files_parts xs)) gs × AllZip (IsRecord IsFile 100) (values_at 1 gs) xs
+files_spelled xs plain short =
+    let ps = files_parts xs in
+    let each = shorts ps short in
+    (fields ps, spelled 100 ps short, records_among 1 (fields ps) IsFile file_bytes 100 xs (each_reads IsFile file_bytes 1 IsPlainFile 100 xs plain each.0 file_reads) (values 1 ps))
 
 pub set_read : (s : FileDescriptorSet) → IsPlainSet s → length (set_bytes s) < 2 ^ 64 → IsSetBytes (set_bytes s) s
 set_read s plain short =
-    let ps = set_parts s in
-    let gs = fields ps in
-    let each = shorts ps short in (
-      gs,
-      spelled 100 ps short,
-      record {
-        file = records_at 1 gs IsFile file_bytes 100 s.file (each_reads IsFile file_bytes 1 IsPlainFile 100 s.file.items plain each.0 file_reads) (values 1 ps);
-      },
-    )
+    let r = files_spelled s.file.items plain short in
+    (r.0, r.1, record { file = r.2 })
+
+pub files_read : (xs : List FileDescriptorProto) → AllByRecursion (IsInside IsPlainFile 100) xs → length (records_field file_bytes 1 xs) < 2 ^ 64
+    → (gs : List Field) × SpellsFields 100 (records_field file_bytes 1 xs) gs × AllZip (IsRecord IsFile 100) (values_at 1 gs) xs
+files_read xs plain short =
+    let same = append-nil (records_field file_bytes 1 xs) in
+    let r = files_spelled xs plain (subst (λ b. length b < 2 ^ 64) (sym same) short) in
+    (r.0, subst (λ b. SpellsFields 100 b r.0) same r.1, r.2)

@@ -5,3 +5,5 @@ pub mod PresentMessages
 pub mod AddedBatches
 pub mod RefusedBatches
 pub mod TextsAlike
+pub mod PlainRecords
+pub mod OwnSets

@@ -1,3 +1,4 @@
 pub mod Schemas
+pub mod Records
 pub mod Reprints
 pub mod Batches

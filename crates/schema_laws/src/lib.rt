@@ -5,4 +5,5 @@ pub mod batches;
 pub mod laws;
 pub mod names;
 pub mod presence;
+pub mod records;
 pub mod texts;

@@ -1,4 +1,5 @@
 pub mod DeclaredTypes
+pub mod Depth
 pub mod FileRules
 pub mod Giving
 pub mod Lists
@@ -7,6 +8,13 @@ pub mod NameRules
 pub mod NamedFields
 pub mod NamedTypes
 pub mod NamedValues
+pub mod PlainFiles
+pub mod PlainLocations
+pub mod PlainMessages
+pub mod PlainOptions
+pub mod PlainParts
+pub mod PlainPaths
+pub mod PlainPlaces
 pub mod ServiceRules
 pub mod Sources
 pub mod Texts

@@ -69,14 +69,14 @@ gives-ty_after : (o : Option Span) (w : Word) → Gives IsNoGroup (ty_after o w)
 gives-ty_after None w = gives-ty_of w (scalar_of w.text) (no_group w.text)
 gives-ty_after (Some dot) w = gives-map _ (gives-any (Local-parts w)) (λ parts any e. cc e)
 
-gives-ty : Gives IsNoGroup ty
+pub gives-ty : Gives IsNoGroup ty
 unfolding ty
 gives-ty = gives-after (Local-eat _) (λ o. gives-after Local-word (λ w. gives-ty_after o w))
 
-abbrev IsOfTypes : MapType → Type 0
+abbrev pub IsOfTypes : MapType → Type 0
 IsOfTypes m = IsNoGroup m.key × IsNoGroup m.value
 
-gives-map_type : (p : Span) → Gives IsOfTypes (map_type p)
+pub gives-map_type : (p : Span) → Gives IsOfTypes (map_type p)
 unfolding map_type
 gives-map_type p = gives-bind gives-ty (λ key k. gives-after (Local-expect _) (λ c.
     gives-bind gives-ty (λ value v. gives-after (Local-expect _) (λ q. gives-pure _ (k, v)))))

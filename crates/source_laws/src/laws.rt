@@ -1,6 +1,8 @@
 //! What holds of each source, as contracts of functions that do nothing.
 ghost use Rattle.descriptor_records.specs.Content.{file_view};
 ghost use Rattle.descriptor_records.specs.declared.file.FileDescriptorProto.{FileDescriptorProto};
+ghost use Rattle.plain_records.specs.PlainRecords.{IsPlainFile};
+ghost use Rattle.plain_records.specs.SaidOptions.{SaysOrWaits};
 ghost use Rattle.protox_file.specs.Sources.{Spells};
 ghost use Rattle.protox_lex.specs.Class.{Text};
 ghost use Rattle.protox_parse.specs.Answers.{IsAnswered};
@@ -18,4 +20,10 @@ pub fn trees_of_sources_have_identifiers()
 pub fn records_of_sources_have_source_names()
     ensures { (name z : Text) (made : FileDescriptorProto) → IsAnswered name z (Ok made)
         → IsSourceFile (file_view made) }
+{}
+
+/// The record of a source is one that bytes can say, but for options that are left to settle.
+pub fn records_of_sources_are_plain()
+    ensures { (name z : Text) (made : FileDescriptorProto)
+        → IsAnswered name z (Ok made) → IsPlainFile SaysOrWaits 99 (file_view made) }
 {}

@@ -1,0 +1,2 @@
+pub mod PlainRecords
+pub mod SaidOptions

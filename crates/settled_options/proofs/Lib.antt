@@ -1,0 +1,9 @@
+pub mod Fronts
+pub mod Written
+pub mod Under
+pub mod Fields
+pub mod Kept
+pub mod Truths
+pub mod Vecs
+pub mod Stored
+pub mod Said
