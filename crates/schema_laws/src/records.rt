@@ -16,7 +16,7 @@ ghost use Rattle.schema_laws.specs.Records.{HasPlainRecords};
 
 /// The records of a schema without files are plain, and stay so where sources are added.
 pub fn added_sources_leave_records_plain()
-    ensures empty { HasPlainRecords empty_pool }
+    ensures empty { IsRecorded empty_pool × HasPlainRecords empty_pool }
     ensures kept { (old : PoolType) (new : Schema) (sources : List (List ℕ × List ℕ))
         → IsRecorded old → IsRecorded new.pool → HasPlainRecords old
         → SourcesLinked old sources new.pool → HasPlainRecords new.pool }
