@@ -4,6 +4,5 @@ pub mod Under
 pub mod Fields
 pub mod Kept
 pub mod Truths
-pub mod Vecs
 pub mod Stored
 pub mod Said

@@ -1,5 +1,5 @@
 -- What options settle to, in the words of its bytes.
-use Rattle.std.proofs.Common.{◌≡◌, ℕ, ℤ, ◌<◌, ◌^◌, List, [], ◌∷◌, map, length, false, Option, Some, None, IfSome, refl, sym, ap, ◌∙◌, subst, append-nil, arith}
+use Rattle.std.proofs.Common.{◌≡◌, ℕ, ℤ, List, [], ◌∷◌, map, false, Option, Some, None, IfSome, refl, sym, ap, ◌∙◌, subst, append-nil}
 use Rattle.std.specs.List.{AllZip}
 use Rattle.descriptor_records.specs.Content.{OptionsContent, option_view, options_view}
 use Rattle.descriptor_records.specs.declared.options.Options.{Options}
@@ -32,7 +32,6 @@ use Rattle.settled_options.proofs.Kept.{PlainAt, all_kept, all_others, type_kept
 use Rattle.settled_options.proofs.Stored.{list_unset, stored_lacks, stored_plain}
 use Rattle.settled_options.proofs.Truths.{truth_read}
 use Rattle.settled_options.proofs.Under.{Lacks, Writes, message_under, none_read}
-use Rattle.settled_options.proofs.Vecs.{filled}
 
 module _ (d : MessageDescriptor) (sound : IsSound d.pool.now) (bytes : List ℕ) (stored set whole : DynamicMessage) (spelled : IsSpelled d bytes stored) (there : stored.descriptor ≡ d)
     (s : NameScope) (os : List UninterpretedOption) (paths : List (List ℤ)) (sets : SetsAll s os stored set paths) (unsets : UnsetsMeant (HasNumber 999) set whole)
@@ -161,12 +160,3 @@ module _ (scope : OptionScope) (s : NameScope) (o : Options) (settled : OptionsC
         truths : (t : Option (List ℕ × ℕ)) → IfSome t (λ t. HasField type.pool.now type.index t.1 (IsTruthValue t.0)) → IfSome t (λ t. IsLast IsBool (values_at t.1 (fields_in read)) (truth_said t.1 whole))
         truths None h = tt
         truths (Some t) h = one_truth type type_sound o.encoded.items is.1.3.0 is.1.3.1 whole is.1.3.2.1 is.1.3.2.0 s o.uninterpreted_option.items paths is.1.3.3 is.1.3.4 option_type.uninterpreted 100 read is.1.4.1.1.1 t.1 t.0 h
-
-  -- so there is one, where memory may hold the bytes
-  pub content_says : length settled.encoded < 2 ^ 63 → SaysItsBytes (kind_of scope) settled
-  content_says small =
-      let bytes = filled o.encoded settled.encoded small in
-      let none = filled o.uninterpreted_option [] (omega arith) in
-      let options : Options = record { encoded = bytes.0; packed = settled.packed; allow_alias = settled.allow_alias; map_entry = settled.map_entry; uninterpreted_option = none.0 } in
-      let left : settled.uninterpreted_option ≡ [] = ap (λ (c : OptionsContent). c.uninterpreted_option) is.1.4.0 in
-      view_says options (ap (λ bs. record settled { encoded = bs; uninterpreted_option = map option_view none.0.items }) bytes.1 ∙ ap (λ os. record settled { uninterpreted_option = os }) (ap (map option_view) none.1 ∙ sym left))

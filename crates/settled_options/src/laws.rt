@@ -1,6 +1,6 @@
 //! Laws of what options settle to, each the contract of a function that does nothing.
-ghost use Rattle.std.specs.Prelude.{◌<◌, ◌^◌, List, length, ℤ};
-ghost use Rattle.descriptor_records.specs.Content.{OptionsContent, options_view};
+ghost use Rattle.std.specs.Prelude.{List, ℤ};
+ghost use Rattle.descriptor_records.specs.Content.{options_view};
 ghost use Rattle.descriptor_records.specs.declared.options.Options.{Options};
 ghost use Rattle.option_parts.specs.OptionTypes.{CanRead};
 ghost use Rattle.option_parts.specs.declared.option_scope.OptionScope.{OptionScope};
@@ -10,15 +10,10 @@ ghost use Rattle.reflect_options.specs.Settled.{Settles};
 ghost use Rattle.message_view.specs.Sound.{IsSound};
 ghost use Rattle.settled_options.specs.Kinds.{kind_of};
 
-/// What options settle to says what its bytes do: a record does so, and any content whose bytes
-/// memory may hold.
+/// What options settle to says what its bytes do.
 pub fn settled_options_say_their_bytes()
-    ensures record { (scope : OptionScope) (s : NameScope) (o settled : Options)
-        (paths : List (List ℤ)) → IsSound s.pool.now → CanRead s.pool.now scope
+    ensures { (scope : OptionScope) (s : NameScope) (o settled : Options) (paths : List (List ℤ))
+        → IsSound s.pool.now → CanRead s.pool.now scope
         → Settles scope s o (options_view settled) paths
         → SaysItsBytes (kind_of scope) (options_view settled) }
-    ensures content { (scope : OptionScope) (s : NameScope) (o : Options)
-        (settled : OptionsContent) (paths : List (List ℤ))
-        → IsSound s.pool.now → CanRead s.pool.now scope → Settles scope s o settled paths
-        → length settled.encoded < 2 ^ 63 → SaysItsBytes (kind_of scope) settled }
 {}
