@@ -4,7 +4,7 @@ use Rattle.descriptor_records.specs.Content.{OptionContent}
 use Rattle.descriptor_records.specs.declared.options.NamePart.{NamePart}
 use Rattle.option_parts.specs.declared.option_error.OptionErrorKind.{OptionErrorKind}
 use Rattle.option_parts.specs.declared.option_error.OptionErrorKind.TheVariants as kinds
-use Rattle.reflect_format.specs.Steps.{Puts}
+use Rattle.reflect_format.specs.Steps.{Puts, StaysAscending, StaysExclusive}
 use Rattle.reflect_format.specs.declared.target.Target.{Target}
 use Rattle.reflect_message.specs.Names.{DynamicMessage}
 use Rattle.reflect_message.specs.declared.value.ValueOf.TheVariants as held
@@ -39,10 +39,10 @@ module _ (s : NameScope) (o : OptionContent) (part : NamePart) (t : Target) wher
 
   pub set_inner_part : (levels less : ℕ) → levels ≡ suc less → (parts rest : List NamePart) → parts ≡ part ∷ rest → (rest ≡ [] → ⊥) → (old left inner set new : DynamicMessage) (xs : List ℤ)
       → NamesTarget s old.descriptor part t → LeadsInto t old left inner → SetsParts s o less rest inner set xs → Puts t (held.Message set) left new → new.descriptor ≡ old.descriptor
-      → SetsParts s o levels parts old new (number_of t ∷ xs)
-  set_inner_part levels less one parts [] is some old left inner set new xs named into sets puts same = absurd (some refl)
-  set_inner_part levels less one parts (next ∷ rest) is some old left inner set new xs named into sets puts same =
-      rw (one, is) (t, xs, left, inner, set, named, into, sets, puts, same, refl)
+      → StaysExclusive t left new → StaysAscending left new → SetsParts s o levels parts old new (number_of t ∷ xs)
+  set_inner_part levels less one parts [] is some old left inner set new xs named into sets puts same exclusive ascending = absurd (some refl)
+  set_inner_part levels less one parts (next ∷ rest) is some old left inner set new xs named into sets puts same exclusive ascending =
+      rw (one, is) (t, xs, left, inner, set, named, into, sets, puts, same, refl, exclusive, ascending)
 
   -- ---- what is refused
   module _ (m : DynamicMessage) (e : OptionErrorKind) where

@@ -6,7 +6,7 @@ use Rattle.descriptor_records.specs.Content.{OptionContent}
 use Rattle.descriptor_records.specs.declared.options.NamePart.{NamePart}
 use Rattle.option_parts.specs.declared.option_error.OptionErrorKind.{OptionErrorKind}
 use Rattle.option_parts.specs.declared.option_error.OptionErrorKind.TheVariants as kinds
-use Rattle.reflect_format.specs.Steps.{AddsValues, Puts, held_by, is_set}
+use Rattle.reflect_format.specs.Steps.{AddsValues, Puts, StaysAscending, StaysExclusive, held_by, is_set}
 use Rattle.reflect_format.specs.Takes.{holds_many, target_pool, target_type}
 use Rattle.reflect_format.specs.declared.target.Target.{Target}
 use Rattle.reflect_format.specs.declared.target.Target.TheVariants as targets
@@ -51,13 +51,16 @@ PutsSaid t v old new =
     ((holds_many t ≡ false) × (is_set old t ≡ false) × Puts t v old new)
     ⊎ ((holds_many t ≡ true) × AddsValues t (v ∷ []) old new)
 
--- the last part of the name gets what the option says, in a message that stays of its type
+-- the last part of the name gets what the option says, in a message that stays of its type, and in
+-- which of each oneof one member at most is set and numbers ascend, if it was so before
 pub record SetsLast (t : Target) (o : OptionContent) (old new : DynamicMessage)
     (path : List ℤ) : Type 0 where
   pub no_floats : HoldsFloats (target_pool t) (target_type t) → ⊥
   pub put : (k : Kind) × OfKind t k × (v : Value) × IsSaid k o v × PutsSaid t v old new
   pub same_type : new.descriptor ≡ old.descriptor
   pub placed : path ≡ next_place t old
+  pub exclusive : StaysExclusive t old new
+  pub ascending : StaysAscending old new
 
 -- the option says nothing to the kind
 abbrev pub RefusesValue : Kind → OptionContent → OptionErrorKind → Type 0
@@ -114,7 +117,7 @@ SetsParts s o (suc levels) (part ∷ next ∷ parts) old new path =
     × NamesTarget s old.descriptor part t × LeadsInto t old left inner
     × SetsParts s o levels (next ∷ parts) inner set rest
     × Puts t (held.Message set) left new × (new.descriptor ≡ old.descriptor)
-    × (path ≡ number_of t ∷ rest)
+    × (path ≡ number_of t ∷ rest) × StaysExclusive t left new × StaysAscending left new
 
 -- why they do not
 abbrev pub RefusesParts : NameScope → OptionContent → ℕ → List NamePart → DynamicMessage

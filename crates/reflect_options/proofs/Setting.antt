@@ -63,9 +63,9 @@ differ false true e same = absurd (cc same)
 differ false false e same = absurd (cc e)
 
 -- what is stored contradicts the record
-pub contradicts : (scope : OptionScope) (d : MessageDescriptor) (o : Options) (m : DynamicMessage) (kind : OptionErrorKind) → scope ≡ scopes.Message → kind ≡ kinds.UndecodableOptions None → IsSpelled d o.encoded.items m
+pub contradicts : (scope : OptionScope) (d : MessageDescriptor) (o : Options) (m : DynamicMessage) (kind : OptionErrorKind) → scope ≡ scopes.Message → kind ≡ kinds.UndecodableOptions None → m.descriptor ≡ d → IsSpelled d o.encoded.items m
     → (unwrap_or (truth_said 7 m) false ≡ unwrap_or o.map_entry false → ⊥) → UnlessMemory (RefusesStored scope d o) kind
-contradicts scope d o m kind is told spelled apart = rw (told, is) (m, spelled, apart)
+contradicts scope d o m kind is told same spelled apart = rw (told, is) (m, same, spelled, apart)
 
 module _ (scope : OptionScope) (s : NameScope) (d : MessageDescriptor) (o : Options) where
   -- one of the options that a source wrote is refused

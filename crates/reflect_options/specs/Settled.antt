@@ -21,6 +21,7 @@ use Rattle.reflect_message.specs.Bytes.{message_bytes}
 use Rattle.reflect_message.specs.Held.{fields_of}
 use Rattle.reflect_message.specs.Known.{known_field}
 use Rattle.reflect_message.specs.Names.{DynamicMessage, Value}
+use Rattle.reflect_message.specs.Oneofs.{IsExclusive}
 use Rattle.reflect_message.specs.Present.{held_if_set}
 use Rattle.reflect_message.specs.Singles.{single}
 use Rattle.reflect_entries.specs.Entries.{value_at}
@@ -70,16 +71,17 @@ AgreesOnEntries scopes.Message o m =
     unwrap_or (truth_said 7 m) false ≡ unwrap_or o.map_entry false
 AgreesOnEntries scope o m = Unit {0}
 
--- the stored bytes spell a message of the type that agrees with the record
+-- the stored bytes spell a message of the type that agrees with the record, and of each oneof in it
+-- one member at most is set
 abbrev pub IsStored : OptionScope → MessageDescriptor → Options → DynamicMessage → Type 0
 IsStored scope d o m = (m.descriptor ≡ d) × IsSpelled d o.encoded.items m
-    × AgreesOnEntries scope o m
+    × AgreesOnEntries scope o m × IsExclusive m
 
 -- they spell none, or one that does not agree
 abbrev pub RefusesStored : OptionScope → MessageDescriptor → Options → OptionErrorKind → Type 0
 RefusesStored scope d o (kinds.UndecodableOptions (Some e)) = TellsWhy d o.encoded.items e
 RefusesStored scopes.Message d o (kinds.UndecodableOptions None) =
-    (m : DynamicMessage) × IsSpelled d o.encoded.items m
+    (m : DynamicMessage) × (m.descriptor ≡ d) × IsSpelled d o.encoded.items m
     × (unwrap_or (truth_said 7 m) false ≡ unwrap_or o.map_entry false → ⊥)
 RefusesStored scope d o e = ⊥
 

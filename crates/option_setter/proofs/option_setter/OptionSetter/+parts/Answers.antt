@@ -132,6 +132,6 @@ returns-clause-set t c =
     let w = c.in_ok-set_parts.ensures.set in (
       number_of target ∷ w.0,
       set_inner_part s o part target c.args.levels (c.args.levels - 1) one c.args.parts.now rest is some m c.inner.new.message c.in_ok-inner.inner c.set_parts.new.message c.set.new.message w.0
-          named c.in_ok-inner.ensures.led w.1 c.in_ok-set.ensures.ok (search rules),
+          named c.in_ok-inner.ensures.led w.1 c.in_ok-set.ensures.ok (search rules) c.in_ok-set.ensures.exclusive c.in_ok-set.ensures.ascending,
       w.2 ∙ ap (λ l. l ++ w.0) pushed ∙ append_assoc c.args.path.now.items (number_of target ∷ []) w.0,
     )

@@ -25,6 +25,8 @@ returns-clause-set c =
         put = (c.kind.result, c.kind.ensures, c.in_ok-value.value, c.in_ok-value.ensures.said, inr (c.requires.many, search rules));
         same_type = search rules;
         placed = refl;
+        exclusive = search rules;
+        ascending = search rules;
       },
       path,
     )
