@@ -4,7 +4,7 @@ use Rattle.std.proofs.lemmas.Int.{ints}
 use Rattle.std.specs.List.{AllByRecursion}
 use Rattle.descriptor_records.specs.Content.{Text, FieldContent, FileContent, MessageContent, message, MessageContents, more_messages, no_messages, messages_of, ServiceContent, OptionsContent}
 use Rattle.plain_records.specs.PlainRecords.{FitsInt32, IfThere, IsInside, IsPlainField, IsPlainMethod, IsPlainService, IsPlainMessage, ArePlainMessages, IsPlainFile, ArePlainFiles}
-use Rattle.reflect_codec.specs.declared.options.OptionsOf.{OptionsOf}
+use Rattle.option_parts.specs.declared.option_scope.OptionScope.{OptionScope}
 use Rattle.reflect_index.specs.Rewriting.{Rewrites, write_name, filled, write_type, write_extension, write_each, write_message, write_messages, write_method, write_service, write_file, written}
 use Rattle.reflect_names.specs.References.{Target}
 use Rattle.reflect_names.specs.ReferenceSteps.{target_of}
@@ -40,7 +40,7 @@ filled_fits None (kind.Extension i) h = eleven_fits
 filled_fits None (kind.Service i) h = eleven_fits
 filled_fits None kind.Method h = eleven_fits
 
-module _ (Says : OptionsOf → OptionsContent → Type 0) where
+module _ (Says : OptionScope → OptionsContent → Type 0) where
   -- whatever the field's type is called
   called_plain : (levels : ℕ) (o : Option Text) (ts : List Target) (f : FieldContent)
       → IsPlainField Says levels f

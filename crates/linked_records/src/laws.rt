@@ -6,6 +6,7 @@ ghost use Rattle.descriptor_records.specs.declared.file.FileDescriptorProto.{Fil
 ghost use Rattle.option_parts.specs.TypedOptions.{TypedFiles};
 ghost use Rattle.plain_records.specs.PlainRecords.{ArePlainFiles};
 ghost use Rattle.plain_records.specs.SaidOptions.{SaysOrWaits};
+ghost use Rattle.plain_records.specs.SourceOptions.{AreGiven, AreOfSource};
 ghost use Rattle.reflect_build.specs.Accepted.{FaultlessFiles};
 ghost use Rattle.reflect_tables.specs.Types.{PoolType};
 
@@ -14,6 +15,13 @@ pub fn typed_records_are_plain()
     ensures { (files typed : List FileDescriptorProto)
         → ArePlainFiles SaysOrWaits (map file_view files) → TypedFiles files typed
         → ArePlainFiles SaysOrWaits (map file_view typed) }
+{}
+
+/// Options that a source wrote are given to linking as they are, with those that it reads copied.
+pub fn options_of_sources_are_given()
+    ensures { (files typed : List FileDescriptorProto)
+        → ArePlainFiles AreOfSource (map file_view files) → TypedFiles files typed
+        → ArePlainFiles AreGiven (map file_view typed) }
 {}
 
 /// The records of a pool stay plain where files with plain records are linked into it.

@@ -22,10 +22,11 @@ use Rattle.descriptor_records.specs.declared.source_info.SourceCodeInfo.{SourceC
 use Rattle.descriptor_records.proofs.Messages.{message_view-out}
 use Rattle.reflect_codec.specs.Meaning.{IsUninterpretedOption, is_enum, is_field, is_message}
 use Rattle.reflect_codec.specs.Reading.{ArePayloads, IsBool, IsLastIf, IsRecord, payload, values_at}
-use Rattle.reflect_codec.specs.declared.options.OptionsOf.{OptionsOf}
-use Rattle.reflect_codec.specs.declared.options.OptionsOf.TheVariants as of
+use Rattle.option_parts.specs.declared.option_scope.OptionScope.{OptionScope}
+use Rattle.option_parts.specs.declared.option_scope.OptionScope.TheVariants as scopes
 use Rattle.codec_laws.specs.Plain.{IfThere, IsInside}
 use Rattle.codec_laws.specs.Plain as records
+use Rattle.plain_records.specs.Kinds.{kind_of}
 use Rattle.plain_records.specs.PlainRecords.{ArePlainLocations, ArePlainMessages, ArePlainOptions, HasPlainParts, IsPlainEnum, IsPlainEnumRange, IsPlainEnumValue, IsPlainExtensionRange, IsPlainField, IsPlainFile, IsPlainLocation, IsPlainMessage, IsPlainMethod, IsPlainOneof, IsPlainReservedRange, IsPlainService}
 use Rattle.plain_records.specs.SaidOptions.{SaysAndIsSettled, SaysItsBytes}
 
@@ -51,24 +52,24 @@ none_mapped f [] e = refl
 none_mapped f (x ∷ xs) e = absurd (cc e)
 
 -- ---- from records to contents
-options_to : (kind : OptionsOf) (levels : ℕ) (o : Option Options) → records.ArePlainOptions kind levels o → ArePlainOptions SaysItsBytes kind levels (option_map options_view o)
-options_to kind levels None plain = tt
-options_to kind levels (Some o) plain = (plain.0, record { options = o; is = refl; fields = plain.1.0; spelled = plain.1.1; said = plain.1.2 })
+options_to : (scope : OptionScope) (levels : ℕ) (o : Option Options) → records.ArePlainOptions (kind_of scope) levels o → ArePlainOptions SaysItsBytes scope levels (option_map options_view o)
+options_to scope levels None plain = tt
+options_to scope levels (Some o) plain = (plain.0, record { options = o; is = refl; fields = plain.1.0; spelled = plain.1.1; said = plain.1.2 })
 
 field_to : (levels : ℕ) (f : FieldDescriptorProto) → records.IsPlainField levels f → IsPlainField SaysItsBytes levels (field_view f)
 field_to levels f plain = record {
   number = plain.number;
   label = plain.label;
   field_type = plain.field_type;
-  options = options_to of.Field levels f.options plain.options;
+  options = options_to scopes.Field levels f.options plain.options;
   oneof_index = plain.oneof_index;
 }
 
 oneof_to : (levels : ℕ) (o : OneofDescriptorProto) → records.IsPlainOneof levels o → IsPlainOneof SaysItsBytes levels (oneof_view o)
-oneof_to levels o plain = options_to of.Other levels o.options plain.options
+oneof_to levels o plain = options_to scopes.Oneof levels o.options plain.options
 
 value_to : (levels : ℕ) (v : EnumValueDescriptorProto) → records.IsPlainEnumValue levels v → IsPlainEnumValue SaysItsBytes levels (enum_value_view v)
-value_to levels v plain = record { number = plain.number; options = options_to of.Other levels v.options plain.options }
+value_to levels v plain = record { number = plain.number; options = options_to scopes.EnumValue levels v.options plain.options }
 
 enum_range_to : (levels : ℕ) (r : EnumReservedRange) → records.IsPlainEnumRange levels r → IsPlainEnumRange levels r
 enum_range_to levels r plain = (plain.start, plain.end)
@@ -76,17 +77,17 @@ enum_range_to levels r plain = (plain.start, plain.end)
 enum_to : (levels : ℕ) (e : EnumDescriptorProto) → records.IsPlainEnum levels e → IsPlainEnum SaysItsBytes levels (enum_view e)
 enum_to levels e plain = record {
   value = each_to enum_value_view records.IsPlainEnumValue (IsPlainEnumValue SaysItsBytes) levels value_to e.value.items plain.value;
-  options = options_to of.Enum levels e.options plain.options;
+  options = options_to scopes.Enum levels e.options plain.options;
   reserved_range = each_same records.IsPlainEnumRange IsPlainEnumRange levels enum_range_to e.reserved_range.items plain.reserved_range;
 }
 
 method_to : (levels : ℕ) (m : MethodDescriptorProto) → records.IsPlainMethod levels m → IsPlainMethod SaysItsBytes levels (method_view m)
-method_to levels m plain = options_to of.Other levels m.options plain.options
+method_to levels m plain = options_to scopes.Method levels m.options plain.options
 
 service_to : (levels : ℕ) (s : ServiceDescriptorProto) → records.IsPlainService levels s → IsPlainService SaysItsBytes levels (service_view s)
 service_to levels s plain = record {
   method = each_to method_view records.IsPlainMethod (IsPlainMethod SaysItsBytes) levels method_to s.method.items plain.method;
-  options = options_to of.Other levels s.options plain.options;
+  options = options_to scopes.Service levels s.options plain.options;
 }
 
 location_to : (levels : ℕ) (l : Location) → records.IsPlainLocation levels l → IsPlainLocation levels (location_view l)
@@ -97,7 +98,7 @@ locations_to levels None plain = tt
 locations_to levels (Some i) plain = (plain.0, each_to location_view records.IsPlainLocation IsPlainLocation (levels - 1) location_to i.location.items plain.1.location)
 
 extension_range_to : (levels : ℕ) (r : ExtensionRange) → records.IsPlainExtensionRange levels r → IsPlainExtensionRange SaysItsBytes levels (extension_range_view r)
-extension_range_to levels r plain = record { start = plain.start; end = plain.end; options = options_to of.Other levels r.options plain.options }
+extension_range_to levels r plain = record { start = plain.start; end = plain.end; options = options_to scopes.ExtensionRange levels r.options plain.options }
 
 reserved_range_to : (levels : ℕ) (r : ReservedRange) → records.IsPlainReservedRange levels r → IsPlainReservedRange levels r
 reserved_range_to levels r plain = (plain.start, plain.end)
@@ -119,7 +120,7 @@ parts_to levels m plain = record {
   enums_are = each_to enum_view records.IsPlainEnum (IsPlainEnum SaysItsBytes) levels enum_to m.enum_type.items plain.enum_type;
   ranges_are = each_to extension_range_view records.IsPlainExtensionRange (IsPlainExtensionRange SaysItsBytes) levels extension_range_to m.extension_range.items plain.extension_range;
   oneofs_are = each_to oneof_view records.IsPlainOneof (IsPlainOneof SaysItsBytes) levels oneof_to m.oneof_decl.items plain.oneof_decl;
-  options_are = options_to of.Message levels m.options plain.options;
+  options_are = options_to scopes.Message levels m.options plain.options;
   reserved_are = each_same records.IsPlainReservedRange IsPlainReservedRange levels reserved_range_to m.reserved_range.items plain.reserved_range;
 }
 
@@ -142,16 +143,16 @@ file_to levels f plain = record {
   enum_type = each_to enum_view records.IsPlainEnum (IsPlainEnum SaysItsBytes) levels enum_to f.enum_type.items plain.enum_type;
   service = each_to service_view records.IsPlainService (IsPlainService SaysItsBytes) levels service_to f.service.items plain.service;
   extension = each_to field_view records.IsPlainField (IsPlainField SaysItsBytes) levels field_to f.extension.items plain.extension;
-  options = options_to of.Other levels f.options plain.options;
+  options = options_to scopes.File levels f.options plain.options;
   source_code_info = locations_to levels f.source_code_info plain.source_code_info;
   public_dependency = plain.public_dependency;
   weak_dependency = plain.weak_dependency;
 }
 
 -- ---- from contents to records
-options_from : (kind : OptionsOf) (levels : ℕ) (o : Option Options) → ArePlainOptions SaysAndIsSettled kind levels (option_map options_view o) → records.ArePlainOptions kind levels o
-options_from kind levels None plain = tt
-options_from kind levels (Some o) plain =
+options_from : (scope : OptionScope) (levels : ℕ) (o : Option Options) → ArePlainOptions SaysAndIsSettled scope levels (option_map options_view o) → records.ArePlainOptions (kind_of scope) levels o
+options_from scope levels None plain = tt
+options_from scope levels (Some o) plain =
     let says = plain.1.0 in
     let r = says.options in
     let fs = says.fields in
@@ -164,9 +165,9 @@ options_from kind levels (Some o) plain =
         says.spelled,
         record {
           encoded = subst (ArePayloads (payload o.encoded.items ∷ [])) (ap (λ c. c.encoded) says.is) said.encoded;
-          packed = subst (IsLastIf (is_field kind) IsBool (values_at 2 fs)) (ap (λ c. c.packed) says.is) said.packed;
-          allow_alias = subst (IsLastIf (is_enum kind) IsBool (values_at 2 fs)) (ap (λ c. c.allow_alias) says.is) said.allow_alias;
-          map_entry = subst (IsLastIf (is_message kind) IsBool (values_at 7 fs)) (ap (λ c. c.map_entry) says.is) said.map_entry;
+          packed = subst (IsLastIf (is_field (kind_of scope)) IsBool (values_at 2 fs)) (ap (λ c. c.packed) says.is) said.packed;
+          allow_alias = subst (IsLastIf (is_enum (kind_of scope)) IsBool (values_at 2 fs)) (ap (λ c. c.allow_alias) says.is) said.allow_alias;
+          map_entry = subst (IsLastIf (is_message (kind_of scope)) IsBool (values_at 7 fs)) (ap (λ c. c.map_entry) says.is) said.map_entry;
           uninterpreted_option = subst (AllZip (IsRecord IsUninterpretedOption 100) (values_at 999 fs)) (none ∙ sym own) said.uninterpreted_option;
         },
       ),
@@ -177,15 +178,15 @@ field_from levels f plain = record {
   number = plain.number;
   label = plain.label;
   field_type = plain.field_type;
-  options = options_from of.Field levels f.options plain.options;
+  options = options_from scopes.Field levels f.options plain.options;
   oneof_index = plain.oneof_index;
 }
 
 oneof_from : (levels : ℕ) (o : OneofDescriptorProto) → IsPlainOneof SaysAndIsSettled levels (oneof_view o) → records.IsPlainOneof levels o
-oneof_from levels o plain = record { options = options_from of.Other levels o.options plain }
+oneof_from levels o plain = record { options = options_from scopes.Oneof levels o.options plain }
 
 value_from : (levels : ℕ) (v : EnumValueDescriptorProto) → IsPlainEnumValue SaysAndIsSettled levels (enum_value_view v) → records.IsPlainEnumValue levels v
-value_from levels v plain = record { number = plain.number; options = options_from of.Other levels v.options plain.options }
+value_from levels v plain = record { number = plain.number; options = options_from scopes.EnumValue levels v.options plain.options }
 
 enum_range_from : (levels : ℕ) (r : EnumReservedRange) → IsPlainEnumRange levels r → records.IsPlainEnumRange levels r
 enum_range_from levels r plain = record { start = plain.0; end = plain.1 }
@@ -193,17 +194,17 @@ enum_range_from levels r plain = record { start = plain.0; end = plain.1 }
 enum_from : (levels : ℕ) (e : EnumDescriptorProto) → IsPlainEnum SaysAndIsSettled levels (enum_view e) → records.IsPlainEnum levels e
 enum_from levels e plain = record {
   value = each_from enum_value_view records.IsPlainEnumValue (IsPlainEnumValue SaysAndIsSettled) levels value_from e.value.items plain.value;
-  options = options_from of.Enum levels e.options plain.options;
+  options = options_from scopes.Enum levels e.options plain.options;
   reserved_range = each_same IsPlainEnumRange records.IsPlainEnumRange levels enum_range_from e.reserved_range.items plain.reserved_range;
 }
 
 method_from : (levels : ℕ) (m : MethodDescriptorProto) → IsPlainMethod SaysAndIsSettled levels (method_view m) → records.IsPlainMethod levels m
-method_from levels m plain = record { options = options_from of.Other levels m.options plain }
+method_from levels m plain = record { options = options_from scopes.Method levels m.options plain }
 
 service_from : (levels : ℕ) (s : ServiceDescriptorProto) → IsPlainService SaysAndIsSettled levels (service_view s) → records.IsPlainService levels s
 service_from levels s plain = record {
   method = each_from method_view records.IsPlainMethod (IsPlainMethod SaysAndIsSettled) levels method_from s.method.items plain.method;
-  options = options_from of.Other levels s.options plain.options;
+  options = options_from scopes.Service levels s.options plain.options;
 }
 
 location_from : (levels : ℕ) (l : Location) → IsPlainLocation levels (location_view l) → records.IsPlainLocation levels l
@@ -215,7 +216,7 @@ locations_from levels (Some i) plain =
     (plain.0, record { location = each_from location_view records.IsPlainLocation IsPlainLocation (levels - 1) location_from i.location.items plain.1 })
 
 extension_range_from : (levels : ℕ) (r : ExtensionRange) → IsPlainExtensionRange SaysAndIsSettled levels (extension_range_view r) → records.IsPlainExtensionRange levels r
-extension_range_from levels r plain = record { start = plain.start; end = plain.end; options = options_from of.Other levels r.options plain.options }
+extension_range_from levels r plain = record { start = plain.start; end = plain.end; options = options_from scopes.ExtensionRange levels r.options plain.options }
 
 reserved_range_from : (levels : ℕ) (r : ReservedRange) → IsPlainReservedRange levels r → records.IsPlainReservedRange levels r
 reserved_range_from levels r plain = record { start = plain.0; end = plain.1 }
@@ -239,7 +240,7 @@ message_from (suc levels) m plain =
       enum_type = each_from enum_view records.IsPlainEnum (IsPlainEnum SaysAndIsSettled) levels enum_from x.enum_type.items parts.enums_are;
       extension_range = each_from extension_range_view records.IsPlainExtensionRange (IsPlainExtensionRange SaysAndIsSettled) levels extension_range_from x.extension_range.items parts.ranges_are;
       extension = each_from field_view records.IsPlainField (IsPlainField SaysAndIsSettled) levels field_from x.extension.items parts.extensions_are;
-      options = options_from of.Message levels x.options parts.options_are;
+      options = options_from scopes.Message levels x.options parts.options_are;
       oneof_decl = each_from oneof_view records.IsPlainOneof (IsPlainOneof SaysAndIsSettled) levels oneof_from x.oneof_decl.items parts.oneofs_are;
       reserved_range = each_same IsPlainReservedRange records.IsPlainReservedRange levels reserved_range_from x.reserved_range.items parts.reserved_are;
     }
@@ -250,7 +251,7 @@ file_from levels f plain = record {
   enum_type = each_from enum_view records.IsPlainEnum (IsPlainEnum SaysAndIsSettled) levels enum_from f.enum_type.items plain.enum_type;
   service = each_from service_view records.IsPlainService (IsPlainService SaysAndIsSettled) levels service_from f.service.items plain.service;
   extension = each_from field_view records.IsPlainField (IsPlainField SaysAndIsSettled) levels field_from f.extension.items plain.extension;
-  options = options_from of.Other levels f.options plain.options;
+  options = options_from scopes.File levels f.options plain.options;
   source_code_info = locations_from levels f.source_code_info plain.source_code_info;
   public_dependency = plain.public_dependency;
   weak_dependency = plain.weak_dependency;

@@ -1,2 +1,4 @@
 pub mod PlainRecords
+pub mod Kinds
 pub mod SaidOptions
+pub mod SourceOptions

@@ -6,7 +6,7 @@ use Rattle.std.specs.Prelude.{MatchBool, string_bytes}
 use Rattle.descriptor_records.specs.Content.{OptionContent, option_view}
 use Rattle.descriptor_records.specs.declared.options.NamePart.{NamePart}
 use Rattle.descriptor_records.specs.declared.options.UninterpretedOption.{UninterpretedOption}
-use Rattle.reflect_tables.specs.Types.{FieldType, KindType, PoolType}
+use Rattle.reflect_tables.specs.Types.{FieldType, PoolType}
 use Rattle.reflect_tables.specs.Types as types
 use Rattle.reflect_pool.specs.FieldsLeft.{field_type}
 use Rattle.reflect_pool.specs.Kinds.{IsKind}
@@ -79,7 +79,7 @@ said_plain pool (values.Message d) o v h s = absurd (cc (h.1))
 said_plain pool (values.Enum d) o v h s = absurd (cc (h.1))
 said_plain pool k o v h s = absurd (cc h)
 
-none_many : (pool : PoolType) (f : FieldType) → is_repeated f.cardinality ≡ false → (holds_list pool f || holds_map pool f) ≡ false
+pub none_many : (pool : PoolType) (f : FieldType) → is_repeated f.cardinality ≡ false → (holds_list pool f || holds_map pool f) ≡ false
 none_many pool f one = ap (λ b. (b && not (is_entry pool f.kind && (b && not f.group))) || (is_entry pool f.kind && (b && not f.group))) one ∙ by (is_entry pool f.kind) where
   by : (b : Bool) → b && false ≡ false
   by true = refl
@@ -117,7 +117,7 @@ all_others s [] old new paths sets = ap unknown_of sets.0
 all_others s (o ∷ os) old new paths sets = all_others s os sets.0 new sets.2 sets.4 ∙ parts_others s (option_view o) 100 o.name.items old sets.0 sets.1 sets.3
 
 -- and so does the type
-parts_type : (s : NameScope) (o : OptionContent) (levels : ℕ) (parts : List NamePart) (old new : DynamicMessage) (path : List ℤ) → SetsParts s o levels parts old new path → new.descriptor ≡ old.descriptor
+pub parts_type : (s : NameScope) (o : OptionContent) (levels : ℕ) (parts : List NamePart) (old new : DynamicMessage) (path : List ℤ) → SetsParts s o levels parts old new path → new.descriptor ≡ old.descriptor
 parts_type s o levels [] old new path sets = ap (λ (m : DynamicMessage). m.descriptor) sets.0
 parts_type s o levels (part ∷ []) old new path sets = sets.3.same_type
 parts_type s o zero (part ∷ next ∷ parts) old new path sets = absurd sets

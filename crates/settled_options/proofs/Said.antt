@@ -26,7 +26,7 @@ use Rattle.reflect_tables.specs.Types.{FieldType}
 use Rattle.reflect_wire.specs.Records.{Records, SpellsRecords}
 use Rattle.reflect_wire.specs.Views.{records_of}
 use Rattle.message_view.specs.Sound.{IsSound}
-use Rattle.settled_options.specs.Kinds.{kind_of}
+use Rattle.plain_records.specs.Kinds.{kind_of}
 use Rattle.settled_options.proofs.Fields.{field_declared, field_known, listed_whole, no_extension, truth_whole}
 use Rattle.settled_options.proofs.Kept.{PlainAt, all_kept, all_others, type_kept, unset_field}
 use Rattle.settled_options.proofs.Stored.{list_unset, stored_lacks, stored_plain}
@@ -112,7 +112,7 @@ says scope whole fs truth bytes o is none =
     made (kind_of scope) fs bytes o (ap (λ (c : OptionsContent). c.encoded) is) (ap (λ (c : OptionsContent). c.uninterpreted_option) is) none (ap (λ (c : OptionsContent). c.packed) is)
     (ap (λ (c : OptionsContent). c.allow_alias) is) (ap (λ (c : OptionsContent). c.map_entry) is)
 
-no_dot : (scope : OptionScope) → without_dot (type_name scope) ≡ type_name scope
+pub no_dot : (scope : OptionScope) → without_dot (type_name scope) ≡ type_name scope
 no_dot scopes.File = refl
 no_dot scopes.Message = refl
 no_dot scopes.Field = refl
@@ -142,7 +142,7 @@ module _ (scope : OptionScope) (s : NameScope) (o : Options) (settled : OptionsC
   type_sound = subst IsSound (sym is.1.1.0) sound
 
   -- the record that has this content says what its bytes do
-  pub view_says : (options : Options) → options_view options ≡ settled → SaysItsBytes (kind_of scope) settled
+  pub view_says : (options : Options) → options_view options ≡ settled → SaysItsBytes scope settled
   view_says options view =
       let stored = is.1.3.0 in
       let set = is.1.3.1 in

@@ -1,7 +1,7 @@
 -- What stored bytes leave under the numbers that options are read by, and what is left when the list
 -- of uninterpreted options is unset.
 use Rattle.std.proofs.Common.{◌≡◌, inl, inr, ℕ, ◌==◌, Bool, true, false, cond, not, ◌&&◌, List, [], ◌∷◌, Option, Some, None, refl, sym, ap, ◌∙◌, subst, arith}
-use Rattle.reflect_tables.specs.Types.{FieldType, PoolType, no_field, type_of_field}
+use Rattle.reflect_tables.specs.Types.{FieldType, no_field, type_of_field}
 use Rattle.reflect_tables.specs.Types as types
 use Rattle.reflect_wire.specs.Records.{Payload}
 use Rattle.reflect_pool.specs.FieldsLeft.{field_type}

@@ -2,7 +2,7 @@
 use Rattle.std.proofs.Common.{◌≡◌, ℕ, Bool, true, false, cond, not, List, [], ◌∷◌, Option, Some, None, refl, sym, ap, ◌∙◌, subst, append-nil}
 use Rattle.std.specs.Option.{option_and_then}
 use Rattle.std.specs.Prelude.{◌||◌, if◌then◌else◌}
-use Rattle.reflect_tables.specs.Types.{PoolType, FieldType, KindType}
+use Rattle.reflect_tables.specs.Types.{FieldType}
 use Rattle.reflect_tables.specs.Types as types
 use Rattle.reflect_wire.specs.Encoding.{field_bytes}
 use Rattle.reflect_wire.specs.Records.{Payload, Records, SpellsRecords}

@@ -8,12 +8,11 @@ ghost use Rattle.option_setter.specs.declared.option_setter.NameScope.{NameScope
 ghost use Rattle.plain_records.specs.SaidOptions.{SaysItsBytes};
 ghost use Rattle.reflect_options.specs.Settled.{Settles};
 ghost use Rattle.message_view.specs.Sound.{IsSound};
-ghost use Rattle.settled_options.specs.Kinds.{kind_of};
 
 /// What options settle to says what its bytes do.
 pub fn settled_options_say_their_bytes()
     ensures { (scope : OptionScope) (s : NameScope) (o settled : Options) (paths : List (List ℤ))
         → IsSound s.pool.now → CanRead s.pool.now scope
         → Settles scope s o (options_view settled) paths
-        → SaysItsBytes (kind_of scope) (options_view settled) }
+        → SaysItsBytes scope (options_view settled) }
 {}

@@ -19,3 +19,4 @@ pub mod ServiceRules
 pub mod Sources
 pub mod Texts
 pub mod Words
+pub mod SmallNumbers

@@ -6,7 +6,6 @@ use Rattle.std.specs.declared.alloc.Global.{Global}
 use Rattle.descriptor_records.specs.Content.{EnumContent, ExtensionRangeContent, FieldContent, MessageContent, message, MessageContents, no_messages, more_messages, OneofContent, OptionsContent}
 use Rattle.descriptor_records.specs.declared.message.ReservedRange.{ReservedRange}
 use Rattle.plain_records.specs.PlainRecords.{ArePlainMessages, ArePlainOptions, FitsInt32, HasPlainParts, IfThere, IsInside, IsPlainEnum, IsPlainExtensionRange, IsPlainField, IsPlainMessage, IsPlainOneof, IsPlainReservedRange}
-use Rattle.plain_records.specs.SaidOptions.{SaysOrWaits}
 use Rattle.protox_declaration_records.specs.EnumRecords.{ranges_in}
 use Rattle.protox_declaration_records.specs.Numbers.{held_by, last_of}
 use Rattle.protox_field_records.specs.Layers.{AddedLayer, ItemLayer, KindLayer, MemberLayer}
@@ -15,7 +14,7 @@ use Rattle.protox_field_records.specs.Places.{place_of}
 use Rattle.protox_laws.proofs.Layers.{added_is, added_seen, item_is, item_seen, kind_is, kind_seen, member_is, member_seen}
 use Rattle.protox_lex.specs.Class.{Text}
 use Rattle.protox_locate.proofs.Nests.{extend_is, field_is, group_is, message_is, oneof_is}
-use Rattle.protox_message_records.specs.MessageRecords.{AreTypes, Declared, IsOfItems, IsType, alone_at, end_of, enum_at, enum_in, extension_range_of, extension_ranges_at, extension_ranges_in, extensions_at, extensions_in, field_in, fields_at, fields_from, fields_in, member_at, member_in, of_items, of_map, oneof_at, oneof_in, option_at, reserved_range_of, reserved_ranges_at, reserved_ranges_in, tells_presence, type_of_message, types_at, types_in, types_of_added, types_of_added_item, types_of_extend, types_of_field, types_of_kind, types_of_member, types_of_member_item}
+use Rattle.protox_message_records.specs.MessageRecords.{member_option_at, AreTypes, Declared, IsOfItems, IsType, alone_at, end_of, enum_at, enum_in, extension_range_of, extension_ranges_at, extension_ranges_in, extensions_at, extensions_in, field_in, fields_at, fields_from, fields_in, member_at, member_in, of_items, of_map, oneof_at, oneof_in, option_at, reserved_range_of, reserved_ranges_at, reserved_ranges_in, tells_presence, type_of_message, types_at, types_in, types_of_added, types_of_added_item, types_of_extend, types_of_field, types_of_kind, types_of_member, types_of_member_item}
 use Rattle.protox_message_records.specs.SyntheticOneofs.{AreNamedAfter}
 use Rattle.protox_tokens.specs.Marks.{Each}
 use Rattle.protox_tree.specs.Nest.{added_of, items_of, members_of}
@@ -32,10 +31,11 @@ use Rattle.protox_tree.specs.declared.message.MessageItem.{MessageItem}
 use Rattle.protox_tree.specs.declared.message.OneofItem.{OneofItem}
 use Rattle.protox_tree.specs.declared.range.ReservedRange as ranges
 use Rattle.protox_tree.specs.declared.types.Syntax.{Syntax}
-use Rattle.reflect_codec.specs.declared.options.OptionsOf.TheVariants as of
+use Rattle.option_parts.specs.declared.option_scope.OptionScope.TheVariants as scopes
 use Rattle.source_laws.proofs.Depth.{AreAddedWithin, AreItemsWithin, AreMembersWithin, IsAddedWithin, IsExtendWithin, IsFieldWithin, IsGroupWithin, IsItemWithin, IsKindWithin, IsMemberWithin, IsMessageWithin, IsOneofWithin}
 use Rattle.source_laws.proofs.Lists.{all_append, all_each, all_made, all_mapped}
-use Rattle.source_laws.proofs.PlainOptions.{entry_plain, written_plain}
+use Rattle.source_laws.proofs.PlainOptions.{SourceSays, entry_plain, listed_plain, written_plain}
+use Rattle.source_laws.proofs.SmallNumbers.{IsSmall, item_small, member_small}
 use Rattle.source_laws.proofs.PlainParts.{enum_plain, extend_plain, field_plain, held_fits, number_fits, place_fits, scalar_fits, small_fits}
 
 -- ---- what stands in a message, but for types
@@ -54,7 +54,7 @@ behind_fits range = next_fits (last_of range (pos 536870911))
 
 module _ (levels : ℕ) (enough : 2 < levels) where
   in_plain : (s : Syntax) (o : Option ℤ) → IfThere FitsInt32 o → (f : Field)
-      → IsInside (IsPlainField SaysOrWaits) levels (field_in s o f)
+      → IsInside (IsPlainField SourceSays) levels (field_in s o f)
   in_plain s o fits f =
       let h = field_plain (levels - 1) (omega arith) f in (
         omega arith,
@@ -68,73 +68,79 @@ module _ (levels : ℕ) (enough : 2 < levels) where
       )
 
   member_plain : (s : Syntax) (place : ℤ) → FitsInt32 place → (o : MemberLayer)
-      → AllByRecursion (IsInside (IsPlainField SaysOrWaits) levels) (member_in s place o)
+      → AllByRecursion (IsInside (IsPlainField SourceSays) levels) (member_in s place o)
   member_plain s place fits (OneofItem-F.«OneofItem::Field» f) =
       (in_plain s (Some place) fits f, tt)
   member_plain s place fits o = tt
 
   item_fields : (s : Syntax) (next behind : ℕ) (o : ItemLayer)
-      → AllByRecursion (IsInside (IsPlainField SaysOrWaits) levels) (fields_in s next behind o)
+      → AllByRecursion (IsInside (IsPlainField SourceSays) levels) (fields_in s next behind o)
   item_fields s next behind (MessageItem-F.«MessageItem::Field» f) = (
     in_plain s (cond (tells_presence s f.label) (Some (place_of behind)) None)
         (if_there_fits (tells_presence s f.label) (place_of behind) (place_fits behind)) f,
     tt,
   )
   item_fields s next behind (MessageItem-F.Oneof o) =
-      all_each (IsInside (IsPlainField SaysOrWaits) levels) (member_at s (place_of next))
+      all_each (IsInside (IsPlainField SourceSays) levels) (member_at s (place_of next))
       (λ i. member_plain s (place_of next) (place_fits next) (out-OneofItem i)) o.items.items
   item_fields s next behind o = tt
 
   fields_plain : (s : Syntax) (next behind : ℕ) (is : List MessageItem)
-      → AllByRecursion (IsInside (IsPlainField SaysOrWaits) levels) (fields_from s next behind is)
+      → AllByRecursion (IsInside (IsPlainField SourceSays) levels) (fields_from s next behind is)
   fields_plain s next behind [] = tt
   fields_plain s next behind (i ∷ is) =
-      all_append (IsInside (IsPlainField SaysOrWaits) levels) (fields_at s next behind i)
+      all_append (IsInside (IsPlainField SourceSays) levels) (fields_at s next behind i)
       (fields_from s (next + length (oneof_at i)) (behind + length (alone_at s i)) is)
       (item_fields s next behind (out-MessageItem i))
       (fields_plain s (next + length (oneof_at i)) (behind + length (alone_at s i)) is)
 
   item_extensions : (o : ItemLayer)
-      → AllByRecursion (IsInside (IsPlainField SaysOrWaits) levels) (extensions_in o)
+      → AllByRecursion (IsInside (IsPlainField SourceSays) levels) (extensions_in o)
   item_extensions (MessageItem-F.Extend e) = extend_plain levels (omega arith) e
   item_extensions o = tt
 
   item_enums : (o : ItemLayer)
-      → AllByRecursion (IsInside (IsPlainEnum SaysOrWaits) levels) (enum_in o)
+      → AllByRecursion (IsInside (IsPlainEnum SourceSays) levels) (enum_in o)
   item_enums (MessageItem-F.Enum e) =
       ((omega arith, enum_plain (levels - 1) (omega arith) e), tt)
   item_enums o = tt
 
   item_oneofs : (o : ItemLayer)
-      → AllByRecursion (IsInside (IsPlainOneof SaysOrWaits) levels) (oneof_in o)
-  item_oneofs (MessageItem-F.Oneof o) =
-      ((omega arith, written_plain of.Other (levels - 1) (omega arith) _), tt)
+      → AllByRecursion (IsInside (IsPlainOneof SourceSays) levels) (oneof_in o)
+  item_oneofs (MessageItem-F.Oneof o) = (
+    (
+      omega arith,
+      written_plain scopes.Oneof (levels - 1) (omega arith) _
+          (all_each IsSmall member_option_at (λ i. member_small (out-OneofItem i)) o.items.items),
+    ),
+    tt,
+  )
   item_oneofs o = tt
 
   own_oneofs : (taken names : List Text) (os : List OneofContent) → AreNamedAfter taken names os
-      → AllByRecursion (IsInside (IsPlainOneof SaysOrWaits) levels) os
+      → AllByRecursion (IsInside (IsPlainOneof SourceSays) levels) os
   own_oneofs taken [] [] h = tt
   own_oneofs taken [] (o ∷ os) h = absurd h
   own_oneofs taken (name ∷ names) [] h = absurd h
   own_oneofs taken (name ∷ names) (o ∷ os) h = (
-    (omega arith, subst (IsPlainOneof SaysOrWaits (levels - 1)) (sym h.0.2) tt),
+    (omega arith, subst (IsPlainOneof SourceSays (levels - 1)) (sym h.0.2) tt),
     own_oneofs taken names os h.1,
   )
 
   item_ranges : (o : ItemLayer)
-      → AllByRecursion (IsInside (IsPlainExtensionRange SaysOrWaits) levels)
+      → AllByRecursion (IsInside (IsPlainExtensionRange SourceSays) levels)
       (extension_ranges_in o)
   item_ranges (MessageItem-F.Extensions e) =
-      all_mapped (IsInside (IsPlainExtensionRange SaysOrWaits) levels)
+      all_mapped (IsInside (IsPlainExtensionRange SourceSays) levels)
       (extension_range_of e.options) range e.ranges.items where
         range : (r : ranges.ReservedRange)
-            → IsInside (IsPlainExtensionRange SaysOrWaits) levels (extension_range_of e.options r)
+            → IsInside (IsPlainExtensionRange SourceSays) levels (extension_range_of e.options r)
         range r = (
           omega arith,
           record {
             start = number_fits r.start;
             end = behind_fits r;
-            options = written_plain of.Other (levels - 1) (omega arith) _;
+            options = listed_plain scopes.ExtensionRange (levels - 1) (omega arith) _;
           },
         )
   item_ranges o = tt
@@ -151,34 +157,35 @@ module _ (levels : ℕ) (enough : 2 < levels) where
       (ranges : List ExtensionRangeContent) (oneofs : List OneofContent)
       (options : Option OptionsContent) (reserved : List ReservedRange) (names : List Text)
       → IsOfItems s name items given fields extensions nested enums ranges oneofs options reserved names
-      → HasPlainParts SaysOrWaits levels fields extensions enums ranges oneofs options reserved
+      → HasPlainParts SourceSays levels fields extensions enums ranges oneofs options reserved
   own_plain s name items given fields extensions nested enums ranges oneofs options reserved names own =
       record {
-        fields_are = subst (AllByRecursion (IsInside (IsPlainField SaysOrWaits) levels))
+        fields_are = subst (AllByRecursion (IsInside (IsPlainField SourceSays) levels))
             (sym own.fields_are)
             (fields_plain s 0 (length (flat_map oneof_at items)) items);
-        extensions_are = subst (AllByRecursion (IsInside (IsPlainField SaysOrWaits) levels))
+        extensions_are = subst (AllByRecursion (IsInside (IsPlainField SourceSays) levels))
             (sym own.extensions_are)
-            (all_each (IsInside (IsPlainField SaysOrWaits) levels) extensions_at
+            (all_each (IsInside (IsPlainField SourceSays) levels) extensions_at
             (λ i. item_extensions (out-MessageItem i)) items);
-        enums_are = subst (AllByRecursion (IsInside (IsPlainEnum SaysOrWaits) levels))
+        enums_are = subst (AllByRecursion (IsInside (IsPlainEnum SourceSays) levels))
             (sym own.enums_are)
-            (all_each (IsInside (IsPlainEnum SaysOrWaits) levels) enum_at
+            (all_each (IsInside (IsPlainEnum SourceSays) levels) enum_at
             (λ i. item_enums (out-MessageItem i)) items);
-        ranges_are = subst (AllByRecursion (IsInside (IsPlainExtensionRange SaysOrWaits) levels))
+        ranges_are = subst (AllByRecursion (IsInside (IsPlainExtensionRange SourceSays) levels))
             (sym own.ranges_are)
-            (all_each (IsInside (IsPlainExtensionRange SaysOrWaits) levels) extension_ranges_at
+            (all_each (IsInside (IsPlainExtensionRange SourceSays) levels) extension_ranges_at
             (λ i. item_ranges (out-MessageItem i)) items);
-        oneofs_are = subst (AllByRecursion (IsInside (IsPlainOneof SaysOrWaits) levels))
+        oneofs_are = subst (AllByRecursion (IsInside (IsPlainOneof SourceSays) levels))
             (sym own.oneofs_are.1)
-            (all_append (IsInside (IsPlainOneof SaysOrWaits) levels) (flat_map oneof_at items)
+            (all_append (IsInside (IsPlainOneof SourceSays) levels) (flat_map oneof_at items)
             own.oneofs_are.0
-            (all_each (IsInside (IsPlainOneof SaysOrWaits) levels) oneof_at
+            (all_each (IsInside (IsPlainOneof SourceSays) levels) oneof_at
             (λ i. item_oneofs (out-MessageItem i)) items)
             (own_oneofs _ _ own.oneofs_are.0 own.oneofs_are.2));
-        options_are = subst (ArePlainOptions SaysOrWaits of.Message levels)
+        options_are = subst (ArePlainOptions SourceSays scopes.Message levels)
             (sym own.options_are)
-            (written_plain of.Message levels (omega arith) (flat_map option_at items));
+            (written_plain scopes.Message levels (omega arith) (flat_map option_at items)
+            (all_each IsSmall option_at (λ i. item_small (out-MessageItem i)) items));
         reserved_are = subst (AllByRecursion (IsInside IsPlainReservedRange levels))
             (sym own.reserved_are)
             (all_each (IsInside IsPlainReservedRange levels) reserved_ranges_at
@@ -188,7 +195,7 @@ module _ (levels : ℕ) (enough : 2 < levels) where
 -- ---- the entries of maps
 
 entry_message : (memory : Global) (levels : ℕ) → 2 < levels → (name : Text) (m : Map)
-    → IsPlainMessage SaysOrWaits levels (entry_of name m)
+    → IsPlainMessage SourceSays levels (entry_of name m)
 entry_message memory levels enough name m = (
   omega arith,
   record {
@@ -321,7 +328,7 @@ module _ (n : ℕ) where
 mutual
   type_plain : (memory : Global) (s : Syntax) (n levels : ℕ) → n + 3 ≤ levels → (t : Declared)
       (m : MessageContent) → IsTypeWithin n t → IsType s t m
-      → IsPlainMessage SaysOrWaits levels m
+      → IsPlainMessage SourceSays levels m
   type_plain memory s zero levels enough (of_items name items)
       (message given fields extensions nested enums ranges oneofs options reserved names) h is =
       absurd (omega (arith, h.0))
@@ -335,12 +342,12 @@ mutual
       )
   type_plain memory s n levels enough (of_map name m)
       (message given fields extensions nested enums ranges oneofs options reserved names) h is =
-      subst (IsPlainMessage SaysOrWaits levels) (sym is)
+      subst (IsPlainMessage SourceSays levels) (sym is)
       (entry_message memory levels (omega arith) name m)
 
   pub types_plain : (memory : Global) (s : Syntax) (n levels : ℕ) → n + 3 ≤ levels
       → (ts : List Declared) (ms : MessageContents) → AreTypesWithin n ts → AreTypes s ts ms
-      → ArePlainMessages SaysOrWaits levels ms
+      → ArePlainMessages SourceSays levels ms
   types_plain memory s n levels enough [] no_messages h are = tt
   types_plain memory s n levels enough [] (more_messages m ms) h are = absurd are
   types_plain memory s n levels enough (t ∷ ts) no_messages h are = absurd are

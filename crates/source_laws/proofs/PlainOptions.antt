@@ -1,29 +1,45 @@
--- Options that a source writes are left to settle, and those of the entries of maps say what their
--- bytes do.
-use Rattle.std.proofs.Common.{ℕ, ◌<◌, true, List, [], ◌∷◌, Some, None, refl, arith, inl, inr}
+-- Options that a source writes are left to settle, those of the entries of maps say what their bytes
+-- do, and there are no others.
+use Rattle.std.proofs.Common.{map, ℕ, ◌<◌, true, List, [], ◌∷◌, Some, None, refl, arith, inl, inr}
 use Rattle.std.specs.declared.alloc.Global.{Global}
 use Rattle.std.specs.declared.vec.Vec.{Vec}
 use denote.RawPtr.{null_ptr}
-use Rattle.descriptor_records.specs.Content.{OptionContent}
+use Rattle.descriptor_records.specs.Content.{OptionContent, OptionsContent}
 use Rattle.descriptor_records.specs.declared.options.Options.{Options}
 use Rattle.descriptor_records.specs.declared.options.UninterpretedOption.{UninterpretedOption}
+use Rattle.plain_records.specs.Kinds.{kind_of}
 use Rattle.plain_records.specs.PlainRecords.{ArePlainOptions}
 use Rattle.plain_records.specs.SaidOptions.{SaysItsBytes, SaysOrWaits}
-use Rattle.protox_declaration_records.specs.OptionRecords.{options_of}
+use Rattle.plain_records.specs.SourceOptions.{AreOfSource}
+use Rattle.protox_declaration_records.specs.OptionRecords.{option_of, options_of}
 use Rattle.protox_field_records.specs.MapEntries.{entry_options}
 use Rattle.reflect_codec.specs.Meaning.{IsOptions}
 use Rattle.reflect_codec.specs.Reading.{Field, SpellsFields, number, payload}
-use Rattle.reflect_codec.specs.declared.options.OptionsOf.{OptionsOf}
-use Rattle.reflect_codec.specs.declared.options.OptionsOf.TheVariants as of
+use Rattle.option_parts.specs.declared.option_scope.OptionScope.{OptionScope}
+use Rattle.option_parts.specs.declared.option_scope.OptionScope.TheVariants as scopes
 use Rattle.reflect_wire.specs.Records.{more_records, no_records, varint}
 use Rattle.reflect_wire.specs.Varint.{IsVarint}
+use Rattle.protox_tree.specs.declared.option.OptionBody.{OptionBody}
+use Rattle.source_laws.proofs.Lists.{all_mapped}
+use Rattle.source_laws.proofs.SmallNumbers.{IsSmall, option_small}
+use Rattle.std.specs.List.{AllByRecursion}
+
+-- what is said of the options in the record of a source
+abbrev pub SourceSays : OptionScope → OptionsContent → Type 0
+SourceSays scope o = SaysOrWaits scope o × AreOfSource scope o
 
 -- ---- options that a source writes
 
-pub written_plain : (kind : OptionsOf) (levels : ℕ) → 0 < levels → (os : List OptionContent)
-    → ArePlainOptions SaysOrWaits kind levels (options_of os)
-written_plain kind levels lt [] = tt
-written_plain kind levels lt (o ∷ os) = (lt, inr (λ e. cc e))
+pub written_plain : (scope : OptionScope) (levels : ℕ) → 0 < levels → (os : List OptionContent)
+    → AllByRecursion IsSmall os → ArePlainOptions SourceSays scope levels (options_of os)
+written_plain scope levels lt [] small = tt
+written_plain scope levels lt (o ∷ os) small = (lt, (inr (λ e. cc e), (inl refl, small)))
+
+-- in brackets
+pub listed_plain : (scope : OptionScope) (levels : ℕ) → 0 < levels → (bs : List OptionBody)
+    → ArePlainOptions SourceSays scope levels (options_of (map option_of bs))
+listed_plain scope levels lt bs =
+    written_plain scope levels lt (map option_of bs) (all_mapped IsSmall option_of option_small bs)
 
 -- ---- options of the types of entries
 
@@ -88,7 +104,7 @@ module _ (memory : Global) where
     uninterpreted_option = none_left;
   }
 
-  flag_said : IsOptions of.Message (payload (56 ∷ 1 ∷ []) ∷ []) flag_fields flagged
+  flag_said : IsOptions (kind_of scopes.Message) (payload (56 ∷ 1 ∷ []) ∷ []) flag_fields flagged
   unfolding flag_fields
   flag_said = record {
     encoded = ((56 ∷ 1 ∷ []) ∷ [], (refl, tt), refl);
@@ -98,7 +114,7 @@ module _ (memory : Global) where
     uninterpreted_option = tt;
   }
 
-  entry_says : SaysItsBytes of.Message entry_options
+  entry_says : SaysItsBytes scopes.Message entry_options
   entry_says = record {
     options = flagged;
     is = refl;
@@ -108,5 +124,5 @@ module _ (memory : Global) where
   }
 
   pub entry_plain : (levels : ℕ) → 0 < levels
-      → ArePlainOptions SaysOrWaits of.Message levels (Some entry_options)
-  entry_plain levels lt = (lt, inl entry_says)
+      → ArePlainOptions SourceSays scopes.Message levels (Some entry_options)
+  entry_plain levels lt = (lt, (inl entry_says, (inr (refl, refl), tt)))

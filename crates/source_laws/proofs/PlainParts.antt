@@ -7,7 +7,6 @@ use Rattle.descriptor_records.specs.declared.field.FieldType.TheVariants as type
 use Rattle.descriptor_records.specs.declared.field.Label.{Label}
 use Rattle.descriptor_records.specs.declared.field.Label.TheVariants as labels
 use Rattle.plain_records.specs.PlainRecords.{FitsInt32, IfThere, IsInside, IsPlainEnum, IsPlainEnumRange, IsPlainEnumValue, IsPlainField, IsPlainMethod, IsPlainService}
-use Rattle.plain_records.specs.SaidOptions.{SaysOrWaits}
 use Rattle.protox_declaration_records.specs.EnumRecords.{enum_of, enum_range_of, ranges_in, ranges_at, value_at}
 use Rattle.protox_declaration_records.specs.Numbers.{held_by, i32_of, last_from, last_of}
 use Rattle.protox_declaration_records.specs.ServiceRecords.{method_at, service_of}
@@ -33,9 +32,14 @@ use Rattle.protox_tree.specs.declared.range.ReservedRange.{ReservedRange}
 use Rattle.protox_tree.specs.declared.service.Service.{Service}
 use Rattle.protox_tree.specs.declared.service.ServiceItem.{ServiceItem}
 use Rattle.protox_tree.specs.declared.service.ServiceItem.TheVariants as service_items
-use Rattle.reflect_codec.specs.declared.options.OptionsOf.TheVariants as of
+use Rattle.option_parts.specs.declared.option_scope.OptionScope.TheVariants as scopes
 use Rattle.source_laws.proofs.Lists.{all_each, all_mapped}
-use Rattle.source_laws.proofs.PlainOptions.{written_plain}
+use Rattle.source_laws.proofs.PlainOptions.{SourceSays, listed_plain, written_plain}
+use Rattle.protox_field_records.specs.FieldRecords.{other_at}
+use Rattle.protox_declaration_records.specs.OptionRecords.{listed}
+use Rattle.source_laws.proofs.SmallNumbers.{IsSmall, body_small, enum_small, other_small, service_small}
+use Rattle.protox_declaration_records.specs.EnumRecords as enums
+use Rattle.protox_declaration_records.specs.ServiceRecords as services
 
 -- ---- numbers
 
@@ -108,17 +112,18 @@ kind_fits (map_kind m) = type_fits types.Message
 -- ---- fields
 
 pub field_plain : (levels : ℕ) → 0 < levels → (f : Field)
-    → IsPlainField SaysOrWaits levels (field_of f)
+    → IsPlainField SourceSays levels (field_of f)
 field_plain levels lt f = record {
   number = number_fits f.number;
   label = label_fits (label_of f.label (kind_view f.kind));
   field_type = kind_fits (kind_view f.kind);
-  options = written_plain of.Field levels lt _;
+  options = written_plain scopes.Field levels lt _
+      (all_each IsSmall other_at other_small (listed f.options));
   oneof_index = tt;
 }
 
 added_plain : (levels : ℕ) → 1 < levels → (t : TypeName) (o : AddedLayer)
-    → AllByRecursion (IsInside (IsPlainField SaysOrWaits) levels) (extension_in t o)
+    → AllByRecursion (IsInside (IsPlainField SourceSays) levels) (extension_in t o)
 added_plain levels lt t (ExtendItem-F.«ExtendItem::Field» f) =
     let h = field_plain (levels - 1) (omega arith) f in (
       (
@@ -136,22 +141,22 @@ added_plain levels lt t (ExtendItem-F.«ExtendItem::Field» f) =
 added_plain levels lt t o = tt
 
 pub extend_plain : (levels : ℕ) → 1 < levels → (e : Extend)
-    → AllByRecursion (IsInside (IsPlainField SaysOrWaits) levels)
+    → AllByRecursion (IsInside (IsPlainField SourceSays) levels)
     (flat_map (extension_at e.extendee) e.items.items)
 extend_plain levels lt e =
-    all_each (IsInside (IsPlainField SaysOrWaits) levels) (extension_at e.extendee)
+    all_each (IsInside (IsPlainField SourceSays) levels) (extension_at e.extendee)
     (λ i. added_plain levels lt e.extendee (out-ExtendItem i)) e.items.items
 
 -- ---- enums
 
 value_plain : (levels : ℕ) → 1 < levels → (i : EnumItem)
-    → AllByRecursion (IsInside (IsPlainEnumValue SaysOrWaits) levels) (value_at i)
+    → AllByRecursion (IsInside (IsPlainEnumValue SourceSays) levels) (value_at i)
 value_plain levels lt (enum_items.Value v) = (
   (
     omega arith,
     record {
       number = number_fits v.number;
-      options = written_plain of.Other (levels - 1) (omega arith) _;
+      options = listed_plain scopes.EnumValue (levels - 1) (omega arith) _;
     },
   ),
   tt,
@@ -173,11 +178,12 @@ ranges_plain levels lt (enum_items.Reserved r) =
 ranges_plain levels lt i = tt
 
 pub enum_plain : (levels : ℕ) → 1 < levels → (e : Enum)
-    → IsPlainEnum SaysOrWaits levels (enum_of e)
+    → IsPlainEnum SourceSays levels (enum_of e)
 enum_plain levels lt e = record {
-  value = all_each (IsInside (IsPlainEnumValue SaysOrWaits) levels) value_at
+  value = all_each (IsInside (IsPlainEnumValue SourceSays) levels) value_at
       (value_plain levels lt) e.items.items;
-  options = written_plain of.Enum levels (omega arith) _;
+  options = written_plain scopes.Enum levels (omega arith) _
+      (all_each IsSmall enums.option_at enum_small e.items.items);
   reserved_range = all_each (IsInside IsPlainEnumRange levels) ranges_at
       (ranges_plain levels (omega arith)) e.items.items;
 }
@@ -185,15 +191,21 @@ enum_plain levels lt e = record {
 -- ---- services
 
 method_plain : (levels : ℕ) → 1 < levels → (i : ServiceItem)
-    → AllByRecursion (IsInside (IsPlainMethod SaysOrWaits) levels) (method_at i)
-method_plain levels lt (service_items.Method m) =
-    ((omega arith, written_plain of.Other (levels - 1) (omega arith) _), tt)
+    → AllByRecursion (IsInside (IsPlainMethod SourceSays) levels) (method_at i)
+method_plain levels lt (service_items.Method m) = (
+  (
+    omega arith,
+    written_plain scopes.Method (levels - 1) (omega arith) _ (body_small m.body),
+  ),
+  tt,
+)
 method_plain levels lt i = tt
 
 pub service_plain : (levels : ℕ) → 1 < levels → (s : Service)
-    → IsPlainService SaysOrWaits levels (service_of s)
+    → IsPlainService SourceSays levels (service_of s)
 service_plain levels lt s = record {
-  method = all_each (IsInside (IsPlainMethod SaysOrWaits) levels) method_at
+  method = all_each (IsInside (IsPlainMethod SourceSays) levels) method_at
       (method_plain levels lt) s.items.items;
-  options = written_plain of.Other levels (omega arith) _;
+  options = written_plain scopes.Service levels (omega arith) _
+      (all_each IsSmall services.option_at service_small s.items.items);
 }

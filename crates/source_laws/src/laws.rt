@@ -3,6 +3,7 @@ ghost use Rattle.descriptor_records.specs.Content.{file_view};
 ghost use Rattle.descriptor_records.specs.declared.file.FileDescriptorProto.{FileDescriptorProto};
 ghost use Rattle.plain_records.specs.PlainRecords.{IsPlainFile};
 ghost use Rattle.plain_records.specs.SaidOptions.{SaysOrWaits};
+ghost use Rattle.plain_records.specs.SourceOptions.{AreOfSource};
 ghost use Rattle.protox_file.specs.Sources.{Spells};
 ghost use Rattle.protox_lex.specs.Class.{Text};
 ghost use Rattle.protox_parse.specs.Answers.{IsAnswered};
@@ -26,4 +27,10 @@ pub fn records_of_sources_have_source_names()
 pub fn records_of_sources_are_plain()
     ensures { (name z : Text) (made : FileDescriptorProto)
         → IsAnswered name z (Ok made) → IsPlainFile SaysOrWaits 99 (file_view made) }
+{}
+
+/// Its options are what the source wrote, and nothing else, and those of the types of maps' entries.
+pub fn records_of_sources_have_their_options()
+    ensures { (name z : Text) (made : FileDescriptorProto)
+        → IsAnswered name z (Ok made) → IsPlainFile AreOfSource 99 (file_view made) }
 {}
