@@ -30,7 +30,7 @@ module _ (fs gs : List FileContent) (l : AreLinked fs) (grow : Grows (view_of fs
       let here = looked_up fs l f d i j in
       subst (λ m. V.declared m ≡ W.declared m) e (here ∙ sym (grow.declared d.name (held_by f d) here))
 
-  body_same : (n : Text) → Declared fs n → body_at V n ≡ body_at W n
+  pub body_same : (n : Text) → Declared fs n → body_at V n ≡ body_at W n
   body_same n h = ap (option_map (λ (x : Held). x.body)) (same_at n h)
 
   abbrev proto3_in : Option FileFacts → Bool
@@ -46,7 +46,7 @@ module _ (fs gs : List FileContent) (l : AreLinked fs) (grow : Grows (view_of fs
       (ap (λ o. proto3_in (option_and_then (λ (h : Held). V.files h.file) o)) here ∙ ap proto3_in x.1
       ∙ sym (ap (λ o. proto3_in (option_and_then (λ (h : Held). W.files h.file) o)) later ∙ ap proto3_in y))
 
-  type_same : (c : FieldContent) → StandsIn fs c → type_at V c ≡ type_at W c
+  pub type_same : (c : FieldContent) → StandsIn fs c → type_at V c ≡ type_at W c
   type_same c s = by c.type_name refl where
     by : (o : Option Text) → c.type_name ≡ o → option_and_then (λ t. body_at V (undotted t)) o ≡ option_and_then (λ t. body_at W (undotted t)) o
     by None e = refl
@@ -58,7 +58,7 @@ module _ (fs gs : List FileContent) (l : AreLinked fs) (grow : Grows (view_of fs
   named : (n : Text) (c : FieldContent) → NamesField fs n c → Declared fs n
   named n c (f, d, i, j, e, is) = (f, d, i, j, e)
 
-  name_same : (t : Text) (n : ℕ) → Declared fs t → name_of_field V t n ≡ name_of_field W t n
+  pub name_same : (t : Text) (n : ℕ) → Declared fs t → name_of_field V t n ≡ name_of_field W t n
   name_same t n h = ap (λ b. option_and_then (named_in t n) (option_and_then message_in b)) (body_same t h)
 
   -- what stands under a field's name, as a part of an entry and as a field
@@ -89,7 +89,7 @@ module _ (fs gs : List FileContent) (l : AreLinked fs) (grow : Grows (view_of fs
   abbrev plain_by : Bool → Bool → Option ℕ → FieldContent → Option Part → Option Field
   plain_by p x g c part = option_map (λ q. record { part = q; label = cond (is_repeated c) (many (is_packed p c)) one; oneof = g; extension = x }) part
 
-  names_same : (c : FieldContent) → StandsIn fs c → names_entry V c ≡ names_entry W c
+  pub names_same : (c : FieldContent) → StandsIn fs c → names_entry V c ≡ names_entry W c
   names_same c s = ap (λ b. is_number (pos 11) c.field_type && elim (option_and_then message_in b) [ None ↦ false | Some m ↦ is_entry m ]) (type_same c s)
 
   -- without a name for its type a field is no map
@@ -117,7 +117,7 @@ module _ (fs gs : List FileContent) (l : AreLinked fs) (grow : Grows (view_of fs
         ∙ ap (λ f. cond (is_repeated c && names_entry W c) f (plain_field V p x g c)) (map_same x g c there)
         ∙ ap (λ f. cond (is_repeated c && names_entry W c) (map_field W x g c) f) (plain_same p x g c s)
 
-  field_named_same : (x : Bool) (g : FieldContent → Option ℕ) (name : Text) (c : FieldContent) → NamesField fs name c → field_named V x g name ≡ field_named W x g name
+  pub field_named_same : (x : Bool) (g : FieldContent → Option ℕ) (name : Text) (c : FieldContent) → NamesField fs name c → field_named V x g name ≡ field_named W x g name
   field_named_same x g name c s =
       let here = found fs l name c s in
       let there : field_at W name ≡ Some c = sym (ap (option_and_then field_in) (body_same name (named name c s))) ∙ here in
@@ -127,7 +127,7 @@ module _ (fs gs : List FileContent) (l : AreLinked fs) (grow : Grows (view_of fs
       ∙ sym (ap (option_and_then (λ f. held_field W (is_proto3_at W name) x (g f) f)) there)
 
   -- the fields that a declared message has itself
-  own_same : (t : Text) (n : ℕ) → Declared fs t → option_and_then (own_named V t) (name_of_field V t n) ≡ option_and_then (own_named W t) (name_of_field W t n)
+  pub own_same : (t : Text) (n : ℕ) → Declared fs t → option_and_then (own_named V t) (name_of_field V t n) ≡ option_and_then (own_named W t) (name_of_field W t n)
   own_same t n h = by (name_of_field V t n) refl ∙ ap (option_and_then (own_named W t)) (name_same t n h) where
     by : (o : Option Text) → name_of_field V t n ≡ o → option_and_then (own_named V t) (name_of_field V t n) ≡ option_and_then (own_named W t) (name_of_field V t n)
     by None e = ap (option_and_then (own_named V t)) e ∙ sym (ap (option_and_then (own_named W t)) e)

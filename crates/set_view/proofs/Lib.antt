@@ -1,7 +1,7 @@
 mod Entered
 mod Extended
 mod Given
-mod Keyed
+pub mod Keyed
 mod Lasting
 mod Leaving
 mod Listed
@@ -9,6 +9,6 @@ mod Longer
 mod Mapped
 mod Numbered
 mod Parts
-mod Suited
+pub mod Suited
 mod Taken
-mod Viewed
+pub mod Viewed

@@ -1,0 +1,10 @@
+pub mod Known
+pub mod Wanted
+pub mod Given
+pub mod Adding
+pub mod Grown
+pub mod FieldNames
+pub mod Records
+pub mod EntryValues
+pub mod Files
+pub mod Batches

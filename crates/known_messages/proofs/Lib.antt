@@ -1,0 +1,5 @@
+pub mod Contents
+pub mod Forms
+pub mod Grown
+pub mod Plain
+pub mod Written
