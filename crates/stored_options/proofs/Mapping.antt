@@ -1,0 +1,242 @@
+-- A fine message into a map of which a fine entry is put is fine still.
+use Rattle.std.proofs.Common.{◌≡◌, ℕ, suc, Bool, true, false, cond, List, [], ◌∷◌, Option, None, Some, refl, sym, ap, ◌∙◌, subst}
+use Rattle.std.specs.List.{AllByRecursion}
+use Rattle.growing_texts.proofs.Known.{add_all_known}
+use Rattle.known_messages.specs.KnownMessages.{KnowsAll, KnowsContent, KnowsHeld}
+use Rattle.message_view.specs.Shaped.{Exclusive, FitsAs, FitsShaped}
+use Rattle.message_view.specs.Singles as views
+use Rattle.message_view.specs.Sound.{IsSound}
+use Rattle.message_view.specs.Types.{entry_part, key_of, name_at, part_of, place_in, types_of}
+use Rattle.message_view.specs.Views.{content_view, view}
+use Rattle.message_view.proofs.Changed.{nothing_shaped}
+use Rattle.message_view.proofs.Fields.{none_owned}
+use Rattle.message_view.proofs.Seen.{message_seen}
+use Rattle.message_view.proofs.Sound.{found_at}
+use Rattle.protobuf_model.specs.Scalars.{Suits}
+use Rattle.protobuf_model.specs.Typed.{HasDefault, HasDefaults, IsTyped, IsTypedBy}
+use Rattle.protobuf_model.specs.Types.{Field, Key, Kind, Name, Part, Scalar, Types, keyed, nested, scalar}
+use Rattle.protobuf_model.specs.Types as kinds
+use Rattle.protobuf_model.specs.Values.{Held, Message, Single, blob, content, enumerated, int32, int64, message, records, text, truth, uint32, uint64}
+use Rattle.protobuf_model.proofs.Merging.{nothing_typed}
+use Rattle.protox_lex.specs.Class.{Text}
+use Rattle.reflect_extend.specs.Gives.{Entry}
+use Rattle.reflect_extend.specs.Puts.{PutsAll}
+use Rattle.reflect_format.specs.Steps.{AddsValues, held_by}
+use Rattle.reflect_format.specs.Takes.{target_pool, target_type}
+use Rattle.reflect_format.specs.declared.target.Target.{Target}
+use Rattle.reflect_format.specs.declared.target.Target.TheVariants as targets
+use Rattle.reflect_message.specs.Contents.{content_of}
+use Rattle.reflect_message.specs.Known.{holds_floats}
+use Rattle.reflect_message.specs.Maps.{entries_held}
+use Rattle.reflect_message.specs.Names.{DynamicMessage, Value}
+use Rattle.reflect_message.specs.declared.value.ValueOf.TheVariants as held
+use Rattle.reflect_pool.specs.Shapes.{holds_list, holds_map}
+use Rattle.reflect_pool.specs.declared.message.MessageDescriptor.{MessageDescriptor}
+use Rattle.reflect_scalar.specs.FieldTypes.{extension_type}
+use Rattle.reflect_scalar.specs.Keys.{key_view}
+use Rattle.reflect_scalar.specs.declared.map_key.MapKey.{MapKey}
+use Rattle.reflect_tables.specs.Types.{FieldType, PoolType}
+use Rattle.reflect_tables.specs.Types as types
+use Rattle.set_view.specs.Given.{HasKey}
+use Rattle.set_view.proofs.Keyed.{extension_keys, field_keys}
+use Rattle.text_laws.proofs.Assigned.{field}
+use Rattle.text_laws.proofs.EntriesSuit.{entry_right}
+use Rattle.text_laws.proofs.FieldsSuit.{IsAdded, add_all_keeps}
+use Rattle.text_model.specs.Schemas.{HoldsOne, key_part}
+use Rattle.text_model.specs.Value.{add_all, default_of, entry_of, value_of}
+use Rattle.text_view.specs.Holds.{HasForm, HaveKeys, HoldsKinds}
+use Rattle.text_view.specs.Names.{kind_name, names_of}
+use Rattle.text_view.specs.Targets.{target_field}
+use Rattle.text_view.proofs.Adds.{label_keyed, target_label, types_are}
+use Rattle.text_view.proofs.Apart.{no_field_there}
+use Rattle.text_view.proofs.Given.{target_part, the_entry, value_no_float}
+use Rattle.text_view.proofs.Kept.{add_leaves, many_map}
+use Rattle.text_view.proofs.MapShapes.{AllValues, entries_fit, map_after}
+use Rattle.text_view.proofs.Maps.{map_added}
+use Rattle.text_view.proofs.Owned.{OwnsTarget, pool_is, target_whole}
+use Rattle.text_view.proofs.Puts.{message_is}
+use Rattle.text_view.proofs.Shaped.{IsShapely, shape_kept, shapely, target_number}
+use Rattle.text_view.proofs.SoundTypes.{sound_types}
+use Rattle.text_view.proofs.Steady.{stays}
+use Rattle.text_view.proofs.Wanted.{entry_under}
+use Rattle.stored_options.proofs.Fine.{IsFine}
+use Rattle.stored_options.proofs.Putting.{added_unknown, ascends, before, fine_so, has, stood}
+
+-- ---- keys
+
+-- what suits a kind has its form
+form_suits : (k : Scalar) (x : Single) → Suits k x → HasForm k x
+form_suits kinds.int32 (int32 z) h = tt
+form_suits kinds.int64 (int64 z) h = tt
+form_suits kinds.uint32 (uint32 n) h = tt
+form_suits kinds.uint64 (uint64 n) h = tt
+form_suits kinds.sint32 (int32 z) h = tt
+form_suits kinds.sint64 (int64 z) h = tt
+form_suits kinds.fixed32 (uint32 n) h = tt
+form_suits kinds.fixed64 (uint64 n) h = tt
+form_suits kinds.sfixed32 (int32 z) h = tt
+form_suits kinds.sfixed64 (int64 z) h = tt
+form_suits kinds.bool (truth b) h = tt
+form_suits kinds.string (text t) h = tt
+form_suits kinds.bytes (blob b) h = tt
+form_suits kinds.enumeration (enumerated z) h = tt
+form_suits k x h = absurd h
+
+keys_formed : (pool : PoolType) (f : FieldType) (es : List Entry) → AllByRecursion (HasKey pool f) es → HaveKeys (views.scalar_of (entry_part pool f 1).kind) es
+keys_formed pool f [] h = tt
+keys_formed pool f (e ∷ es) h = (form_suits (views.scalar_of (entry_part pool f 1).kind) (views.single_view (key_view e.0)) h.0, keys_formed pool f es h.1)
+
+-- ---- the value of an entry
+
+value_known : (types : Types) (part : Part) (o : Option ℕ) (e : Bool) (h : Held) → KnowsHeld types (Some (field part kinds.one o e)) h
+    → KnowsContent types part.kind (value_of part h)
+value_known types part o e (content c) k = k
+value_known types part o e (records ps) k = by part.kind where
+  by : (k : Kind) → KnowsContent types k (default_of part k)
+  by (scalar k) = tt
+  by (nested frame u) = λ n. refl
+
+module _ (levels : ℕ) (old : DynamicMessage) (sound : IsSound old.descriptor.pool.now) (fine : IsFine (suc levels) old) (new : DynamicMessage)
+    (type : new.descriptor ≡ old.descriptor) (t : Target) (owns : OwnsTarget old.descriptor t)
+    (is_map : holds_map old.descriptor.pool.now (target_type t) ≡ true) (c : MessageDescriptor) (at : c.pool.now ≡ old.descriptor.pool.now) (kind : (target_type t).kind ≡ types.message c.index)
+    (m : DynamicMessage) (same : m.descriptor ≡ c) (kinds_held : HoldsKinds m) (entry : IsFine (suc levels) m) (adds : AddsValues t (held.Message m ∷ []) old new) where
+  abbrev d : MessageDescriptor
+  d = old.descriptor
+
+  abbrev pool : PoolType
+  pool = old.descriptor.pool.now
+
+  abbrev f : FieldType
+  f = target_type t
+
+  abbrev inner : DynamicMessage → Type 0
+  inner = Exclusive (suc levels)
+
+  abbrev vs : List Value
+  vs = held.Message m ∷ []
+
+  abbrev its_types : Types
+  its_types = types_of old.descriptor.pool.now
+
+  abbrev name : Name
+  name = name_at old.descriptor.pool.now old.descriptor.index
+
+  c_sound : IsSound c.pool.now
+  c_sound = subst IsSound (sym at) sound
+
+  c_map : holds_map c.pool.now f ≡ true
+  c_map = subst (λ p. holds_map p f ≡ true) (sym at) is_map
+
+  c_whole : holds_floats c.pool.now f ≡ false
+  c_whole = subst (λ p. holds_floats p f ≡ false) (sym at) (target_whole d sound.apart t owns)
+
+  t_map : holds_map (target_pool t) f ≡ true
+  t_map = subst (λ p. holds_map p f ≡ true) (sym (pool_is d sound.apart t owns)) is_map
+
+  -- ---- its shape
+
+  values_fit : (before after : List (MapKey × Value)) → AllValues inner pool f.kind before → PutsAll before after vs → AllValues inner pool f.kind after
+  values_fit =
+      let shape = subst (λ (c : MessageDescriptor). IsShapely inner c.pool.now c.index (content_of m)) same (shapely inner m.descriptor (content_of m) entry.shape.0) in
+      subst (λ p. (before after : List (MapKey × Value)) → AllValues inner p f.kind before → PutsAll before after vs → AllValues inner p f.kind after) at
+      (entries_fit inner (nothing_shaped true levels) c f kind c_sound c_map c_whole vs ((m, refl, same, shape), tt))
+
+  after : IsShapely inner pool d.index (content_of new)
+  after =
+      let order = adds.4 (ascends (suc levels) old sound fine) in
+      shape_kept inner d sound.apart t owns (target_number d sound.numbers t owns) old new (add_leaves t old new adds.0 (adds.5 (many_map t t_map))) (added_unknown (suc levels) old sound fine new type t owns t vs adds) order.0 order.1
+      (map_after inner pool f is_map (held_by old t) (held_by new t) vs (stood (suc levels) old sound fine t owns) (adds.2 t_map) values_fit) (before (suc levels) old sound fine)
+
+  -- ---- what it held
+
+  were : (o : Option Value) → ((v : Value) → o ≡ Some v → FitsShaped inner pool f v) → (es : List (MapKey × Value)) × (entries_held o ≡ Some es)
+  were None h = ([], refl)
+  were (Some v) h = let its = subst (λ b. FitsAs inner pool f b (holds_list pool f) v) is_map (h v refl) in (its.0, its.1)
+
+  held_entries : (es : List (MapKey × Value)) × (entries_held (held_by old t) ≡ Some es)
+  held_entries = were (held_by old t) (stood (suc levels) old sound fine t owns)
+
+  keys : (t : Target) → OwnsTarget d t → holds_map pool (target_type t) ≡ true → (es : List (MapKey × Value))
+      → entries_held (held_by old t) ≡ Some es → AllByRecursion (HasKey pool (target_type t)) es
+  keys (targets.Field g) owns so es is = field_keys (suc levels) old sound fine.typed g owns so es is
+  keys (targets.Extension x) owns so es is = extension_keys (suc levels) old sound fine.typed x owns (none_owned d (extension_type x).number (no_field_there d sound.apart x owns)) so es is
+
+  formed : HaveKeys (views.scalar_of (entry_part pool f 1).kind) held_entries.0
+  formed = keys_formed pool f held_entries.0 (keys t owns is_map held_entries.0 held_entries.1)
+
+  -- ---- what is seen of it
+
+  part : (target_field d t).part ≡ part_of pool (entry_part pool f 2)
+  part = target_part d t ∙ ap (λ b. part_of pool (cond b (entry_part pool f 2) f)) is_map
+
+  label : (target_field d t).label ≡ keyed (key_of pool (entry_part pool f 1))
+  label = target_label d t ∙ label_keyed pool f is_map
+
+  abbrev its_field : Field
+  its_field = field (part_of pool (entry_part pool f 2)) (keyed (key_of pool (entry_part pool f 1))) (target_field d t).oneof (target_field d t).extension
+
+  there : its_types name f.number ≡ Some its_field
+  there =
+      has (suc levels) old sound fine new type t owns
+      ∙ ap (λ p. Some (field p (target_field d t).label (target_field d t).oneof (target_field d t).extension)) part
+      ∙ ap (λ l. Some (field (part_of pool (entry_part pool f 2)) l (target_field d t).oneof (target_field d t).extension)) label
+
+  seen : add_all (its_types name) f.number its_field.part its_field.label (view old) (content_view (held.Message m) ∷ []) ≡ Some (view new)
+  seen =
+      let e = the_entry c f kind c_sound c_map c_whole in
+      ap (λ fs. add_all fs f.number its_field.part its_field.label (view old) (content_view (held.Message m) ∷ [])) (types_are pool sound.names d refl)
+      ∙ (map_added old new sound.apart type t owns is_map fine.shape.1 c at kind c_sound e.0 e.1 (value_no_float c f kind c_sound c_map c_whole) vs ((m, refl, same, kinds_held), tt) held_entries.0 held_entries.1 formed adds).0
+
+  -- ---- the entry suits the map
+
+  none_decoded : Name → Text → Option Message
+  none_decoded u x = None
+
+  entry_name : (names_of pool (place_in pool.messages (name_at old.descriptor.pool.now old.descriptor.index))).entry (target_type t).number ≡ name_at pool c.index
+  entry_name =
+      ap (λ i. (names_of pool i).entry f.number) (found_at pool.messages d.index d.in_range (λ k less e. sound.names d.index k d.in_range less e))
+      ∙ entry_under d sound.apart t owns ∙ ap (kind_name pool) kind
+
+  abbrev key : Key
+  key = key_of pool (entry_part pool f 1)
+
+  abbrev its_part : Part
+  its_part = part_of pool (entry_part pool f 2)
+
+  holds : HoldsOne (key_part key) (its_types (name_at pool c.index) 1) × HoldsOne its_part (its_types (name_at pool c.index) 2)
+  holds =
+      subst (λ u. HoldsOne (key_part key) (its_types u 1) × HoldsOne its_part (its_types u 2)) entry_name
+      ((sound_types pool sound none_decoded).entries name f.number its_field key there refl)
+
+  defaults : Suits key.kind key.default × HasDefault its_part.kind its_part.default
+  defaults = subst HasDefaults there ((sound_types pool sound none_decoded).defaults name f.number)
+
+  entry_typed : IsTypedBy (IsTyped (suc levels) its_types) (suc (suc levels)) (its_types (name_at pool c.index)) (view m)
+  entry_typed =
+      subst (λ p. IsTyped (suc (suc levels)) (types_of p) (name_at p c.index) (view m)) at
+      (subst (λ (c : MessageDescriptor). IsTyped (suc (suc levels)) (types_of c.pool.now) (name_at c.pool.now c.index) (view m)) same entry.typed)
+
+  entry_known : KnowsAll its_types (name_at pool c.index) (view m)
+  entry_known =
+      subst (λ p. KnowsAll (types_of p) (name_at p c.index) (view m)) at
+      (subst (λ (c : MessageDescriptor). KnowsAll (types_of c.pool.now) (name_at c.pool.now c.index) (view m)) same entry.known)
+
+  entry_seen : content_view (held.Message m) ≡ message (view m)
+  entry_seen = message_seen (held.Message m) m (message_is m)
+
+  new_typed : IsTyped (suc (suc levels)) its_types name (view new)
+  new_typed =
+      let right =
+      entry_right ⊥ (IsTyped (suc levels) its_types) (suc (suc levels)) its_types (λ u. nothing_typed (suc levels) its_types u) (name_at pool c.index) key its_part holds.0 holds.1 defaults.0 defaults.1 (λ never. absurd never) (view m)
+      entry_typed (λ never. absurd never) in
+      (add_all_keeps ⊥ (IsTyped (suc levels) its_types) (suc (suc levels)) its_types name f.number its_part (keyed key) (target_field d t).oneof (target_field d t).extension there (target_number d sound.numbers t owns) (view old) (view new)
+      (content_view (held.Message m) ∷ []) (subst (IsAdded ⊥ (IsTyped (suc levels) its_types) its_types its_part (keyed key)) (sym entry_seen) (right.0, λ never. absurd never), tt) seen).typed fine.typed
+
+  new_known : KnowsAll its_types name (view new)
+  new_known =
+      let value = value_known its_types its_part holds.1.0 holds.1.1 (view m 2) (subst (λ o. KnowsHeld its_types o (view m 2)) holds.1.2 (entry_known 2)) in
+      add_all_known its_types name f.number its_field there (view old) (view new) fine.known (keyed key) (content_view (held.Message m) ∷ [])
+      (subst (λ x. KnowsContent its_types its_part.kind (entry_of key its_part x).1) (sym entry_seen) value, tt) seen
+
+  pub map_fine : IsFine (suc levels) new
+  map_fine = fine_so (suc levels) old sound fine new type after (stays t old new owns adds.3 fine.shape.1) new_typed new_known

@@ -1,0 +1,115 @@
+-- Stored options are not refused, but for want of memory.
+use Rattle.std.proofs.Common.{◌≡◌, inl, inr, ℕ, ℤ, false, List, [], Option, None, Some, refl, sym, ap, ◌∙◌, subst}
+use Rattle.std.specs.Option.{unwrap_or}
+use Rattle.std.specs.Prelude.{IfSome, codes, slice_get}
+use Rattle.descriptor_records.specs.Content.{OptionsContent, options_view}
+use Rattle.descriptor_records.specs.declared.options.Options.{Options}
+use Rattle.descriptor_records.specs.declared.options.UninterpretedOption.{UninterpretedOption}
+use Rattle.known_messages.specs.KnownMessages.{AreFormOf}
+use Rattle.known_messages.proofs.Forms.{forms_mean}
+use Rattle.message_view.specs.Sound.{IsSound}
+use Rattle.message_view.specs.Types.{name_at, types_of}
+use Rattle.message_view.proofs.Decoded.{told_refused}
+use Rattle.option_parts.specs.OptionTypes.{CanRead, HasField, IsTruthValue, typed_option}
+use Rattle.option_parts.specs.declared.option_error.OptionErrorKind.{OptionErrorKind}
+use Rattle.option_parts.specs.declared.option_error.OptionErrorKind.TheVariants as kinds
+use Rattle.option_parts.specs.declared.option_scope.OptionScope.{OptionScope}
+use Rattle.option_parts.specs.declared.option_scope.OptionScope.TheVariants as scopes
+use Rattle.option_setter.specs.declared.option_setter.NameScope.{NameScope}
+use Rattle.plain_records.specs.Kinds.{kind_of}
+use Rattle.plain_records.specs.SaidOptions.{SaysAndIsSettled}
+use Rattle.protobuf_model.specs.Coded.{IsAccepted}
+use Rattle.protobuf_model.specs.Values.{Message}
+use Rattle.reflect_codec.specs.Meaning.{is_message}
+use Rattle.reflect_codec.specs.Reading.{IsBool, IsLast, IsLastIf, fields_in, values_at}
+use Rattle.reflect_decode.specs.Spelled.{IsSpelled, TellsWhy}
+use Rattle.reflect_message.specs.Bytes.{message_bytes}
+use Rattle.reflect_message.specs.Names.{DynamicMessage}
+use Rattle.reflect_options.specs.Settled.{IsForbiddenAt, IsType, IsWhole, RefusesOptions, RefusesStored, RefusesTyped, RefusesWritten, truth_said}
+use Rattle.reflect_pool.specs.declared.message.MessageDescriptor.{MessageDescriptor}
+use Rattle.reflect_wire.specs.Written.{AreBytes}
+use Rattle.reflect_wire.specs.declared.wire_error.WireError.{WireError}
+use Rattle.reflect_wire.specs.declared.wire_error.WireError.TheVariants as errors
+use Rattle.stored_options.specs.StoredOptions.{AreStored}
+use Rattle.stored_options.proofs.Again.{no_items, same_bytes, same_type, short, stored_bytes}
+use Rattle.stored_options.proofs.Alike.{one_last}
+use Rattle.stored_options.proofs.Scoped.{of_type, option_type, type_sound}
+use Rattle.stored_options.proofs.StoredTruths.{stored_truth}
+
+none_there : (place : ℕ) (os : List UninterpretedOption) (x : UninterpretedOption) → os ≡ [] → slice_get os place ≡ Some x → ⊥
+none_there place os x none e = cc (sym (ap (λ os. slice_get os place) none) ∙ e)
+
+-- what is forbidden is there
+pub forbidden_there : (scope : OptionScope) (o : Options) (at : Option ℕ) (e : OptionErrorKind) → IsForbiddenAt scope o at e
+    → (place : ℕ) × (x : UninterpretedOption) × (slice_get o.uninterpreted_option.items place ≡ Some x)
+forbidden_there scope o (Some place) (kinds.ForbiddenOption name) h = (place, h.1.0, h.1.1)
+forbidden_there scope o at e h = absurd h
+
+module _ (scope : OptionScope) (s : NameScope) (o : Options) (m : Message) (sound : IsSound s.pool.now) (can : CanRead s.pool.now scope)
+    (are : AreBytes o.encoded.items)
+    (formed : AreStored (types_of s.pool.now) scope m o.encoded.items) (says : SaysAndIsSettled scope (options_view o)) where
+  left : o.uninterpreted_option.items ≡ []
+  left = no_items o.uninterpreted_option.items says.1
+
+  module _ (d : MessageDescriptor) (its : IsType scope s d) where
+    d_sound : IsSound d.pool.now
+    d_sound = type_sound scope s d its sound
+
+    form : AreFormOf (types_of d.pool.now) (name_at d.pool.now d.index) m o.encoded.items
+    form = of_type scope s d its (λ types t. AreFormOf types t m o.encoded.items) formed.0
+
+    accepted : IsAccepted (types_of d.pool.now) (name_at d.pool.now d.index) o.encoded.items
+    accepted = let means = forms_mean (types_of d.pool.now) (name_at d.pool.now d.index) m o.encoded.items form (short o.encoded) in (means.0, means.1)
+
+    refuses_none : (e : WireError) → (e ≡ errors.Memory → ⊥) → TellsWhy d o.encoded.items e → ⊥
+    refuses_none e other why = told_refused d d_sound o.encoded.items e other why accepted
+
+    -- it says of itself whether it is of a map's entries as its record does
+    agrees : scope ≡ scopes.Message → (n : DynamicMessage) → n.descriptor ≡ d → IsSpelled d o.encoded.items n
+        → unwrap_or (truth_said 7 n) false ≡ unwrap_or o.map_entry false
+    agrees is n there spelled =
+        let rs = says.0.spelled.0 in
+        let type = subst (IsType scope s) (sym there) its in
+        let spelled_so = subst (λ (d : MessageDescriptor). IsSpelled d o.encoded.items n) (sym there) spelled in
+        let n_sound = type_sound scope s n.descriptor type sound in
+        let bytes = stored_bytes n n_sound o.encoded.items are (short o.encoded) spelled_so m (of_type scope s n.descriptor type (λ types t. AreFormOf types t m o.encoded.items) formed.0) in
+        let has = subst (λ c. IfSome (typed_option c) (λ t. HasField n.descriptor.pool.now n.descriptor.index t.1 (IsTruthValue t.0))) is (option_type scope s n.descriptor type can).typed in
+        let read = stored_truth n n_sound o.encoded.items spelled_so bytes 7 (codes "map_entry") has 100 rs says.0.spelled.1 in
+        let said = subst (λ c. IsLastIf (is_message (kind_of c)) IsBool (values_at 7 says.0.fields) says.0.options.map_entry) is says.0.said.map_entry in
+        ap (λ t. unwrap_or t false)
+        (one_last (values_at 7 (fields_in rs)) (truth_said 7 n) says.0.options.map_entry read (subst (λ fs. IsLast IsBool (values_at 7 fs) says.0.options.map_entry) says.0.spelled.2 said)
+        ∙ ap (λ (c : OptionsContent). c.map_entry) says.0.is)
+
+    refuses_stored : (c : OptionScope) → scope ≡ c → (e : OptionErrorKind) → (e ≡ kinds.UndecodableOptions (Some errors.Memory) → ⊥) → RefusesStored c d o e → ⊥
+    refuses_stored c is (kinds.UndecodableOptions (Some w)) other h = refuses_none w (λ same. other (ap (λ w. kinds.UndecodableOptions (Some w)) same)) h
+    refuses_stored scopes.Message is (kinds.UndecodableOptions None) other h = h.3 (agrees is h.0 h.1 h.2)
+    refuses_stored c is e other h = absurd h
+
+    -- it is written in the same bytes
+    module _ (whole : DynamicMessage) (paths : List (List ℤ)) (is : IsWhole scope s d o whole paths) where
+      moved : (w : WireError) → TellsWhy whole.descriptor (message_bytes whole) w → TellsWhy d o.encoded.items w
+      moved w h =
+          subst (λ bytes. TellsWhy d bytes w) (same_bytes scope s o paths m sound can are formed left d its whole is)
+          (subst (λ (d : MessageDescriptor). TellsWhy d (message_bytes whole) w) (same_type scope s o paths m sound can are formed left d its whole is) h)
+
+      refuses_written : (e : OptionErrorKind) → (e ≡ kinds.UndecodableOptions (Some errors.Memory) → ⊥) → RefusesWritten whole e → ⊥
+      refuses_written kinds.OptionTooDeep other h = refuses_none errors.TooDeep (λ same. absurd (cc same)) (moved errors.TooDeep h)
+      refuses_written (kinds.UndecodableOptions (Some w)) other h = refuses_none w (λ same. other (ap (λ w. kinds.UndecodableOptions (Some w)) same)) (moved w h)
+      refuses_written e other h = absurd h
+
+    refuses_typed : (at : Option ℕ) (e : OptionErrorKind) → (e ≡ kinds.UndecodableOptions (Some errors.Memory) → ⊥) → RefusesTyped scope s d o at e → ⊥
+    refuses_typed None e other (inl h) = refuses_stored scope refl e other h
+    refuses_typed None e other (inr (whole, paths, is, h)) = refuses_written whole paths is e other h
+    refuses_typed (Some place) e other (stored, is, (x, front, paths, there, sets, parts, tells)) = none_there place o.uninterpreted_option.items x left there
+
+  not_refused : (at : Option ℕ) (e : OptionErrorKind) → (e ≡ kinds.UndecodableOptions (Some errors.Memory) → ⊥) → RefusesOptions scope s o at e → ⊥
+  not_refused at e other (inl h) =
+      let x = forbidden_there scope o at e h in
+      none_there x.0 o.uninterpreted_option.items x.1 left x.2
+  not_refused at e other (inr (finds, inl lacks)) = lacks.1 left
+  not_refused at e other (inr (finds, inr (d, its, why))) = refuses_typed d its at e other why
+
+pub stored_not_refused : (scope : OptionScope) (s : NameScope) (o : Options) (at : Option ℕ) (e : OptionErrorKind) (m : Message) → IsSound s.pool.now
+    → CanRead s.pool.now scope → AreBytes o.encoded.items
+    → AreStored (types_of s.pool.now) scope m o.encoded.items → SaysAndIsSettled scope (options_view o) → (e ≡ kinds.UndecodableOptions (Some errors.Memory) → ⊥) → RefusesOptions scope s o at e → ⊥
+stored_not_refused scope s o at e m sound can are formed says other h = not_refused scope s o m sound can are formed says at e other h
